@@ -69,6 +69,18 @@ class Server(Run):
     def session(self):
         return Peer(self.port)
 
+    def memory(self):
+        """How many bytes of memory it holds."""
+        return 1024 * self.told("VmRSS")
+
+    def threads(self):
+        return self.told("Threads")
+
+    def told(self, word):
+        """What the kernel tells of it by this word."""
+        with open(f"/proc/{self.process.pid}/status") as it:
+            return next(int(line.split()[1]) for line in it if line.startswith(f"{word}:"))
+
     def ended(self):
         """What it wrote, once it has ended of itself, and its status."""
         written, _ = self.process.communicate(timeout=PATIENCE)
