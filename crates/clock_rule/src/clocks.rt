@@ -19,7 +19,7 @@ use std::marker::Model;
 /// An event costs a few steps on average, and one more for each client that was noted. One that is
 /// refused for its drift costs a look at all earlier ones. No clause says so; `bench/clocks.sh`
 /// measures it.
-#[derive(Debug, Drop)]
+#[derive(Drop)]
 pub struct Clocks {
     term: u64,
     drift: u64,

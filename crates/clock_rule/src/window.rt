@@ -12,7 +12,7 @@ use crate::rule::{ClockFault, Note, NoteErr, breaks, first_broken};
 use std::alloc::{AllocError, Global};
 
 /// What is kept of a client: the least notes, as a window over the term behind its next event.
-#[derive(Debug, Drop)]
+#[derive(Drop)]
 pub struct Window {
     /// The client.
     pub client: u64,

@@ -9,7 +9,7 @@ use std::fmt::Write;
 
 /// Which record: the head, or a node or a content by its id. They are ordered as a folder is
 /// loaded: the head, then the nodes by their ids, then the contents by theirs.
-#[derive(Clone, Copy, Debug, PartialEq, Eq, PartialOrd, Ord)]
+#[derive(Clone, Copy, PartialEq, Eq, PartialOrd, Ord)]
 pub enum Which {
     Head,
     Node(u64),

@@ -10,7 +10,7 @@ use xdr_codec::answer::Answer;
 use xdr_codec::handle::Handle;
 
 /// The procedures of LBFS, program 0x20004C42.
-#[derive(Clone, Copy, PartialEq, Eq, Drop)]
+#[derive(Clone, Copy, Drop)]
 pub enum LbProc {
     /// Does nothing.
     Null,
@@ -113,7 +113,7 @@ impl Lb {
 
 /// The procedures of the callback program, 0x20004C43, which the server calls on a client's
 /// connection.
-#[derive(Clone, Copy, PartialEq, Eq, Drop)]
+#[derive(Clone, Copy, Drop)]
 pub enum BackProc {
     /// Does nothing.
     Null,

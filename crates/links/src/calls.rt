@@ -8,7 +8,7 @@ use std::alloc::Global;
 use std::marker::Model;
 
 /// A list of the calls that are to fail, by their numbers, and how many calls there were.
-#[derive(Drop, Debug)]
+#[derive(Drop)]
 pub struct Calls {
     made: u64,
     failing: Items<u64>,

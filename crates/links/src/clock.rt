@@ -14,7 +14,7 @@ pub trait Clock {
 }
 
 /// A clock that stands still.
-#[derive(Debug, Drop)]
+#[derive(Drop)]
 pub struct FixedClock {
     reading: u64,
 }

@@ -15,14 +15,14 @@ use lb_base::source::Failed;
 use std::alloc::{AllocError, Global};
 
 /// A file of the host.
-#[derive(Drop, Debug)]
+#[derive(Drop)]
 pub struct HostFile {
     pub name: Name,
     pub bytes: Bytes,
 }
 
 /// Why a file's bytes were not given.
-#[derive(Clone, Copy, Debug, PartialEq, Eq)]
+#[derive(Clone, Copy, PartialEq, Eq)]
 pub enum FilesErr {
     /// The outside failed, as where there is no file of the name; the count of faults rose.
     Failed,

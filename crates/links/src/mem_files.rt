@@ -102,7 +102,7 @@ fn put(
 }
 
 /// Files in memory that never fail; only memory may run out. A file that isn't there has no bytes.
-#[derive(Drop, Debug)]
+#[derive(Drop)]
 pub struct SureFiles {
     files: Vec<HostFile>,
 }
@@ -160,7 +160,7 @@ impl Files for SureFiles {
 }
 
 /// Files in memory, of which some calls fail; so does `get` of a name that isn't there.
-#[derive(Drop, Debug)]
+#[derive(Drop)]
 pub struct MemFiles {
     files: SureFiles,
     calls: Calls,

@@ -21,7 +21,7 @@ use std::marker::Model;
 use std::mem;
 
 /// A link in memory that never fails; only memory may run out.
-#[derive(Drop, Debug)]
+#[derive(Drop)]
 pub struct SureLink {
     incoming: SureSource,
     outgoing: SureSink,
@@ -117,7 +117,7 @@ impl Link for SureLink {
 }
 
 /// A link in memory, of which some calls fail and some answer want of memory.
-#[derive(Drop, Debug)]
+#[derive(Drop)]
 pub struct MemLink {
     incoming: MemSource,
     outgoing: MemSink,

@@ -16,7 +16,7 @@ use std::marker::Model;
 
 /// A network in memory that never fails: where no link is left to give, it gives one on which
 /// nothing comes.
-#[derive(Drop, Debug)]
+#[derive(Drop)]
 pub struct SureNetwork {
     coming: Items<SureLink>,
     reached: Items<SureLink>,
@@ -91,7 +91,7 @@ impl Network for SureNetwork {
 
 /// A network in memory, of which some calls fail. So do `accept` and `dial` where no link is left to
 /// give, and `accept` where no port is listened at.
-#[derive(Drop, Debug)]
+#[derive(Drop)]
 pub struct MemNetwork {
     coming: Items<MemLink>,
     reached: Items<MemLink>,

@@ -7,7 +7,7 @@ pub trait Rest {
 }
 
 /// No rest at all.
-#[derive(Clone, Copy, Debug, Drop)]
+#[derive(Clone, Copy, Drop)]
 pub struct NoRest;
 
 impl Rest for NoRest {

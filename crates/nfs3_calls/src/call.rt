@@ -12,7 +12,7 @@ use xdr_codec::reader::{NO_MAXIMUM, Reader};
 use xdr_codec::writer::Writer;
 
 /// What an ACCESS asks for (RFC 1813, section 3.3.4: ACCESS3args).
-#[derive(Debug, Drop)]
+#[derive(Drop)]
 pub struct Access {
     /// The file or directory (RFC 1813, section 3.3.4: object).
     pub handle: Handle,
@@ -21,7 +21,7 @@ pub struct Access {
 }
 
 /// What an ACCESS gave (RFC 1813, section 3.3.4: ACCESS3resok).
-#[derive(Clone, Copy, Debug, PartialEq, Eq, Drop)]
+#[derive(Clone, Copy, Drop)]
 pub struct Granted {
     /// The attributes of the file or directory (RFC 1813, section 3.3.4: obj_attributes).
     pub attr: Option<Attr>,

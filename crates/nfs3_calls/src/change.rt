@@ -11,7 +11,7 @@ use xdr_codec::reader::Reader;
 use xdr_codec::writer::Writer;
 
 /// What tells a state from a later one (RFC 1813, section 2.6: wcc_attr).
-#[derive(Clone, Copy, Debug, PartialEq, Eq, Drop)]
+#[derive(Clone, Copy, Drop)]
 pub struct Before {
     /// The size in bytes, as in the attributes (RFC 1813, section 2.6: size).
     pub size: u64,
@@ -22,7 +22,7 @@ pub struct Before {
 }
 
 /// The state on both sides of a change, as far as it is told (RFC 1813, section 2.6: wcc_data).
-#[derive(Clone, Copy, Debug, PartialEq, Eq, Drop)]
+#[derive(Clone, Copy, Drop)]
 pub struct Wcc {
     /// Before the change (RFC 1813, section 2.6: before).
     pub before: Option<Before>,
@@ -32,7 +32,7 @@ pub struct Wcc {
 
 /// The changes of a RENAME's two directories, whether it was done or not (RFC 1813,
 /// section 3.3.14: RENAME3resok and RENAME3resfail).
-#[derive(Clone, Copy, Debug, PartialEq, Eq, Drop)]
+#[derive(Clone, Copy, Drop)]
 pub struct Moved {
     /// Of the directory that the name left (RFC 1813, section 3.3.14: fromdir_wcc).
     pub from: Wcc,

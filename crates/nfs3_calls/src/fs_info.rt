@@ -10,7 +10,7 @@ use xdr_codec::reader::Reader;
 use xdr_codec::writer::Writer;
 
 /// How many bytes one call may move (RFC 1813, section 3.3.19: FSINFO3resok).
-#[derive(Clone, Copy, Debug, PartialEq, Eq, Drop)]
+#[derive(Clone, Copy, Drop)]
 pub struct Sizes {
     /// The most (RFC 1813, section 3.3.19: rtmax or wtmax).
     pub most: u32,
@@ -21,7 +21,7 @@ pub struct Sizes {
 }
 
 /// What an FSINFO gave; sizes are in bytes (RFC 1813, section 3.3.19: FSINFO3resok).
-#[derive(Clone, Copy, Debug, PartialEq, Eq, Drop)]
+#[derive(Clone, Copy, Drop)]
 pub struct FsInfo {
     /// The attributes of what was asked about (RFC 1813, section 3.3.19: obj_attributes).
     pub attr: Option<Attr>,

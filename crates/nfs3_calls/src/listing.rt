@@ -13,7 +13,7 @@ use xdr_codec::reader::{NO_MAXIMUM, Reader};
 use xdr_codec::writer::Writer;
 
 /// What a READDIR asks for (RFC 1813, section 3.3.16: READDIR3args).
-#[derive(Debug, Drop)]
+#[derive(Drop)]
 pub struct ListRange {
     /// The directory (RFC 1813, section 3.3.16: dir).
     pub dir: Handle,
@@ -27,7 +27,7 @@ pub struct ListRange {
 }
 
 /// An entry of a directory (RFC 1813, section 3.3.16: entry3).
-#[derive(Debug, Drop)]
+#[derive(Drop)]
 pub struct Entry {
     /// The number of the file or directory (RFC 1813, section 3.3.16: fileid).
     pub fileid: u64,
@@ -38,7 +38,7 @@ pub struct Entry {
 }
 
 /// What a READDIR gave (RFC 1813, section 3.3.16: READDIR3resok).
-#[derive(Debug, Drop)]
+#[derive(Drop)]
 pub struct Listing {
     /// The directory's attributes (RFC 1813, section 3.3.16: dir_attributes).
     pub attr: Option<Attr>,

@@ -15,7 +15,7 @@ use xdr_codec::writer::Writer;
 
 /// What a time is set to (RFC 1813, section 2.6: set_atime and set_mtime). Other numbers of
 /// time_how are refused as `BadValue`.
-#[derive(Clone, Copy, Debug, PartialEq, Eq, Drop)]
+#[derive(Clone, Copy, Drop)]
 pub enum SetTime {
     /// It stays (RFC 1813, section 2.6: DONT_CHANGE, 0).
     Keep,
@@ -26,7 +26,7 @@ pub enum SetTime {
 }
 
 /// Attributes to set; none stays as it is (RFC 1813, section 2.6: sattr3).
-#[derive(Clone, Copy, Debug, PartialEq, Eq, Drop)]
+#[derive(Clone, Copy, Drop)]
 pub struct SetAttr {
     /// The mode's bits (RFC 1813, section 2.6: set_mode3).
     pub mode: Option<u32>,
@@ -44,7 +44,7 @@ pub struct SetAttr {
 
 /// How a file is made (RFC 1813, section 3.3.8: createhow3). Other numbers of createmode3 are
 /// refused as `BadValue`.
-#[derive(Clone, Copy, Debug, PartialEq, Eq, Drop)]
+#[derive(Clone, Copy, Drop)]
 pub enum HowMade {
     /// Also where the name is taken (RFC 1813, section 3.3.8: UNCHECKED, 0).
     Unchecked(SetAttr),
@@ -56,7 +56,7 @@ pub enum HowMade {
 }
 
 /// What a CREATE asks for (RFC 1813, section 3.3.8: CREATE3args).
-#[derive(Debug, Drop)]
+#[derive(Drop)]
 pub struct NewFile {
     /// The file's name (RFC 1813, section 3.3.8: where).
     pub place: Place,
@@ -65,7 +65,7 @@ pub struct NewFile {
 }
 
 /// What a MKDIR asks for (RFC 1813, section 3.3.9: MKDIR3args).
-#[derive(Debug, Drop)]
+#[derive(Drop)]
 pub struct NewDir {
     /// The directory's name (RFC 1813, section 3.3.9: where).
     pub place: Place,
@@ -75,7 +75,7 @@ pub struct NewDir {
 
 /// What a CREATE or a MKDIR made (RFC 1813, sections 3.3.8 and 3.3.9: CREATE3resok and
 /// MKDIR3resok).
-#[derive(Debug, Drop)]
+#[derive(Drop)]
 pub struct Made {
     /// What was made (RFC 1813, section 3.3.8: obj).
     pub handle: Option<Handle>,

@@ -14,7 +14,7 @@ use xdr_codec::attr::Attr;
 use xdr_codec::handle::Handle;
 
 /// The procedures that are known (RFC 1813, section 3.3).
-#[derive(Clone, Copy, PartialEq, Eq, Drop)]
+#[derive(Clone, Copy, Drop)]
 pub enum NfsProc {
     /// Does nothing (RFC 1813, section 3.3.0: NULL).
     Null,

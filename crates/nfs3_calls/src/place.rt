@@ -13,7 +13,7 @@ use xdr_codec::reader::{NO_MAXIMUM, Reader};
 use xdr_codec::writer::Writer;
 
 /// A name in a directory (RFC 1813, section 2.6: diropargs3).
-#[derive(Debug, Drop)]
+#[derive(Drop)]
 pub struct Place {
     /// The directory (RFC 1813, section 2.6: dir).
     pub dir: Handle,
@@ -23,7 +23,7 @@ pub struct Place {
 }
 
 /// What a LOOKUP found (RFC 1813, section 3.3.3: LOOKUP3resok).
-#[derive(Debug, Drop)]
+#[derive(Drop)]
 pub struct Found {
     /// What the name stands for (RFC 1813, section 3.3.3: object).
     pub handle: Handle,
@@ -34,7 +34,7 @@ pub struct Found {
 }
 
 /// What a RENAME asks for (RFC 1813, section 3.3.14: RENAME3args).
-#[derive(Debug, Drop)]
+#[derive(Drop)]
 pub struct Rename {
     /// The name that goes (RFC 1813, section 3.3.14: from).
     pub from: Place,

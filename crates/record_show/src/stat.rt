@@ -12,7 +12,7 @@ use xdr_codec::item::Item;
 use xdr_codec::reader::Reader;
 
 /// What became of a call that was accepted (accept_stat).
-#[derive(Clone, Copy, Debug, PartialEq, Eq, Drop)]
+#[derive(Clone, Copy, Drop)]
 pub enum AcceptStat {
     /// It was done, and its results follow.
     Success,
@@ -29,7 +29,7 @@ pub enum AcceptStat {
 }
 
 /// Why a call was denied (reject_stat).
-#[derive(Clone, Copy, Debug, PartialEq, Eq, Drop)]
+#[derive(Clone, Copy, Drop)]
 pub enum RejectStat {
     /// It is of another version of RPC.
     RpcMismatch,
@@ -38,7 +38,7 @@ pub enum RejectStat {
 }
 
 /// Whether a call was accepted, and what became of it (reply_stat).
-#[derive(Drop, Debug)]
+#[derive(Drop)]
 pub enum Stat {
     /// It was, with this verifier.
     Accepted(Auth, AcceptStat),

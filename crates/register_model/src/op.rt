@@ -13,7 +13,7 @@ use shared_bytes::SharedBytes;
 const STALE: u32 = 70;
 
 /// What an operation was to do: the first word of its command.
-#[derive(Clone, Copy, Debug, PartialEq, Eq)]
+#[derive(Clone, Copy)]
 pub enum Word {
     /// Opens a file: the client gets its whole content, as it is at one moment.
     Open,
@@ -116,7 +116,7 @@ pub enum Outcome {
 }
 
 /// What an operation sent and received.
-#[derive(Clone, Copy, Debug, PartialEq, Eq)]
+#[derive(Clone, Copy)]
 pub struct Traffic {
     /// CONDWRITE calls sent.
     pub cond: u64,

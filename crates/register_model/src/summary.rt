@@ -8,7 +8,7 @@ use crate::history::History;
 use crate::op::Op;
 
 /// How many operations ended in each way. Each operation counts once.
-#[derive(Clone, Copy, Debug, PartialEq, Eq)]
+#[derive(Clone, Copy)]
 pub struct Endings {
     /// Opens that got a content.
     pub opened: usize,
@@ -23,7 +23,7 @@ pub struct Endings {
 }
 
 /// What all operations sent and received.
-#[derive(Clone, Copy, Debug, PartialEq, Eq)]
+#[derive(Clone, Copy)]
 pub struct Totals {
     /// CONDWRITE calls sent.
     pub cond: u128,
@@ -36,7 +36,7 @@ pub struct Totals {
 }
 
 /// The counts of a history.
-#[derive(Clone, Copy, Debug, PartialEq, Eq)]
+#[derive(Clone, Copy)]
 pub struct Counts {
     /// All operations.
     pub ops: usize,

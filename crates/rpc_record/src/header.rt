@@ -15,7 +15,7 @@ use xdr_codec::writer::Writer;
 
 /// Whether a message is a call or a reply (RFC 5531, section 9: msg_type). Other numbers are refused
 /// as `BadValue`.
-#[derive(Clone, Copy, Debug, PartialEq, Eq, Drop)]
+#[derive(Clone, Copy, Drop)]
 pub enum Direction {
     /// The number 0.
     Call,
@@ -24,7 +24,7 @@ pub enum Direction {
 }
 
 /// What every message begins with (RFC 5531, section 9: rpc_msg).
-#[derive(Clone, Copy, Debug, PartialEq, Eq, Drop)]
+#[derive(Clone, Copy, Drop)]
 pub struct Front {
     /// The number by which a reply is known as that of its call.
     pub xid: u32,
@@ -34,7 +34,7 @@ pub struct Front {
 
 /// Who is asking, or proof of it (RFC 5531, section 8.2: opaque_auth). More than `AUTH_MOST` bytes are
 /// refused as `TooLong`.
-#[derive(Drop, Debug)]
+#[derive(Drop)]
 pub struct Auth {
     /// Which form the body has (auth_flavor); any number is read.
     pub flavor: u32,
@@ -43,7 +43,7 @@ pub struct Auth {
 }
 
 /// What a call's header says behind the version of RPC (RFC 5531, section 9: call_body).
-#[derive(Drop, Debug)]
+#[derive(Drop)]
 pub struct CallHead {
     /// The program's number (prog).
     pub program: u32,
@@ -58,7 +58,7 @@ pub struct CallHead {
 }
 
 /// The versions that are supported (RFC 5531, section 9: mismatch_info).
-#[derive(Clone, Copy, Debug, PartialEq, Eq, Drop)]
+#[derive(Clone, Copy, Drop)]
 pub struct Versions {
     /// The lowest.
     pub low: u32,
@@ -68,7 +68,7 @@ pub struct Versions {
 
 /// What became of a call that was accepted (RFC 5531, section 9: accept_stat, and what follows it).
 /// Other numbers than 0 to 5 are refused as `BadValue`.
-#[derive(Clone, Copy, Debug, PartialEq, Eq, Drop)]
+#[derive(Clone, Copy, Drop)]
 pub enum Accept {
     /// 0: the result follows the header.
     Success,
@@ -86,7 +86,7 @@ pub enum Accept {
 
 /// Why a call was denied (RFC 5531, section 9: reject_stat, and what follows it). Other numbers than
 /// 0 and 1 are refused as `BadValue`.
-#[derive(Clone, Copy, Debug, PartialEq, Eq, Drop)]
+#[derive(Clone, Copy, Drop)]
 pub enum Denial {
     /// 0: RPC is spoken in these other versions.
     RpcMismatch(Versions),
@@ -96,7 +96,7 @@ pub enum Denial {
 
 /// The header of a reply behind its type (RFC 5531, section 9: reply_body, by its reply_stat). Other
 /// numbers than 0 and 1 are refused as `BadValue`.
-#[derive(Drop, Debug)]
+#[derive(Drop)]
 pub enum ReplyHead {
     /// 0: the server's verifier, and what became of the call (accepted_reply).
     Accepted(Auth, Accept),

@@ -24,7 +24,7 @@ const CALL: u32 = 0;
 const REPLY: u32 = 1;
 
 /// The header of a call (RFC 5531, section 9: rpc_msg with a call_body).
-#[derive(Drop, Debug)]
+#[derive(Drop)]
 pub struct Call {
     /// The number by which its reply is known.
     pub xid: u32,
@@ -35,7 +35,7 @@ pub struct Call {
 }
 
 /// The header of a reply (RFC 5531, section 9: rpc_msg with a reply_body).
-#[derive(Drop, Debug)]
+#[derive(Drop)]
 pub struct Reply {
     /// The number of the call that it answers.
     pub xid: u32,

@@ -7,7 +7,7 @@ use std::marker::Model;
 
 /// The contents of a record. A record that came as one fragment, and alone, keeps the bytes in which
 /// it came; of any other the contents were copied.
-#[derive(Drop, Debug)]
+#[derive(Drop)]
 pub struct Record {
     /// The bytes that hold them.
     held: Bytes,

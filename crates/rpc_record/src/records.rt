@@ -14,7 +14,7 @@ use std::marker::Model;
 use std::mem;
 
 /// What a piece of a stream completed.
-#[derive(Drop, Debug)]
+#[derive(Drop)]
 pub struct Fed {
     /// The records that end in the piece, in order.
     pub records: Items<Record>,

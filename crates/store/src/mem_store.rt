@@ -19,7 +19,7 @@ use std::alloc::{AllocError, Global};
 use std::marker::Model;
 
 /// A store in memory that never fails.
-#[derive(Drop, Debug)]
+#[derive(Drop)]
 pub struct SureStore {
     records: Vec<Kept>,
 }
@@ -91,7 +91,7 @@ impl Store for SureStore {
 }
 
 /// A store in memory, of which some calls fail.
-#[derive(Drop, Debug)]
+#[derive(Drop)]
 pub struct MemStore {
     store: SureStore,
     calls: u64,

@@ -4,14 +4,14 @@ use lb_base::items::Name;
 use shared_bytes::SharedBytes;
 
 /// What a node is.
-#[derive(Clone, Copy, Debug, PartialEq, Eq, Drop)]
+#[derive(Clone, Copy, Drop)]
 pub enum NodeKind {
     File,
     Directory,
 }
 
 /// How far a tree has come.
-#[derive(Clone, Copy, Debug, PartialEq, Eq, Drop)]
+#[derive(Clone, Copy, Drop)]
 pub struct Head {
     /// The id that the next node gets.
     pub next: u64,
@@ -20,7 +20,7 @@ pub struct Head {
 }
 
 /// A node: where it stands, and under which name.
-#[derive(Drop, Debug)]
+#[derive(Drop)]
 pub struct NodeRecord {
     pub id: u64,
     /// The id of its directory.
@@ -30,7 +30,7 @@ pub struct NodeRecord {
 }
 
 /// What a file contains.
-#[derive(Drop, Debug)]
+#[derive(Drop)]
 pub struct ContentRecord {
     /// The file's id.
     pub id: u64,
@@ -40,7 +40,7 @@ pub struct ContentRecord {
 }
 
 /// A record that a store keeps.
-#[derive(Drop, Debug)]
+#[derive(Drop)]
 pub enum Kept {
     Head(Head),
     Node(NodeRecord),
@@ -48,7 +48,7 @@ pub enum Kept {
 }
 
 /// A change of what a store keeps.
-#[derive(Drop, Debug)]
+#[derive(Drop)]
 pub enum Change {
     /// A node takes the place of the one that has its id, or is added at the end.
     Node(NodeRecord),

@@ -13,7 +13,7 @@ use lb_base::source::Failed;
 use std::alloc::{AllocError, Global};
 
 /// Why a store's records were not given.
-#[derive(Clone, Copy, Debug, PartialEq, Eq)]
+#[derive(Clone, Copy)]
 pub enum StoreErr {
     /// The store failed.
     Failed,

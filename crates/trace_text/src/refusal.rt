@@ -9,7 +9,7 @@ use std::alloc::{AllocError, Global};
 use std::fmt::Write;
 
 /// A limit of traces. Which line goes beyond it is the business of the world that runs them.
-#[derive(Clone, Copy, Debug, PartialEq, Eq)]
+#[derive(Clone, Copy)]
 pub enum Limit {
     /// How many lines a trace may have, those that are skipped among them.
     Lines,
@@ -36,7 +36,7 @@ impl Limit {
 }
 
 /// What is wrong with a line. Where several things are, the first of these counts.
-#[derive(Clone, Copy, Debug, PartialEq, Eq)]
+#[derive(Clone, Copy)]
 pub enum LineFault {
     /// It is not in the grammar.
     Grammar,
@@ -47,7 +47,7 @@ pub enum LineFault {
 }
 
 /// Why a run was refused.
-#[derive(Clone, Copy, Debug, PartialEq, Eq)]
+#[derive(Clone, Copy)]
 pub enum Refusal {
     /// The words of the command line say nothing.
     Words,

@@ -43,7 +43,7 @@ pub enum Body {
 }
 
 /// Why a call is refused (RFC 5531, section 9: accept_stat other than SUCCESS, and reject_stat).
-#[derive(Clone, Copy, Debug, PartialEq, Eq, Drop)]
+#[derive(Clone, Copy, Drop)]
 pub enum RpcRefusal {
     /// No such program here (PROG_UNAVAIL, 1).
     ProgUnavail,
@@ -79,7 +79,7 @@ pub enum Message {
 }
 
 /// Which end reads a record, and so which programs are served there.
-#[derive(Clone, Copy, PartialEq, Eq, Drop)]
+#[derive(Clone, Copy, Drop)]
 pub enum Side {
     /// A server: NFS and LBFS. The callback program is `ProgUnavail` here.
     Server,
@@ -90,7 +90,7 @@ pub enum Side {
 }
 
 /// A program and a procedure of it.
-#[derive(Clone, Copy, PartialEq, Eq, Drop)]
+#[derive(Clone, Copy, Drop)]
 pub enum Program {
     /// NFS version 3 (RFC 1813), program 100003.
     Nfs(NfsProc),
@@ -101,7 +101,7 @@ pub enum Program {
 }
 
 /// A call that waits for its answer.
-#[derive(Clone, Copy, PartialEq, Eq, Drop)]
+#[derive(Clone, Copy, Drop)]
 pub struct Pending {
     /// The number under which its answer comes.
     pub xid: u32,

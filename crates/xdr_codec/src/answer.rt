@@ -13,7 +13,7 @@ use crate::writer::Writer;
 use std::alloc::{AllocError, Global};
 
 /// An answer. A number that is no status is refused as `BadValue`.
-#[derive(Drop, Debug)]
+#[derive(Drop)]
 pub enum Answer<T, F> {
     /// Status OK, the number 0, and the body.
     Done(T),

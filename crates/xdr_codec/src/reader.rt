@@ -7,13 +7,13 @@
 
 ghost use Rattle.std.specs.Prelude.{◌≡◌, ℕ, ◌+◌, ◌<◌, ◌≤◌, ◌^◌, length, IfOk, OnErr, IsErrOf};
 ghost use Rattle.xdr_codec.specs.Format.{Input, Gives, GivesAll, ended};
-ghost use Rattle.xdr_codec.specs.Xdr.{u32_form, u64_form, bool_form, bytes_form, fixed_form, opaque_form, count_form, is_zero};
-ghost use Rattle.std.specs.List.{list_all};
+ghost use Rattle.xdr_codec.specs.Xdr.{u32_form, u64_form, bool_form, bytes_form, fixed_form, opaque_form, count_form};
 
 use crate::fault::{Fault, ReadError};
 use lb_base::items::Bytes;
 use std::alloc::Global;
 use std::marker::Model;
+use xdr_rules::{is_at_end, is_fill};
 
 /// The maximum of byte strings and lists that are declared without one (RFC 4506, sections 4.10 and
 /// 4.13), in bytes or in items.
@@ -35,12 +35,6 @@ impl<'a> Model for Reader<'a> {
     ghost view = { λ r. record { at = r.at; rest = r.rest.now } };
 
     ghost invariant = { λ r. r.at + length r.rest.now < 2 ^ 64 };
-}
-
-fn is_fill(fill: &[u8]) -> bool
-    ensures { result ≡ list_all is_zero fill.now }
-{
-    fill.iter().all(|b| *b == 0)
 }
 
 impl<'a> Reader<'a> {
@@ -88,7 +82,7 @@ impl<'a> Reader<'a> {
         ensures gives { GivesAll result (ended self.now) }
         ensures no_memory { ¬ IsErrOf result ReadError.Memory }
     {
-        if !self.rest.is_empty() {
+        if !is_at_end(self.rest) {
             return Err(ReadError::Fault(Fault::Trailing { at: self.at }));
         }
         Ok(())
