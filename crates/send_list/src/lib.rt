@@ -28,7 +28,7 @@ impl<T> Model for SendList<T> {
     ghost view = { λ s. sent_list s.first s.rest };
 }
 
-impl<T: Drop> SendList<T> {
+impl<T> SendList<T> {
     /// No message. It takes no memory.
     pub fn none(alloc: Global) -> SendList<T>
         ensures { result ≡ [] }
@@ -49,6 +49,23 @@ impl<T: Drop> SendList<T> {
         }
     }
 
+    /// The first message, if there is one, and those behind it.
+    pub fn as_pair(&self) -> (Option<&T>, &[T])
+        ensures { sent_list (option_copied result.0) result.1.now ≡ self.now }
+    {
+        (self.first.as_ref(), self.rest.as_slice())
+    }
+
+    /// The first message, if there is one, and those behind it. It takes no memory.
+    pub fn into_parts(self) -> (Option<T>, Items<T>)
+        ensures { sent_list result.0 result.1 ≡ self }
+    {
+        let SendList { first, rest } = self;
+        (first, rest)
+    }
+}
+
+impl<T: Drop> SendList<T> {
     /// One more message, behind the others. The one error is want of memory, and changes nothing.
     pub fn push(&mut self, message: T) -> Result<(), AllocError>
         ensures ok { OnOk result (self.new ≡ self.old ++ message ∷ []) }
@@ -66,20 +83,5 @@ impl<T: Drop> SendList<T> {
                 Err(AllocError)
             }
         }
-    }
-
-    /// The first message, if there is one, and those behind it.
-    pub fn as_pair(&self) -> (Option<&T>, &[T])
-        ensures { sent_list (option_copied result.0) result.1.now ≡ self.now }
-    {
-        (self.first.as_ref(), self.rest.as_slice())
-    }
-
-    /// The first message, if there is one, and those behind it. It takes no memory.
-    pub fn into_parts(self) -> (Option<T>, Items<T>)
-        ensures { sent_list result.0 result.1 ≡ self }
-    {
-        let SendList { first, rest } = self;
-        (first, rest)
     }
 }
