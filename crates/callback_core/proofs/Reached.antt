@@ -1,10 +1,10 @@
 -- What is found at a place of those that wait.
 use Rattle.std.proofs.Common.{◌≡◌, ℕ, zero, suc, ◌<◌, List, [], ◌∷◌, ◌++◌, Some, true, false, length, take, drop, sym, ap, ◌∙◌, arith, eq-eqb}
 use Rattle.std.specs.Prelude.{find, cond, slice_get, slice_index_or}
-use Rattle.lease_table.specs.declared.lease.Lease.{Lease}
-use Rattle.callback_core.specs.declared.change.Change.{Change}
+use Rattle.lease_rules.specs.declared.lease.Lease.{Lease}
+use Rattle.lease_rules.specs.declared.change.Change.{Change}
 use Rattle.callback_core.specs.Waits.{is_free, heads_after, ready, change_of}
-use Rattle.callback_core.specs.Places.{waits_behind}
+use Rattle.lease_rules.specs.Changes.{waits_behind}
 
 module _ {X : Type 0} where
   pub reached : (xs : List X) (i : ℕ) (x : X) → i < length xs → x ≡ slice_index_or xs i x → drop i xs ≡ x ∷ drop (suc i) xs

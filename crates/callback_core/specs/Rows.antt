@@ -1,10 +1,10 @@
 -- Which change waits for what, and which is next, at worked lists.
 use Rattle.std.specs.Prelude.{◌≡◌, ℕ, List, [], ◌∷◌, Option, Some, None, true, false, refl}
-use Rattle.lease_table.specs.declared.lease.Lease.{Lease}
+use Rattle.lease_rules.specs.declared.lease.Lease.{Lease}
 use Rattle.lease_table.specs.Leases.{grant, marked, without_recalled}
-use Rattle.callback_core.specs.declared.change.Kind.{Kind}
-use Rattle.callback_core.specs.declared.change.Kind.TheVariants.{Commit, Remove, Rename}
-use Rattle.callback_core.specs.declared.change.Change.{Change}
+use Rattle.lease_rules.specs.declared.change.Kind.{Kind}
+use Rattle.lease_rules.specs.declared.change.Kind.TheVariants.{Commit, Remove, Rename}
+use Rattle.lease_rules.specs.declared.change.Change.{Change}
 use Rattle.callback_core.specs.Waits.{recall_of, recalls_due, heads, ready, change_of, has_wait, waits_on, without, without_made, entries_of, bytes_of}
 
 -- a change that a session asked for, of what else it takes no more than a number

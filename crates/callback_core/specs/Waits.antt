@@ -3,20 +3,13 @@
 -- that the file stays as it is (Gray and Cheriton, SOSP 1989).
 use Rattle.std.specs.Prelude.{◌≡◌, ℕ, List, [], ◌∷◌, ◌++◌, Option, Some, None, Result, Ok, Err, Bool, true, false, not, ◌==◌, cond, find, filter, map, sum_by, AllPairs, length, ◌≤◌, ◌<◌, ◌^◌}
 use Rattle.std.specs.List.{list_any}
-use Rattle.lease_table.specs.declared.lease.Lease.{Lease}
+use Rattle.lease_rules.specs.declared.lease.Lease.{Lease}
 use Rattle.lease_table.specs.Leases.{is_blocked, others}
-use Rattle.callback_core.specs.declared.change.Kind.{Kind}
-use Rattle.callback_core.specs.declared.change.Kind.TheVariants.{Commit, Remove, Rename}
-use Rattle.callback_core.specs.declared.change.Change.{Change}
-use Rattle.callback_core.specs.declared.change.Recall.{Recall}
-use Rattle.callback_core.specs.declared.change.AskErr.{AskErr}
-use Rattle.callback_core.specs.declared.change.AskErr.TheVariants.{Jukebox, Memory}
-
--- A COMMITTMP isn't held up by its own session's lease; a REMOVE or RENAME is. Session 0 is nobody.
-abbrev pub asker_of : Kind → (session : ℕ) → ℕ
-asker_of Commit session = session
-asker_of Remove session = 0
-asker_of Rename session = 0
+pub use Rattle.lease_rules.specs.Changes.{asker_of, asker, is_about, meets, waits_behind}
+use Rattle.lease_rules.specs.declared.change.Change.{Change}
+use Rattle.lease_rules.specs.declared.change.Recall.{Recall}
+use Rattle.lease_rules.specs.declared.change.AskErr.{AskErr}
+use Rattle.lease_rules.specs.declared.change.AskErr.TheVariants.{Jukebox, Memory}
 
 -- the session is asked for its lease on the file
 abbrev pub recall_of : (file session : ℕ) → Recall
@@ -24,17 +17,6 @@ recall_of file session = record { session = session; file = file }
 
 module _ {P : Type 0} where
   -- ---- one change
-
-  abbrev pub asker : Change P → ℕ
-  asker c = asker_of c.kind c.session
-
-  -- the file is one that it changes
-  abbrev pub is_about : Change P → (file : ℕ) → Bool
-  is_about c file = c.file == file
-
-  -- both change one file
-  abbrev pub meets : Change P → Change P → Bool
-  meets c d = is_about c d.file
 
   -- no lease blocks it
   abbrev pub is_free : List Lease → (now : ℕ) → Change P → Bool

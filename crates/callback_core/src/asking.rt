@@ -5,9 +5,9 @@ ghost use Rattle.lease_table.specs.Leases.{grant, lease_at};
 ghost use Rattle.callback_core.specs.Waits.{recall_of, recalls_due, has_wait, without_made, places_of, entries_of, bytes_of, IsAnswered, AreBounded};
 ghost use Rattle.callback_core.specs.Places.{place_in, without_place};
 
-use crate::change::{AskErr, Change, Recall};
 use crate::ready::has;
 use lb_base::items::Items;
+use lease_rules::change::{AskErr, Change, Recall};
 use lease_table::table::Leases;
 use std::alloc::{AllocError, Global};
 

@@ -5,7 +5,6 @@
 #![tactic(auto)]
 
 mod asking;
-pub mod change;
 mod ready;
 mod sizes;
 pub mod waits;

@@ -2,18 +2,11 @@
 
 ghost use Rattle.std.specs.Prelude.{◌≡◌, ◌<◌, None, Some, not, take, length, slice_get, slice_index_or, IfSome, Option};
 ghost use Rattle.std.specs.List.{list_any};
-ghost use Rattle.callback_core.specs.Waits.{meets, is_free, ready, change_of, has_wait, waits_on};
-ghost use Rattle.callback_core.specs.Places.{waits_behind, place_in};
+ghost use Rattle.callback_core.specs.Waits.{is_free, ready, change_of, has_wait, waits_on};
+ghost use Rattle.callback_core.specs.Places.{place_in};
 
-use crate::change::Change;
+use lease_rules::change::{Change, waits_behind};
 use lease_table::table::Leases;
-
-/// Whether a change waits behind one that came earlier.
-fn waits_behind<P>(earlier: &[Change<P>], change: &Change<P>) -> bool
-    ensures { result ≡ waits_behind earlier.now change.now }
-{
-    earlier.iter().any(|other| other.meets(change))
-}
 
 /// Whether no lease holds a change up.
 fn is_free<P>(leases: &Leases, change: &Change<P>, now: u64) -> bool

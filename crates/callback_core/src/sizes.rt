@@ -3,7 +3,7 @@
 ghost use Rattle.std.specs.Prelude.{◌≡◌, ◌<◌, ◌^◌};
 ghost use Rattle.callback_core.specs.Waits.{entries_of, bytes_of};
 
-use crate::change::Change;
+use lease_rules::change::Change;
 
 /// The entries of the journal that they will make.
 pub fn entries_of<P>(waits: &Vec<Change<P>>) -> u64

@@ -5,9 +5,9 @@ ghost use Rattle.std.specs.Prelude.{◌≡◌, ◌+◌, ◌<◌, ◌≤◌, ◌^
 ghost use Rattle.lease_table.specs.Leases.{grant, without_lease, marked, without_recalled, without_ended, is_blocked, others, lease_at};
 ghost use Rattle.callback_core.specs.Waits.{recalls_due, ready, change_of, has_wait, waits_on, without, without_made, places_of, entries_of, bytes_of, IsAnswered};
 
-use crate::change::{AskErr, Change, Recall};
 use crate::{asking, ready, sizes};
 use lb_base::items::Items;
+use lease_rules::change::{AskErr, Change, Recall};
 use lease_table::table::Leases;
 use std::alloc::{AllocError, Global};
 use std::marker::Model;

@@ -5,7 +5,7 @@ use Rattle.std.proofs.lemmas.Bool.Decides.{nat_tests}
 use Rattle.std.proofs.lemmas.List.Elements.{All-contains}
 use Rattle.clock_rule.specs.Clocks.{Clocked}
 use Rattle.clock_rule.specs.Keeping.{KeepRule}
-use Rattle.lease_table.specs.declared.lease.Lease.{Lease}
+use Rattle.lease_rules.specs.declared.lease.Lease.{Lease}
 use Rattle.lease_table.specs.Leases.{lease_at, grant, marked, without_recalled, remembers, is_blocked, blocks, is_wanted_back}
 use Rattle.lease_table.specs.Order.{AreOrdered}
 use Rattle.lease_table.specs.Machine.{Machine, Note, Up, Up.Ask, Up.Commit, Up.Reply, Down, Down.Answered, Down.Recall, Event, Event.Open, Event.Fetch, Event.Store, Event.Read, Event.Take, Event.Arrive, Event.Change, Event.Settle, Event.Refuse, Event.Drop, Event.Cut, Event.Hang, Event.Restart, event_at, fresh, is_free, is_none, asks_if, opens_by, stores_if, note_if, note_of, reads_one, unless, answers, takes_one, is_wanted, recalls_if, changes, settles_if, refuses_if, happens, start}

@@ -5,7 +5,7 @@ use Rattle.std.specs.List.{AllByRecursion}
 use Rattle.std.proofs.lemmas.Bool.Decides.{nat_tests}
 use Rattle.std.proofs.lemmas.List.Elements.{All-head, All-tail}
 use Rattle.clock_rule.proofs.Keeping.{pairs_head, pairs_tail}
-use Rattle.lease_table.specs.declared.lease.Lease.{Lease}
+use Rattle.lease_rules.specs.declared.lease.Lease.{Lease}
 use Rattle.lease_table.specs.Leases.{is_on, is_before, is_behind, lease_at, with_lease, without_lease}
 use Rattle.lease_table.specs.Order.{ComesBefore, AreOrdered}
 use Rattle.lease_table.proofs.Lists.{find_kept, find_none_kept, unique, put_ordered, find_put_new, find_put_other, some_is}

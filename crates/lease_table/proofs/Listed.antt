@@ -15,7 +15,7 @@ use Rattle.std.proofs.lemmas.Map.Views.{All-keys-insert_entry, All-map-remove_en
 use Rattle.reserved_map.specs.Reserved.{at}
 use Rattle.reserved_map.proofs.Entries.{at_inserted, at_removed, sorted_inserted, sorted_removed, same_entries}
 use Rattle.reserved_map.proofs.Merged.{length_inserted}
-use Rattle.lease_table.specs.declared.keyed.Held.{Held}
+use Rattle.lease_rules.specs.declared.lease.Held.{Held}
 use Rattle.lease_table.specs.Leases.{is_recall}
 use Rattle.lease_table.specs.Kept.{by_two, by_three, Entries, Keys, held_at, is_listed, is_recalled, is_ending, marks, FitsKey, AreKept, unlisted, listed}
 use Rattle.lease_table.proofs.Keeping.{is_same, same_session, same_file}

@@ -19,8 +19,8 @@ use Rattle.std.proofs.lemmas.List.Kept.{AllPairs-cons}
 use Rattle.std.proofs.lemmas.Map.Keys.{sorted_head, sorted_tail}
 use Rattle.std.proofs.lemmas.Map.Lookups.{exact_unsigned}
 use Rattle.reserved_map.specs.Reserved.{IsExact}
-use Rattle.lease_table.specs.declared.keyed.Held.{Held}
-use Rattle.lease_table.specs.declared.lease.Lease.{Lease}
+use Rattle.lease_rules.specs.declared.lease.Held.{Held}
+use Rattle.lease_rules.specs.declared.lease.Lease.{Lease}
 use Rattle.lease_table.specs.Leases.{is_on, is_before, is_behind, lease_at, with_lease, without_lease}
 use Rattle.lease_table.specs.Order.{ComesBefore, AreOrdered}
 use Rattle.lease_table.specs.Kept.{by_two, by_three, Entries, lease_from, leases_of, held_at}
@@ -195,6 +195,11 @@ and_true false b p q = absurd (true≢false (sym p))
 
 pub of_recall : (s x f : ℕ) → f < 2 ^ 64 → range_contains by_three (Included (s, x, 0)) (Included (s, x, 18446744073709551615)) (s, x, f) ≡ true
 of_recall s x f below = and_true (is_le (by_three (s, x, 0) (s, x, f))) (not (is_lt (by_three (s, x, 18446744073709551615) (s, x, f)))) (grind (arith, nat_tests)) (grind (arith, nat_tests, below))
+
+-- the same between bounds that are these
+pub of_recall_between : (s x f : ℕ) (first last : ℕ × ℕ × ℕ) → first ≡ (s, x, 0) → last ≡ (s, x, 18446744073709551615) → f < 2 ^ 64 → range_contains by_three (Included first) (Included last) (s, x, f) ≡ true
+of_recall_between s x f first last is_first is_last below =
+    ap (λ (p : ℕ × ℕ × ℕ). range_contains by_three (Included p) (Included last) (s, x, f)) is_first ∙ ap (λ (p : ℕ × ℕ × ℕ). range_contains by_three (Included (s, x, 0)) (Included p) (s, x, f)) is_last ∙ of_recall s x f below
 
 pub up_to_now : (now reading f s : ℕ) → reading ≤ now → f < 2 ^ 64 → s < 2 ^ 32 → range_contains by_three (Included (0, 0, 0)) (Included (now, 18446744073709551615, 4294967295)) (reading, f, s) ≡ true
 up_to_now now reading f s past below_file below_session =

@@ -8,7 +8,7 @@ use Rattle.clock_rule.specs.declared.rule.Note.{Note as Noted}
 use Rattle.clock_rule.specs.declared.rule.Reading.{Reading}
 use Rattle.clock_rule.specs.Clocks.{Clocked}
 use Rattle.clock_rule.specs.Keeping.{KeepRule, KeepsRule, NeverFall, servers, events}
-use Rattle.lease_table.specs.declared.lease.Lease.{Lease}
+use Rattle.lease_rules.specs.declared.lease.Lease.{Lease}
 use Rattle.lease_table.specs.Leases.{lease_at}
 use Rattle.lease_table.specs.Order.{AreOrdered}
 use Rattle.lease_table.specs.Machine.{Machine, Note, Up, Up.Ask, Up.Commit, Up.Reply, Down, Down.Answered, Down.Recall, Event, Event.Open, Event.Fetch, Event.Store, Event.Read, Event.Take, Event.Arrive, Event.Change, Event.Settle, Event.Refuse, Event.Drop, Event.Cut, Event.Hang, Event.Restart, event_at, reading_of}

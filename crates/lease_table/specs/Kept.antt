@@ -7,9 +7,10 @@ use Rattle.std.specs.Map.{keys_of, values_of, remove_entry}
 use Rattle.std.specs.Ordering.{nat_cmp, ordering_then}
 use Rattle.std.specs.declared.cmp.Ordering.{Ordering}
 use Rattle.reserved_map.specs.Reserved.{at}
-use Rattle.lease_table.specs.declared.keyed.Held.{Held}
-use Rattle.lease_table.specs.declared.lease.Lease.{Lease}
-use Rattle.lease_table.specs.Leases.{is_recall}
+use Rattle.lease_rules.specs.declared.lease.Held.{Held}
+use Rattle.lease_rules.specs.declared.lease.Lease.{Lease}
+use Rattle.lease_rules.specs.Leases.{is_recall}
+pub use Rattle.lease_rules.specs.Leases.{lease_from}
 
 -- ---- keys
 
@@ -23,9 +24,6 @@ by_three x y = ordering_then (ordering_then (nat_cmp x.0 y.0) (nat_cmp x.1 y.1))
 
 abbrev pub Entries : Type 0
 Entries = List ((ℕ × ℕ) × Held)
-
-abbrev pub lease_from : (ℕ × ℕ) × Held → Lease
-lease_from e = record { session = e.0.1; file = e.0.0; ends = e.1.ends; recall = e.1.recall }
 
 -- the list of them, by file, and by session within a file
 abbrev pub leases_of : Entries → List Lease

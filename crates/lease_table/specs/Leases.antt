@@ -2,50 +2,13 @@
 -- changed, until the lease ends. A session has one lease on a file at most.
 use Rattle.std.specs.Prelude.{ℕ, List, ◌∷◌, ◌++◌, Option, Some, None, Bool, true, false, not, ◌&&◌, ◌||◌, ◌==◌, nat_lt, find, filter, map}
 use Rattle.std.specs.List.{list_any}
-use Rattle.lease_table.specs.declared.lease.Lease.{Lease}
+use Rattle.lease_rules.specs.declared.lease.Lease.{Lease}
+pub use Rattle.lease_rules.specs.Leases.{is_on, is_before, is_behind, is_others, blocks, is_none, is_wanted_back, is_recall, remembers}
 
 -- the leases by file, and by session within a file; and how many more have their place already
 pub record Table : Type 0 where
   pub leases : List Lease
   pub room : ℕ
-
--- ---- one lease
-
--- whose it is, and on which file
-abbrev pub is_on : Lease → (session file : ℕ) → Bool
-is_on l session file = l.file == file && l.session == session
-
--- it stands before that of the session on the file
-abbrev pub is_before : Lease → (session file : ℕ) → Bool
-is_before l session file = nat_lt l.file file || (l.file == file && nat_lt l.session session)
-
--- it stands behind it
-abbrev pub is_behind : Lease → (session file : ℕ) → Bool
-is_behind l session file = nat_lt file l.file || (l.file == file && nat_lt session l.session)
-
--- another's than the session's; session 0 is nobody's, and so every lease is another's than its
-abbrev pub is_others : Lease → (session : ℕ) → Bool
-is_others l session = session == 0 || not (l.session == session)
-
--- a change of the file that this session asked for can't be made before it is given up
-abbrev pub blocks : Lease → (session file now : ℕ) → Bool
-blocks l session file now = l.file == file && (is_others l session && nat_lt now l.ends)
-
-abbrev pub is_none : Option ℕ → Bool
-is_none None = true
-is_none (Some x) = false
-
--- it is to be asked for back
-abbrev pub is_wanted_back : Lease → (session file now : ℕ) → Bool
-is_wanted_back l session file now = blocks l session file now && is_none l.recall
-
-abbrev pub is_recall : Option ℕ → (xid : ℕ) → Bool
-is_recall None x = false
-is_recall (Some y) x = y == x
-
--- the session was asked for it by the RECALL with this xid
-abbrev pub remembers : Lease → (session xid : ℕ) → Bool
-remembers l session xid = l.session == session && is_recall l.recall xid
 
 -- ---- all of them
 

@@ -8,7 +8,7 @@ use Rattle.clock_rule.specs.declared.rule.Reading.{Reading}
 use Rattle.clock_rule.specs.declared.rule.Reading.TheVariants as reads
 use Rattle.clock_rule.specs.Clocks.{Clocked, event_of}
 use Rattle.clock_rule.specs.Keeping.{and_reading, at_first}
-use Rattle.lease_table.specs.declared.lease.Lease.{Lease}
+use Rattle.lease_rules.specs.declared.lease.Lease.{Lease}
 use Rattle.lease_table.specs.Leases.{lease_at, grant, marked, without_recalled, is_blocked, is_wanted_back}
 
 -- a call of the client, or its answer to a RECALL

@@ -1,6 +1,6 @@
 -- How leases stand in their list.
 use Rattle.std.specs.Prelude.{◌≡◌, List, true, AllPairs}
-use Rattle.lease_table.specs.declared.lease.Lease.{Lease}
+use Rattle.lease_rules.specs.declared.lease.Lease.{Lease}
 use Rattle.lease_table.specs.Leases.{is_before}
 
 abbrev pub ComesBefore : Lease → Lease → Type 0

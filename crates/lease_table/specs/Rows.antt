@@ -1,6 +1,6 @@
 -- What the calls do, at worked lists of leases.
 use Rattle.std.specs.Prelude.{◌≡◌, ℕ, List, [], ◌∷◌, Option, Some, None, true, false, refl}
-use Rattle.lease_table.specs.declared.lease.Lease.{Lease}
+use Rattle.lease_rules.specs.declared.lease.Lease.{Lease}
 use Rattle.lease_table.specs.Leases.{lease_at, grant, without_lease, marked, without_recalled, without_ended, is_blocked, others}
 
 abbrev at : (session file ends : ℕ) → Option ℕ → Lease

@@ -6,28 +6,15 @@ ghost use Rattle.std.specs.BTreeMap.Range.{range_contains};
 ghost use Rattle.std.specs.List.{list_any};
 ghost use Rattle.std.specs.Map.{keys_of};
 ghost use Rattle.std.specs.declared.ops.Bound.TheVariants.{Included};
-ghost use Rattle.lease_table.specs.Leases.{is_blocked, others, blocks, is_wanted_back};
+ghost use Rattle.lease_table.specs.Leases.{is_blocked, others, blocks};
 ghost use Rattle.lease_table.specs.Kept.{FitsKey, by_two, lease_from, leases_of};
 
-use crate::keyed::{Held, Keyed};
+use crate::keyed::Keyed;
 use lb_base::items::Items;
+use lease_rules::lease::{Held, blocks, is_wanted_back};
 use reserved_map::range::is_within;
 use std::alloc::{AllocError, Global};
 use std::collections::btree_map::Range;
-
-/// Whether a lease on the file holds up a change of it that the session asked for.
-fn blocks(key: &(u64, u32), held: &Held, file: u64, session: u32, now: u64) -> bool
-    ensures { result ≡ blocks (lease_from (key.now, held.now)) session file now }
-{
-    key.0 == file && (session == 0 || key.1 != session) && now < held.ends
-}
-
-/// Whether a lease on the file is to be asked for back.
-fn is_wanted_back(key: &(u64, u32), held: &Held, file: u64, session: u32, now: u64) -> bool
-    ensures { result ≡ is_wanted_back (lease_from (key.now, held.now)) session file now }
-{
-    blocks(key, held, file, session, now) && held.recall.is_none()
-}
 
 /// Whether one of these leases holds up a change of the file.
 fn any_blocks(mut leases: Range<'_, (u64, u32), Held>, file: u64, session: u32, now: u64) -> bool

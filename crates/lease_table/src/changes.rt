@@ -6,7 +6,8 @@ ghost use Rattle.std.specs.BTreeMap.{insert_entry};
 ghost use Rattle.lease_table.specs.Leases.{lease_at, with_lease, grant, lease_of, without_lease, marked, without_recalled, without_ended};
 ghost use Rattle.lease_table.specs.Kept.{AreKept, by_two, held_at, leases_of};
 
-use crate::keyed::{Ends, Held, Keyed, Recalls, list, one_ended, one_recalled, unlist};
+use crate::keyed::{Ends, Keyed, Recalls, list, one_ended, one_recalled, unlist};
+use lease_rules::lease::Held;
 use std::alloc::AllocError;
 
 /// Makes room for so many further leases, and for what may stand beside each. The one error is want

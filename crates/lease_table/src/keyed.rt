@@ -5,16 +5,8 @@ ghost use Rattle.std.specs.BTreeMap.{insert_entry, is_at};
 ghost use Rattle.std.specs.Map.{remove_entry};
 ghost use Rattle.lease_table.specs.Kept.{by_three, is_listed, listed, unlisted};
 
+use lease_rules::lease::{Held, first_recall, last_recall};
 use reserved_map::map::ReservedMap;
-
-/// What is kept of a lease under its file and its session.
-#[derive(Clone, Copy, Debug, PartialEq, Eq)]
-pub struct Held {
-    /// The first reading of the server's clock at which it stands no more, in milliseconds.
-    pub ends: u64,
-    /// The xid of the RECALL that asked for it back, if one did.
-    pub recall: Option<u32>,
-}
 
 /// Leases by file, and by session within a file.
 pub type Keyed = ReservedMap<(u64, u32), Held>;
@@ -58,7 +50,7 @@ pub fn one_recalled(recalls: &Recalls, session: u32, xid: u32) -> Option<u64>
     ensures some { IfSome result (λ file. is_listed recalls.now.entries session xid file ≡ true) }
     ensures none { IfNone result ((file : ℕ) → file < 2 ^ 64 → is_listed recalls.now.entries session xid file ≡ false) }
 {
-    match recalls.one_between((session, xid, 0), (session, xid, u64::MAX)) {
+    match recalls.one_between(first_recall(session, xid), last_recall(session, xid)) {
         Some((_, _, file)) => Some(file),
         None => None,
     }

@@ -4,7 +4,7 @@
 
 ghost use Rattle.std.specs.Prelude.{◌≡◌, ℕ, ◌<◌, ◌≤◌, List, Some};
 ghost use Rattle.clock_rule.specs.Clocks.{Clocked};
-ghost use Rattle.lease_table.specs.declared.lease.Lease.{Lease};
+ghost use Rattle.lease_rules.specs.declared.lease.Lease.{Lease};
 ghost use Rattle.lease_table.specs.Leases.{lease_at, without_ended};
 ghost use Rattle.lease_table.specs.Order.{AreOrdered};
 ghost use Rattle.lease_table.specs.Machine.{Machine, Note, Event, happens, run, start};

@@ -8,5 +8,4 @@ mod blocking;
 mod changes;
 mod keyed;
 pub mod laws;
-pub mod lease;
 pub mod table;

@@ -6,6 +6,7 @@ ghost use Rattle.lease_table.specs.Leases.{grant, without_lease, marked, without
 use crate::keyed::{Ends, Keyed, Recalls};
 use crate::{blocking, changes};
 use lb_base::items::Items;
+use lease_rules::lease::end_of;
 use reserved_map::map::ReservedMap;
 use std::alloc::{AllocError, Global};
 use std::marker::Model;
@@ -76,7 +77,7 @@ impl Leases {
         ensures err_room { OnErr result (self.old.room ≤ self.new.room) }
         ensures sure { IsSome (lease_at self.old.leases session file) ⊎ (0 < self.old.room) → IsOk result }
     {
-        let ends = now + u64::from(term);
+        let ends = end_of(now, term);
         changes::grant(
             &mut self.leases,
             &mut self.recalls,

@@ -1,5 +1,5 @@
 use Rattle.std.proofs.Common.{subst, sym, arith, List}
-use Rattle.callback_core.specs.declared.change.Change.{Change}
+use Rattle.lease_rules.specs.declared.change.Change.{Change}
 use Rattle.callback_core.specs.Waits.{AreBounded}
 use Rattle.callback_core.proofs.Taken.{bounded_added}
 use Rattle.callback_core.proofs.asking.push.Goals as goal

@@ -1,6 +1,6 @@
 use Rattle.std.proofs.Common.{arith, ◌∙◌, sym, ap}
 use Rattle.std.specs.Prelude.{take}
-use Rattle.callback_core.specs.Places.{waits_behind}
+use Rattle.lease_rules.specs.Changes.{waits_behind}
 use Rattle.callback_core.proofs.Reached.{found_ready}
 use Rattle.callback_core.proofs.ready.place_of_ready.Goals as goal
 

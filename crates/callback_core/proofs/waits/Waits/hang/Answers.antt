@@ -1,5 +1,5 @@
 use Rattle.std.proofs.Common.{◌∙◌, sym, subst, ap, List}
-use Rattle.callback_core.specs.declared.change.Change.{Change}
+use Rattle.lease_rules.specs.declared.change.Change.{Change}
 use Rattle.callback_core.specs.Waits.{AreBounded, without}
 use Rattle.callback_core.proofs.Taken.{bounded_taken, change_taken}
 use Rattle.callback_core.proofs.waits.Waits.hang.Goals as goal

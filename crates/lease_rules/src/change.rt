@@ -1,13 +1,14 @@
-//! A change that waits, and what its arrival asks for (`recalls_due` in `specs/Waits.antt`).
+//! A change that waits: whose leases hold it up, and which others it waits behind
+//! (`specs/Changes.antt`).
 
 ghost use Rattle.std.specs.Prelude.{◌≡◌};
-ghost use Rattle.callback_core.specs.Waits.{asker_of, asker, is_about, meets};
-ghost use Rattle.callback_core.specs.declared.change.AskErr.TheVariants as errors;
+ghost use Rattle.lease_rules.specs.Changes.{asker_of, asker, is_about, meets, waits_behind};
+ghost use Rattle.lease_rules.specs.declared.change.AskErr.TheVariants as errors;
 
 use std::alloc::AllocError;
 
 /// What a change does to its file.
-#[derive(Clone, Copy, Debug, PartialEq, Eq)]
+#[derive(Clone, Copy)]
 pub enum Kind {
     /// COMMITTMP gives it a new content.
     Commit,
@@ -73,7 +74,7 @@ impl<P> Change<P> {
 }
 
 /// That a session is to be asked for its lease on a file. The server draws the xid.
-#[derive(Clone, Copy, Debug, PartialEq, Eq)]
+#[derive(Clone, Copy)]
 pub struct Recall {
     /// The session.
     pub session: u32,
@@ -82,7 +83,7 @@ pub struct Recall {
 }
 
 /// Why a change may not wait.
-#[derive(Clone, Copy, Debug, PartialEq, Eq)]
+#[derive(Clone, Copy)]
 pub enum AskErr {
     /// A change of the session waits already.
     Jukebox,
@@ -96,4 +97,11 @@ impl From<AllocError> for AskErr {
     fn from(_e: AllocError) -> AskErr {
         AskErr::Memory
     }
+}
+
+/// Whether a change waits behind one that came earlier.
+pub fn waits_behind<P>(earlier: &[Change<P>], change: &Change<P>) -> bool
+    ensures { result ≡ waits_behind earlier.now change.now }
+{
+    earlier.iter().any(|other| other.meets(change))
 }
