@@ -9,5 +9,3 @@
 
 pub mod index;
 pub mod place;
-#[cfg(test)]
-mod tests;

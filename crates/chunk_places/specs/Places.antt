@@ -2,7 +2,7 @@
 use Rattle.std.specs.Prelude.{◌≡◌, ◌⊎◌, ℕ, List, [], ◌∷◌}
 use Rattle.limits.specs.declared.TheConstants.{INDEX_MOST}
 use Rattle.chunk_cut.specs.declared.chunk.Chunk.{Chunk}
-use Rattle.chunk_index.specs.Index.{Indexed, key_of, put}
+use Rattle.chunk_index.specs.Index.{Indexed, key_of, put, found}
 use Rattle.chunk_index.specs.declared.place.Place.{Place}
 
 -- an index with no pairs
@@ -31,3 +31,8 @@ LeavesOut index file (c ∷ cs) new = LeavesOut (with_chunk index file c) file c
 abbrev pub LeavesSome : Indexed → (file : ℕ) → List Chunk → Indexed → Type 0
 LeavesSome index file [] new = ⊥
 LeavesSome index file (c ∷ cs) new = LeavesSome (with_chunk index file c) file cs new ⊎ LeavesOut index file cs new
+
+-- a look-up brings a chunk's pair to the front, one after the other
+abbrev pub found_all : Indexed → List Chunk → Indexed
+found_all index [] = index
+found_all index (c ∷ cs) = found_all (found index (key_of c.digest)) cs

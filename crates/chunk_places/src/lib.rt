@@ -1,9 +1,11 @@
-//! Where the chunks of files stand in an index: the places that enter it, in order. `specs/Places.antt`
-//! says which.
+//! Where the chunks of files stand in an index: the places that enter it, in order, and the chunks that
+//! are looked up. `specs/Places.antt` says which.
 #![tactic(auto)]
 
 ghost use Rattle.std.specs.Prelude.{◌≡◌, IfOk, true, false};
-ghost use Rattle.chunk_places.specs.Places.{no_index, with_chunk, indexed, LeavesSome};
+ghost use Rattle.chunk_places.specs.Places.{no_index, with_chunk, indexed, LeavesSome, found_all};
+
+pub mod known;
 
 use chunk_cut::chunk::Chunk;
 use chunk_index::index::Index;
@@ -49,4 +51,14 @@ pub fn enter(index: &mut Index, file: u64, chunks: &[Chunk]) -> bool
         }
     }
     left_out
+}
+
+/// The pairs of these chunks go to the front, one after the other, and no place enters. It takes no
+/// memory.
+pub fn find_all(index: &mut Index, chunks: &[Chunk])
+    ensures { index.new ≡ found_all index.old chunks.now }
+{
+    for chunk in chunks {
+        let _place = index.find(&chunk.digest);
+    }
 }

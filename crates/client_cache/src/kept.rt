@@ -3,7 +3,7 @@
 use shared_bytes::SharedBytes;
 
 /// A content, as a file had it in a version.
-#[derive(Drop, Debug)]
+#[derive(Drop)]
 pub struct Content {
     /// The version.
     pub version: u64,
@@ -12,7 +12,7 @@ pub struct Content {
 }
 
 /// The note of a lease.
-#[derive(Clone, Copy, Debug, PartialEq, Eq)]
+#[derive(Clone, Copy)]
 pub struct Note {
     /// The version that the file had when the lease was granted.
     pub version: u64,
@@ -21,7 +21,7 @@ pub struct Note {
 }
 
 /// What is kept of a file: a content or none, and a note or none.
-#[derive(Drop, Debug)]
+#[derive(Drop)]
 pub struct Kept {
     /// The content.
     pub content: Option<Content>,

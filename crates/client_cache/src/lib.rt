@@ -9,5 +9,3 @@
 
 pub mod cache;
 pub mod kept;
-#[cfg(test)]
-mod tests;

@@ -10,7 +10,7 @@ use Rattle.std.proofs.lemmas.Map.Views.{All-values-insert_entry, All-map-remove_
 use Rattle.std.proofs.lemmas.Option.{slice_get_within, get_or_from_slice_get}
 use Rattle.chunk_cut.specs.declared.chunk.Chunk.{Chunk}
 use Rattle.client_state.specs.declared.task.Local.{Local}
-use Rattle.client_state.specs.Limits.{file_limit}
+use Rattle.transfer_rules.specs.Limits.{file_limit}
 use Rattle.client_state.specs.State.{local_at, with_local, local_bytes}
 use Rattle.client_state.specs.View.{IsChunkBounded, IsLocalBounded}
 

@@ -5,7 +5,7 @@ use Rattle.std.specs.Prelude.{Option, Some, None}
 use Rattle.client_cache.proofs.Held.{held_reserved, held_kept, held_evicted}
 use Rattle.client_cache.proofs.There.{evicted_there}
 use Rattle.client_cache.specs.Cache.{Entries, reserved, with_content, without_content}
-use Rattle.client_state.specs.Limits.{file_limit}
+use Rattle.transfer_rules.specs.Limits.{file_limit}
 use Rattle.client_state.specs.View.{IsThere, StageIsThere, TaskIsThere, IsKeptBounded}
 use Rattle.client_state.specs.declared.task.Stage.{Stage}
 use Rattle.client_state.specs.declared.task.Task.{Task}

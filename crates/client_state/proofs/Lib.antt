@@ -1,3 +1,4 @@
+pub mod Appended
 pub mod Bounds
 pub mod Edits
 pub mod Keeping

@@ -2,13 +2,11 @@
 use Rattle.std.specs.Prelude.{ℕ, List, [], ◌∷◌, length, Option, Some, None, true, false}
 use Rattle.wire.specs.declared.message.Message.{Message}
 use Rattle.client_state.specs.declared.step.ClientStep.{ClientStep}
-use Rattle.client_state.specs.declared.step.Counts.{Counts}
+use Rattle.transfer_rules.specs.declared.counts.Counts.{Counts}
+pub use Rattle.transfer_rules.specs.Counts.{no_counts}
 use Rattle.client_state.specs.declared.step.Ended.{Ended}
 use Rattle.client_state.specs.declared.step.Outcome.TheVariants as outcome
 use Rattle.client_state.specs.declared.step.Outcome.{Outcome}
-
-abbrev pub no_counts : Counts
-no_counts = record { cond_writes = 0; temp_writes = 0; reads = 0; bytes = 0 }
 
 -- these messages go out
 abbrev pub sends : List Message → Counts → ClientStep

@@ -4,7 +4,7 @@ use Rattle.std.specs.List.Sorted.{IsStrictlySortedBy}
 use Rattle.std.specs.List.{list_any}
 use Rattle.std.specs.Map.{lookup, keys_of}
 use Rattle.std.specs.Ordering.{nat_cmp}
-use Rattle.std.specs.Prelude.{ℕ, List, [], ◌∷◌, ◌++◌, map, filter, not, Option, Some, None, Bool, false, ◌==◌, option_map, unwrap_or, true}
+use Rattle.std.specs.Prelude.{ℕ, List, [], ◌∷◌, ◌++◌, map, filter, not, Option, Some, None, Bool, false, ◌==◌, option_map, unwrap_or}
 use Rattle.hash_calls.specs.declared.message.LbProc.TheVariants as lb_proc
 use Rattle.hash_calls.specs.declared.message.LbProc.{LbProc}
 use Rattle.nfs3_calls.specs.declared.message.NfsProc.TheVariants as nfs
@@ -86,10 +86,6 @@ abbrev pub local_bytes : List (ℕ × Local) → ℕ → List ℕ
 local_bytes opened file = unwrap_or (option_map (λ l. l.bytes) (local_at opened file)) []
 
 -- ---- calls that wait for their answers
-
-abbrev pub is_none : {A : Type 0} → List A → Bool
-is_none [] = true
-is_none (x ∷ xs) = false
 
 abbrev pub read_pending : ReadCall → Pending
 read_pending c = record { xid = c.xid; program = program.Nfs nfs.Read }

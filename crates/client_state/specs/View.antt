@@ -13,7 +13,7 @@ use Rattle.path_calls.specs.Walk.{calls_left as calls_behind}
 use Rattle.path_calls.specs.declared.walk.Goal.{Goal}
 use Rattle.path_calls.specs.declared.walk.Goal.TheVariants as goal
 use Rattle.path_calls.specs.declared.walk.Walk.{Walk}
-use Rattle.client_state.specs.Limits.{tries_most, file_limit, chunk_least, chunk_most}
+use Rattle.transfer_rules.specs.Limits.{tries_most, file_limit, chunk_least, chunk_most}
 use Rattle.client_state.specs.State.{State, IsRising, pending}
 use Rattle.client_state.specs.declared.state.ClientState.{ClientState}
 use Rattle.client_state.specs.declared.task.Fetch.{Fetch}

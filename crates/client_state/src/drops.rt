@@ -3,6 +3,7 @@
 
 use crate::step::ClientStep;
 use crate::task::Task;
+use lb_base::items::Items;
 use send_list::SendList;
 use wire::message::{Body, Message};
 
@@ -29,4 +30,9 @@ pub fn step(step: ClientStep) {
 /// An operation that has ended is let go.
 pub fn task(task: Task) {
     drop(task);
+}
+
+/// Messages that went out are let go.
+pub fn items(sent: Items<Message>) {
+    drop(sent);
 }

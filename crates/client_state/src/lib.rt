@@ -6,7 +6,6 @@
 //! opens a file, and what closes one, stands in crates above.
 #![tactic(auto)]
 
-pub mod calls;
 pub mod drops;
 pub mod local;
 pub mod parts;

@@ -3,7 +3,7 @@
 
 ghost use Rattle.std.specs.Prelude.{◌≡◌, ◌≤◌, length, [], option_map, unwrap_or, IfSome};
 ghost use Rattle.limits.specs.declared.TheConstants.{FILE_MOST};
-ghost use Rattle.client_state.specs.Counting.{ends, no_counts, sends, nothing_done, sends_one};
+ghost use Rattle.client_state.specs.Counting.{ends, sends, nothing_done, sends_one};
 ghost use Rattle.client_state.specs.State.{local_at, local_bytes};
 ghost use Rattle.std.specs.List.{All};
 ghost use Rattle.std.specs.Map.{values_of};
@@ -11,25 +11,14 @@ ghost use Rattle.client_state.specs.View.{IsLocalBounded};
 ghost use Rattle.std.specs.Option.{option_copied};
 ghost use Rattle.client_state.specs.Ending.{is_open, refusal_code};
 
-use crate::step::{ClientStep, Counts, Ended, Outcome};
+use crate::step::{ClientStep, Ended, Outcome};
 use crate::task::Local;
 use send_list::SendList;
 use shared_bytes::SharedBytes;
 use std::alloc::Global;
 use std::collections::BTreeMap;
+use transfer_rules::counts::{Counts, no_counts};
 use wire::message::{Message, RpcRefusal};
-
-/// Nothing is counted.
-pub fn no_counts() -> Counts
-    ensures { result ≡ no_counts }
-{
-    Counts {
-        cond_writes: 0,
-        temp_writes: 0,
-        reads: 0,
-        bytes: 0,
-    }
-}
 
 /// Messages are sent. It takes no memory.
 pub fn sends(send: SendList<Message>, counts: Counts) -> ClientStep

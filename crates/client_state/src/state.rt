@@ -11,7 +11,7 @@ ghost use Rattle.client_state.specs.declared.task.Stage.TheVariants as stage;
 
 use crate::step::{BadPeer, ClientStep, Outcome};
 use crate::task::{Local, ReadCall, Stage, Task};
-use crate::{parts, waiting};
+use crate::{parts, sending, waiting};
 use chunk_index::index::{Index, Key};
 use chunk_index::place::Place;
 use client_cache::cache::Cache;
@@ -21,6 +21,7 @@ use shared_bytes::SharedBytes;
 use std::alloc::{AllocError, Global};
 use std::collections::BTreeMap;
 use std::mem;
+use transfer_rules::{answers, counts};
 use wire::message::{Pending, RpcRefusal, Waiting};
 use xdr_codec::status::Status;
 
@@ -111,7 +112,7 @@ impl ClientState {
         requires { IsSound self.now }
         ensures { result.now ≡ pending self.now.task }
     {
-        &self.waiting.calls.as_slice()[..self.own]
+        answers::own_calls(self.waiting.calls.as_slice(), self.own)
     }
 
     /// The calls of ended operations and attempts.
@@ -460,7 +461,7 @@ impl ClientState {
     {
         let calls = mem::replace(&mut self.waiting.calls, Items::new(alloc));
         self.waiting.calls = waiting::without_call(calls, xid);
-        parts::nothing_done(alloc)
+        parts::sends(sending::none(alloc), counts::late_counts())
     }
 
     /// An answer to nothing that waits for one, whether or not an operation is under way.

@@ -3,6 +3,7 @@
 
 use lb_base::items::{Items, Name};
 use send_list::SendList;
+use transfer_rules::counts::Counts;
 use wire::message::Message;
 use xdr_codec::attr::Kind;
 use xdr_codec::digest::Digest;
@@ -92,19 +93,6 @@ pub struct Ended {
     /// Closed, Refused, and whatever ends a command on names. 0 where it rests on no call: what the client
     /// tells by itself, and Lost, Changed, PeerMemory, BadPeer and Memory.
     pub rests_on: u32,
-}
-
-/// What was sent and received for an operation in a step.
-#[derive(Clone, Copy, Drop)]
-pub struct Counts {
-    /// CONDWRITE calls sent.
-    pub cond_writes: u64,
-    /// TMPWRITE calls sent.
-    pub temp_writes: u64,
-    /// READ calls sent.
-    pub reads: u64,
-    /// Bytes of files sent by TMPWRITE, or received by READs that it asked for.
-    pub bytes: u64,
 }
 
 /// What a client does in one step.

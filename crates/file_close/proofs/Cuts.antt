@@ -7,7 +7,7 @@ use Rattle.chunk_cut.specs.Chunks.{chunk_at, chunks_between, chunks_of}
 use Rattle.chunk_cut.specs.Ends.{IsOpen, IsNextEnd, AreEndsFrom, AreEnds}
 use Rattle.chunk_cut.specs.Search.{ends}
 use Rattle.file_close.specs.Closing.{store_of}
-use Rattle.client_state.specs.Limits.{file_limit, chunk_least, chunk_most}
+use Rattle.transfer_rules.specs.Limits.{file_limit, chunk_least, chunk_most}
 use Rattle.client_state.specs.View.{IsChunkBounded, IsStore}
 
 -- where no chunk may end what is left is shorter than the longest

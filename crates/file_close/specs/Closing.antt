@@ -1,5 +1,5 @@
 -- A close: MKTMPFILE, a CONDWRITE for each chunk of the local content, a TMPWRITE for each that the server doesn't know, then COMMITTMP.
-use Rattle.std.specs.Prelude.{ℕ, zero, suc, ◌+◌, ◌-◌, List, [], ◌∷◌, ◌++◌, length, filter, find, not, slice_get, Option, Some, None, Bool, ◌&&◌, ◌==◌}
+use Rattle.std.specs.Prelude.{ℕ, zero, suc, ◌+◌, ◌-◌, List, [], ◌∷◌, ◌++◌, length, filter, find, not, slice_get, Option, Some, None, Bool, ◌==◌}
 use Rattle.chunk_cut.specs.Chunks.{chunks_of}
 use Rattle.chunk_cut.specs.Places.{chunk_bytes}
 use Rattle.chunk_cut.specs.declared.chunk.Chunk.{Chunk}
@@ -8,8 +8,8 @@ use Rattle.hash_calls.specs.declared.message.Lb.TheVariants as lb
 use Rattle.wire.specs.declared.message.Body.TheVariants as body
 use Rattle.wire.specs.declared.message.Message.TheVariants as message
 use Rattle.wire.specs.declared.message.Message.{Message}
-use Rattle.client_state.specs.Limits.{calls_most}
-use Rattle.client_state.specs.State.{is_none}
+use Rattle.transfer_rules.specs.Limits.{calls_most}
+use Rattle.transfer_rules.specs.Chunks.{all_came}
 use Rattle.client_state.specs.declared.task.Store.{Store}
 use Rattle.client_state.specs.declared.task.StoreCall.{StoreCall}
 use Rattle.client_state.specs.declared.task.Way.TheVariants as way
@@ -58,7 +58,7 @@ names_all st next = names_more (calls_most - length st.under) (names_from st nex
 
 -- all chunks are stored
 abbrev pub is_stored : Store → Bool
-is_stored st = is_none st.under && st.named == length st.chunks
+is_stored st = all_came st.under st.named (length st.chunks)
 
 -- ---- their answers
 

@@ -5,7 +5,7 @@ use Rattle.chunk_cut.specs.Places.{chunk_bytes}
 use Rattle.chunk_cut.specs.declared.chunk.Chunk.{Chunk}
 use Rattle.xdr_codec.specs.declared.answer.Answer.TheVariants.{Done, Failed}
 use Rattle.xdr_codec.specs.declared.answer.Answer.{Answer}
-use Rattle.xdr_codec.specs.declared.status.Status.TheVariants as status
+use Rattle.transfer_rules.specs.Answers.{wants_bytes}
 use Rattle.hash_calls.specs.declared.message.Lb.TheVariants as lb
 use Rattle.wire.specs.declared.message.Body.TheVariants as body
 use Rattle.wire.specs.declared.message.Body.{Body}
@@ -56,10 +56,13 @@ sends_whole s file xid content st c None = unknown s xid
 sends_whole s file xid content st c (Some k) = (record s { next = s.next + 1; task = Some (record { file = file; stage = stage.Storing (with_whole st c s.next) }) }, sends (temp_call s.next st.temp content k ∷ []) (record no_counts { temp_writes = 1; bytes = length (chunk_bytes content k) }))
 
 -- the answer to a CONDWRITE, which is no longer under way
+abbrev pub named_if : State → (calls : List Pending) → (file xid : ℕ) → (content : List ℕ) → Store → StoreCall → Answer Unit Unit → (wants_bytes : Bool) → State × ClientStep
+named_if s calls file xid content st c a true = sends_whole s file xid content st c (slice_get st.chunks c.index)
+named_if s calls file xid content st c (Done u) false = goes_on s file content st
+named_if s calls file xid content st c (Failed status u) false = refused s calls xid status
+
 abbrev pub told_named : State → (calls : List Pending) → (file xid : ℕ) → (content : List ℕ) → Store → StoreCall → Answer Unit Unit → State × ClientStep
-told_named s calls file xid content st c (Done u) = goes_on s file content st
-told_named s calls file xid content st c (Failed status.HashNotFound u) = sends_whole s file xid content st c (slice_get st.chunks c.index)
-told_named s calls file xid content st c (Failed status u) = refused s calls xid status
+told_named s calls file xid content st c a = named_if s calls file xid content st c a (wants_bytes a)
 
 -- the answer to a TMPWRITE
 abbrev pub told_whole : State → (calls : List Pending) → (file xid : ℕ) → (content : List ℕ) → Store → Answer Unit Unit → State × ClientStep

@@ -7,16 +7,16 @@ ghost use Rattle.file_close.specs.Sending.{IsSendingNames};
 ghost use Rattle.file_close.specs.Closing.{is_stored, store_at, commit_call, names_next, names_all, without_store};
 ghost use Rattle.std.specs.List.{All};
 ghost use Rattle.std.specs.Option.{option_copied};
-ghost use Rattle.client_state.specs.Limits.{calls_most};
 ghost use Rattle.client_state.specs.declared.task.Stage.TheVariants as stage;
 
 use crate::messages;
-use client_state::calls::{CALLS_MOST, chunk_at};
 use client_state::task::{Store, StoreCall, Way};
 use client_state::{drops, sending};
 use lb_base::items::Items;
 use send_list::SendList;
 use std::alloc::{AllocError, Global};
+use transfer_rules::bounds::room_beside;
+use transfer_rules::chunks::{all_came, next_chunk};
 use wire::message::Message;
 
 /// The chunks of a close, the next xid, and the CONDWRITEs that were sent for them by now.
@@ -24,14 +24,6 @@ pub struct Names {
     pub store: Store,
     pub next: u32,
     pub send: SendList<Message>,
-}
-
-/// How many calls may go out beside so many that are under way.
-#[tactic(auto, unfolding(client_state::specs::Limits::calls_most))]
-fn room_beside(under: usize) -> usize
-    ensures { result ≡ calls_most - under }
-{
-    CALLS_MOST.saturating_sub(under)
 }
 
 /// The next chunk is named, if there is one.
@@ -42,7 +34,7 @@ fn name_next(names: &mut Names) -> Result<(), AllocError>
     ensures { OnOk result (names.new ≡ names_next names.old (slice_get names.old.store.chunks names.old.store.named)) }
 {
     let index = names.store.named;
-    let Some(chunk) = chunk_at(names.store.chunks.as_slice(), index) else {
+    let Some(chunk) = next_chunk(names.store.chunks.as_slice(), index) else {
         return Ok(());
     };
     let xid = names.next;
@@ -106,7 +98,7 @@ pub fn send_commit(
 pub fn is_stored(store: &Store) -> bool
     ensures { result ≡ is_stored store.now }
 {
-    store.under.is_empty() && store.named == store.chunks.len()
+    all_came(store.under.as_slice(), store.named, store.chunks.len())
 }
 
 /// The call of a close under way with this xid.

@@ -14,17 +14,17 @@ ghost use Rattle.client_state.specs.declared.task.Way.TheVariants as way;
 use crate::calls::Names;
 use crate::{calls, messages, stores};
 use chunk_cut::chunk::Chunk;
-use client_state::calls::chunk_at;
 use client_state::state::ClientState;
 use client_state::step::{ClientStep, Outcome};
 use client_state::task::{Stage, Store, StoreCall, Way};
 use client_state::{drops, parts, sending};
 use hash_calls::message::Lb;
 use std::alloc::{AllocError, Global};
+use transfer_rules::answers;
+use transfer_rules::chunks::chunk_at;
 use wire::message::Body;
 use xdr_codec::answer::Answer;
 use xdr_codec::handle::Handle;
-use xdr_codec::status::Status;
 
 /// A command to close a file. An `Err` changes nothing, and comes only where a call is sent.
 pub fn close(alloc: Global, state: &mut ClientState, file: u64) -> Result<ClientStep, AllocError>
@@ -308,11 +308,11 @@ fn told_named(
     ensures sound { OnOk result (IsSound state.new) }
     ensures held { OnErr result (IsHeld state.new) }
 {
+    if answers::wants_bytes(answer) {
+        return told_missing(alloc, state, file, store, call, xid);
+    }
     match answer {
         Answer::Done(()) => go_on(alloc, state, file, store),
-        Answer::Failed(Status::HashNotFound, _) => {
-            told_missing(alloc, state, file, store, call, xid)
-        }
         Answer::Failed(status, _) => Ok(state.refused(alloc, xid, *status)),
     }
 }

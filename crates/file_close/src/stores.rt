@@ -11,12 +11,13 @@ ghost use Rattle.client_state.specs.declared.step.Outcome.TheVariants as outcome
 
 use crate::calls;
 use chunk_cut::chunk::Chunk;
-use client_state::step::{ClientStep, Counts, Outcome};
+use client_state::step::{ClientStep, Outcome};
 use client_state::task::{Store, StoreCall, Way};
 use client_state::{local, parts};
 use lb_base::items::Items;
 use sha1::Sha1;
 use std::alloc::{AllocError, Global};
+use transfer_rules::counts::{Counts, no_counts};
 
 /// So many CONDWRITEs were sent.
 pub fn names_counted(count: u64) -> Counts
@@ -24,7 +25,7 @@ pub fn names_counted(count: u64) -> Counts
 {
     Counts {
         cond_writes: count,
-        ..parts::no_counts()
+        ..no_counts()
     }
 }
 
@@ -35,7 +36,7 @@ pub fn whole_counted(bytes: u64) -> Counts
     Counts {
         temp_writes: 1,
         bytes,
-        ..parts::no_counts()
+        ..no_counts()
     }
 }
 

@@ -15,7 +15,7 @@ use Rattle.client_cache.specs.declared.kept.Kept.{Kept}
 use Rattle.file_open.specs.Caching.{content_in, bytes_there, with_digest, from_index}
 use Rattle.client_state.specs.Counting.{sends_one}
 use Rattle.file_open.specs.Opening.{lease_call}
-use Rattle.client_state.specs.Limits.{file_limit}
+use Rattle.transfer_rules.specs.Limits.{file_limit}
 use Rattle.client_state.specs.State.{State}
 use Rattle.file_open.specs.Fetching.{asks_kept, tries_anew}
 use Rattle.client_state.specs.View.{IsContentBounded, IsKeptBounded}

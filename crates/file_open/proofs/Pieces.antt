@@ -11,9 +11,9 @@ use Rattle.hash_calls.specs.declared.call.Pair.{Pair}
 use Rattle.client_state.specs.declared.task.Fetch.{Fetch}
 use Rattle.client_state.specs.declared.task.Stage.TheVariants as stage
 use Rattle.file_open.specs.Opening.{fetch_of, with_hashes}
-use Rattle.client_state.specs.Limits.{tries_most}
+use Rattle.transfer_rules.specs.Limits.{tries_most}
 use Rattle.file_open.specs.Shape.{Broken, or_else, broken_if, broken_inner, broken_pair, broken_pairs, broken_sum, broken_of, chunks_from, with_pairs, pairs_most}
-use Rattle.client_state.specs.Limits.{file_limit, chunk_least, chunk_most}
+use Rattle.transfer_rules.specs.Limits.{file_limit, chunk_least, chunk_most}
 use Rattle.client_state.specs.View.{IsFetch, IsListing, IsChunkBounded, HasXids, length_sum, later_left}
 use Rattle.file_open.proofs.Ends.{end_of_pairs, end_from_sum, sum_append, pairs_length}
 

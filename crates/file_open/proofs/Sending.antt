@@ -10,7 +10,7 @@ use Rattle.client_cache.specs.Cache.{Entries}
 use Rattle.file_open.proofs.Keeping.{kept_length}
 use Rattle.file_open.proofs.Slots.{set_fits}
 use Rattle.file_open.specs.Caching.{from_index}
-use Rattle.client_state.specs.Limits.{calls_most}
+use Rattle.transfer_rules.specs.Limits.{calls_most}
 use Rattle.file_open.specs.Opening.{Reads, reads_from, reads_chunk, reads_next, reads_more, read_call}
 use Rattle.client_state.specs.View.{FitsIn, IsReading, HasXids}
 use Rattle.file_open.specs.Sending.{IsSendingReads}

@@ -7,7 +7,7 @@ use Rattle.chunk_cut.specs.declared.chunk.Chunk.{Chunk}
 use Rattle.client_state.specs.declared.task.Fetch.{Fetch}
 use Rattle.client_state.specs.declared.task.ReadCall.{ReadCall}
 use Rattle.file_open.specs.Opening.{listed, slots_bytes, with_bytes}
-use Rattle.client_state.specs.Limits.{file_limit}
+use Rattle.transfer_rules.specs.Limits.{file_limit}
 use Rattle.client_state.specs.View.{FitsIn, IsFetch, IsReading, length_sum}
 
 pub fits_length : (slots : List (Option (List ℕ))) (cs : List Chunk) → FitsIn slots cs → length slots ≡ length cs

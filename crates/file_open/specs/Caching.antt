@@ -1,9 +1,10 @@
 -- Which bytes a chunk of a fetch finds by a client's index, among what is kept of files.
-use Rattle.std.specs.Prelude.{ℕ, List, [], ◌∷◌, Option, Some, None, ◌==◌, if◌then◌else◌}
+use Rattle.std.specs.Prelude.{ℕ, List, Option, Some, None, ◌==◌, if◌then◌else◌}
 use Rattle.chunk_cut.specs.declared.chunk.Chunk.{Chunk}
-use Rattle.chunk_index.specs.Index.{Indexed, key_of, found, place_of}
+use Rattle.chunk_index.specs.Index.{Indexed, key_of, place_of}
 use Rattle.chunk_index.specs.declared.place.Place.{Place}
 pub use Rattle.chunk_places.specs.Known.{with_digest}
+pub use Rattle.chunk_places.specs.Places.{found_all}
 use Rattle.client_cache.specs.Cache.{Entries, bytes_at}
 use Rattle.client_cache.specs.declared.kept.Content.{Content}
 
@@ -16,11 +17,6 @@ content_in version (Some c) = if c.version == version then Some c.bytes else Non
 abbrev pub bytes_there : Entries → Chunk → Option Place → Option (List ℕ)
 bytes_there cache c None = None
 bytes_there cache c (Some p) = if p.count == c.len then bytes_at cache p else None
-
--- a look-up brings a chunk's pair to the front, one after the other
-abbrev pub found_all : Indexed → List Chunk → Indexed
-found_all index [] = index
-found_all index (c ∷ cs) = found_all (found index (key_of c.digest)) cs
 
 -- the bytes of a chunk that the index gives
 abbrev pub from_index : Entries → Indexed → Chunk → Option (List ℕ)

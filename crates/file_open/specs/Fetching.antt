@@ -15,7 +15,7 @@ use Rattle.client_cache.specs.Cache.{reserved, content_of, with_content}
 use Rattle.client_cache.specs.declared.kept.Content.{Content}
 use Rattle.client_state.specs.Counting.{sends_one, sends_reads, ends}
 use Rattle.client_state.specs.Ending.{is_open, may_ask, forgets, bad_peer, unknown, refused}
-use Rattle.client_state.specs.Limits.{tries_most}
+use Rattle.transfer_rules.specs.Limits.{tries_most}
 use Rattle.client_state.specs.State.{State, with_local}
 use Rattle.client_state.specs.declared.step.BadPeer.TheVariants as bad
 use Rattle.client_state.specs.declared.step.BadPeer.{BadPeer}

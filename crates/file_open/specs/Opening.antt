@@ -1,5 +1,5 @@
 -- An attempt to fetch a file: GETHASHes until its last chunk is told, then a READ for each chunk.
-use Rattle.std.specs.Prelude.{ℕ, zero, suc, ◌+◌, ◌-◌, ◌*◌, List, [], ◌∷◌, ◌++◌, length, filter, find, not, replicate, slice_get, slice_set, take, drop, nat_lt, Option, Some, None, Bool, true, false, ◌&&◌, ◌==◌, bytes_eq, if◌then◌else◌}
+use Rattle.std.specs.Prelude.{ℕ, zero, suc, ◌+◌, ◌-◌, ◌*◌, List, [], ◌∷◌, ◌++◌, length, filter, find, not, replicate, slice_get, slice_set, take, drop, nat_lt, Option, Some, None, Bool, true, false, ◌==◌, bytes_eq, if◌then◌else◌}
 use Rattle.sha1.specs.Sha1.{sha1}
 use Rattle.chunk_cut.specs.declared.chunk.Chunk.{Chunk}
 use Rattle.xdr_codec.specs.Handle.{handle_bytes}
@@ -12,8 +12,8 @@ use Rattle.wire.specs.declared.message.Message.TheVariants as message
 use Rattle.wire.specs.declared.message.Message.{Message}
 use Rattle.chunk_index.specs.Index.{Indexed}
 use Rattle.client_cache.specs.Cache.{Entries}
-use Rattle.client_state.specs.Limits.{calls_most}
-use Rattle.client_state.specs.State.{is_none}
+use Rattle.transfer_rules.specs.Limits.{calls_most}
+use Rattle.transfer_rules.specs.Chunks.{all_came}
 use Rattle.client_state.specs.declared.step.BadPeer.TheVariants as bad
 use Rattle.client_state.specs.declared.step.BadPeer.{BadPeer}
 use Rattle.client_state.specs.declared.task.Fetch.{Fetch}
@@ -82,7 +82,7 @@ looked_up f r = take (r.fetch.asked - f.asked) (drop f.asked r.fetch.chunks)
 
 -- all chunks are here
 abbrev pub is_here : Fetch → Bool
-is_here f = is_none f.under && f.asked == length f.chunks
+is_here f = all_came f.under f.asked (length f.chunks)
 
 -- the bytes of all chunks that have come
 abbrev pub slots_bytes : List (Option (List ℕ)) → List ℕ

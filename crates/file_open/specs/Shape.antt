@@ -1,29 +1,17 @@
 -- Whether a GETHASH answer can be the next piece of a file's chunks: the first number in it that breaks a bound, with the bound.
-use Rattle.std.specs.Prelude.{ℕ, ◌+◌, List, [], ◌∷◌, ◌++◌, length, Option, Some, None, Bool, true, false, ◌&&◌, ◌==◌, not, nat_lt}
+use Rattle.std.specs.Prelude.{ℕ, ◌+◌, List, [], ◌∷◌, ◌++◌, length, None, Bool, true, false, ◌&&◌, ◌==◌, not, nat_lt}
 use Rattle.limits.specs.declared.TheConstants.{PAIRS_MOST}
 use Rattle.chunk_cut.specs.Places.{end_of}
 use Rattle.chunk_cut.specs.declared.chunk.Chunk.{Chunk}
 use Rattle.hash_calls.specs.declared.call.Hashes.{Hashes}
 use Rattle.hash_calls.specs.declared.call.Pair.{Pair}
-use Rattle.client_state.specs.Limits.{file_limit, chunk_most, chunk_least}
+use Rattle.transfer_rules.specs.Limits.{file_limit, chunk_most, chunk_least}
 use Rattle.client_state.specs.declared.task.Fetch.{Fetch}
+pub use Rattle.transfer_rules.specs.Pieces.{Broken, or_else, broken_if, broken_sum}
 
 -- no GETHASH answer has more chunks
 abbrev pub pairs_most : ℕ
 pairs_most = PAIRS_MOST
-
--- the number that came, and the bound that it broke
-abbrev pub Broken : Type 0
-Broken = Option (ℕ × ℕ)
-
--- the first of two
-abbrev pub or_else : Broken → Broken → Broken
-or_else None later = later
-or_else (Some b) later = Some b
-
-abbrev pub broken_if : Bool → ℕ → ℕ → Broken
-broken_if true got wanted = Some (got, wanted)
-broken_if false got wanted = None
 
 -- a chunk that others follow
 abbrev pub broken_inner : (last : Bool) → ℕ → Broken
@@ -49,11 +37,6 @@ chunks_from at (p ∷ ps) = record { start = at; len = p.size; digest = p.digest
 -- the chunks that were told, with those of a further piece
 abbrev pub with_pairs : List Chunk → List Pair → List Chunk
 with_pairs chunks pairs = chunks ++ chunks_from (end_of chunks) pairs
-
--- the lengths of all chunks that were told don't come to the file's size, or go beyond it where more are to come; and there are more only behind some
-abbrev pub broken_sum : (last : Bool) → (sum size count : ℕ) → Broken
-broken_sum true sum size count = broken_if (not (sum == size)) sum size
-broken_sum false sum size count = or_else (broken_if (nat_lt size sum) sum size) (broken_if (count == 0) 0 1)
 
 -- a piece behind those that were told
 abbrev pub broken_of : Fetch → Hashes → Broken

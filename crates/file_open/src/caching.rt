@@ -9,12 +9,13 @@ ghost use Rattle.chunk_places.specs.Places.{indexed, LeavesSome};
 use chunk_cut::chunk::Chunk;
 use chunk_index::index::Index;
 use chunk_index::place::Place;
+use chunk_places::known;
 use client_cache::cache::Cache;
 use client_state::task::Fetch;
 use lb_base::items::Bytes;
-use sha1::Sha1;
 use shared_bytes::SharedBytes;
 use std::alloc::{AllocError, Global};
+use transfer_rules::pieces;
 
 /// Whether a content is kept of a file.
 pub fn is_kept(cache: &Cache, file: u64) -> bool
@@ -33,7 +34,7 @@ pub fn content_in(cache: &Cache, file: u64, version: u64) -> Result<Option<Share
     let Some((kept, bytes)) = cache.content(file) else {
         return Ok(None);
     };
-    if kept == version {
+    if pieces::is_of_version(version, kept) {
         Ok(Some(bytes.share()?))
     } else {
         Ok(None)
@@ -56,12 +57,8 @@ fn bytes_there<'a>(cache: &'a Cache, chunk: &Chunk, place: Option<Place>) -> Opt
 fn kept_bytes<'a>(cache: &'a Cache, index: &Index, chunk: &Chunk) -> Option<&'a [u8]>
     ensures { option_copied result ≡ from_index cache.now index.now chunk.now }
 {
-    let bytes = bytes_there(cache, chunk, index.peek(&chunk.digest))?;
-    if Sha1::digest(bytes) == chunk.digest {
-        Some(bytes)
-    } else {
-        None
-    }
+    let found = bytes_there(cache, chunk, index.peek(&chunk.digest));
+    known::with_digest(found, &chunk.digest)
 }
 
 /// A copy of them.
@@ -79,22 +76,13 @@ pub fn from_index(
     }
 }
 
-/// The pairs of these chunks go to the front, one after the other. It takes no memory.
-pub fn find_all(index: &mut Index, chunks: &[Chunk])
-    ensures { index.new ≡ found_all index.old chunks.now }
-{
-    for chunk in chunks {
-        let _place = index.find(&chunk.digest);
-    }
-}
-
 /// The pairs of the chunks of a fetch that were looked up, from a place on, go to the front.
 pub fn find_asked(index: &mut Index, fetch: &Fetch, from: usize)
     requires from { from ≤ fetch.now.asked }
     requires asked { fetch.now.asked ≤ length fetch.now.chunks }
     ensures { index.new ≡ found_all index.old (take (fetch.now.asked - from) (drop from fetch.now.chunks)) }
 {
-    find_all(index, &fetch.chunks.as_slice()[from..fetch.asked]);
+    chunk_places::find_all(index, &fetch.chunks.as_slice()[from..fetch.asked]);
 }
 
 /// A fetch ends: its chunks were looked up from a place on, and then the places of all enter, but

@@ -1,8 +1,7 @@
 //! The READs that go out in a step, and the one that an answer is of: `specs/Opening.antt`.
 
-ghost use Rattle.std.specs.Prelude.{◌≡◌, ◌+◌, ◌<◌, length, None, slice_get, nat_lt, IfOk, OnOk};
+ghost use Rattle.std.specs.Prelude.{◌≡◌, ◌+◌, ◌<◌, length, None, slice_get, IfOk, OnOk};
 ghost use Rattle.file_open.specs.Opening.{is_here, read_at, reads_chunk, reads_next, reads_all, without_read};
-ghost use Rattle.client_state.specs.Limits.{calls_most};
 ghost use Rattle.client_state.specs.View.{IsReading, HasXids};
 ghost use Rattle.file_open.specs.Sending.{IsSendingReads};
 ghost use Rattle.std.specs.Option.{option_copied};
@@ -13,13 +12,15 @@ use crate::{caching, fetch, messages};
 use chunk_cut::chunk::Chunk;
 use chunk_index::index::Index;
 use client_cache::cache::Cache;
-use client_state::calls::{CALLS_MOST, chunk_at};
-use client_state::step::{ClientStep, Counts};
+use client_state::step::ClientStep;
 use client_state::task::{Fetch, ReadCall};
 use client_state::{drops, parts, sending};
 use lb_base::items::{Bytes, Items};
 use send_list::SendList;
 use std::alloc::{AllocError, Global};
+use transfer_rules::bounds::has_room;
+use transfer_rules::chunks::{all_came, next_chunk};
+use transfer_rules::counts::{Counts, no_counts};
 use wire::message::Message;
 
 /// A fetch, the next xid, and the READs that were sent for it by now.
@@ -92,19 +93,11 @@ fn read_next(
     ensures { OnOk result (reads.new ≡ reads_next cache.now index.now file reads.old (slice_get reads.old.fetch.chunks reads.old.fetch.asked)) }
 {
     let place = reads.fetch.asked;
-    let Some(chunk) = chunk_at(reads.fetch.chunks.as_slice(), place) else {
+    let Some(chunk) = next_chunk(reads.fetch.chunks.as_slice(), place) else {
         return Ok(());
     };
     let kept = caching::from_index(alloc, cache, index, &chunk)?;
     take_chunk(alloc, file, reads, place, &chunk, kept)
-}
-
-/// Whether one more call may be under way.
-#[tactic(auto, unfolding(client_state::specs::Limits::calls_most))]
-fn has_room(under: &[ReadCall]) -> bool
-    ensures { result ≡ nat_lt (length under.now) calls_most }
-{
-    under.len() < CALLS_MOST
 }
 
 /// A fetch is let go, with the READs that were sent for it.
@@ -139,7 +132,8 @@ pub fn read_all(
         send: sending::none(alloc),
     };
     for _i in 0..left {
-        if !has_room(reads.fetch.under.as_slice()) {
+        let under = reads.fetch.under.len();
+        if !has_room(under) {
             return Ok(reads);
         }
         match read_next(alloc, cache, index, file, &mut reads) {
@@ -161,7 +155,7 @@ pub fn sends_reads(send: SendList<Message>, reads: u64, bytes: u64) -> ClientSte
     let counts = Counts {
         reads,
         bytes,
-        ..parts::no_counts()
+        ..no_counts()
     };
     parts::sends(send, counts)
 }
@@ -170,7 +164,7 @@ pub fn sends_reads(send: SendList<Message>, reads: u64, bytes: u64) -> ClientSte
 pub fn is_here(fetch: &Fetch) -> bool
     ensures { result ≡ is_here fetch.now }
 {
-    fetch.under.is_empty() && fetch.asked == fetch.chunks.len()
+    all_came(fetch.under.as_slice(), fetch.asked, fetch.chunks.len())
 }
 
 /// The READ under way with this xid.

@@ -9,19 +9,19 @@ ghost use Rattle.std.specs.Str.{bytes_eq};
 use chunk_cut::chunk::Chunk;
 use client_state::step::BadPeer;
 use sha1::Sha1;
+use transfer_rules::pieces;
 use xdr_codec::attr::Attr;
 
 /// What is wrong with bytes that are as long as a chunk: their digest.
 fn digest_fault(chunk: &Chunk, bytes: &[u8]) -> Option<BadPeer>
     ensures { result ≡ fault_in_digest chunk.now bytes.now (bytes_eq (sha1 bytes.now) chunk.now.digest) }
 {
+    if pieces::has_digest(bytes, &chunk.digest) {
+        return None;
+    }
     let got = Sha1::digest(bytes);
     let wanted = chunk.digest;
-    if got == wanted {
-        None
-    } else {
-        Some(BadPeer::Digest { got, wanted })
-    }
+    Some(BadPeer::Digest { got, wanted })
 }
 
 /// What is wrong with the bytes of a chunk.

@@ -13,6 +13,7 @@ use nfs3_calls::call::Piece;
 use shared_bytes::SharedBytes;
 use std::alloc::{AllocError, Global};
 use std::mem;
+use transfer_rules::chunks::filled;
 
 /// An attempt whose first GETHASH had this xid, before its answer's chunks are listed. It takes no
 /// memory.
@@ -58,16 +59,6 @@ pub fn listed(alloc: Global, mut fetch: Fetch) -> Result<Fetch, AllocError>
 {
     fetch.slots = empty_slots(alloc, fetch.chunks.len())?;
     Ok(fetch)
-}
-
-/// A slot has these bytes. It takes no memory.
-fn filled(slots: Items<Option<Bytes>>, place: usize, bytes: Bytes) -> Items<Option<Bytes>>
-    requires { place < length slots }
-    ensures { result ≡ slice_set slots place (Some bytes) }
-{
-    let mut slots = slots.into_vec();
-    slots[place] = Some(bytes);
-    Items::from_vec(slots)
 }
 
 /// The bytes of the chunk at this place are here. It takes no memory.

@@ -5,7 +5,7 @@ ghost use Rattle.std.specs.Prelude.{◌≡◌, ◌+◌, ◌-◌, ◌<◌, ◌≤
 ghost use Rattle.client_cache.specs.Cache.{reserved, content_of};
 ghost use Rattle.file_open.specs.Caching.{found_all};
 ghost use Rattle.file_open.specs.Opening.{read_at, fault_in, with_bytes, other_version, with_hashes, listed};
-ghost use Rattle.client_state.specs.Limits.{tries_most};
+ghost use Rattle.transfer_rules.specs.Limits.{tries_most};
 ghost use Rattle.file_open.specs.Looking.{with_file, listed_if, listed_by, taken_if, taken_at, taken_by, entering_by};
 ghost use Rattle.file_open.specs.Shape.{broken_of};
 ghost use Rattle.file_open.specs.Fetching.{opens, asks_file, MayMissOpen, Comes, tries_anew, opened_with, changes, reads_if, reads_on, lists_on, told_shape, told_version, misfits, told_bytes, told_chunk, told_piece};
@@ -16,7 +16,6 @@ ghost use Rattle.client_state.specs.declared.task.Stage.TheVariants as stage;
 use crate::calls::Reads;
 use crate::{caching, calls, faults, fetch, kept, messages, shape};
 use chunk_cut::chunk::Chunk;
-use client_state::calls::chunk_at;
 use client_state::state::ClientState;
 use client_state::step::{BadPeer, ClientStep, Outcome};
 use client_state::task::{Fetch, ReadCall, Stage};
@@ -25,11 +24,10 @@ use hash_calls::call::Hashes;
 use lb_base::items::Bytes;
 use nfs3_calls::call::Piece;
 use std::alloc::{AllocError, Global};
+use transfer_rules::chunks::chunk_at;
+use transfer_rules::{bounds, pieces};
 use xdr_codec::attr::Attr;
 use xdr_codec::handle::Handle;
-
-/// The most attempts of an open.
-const TRIES_MOST: u32 = limits::ATTEMPTS_MOST;
 
 /// A command to open a file. An `Err` changes nothing, and comes only where the file is asked for.
 #[tactic(auto, using(client_state::proofs::Pending::held_of, client_state::proofs::Pending::sound_again))]
@@ -184,7 +182,7 @@ fn change(
     ensures sound { OnOk result (IsSound state.new) }
     ensures held { OnErr result (IsHeld state.new) }
 {
-    if fetch.tries < TRIES_MOST {
+    if bounds::may_try_again(fetch.tries) {
         return retry(alloc, state, file, fetch.tries, xid, bytes);
     }
     state.forget(alloc, xid);
@@ -385,7 +383,7 @@ pub fn told_hashes(
     ensures sound { OnOk result (IsSound state.new) }
     ensures held { OnErr result (IsHeld state.new) }
 {
-    if hashes.version == fetch.version {
+    if pieces::is_of_version(fetch.version, hashes.version) {
         told_shape(alloc, state, file, fetch, hashes, xid)
     } else {
         change(alloc, state, file, &fetch, xid, hashes.version, 0)

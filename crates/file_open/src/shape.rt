@@ -8,11 +8,12 @@ ghost use Rattle.limits.specs.declared.TheConstants.{FILE_MOST, PAIRS_MOST};
 ghost use Rattle.chunk_cut.specs.Places.{end_of, end_from};
 
 use chunk_cut::chunk::Chunk;
-use client_state::calls::chunk_at;
 use client_state::task::Fetch;
 use hash_calls::call::{Hashes, Pair};
 use lb_base::items::Items;
 use std::alloc::AllocError;
+use transfer_rules::chunks::chunk_at;
+use transfer_rules::pieces::broken_sum;
 
 /// No file is longer, in bytes.
 const FILE_LIMIT: u64 = limits::FILE_MOST;
@@ -83,22 +84,6 @@ fn end_from(at: u64, pairs: &[Pair]) -> u64
         end += pair.size as u64;
     }
     end
-}
-
-/// What is wrong with the end of the chunks of a piece, which is the file's last or not, of so many.
-fn broken_sum(is_last: bool, sum: u64, size: u64, count: u64) -> Option<(u64, u64)>
-    ensures { result ≡ broken_sum is_last sum size count }
-{
-    if is_last {
-        return if sum == size { None } else { Some((sum, size)) };
-    }
-    if sum > size {
-        return Some((sum, size));
-    }
-    if count == 0 {
-        return Some((0, 1));
-    }
-    None
 }
 
 /// What is wrong with where the chunks end, with those of a piece behind those of the fetch.

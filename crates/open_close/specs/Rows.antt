@@ -36,7 +36,7 @@ use Rattle.chunk_index.specs.declared.place.Place.{Place}
 use Rattle.client_cache.specs.Cache.{fronted, nothing}
 use Rattle.chunk_places.specs.Places.{no_index}
 use Rattle.file_open.specs.Looking.{Entering, entering}
-use Rattle.client_state.specs.Limits.{calls_most}
+use Rattle.transfer_rules.specs.Limits.{calls_most}
 use Rattle.file_open.specs.Opening.{lease_call, hash_call, read_call}
 use Rattle.file_open.specs.Shape.{with_pairs}
 use Rattle.client_state.specs.State.{State, start, read_pending, evicted, forged, index_cleared}

@@ -2,7 +2,7 @@
 //! `specs/Step.antt`.
 
 ghost use Rattle.std.specs.Prelude.{◌≡◌, ◌≤◌, IfOk, OnOk, OnErr, false};
-ghost use Rattle.client_state.specs.Limits.{tries_most};
+ghost use Rattle.transfer_rules.specs.Limits.{tries_most};
 ghost use Rattle.file_open.specs.Looking.{with_file, reading_by, entering_by};
 ghost use Rattle.file_open.specs.Fetching.{Comes};
 ghost use Rattle.open_close.specs.Step.{took};

@@ -20,6 +20,7 @@ use shared_bytes::SharedBytes;
 use std::alloc::{AllocError, Global};
 use std::collections::BTreeMap;
 use std::marker::Model;
+use transfer_rules::counts::no_counts;
 use wire::fault::WireFault;
 use wire::message::{Message, Side, Waiting};
 
@@ -51,7 +52,7 @@ fn missed(alloc: Global) -> ClientStep
             outcome: Outcome::Memory,
             rests_on: 0,
         }),
-        counts: parts::no_counts(),
+        counts: no_counts(),
         found: None,
         missed: true,
     }
@@ -182,5 +183,11 @@ impl Client {
         ensures { option_copied result ≡ option_map (λ l. l.bytes) (local_at self.now.opened file) }
     {
         parts::find_local(&self.state.opened, file).map(|l| l.bytes.as_slice())
+    }
+
+    /// The client is let go: here, so that no crate above proves how each of its parts is. Nothing is told of
+    /// what is gone.
+    pub fn let_go(self) {
+        drop(self);
     }
 }

@@ -5,7 +5,7 @@ use Rattle.sha1.specs.Sha1.{sha1}
 use Rattle.client_cache.specs.Cache.{Entries, kept_of, with_content}
 use Rattle.wire.specs.declared.message.Waiting.{Waiting}
 use Rattle.client_state.specs.Counting.{ends}
-use Rattle.client_state.specs.Limits.{file_limit}
+use Rattle.transfer_rules.specs.Limits.{file_limit}
 use Rattle.client_state.specs.State.{State, without_local, local_bytes}
 use Rattle.client_state.specs.Ending.{forgets}
 use Rattle.client_state.specs.View.{state_of, IsKeptBounded}

@@ -1,10 +1,9 @@
 use Rattle.std.proofs.Common.{◌≡◌, ℕ, ◌+◌, ◌-◌, List, [], length, true, false, ap, sym, subst, ◌∙◌, arith}
 use Rattle.std.specs.Prelude.{slice_get, nat_lt}
 use Rattle.wire.specs.declared.message.Message.{Message}
-use Rattle.client_state.specs.Limits.{calls_most}
+use Rattle.transfer_rules.specs.Limits.{calls_most}
 use Rattle.file_open.specs.Opening.{Reads, reads_next, reads_more}
 use Rattle.file_open.specs.Sending.{IsSendingReads}
-use Rattle.client_state.specs.declared.task.ReadCall.{ReadCall}
 use Rattle.file_open.proofs.Sending.{sending_first, reads_kept, reads_step, reads_full}
 use Rattle.file_open.proofs.calls.read_all.Goals as goal
 
@@ -25,7 +24,7 @@ loop-i-preserved c =
     let index = c.args.index.now in
     let left = c.len.result - c.args.fetch.asked in
     let i = c.loop-i._i in
-    let room : nat_lt (length r.fetch.under) calls_most ≡ true = ap (λ (us : List ReadCall). nat_lt (length us) calls_most) (sym c.as_slice.ensures) ∙ (sym c.has_room.ensures ∙ c.if-not-has_room.false) in
+    let room : nat_lt (length r.fetch.under) calls_most ≡ true = ap (λ n. nat_lt n calls_most) (sym c.len-under.ensures) ∙ (sym c.has_room.ensures ∙ c.if-not-has_room.false) in
     let e : c.read_next.new.reads ≡ reads_next cache index c.args.file r (slice_get r.fetch.chunks r.fetch.asked) = c.in-Ok.ensures in
     record {
       same = ap (λ (x : Reads). reads_more (left - (i + 1)) cache index c.args.file x) e ∙ (reads_step cache index c.args.file r left i c.loop-i-test.true room ∙ c.loop-i.invariant.same);
@@ -35,7 +34,7 @@ loop-i-preserved c =
 pub returns-then-not-has_room-clause-all : goal.returns-then-not-has_room-clause-all
 returns-then-not-has_room-clause-all c =
     let r : Reads = c.loop-i.reads in
-    let full : nat_lt (length r.fetch.under) calls_most ≡ false = ap (λ (us : List ReadCall). nat_lt (length us) calls_most) (sym c.as_slice.ensures) ∙ (sym c.has_room.ensures ∙ c.if-not-has_room.true) in
+    let full : nat_lt (length r.fetch.under) calls_most ≡ false = ap (λ n. nat_lt n calls_most) (sym c.len-under.ensures) ∙ (sym c.has_room.ensures ∙ c.if-not-has_room.true) in
     reads_full c.args.cache.now c.args.index.now c.args.file r (c.len.result - c.args.fetch.asked) c.loop-i._i c.loop-i-test.true full ∙ c.loop-i.invariant.same
 
 pub returns-clause-all : goal.returns-clause-all

@@ -2,7 +2,7 @@ use Rattle.std.proofs.Common.{◌≡◌, ◌≤◌, sym, ap, subst, ◌∙◌, �
 use Rattle.std.specs.Prelude.{IsSome}
 use Rattle.std.specs.List.{All}
 use Rattle.client_cache.specs.Cache.{Entries, kept_of, with_content}
-use Rattle.client_state.specs.Limits.{file_limit}
+use Rattle.transfer_rules.specs.Limits.{file_limit}
 use Rattle.client_state.specs.State.{State, with_local}
 use Rattle.client_state.specs.View.{state_of, IsKeptBounded}
 use Rattle.client_state.proofs.Keeping.{bounded_kept}

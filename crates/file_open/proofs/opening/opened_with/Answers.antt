@@ -7,7 +7,7 @@ use Rattle.wire.specs.declared.message.Waiting.{Waiting}
 use Rattle.file_open.specs.Caching.{found_all}
 use Rattle.client_state.specs.Counting.{ends}
 use Rattle.file_open.specs.Opening.{slots_bytes}
-use Rattle.client_state.specs.Limits.{file_limit}
+use Rattle.transfer_rules.specs.Limits.{file_limit}
 use Rattle.client_state.specs.State.{State, with_local}
 use Rattle.file_open.specs.Fetching.{opened_with}
 use Rattle.client_state.specs.Ending.{forgets}

@@ -1,0 +1,37 @@
+//! The bytes that lie at a place, and those that a digest names. No place is trusted, so both are
+//! looked at each time: `specs/Placed.antt` of `chunk_index`, and `specs/Known.antt`.
+
+ghost use Rattle.std.specs.Prelude.{◌≡◌};
+ghost use Rattle.std.specs.Option.{option_copied};
+ghost use Rattle.chunk_index.specs.Placed.{bytes_placed};
+ghost use Rattle.chunk_places.specs.Known.{with_digest};
+
+use chunk_index::place::Place;
+use sha1::Sha1;
+
+/// The bytes of a place, where they lie in a content. It takes no memory.
+pub fn bytes_placed<'a>(content: &'a [u8], place: &Place) -> Option<&'a [u8]>
+    ensures { option_copied result ≡ bytes_placed content.now place.now }
+{
+    let end = place.offset.checked_add(place.count)?;
+    if end > content.len() as u64 {
+        return None;
+    }
+    Some(&content[place.offset as usize..end as usize])
+}
+
+/// Bytes that were found, where they have the digest: they are hashed each time. It takes no memory.
+pub fn with_digest<'a>(found: Option<&'a [u8]>, digest: &[u8; 20]) -> Option<&'a [u8]>
+    ensures { option_copied result ≡ with_digest digest.now (option_copied found.entry) }
+{
+    match found {
+        Some(bytes) => {
+            if Sha1::digest(bytes) == *digest {
+                Some(bytes)
+            } else {
+                None
+            }
+        }
+        None => None,
+    }
+}

@@ -1,7 +1,0 @@
-use Rattle.std.proofs.Common.{◌≡◌, drop}
-use Rattle.file_open.specs.Caching.{found_all}
-use Rattle.file_open.proofs.caching.find_all.Given as goal
-
--- those that are left lead to the same end
-abbrev pub invariant-loop-chunk : goal.invariant-loop-chunk
-invariant-loop-chunk l = found_all l.index (drop l.chunk-index l.chunks) ≡ found_all l.initial.index l.chunks

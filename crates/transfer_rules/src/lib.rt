@@ -1,0 +1,13 @@
+//! The rules by which a client fetches and stores a file's chunks, each over the few values that it looks
+//! at: how many calls and attempts there may be, which chunk comes next, whether what came fits, whose
+//! answer it is, and what is counted of it.
+//!
+//! They know no message and no state, so that a wrong rule is refused here, in a check of seconds.
+//! `client_state`, `file_open` and `file_close` go by them.
+#![tactic(auto)]
+
+pub mod answers;
+pub mod bounds;
+pub mod chunks;
+pub mod counts;
+pub mod pieces;

@@ -1,0 +1,40 @@
+//! Whether what came fits: its version, the end of its chunks, and the digest of its bytes.
+//! `specs/Pieces.antt` says what is wrong with an end.
+
+ghost use Rattle.std.specs.Prelude.{◌≡◌, ◌==◌};
+ghost use Rattle.std.specs.Str.{bytes_eq};
+ghost use Rattle.sha1.specs.Sha1.{sha1};
+ghost use Rattle.transfer_rules.specs.Pieces.{broken_sum};
+
+use sha1::Sha1;
+
+/// Whether what was told, or is kept, is of the version that is wanted.
+pub fn is_of_version(version: u64, told: u64) -> bool
+    ensures { result ≡ (told == version) }
+{
+    told == version
+}
+
+/// Whether bytes have this digest.
+pub fn has_digest(bytes: &[u8], digest: &[u8; 20]) -> bool
+    ensures { result ≡ bytes_eq (sha1 bytes.now) digest.now }
+{
+    let got = Sha1::digest(bytes);
+    got == *digest
+}
+
+/// What is wrong with the end of the chunks of a piece, which is the file's last or not, of so many.
+pub fn broken_sum(is_last: bool, sum: u64, size: u64, count: u64) -> Option<(u64, u64)>
+    ensures { result ≡ broken_sum is_last sum size count }
+{
+    if is_last {
+        return if sum == size { None } else { Some((sum, size)) };
+    }
+    if sum > size {
+        return Some((sum, size));
+    }
+    if count == 0 {
+        return Some((0, 1));
+    }
+    None
+}
