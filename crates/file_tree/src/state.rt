@@ -19,7 +19,7 @@ use tree_nodes::node::{Body, Node};
 use tree_nodes::nodes::Nodes;
 
 /// The nodes of a tree, how many changes were ever made, and how many bytes all contents have.
-#[derive(Drop, Debug)]
+#[derive(Drop)]
 pub struct TreeState {
     pub nodes: Nodes,
     pub changes: u64,

@@ -32,7 +32,7 @@ use xdr_codec::attr::Attr;
 use xdr_codec::status::Status;
 
 /// A tree of files and directories, and the places that are reserved for nodes more.
-#[derive(Drop, Debug)]
+#[derive(Drop)]
 pub struct Tree {
     state: TreeState,
 }

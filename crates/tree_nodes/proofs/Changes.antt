@@ -27,7 +27,7 @@ get_other (z ∷ zs) zero (suc j) y other = refl
 get_other (z ∷ zs) (suc k) zero y other = refl
 get_other (z ∷ zs) (suc k) (suc j) y other = get_other zs k j y (λ e. other (ap (λ n. suc n) e))
 
-all_set : (P : Slot → Type 0) (xs : List Slot) (k : ℕ) (y : Slot) → AllByRecursion P xs → P y → AllByRecursion P (set xs k y)
+pub all_set : (P : Slot → Type 0) (xs : List Slot) (k : ℕ) (y : Slot) → AllByRecursion P xs → P y → AllByRecursion P (set xs k y)
 all_set P [] k y all is = tt
 all_set P (x ∷ xs) zero y all is = (is, all.1)
 all_set P (x ∷ xs) (suc k) y all is = (all.0, all_set P xs k y all.1 is)
@@ -75,7 +75,7 @@ get_before [] y x k at = absurd cc
 get_before (z ∷ zs) y x zero at = at
 get_before (z ∷ zs) y x (suc k) at = get_before zs y x k at
 
-all_end : (P : Slot → Type 0) (xs : List Slot) (y : Slot) → AllByRecursion P xs → P y → AllByRecursion P (xs ++ y ∷ [])
+pub all_end : (P : Slot → Type 0) (xs : List Slot) (y : Slot) → AllByRecursion P xs → P y → AllByRecursion P (xs ++ y ∷ [])
 all_end P [] y all is = (is, tt)
 all_end P (x ∷ xs) y all is = (all.0, all_end P xs y all.1 is)
 

@@ -3,9 +3,11 @@ pub mod Changes
 pub mod Finds
 pub mod Fronts
 pub mod Gathering
+pub mod Keyed
 pub mod Lists
 pub mod Order
 pub mod Ranges
 pub mod Removing
 pub mod Renewing
-pub mod Slots
+pub mod Rising
+pub mod Starts

@@ -1,12 +1,11 @@
 -- How nodes are kept: each in a place of its own, by rising ids; and the places in the nodes' order.
 use Rattle.std.specs.Prelude.{◌≡◌, ℕ, suc, ◌<◌, List, [], ◌∷◌, map, Option, Some, None, Bool, false, ◌==◌, if◌then◌else◌, nat_lt, min, ◌-◌}
 use Rattle.std.specs.List.{find, slice_get, AllByRecursion}
-use Rattle.std.specs.declared.cmp.Ordering.{Ordering}
 use Rattle.tree_nodes.specs.declared.node.Node.{Node}
 use Rattle.tree_nodes.specs.declared.node.Body.TheVariants.{Directory}
 use Rattle.tree_nodes.specs.declared.slot.Slot.{Slot}
 use Rattle.tree_nodes.specs.declared.slot.Slot.TheVariants.{Gone, Taken}
-use Rattle.tree_nodes.specs.Nodes.{with_id, place_cmp, before, AreInOrder}
+use Rattle.tree_nodes.specs.Nodes.{with_id, before, AreInOrder}
 
 -- how many of a list's first elements pass a test
 abbrev pub front : {X : Type 0} → (X → Bool) → List X → ℕ
@@ -41,9 +40,6 @@ or_blank (Some n) = n
 
 abbrev pub node_at : List Slot → ℕ → Node
 node_at slots place = or_blank (node_in (slice_get slots place))
-
-abbrev pub order_at : List Slot → ℕ → ℕ → List ℕ → Ordering
-order_at slots place dir name = place_cmp (node_at slots place).parent (node_at slots place).name dir name
 
 abbrev pub AreRising : List Slot → Type 0
 AreRising [] = Unit {0}

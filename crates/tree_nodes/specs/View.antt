@@ -1,6 +1,5 @@
 -- What contracts see of the nodes of a tree.
 use Rattle.std.specs.Prelude.{ℕ, List, length}
-use Rattle.std.specs.Vec.{vec_capacity}
 use Rattle.tree_nodes.specs.declared.node.Node.{Node}
 use Rattle.tree_nodes.specs.declared.table.Table.{Table}
 use Rattle.tree_nodes.specs.Table.{shown, room_left, IsTable}
@@ -17,7 +16,7 @@ abbrev pub nodes_of : Table → List Node
 nodes_of t = shown t.slots.items t.order.items
 
 abbrev pub room_of : Table → ℕ
-room_of t = room_left (vec_capacity t.slots) (length t.slots.items) t.order.room
+room_of t = room_left t.slots.capacity (length t.slots.items) t.order.room
 
 abbrev pub IsSound : Table → Type 0
 IsSound t = IsTable t.slots.items t.order.items t.next

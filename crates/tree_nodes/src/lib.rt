@@ -4,8 +4,10 @@
 #![tactic(auto)]
 
 pub mod content;
+pub mod key;
 mod listed;
 pub mod node;
 pub mod nodes;
 pub mod slot;
+pub mod slots;
 pub mod table;

@@ -12,7 +12,7 @@ ghost use Rattle.tree_nodes.specs.Risen.{keyed, risen_with, ShowInOrder};
 ghost use Rattle.tree_nodes.specs.View.{nodes_of, IsSound};
 
 use crate::node::Node;
-use crate::slot::Slot;
+use crate::slots::Slots;
 use crate::table::Table;
 use block_list::list::BlockList;
 use std::alloc::{AllocError, Global};
@@ -84,12 +84,12 @@ fn order_of(alloc: Global, nodes: &[Node]) -> Result<BlockList, AllocError>
 }
 
 // A slot for each node.
-fn taken(alloc: Global, nodes: Vec<Node>) -> Result<Vec<Slot>, AllocError>
+fn taken(alloc: Global, nodes: Vec<Node>) -> Result<Slots, AllocError>
     ensures { IfOk result (λ v. v.items ≡ map Taken nodes.items) }
 {
-    let mut slots = Vec::new(alloc);
+    let mut slots = Slots::new(alloc);
     for node in nodes {
-        slots.push(Slot::Taken(node))?;
+        slots.push(node)?;
     }
     Ok(slots)
 }

@@ -10,6 +10,7 @@ ghost use Rattle.tree_nodes.specs.Nodes.{named, with_node, with_nodes, AreApart,
 use crate::content::Content;
 use crate::listed;
 use crate::node::Node;
+use crate::slots::Slots;
 use crate::table::{self, Table};
 use block_list::list::BlockList;
 use lb_base::items::Name;
@@ -42,7 +43,7 @@ impl Nodes {
     {
         Nodes {
             table: Table {
-                slots: Vec::new(alloc),
+                slots: Slots::new(alloc),
                 order: BlockList::new(alloc),
                 next,
             },

@@ -5,9 +5,8 @@ ghost use Rattle.std.specs.List.{slice_get, slice_set};
 ghost use Rattle.std.specs.Vec.{vec_capacity};
 ghost use Rattle.tree_nodes.specs.declared.slot.Slot.TheVariants.{Gone, Taken};
 ghost use Rattle.std.specs.Option.{option_copied};
-ghost use Rattle.std.specs.Ordering.{is_lt};
-ghost use Rattle.tree_nodes.specs.Nodes.{place_cmp};
-ghost use Rattle.tree_nodes.specs.Table.{slot_id, id_or, node_in, order_at, first_from, AreRising, IsTaken};
+ghost use Rattle.tree_nodes.specs.Nodes.{before, place_cmp};
+ghost use Rattle.tree_nodes.specs.Table.{slot_id, id_or, node_in, node_at, first_from, AreRising, IsTaken};
 
 use crate::node::Node;
 use std::cmp::Ordering;
@@ -39,9 +38,22 @@ fn id_at(slots: &Vec<Slot>, place: usize) -> u64
     }
 }
 
-/// The place of the first whose id isn't below this one.
-#[tactic(auto, using(crate::proofs::Slots::from_high, crate::proofs::Slots::goes_past, crate::proofs::Slots::stays))]
+/// The place of the first whose id isn't below this one. It is found at once where no id was skipped.
+#[tactic(auto, using(crate::proofs::Rising::stands_at))]
 pub fn first_from(slots: &Vec<Slot>, id: u64) -> usize
+    requires { AreRising slots.now.items }
+    ensures { result ≡ first_from slots.now.items id }
+{
+    let place = id.saturating_sub(id_at(slots, 0)) as usize;
+    if place < slots.len() && id_at(slots, place) == id {
+        return place;
+    }
+    searched(slots, id)
+}
+
+// The same by halves.
+#[tactic(auto, using(crate::proofs::Rising::from_high, crate::proofs::Rising::goes_past, crate::proofs::Rising::stays))]
+fn searched(slots: &Vec<Slot>, id: u64) -> usize
     requires { AreRising slots.now.items }
     ensures { result ≡ first_from slots.now.items id }
 {
@@ -68,13 +80,13 @@ pub fn node_in(slots: &Vec<Slot>, place: usize) -> Option<&Node>
     }
 }
 
-/// How the node in a place stands to a name in a directory.
-pub fn node_order(slots: &Vec<Slot>, place: usize, dir: u64, name: &[u8]) -> Ordering
-    ensures { result ≡ order_at slots.now.items place dir name.now }
+/// Whether the node in a place comes before a name in a directory.
+pub fn comes_before(slots: &Vec<Slot>, place: usize, dir: u64, name: &[u8]) -> bool
+    ensures { result ≡ before (node_at slots.now.items place) dir name.now }
 {
     match node_in(slots, place) {
-        Some(node) => place_order(node.parent, node.name.as_slice(), dir, name),
-        None => place_order(0, &[], dir, name),
+        Some(node) => place_order(node.parent, node.name.as_slice(), dir, name) == Ordering::Less,
+        None => place_order(0, &[], dir, name) == Ordering::Less,
     }
 }
 

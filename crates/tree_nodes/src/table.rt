@@ -3,34 +3,35 @@
 ghost use Rattle.std.specs.Prelude.{◌≡◌, ℕ, ◌+◌, ◌-◌, ◌<◌, ◌^◌, ◌≤◌, Option, Some, None, IfSome, IfOk, OnOk, OnErr, IsSome, is_some, length, map, take, drop, min, IsTrue, false, ◌==◌, ◌&&◌};
 ghost use Rattle.std.specs.List.{slice_get, slice_set, insert, remove, AllByRecursion};
 ghost use Rattle.std.specs.Option.{option_copied};
-ghost use Rattle.std.specs.Vec.{vec_capacity};
 ghost use Rattle.tree_nodes.specs.declared.slot.Slot.TheVariants.{Gone, Taken};
 ghost use Rattle.std.specs.Str.{bytes_eq};
 ghost use Rattle.tree_nodes.specs.declared.node.Node.{Node};
 ghost use Rattle.tree_nodes.specs.declared.node.Body.TheVariants.{File};
 ghost use Rattle.tree_nodes.specs.Nodes.{named, names, with_node, without, with_id, versioned, changed, AreInOrder};
+ghost use Rattle.tree_nodes.specs.Places.{start_of};
 ghost use Rattle.tree_nodes.specs.Table.{shown, place_for, IsTable, IsNodeAt, before_at, IsTaken, AreRising, taken_at, kept_by};
 
 use crate::content::Content;
+use crate::key::start_of;
 use crate::node::{Body, Node};
-use crate::slot::{self, Slot};
+use crate::slots::Slots;
 use block_list::list::BlockList;
 use lb_base::items::Name;
 use std::alloc::AllocError;
-use std::cmp::Ordering;
 
 /// The place of a name in the order of the nodes, or where it would be.
 #[tactic(auto, using(crate::proofs::Finds::order_past, crate::proofs::Finds::order_stays, crate::proofs::Finds::order_end))]
-pub fn place_for(slots: &Vec<Slot>, order: &BlockList, dir: u64, name: &[u8]) -> usize
+pub fn place_for(slots: &Slots, order: &BlockList, dir: u64, name: &[u8]) -> usize
     requires { AreInOrder (shown slots.now.items order.now.items) }
     ensures exact { result ≡ place_for (shown slots.now.items order.now.items) dir name.now }
     ensures within { result ≤ length order.now.items }
 {
+    let start = start_of(name);
     let mut low = 0;
     let mut high = order.len();
     'halves: while low < high {
         let mid = low + (high - low) / 2;
-        if comes_before(slots, order, mid, dir, name) {
+        if comes_before(slots, order, mid, dir, start, name) {
             low = mid + 1;
         } else {
             high = mid;
@@ -40,7 +41,7 @@ pub fn place_for(slots: &Vec<Slot>, order: &BlockList, dir: u64, name: &[u8]) ->
 }
 
 /// The place of a name that is there, in the order of the nodes.
-pub fn place_named(slots: &Vec<Slot>, order: &BlockList, dir: u64, name: &[u8]) -> usize
+pub fn place_named(slots: &Slots, order: &BlockList, dir: u64, name: &[u8]) -> usize
     requires sorted { AreInOrder (shown slots.now.items order.now.items) }
     requires there { IsSome (named (shown slots.now.items order.now.items) dir name.now) }
     ensures node { named (shown slots.now.items order.now.items) dir name.now ≡ slice_get (shown slots.now.items order.now.items) result }
@@ -51,7 +52,7 @@ pub fn place_named(slots: &Vec<Slot>, order: &BlockList, dir: u64, name: &[u8]) 
 
 /// From which place on, and up to which one, the nodes of a directory stand in the order.
 #[tactic(auto, using(crate::proofs::Ranges::names_between, crate::proofs::Ranges::count_between, crate::proofs::Ranges::places_rise, crate::proofs::Ranges::places_end))]
-pub fn places(slots: &Vec<Slot>, order: &BlockList, dir: u64) -> (usize, usize)
+pub fn places(slots: &Slots, order: &BlockList, dir: u64) -> (usize, usize)
     requires sorted { AreInOrder (shown slots.now.items order.now.items) }
     requires dir { dir < 2 ^ 64 - 1 }
     ensures names { names (shown slots.now.items order.now.items) dir ≡ take (result.1 - result.0) (drop result.0 (shown slots.now.items order.now.items)) }
@@ -64,19 +65,28 @@ pub fn places(slots: &Vec<Slot>, order: &BlockList, dir: u64) -> (usize, usize)
     (start, end)
 }
 
-// Whether the node at a place in the order comes before a name; none does past the last.
-fn comes_before(slots: &Vec<Slot>, order: &BlockList, place: usize, dir: u64, name: &[u8]) -> bool
+// Whether the node at a place in the order comes before a name, which begins so; none does past the
+// last.
+fn comes_before(
+    slots: &Slots,
+    order: &BlockList,
+    place: usize,
+    dir: u64,
+    start: u64,
+    name: &[u8],
+) -> bool
+    requires { start ≡ start_of name.now }
     ensures { result ≡ before_at slots.now.items (slice_get order.now.items place) dir name.now }
 {
     match order.at(place) {
-        Some(slot) => slot::node_order(slots, slot as usize, dir, name) == Ordering::Less,
+        Some(slot) => slots.comes_before(slot as usize, dir, start, name),
         None => false,
     }
 }
 
 /// How many nodes there are.
 #[tactic(auto, using(crate::proofs::Ranges::length_shown))]
-pub fn len(slots: &Vec<Slot>, order: &BlockList) -> usize
+pub fn len(slots: &Slots, order: &BlockList) -> usize
     ensures { result ≡ length (shown slots.now.items order.now.items) }
 {
     let _places = slots;
@@ -84,27 +94,27 @@ pub fn len(slots: &Vec<Slot>, order: &BlockList) -> usize
 }
 
 /// The node at a place in the order.
-pub fn node_at<'a>(slots: &'a Vec<Slot>, order: &BlockList, place: usize) -> Option<&'a Node>
+pub fn node_at<'a>(slots: &'a Slots, order: &BlockList, place: usize) -> Option<&'a Node>
     requires { AllByRecursion (IsTaken slots.now.items) order.now.items }
     ensures { option_copied result ≡ slice_get (shown slots.now.items order.now.items) place }
 {
     match order.at(place) {
-        Some(slot) => slot::node_in(slots, slot as usize),
+        Some(slot) => slots.node_in(slot as usize),
         None => None,
     }
 }
 
 /// The node with the id.
-pub fn with_id(slots: &Vec<Slot>, id: u64) -> Option<&Node>
+pub fn with_id(slots: &Slots, id: u64) -> Option<&Node>
     requires { AreRising slots.now.items }
     ensures { option_copied result ≡ taken_at slots.now.items id }
 {
-    let place = slot::first_from(slots, id);
-    if_id(slot::node_in(slots, place), id)
+    let place = slots.first_from(id);
+    if_id(slots.node_in(place), id)
 }
 
 // Whether there is a node with the id.
-fn has_id(slots: &Vec<Slot>, id: u64) -> bool
+fn has_id(slots: &Slots, id: u64) -> bool
     requires { AreRising slots.now.items }
     ensures { result ≡ is_some (taken_at slots.now.items id) }
 {
@@ -135,7 +145,7 @@ fn if_named<'a>(node: Option<&'a Node>, dir: u64, name: &[u8]) -> Option<&'a Nod
 }
 
 /// The node with the name in the directory.
-pub fn named<'a>(slots: &'a Vec<Slot>, order: &BlockList, dir: u64, name: &[u8]) -> Option<&'a Node>
+pub fn named<'a>(slots: &'a Slots, order: &BlockList, dir: u64, name: &[u8]) -> Option<&'a Node>
     requires sorted { AreInOrder (shown slots.now.items order.now.items) }
     requires taken { AllByRecursion (IsTaken slots.now.items) order.now.items }
     ensures { option_copied result ≡ named (shown slots.now.items order.now.items) dir name.now }
@@ -147,41 +157,41 @@ pub fn named<'a>(slots: &'a Vec<Slot>, order: &BlockList, dir: u64, name: &[u8])
 /// Nodes in places by rising ids, and the numbers of the places in the order of the nodes.
 #[derive(Drop, Debug)]
 pub struct Table {
-    pub slots: Vec<Slot>,
+    pub slots: Slots,
     pub order: BlockList,
     /// No node ever had this id, or a greater one.
     pub next: u64,
 }
 
 // Puts a node into a place whose node is gone, and that place into the order. It takes no memory.
-fn put_in(slots: &mut Vec<Slot>, order: &mut BlockList, slot: u32, node: Node)
+fn put_in(slots: &mut Slots, order: &mut BlockList, slot: u32, node: Node)
     requires sorted { AreInOrder (shown slots.old.items order.old.items) }
     requires there { slot < length slots.old.items }
     requires room { 0 < order.old.room }
     ensures slots { slots.new.items ≡ slice_set slots.old.items slot (Taken node) }
     ensures order { order.new.items ≡ insert order.old.items (place_for (shown slots.old.items order.old.items) node.parent node.name) slot }
-    ensures slot_room { vec_capacity slots.new ≡ vec_capacity slots.old }
+    ensures slot_room { slots.new.capacity ≡ slots.old.capacity }
     ensures order_room { order.old.room ≡ order.new.room + 1 }
 {
     let place = place_for(slots, order, node.parent, node.name.as_slice());
-    slot::put(slots, slot as usize, node);
+    slots.put(slot as usize, node);
     order.insert(place, slot);
 }
 
 // Takes the node at a place in the order out of its place there and in the slots, which keeps its
 // id; gives the number of the slot, and the node.
-fn take_out(slots: &mut Vec<Slot>, order: &mut BlockList, place: usize) -> (u32, Node)
+fn take_out(slots: &mut Slots, order: &mut BlockList, place: usize) -> (u32, Node)
     requires taken { AllByRecursion (IsTaken slots.old.items) order.old.items }
     requires within { place < length order.old.items }
     ensures slot { slice_get order.old.items place ≡ Some result.0 }
     ensures node { slice_get slots.old.items result.0 ≡ Some (Taken result.1) }
     ensures slots { slots.new.items ≡ slice_set slots.old.items result.0 (Gone result.1.id) }
     ensures order { order.new.items ≡ remove order.old.items place }
-    ensures slot_room { vec_capacity slots.new ≡ vec_capacity slots.old }
+    ensures slot_room { slots.new.capacity ≡ slots.old.capacity }
     ensures order_room { order.new.room ≡ order.old.room + 1 }
 {
     let slot = order.remove(place);
-    let node = slot::take(slots, slot as usize);
+    let node = slots.take(slot as usize);
     (slot, node)
 }
 
@@ -200,7 +210,7 @@ impl Table {
         ensures room { room_of self.old ≤ room_of self.new + 1 }
     {
         self.next = node.id + 1;
-        let slot = slot::add(&mut self.slots, node.id);
+        let slot = self.slots.add(node.id);
         put_in(&mut self.slots, &mut self.order, slot as u32, node);
     }
 
@@ -257,9 +267,9 @@ impl Table {
         ensures room { room_of self.old ≤ room_of self.new }
     {
         let place = place_of(&self.slots, id);
-        let node = slot::take(&mut self.slots, place);
+        let node = self.slots.take(place);
         let node = renewed(node, version);
-        slot::put(&mut self.slots, place, node);
+        self.slots.put(place, node);
     }
 
     /// Gives the node of an id another version and content, as a file. It takes no memory.
@@ -272,9 +282,9 @@ impl Table {
         ensures room { room_of self.old ≤ room_of self.new }
     {
         let place = place_of(&self.slots, id);
-        let node = slot::take(&mut self.slots, place);
+        let node = self.slots.take(place);
         let node = refilled(node, version, content);
-        slot::put(&mut self.slots, place, node);
+        self.slots.put(place, node);
     }
 
     /// Makes room for so many nodes more. The one error is want of memory.
@@ -322,12 +332,12 @@ fn refilled(node: Node, version: u64, content: Content) -> Node
 
 /// The place of the node with an id.
 #[tactic(auto, using(crate::proofs::Renewing::place_is))]
-fn place_of(slots: &Vec<Slot>, id: u64) -> usize
+fn place_of(slots: &Slots, id: u64) -> usize
     requires rising { AreRising slots.now.items }
     requires there { IsSome (taken_at slots.now.items id) }
     ensures { IsNodeAt slots.now.items result id }
 {
-    slot::first_from(slots, id)
+    slots.first_from(id)
 }
 
 // The node in another directory and under another name.

@@ -7,7 +7,7 @@ use std::alloc::AllocError;
 use xdr_codec::status::Status;
 
 /// Why a call that takes memory is not answered.
-#[derive(Clone, Copy, Debug, PartialEq, Eq)]
+#[derive(Clone, Copy)]
 pub enum TreeErr {
     /// By this status.
     Refused(Status),

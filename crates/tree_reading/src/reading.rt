@@ -21,7 +21,7 @@ use xdr_codec::attr::{Attr, Kind, Time};
 use xdr_codec::status::Status;
 
 /// What LOOKUP found.
-#[derive(Clone, Copy, Debug, PartialEq, Eq, Drop)]
+#[derive(Clone, Copy, Drop)]
 pub struct Looked {
     /// The id of what the name stands for.
     pub id: u64,
@@ -32,7 +32,7 @@ pub struct Looked {
 }
 
 /// What a name stands for.
-#[derive(Clone, Copy, Debug, PartialEq, Eq, Drop)]
+#[derive(Clone, Copy, Drop)]
 pub struct Standing {
     /// The id of the file or directory.
     pub id: u64,

@@ -8,7 +8,7 @@ use Rattle.tree_nodes.proofs.table.Table.insert.Goals as goal
 pub returns-clause-nodes : goal.returns-clause-nodes
 returns-clause-nodes c =
     let old = c.args.self.now in
-    let wide = c.add-slot.new.slots.items in
+    let wide = c.add-slot.new.self.items in
     let n = c.args.node in
     added old.slots.items wide c.put_in.new.slots.items old.order.items c.put_in.new.order.items old.next n c.requires.sound c.requires.id.0 c.add-slot.ensures.added
     (c.put_in.ensures.slots ∙ ap (λ k. set wide k (Taken n)) c.add-slot.ensures.place)
@@ -17,7 +17,7 @@ returns-clause-nodes c =
 pub returns-clause-sound : goal.returns-clause-sound
 returns-clause-sound c =
     let old = c.args.self.now in
-    let wide = c.add-slot.new.slots.items in
+    let wide = c.add-slot.new.self.items in
     let n = c.args.node in
     added_sound old.slots.items wide c.put_in.new.slots.items old.order.items c.put_in.new.order.items old.next n c.requires.sound c.requires.id.0 c.requires.fresh c.add-slot.ensures.added
     (c.put_in.ensures.slots ∙ ap (λ k. set wide k (Taken n)) c.add-slot.ensures.place)

@@ -1,6 +1,6 @@
 use Rattle.std.proofs.Common.{◌-◌, ◌≤◌, length}
 use Rattle.tree_nodes.specs.Table.{first_from}
-use Rattle.tree_nodes.proofs.slot.first_from.Given as goal
+use Rattle.tree_nodes.proofs.slot.searched.Given as goal
 
 abbrev pub invariant-halves : goal.invariant-halves
 invariant-halves l = record {
