@@ -1,12 +1,17 @@
 /* A client of a served folder, to measure the server by: GETATTR of the root by one client that waits for
  * each answer, beside a bare exchange of as many bytes both ways with a process that only answers.
  *
- *   served ask PORT CALLS ROUNDS      the least microseconds of the rounds, by turns: of the server, bare
+ *   served ask PORT CALLS ROUNDS OWN OTHER
+ *                                     the medians of the rounds' microseconds, by turns: of the server, bare.
+ *                                     It runs on the processor OWN alone, and the process that only answers on
+ *                                     OTHER; the server is to be bound to OTHER too
  *   served idle PORT SESSIONS SECONDS stands still with so many sessions
  */
+#define _GNU_SOURCE
 #include <arpa/inet.h>
 #include <netinet/in.h>
 #include <netinet/tcp.h>
+#include <sched.h>
 #include <stdint.h>
 #include <stdio.h>
 #include <stdlib.h>
@@ -15,7 +20,7 @@
 #include <time.h>
 #include <unistd.h>
 
-enum { CALL = 64, ANSWER = 116 };
+enum { CALL = 64, ANSWER = 116, ROUNDS_MOST = 1000 };
 
 static void fail(const char *what)
 {
@@ -77,8 +82,18 @@ static void getattr(unsigned char *call)
         put(call + 4 * i, words[i]);
 }
 
-/* A process that answers each call by as many bytes as a server does. */
-static int bare(void)
+/* This process runs on one processor alone. */
+static void bind_to(int processor)
+{
+    cpu_set_t set;
+    CPU_ZERO(&set);
+    CPU_SET(processor, &set);
+    if (sched_setaffinity(0, sizeof set, &set))
+        fail("sched_setaffinity");
+}
+
+/* A process on this processor that answers each call by as many bytes as a server does. */
+static int bare(int processor)
 {
     struct sockaddr_in at = here(0);
     socklen_t size = sizeof at;
@@ -88,6 +103,7 @@ static int bare(void)
         fail("listen");
     if (fork() == 0) {
         unsigned char call[CALL], answer[ANSWER] = { 0 };
+        bind_to(processor);
         int link = prompt(accept(listener, NULL, NULL));
         while (take(link, call, CALL) && give(link, answer, ANSWER))
             ;
@@ -110,16 +126,28 @@ static double timed(int link, long calls)
     return (double)(to.tv_sec - from.tv_sec) * 1e6 + (double)(to.tv_nsec - from.tv_nsec) / 1e3;
 }
 
-static void ask(int port, long calls, int rounds)
+static int is_more(const void *one, const void *other)
 {
-    int server = dial(port), other = bare();
-    double least = 0, least_bare = 0;
+    double a = *(const double *)one, b = *(const double *)other;
+    return (a > b) - (a < b);
+}
+
+static double median(double *times, int count)
+{
+    qsort(times, (size_t)count, sizeof *times, is_more);
+    return times[count / 2];
+}
+
+static void ask(int port, long calls, int rounds, int own, int other)
+{
+    double served[ROUNDS_MOST], plain[ROUNDS_MOST];
+    int server = dial(port), beside = bare(other);
+    bind_to(own);
     for (int i = 0; i < rounds; i++) {
-        double served = timed(server, calls), plain = timed(other, calls);
-        least = !i || served < least ? served : least;
-        least_bare = !i || plain < least_bare ? plain : least_bare;
+        served[i] = timed(server, calls);
+        plain[i] = timed(beside, calls);
     }
-    printf("%.0f %.0f\n", least, least_bare);
+    printf("%.0f %.0f\n", median(served, rounds), median(plain, rounds));
 }
 
 static void idle(int port, int sessions, unsigned seconds)
@@ -138,8 +166,8 @@ static void idle(int port, int sessions, unsigned seconds)
 
 int main(int count, char **words)
 {
-    if (count == 5 && !strcmp(words[1], "ask"))
-        ask(atoi(words[2]), atol(words[3]), atoi(words[4]));
+    if (count == 7 && !strcmp(words[1], "ask") && atoi(words[4]) > 0 && atoi(words[4]) <= ROUNDS_MOST)
+        ask(atoi(words[2]), atol(words[3]), atoi(words[4]), atoi(words[5]), atoi(words[6]));
     else if (count == 5 && !strcmp(words[1], "idle"))
         idle(atoi(words[2]), atoi(words[3]), (unsigned)atoi(words[4]));
     else

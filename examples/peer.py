@@ -1,6 +1,7 @@
 """A client of a served folder, over a socket, apart from the program: it packs calls and takes answers
 apart as RFC 5531 and RFC 1813 lay them out, and those of LBFS as `crates/hash_calls` says. `serving` uses it.
 """
+import select
 import socket
 import struct
 import time
@@ -136,22 +137,39 @@ class Peer:
             raise ValueError("no answer to a call that was accepted")
         return xid, got.u32(), got.given[got.at :]
 
-    def ask(self, program, procedure, arguments=b""):
-        """Makes a call, and gives the result of its answer."""
+    def begin(self, program, procedure, arguments=b""):
+        """Makes a call, and awaits no answer."""
         self.xid += 1
         self.send(call(self.xid, program, procedure, arguments))
+
+    def finish(self):
+        """The result of the answer to the call that was made last."""
         xid, stat, result = self.answer()
         if (xid, stat) != (self.xid, OK):
             raise ValueError(f"call {self.xid} was answered by {xid} with stat {stat}")
         return Reader(result)
 
-    def done(self, program, procedure, arguments=b""):
-        """The same of a call whose result begins with a status; what follows it."""
-        got = self.ask(program, procedure, arguments)
+    def finish_done(self):
+        """The same where the result begins with a status; what follows it."""
+        got = self.finish()
         status = got.u32()
         if status != OK:
             raise Refused(status)
         return got
+
+    def ask(self, program, procedure, arguments=b""):
+        """Makes a call, and gives the result of its answer."""
+        self.begin(program, procedure, arguments)
+        return self.finish()
+
+    def done(self, program, procedure, arguments=b""):
+        """The same of a call whose result begins with a status; what follows it."""
+        self.begin(program, procedure, arguments)
+        return self.finish_done()
+
+    def has_more(self):
+        """Whether something came that wasn't taken yet."""
+        return bool(select.select([self.socket], [], [], 0)[0])
 
     def is_ended(self):
         """Whether nothing more comes: the server has shut the connection."""
@@ -205,14 +223,14 @@ class Peer:
         return names
 
     def content(self, file):
-        parts, at_end = b"", False
+        parts, at_end = bytearray(), False
         while not at_end:
             got = self.done(NFS, READ, handle(file) + u64(len(parts)) + u32(PIECE))
             got.attributes()
             got.u32()
             at_end = bool(got.u32())
             parts += got.opaque()
-        return parts
+        return bytes(parts)
 
     # ---- calls of LBFS
 
@@ -226,11 +244,20 @@ class Peer:
 
     def store(self, file, content):
         """Stores a content, and gives the version that it has then."""
+        self.begin_commit(file, content)
+        return self.committed()
+
+    def begin_commit(self, file, content):
+        """Fills a temporary file, and asks for it to be committed. The answer isn't awaited."""
         self.fd += 1
         self.done(LBFS, MKTMPFILE, u32(self.fd) + handle(file))
         for at in range(0, len(content), PIECE):
             self.done(LBFS, TMPWRITE, u32(self.fd) + u64(at) + opaque(content[at : at + PIECE]))
-        return self.done(LBFS, COMMITTMP, u32(self.fd) + handle(file) + u64(len(content))).u64()
+        self.begin(LBFS, COMMITTMP, u32(self.fd) + handle(file) + u64(len(content)))
+
+    def committed(self):
+        """The version that the answer tells to what `begin_commit` asked for."""
+        return self.finish_done().u64()
 
 
 def node_of(given):

@@ -2,10 +2,8 @@
 use Rattle.std.proofs.Common.{◌≡◌, sym, ap, ◌∙◌, ℕ, List, length, Option, Some, Result, Ok, Err}
 use Rattle.xdr_codec.specs.Handle.{file_of}
 use Rattle.xdr_codec.specs.declared.status.Status.{Status}
-use Rattle.xdr_codec.specs.declared.answer.Answer.{Answer}
 use Rattle.xdr_codec.specs.declared.answer.Answer.TheVariants.{Done, Failed}
 use Rattle.xdr_codec.specs.declared.attr.Attr.{Attr}
-use Rattle.hash_calls.specs.declared.call.Leased.{Leased}
 use Rattle.tree_nodes.specs.declared.node.Node.{Node as TreeNode}
 use Rattle.tree_nodes.specs.declared.node.Body.{Body}
 use Rattle.tree_nodes.specs.declared.node.Body.TheVariants.{File as Content}

@@ -13,7 +13,7 @@ use Rattle.xdr_codec.specs.declared.answer.Answer.TheVariants.{Done, Failed}
 use Rattle.hash_calls.specs.declared.call.CondPiece.{CondPiece}
 use Rattle.temp_files.specs.Temps.{Temp, Temps, with_more, piece_fault}
 use Rattle.tree_reading.specs.Tree.{Tree}
-use Rattle.chunk_calls.specs.Writing.{Named, cond_most, cond_fault, bytes_found, bytes_known, named, named_unless, named_bytes}
+use Rattle.chunk_calls.specs.Writing.{cond_most, cond_fault, bytes_found, bytes_known, named, named_unless, named_bytes}
 use Rattle.chunk_calls.specs.Indexing.{bytes_of, wanted_bytes, with_digest}
 use Rattle.chunk_calls.specs.Files.{File, file_at}
 

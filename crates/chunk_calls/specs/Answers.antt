@@ -1,5 +1,5 @@
 -- What a GETHASH and a GETLEASE are answered, by the file that a handle names. Neither changes the tree.
-use Rattle.std.specs.Prelude.{ℕ, ◌+◌, ◌/◌, ◌%◌, List, length, map, filter, take, drop, min, Option, Some, None, Result, Ok, Err, Bool, ◌&&◌, ◌||◌, ◌==◌, nat_lt, nat_le}
+use Rattle.std.specs.Prelude.{ℕ, ◌+◌, ◌/◌, ◌%◌, List, length, map, filter, take, Option, Some, None, Result, Ok, Err, Bool, ◌&&◌, ◌||◌, ◌==◌, nat_lt, nat_le}
 use Rattle.limits.specs.declared.TheConstants.{PAIRS_MOST}
 use Rattle.chunk_cut.specs.Chunks.{chunks_of}
 use Rattle.chunk_cut.specs.Places.{end_of}

@@ -1,30 +1,18 @@
 //! The bytes that a CONDWRITE finds by the index of chunks. `specs/Indexing.antt` says which.
 
-ghost use Rattle.std.specs.Prelude.{◌≡◌, IfOk, take, drop};
+ghost use Rattle.std.specs.Prelude.{◌≡◌};
 ghost use Rattle.std.specs.Option.{option_copied};
 ghost use Rattle.chunk_index.specs.Index.{key_of, place_of, found};
-ghost use Rattle.chunk_index.specs.Placed.{bytes_placed};
 ghost use Rattle.chunk_calls.specs.Writing.{bytes_known};
-ghost use Rattle.chunk_calls.specs.Indexing.{wanted_bytes, with_digest};
+ghost use Rattle.chunk_calls.specs.Indexing.{wanted_bytes};
 ghost use Rattle.chunk_calls.specs.Files.{file_at};
 
 use chunk_index::index::Index;
 use chunk_index::place::Place;
+use chunk_places::known::{bytes_placed, with_digest};
 use file_tree::tree::Tree;
 use hash_calls::call::CondPiece;
-use sha1::Sha1;
 use tree_nodes::node::Body;
-
-/// The bytes of a place, where they lie in a content.
-fn bytes_placed<'a>(content: &'a [u8], place: &Place) -> Option<&'a [u8]>
-    ensures { option_copied result ≡ bytes_placed content.now place.now }
-{
-    let end = place.offset.checked_add(place.count)?;
-    if end > content.len() as u64 {
-        return None;
-    }
-    Some(&content[place.offset as usize..end as usize])
-}
 
 /// The bytes that a place has for a CONDWRITE, where its file is there.
 fn wanted_bytes<'a>(tree: &'a Tree, place: &Place, count: u32) -> Option<&'a [u8]>
@@ -48,16 +36,10 @@ fn bytes_known<'a>(tree: &'a Tree, piece: &CondPiece, place: Option<Place>) -> O
     ensures { option_copied result ≡ bytes_known tree.now.tree piece.now place }
 {
     match place {
-        Some(place) => match wanted_bytes(tree, &place, piece.count) {
-            Some(bytes) => {
-                if Sha1::digest(bytes) == piece.digest {
-                    Some(bytes)
-                } else {
-                    None
-                }
-            }
-            None => None,
-        },
+        Some(place) => {
+            let found = wanted_bytes(tree, &place, piece.count);
+            with_digest(found, &piece.digest)
+        }
         None => None,
     }
 }

@@ -6,6 +6,7 @@ ghost use Rattle.lbfs_client.specs.Mounting.{Runs, Receives, joined_step};
 ghost use Rattle.lbfs_mount.specs.Turns.{IsTold, Loses, Sends, Turns};
 
 use crate::answer_line::AnswerLine;
+use client_state::drops;
 use lb_base::items::{Bytes, Items};
 use lbfs_client::mounted::Mounted;
 use lbfs_client::said::Said;
@@ -195,7 +196,7 @@ impl<F: Files + Drop, L: Link + Drop> Desk<F, L> {
         let Said { send, line } = said;
         keep(&mut self.line, line);
         let sent = send_on(alloc, &mut self.link, &send);
-        drop(send);
+        drops::items(send);
         match sent {
             Ok(()) => {}
             Err(end) => self.lose(alloc, end, now),
@@ -210,7 +211,7 @@ impl<F: Files + Drop, L: Link + Drop> Desk<F, L> {
         match self.mounted.ended(alloc, end, now) {
             Ok(said) => {
                 let Said { send, line } = said;
-                drop(send);
+                drops::items(send);
                 keep(&mut self.line, line);
             }
             Err(_want) => self.starved = true,

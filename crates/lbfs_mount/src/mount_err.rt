@@ -1,7 +1,7 @@
 //! Why a mount ends before its script does. When each comes states `mount`.
 
 /// Why a mount ended before its script did.
-#[derive(Clone, Copy, Debug, PartialEq, Eq)]
+#[derive(Clone, Copy)]
 pub enum MountErr {
     /// The script's source failed; its count of faults rose.
     ReadFault,

@@ -63,8 +63,14 @@ impl<F: Files + Drop, L: Link + Drop> Shared<F, L> {
 
     /// A turn of a record that came on a connection. It answers whether more may come there.
     pub(crate) fn hear<W: Wait>(&self, rt: &W, connection: u64, record: &[u8], now: u64) -> bool {
-        let goes_on = self.desk.lock(rt).hear(self.alloc, connection, record, now);
-        self.news.notify_all();
+        let mut desk = self.desk.lock(rt);
+        let goes_on = desk.hear(self.alloc, connection, record, now);
+        let has_news = desk.has_news();
+        drop(desk);
+        // Whoever waits for a line isn't woken by each of the records that come before it.
+        if has_news {
+            self.news.notify_all();
+        }
         goes_on
     }
 

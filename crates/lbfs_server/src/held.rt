@@ -1,25 +1,30 @@
 //! What the threads of a server share: the server, and what it has to say to each session.
 //! `specs/Held.antt` states what an event makes of it.
 
-ghost use Rattle.std.specs.Prelude.{◌≡◌, ℕ, ◌<◌, ◌≤◌, ◌^◌, ◌↔◌, List, [], ◌∷◌, length, IsTrue, false};
+ghost use Rattle.std.specs.Prelude.{◌≡◌, ℕ, ◌<◌, ◌≤◌, ◌^◌, ◌↔◌, List, [], ◌∷◌, length, IsTrue, Result, false};
 ghost use Rattle.outboxes.specs.Boxes.{AllEmpty, Holds, Lacks, KeepsOthers};
 ghost use Rattle.server_core.specs.Closing.{has_waiting};
 ghost use Rattle.server_core.specs.State.{entries_held};
 ghost use Rattle.server_core.specs.Step.{IsTimed};
-ghost use Rattle.server_core.specs.declared.event.Event.TheVariants as event;
-ghost use Rattle.wire.specs.Parse.{parse_of};
+ghost use Rattle.server_steps.specs.declared.event.Event.TheVariants as event;
+ghost use Rattle.wire.specs.Parse.{parse_of, IsParsed};
+ghost use Rattle.wire.specs.declared.fault.WireFault.{WireFault};
 ghost use Rattle.wire.specs.declared.message.Message.{Message};
 ghost use Rattle.lbfs_server.specs.Held.{After, Delivered, HeardOrLeft, Joined, Left, Stands, Took, Unheard, Unread, Welcomed, server_waits, settled_as};
 ghost use Rattle.lbfs_server.specs.declared.held.Went.TheVariants as went;
 
 use crate::kept::KeptServer;
+use hash_calls::call::Commit;
 use lb_base::items::Items;
 use outboxes::outboxes::Outboxes;
 use send_list::SendList;
-use server_core::event::{Event, Sent, ServerStep, Told};
 use server_core::server::Server;
+use server_rules::told::Told;
+use server_steps::event::{Event, Sent, ServerStep};
+use shared_bytes::SharedBytes;
 use std::alloc::Global;
 use store::store::Store;
+use tree_nodes::content::Content;
 use wire::fault::{WireErr, WireFault};
 use wire::message::{Message, Side, Waiting};
 use wire::parse::parse;
@@ -65,6 +70,13 @@ fn server_waits(alloc: Global) -> Waiting
         side: Side::Server,
         calls: Items::new(alloc),
     }
+}
+
+/// The message that a record to a server is, or why it is none.
+pub fn read_record(alloc: Global, bytes: &[u8]) -> Result<Message, WireErr>
+    ensures { IsParsed result (parse_of server_waits bytes.now) }
+{
+    parse(alloc, bytes, &server_waits(alloc))
 }
 
 /// What came of a change that was to be made.
@@ -296,17 +308,46 @@ impl<S: Store + Drop> Held<S> {
         }
     }
 
-    /// A record of a session came: the event of its message. A record that is no message hangs the
+    /// A record of a session was read: the event of its message. A record that is no message hangs the
     /// session, and an answer that nobody waits for is no event; want of memory hangs it too.
+    pub fn heard(
+        &mut self,
+        alloc: Global,
+        session: u32,
+        read: Result<Message, WireErr>,
+        now: u64,
+    ) -> Went
+        requires { now < 2 ^ 63 }
+        ensures { (message : Result Message WireFault) → IsParsed read message → HeardOrLeft S.records S.faults self.old session now message result self.new }
+    {
+        match read {
+            Ok(message) => self.take_message(alloc, session, message, now),
+            Err(error) => self.unread(alloc, session, error),
+        }
+    }
+
+    /// A record of a session came.
     pub fn got(&mut self, alloc: Global, session: u32, bytes: &[u8], now: u64) -> Went
         requires { now < 2 ^ 63 }
         ensures { HeardOrLeft S.records S.faults self.old session now (parse_of server_waits bytes.now) result self.new }
     {
-        let expected = server_waits(alloc);
-        match parse(alloc, bytes, &expected) {
-            Ok(message) => self.take_message(alloc, session, message, now),
-            Err(error) => self.unread(alloc, session, error),
-        }
+        let read = read_record(alloc, bytes);
+        self.heard(alloc, session, read, now)
+    }
+
+    /// An owner of the whole content of a temporary file of a session, where it has one of this size
+    /// and memory suffices. Nothing changes.
+    pub fn share_temp(&mut self, session: u32, commit: &Commit) -> Option<SharedBytes>
+        ensures { self.new ≡ self.old }
+    {
+        self.kept.share_temp(session, commit)
+    }
+
+    /// Keeps a content that was made ahead, or none. Nothing changes.
+    pub fn prepare(&mut self, ahead: Option<Content>)
+        ensures { self.new ≡ self.old }
+    {
+        self.kept.prepare(ahead);
     }
 
     /// All that is to be said to a session, in order; nothing is left. It takes no memory.

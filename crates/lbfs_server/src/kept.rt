@@ -6,11 +6,14 @@ ghost use Rattle.server_core.specs.State.{entries_held};
 ghost use Rattle.server_core.specs.Step.{IsTimed};
 ghost use Rattle.lbfs_server.specs.Kept.{Steps, StoreKeeps};
 
-use server_core::event::{Event, ServerStep};
+use hash_calls::call::Commit;
 use server_core::server::Server;
+use server_steps::event::{Event, ServerStep};
+use shared_bytes::SharedBytes;
 use std::alloc::Global;
 use std::marker::Model;
 use store::store::Store;
+use tree_nodes::content::Content;
 
 /// A server, and the store that keeps its tree. There is room in the store for what waits.
 #[derive(Drop)]
@@ -48,6 +51,21 @@ impl<S: Store + Drop> KeptServer<S> {
     {
         let step = self.server.step(alloc, &mut self.store, event);
         step
+    }
+
+    /// An owner of the whole content of a temporary file of a session, where it has one of this size
+    /// and memory suffices. Nothing changes.
+    pub fn share_temp(&mut self, session: u32, commit: &Commit) -> Option<SharedBytes>
+        ensures { self.new ≡ self.old }
+    {
+        self.server.share_temp(session, commit)
+    }
+
+    /// Keeps a content that was made ahead, or none. Nothing changes.
+    pub fn prepare(&mut self, ahead: Option<Content>)
+        ensures { self.new ≡ self.old }
+    {
+        self.server.prepare(ahead);
     }
 
     /// Whether a change of the session waits.

@@ -6,13 +6,17 @@ ghost use Rattle.std.specs.Prelude.{◌<◌, ◌^◌};
 ghost use Rattle.server_core.specs.Step.{IsTimed};
 
 use crate::gate::Gate;
-use crate::held::{Held, Went};
+use crate::held::{Held, Went, read_record};
+use hash_calls::call::Commit;
+use hash_calls::message::Lb;
 use links::link::Link;
-use server_core::event::Event;
+use server_steps::event::Event;
 use std::alloc::Global;
 use std::sync::{Condvar, Mutex, Wait};
 use store::store::Store;
-use wire::message::Message;
+use tree_nodes::content::Content;
+use wire::fault::WireErr;
+use wire::message::{Body, Message};
 
 /// What the threads of a server share, and by what those are woken that have nothing to say.
 #[derive(Drop)]
@@ -44,6 +48,17 @@ pub struct Outgoing {
 /// Whether a session went in a turn.
 fn is_of_leaving(went: Went) -> bool {
     went == Went::Closed || went == Went::Memory
+}
+
+/// The COMMITTMP that a message is, if it is one.
+fn commit_in(message: &Message) -> Option<&Commit> {
+    match message {
+        Message::Call(_, body) => match body {
+            Body::Lb(Lb::CommitTmp(commit)) => Some(commit),
+            _ => None,
+        },
+        _ => None,
+    }
 }
 
 impl<S: Store + Drop, G: Gate + Drop, L: Link + Drop> Shared<S, G, L> {
@@ -93,14 +108,47 @@ impl<S: Store + Drop, G: Gate + Drop, L: Link + Drop> Shared<S, G, L> {
         went
     }
 
-    /// A turn of one record of a session. Where a change of the session waits then, one that waits
-    /// is made, if it may be; and what there is to say to the session is taken.
+    /// The content that a COMMITTMP of a session comes to, cut and hashed while others take their turns;
+    /// none where its temporary file has no such content, or memory is wanting.
+    fn content_of<W: Wait>(&self, rt: &W, session: u32, commit: &Commit) -> Option<Content> {
+        let mut held = self.held.lock(rt);
+        let bytes = held.share_temp(session, commit);
+        drop(held);
+        match Content::new(self.alloc, bytes?) {
+            Ok(content) => Some(content),
+            Err(_) => None,
+        }
+    }
+
+    /// What is made of a record before its turn: the content of its COMMITTMP. The turn comes to the same
+    /// without it.
+    fn ahead<W: Wait>(
+        &self,
+        rt: &W,
+        session: u32,
+        read: &Result<Message, WireErr>,
+    ) -> Option<Content> {
+        match read {
+            Ok(message) => {
+                let commit = commit_in(message)?;
+                self.content_of(rt, session, commit)
+            }
+            Err(_) => None,
+        }
+    }
+
+    /// A turn of one record of a session, which is read before it. Where a change of the session waits
+    /// then, one that waits is made, if it may be; and what there is to say to the session is taken.
     pub fn got<W: Wait>(&self, rt: &W, session: u32, bytes: &[u8], now: u64) -> Outgoing
         requires { now < 2 ^ 63 }
     {
+        let read = read_record(self.alloc, bytes);
+        let ahead = self.ahead(rt, session, &read);
         self.gate.before();
         let mut held = self.held.lock(rt);
-        let heard = held.got(self.alloc, session, bytes, now);
+        held.prepare(ahead);
+        let heard = held.heard(self.alloc, session, read, now);
+        held.prepare(None);
         let settled = if held.waits(session) {
             held.event(self.alloc, Event::Settle { now })
         } else {

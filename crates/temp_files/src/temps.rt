@@ -1,7 +1,7 @@
 //! The temporary files of all sessions. `specs/Temps.antt` says what each call makes of them, and why
 //! it is refused.
 
-ghost use Rattle.std.specs.Prelude.{◌≡◌, ◌≤◌, [], IfOk, OnOk, OnErr, IsErrOf, is_some, length, None, Some, true};
+ghost use Rattle.std.specs.Prelude.{◌≡◌, ◌≤◌, [], IfOk, IfSome, OnOk, OnErr, IsErrOf, is_some, length, None, Some, true};
 ghost use Rattle.std.specs.BTreeMap.Range.{entries_between};
 ghost use Rattle.std.specs.declared.ops.Bound.TheVariants.{Included};
 ghost use Rattle.std.specs.List.{All};
@@ -163,6 +163,25 @@ fn take_whole(
     Ok((first, second))
 }
 
+/// An owner of the whole content of a temporary file, where it has one. It stays.
+fn share(
+    alloc: Global,
+    temps: &mut Keyed,
+    session: u32,
+    fd: u32,
+    size: u64,
+) -> Result<Option<SharedBytes>, TempErr>
+    ensures exact { IfOk result (λ whole. IfSome whole (λ bytes. Some bytes ≡ whole_of (temp_at temps.old.entries session fd) size)) }
+    ensures same { temps.new.entries ≡ temps.old.entries }
+{
+    let covers = covers(temps, session, fd, size)?;
+    if !covers {
+        return Ok(None);
+    }
+    let whole = share_of(alloc, temps, session, fd, size)?;
+    Ok(Some(whole))
+}
+
 /// Takes out a temporary file, and gives two owners of its whole content where there is one.
 fn take(
     alloc: Global,
@@ -285,6 +304,19 @@ impl Temps {
     {
         let whole = take(self.alloc, &mut self.files, session, fd, size)?;
         Ok(whole)
+    }
+
+    /// An owner of the whole content of a temporary file, where its pieces cover 0 to the size once
+    /// each and nothing beyond; none where they don't, where there is no such file, or where memory is
+    /// wanting. The pieces are joined for it, and all stays as it was.
+    pub fn share(&mut self, session: u32, fd: u32, size: u64) -> Option<SharedBytes>
+        ensures exact { IfSome result (λ bytes. Some bytes ≡ whole_of (temp_at self.old session fd) size) }
+        ensures same { self.new ≡ self.old }
+    {
+        match share(self.alloc, &mut self.files, session, fd, size) {
+            Ok(whole) => whole,
+            Err(_) => None,
+        }
     }
 
     /// Ends a temporary file, if there is one under the number. It takes no memory.

@@ -1,4 +1,4 @@
-use Rattle.std.proofs.Common.{◌≡◌, IfOk, Bool, true, false, sym, subst}
+use Rattle.std.proofs.Common.{◌≡◌, IfOk, true, false, sym, subst}
 use Rattle.hash_calls.specs.declared.message.Lb.{Lb}
 use Rattle.chunk_calls.specs.Calling.{calls, LeavesPlaces}
 use Rattle.chunk_calls.proofs.calls.call.Goals as goal

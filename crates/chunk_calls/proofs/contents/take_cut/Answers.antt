@@ -7,7 +7,7 @@ use Rattle.temp_files.specs.Temps.{Temp, temp_at, whole_of, assembled}
 use Rattle.temp_files.proofs.Entries.{some_same}
 use Rattle.temp_files.proofs.Joins.{whole_length}
 use Rattle.chunk_calls.proofs.Pieces.{whole_bytes}
-use Rattle.chunk_calls.proofs.contents.take_content.Goals as goal
+use Rattle.chunk_calls.proofs.contents.take_cut.Goals as goal
 
 pub cut_pieces-requires : goal.cut_pieces-requires
 cut_pieces-requires c =
