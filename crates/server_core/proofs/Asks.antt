@@ -1,13 +1,11 @@
 -- The calls of NFS: what GETLEASE and READ tell of a file, and what a call leaves that has no memory taken for it.
-use Rattle.std.proofs.Common.{◌≡◌, refl, sym, ap, ◌∙◌, subst, ℕ, ◌+◌, ◌≤◌, List, length, Option, Some, None, Result, Ok, Err, Bool, true, false, true≢false, arith}
+use Rattle.std.proofs.Common.{◌≡◌, refl, sym, ap, ◌∙◌, subst, ℕ, ◌+◌, ◌≤◌, List, Option, Some, None, Result, Ok, Err, Bool, true, false, true≢false, arith}
 use Rattle.std.specs.Prelude.{is_ok}
 use Rattle.std.proofs.lemmas.List.{append-nil}
 use Rattle.xdr_codec.specs.Handle.{file_of}
 use Rattle.xdr_codec.specs.declared.status.Status.{Status}
 use Rattle.xdr_codec.specs.declared.status.Status.TheVariants as status
 use Rattle.xdr_codec.specs.declared.answer.Answer.{Answer}
-use Rattle.xdr_codec.specs.declared.attr.Attr.{Attr}
-use Rattle.hash_calls.specs.declared.call.Leased.{Leased}
 use Rattle.nfs3_calls.specs.declared.call.Range.{Range}
 use Rattle.nfs3_calls.specs.declared.change.Before.{Before}
 use Rattle.nfs3_calls.specs.declared.message.Nfs.{Nfs}
@@ -19,10 +17,10 @@ use Rattle.tree_nodes.specs.declared.node.Body.{Body as NodeBody}
 use Rattle.tree_nodes.specs.declared.node.Body.TheVariants.{Directory, File as Content}
 use Rattle.tree_nodes.specs.Nodes.{with_id}
 use Rattle.tree_reading.specs.Chain.{◌>>=◌}
-use Rattle.tree_reading.specs.Reading.{attr, attr_of, file_attr, version, content, piece_of}
+use Rattle.tree_reading.specs.Reading.{piece_of}
 use Rattle.tree_plans.specs.Plans.{create_plan, may_mkdir, rmdir_plan}
 use Rattle.file_tree.specs.Step.{created, mkdir_if, remove_if}
-use Rattle.tree_reading.specs.Tree.{Tree, content_of, or_stale, file_or}
+use Rattle.tree_reading.specs.Tree.{Tree, or_stale, file_or}
 use Rattle.tree_plans.specs.declared.call.Changed.{Changed}
 use Rattle.tree_plans.specs.declared.call.Held.{Held}
 use Rattle.tree_plans.specs.declared.entry.Entry.{Entry as TreeEntry}
@@ -34,12 +32,13 @@ use Rattle.tree_calls.specs.Waiting.{calls_under, enters, asks_remove, asks_rena
 use Rattle.tree_calls.specs.declared.asked.Done.{Done}
 use Rattle.tree_calls.specs.declared.asked.Outcome.{Outcome}
 use Rattle.tree_calls.specs.declared.asked.Outcome.TheVariants.{Answered, Waits}
-use Rattle.server_core.specs.declared.event.ServerStep.{ServerStep}
+use Rattle.server_steps.specs.declared.event.ServerStep.{ServerStep}
 use Rattle.server_core.specs.declared.journal.Entry.{Entry}
 use Rattle.server_core.specs.declared.state.ServerState.{ServerState}
-use Rattle.chunk_calls.specs.Answers.{node_with, node_found, node_named, node_of, lease_answer}
+use Rattle.chunk_calls.specs.Answers.{node_with, node_found, node_named, node_of}
 use Rattle.server_core.specs.Answers.{read_answer}
-use Rattle.server_core.specs.Closing.{to, has_waiting, count_of, one_if}
+use Rattle.server_core.specs.Closing.{has_waiting, count_of, one_if}
+use Rattle.server_steps.specs.Steps.{to}
 use Rattle.server_core.specs.State.{State, held}
 use Rattle.server_core.specs.Served.{IsServed}
 use Rattle.server_core.specs.Step.{called_under, asks, asks_tree}

@@ -3,21 +3,21 @@ use Rattle.std.proofs.Common.{◌≡◌, refl, sym, ap, ◌∙◌, ℕ, ◌+◌,
 use Rattle.std.specs.Prelude.{Result, Ok, Err, is_ok, is_some, nat_lt, if◌then◌else◌}
 use Rattle.xdr_codec.specs.declared.status.Status.{Status}
 use Rattle.xdr_codec.specs.declared.status.Status.TheVariants as status
-use Rattle.xdr_codec.specs.declared.answer.Answer.TheVariants.{Done, Failed}
-use Rattle.hash_calls.specs.declared.call.TempPiece.{TempPiece}
+use Rattle.xdr_codec.specs.declared.answer.Answer.TheVariants.{Failed}
 use Rattle.hash_calls.specs.declared.call.Commit.{Commit}
 use Rattle.hash_calls.specs.declared.message.Lb.TheVariants as lb
 use Rattle.wire.specs.declared.message.Body.TheVariants as body
 use Rattle.wire.specs.declared.message.Message.TheVariants as message
-use Rattle.temp_files.specs.Pieces.{size_most, all_bytes}
-use Rattle.temp_files.specs.Temps.{Temp, Temps, temp_at, with_temp, with_more, without_temp, empty_temp, room_fault, piece_fault, assembled, whole_of}
-use Rattle.server_core.specs.declared.event.ServerStep.{ServerStep}
+use Rattle.temp_files.specs.Pieces.{size_most}
+use Rattle.temp_files.specs.Temps.{Temp, Temps, temp_at, without_temp, assembled, whole_of}
+use Rattle.server_steps.specs.declared.event.ServerStep.{ServerStep}
 use Rattle.chunk_calls.specs.Answers.{Node, directory, file, node_of, target_in}
 use Rattle.server_core.specs.Asking.{commit_target, admits}
-use Rattle.server_core.specs.Closing.{answers, sends, to, makes, makes_unless, writes, writes_unless, has_waiting, is_full, commits_whole, commits_to, commits}
+use Rattle.server_core.specs.Closing.{answers, has_waiting, is_full, commits_whole, commits_to, commits}
+use Rattle.server_steps.specs.Steps.{sends, to}
 use Rattle.server_core.specs.State.{State, Change, size_wanted, waiting_size}
 use Rattle.server_core.specs.declared.change.Wanted.TheVariants as wanted
-use Rattle.temp_files.proofs.Joins.{joined_size, joined_all}
+use Rattle.temp_files.proofs.Joins.{joined_size}
 
 -- ---- COMMITTMP
 

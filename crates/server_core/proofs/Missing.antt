@@ -1,20 +1,17 @@
 -- What a step does that met want of memory, or did not: of a GETHASH and a change that is made, whose chunks enter the index; and event by event.
-use Rattle.std.proofs.Common.{◌≡◌, refl, sym, ap, ◌∙◌, subst, ℕ, ◌<◌, List, [], ◌∷◌, ◌++◌, length, None, Bool, true, false, inl, inr, arith}
+use Rattle.std.proofs.Common.{◌≡◌, sym, ap, ◌∙◌, subst, ℕ, ◌<◌, List, [], ◌∷◌, ◌++◌, length, None, Bool, true, false, inl, inr, arith}
 use Rattle.std.specs.Prelude.{Result, Ok, Err, ◌==◌, if◌then◌else◌, max, remove, slice_index_or}
 use Rattle.chunk_index.specs.Index.{Indexed}
 use Rattle.xdr_codec.specs.declared.status.Status.{Status}
 use Rattle.xdr_codec.specs.declared.status.Status.TheVariants as status
-use Rattle.xdr_codec.specs.declared.answer.Answer.{Answer}
-use Rattle.hash_calls.specs.declared.call.HashRange.{HashRange}
-use Rattle.hash_calls.specs.declared.call.Hashes.{Hashes}
 use Rattle.hash_calls.specs.declared.message.Lb.TheVariants as lb
 use Rattle.wire.specs.declared.message.Body.{Body}
 use Rattle.wire.specs.declared.message.Body.TheVariants as body
 use Rattle.wire.specs.declared.message.Message.{Message}
 use Rattle.wire.specs.declared.message.Message.TheVariants as message
-use Rattle.server_core.specs.declared.event.Event.{Event}
-use Rattle.server_core.specs.declared.event.Event.TheVariants as event
-use Rattle.server_core.specs.declared.event.ServerStep.{ServerStep}
+use Rattle.server_steps.specs.declared.event.Event.{Event}
+use Rattle.server_steps.specs.declared.event.Event.TheVariants as event
+use Rattle.server_steps.specs.declared.event.ServerStep.{ServerStep}
 use Rattle.tree_reading.specs.Tree.{Tree}
 use Rattle.file_tree.specs.Step.{replace}
 use Rattle.tree_plans.specs.declared.call.Changed.{Changed}
@@ -27,12 +24,11 @@ use Rattle.tree_calls.specs.declared.asked.Committing.{Committing}
 use Rattle.tree_calls.specs.declared.asked.Done.{Done}
 use Rattle.server_core.specs.declared.change.Wanted.TheVariants as wanted
 use Rattle.server_core.specs.declared.journal.Entry.{Entry}
-use Rattle.chunk_calls.specs.Answers.{Node, hash_answer, chunks_told}
-use Rattle.server_core.specs.Closing.{to, at, entries_by, count_of, index_with, committed_by, settled_by, told_change, makes_change, makes_change_under, settles, settles_under}
+use Rattle.server_core.specs.Closing.{at, entries_by, count_of, index_with, committed_by, settled_by, told_change, makes_change, makes_change_under, settles, settles_under}
 use Rattle.server_core.specs.Served.{IsServed}
 use Rattle.server_core.specs.State.{State, Change, held}
-use Rattle.chunk_calls.specs.Entering.{with_told, IsLacking}
-use Rattle.server_core.specs.Step.{tells_hashes, got_if, stands, change_entered, chunks_got, chunks_of_change, chunks_if, chunks_called, has_room, missed_step, Lacks, MissesCall, Misses, nothing, lacks}
+use Rattle.chunk_calls.specs.Entering.{IsLacking}
+use Rattle.server_core.specs.Step.{got_if, stands, change_entered, chunks_got, chunks_of_change, chunks_if, chunks_called, has_room, missed_step, Lacks, MissesCall, Misses, nothing, lacks}
 
 -- ---- a change that is made
 

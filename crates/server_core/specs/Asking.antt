@@ -5,7 +5,7 @@ use Rattle.xdr_codec.specs.declared.status.Status.TheVariants as status
 use Rattle.hash_calls.specs.declared.call.Commit.{Commit}
 use Rattle.temp_files.specs.Pieces.{size_most}
 use Rattle.temp_files.specs.Temps.{Temp, without_temp, assembled}
-use Rattle.chunk_calls.specs.Answers.{Node, directory, file, node_of, target_in}
+use Rattle.chunk_calls.specs.Answers.{file, node_of, target_in}
 use Rattle.server_core.specs.Closing.{has_waiting, is_full}
 use Rattle.server_core.specs.State.{State}
 use Rattle.server_core.specs.declared.change.Wanted.TheVariants as wanted

@@ -1,10 +1,9 @@
 -- What the server does for the calls of a close: MKTMPFILE, TMPWRITE, CONDWRITE and COMMITTMP, and how a change is made.
 use Rattle.std.specs.Prelude.{ℕ, ◌+◌, List, [], ◌∷◌, ◌++◌, length, Option, Some, None, Result, Ok, Err, Bool, false, ◌||◌, ◌==◌, max, nat_lt, if◌then◌else◌}
-use Rattle.limits.specs.declared.TheConstants.{PIECE_MOST, TREE_MOST, CHANGES_MOST}
+use Rattle.limits.specs.declared.TheConstants.{TREE_MOST, CHANGES_MOST}
 use Rattle.std.specs.List.{list_any}
 use Rattle.chunk_cut.specs.Chunks.{chunks_of}
 use Rattle.chunk_index.specs.Index.{Indexed, key_of, place_of, found}
-use Rattle.chunk_index.specs.declared.place.Place.{Place}
 use Rattle.xdr_codec.specs.declared.status.Status.{Status}
 use Rattle.xdr_codec.specs.declared.status.Status.TheVariants as status
 use Rattle.xdr_codec.specs.declared.answer.Answer.{Answer}
@@ -17,23 +16,19 @@ use Rattle.hash_calls.specs.declared.message.Lb.{Lb}
 use Rattle.hash_calls.specs.declared.message.Lb.TheVariants as lb
 use Rattle.wire.specs.declared.message.Body.{Body}
 use Rattle.wire.specs.declared.message.Body.TheVariants as body
-use Rattle.wire.specs.declared.message.Message.{Message}
 use Rattle.wire.specs.declared.message.Message.TheVariants as message
-use Rattle.wire.specs.declared.message.RpcRefusal.TheVariants as refusal
 use Rattle.temp_files.specs.Pieces.{size_most}
 use Rattle.temp_files.specs.Temps.{Temp, with_temp, without_temp, empty_temp, room_fault, piece_fault, with_piece, assembled}
 use Rattle.chunk_calls.specs.Writing.{done_unless, cond_fault, bytes_known}
-use Rattle.server_core.specs.declared.event.Sent.{Sent}
-use Rattle.server_core.specs.declared.event.ServerStep.{ServerStep}
-use Rattle.server_core.specs.declared.event.Told.TheVariants as told
+use Rattle.server_steps.specs.declared.event.ServerStep.{ServerStep}
+use Rattle.server_steps.specs.Steps.{sends, to}
+use Rattle.server_rules.specs.declared.told.Told.TheVariants as told
 use Rattle.server_core.specs.declared.change.Wanted.{Wanted}
 use Rattle.server_core.specs.declared.change.Wanted.TheVariants as wanted
 use Rattle.server_core.specs.declared.journal.Entry.{Entry}
 use Rattle.chunk_calls.specs.Answers.{Node, directory, file, node_of}
 use Rattle.chunk_places.specs.Places.{indexed}
-use Rattle.chunk_calls.specs.Indexing.{wanted_bytes, with_digest}
 use Rattle.server_core.specs.State.{State, Change, held, entries_held, bytes_held}
-use Rattle.chunk_calls.specs.Files.{file_at}
 use Rattle.tree_reading.specs.Tree.{Tree}
 use Rattle.tree_plans.specs.declared.entry.Entry.{Entry as TreeEntry}
 use Rattle.tree_calls.specs.Waiting.{commits_under as tree_commits_under, settles_under as tree_settles_under}
@@ -51,18 +46,6 @@ abbrev pub changes_most : ℕ
 changes_most = CHANGES_MOST
 
 -- ---- what is said
-
--- these messages are sent, and nothing else is told
-abbrev pub sends : List Sent → ServerStep
-sends send = record { send = send; told = told.Nothing; entries = 0; missed = false }
-
-abbrev pub to : ℕ → Message → ServerStep
-to session m = sends (record { session = session; message = m } ∷ [])
-
--- what is said of a call of LBFS that was looked at: a message that is none of its calls is refused
-abbrev pub told_if : (session xid : ℕ) → Option Lb → ServerStep
-told_if session xid None = to session (message.Refuse xid refusal.ProcUnavail)
-told_if session xid (Some m) = to session (message.Answer xid (body.Lb m))
 
 abbrev pub answers : State → (session xid : ℕ) → Lb → State × ServerStep
 answers s session xid b = (s, to session (message.Answer xid (body.Lb b)))

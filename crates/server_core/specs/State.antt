@@ -1,11 +1,6 @@
 -- What a server is.
-use Rattle.std.specs.Prelude.{ℕ, ◌+◌, List, [], ◌∷◌, length, Option, Some, None}
-use Rattle.chunk_cut.specs.Chunks.{chunks_of}
-use Rattle.chunk_cut.specs.declared.chunk.Chunk.{Chunk}
-use Rattle.tree_nodes.specs.declared.node.Node.{Node}
-use Rattle.tree_nodes.specs.declared.node.Body.{Body}
-use Rattle.tree_nodes.specs.declared.node.Body.TheVariants.{Directory, File as Content}
-use Rattle.tree_nodes.specs.Nodes.{with_id}
+use Rattle.std.specs.Prelude.{ℕ, ◌+◌, List, [], ◌∷◌, length}
+use Rattle.tree_nodes.specs.declared.node.Body.TheVariants.{File as Content}
 use Rattle.tree_reading.specs.Tree.{Tree, contents_size, empty as root_alone}
 use Rattle.tree_plans.specs.declared.call.Held.{Held}
 use Rattle.tree_calls.specs.Waiting.{entries_of}

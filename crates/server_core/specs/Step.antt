@@ -1,6 +1,6 @@
 -- One event of the server.
-use Rattle.std.specs.Prelude.{◌≡◌, ◌⊎◌, ℕ, ◌+◌, ◌<◌, ◌^◌, [], ◌∷◌, ◌++◌, List, length, Option, Some, None, IsSome, Result, Ok, Bool, true, false, ◌&&◌, ◌==◌, nat_lt, filter, not}
-use Rattle.limits.specs.declared.TheConstants.{SESSIONS_MOST, SESSIONS_EVER_MOST}
+use Rattle.std.specs.Prelude.{◌≡◌, ◌⊎◌, ℕ, ◌+◌, ◌<◌, ◌^◌, [], ◌∷◌, ◌++◌, List, length, Option, Some, None, IsSome, Result, Bool, true, false, ◌==◌, filter, not}
+use Rattle.server_rules.specs.Sessions.{has_place}
 use Rattle.std.specs.List.{list_any}
 use Rattle.xdr_codec.specs.declared.status.Status.{Status}
 use Rattle.xdr_codec.specs.declared.answer.Answer.{Answer}
@@ -20,10 +20,10 @@ use Rattle.chunk_index.specs.Index.{Indexed, key_of, place_of, put, cleared}
 use Rattle.chunk_index.specs.declared.place.Place.{Place}
 use Rattle.temp_files.specs.Temps.{temp_at, without_session, room_fault, piece_fault}
 use Rattle.chunk_calls.specs.Entering.{with_told, IsLacking}
-use Rattle.server_core.specs.declared.event.Event.{Event}
-use Rattle.server_core.specs.declared.event.Event.TheVariants as event
-use Rattle.server_core.specs.declared.event.ServerStep.{ServerStep}
-use Rattle.server_core.specs.declared.event.Told.TheVariants as told
+use Rattle.server_steps.specs.declared.event.Event.{Event}
+use Rattle.server_steps.specs.declared.event.Event.TheVariants as event
+use Rattle.server_steps.specs.declared.event.ServerStep.{ServerStep}
+use Rattle.server_rules.specs.declared.told.Told.TheVariants as told
 use Rattle.server_core.specs.declared.change.Wanted.{Wanted}
 use Rattle.server_core.specs.declared.change.Wanted.TheVariants as wanted
 use Rattle.server_core.specs.State.{State, Change, empty, held}
@@ -37,9 +37,9 @@ use Rattle.tree_calls.specs.declared.asked.Outcome.TheVariants.{Answered, Waits}
 use Rattle.chunk_calls.specs.Answers.{Node, file, node_of, lease_answer, hash_answer, chunks_told, IsFile}
 use Rattle.server_core.specs.Answers.{read_answer}
 use Rattle.server_core.specs.Asking.{CanWait}
-use Rattle.server_core.specs.Closing.{sends, to, at, has_waiting, entries_by, count_of, makes, writes, names, looked_up, commits, settles_under}
+use Rattle.server_core.specs.Closing.{at, has_waiting, entries_by, count_of, makes, writes, names, looked_up, commits, settles_under}
+use Rattle.server_steps.specs.Steps.{sends, to}
 use Rattle.chunk_calls.specs.Writing.{cond_fault, bytes_known}
-use Rattle.chunk_places.specs.Places.{indexed, LeavesSome}
 
 -- ---- a message
 
@@ -95,9 +95,8 @@ got_if_under s fault false session m now = (s, sends [])
 
 -- ---- a connection
 
--- at most 64 sessions stand at once, and at most 4,294,967,295 are ever made
 abbrev pub has_room : State → Bool
-has_room s = nat_lt (length s.sessions) SESSIONS_MOST && nat_lt s.sessions_made SESSIONS_EVER_MOST
+has_room s = has_place (length s.sessions) s.sessions_made
 
 abbrev pub connect : State → Bool → State × ServerStep
 connect s true = (record s { sessions = s.sessions ++ (s.sessions_made + 1) ∷ []; sessions_made = s.sessions_made + 1 }, record { send = []; told = told.Session (s.sessions_made + 1); entries = 0; missed = false })

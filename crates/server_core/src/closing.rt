@@ -10,24 +10,25 @@ ghost use Rattle.temp_files.specs.Pieces.{size_most};
 ghost use Rattle.temp_files.specs.Temps.{temp_at, without_temp, whole_of};
 ghost use Rattle.chunk_calls.specs.Answers.{node_of, target_in};
 ghost use Rattle.server_core.specs.Asking.{commit_target, CanWait, admits};
-ghost use Rattle.server_core.specs.Closing.{to, commits, is_full, tree_most};
+ghost use Rattle.server_core.specs.Closing.{commits, is_full, tree_most};
+ghost use Rattle.server_steps.specs.Steps.{to};
 ghost use Rattle.server_core.specs.State.{entries_held, waiting_size, size_wanted};
 ghost use Rattle.server_core.specs.View.{state_of, IsBounded, HasRoom};
 
 use crate::change::{Change, Wanted};
-use crate::event::ServerStep;
 use crate::state::ServerState;
-use crate::steps::{answer, nothing};
 use crate::waiting::{has_waiting, held};
 use chunk_calls::answers;
 use chunk_calls::contents::take_content;
 use hash_calls::call::Commit;
 use hash_calls::message::Lb;
 use limits::{CHANGES_MOST, FILE_MOST, TREE_MOST};
+use server_steps::event::ServerStep;
+use server_steps::steps::{answer, nothing};
 use std::alloc::{AllocError, Global};
 use store::store::Store;
+use stored_tree::places::places;
 use temp_files::temp::Temp;
-use tree_calls::changing::places;
 use wire::message::Body;
 use xdr_codec::answer::Answer;
 use xdr_codec::status::Status;
@@ -103,7 +104,8 @@ impl ServerState {
     {
         self.reserve()?;
         store.reserve(places(held(&self.waiting), 1)?)?;
-        let content = take_content(alloc, &mut self.temps, session, commit)?;
+        let ahead = self.ahead.take();
+        let content = take_content(alloc, &mut self.temps, ahead, session, commit)?;
         self.wait(Change {
             session,
             xid,

@@ -6,23 +6,24 @@ ghost use Rattle.server_core.specs.Step.{stands, hangs, hangs_if};
 ghost use Rattle.server_core.specs.View.{state_of, IsBounded};
 
 use crate::change::Change;
-use crate::event::ServerStep;
 use crate::state::{ServerState, stands};
-use crate::steps;
+use server_rules::sessions::stays;
+use server_steps::event::ServerStep;
+use server_steps::steps;
 use std::alloc::Global;
 
 /// The session no longer stands.
 fn leave(sessions: &mut Vec<u32>, session: u32)
     ensures { sessions.new.items ≡ filter (λ k. not (k == session)) sessions.old.items }
 {
-    sessions.retain(|k| *k != session);
+    sessions.retain(|k| stays(*k, session));
 }
 
 /// The session's changes wait no longer.
 fn withdraw(waiting: &mut Vec<Change>, session: u32)
     ensures { waiting.new.items ≡ filter (λ c. not (c.session == session)) waiting.old.items }
 {
-    waiting.retain(|change| change.session != session);
+    waiting.retain(|change| stays(change.session, session));
 }
 
 impl ServerState {

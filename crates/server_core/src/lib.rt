@@ -6,13 +6,11 @@
 
 pub mod change;
 mod closing;
-pub mod event;
 mod hanging;
 pub mod journal;
 mod naming;
 pub mod server;
 mod settling;
 mod state;
-mod steps;
 mod unkept;
 mod waiting;

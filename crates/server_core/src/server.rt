@@ -1,26 +1,30 @@
 //! The server. `specs/State.antt` says what it is, and `specs/Step.antt` what it does.
 
-ghost use Rattle.std.specs.Prelude.{◌≡◌, ◌≤◌, length, false, true, IfOk, OnOk, OnErr};
+ghost use Rattle.std.specs.Prelude.{◌≡◌, ◌≤◌, length, false, true, Some, IfOk, IfSome, OnOk, OnErr};
 ghost use Rattle.server_core.specs.Closing.{has_waiting};
 ghost use Rattle.server_core.specs.Served.{IsServed};
 ghost use Rattle.server_core.specs.State.{empty, entries_held};
 ghost use Rattle.server_core.specs.Step.{server_step, server_step_under, with_tree, opens_with, forges, clears_index, IsTimed, Misses};
 ghost use Rattle.stored_tree.specs.Stores.{Keeps};
 ghost use Rattle.file_tree.specs.Opening.{can_open};
+ghost use Rattle.temp_files.specs.Temps.{temp_at, whole_of};
 ghost use Rattle.tree_reading.specs.Reading.{stands_for};
 
-use crate::event::{Event, ServerStep};
 use crate::journal::Entry;
 use crate::state::ServerState;
 use crate::unkept::NoStore;
 use crate::waiting::has_waiting;
 use chunk_index::place::Place;
 use file_tree::tree::Tree;
+use hash_calls::call::Commit;
 use lb_base::items::Name;
+use server_steps::event::{Event, ServerStep};
+use shared_bytes::SharedBytes;
 use std::alloc::{AllocError, Global};
 use std::marker::Model;
 use store::store::Store;
 use temp_files::temps::Temps;
+use tree_nodes::content::Content;
 use tree_nodes::node::Body;
 use tree_reading::reading::Standing;
 
@@ -66,6 +70,7 @@ impl Server {
                 sessions: Vec::new(alloc),
                 sessions_made: 0,
                 moment: 0,
+                ahead: None,
             },
         })
     }
@@ -149,6 +154,23 @@ impl Server {
         self.state.sessions.len()
     }
 
+    /// An owner of the whole content of a temporary file of a session, where it has one of this size
+    /// and memory suffices. Nothing changes.
+    pub fn share_temp(&mut self, session: u32, commit: &Commit) -> Option<SharedBytes>
+        ensures whole { IfSome result (λ bytes. Some bytes ≡ whole_of (temp_at self.old.temps session commit.now.fd) commit.now.size) }
+        ensures same { self.new ≡ self.old }
+    {
+        self.state.temps.share(session, commit.fd, commit.size)
+    }
+
+    /// Keeps a content that was made ahead, or none, in place of the one that was kept. A COMMITTMP whose
+    /// content it is takes it, and comes to the same as without it. Nothing changes.
+    pub fn prepare(&mut self, ahead: Option<Content>)
+        ensures { self.new ≡ self.old }
+    {
+        self.state.ahead = ahead;
+    }
+
     /// One event, whose reading of the clock is below 2^63. Each change is given to the store before
     /// it is made, and before its answer goes out; where the store fails the answer is IO, and nothing
     /// has changed but that a change that waited is gone. Where memory is wanting the step says so: a
@@ -177,5 +199,10 @@ impl Server {
         let mut store = NoStore;
         let step = self.state.step(alloc, &mut store, event);
         step
+    }
+
+    /// The server goes: here, so that no crate above proves how each of its parts does.
+    pub fn let_go(self) {
+        drop(self);
     }
 }

@@ -1,7 +1,6 @@
 //! How a change that waits is made. `settles` in `specs/Closing.antt` says it.
 
 ghost use Rattle.std.specs.Prelude.{◌≡◌, ℕ, ◌+◌, ◌≤◌, ◌∷◌, ◌++◌, [], length, false, true, vec_capacity};
-ghost use Rattle.wire.specs.declared.message.Message.TheVariants as message;
 ghost use Rattle.stored_tree.specs.Stores.{Keeps};
 ghost use Rattle.tree_calls.specs.Calling.{IsCalled};
 ghost use Rattle.tree_calls.specs.Waiting.{commits_under, entries_of};
@@ -11,28 +10,27 @@ ghost use Rattle.server_core.specs.State.{entries_held, entries_wanted};
 ghost use Rattle.server_core.specs.Step.{Lacks, chunks_got, chunks_of_change, change_entered};
 ghost use Rattle.chunk_calls.specs.Entering.{IsLacking};
 ghost use Rattle.server_core.specs.View.{state_of, IsBounded, IsSettling};
-ghost use Rattle.server_core.specs.declared.event.Told.TheVariants as told;
 ghost use Rattle.server_core.specs.declared.change.Wanted.TheVariants as wanted;
 
 use crate::change::{Change, Wanted};
-use crate::event::{Sent, ServerStep, Told};
 use crate::journal::Entry;
 use crate::state::ServerState;
-use crate::steps;
 use crate::waiting::held;
 use chunk_calls::contents::ContentPair;
 use chunk_calls::entering::enter_content;
 use chunk_index::index::Index;
 use file_tree::tree::Tree;
 use hash_calls::message::Lb;
-use send_list::SendList;
+use server_rules::told::Told;
+use server_steps::event::ServerStep;
+use server_steps::steps::{self, tell_change};
 use std::alloc::Global;
 use store::store::Store;
 use tree_calls::asked::{Asked, Committing, Done};
 use tree_calls::settling;
 use tree_plans::call::Held;
 use tree_plans::entry::Entry as TreeEntry;
-use wire::message::{Body, Message};
+use wire::message::Body;
 use xdr_codec::answer::Answer;
 
 /// A place of the journal is taken for an entry, if there is one; says how many were.
@@ -74,19 +72,6 @@ pub fn enter_both(
 {
     let entered = enter(journal, session, first);
     entered + enter(journal, session, second)
-}
-
-/// The step that tells a session what became of its change. It takes no memory.
-fn tell_change(alloc: Global, session: u32, xid: u32, entries: u32, body: Body) -> ServerStep
-    ensures { result ≡ record { send = record { session = session; message = message.Answer xid body } ∷ []; told = told.Settled session xid; entries = entries; missed = false } }
-{
-    let message = Message::Answer(xid, body);
-    ServerStep {
-        send: SendList::one(alloc, Sent { session, message }),
-        told: Told::Settled { session, xid },
-        entries,
-        missed: false,
-    }
 }
 
 /// Gives a file a content that waited, if the file is there and the store keeps it; then the places of

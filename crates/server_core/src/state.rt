@@ -7,29 +7,32 @@ ghost use Rattle.hash_calls.specs.declared.message.Lb.TheVariants as lb;
 ghost use Rattle.wire.specs.declared.message.Body.TheVariants as body;
 ghost use Rattle.wire.specs.declared.message.Message.TheVariants as message;
 ghost use Rattle.wire.specs.declared.message.RpcRefusal.TheVariants as refusal;
-ghost use Rattle.server_core.specs.Closing.{at, sends, to, told_if};
+ghost use Rattle.server_core.specs.Closing.{at};
+ghost use Rattle.server_steps.specs.Steps.{sends, to, told_if};
 ghost use Rattle.chunk_calls.specs.Calling.{commits};
 ghost use Rattle.stored_tree.specs.Stores.{Keeps};
 ghost use Rattle.server_core.specs.Served.{IsServed};
 ghost use Rattle.server_core.specs.State.{entries_held};
 ghost use Rattle.server_core.specs.Step.{server_step_under, called, called_under, got_if_under, stands, connect, has_room, opens_with, chunks_called, IsTimed, missed_call, TakesMemory, Lacks, MissesCall, Misses};
 ghost use Rattle.server_core.specs.View.{state_of, IsBounded};
-ghost use Rattle.server_core.specs.declared.event.Event.TheVariants as event;
-ghost use Rattle.server_core.specs.declared.event.Told.TheVariants as told;
+ghost use Rattle.server_steps.specs.declared.event.Event.TheVariants as event;
+ghost use Rattle.server_rules.specs.declared.told.Told.TheVariants as told;
 
 use crate::change::Change;
-use crate::event::{Event, ServerStep, Told};
 use crate::journal::Entry;
-use crate::steps::{self, answer, refuse};
 use chunk_calls::calls::{self, Outcome};
 use chunk_index::index::Index;
 use file_tree::tree::Tree;
 use hash_calls::message::Lb;
 use lb_base::items::Name;
-use limits::{SESSIONS_EVER_MOST, SESSIONS_MOST};
+use server_rules::sessions::next_session;
+use server_rules::told::Told;
+use server_steps::event::{self, Event, ServerStep};
+use server_steps::steps::{self, refuse};
 use std::alloc::{AllocError, Global};
 use store::store::Store;
 use temp_files::temps::Temps;
+use tree_nodes::content::Content;
 use tree_nodes::node::Body as NodeBody;
 use wire::message::{Body, Message, RpcRefusal};
 
@@ -52,6 +55,9 @@ pub struct ServerState {
     pub sessions_made: u32,
     /// The last moment used, in milliseconds of the server's clock.
     pub moment: u64,
+    /// A content that was made ahead, for the COMMITTMP that comes next. It is no part of the state: a
+    /// COMMITTMP whose content it is cuts and hashes none, and comes to the same.
+    pub ahead: Option<Content>,
 }
 
 /// Whether the session stands.
@@ -59,16 +65,6 @@ pub fn stands(sessions: &Vec<u32>, session: u32) -> bool
     ensures { result ≡ list_any (λ k. k == session) sessions.now.items }
 {
     sessions.contains(&session)
-}
-
-/// What is said of a call of LBFS that was looked at.
-fn tell(alloc: Global, session: u32, xid: u32, told: Option<Lb>) -> ServerStep
-    ensures { result ≡ told_if session xid told }
-{
-    match told {
-        Some(told) => answer(alloc, session, xid, Body::Lb(told)),
-        None => refuse(alloc, session, xid, RpcRefusal::ProcUnavail),
-    }
 }
 
 impl ServerState {
@@ -102,7 +98,7 @@ impl ServerState {
                 now,
             } => {
                 let step = self.got(alloc, store, session, &mut message, now);
-                drop(message);
+                event::let_go(message);
                 step
             }
             Event::Settle { now } => self.settle(alloc, store, now),
@@ -121,12 +117,9 @@ impl ServerState {
         ensures tree { self.new.tree ≡ self.old.tree }
         ensures waiting { self.new.waiting.items ≡ self.old.waiting.items }
     {
-        if self.sessions.len() >= SESSIONS_MOST
-            || u64::from(self.sessions_made) >= SESSIONS_EVER_MOST
-        {
+        let Some(session) = next_session(self.sessions.len(), self.sessions_made) else {
             return steps::tell(alloc, Told::Full);
-        }
-        let session = self.sessions_made + 1;
+        };
         if self.sessions.push(session).is_err() {
             return steps::miss_connection(alloc);
         }
@@ -274,7 +267,7 @@ impl ServerState {
             answer: told,
             left_out,
         } = outcome;
-        let mut step = tell(alloc, session, xid, told);
+        let mut step = steps::answer_if(alloc, session, xid, told);
         step.missed = left_out;
         Ok(step)
     }

@@ -1,7 +1,6 @@
 -- Worked rows: with a store that doesn't fail each step is the tree's; with one that does, what would be done is told IO.
-use Rattle.std.specs.Prelude.{◌≡◌, ℕ, List, [], ◌∷◌, Ok, Err, codes, refl, true, false}
+use Rattle.std.specs.Prelude.{◌≡◌, [], ◌∷◌, Err, codes, refl, true, false}
 use Rattle.xdr_codec.specs.declared.status.Status.TheVariants.{Exist, Io, NoEnt}
-use Rattle.tree_nodes.specs.declared.node.Node.{Node}
 use Rattle.tree_nodes.specs.declared.node.Body.TheVariants.{Directory, File}
 use Rattle.file_tree.specs.Step.{create, mkdir, remove, rename, replace}
 use Rattle.tree_reading.specs.Tree.{Tree, root}

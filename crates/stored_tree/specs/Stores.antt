@@ -1,6 +1,5 @@
 -- Steps of a tree that a store is asked for first.
 use Rattle.std.specs.Prelude.{◌≡◌, ◌≤◌, ℕ, List, Option, Some, None, Result, Ok, Err, Bool, true, false, ◌==◌, if◌then◌else◌}
-use Rattle.lb_base.specs.Causes.{Rose}
 use Rattle.xdr_codec.specs.declared.status.Status.{Status}
 use Rattle.xdr_codec.specs.declared.status.Status.TheVariants as status
 use Rattle.store.specs.declared.record.Kept.{Kept}
@@ -9,6 +8,7 @@ use Rattle.store.specs.declared.record.NodeKind.TheVariants as node_kind
 use Rattle.tree_nodes.specs.declared.node.Node.{Node}
 use Rattle.file_tree.specs.Storing.{kind_of, IsStored}
 use Rattle.tree_reading.specs.Tree.{Tree}
+pub use Rattle.server_rules.specs.Asking.{IsFault}
 use Rattle.tree_plans.specs.declared.call.Changed.{Changed}
 
 -- ---- where the store fails, nothing is done, and IO is told; of a step that counts no change no store is asked
@@ -23,11 +23,6 @@ stored false t p = p
 stored true t p = fails t p p.1
 
 -- ---- what a caller knows
-
--- a store that failed has counted it
-abbrev pub IsFault : Bool → ℕ → ℕ → Type 0
-IsFault false before after = Unit {0}
-IsFault true before after = Rose before after
 
 -- the tree and the answer are those of the step, where the store failed or didn't
 pub record IsStep (before after : ℕ) (t : Tree) (p q : Tree × Result Changed Status) : Type 0 where

@@ -3,6 +3,6 @@
 //! keeps; the steps themselves are defined in `file_tree`.
 #![tactic(auto)]
 
-mod asking;
 pub mod pair;
+pub mod places;
 pub mod steps;

@@ -7,7 +7,7 @@ use std::alloc::{AllocError, Global};
 use std::marker::Model;
 
 /// A name, and a copy of it. Contracts see the name.
-#[derive(Drop, Debug)]
+#[derive(Drop)]
 pub struct NamePair {
     name: Name,
     copy: Name,

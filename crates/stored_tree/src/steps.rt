@@ -9,10 +9,10 @@ ghost use Rattle.file_tree.specs.Step.{create, mkdir, remove, rmdir, rename, rep
 ghost use Rattle.tree_plans.specs.declared.call.Planned.TheVariants.{Free, Over};
 ghost use Rattle.stored_tree.specs.Stores.{IsStep, Keeps, kind_if, kind_found, id_found};
 
-use crate::asking::ask;
 use crate::pair::NamePair;
 use file_tree::tree::Tree;
 use lb_base::items::Name;
+use server_rules::asking::ask;
 use shared_bytes::SharedBytes;
 use store::record::{Change, ContentRecord, NodeKind, NodeRecord};
 use store::store::Store;

@@ -1,5 +1,5 @@
 -- Worked rows: what each call is answered, in the order of its checks, what waits, and what it comes to.
-use Rattle.std.specs.Prelude.{◌≡◌, ℕ, List, [], ◌∷◌, map, replicate, codes, refl, Option, Some, None, Ok, Bool, true, false}
+use Rattle.std.specs.Prelude.{◌≡◌, ℕ, List, [], ◌∷◌, map, replicate, codes, refl, Option, Some, None, Bool, true, false}
 use Rattle.sha1.specs.Sha1.{sha1}
 use Rattle.xdr_codec.specs.Handle.{handle_bytes}
 use Rattle.xdr_codec.specs.declared.answer.Answer.{Answer}
@@ -28,7 +28,7 @@ use Rattle.tree_calls.specs.declared.asked.Asked.{Asked}
 use Rattle.tree_calls.specs.declared.asked.Asked.TheVariants as asked
 use Rattle.tree_calls.specs.declared.asked.Outcome.{Outcome}
 use Rattle.tree_calls.specs.declared.asked.Outcome.TheVariants as outcome
-use Rattle.tree_calls.specs.Telling.{told, answer_of}
+use Rattle.tree_calls.specs.Telling.{told}
 use Rattle.tree_calls.specs.Waiting.{calls, settles, commits, calls_under, settles_under, commits_under, file_of}
 
 -- ---- a tree: a file "a", a directory "d" that has a directory "s" and a file "x", and an empty directory "e"

@@ -1,5 +1,5 @@
 -- REMOVE of a file and RENAME over a file (RFC 1813, sections 3.3.12 and 14), which wait until nothing blocks them; COMMITTMP once it's made; and any call.
-use Rattle.std.specs.Prelude.{ℕ, List, Option, Some, None, Result, Ok, Err, IsOk, is_ok, Bool, true, false, ◌&&◌, ◌==◌, if◌then◌else◌}
+use Rattle.std.specs.Prelude.{ℕ, List, Option, Some, None, Result, Ok, Err, IsOk, is_ok, Bool, true, false, ◌&&◌, if◌then◌else◌}
 use Rattle.xdr_codec.specs.declared.answer.Answer.TheVariants as answer
 use Rattle.xdr_codec.specs.declared.status.Status.{Status}
 use Rattle.xdr_codec.specs.declared.status.Status.TheVariants as status
@@ -9,7 +9,7 @@ use Rattle.nfs3_calls.specs.declared.message.Nfs.TheVariants as nfs
 use Rattle.tree_nodes.specs.declared.node.Node.{Node}
 use Rattle.tree_reading.specs.Chain.{◌>>=◌}
 use Rattle.tree_reading.specs.Reading.{stands_for, version}
-use Rattle.tree_plans.specs.Plans.{create_plan, may_mkdir, remove_plan, rmdir_plan, rename_plan}
+use Rattle.tree_plans.specs.Plans.{create_plan, may_mkdir, remove_plan, rmdir_plan, rename_plan, is_node}
 use Rattle.file_tree.specs.Step.{remove, replace}
 use Rattle.tree_reading.specs.Tree.{Tree}
 use Rattle.tree_plans.specs.declared.call.Changed.{Changed}
@@ -74,10 +74,6 @@ rename_comes busy found (Ok (planned.Free c)) = Ok None
 rename_comes busy found (Ok (planned.Over c)) = over_comes busy found >>= λ file. Ok (with_node c.id file)
 
 -- ---- once nothing blocks it: the file is to be there (STALE), and each name to stand for the node that it stood for (JUKEBOX)
-
-abbrev pub is_node : ℕ → Option Standing → Bool
-is_node id None = false
-is_node id (Some n) = n.id == id
 
 abbrev pub still : List Node → Spot → ℕ → Result Unit Status
 still nodes s id = if is_node id (stands_for nodes s.dir s.name) then Ok tt else Err status.Jukebox

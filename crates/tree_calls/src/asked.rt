@@ -22,16 +22,15 @@ pub struct Done {
 }
 
 /// A file that is to be removed.
-#[derive(Drop, Debug)]
+#[derive(Drop)]
 pub struct Removing {
     pub spot: Spot,
     /// The id of the file that the name stood for.
     pub file: u64,
 }
 
-/// A name in a directory that a node is to get, and a store is to keep: it comes twice. Contracts see
-/// the name in its directory.
-#[derive(Drop, Debug)]
+/// A name that a node is to get in a directory, twice: a store keeps it too. Contracts see it once.
+#[derive(Drop)]
 pub struct NewSpot {
     dir: u64,
     name: NamePair,
@@ -79,7 +78,7 @@ impl NewSpot {
 }
 
 /// A node that is to get the name of a file, which goes.
-#[derive(Drop, Debug)]
+#[derive(Drop)]
 pub struct Renaming {
     pub from: Spot,
     pub to: NewSpot,
@@ -90,7 +89,7 @@ pub struct Renaming {
 }
 
 /// A change that waits.
-#[derive(Drop, Debug)]
+#[derive(Drop)]
 pub enum Asked {
     Remove(Removing),
     Rename(Renaming),

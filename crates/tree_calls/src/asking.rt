@@ -10,7 +10,7 @@ ghost use Rattle.tree_calls.specs.Changing.{no_side, said};
 ghost use Rattle.tree_calls.specs.Waiting.{busy_first, remove_comes, is_over_file, over_comes, rename_comes, removing, asks_remove, renaming_under, asks_rename};
 
 use crate::asked::{Asked, Done, NewSpot, Outcome, Removing, Renaming};
-use crate::changing::{self, places};
+use crate::changing;
 use crate::naming::spot_of;
 use crate::sides::{no_side, said};
 use file_tree::tree::Tree;
@@ -19,6 +19,7 @@ use nfs3_calls::message::Nfs;
 use std::alloc::{AllocError, Global};
 use store::store::Store;
 use stored_tree::pair::NamePair;
+use stored_tree::places::places;
 use tree_plans::call::{Changed, Held, Planned};
 use tree_reading::reading::Standing;
 use xdr_codec::answer::Answer;

@@ -20,6 +20,7 @@ use nfs3_calls::message::Nfs;
 use std::alloc::{AllocError, Global};
 use store::store::Store;
 use stored_tree::pair::NamePair;
+use stored_tree::places::places;
 use stored_tree::steps;
 use tree_plans::call::{Changed, CreateMode, Held};
 use xdr_codec::answer::Answer;
@@ -47,17 +48,6 @@ fn made_of(tree: &Tree, before: Option<Before>, dir: u64, handle: Handle, change
         attr: known(tree, changed.id),
         dir: both_sides(tree, before, dir),
     }
-}
-
-/// How many places a store needs for all changes that wait, one an entry, and for so many more. The
-/// one error is want of memory, as which a number beyond 32 bits counts too.
-pub fn places(held: Held, more: u8) -> Result<u32, AllocError>
-    ensures { IfOk result (λ n. n ≡ held.entries + more) }
-{
-    if held.entries > u64::from(u32::MAX - 255) {
-        return Err(AllocError);
-    }
-    Ok(held.entries as u32 + u32::from(more))
 }
 
 /// What a node that is to be made needs: its handle, its name twice, a place in the tree and two in

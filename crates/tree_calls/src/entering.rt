@@ -1,7 +1,7 @@
 //! Which calls may make entries of the journal (`enters` in `specs/Waiting.antt`). None of this takes
 //! memory.
 
-ghost use Rattle.std.specs.Prelude.{◌≡◌};
+ghost use Rattle.std.specs.Prelude.{◌≡◌, false};
 ghost use Rattle.nfs3_calls.specs.declared.message.Nfs.TheVariants as nfs;
 ghost use Rattle.tree_calls.specs.Waiting.{enters};
 
@@ -14,10 +14,9 @@ use nfs3_calls::message::Nfs;
 use nfs3_calls::place::{Place, Rename};
 use tree_plans::call::Held;
 
-fn create_enters(tree: &Tree, held: Held, busy: bool, new: &NewFile) -> bool
-    ensures { result ≡ enters tree.now.tree held busy (nfs.Create new.now) }
+fn create_enters(tree: &Tree, held: Held, new: &NewFile) -> bool
+    ensures { result ≡ enters tree.now.tree held false (nfs.Create new.now) }
 {
-    let _busy = busy;
     let name = new.place.name.as_slice();
     match id_of(&new.place.dir) {
         Ok(dir) => tree.plan_create(dir, name, mode_of(&new.how), held).is_ok(),
@@ -25,10 +24,9 @@ fn create_enters(tree: &Tree, held: Held, busy: bool, new: &NewFile) -> bool
     }
 }
 
-fn mkdir_enters(tree: &Tree, held: Held, busy: bool, new: &NewDir) -> bool
-    ensures { result ≡ enters tree.now.tree held busy (nfs.MkDir new.now) }
+fn mkdir_enters(tree: &Tree, held: Held, new: &NewDir) -> bool
+    ensures { result ≡ enters tree.now.tree held false (nfs.MkDir new.now) }
 {
-    let _busy = busy;
     let name = new.place.name.as_slice();
     match id_of(&new.place.dir) {
         Ok(dir) => tree.plan_mkdir(dir, name, held).is_ok(),
@@ -45,10 +43,9 @@ fn remove_enters(tree: &Tree, held: Held, busy: bool, place: &Place) -> bool
     }
 }
 
-fn rmdir_enters(tree: &Tree, held: Held, busy: bool, place: &Place) -> bool
-    ensures { result ≡ enters tree.now.tree held busy (nfs.RmDir place.now) }
+fn rmdir_enters(tree: &Tree, held: Held, place: &Place) -> bool
+    ensures { result ≡ enters tree.now.tree held false (nfs.RmDir place.now) }
 {
-    let _busy = busy;
     match id_of(&place.dir) {
         Ok(dir) => tree.plan_rmdir(dir, place.name.as_slice(), held).is_ok(),
         Err(_) => false,
@@ -75,10 +72,10 @@ pub fn enters(tree: &Tree, call: &Nfs, held: Held, busy: bool) -> bool
     ensures { result ≡ enters tree.now.tree held busy call.now }
 {
     match call {
-        Nfs::Create(new) => create_enters(tree, held, busy, new),
-        Nfs::MkDir(new) => mkdir_enters(tree, held, busy, new),
+        Nfs::Create(new) => create_enters(tree, held, new),
+        Nfs::MkDir(new) => mkdir_enters(tree, held, new),
         Nfs::Remove(place) => remove_enters(tree, held, busy, place),
-        Nfs::RmDir(place) => rmdir_enters(tree, held, busy, place),
+        Nfs::RmDir(place) => rmdir_enters(tree, held, place),
         Nfs::Rename(rename) => rename_enters(tree, held, busy, rename),
         _ => false,
     }

@@ -5,7 +5,7 @@ ghost use Rattle.std.specs.Prelude.{◌≡◌, ◌+◌, ◌≤◌, Ok};
 ghost use Rattle.stored_tree.specs.Stores.{Keeps};
 ghost use Rattle.tree_calls.specs.Calling.{IsCalled};
 ghost use Rattle.tree_calls.specs.Changing.{before, removed};
-ghost use Rattle.tree_calls.specs.Waiting.{is_node, still, remove_again, rename_again, removes_if_under, renames_if_under, settles_under, committed, commits_under, spot_of, entries_of};
+ghost use Rattle.tree_calls.specs.Waiting.{still, remove_again, rename_again, removes_if_under, renames_if_under, settles_under, committed, commits_under, spot_of, entries_of};
 
 use crate::asked::{Asked, Committing, Done, Removing, Renaming};
 use crate::asking::refuse_remove;
@@ -20,18 +20,9 @@ use store::store::Store;
 use stored_tree::steps;
 use tree_nodes::content::Content;
 use tree_plans::call::{Changed, Held, Spot};
-use tree_reading::reading::Standing;
+use tree_plans::checks::is_node;
 use xdr_codec::answer::Answer;
 use xdr_codec::status::Status;
-
-fn is_node(id: u64, found: Option<Standing>) -> bool
-    ensures { result ≡ is_node id found }
-{
-    match found {
-        Some(standing) => standing.id == id,
-        None => false,
-    }
-}
 
 // Whether a name still stands for a node.
 fn still(tree: &Tree, dir: u64, name: &[u8], id: u64) -> Result<(), Status>

@@ -19,6 +19,7 @@ use Rattle.tree_plans.specs.declared.call.Call.TheVariants as call
 use Rattle.tree_plans.specs.declared.call.Changed.{Changed}
 use Rattle.tree_plans.specs.declared.call.Planned.{Planned}
 use Rattle.tree_plans.specs.declared.call.Planned.TheVariants.{Nothing, Free, Over}
+use Rattle.tree_reading.specs.declared.reading.Standing.{Standing}
 use Rattle.tree_reading.specs.Names.{spelt, undotted}
 use Rattle.tree_reading.specs.Tree.{changes_most, file_most, tree_most, Tree, is_directory, contents_size, node_of, directory_or, file_or, directory_of, or_no_entry, or_taken, is_within}
 
@@ -152,6 +153,12 @@ within_file len = if nat_lt file_most len then Err status.FBig else Ok tt
 abbrev pub may_replace_content : Tree → Held → ℕ → ℕ → Result Node Status
 may_replace_content t held id len =
     node_of t.nodes id >>= file_or status.IsDir >>= λ n. within_file len >>= λ _. spared t.changes held 1 >>= λ _. spared_bytes (contents_size t.nodes) held len >>= λ _. Ok n
+
+-- ---- a call that waited is to find under a name the node that stood there when it came
+
+abbrev pub is_node : ℕ → Option Standing → Bool
+is_node id None = false
+is_node id (Some n) = n.id == id
 
 -- ---- what each call comes to
 

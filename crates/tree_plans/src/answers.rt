@@ -5,6 +5,7 @@ ghost use Rattle.tree_plans.specs.Plans.{made_entry, name_entry, commit_entry, g
 
 use crate::call::Changed;
 use crate::entry::{Entry, EntryKind};
+use server_rules::tree::two_entries;
 use tree_nodes::content::Content;
 use tree_nodes::node::{Body, Node};
 
@@ -119,10 +120,11 @@ pub fn move_over_done(node: &Node, gone: &Node) -> Changed
     requires { gone.now.version < 2 ^ 32 }
     ensures { result ≡ move_done node.now (Some gone.now) }
 {
+    let (first, second) = two_entries(gone_entry(gone), name_entry(node.id));
     Changed {
         id: node.id,
         version: node.version,
-        first: Some(gone_entry(gone)),
-        second: Some(name_entry(node.id)),
+        first,
+        second,
     }
 }

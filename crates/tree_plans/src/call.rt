@@ -4,7 +4,7 @@ use crate::entry::Entry;
 use lb_base::items::Name;
 
 /// How a file is made (RFC 1813, section 3.3.8: createmode3).
-#[derive(Clone, Copy, Debug, PartialEq, Eq, Drop)]
+#[derive(Clone, Copy, Drop)]
 pub enum CreateMode {
     /// Also where the name is taken by a file, which then stays as it is.
     Unchecked,
@@ -15,14 +15,14 @@ pub enum CreateMode {
 }
 
 /// How many entries and bytes the changes that wait will need, but for the change that is made.
-#[derive(Clone, Copy, Debug, PartialEq, Eq, Drop)]
+#[derive(Clone, Copy, Drop)]
 pub struct Held {
     pub entries: u64,
     pub bytes: u64,
 }
 
 /// A name in a directory.
-#[derive(Drop, Debug)]
+#[derive(Drop)]
 pub struct Spot {
     /// The directory's id.
     pub dir: u64,
@@ -30,7 +30,7 @@ pub struct Spot {
 }
 
 /// A call that changes the tree.
-#[derive(Drop, Debug)]
+#[derive(Drop)]
 pub enum Call {
     Create(Spot, CreateMode),
     MkDir(Spot),
@@ -42,7 +42,7 @@ pub enum Call {
 }
 
 /// What a change came to.
-#[derive(Clone, Copy, Debug, PartialEq, Eq, Drop)]
+#[derive(Clone, Copy, Drop)]
 pub struct Changed {
     /// The node that was made, removed, moved or replaced.
     pub id: u64,
@@ -54,7 +54,7 @@ pub struct Changed {
 }
 
 /// What a RENAME comes to.
-#[derive(Clone, Copy, Debug, PartialEq, Eq, Drop)]
+#[derive(Clone, Copy, Drop)]
 pub enum Planned {
     /// One node has both names: nothing is to be done.
     Nothing(Changed),

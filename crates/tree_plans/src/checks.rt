@@ -2,20 +2,22 @@
 
 ghost use Rattle.std.specs.Prelude.{◌≡◌, ◌-◌, ◌<◌, ◌^◌, ◌==◌, length};
 ghost use Rattle.tree_nodes.specs.Nodes.{names};
-ghost use Rattle.tree_plans.specs.Plans.{spared, spared_bytes, within_file, or_not_empty, or_within, may_replace};
+ghost use Rattle.tree_plans.specs.Plans.{spared, spared_bytes, within_file, or_not_empty, or_within, may_replace, is_node};
 
 use crate::call::Held;
-use limits::{CHANGES_MOST, FILE_MOST, TREE_MOST};
+use limits::{FILE_MOST, TREE_MOST};
+use server_rules::tree::{are_too_many, is_still};
 use tree_nodes::node::Node;
 use tree_nodes::nodes::Nodes;
 use tree_reading::finding::{is_directory, is_within};
+use tree_reading::reading::Standing;
 use xdr_codec::status::Status;
 
 /// Whether so many changes more may be made.
 pub fn spared(changes: u64, held: Held, more: u64) -> Result<(), Status>
     ensures { result ≡ spared changes held more }
 {
-    if changes as u128 + held.entries as u128 + more as u128 > CHANGES_MOST as u128 {
+    if are_too_many(changes, held.entries, more) {
         return Err(Status::NoSpc);
     }
     Ok(())
@@ -87,4 +89,15 @@ pub fn or_within(nodes: &Nodes, node: &Node, to: u64) -> Result<(), Status>
         return Err(Status::Inval);
     }
     Ok(())
+}
+
+/// Whether what a name stands for is the node of this id: one that waited is to find the node that
+/// stood there when it came.
+pub fn is_node(id: u64, found: Option<Standing>) -> bool
+    ensures { result ≡ is_node id found }
+{
+    match found {
+        Some(standing) => is_still(standing.id, id),
+        None => false,
+    }
 }

@@ -4,7 +4,7 @@
 use xdr_codec::digest::Digest;
 
 /// What kind of change was made.
-#[derive(Clone, Copy, Debug, PartialEq, Eq, Drop)]
+#[derive(Clone, Copy, Drop)]
 pub enum EntryKind {
     /// A file was made.
     Make,
@@ -17,7 +17,7 @@ pub enum EntryKind {
 }
 
 /// A change of a node, without the session that asked for it.
-#[derive(Clone, Copy, Debug, PartialEq, Eq, Drop)]
+#[derive(Clone, Copy, Drop)]
 pub struct Entry {
     /// The id of the file, or of the directory.
     pub file: u64,

@@ -1,4 +1,4 @@
-use Rattle.std.proofs.Common.{ℕ, List, Some, sym, ap, ◌∙◌}
+use Rattle.std.proofs.Common.{ℕ, List, sym, ap, ◌∙◌}
 use Rattle.store.specs.declared.record.Change.TheVariants as change
 use Rattle.store.specs.declared.record.NodeKind.TheVariants as node_kind
 use Rattle.file_tree.specs.Step.{mkdir}

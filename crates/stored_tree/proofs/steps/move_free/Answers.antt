@@ -1,4 +1,4 @@
-use Rattle.std.proofs.Common.{ℕ, List, Some, sym, ap, ◌∙◌}
+use Rattle.std.proofs.Common.{ℕ, List, sym, ap, ◌∙◌}
 use Rattle.store.specs.declared.record.Change.TheVariants as change
 use Rattle.tree_nodes.specs.Nodes.{named}
 use Rattle.file_tree.specs.Step.{rename}

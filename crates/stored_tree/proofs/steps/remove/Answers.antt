@@ -1,4 +1,4 @@
-use Rattle.std.proofs.Common.{refl, sym, ap, ◌∙◌}
+use Rattle.std.proofs.Common.{refl, sym}
 use Rattle.stored_tree.proofs.Stepping.{remove_kept}
 use Rattle.stored_tree.proofs.steps.remove.Goals as goal
 

@@ -1,4 +1,4 @@
-use Rattle.std.proofs.Common.{refl, sym, ap, ◌∙◌}
+use Rattle.std.proofs.Common.{refl, sym}
 use Rattle.stored_tree.proofs.Stepping.{rmdir_kept}
 use Rattle.stored_tree.proofs.steps.rmdir.Goals as goal
 

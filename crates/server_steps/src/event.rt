@@ -1,6 +1,10 @@
-//! What happens to a server, and what it does then. `specs/Step.antt` says what it does.
+//! What happens to a server, and what it does then. `specs/Step.antt` of `server_core` says what it does.
+
+ghost use Rattle.std.specs.Prelude.{◌≡◌, []};
 
 use send_list::SendList;
+use server_rules::told::Told;
+use std::alloc::Global;
 use wire::message::Message;
 
 /// What happens to a server.
@@ -31,24 +35,6 @@ pub struct Sent {
     pub message: Message,
 }
 
-/// What an event that asks for something is told.
-#[derive(Clone, Copy, Debug, PartialEq, Eq, Drop)]
-pub enum Told {
-    /// It asked for nothing.
-    Nothing,
-    /// The number of the session that a connection made.
-    Session(u32),
-    /// No further session can stand.
-    Full,
-    /// There was no memory for a further session.
-    Memory,
-    /// A change left the queue: the session that asked for it, under this xid. It was made, or its
-    /// file is gone, or a name stands for another node.
-    Settled { session: u32, xid: u32 },
-    /// No change waits that can be made.
-    NotReady,
-}
-
 /// What a server does in one step.
 #[derive(Drop)]
 pub struct ServerStep {
@@ -60,4 +46,26 @@ pub struct ServerStep {
     /// Whether memory ran out. A call is then answered SYSTEM_ERR, a connection is told so, and
     /// nothing else is done; or all is done but that places are missing in the index of chunks.
     pub missed: bool,
+}
+
+/// A message that was taken goes.
+pub fn let_go(message: Message) {
+    drop(message);
+}
+
+/// A step whose messages nobody wants goes.
+pub fn let_go_step(step: ServerStep) {
+    drop(step);
+}
+
+/// Messages that were looked at go.
+pub fn let_go_sent(sent: SendList<Sent>) {
+    drop(sent);
+}
+
+/// No message. It takes no memory.
+pub fn none_sent(alloc: Global) -> SendList<Sent>
+    ensures { result ≡ [] }
+{
+    SendList::none(alloc)
 }

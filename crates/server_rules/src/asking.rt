@@ -1,9 +1,9 @@
-//! A change that a store is asked to keep (`IsFault` in `specs/Stores.antt`).
+//! A change that a store is asked to keep (`IsFault` in `specs/Asking.antt`).
 
 ghost use Rattle.std.specs.Prelude.{◌≡◌, ◌+◌, ◌≤◌, if◌then◌else◌};
 ghost use Rattle.std.specs.Option.{option_map};
 ghost use Rattle.store.specs.Records.{applied, places};
-ghost use Rattle.stored_tree.specs.Stores.{IsFault};
+ghost use Rattle.server_rules.specs.Asking.{IsFault};
 
 use store::record::{Change, Head};
 use store::store::Store;

@@ -1,0 +1,17 @@
+//! The places that changes take in a store: one an entry.
+
+ghost use Rattle.std.specs.Prelude.{◌≡◌, ◌+◌, IfOk};
+
+use std::alloc::AllocError;
+use tree_plans::call::Held;
+
+/// How many places a store needs for all changes that wait, one an entry, and for so many more. The
+/// one error is want of memory, as which a number beyond 32 bits counts too.
+pub fn places(held: Held, more: u8) -> Result<u32, AllocError>
+    ensures { IfOk result (λ n. n ≡ held.entries + more) }
+{
+    if held.entries > u64::from(u32::MAX - 255) {
+        return Err(AllocError);
+    }
+    Ok(held.entries as u32 + u32::from(more))
+}
