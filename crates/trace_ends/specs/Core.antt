@@ -1,6 +1,6 @@
 -- The two ends of a trace and what the history tells of them, apart from the bytes between them. Each step here is one of the
 -- core, and answers the messages that it sends: how they come to the other end is the business of the world.
-use Rattle.std.specs.Prelude.{ℕ, ◌+◌, List, [], ◌∷◌, ◌++◌, drop, find, length, replicate, Option, Some, None, Result, Ok, Err, Bool, true, false}
+use Rattle.std.specs.Prelude.{ℕ, ◌+◌, ◌-◌, List, [], ◌∷◌, ◌++◌, drop, find, length, replicate, Option, Some, None, Result, Ok, Err, Bool, true, false}
 use Rattle.std.specs.Option.{option_map}
 use Rattle.wire.specs.Parse.{parse_of}
 use Rattle.wire.specs.declared.message.Message.{Message}
@@ -12,11 +12,11 @@ use Rattle.tree_plans.specs.declared.entry.EntryKind.{EntryKind}
 use Rattle.tree_plans.specs.declared.entry.EntryKind.TheVariants as kind
 use Rattle.server_core.specs.State as server
 use Rattle.server_core.specs.Step.{server_step, forges, clears_index}
-use Rattle.server_core.specs.declared.event.Event.TheVariants as event
-use Rattle.server_core.specs.declared.event.Sent.{Sent}
-use Rattle.server_core.specs.declared.event.Told.{Told}
+use Rattle.server_steps.specs.declared.event.Event.TheVariants as event
+use Rattle.server_steps.specs.declared.event.Sent.{Sent}
+use Rattle.server_rules.specs.declared.told.Told.{Told}
 use Rattle.server_core.specs.declared.journal.Entry.{Entry}
-use Rattle.server_core.specs.declared.event.Told.TheVariants as told
+use Rattle.server_rules.specs.declared.told.Told.TheVariants as told
 use Rattle.client_state.specs.State as client
 use Rattle.open_close.specs.Step.{command_step, got_step}
 use Rattle.client_state.specs.Ending.{joined, cut}
@@ -81,9 +81,9 @@ idles k = quiet (record k { steps = k.steps + 1 })
 
 -- ---- the journal
 
--- the entries that the journal has in one state beyond those that it has in another, before
-abbrev pub entries_since : server.State → server.State → List Entry
-entries_since before after = drop (length before.journal) after.journal
+-- the newest entries of the journal, so many as a step tells that it made
+abbrev pub newest_entries : (journal : List Entry) → (made : ℕ) → List Entry
+newest_entries journal made = drop (length journal - made) journal
 
 -- whether an entry of the journal is about a file's content, and not about a name
 abbrev pub is_of_file : EntryKind → Bool
@@ -109,7 +109,7 @@ server_got k number now x m =
       steps = k.steps + 1;
       server = r.0;
       sessions = with_numbered k.sessions number (record x { taken = taken_with x.taken m (k.steps + 1) });
-      ops = pointed_at k.ops x.closing (k.steps + 1) (changed_file (entries_since k.server r.0));
+      ops = pointed_at k.ops x.closing (k.steps + 1) (changed_file (newest_entries r.0.journal r.1.entries));
       entries = k.entries ++ replicate r.1.entries (k.steps + 1);
     })) { down = r.1.send }
 
@@ -213,7 +213,7 @@ settles k now =
     record (quiet (record k {
       steps = k.steps + 1;
       server = r.0;
-      ops = settled_by k (changed_file (entries_since k.server r.0)) r.1.told;
+      ops = settled_by k (changed_file (newest_entries r.0.journal r.1.entries)) r.1.told;
       entries = k.entries ++ replicate r.1.entries (k.steps + 1);
     })) { down = r.1.send }
 

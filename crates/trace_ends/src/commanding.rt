@@ -10,15 +10,16 @@ ghost use Rattle.trace_ends.specs.View.{core_of, core_step_of};
 
 use crate::core_step::{CoreStep, Loss};
 use crate::world_core::{Core, count_on};
+use client_state::drops;
 use client_state::step::ClientStep;
 use command_text::command::Command;
 use open_close::client::Client;
 use register_model::op::{Op, Word};
 use shared_bytes::SharedBytes;
 use std::alloc::{AllocError, Global};
+use trace_numbers::place_of;
 use trace_ops::commands::{file_of, value_at_begin, word_of};
 use trace_ops::ops;
-use trace_sessions::numbered::place_of;
 use trace_sessions::session::{Session, short_number};
 
 /// What a command leaves of its client's newest session.
@@ -118,7 +119,7 @@ fn does_at(
     match done {
         Ok(()) => Ok(CoreStep::acted(alloc, Loss::Nothing, session, acts)),
         Err(error) => {
-            drop(acts);
+            drops::step(acts);
             Err(error)
         }
     }

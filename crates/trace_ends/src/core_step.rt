@@ -3,12 +3,13 @@
 
 ghost use Rattle.std.specs.Prelude.{◌≡◌, [], None};
 ghost use Rattle.client_state.specs.declared.step.ClientStep.{ClientStep as Acts};
-ghost use Rattle.server_core.specs.declared.event.ServerStep.{ServerStep as Served};
+ghost use Rattle.server_steps.specs.declared.event.ServerStep.{ServerStep as Served};
 ghost use Rattle.trace_ends.specs.declared.core_step.Loss.TheVariants as losses;
 
 use client_state::step::ClientStep;
+use client_state::{drops, sending};
 use send_list::SendList;
-use server_core::event::{Sent, ServerStep};
+use server_steps::event::{Sent, ServerStep, let_go_sent, none_sent};
 use std::alloc::Global;
 use wire::message::Message;
 
@@ -45,8 +46,8 @@ impl CoreStep {
         CoreStep {
             loss,
             session: None,
-            up: SendList::none(alloc),
-            down: SendList::none(alloc),
+            up: sending::none(alloc),
+            down: none_sent(alloc),
         }
     }
 
@@ -67,13 +68,15 @@ impl CoreStep {
             loss,
             session,
             up: send,
-            down: SendList::none(alloc),
+            down: none_sent(alloc),
         }
     }
 
     /// What was sent is let go: here, so that no crate above proves how each part of a message is.
     pub fn let_go(self) {
-        drop(self);
+        let CoreStep { up, down, .. } = self;
+        drops::messages(up);
+        let_go_sent(down);
     }
 
     /// What the server did in a step is sent.
@@ -84,7 +87,7 @@ impl CoreStep {
         CoreStep {
             loss: Loss::Nothing,
             session: None,
-            up: SendList::none(alloc),
+            up: sending::none(alloc),
             down: send,
         }
     }

@@ -3,7 +3,7 @@
 
 ghost use Rattle.std.specs.Prelude.{◌≡◌, ◌+◌, ◌<◌, length, slice_get, IfOk, OnOk};
 ghost use Rattle.server_core.specs.Step.{server_step};
-ghost use Rattle.server_core.specs.declared.event.Event.TheVariants as event;
+ghost use Rattle.server_steps.specs.declared.event.Event.TheVariants as event;
 ghost use Rattle.trace_ends.specs.Core.{loss_down, cut_session, cuts, hangs};
 ghost use Rattle.trace_sessions.specs.Session.{session_of};
 ghost use Rattle.trace_sessions.specs.Numbers.{numbered};
@@ -11,11 +11,12 @@ ghost use Rattle.trace_ends.specs.View.{core_of, loss_of, core_step_of};
 
 use crate::core_step::{CoreStep, Loss};
 use crate::world_core::{Core, count_on};
-use server_core::event::Event;
+use client_state::drops;
 use server_core::server::Server;
+use server_steps::event::{Event, let_go_step};
 use std::alloc::{AllocError, Global};
+use trace_numbers::place_of;
 use trace_ops::ops::note_with;
-use trace_sessions::numbered::place_of;
 use trace_sessions::seat::running_at;
 use trace_sessions::session::{Session, short_number, taken_of};
 
@@ -63,7 +64,7 @@ fn cuts_at(alloc: Global, core: &mut Core, place: usize) -> Result<CoreStep, All
     match done {
         Ok(()) => Ok(CoreStep::acted(alloc, loss_down(session), session, acts)),
         Err(error) => {
-            drop(acts);
+            drops::step(acts);
             Err(error)
         }
     }
@@ -86,7 +87,7 @@ fn hang(alloc: Global, server: &mut Server, session: u32) -> Result<(), AllocErr
 {
     let step = server.step_unkept(alloc, Event::Hang { session });
     let missed = step.missed;
-    drop(step);
+    let_go_step(step);
     if missed {
         return Err(AllocError);
     }

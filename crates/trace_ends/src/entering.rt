@@ -1,9 +1,10 @@
-//! What the server's journal gained in a step: the file that was changed, and the step of each entry.
-//! `changed_file` and `entries_since` in `specs/Core.antt` say which they are.
+//! What the server's journal gained in a step, which tells how many entries it made: the file that was
+//! changed, and the step of each entry. `changed_file` and `newest_entries` in `specs/Core.antt` say
+//! which they are.
 
 ghost use Rattle.std.specs.Prelude.{◌≡◌, ◌++◌, drop, find, replicate, OnOk};
 ghost use Rattle.std.specs.Option.{option_copied};
-ghost use Rattle.trace_ends.specs.Core.{is_of_file, changed_file};
+ghost use Rattle.trace_ends.specs.Core.{is_of_file, newest_entries, changed_file};
 
 use server_core::journal::Entry;
 use std::alloc::AllocError;
@@ -34,11 +35,18 @@ fn entries_from(entries: &[Entry], place: usize) -> &[Entry]
     }
 }
 
-/// The first file whose content the entries from a place on are about.
-pub fn changed_from(entries: &[Entry], place: usize) -> Option<u64>
-    ensures { result ≡ changed_file (drop place entries.now) }
+/// The newest entries, so many.
+fn newest_entries(entries: &[Entry], made: u32) -> &[Entry]
+    ensures { result.now ≡ newest_entries entries.now made }
 {
-    first_of_file(entries_from(entries, place)).map(|e| e.file)
+    entries_from(entries, entries.len().saturating_sub(made as usize))
+}
+
+/// The first file whose content the newest entries, so many, are about.
+pub fn changed_by(entries: &[Entry], made: u32) -> Option<u64>
+    ensures { result ≡ changed_file (newest_entries entries.now made) }
+{
+    first_of_file(newest_entries(entries, made)).map(|e| e.file)
 }
 
 /// Adds the step of each change that was made.

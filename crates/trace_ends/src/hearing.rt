@@ -7,9 +7,10 @@ ghost use Rattle.trace_ends.specs.View.{core_of, core_step_of};
 
 use crate::core_step::{CoreStep, Loss};
 use crate::world_core::{Core, count_on};
+use client_state::drops;
 use std::alloc::{AllocError, Global};
+use trace_numbers::place_of;
 use trace_ops::ops::note_with;
-use trace_sessions::numbered::place_of;
 use trace_sessions::session::{is_newest, taken_of};
 
 /// The client at this place hears a record of this session, unless it has left it.
@@ -38,7 +39,7 @@ fn hears_at(
     match done {
         Ok(()) => Ok(CoreStep::acted(alloc, Loss::Nothing, session, acts)),
         Err(error) => {
-            drop(acts);
+            drops::step(acts);
             Err(error)
         }
     }

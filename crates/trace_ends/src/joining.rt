@@ -2,18 +2,19 @@
 
 ghost use Rattle.std.specs.Prelude.{◌≡◌, ◌+◌, ◌<◌, length, slice_get, IfOk, OnOk};
 ghost use Rattle.server_core.specs.Step.{server_step};
-ghost use Rattle.server_core.specs.declared.event.Event.TheVariants as event;
-ghost use Rattle.server_core.specs.declared.event.Told.TheVariants as told;
+ghost use Rattle.server_steps.specs.declared.event.Event.TheVariants as event;
+ghost use Rattle.server_rules.specs.declared.told.Told.TheVariants as told;
 ghost use Rattle.trace_ends.specs.Core.{joins, joins_as};
 ghost use Rattle.trace_sessions.specs.Numbers.{numbered};
 ghost use Rattle.trace_ends.specs.View.{core_of, core_step_of};
 
 use crate::core_step::{CoreStep, Loss};
 use crate::world_core::{Core, count_on};
-use server_core::event::{Event, Told};
 use server_core::server::Server;
+use server_rules::told::Told;
+use server_steps::event::{Event, let_go_step};
 use std::alloc::{AllocError, Global};
-use trace_sessions::numbered::place_of;
+use trace_numbers::place_of;
 use trace_sessions::session::Session;
 
 /// What the server tells a client that connects. A server in want of memory can tell nothing.
@@ -24,7 +25,7 @@ fn connect(alloc: Global, server: &mut Server) -> Result<Told, AllocError>
     let step = server.step_unkept(alloc, Event::Connect);
     let told = step.told;
     let missed = step.missed;
-    drop(step);
+    let_go_step(step);
     if missed {
         return Err(AllocError);
     }

@@ -1,20 +1,20 @@
 //! A record comes to the server. `serves` in `specs/Core.antt` says what that makes of the two ends.
 
-ghost use Rattle.std.specs.Prelude.{◌≡◌, ◌+◌, ◌<◌, ◌^◌, ◌++◌, drop, length, replicate, slice_get, slice_set, IfOk, IfSome, OnOk};
-ghost use Rattle.trace_ends.specs.Core.{changed_file, server_waiting, server_got, serves};
+ghost use Rattle.std.specs.Prelude.{◌≡◌, ◌+◌, ◌<◌, ◌^◌, ◌++◌, length, replicate, slice_get, slice_set, IfOk, IfSome, OnOk};
+ghost use Rattle.trace_ends.specs.Core.{changed_file, newest_entries, server_waiting, server_got, serves};
 ghost use Rattle.trace_ops.specs.Ops.{pointed_at};
 ghost use Rattle.trace_sessions.specs.Session.{taken_with};
 ghost use Rattle.trace_sessions.specs.Numbers.{numbered};
 ghost use Rattle.trace_ends.specs.View.{core_of, core_step_of};
 
 use crate::core_step::CoreStep;
-use crate::entering::{changed_from, enter};
+use crate::entering::{changed_by, enter};
 use crate::world_core::{Core, count_on};
 use lb_base::items::Items;
-use server_core::event::Event;
+use server_steps::event::{Event, let_go, let_go_step};
 use std::alloc::{AllocError, Global};
+use trace_numbers::place_of;
 use trace_ops::ops::point_at;
-use trace_sessions::numbered::place_of;
 use trace_sessions::parsing::parse_record;
 use trace_sessions::session::short_number;
 use wire::message::{Message, Side, Waiting};
@@ -40,13 +40,13 @@ fn note(core: &mut Core, place: usize, message: &Message) -> Result<(), AllocErr
     Ok(())
 }
 
-/// The operation of this session that changed a file has its point at this step, and each entry that
-/// the journal has behind those before this place has this step.
-fn enter_at(core: &mut Core, place: usize, before: usize, made: u32) -> Result<(), AllocError>
+/// The operation of this session that changed a file has its point at this step, and so many entries
+/// of the journal as were made in it have this step.
+fn enter_at(core: &mut Core, place: usize, made: u32) -> Result<(), AllocError>
     requires { place < length core.old.sessions.items }
-    ensures { OnOk result (IfSome (slice_get core.old.sessions.items place) (λ x. core_of core.new ≡ record (core_of core.old) { ops = pointed_at core.old.ops.items x.closing core.old.steps (changed_file (drop before core.old.server.journal)); entries = core.old.entries.items ++ replicate made core.old.steps })) }
+    ensures { OnOk result (IfSome (slice_get core.old.sessions.items place) (λ x. core_of core.new ≡ record (core_of core.old) { ops = pointed_at core.old.ops.items x.closing core.old.steps (changed_file (newest_entries core.old.server.journal made)); entries = core.old.entries.items ++ replicate made core.old.steps })) }
 {
-    let changed = changed_from(core.server.journal(), before);
+    let changed = changed_by(core.server.journal(), made);
     let closing = core.sessions[place].closing;
     point_at(&mut core.ops, closing, core.steps, changed);
     enter(&mut core.entries, made, core.steps)
@@ -67,14 +67,14 @@ fn got(
     let session = match short_number(place as u64 + 1) {
         Ok(session) => session,
         Err(error) => {
-            drop(message);
+            let_go(message);
             return Err(error);
         }
     };
     match note(core, place, &message) {
         Ok(()) => (),
         Err(error) => {
-            drop(message);
+            let_go(message);
             return Err(error);
         }
     }
@@ -83,16 +83,15 @@ fn got(
         message,
         now,
     };
-    let before = core.server.journal().len();
     let step = core.server.step_unkept(alloc, event);
     if step.missed {
-        drop(step);
+        let_go_step(step);
         return Err(AllocError);
     }
-    match enter_at(core, place, before, step.entries) {
+    match enter_at(core, place, step.entries) {
         Ok(()) => Ok(CoreStep::served(alloc, step)),
         Err(error) => {
-            drop(step);
+            let_go_step(step);
             Err(error)
         }
     }
@@ -111,9 +110,10 @@ fn serves_at(
     requires now { now < 2 ^ 63 }
     ensures { IfOk result (λ t. core_step_of core.new t ≡ serves (core_of core.old) (place + 1) now bytes.now (slice_get core.old.sessions.items place)) }
 {
-    match parse_record(alloc, bytes, &server_waiting(alloc))? {
+    let said = parse_record(alloc, bytes, &server_waiting(alloc))?;
+    match said {
         Ok(message) => got(alloc, core, place, now, message),
-        Err(_) => {
+        Err(_fault) => {
             core.steps = count_on(core.steps, 1)?;
             Ok(CoreStep::quiet(alloc))
         }

@@ -6,9 +6,10 @@ ghost use Rattle.trace_ends.specs.Core.{settles};
 ghost use Rattle.trace_ends.specs.View.{core_of, core_step_of};
 
 use crate::core_step::CoreStep;
-use crate::entering::{changed_from, enter};
+use crate::entering::{changed_by, enter};
 use crate::world_core::{Core, count_on};
-use server_core::event::{Event, Told};
+use server_rules::told::Told;
+use server_steps::event::{Event, let_go_step};
 use std::alloc::{AllocError, Global};
 use trace_sessions::pointing::settle_session;
 
@@ -20,15 +21,14 @@ pub fn settles(alloc: Global, core: &mut Core, now: u64) -> Result<CoreStep, All
 {
     let at = count_on(core.steps, 1)?;
     core.steps = at;
-    let before = core.server.journal().len();
     let step = core.server.step_unkept(alloc, Event::Settle { now });
     if step.missed {
-        drop(step);
+        let_go_step(step);
         return Err(AllocError);
     }
     match step.told {
         Told::Settled { session, .. } => {
-            let changed = changed_from(core.server.journal(), before);
+            let changed = changed_by(core.server.journal(), step.entries);
             settle_session(&mut core.ops, &core.sessions, session, at, changed)
         }
         _ => (),
@@ -36,7 +36,7 @@ pub fn settles(alloc: Global, core: &mut Core, now: u64) -> Result<CoreStep, All
     match enter(&mut core.entries, step.entries, at) {
         Ok(()) => Ok(CoreStep::served(alloc, step)),
         Err(error) => {
-            drop(step);
+            let_go_step(step);
             Err(error)
         }
     }

@@ -156,7 +156,17 @@ impl Core {
 
     /// The two ends are let go: here, so that no crate above proves how each of their parts is.
     pub fn let_go(self) {
-        drop(self);
+        let Core {
+            server,
+            seats,
+            sessions,
+            ops,
+            ..
+        } = self;
+        server.let_go();
+        drop(seats);
+        drop(sessions);
+        drop(ops);
     }
 
     /// The operations and the number of steps. The ends are let go.
@@ -170,7 +180,7 @@ impl Core {
             steps,
             ..
         } = self;
-        drop(server);
+        server.let_go();
         drop(seats);
         (Items::from_vec(ops), steps)
     }

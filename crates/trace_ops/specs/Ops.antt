@@ -4,7 +4,7 @@ use Rattle.std.specs.Option.{option_map}
 use Rattle.xdr_codec.specs.declared.status.Status.TheVariants as status
 use Rattle.client_state.specs.State as client
 use Rattle.client_state.specs.declared.step.ClientStep.{ClientStep}
-use Rattle.client_state.specs.declared.step.Counts.{Counts}
+use Rattle.transfer_rules.specs.declared.counts.Counts.{Counts}
 use Rattle.client_state.specs.declared.step.Ended.{Ended}
 use Rattle.client_state.specs.declared.step.Outcome.{Outcome}
 use Rattle.client_state.specs.declared.step.Outcome.TheVariants as outcome

@@ -8,12 +8,13 @@ ghost use Rattle.trace_ops.specs.Ops.{ops_after, ops_with, has_point, taken_at, 
 use crate::commands::local_bytes;
 use crate::taken_call::TakenCall;
 use client_state::step;
-use client_state::step::{ClientStep, Counts, Ended};
+use client_state::step::{ClientStep, Ended};
 use open_close::client::Client;
 use register_model::op::{Op, Outcome, Traffic, Word};
 use shared_bytes::SharedBytes;
 use std::alloc::{AllocError, Global};
 use told_outcome::told_of;
+use transfer_rules::counts::{Counts, with_share};
 use xdr_codec::status::Status;
 
 /// Whether an open that ended so read or missed its file at one moment.
@@ -77,21 +78,18 @@ fn put_value(
 fn counted(traffic: Traffic, counts: Counts) -> Result<Traffic, AllocError>
     ensures { IfOk result (λ t. t ≡ counted traffic counts) }
 {
-    let cond = traffic
-        .cond
-        .checked_add(counts.cond_writes)
-        .ok_or(AllocError)?;
-    let tmp = traffic
-        .tmp
-        .checked_add(counts.temp_writes)
-        .ok_or(AllocError)?;
-    let read = traffic.read.checked_add(counts.reads).ok_or(AllocError)?;
-    let data = traffic.data.checked_add(counts.bytes).ok_or(AllocError)?;
+    let before = Counts {
+        cond_writes: traffic.cond,
+        temp_writes: traffic.tmp,
+        reads: traffic.read,
+        bytes: traffic.data,
+    };
+    let all = with_share(before, counts).ok_or(AllocError)?;
     Ok(Traffic {
-        cond,
-        tmp,
-        read,
-        data,
+        cond: all.cond_writes,
+        tmp: all.temp_writes,
+        read: all.reads,
+        data: all.bytes,
     })
 }
 

@@ -1,28 +1,11 @@
--- The bytes of a session on their way between its ends.
-use Rattle.std.specs.Prelude.{ℕ, List, [], ◌∷◌, ◌++◌, map, Option, Some, None, Bool, true, false, ◌&&◌}
-use Rattle.rpc_record.specs.Records.{Unread, nothing_read, stream}
+-- What is sent on a session put on its way.
+use Rattle.std.specs.Prelude.{ℕ, List, [], ◌∷◌, ◌++◌, map, Option, Some, None, Bool, true, false}
+use Rattle.rpc_record.specs.Records.{stream}
 use Rattle.wire.specs.Message.{message_spell}
 use Rattle.wire.specs.declared.message.Message.{Message}
 use Rattle.trace_sessions.specs.Numbers.{numbered, with_numbered}
 use Rattle.trace_sessions.specs.Session.{Session}
-use Rattle.trace_sessions.specs.Queue.{is_none}
-
--- the bytes of a session on their way up and down, and what each end has of a record that is not whole
-pub record Wire : Type 0 where
-  pub up : List ℕ
-  pub down : List ℕ
-  pub server_end : Unread
-  pub client_end : Unread
-
-abbrev pub new_wire : Wire
-new_wire = record { up = []; down = []; server_end = nothing_read; client_end = nothing_read }
-
--- nothing is on its way on a session
-abbrev pub is_still_at : Option Wire → Bool
-is_still_at None = true
-is_still_at (Some q) = is_none q.up && is_none q.down
-
--- ---- what is sent
+pub use Rattle.trace_wires.specs.Wires.{Wire, new_wire, is_still_at}
 
 -- the bytes of messages, each a record of one fragment
 abbrev pub bytes_of : List Message → List ℕ

@@ -6,10 +6,10 @@ ghost use Rattle.rpc_record.specs.Records.{marked};
 ghost use Rattle.wire.specs.Message.{message_spell};
 ghost use Rattle.trace_sessions.specs.Wires.{bytes_of};
 
-use crate::queue::Queue;
 use lb_base::items::Bytes;
 use send_list::SendList;
 use std::alloc::{AllocError, Global};
+use trace_wires::queue::Queue;
 use wire::message::Message;
 use wire::spell::spell_marked;
 

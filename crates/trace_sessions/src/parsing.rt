@@ -2,11 +2,22 @@
 
 ghost use Rattle.std.specs.Prelude.{◌≡◌, IfOk};
 ghost use Rattle.wire.specs.Parse.{parse_of};
+ghost use Rattle.wire.specs.declared.fault.WireErr.TheVariants as errors;
 
 use std::alloc::{AllocError, Global};
 use wire::fault::{WireErr, WireFault};
 use wire::message::{Message, Waiting};
 use wire::parse::parse;
+
+/// What is wrong with a record, with want of memory apart.
+fn fault_of(error: WireErr) -> Result<WireFault, AllocError>
+    ensures { IfOk result (λ fault. error ≡ errors.Fault fault) }
+{
+    match error {
+        WireErr::Memory => Err(AllocError),
+        WireErr::Fault(fault) => Ok(fault),
+    }
+}
 
 /// The message that a record is, or what is wrong with it, with want of memory apart.
 pub fn parse_record(
@@ -18,7 +29,9 @@ pub fn parse_record(
 {
     match parse(alloc, bytes, expected) {
         Ok(message) => Ok(Ok(message)),
-        Err(WireErr::Memory) => Err(AllocError),
-        Err(WireErr::Fault(fault)) => Ok(Err(fault)),
+        Err(error) => match fault_of(error) {
+            Ok(fault) => Ok(Err(fault)),
+            Err(want) => Err(want),
+        },
     }
 }

@@ -5,9 +5,9 @@ ghost use Rattle.std.specs.Prelude.{◌≡◌};
 ghost use Rattle.trace_sessions.specs.Session.{settled_ops};
 ghost use Rattle.trace_sessions.specs.Numbers.{numbered};
 
-use crate::numbered::place_of;
 use crate::session::Session;
 use register_model::op::Op;
+use trace_numbers::place_of;
 use trace_ops::ops::point_at;
 
 /// Where a file was changed, the last operation that sent calls on its session and may change one

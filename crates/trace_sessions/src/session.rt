@@ -4,11 +4,11 @@
 ghost use Rattle.std.specs.Prelude.{◌≡◌, true, OnOk, IfOk};
 ghost use Rattle.trace_sessions.specs.Session.{is_newest, new_session, taken_with, taken_of, session_of, commanded_session};
 
-use crate::numbered::place_of;
 use client_state::step::ClientStep;
 use register_model::op::Word;
 use std::alloc::{AllocError, Global};
 use std::marker::Model;
+use trace_numbers::place_of;
 use trace_ops::places::closing_with;
 use trace_ops::taken_call::TakenCall;
 use wire::message::Message;

@@ -6,7 +6,7 @@
 
 ghost use Rattle.std.specs.Prelude.{◌≡◌, ℕ, ◌+◌, ◌<◌, ◌≤◌, ◌++◌, [], length, take, drop, IfOk, OnOk};
 ghost use Rattle.rpc_record.specs.Records.{fed};
-ghost use Rattle.trace_sessions.specs.Queue.{IsGiven, IsNext, CanGive, is_none, count_of};
+ghost use Rattle.trace_wires.specs.Queue.{IsGiven, IsNext, CanGive, is_none, count_of};
 
 use lb_base::items::{Bytes, Items};
 use rpc_record::record::Record;

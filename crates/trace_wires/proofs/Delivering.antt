@@ -9,9 +9,9 @@ use Rattle.rpc_record.specs.Records.{Unread, Parts, fed, split, continued}
 use Rattle.rpc_record.proofs.Splitting.{split_cut}
 use Rattle.trace_text.specs.declared.line.Amount.{Amount}
 use Rattle.trace_text.specs.declared.line.Amount.TheVariants as amount
-use Rattle.trace_sessions.specs.declared.queue.Given.{Given}
-use Rattle.trace_sessions.specs.Queue.{count_of, IsGiven, IsNext, CanGive}
-use Rattle.trace_sessions.proofs.Giving.{none_of}
+use Rattle.trace_wires.specs.declared.queue.Given.{Given}
+use Rattle.trace_wires.specs.Queue.{count_of, IsGiven, IsNext, CanGive}
+use Rattle.trace_wires.proofs.Giving.{none_of}
 
 -- ---- two pieces give what they give at once
 

@@ -7,8 +7,8 @@ use Rattle.std.proofs.lemmas.List.Folds.{concat-append}
 use Rattle.rpc_record.specs.Records.{Unread, fed}
 use Rattle.trace_text.specs.declared.line.Amount.{Amount}
 use Rattle.trace_text.specs.declared.line.Amount.TheVariants as amount
-use Rattle.trace_sessions.specs.declared.queue.Given.{Given}
-use Rattle.trace_sessions.specs.Queue.{is_none, count_of, IsGiven, IsNext}
+use Rattle.trace_wires.specs.declared.queue.Given.{Given}
+use Rattle.trace_wires.specs.Queue.{is_none, count_of, IsGiven, IsNext}
 
 abbrev pub AllSome : List (List ℕ) → Type 0
 AllSome pieces = (k : ℕ) (d : List ℕ) → k < length pieces → 0 < length (slice_index_or pieces k d)

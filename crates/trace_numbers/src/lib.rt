@@ -1,5 +1,7 @@
-//! Numbers from 1: what stands at a number stands at the place before it. `numbered` in
-//! `specs/Numbers.antt` says so.
+//! Numbers from 1 as places in a list. Clients and sessions have such numbers, and each step of a trace
+//! finds here whom it is about, and each message its session. What stands at a number is `numbered` in
+//! `specs/Numbers.antt` of `trace_sessions`.
+#![tactic(auto)]
 
 ghost use Rattle.std.specs.Prelude.{◌≡◌, ◌+◌, ◌<◌, ◌⊎◌, MatchOption};
 

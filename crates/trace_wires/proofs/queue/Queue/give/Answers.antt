@@ -1,6 +1,6 @@
 use Rattle.std.proofs.Common.{subst, arith}
-use Rattle.trace_sessions.proofs.Giving.{AllSome, some_others, piece_given}
-use Rattle.trace_sessions.proofs.queue.Queue.give.Goals as goal
+use Rattle.trace_wires.proofs.Giving.{AllSome, some_others, piece_given}
+use Rattle.trace_wires.proofs.queue.Queue.give.Goals as goal
 
 pub invariant_of-self-in_err-given-2 : goal.invariant_of-self-in_err-given-2
 invariant_of-self-in_err-given-2 c = some_others c.in-Some.piece _ (subst AllSome c.in-Some.ensures.items c.self.invariant)

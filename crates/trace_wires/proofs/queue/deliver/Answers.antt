@@ -1,7 +1,7 @@
 use Rattle.std.proofs.Common.{◌++◌, sym, ap, ◌∙◌}
-use Rattle.trace_sessions.proofs.Giving.{given_of}
-use Rattle.trace_sessions.proofs.Delivering.{delivers_more, done_next}
-use Rattle.trace_sessions.proofs.queue.deliver.Goals as goal
+use Rattle.trace_wires.proofs.Giving.{given_of}
+use Rattle.trace_wires.proofs.Delivering.{delivers_more, done_next}
+use Rattle.trace_wires.proofs.queue.deliver.Goals as goal
 
 pub returns-in_default-clause-records : goal.returns-in_default-clause-records
 returns-in_default-clause-records c = c.from_vec.ensures ∙ (done_next c.args.amount c.args.queue.now c.pieces.queue c.give.new.self c.args.end.now c.pieces.end c.give.new.end c.pieces.records.items c.pieces.most c.in_ok-given.field-0 c.pieces.invariant c.in_ok-given.ensures c.in_default.not-Some).records

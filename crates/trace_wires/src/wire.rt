@@ -2,30 +2,26 @@
 //! whole. `specs/Wires.antt` says what they are and what is put on its way, and `specs/Queue.antt` how many
 //! bytes a delivery takes.
 
-ghost use Rattle.std.specs.Prelude.{◌≡◌, [], length, take, drop, IfOk, OnOk};
+ghost use Rattle.std.specs.Prelude.{◌≡◌, [], Some, length, take, drop, IfOk, OnOk};
 ghost use Rattle.rpc_record.specs.Records.{nothing_read, fed};
-ghost use Rattle.trace_sessions.specs.Wires.{new_wire, unless, bytes_of, is_still_at};
-ghost use Rattle.trace_sessions.specs.Queue.{count_of};
-ghost use Rattle.std.specs.Prelude.{Some, ◌∷◌};
+ghost use Rattle.trace_wires.specs.Wires.{new_wire, is_still_at};
+ghost use Rattle.trace_wires.specs.Queue.{count_of};
 
-use crate::outbox::{put_each, put_one};
 use crate::queue::{Queue, deliver};
 use lb_base::items::Items;
 use rpc_record::record::Record;
 use rpc_record::records::Records;
-use send_list::SendList;
 use std::alloc::{AllocError, Global};
 use std::marker::Model;
 use trace_text::line::Amount;
-use wire::message::Message;
 
 /// The two directions of a session.
 #[derive(Drop)]
 pub struct Wire {
     /// The bytes on their way to the server.
-    up: Queue,
+    pub up: Queue,
     /// The bytes on their way to the client.
-    down: Queue,
+    pub down: Queue,
     /// What the server has of a record that is not whole.
     server_end: Records,
     /// What the client has of a record that is not whole.
@@ -33,7 +29,7 @@ pub struct Wire {
 }
 
 impl Model for Wire {
-    ghost use Rattle.trace_sessions.specs.Wires as wires;
+    ghost use Rattle.trace_wires.specs.Wires as wires;
 
     ghost Value = { wires.Wire };
 
@@ -58,36 +54,6 @@ impl Wire {
         ensures { result ≡ is_still_at (Some self.now) }
     {
         self.up.is_empty() && self.down.is_empty()
-    }
-
-    /// Puts what the client sends on its way, unless the server saw the connection lost.
-    pub fn put_up(
-        &mut self,
-        alloc: Global,
-        is_hung: bool,
-        messages: &SendList<Message>,
-    ) -> Result<(), AllocError>
-        ensures { OnOk result (self.new ≡ record self.old { up = unless is_hung self.old.up (bytes_of messages.now) }) }
-    {
-        if is_hung {
-            return Ok(());
-        }
-        put_each(alloc, &mut self.up, messages)
-    }
-
-    /// Puts a message of the server on its way, unless the client saw the connection lost.
-    pub fn put_down(
-        &mut self,
-        alloc: Global,
-        is_cut: bool,
-        message: &Message,
-    ) -> Result<(), AllocError>
-        ensures { OnOk result (self.new ≡ record self.old { down = unless is_cut self.old.down (bytes_of (message.now ∷ [])) }) }
-    {
-        if is_cut {
-            return Ok(());
-        }
-        put_one(alloc, &mut self.down, message)
     }
 
     /// So many bytes on their way up reach the server, which has these records of them.
