@@ -5,8 +5,8 @@ use Rattle.chunk_calls.specs.Files as the_files
 use Rattle.server_core.specs.Closing.{settles as server_settles}
 use Rattle.server_core.specs.declared.change.Wanted.TheVariants as wanted
 use Rattle.tree_calls.specs.Waiting.{commits, settles as tree_settles}
-use Rattle.server_core.specs.declared.event.Told.{Told as Announced}
-use Rattle.server_core.specs.declared.event.Told.TheVariants as announced
+use Rattle.server_rules.specs.declared.told.Told.{Told as Announced}
+use Rattle.server_rules.specs.declared.told.Told.TheVariants as announced
 use Rattle.trace_replay.specs.declared.stage.Stage.{Stage as Part}
 use Rattle.trace_replay.specs.declared.stage.Stage.TheVariants as part
 use Rattle.trace_replay.specs.declared.turn.Turn.TheVariants as turn

@@ -9,9 +9,10 @@ use Rattle.wire.specs.declared.message.Message.TheVariants as message
 use Rattle.xdr_codec.specs.declared.status.Status.TheVariants as status
 use Rattle.chunk_index.specs.Index.{key_of as digest_key, place_of}
 use Rattle.server_core.specs.State as server
-use Rattle.server_core.specs.Closing.{answers, sends, names_unless, names_bytes, looked_up as index_found, writes_unless}
+use Rattle.server_core.specs.Closing.{answers, names_unless, names_bytes, looked_up as index_found, writes_unless}
+use Rattle.server_steps.specs.Steps.{sends}
 use Rattle.chunk_calls.specs.Writing.{bytes_known, cond_fault}
-use Rattle.server_core.specs.declared.event.Event.TheVariants as event
+use Rattle.server_steps.specs.declared.event.Event.TheVariants as event
 use Rattle.kept_promise.proofs.Common.{Temp, size_most, temp_at, room_fault, piece_fault, assembled, without_temp, nat_lt, if◌then◌else◌, Failed, Status, Body, Message, Indexed, Node, directory, file, node_of, File, Change, ServerStep, server_step, called, got_if, stands, at, makes, makes_unless, commits, commits_to, commits_whole, has_waiting, is_full, Tree, Ask, ask_message, Call, Call.Lease, Call.Hash, Call.Read, Call.Make, Call.Name, Call.Send, Call.Commit, Call.Walks, Entry}
 use Rattle.server_core.specs.declared.change.Wanted.TheVariants as wanted
 use Rattle.server_core.specs.Step.{asks, asks_tree}
@@ -29,19 +30,20 @@ use Rattle.kept_promise.proofs.Statements.{CallFits}
 use Rattle.kept_promise.proofs.PathNames.{IsAhead, makes_at, is_making}
 use Rattle.path_calls.specs.declared.walk.Walk.{Walk}
 
-abbrev pub IsCommitCall : Message → Type 0
-IsCommitCall (message.Call xid (body.Lb (lb.CommitTmp a))) = Unit {0}
-IsCommitCall m = ⊥
+-- a change that comes by a COMMITTMP
+abbrev pub IsByCommit : Message → Change → Type 0
+IsByCommit (message.Call xid (body.Lb (lb.CommitTmp a))) c = (content : List ℕ) × (c.what ≡ wanted.Content content)
+IsByCommit m c = ⊥
 
--- nothing more waits, or one change of the session, by a COMMITTMP
-abbrev pub Waits : (waiting : List Change) → (session : ℕ) → Type 0 → List Change → Type 0
-Waits waiting n P after = (after ≡ waiting) ⊎ ((c : Change) × (c.session ≡ n) × (after ≡ waiting ++ c ∷ []) × P)
+-- nothing more waits, or one change of the session, of which this holds
+abbrev pub Waits : (waiting : List Change) → (session : ℕ) → (Change → Type 0) → List Change → Type 0
+Waits waiting n P after = (after ≡ waiting) ⊎ ((c : Change) × (c.session ≡ n) × (after ≡ waiting ++ c ∷ []) × P c)
 
 -- what holds of a server's state whatever these are then
-abbrev pub Frees : (server.State → Type 0) → server.State → (session : ℕ) → Type 0 → Type 0
+abbrev pub Frees : (server.State → Type 0) → server.State → (session : ℕ) → (Change → Type 0) → Type 0
 Frees Q s n P = (temps : List (ℕ × Temp)) (waiting : List Change) (index : Indexed) (moment : ℕ) → Waits s.waiting n P waiting → Q (record s { temps = temps; waiting = waiting; index = index; moment = moment })
 
-commits_keeps : (Q : server.State → Type 0) (s : server.State) (session : ℕ) → Frees Q s session (Unit {0}) → (xid size : ℕ) (t : Temp) (nd : Result Node Status) → Q (commits_to s session xid size t nd).0
+commits_keeps : (Q : server.State → Type 0) (s : server.State) (session : ℕ) → Frees Q s session (λ c. (content : List ℕ) × (c.what ≡ wanted.Content content)) → (xid size : ℕ) (t : Temp) (nd : Result Node Status) → Q (commits_to s session xid size t nd).0
 commits_keeps Q s session q xid size t (Err e) = q s.temps s.waiting s.index s.moment (inl refl)
 commits_keeps Q s session q xid size t (Ok directory) = q s.temps s.waiting s.index s.moment (inl refl)
 commits_keeps Q s session q xid size t (Ok (file f)) = by (nat_lt size_most size)
@@ -49,7 +51,7 @@ commits_keeps Q s session q xid size t (Ok (file f)) = by (nat_lt size_most size
     waits : (content : List ℕ) (a b : Bool) → (let r : server.State × ServerStep = if a then answers s session xid (lb.CommitTmpAnswer (Failed status.Jukebox tt)) else if b then answers s session xid (lb.CommitTmpAnswer (Failed status.NoSpc tt)) else (record s { waiting = s.waiting ++ record { session = session; xid = xid; file = f.id; what = wanted.Content content } ∷ [] }, sends []) in Q r.0)
     waits content true b = q s.temps s.waiting s.index s.moment (inl refl)
     waits content false true = q s.temps s.waiting s.index s.moment (inl refl)
-    waits content false false = q s.temps (s.waiting ++ record { session = session; xid = xid; file = f.id; what = wanted.Content content } ∷ []) s.index s.moment (inr (record { session = session; xid = xid; file = f.id; what = wanted.Content content }, refl, refl, tt))
+    waits content false false = q s.temps (s.waiting ++ record { session = session; xid = xid; file = f.id; what = wanted.Content content } ∷ []) s.index s.moment (inr (record { session = session; xid = xid; file = f.id; what = wanted.Content content }, refl, refl, (content, refl)))
 
     whole : (o : Option (List ℕ)) → Q (commits_whole s session xid f.id o).0
     whole None = q s.temps s.waiting s.index s.moment (inl refl)
@@ -110,7 +112,7 @@ walk_made c e = absurd cc
 none_more : (Q : server.State → Type 0) (s : server.State) → Q s → Q (record s { journal = s.journal ++ [] })
 none_more Q s q = subst (λ (l : List Entry). Q (record s { journal = l })) (sym (append-nil s.journal)) q
 
-called_keeps : (Q : server.State → Type 0) (s : server.State) (session xid : ℕ) (b : Body) → IsOfFiles (message.Call xid b) → Frees Q s session (IsCommitCall (message.Call xid b)) → Q (called s session xid b).0
+called_keeps : (Q : server.State → Type 0) (s : server.State) (session xid : ℕ) (b : Body) → IsOfFiles (message.Call xid b) → Frees Q s session (IsByCommit (message.Call xid b)) → Q (called s session xid b).0
 called_keeps Q s session xid (body.Lb (lb.GetHash r)) plain q = q s.temps s.waiting _ s.moment (inl refl)
 called_keeps Q s session xid (body.Lb (lb.MkTmpFile a)) plain q = by (node_of s.tree a.handle)
   where
@@ -154,14 +156,14 @@ called_keeps Q s session xid (body.Nfs (nfs.ReadDir l)) plain q = none_more Q s 
 called_keeps Q s session xid (body.Nfs m) plain q = absurd plain
 called_keeps Q s session xid b plain q = q s.temps s.waiting s.index s.moment (inl refl)
 
-pub got_if_keeps : (Q : server.State → Type 0) (s : server.State) (session : ℕ) (m : Message) (now : ℕ) → IsOfFiles m → Frees Q s session (IsCommitCall m) → (b : Bool) → Q (got_if s b session m now).0
+pub got_if_keeps : (Q : server.State → Type 0) (s : server.State) (session : ℕ) (m : Message) (now : ℕ) → IsOfFiles m → Frees Q s session (IsByCommit m) → (b : Bool) → Q (got_if s b session m now).0
 got_if_keeps Q s session (message.Call xid b) now plain q true = called_keeps Q (at s now) session xid b plain (λ temps waiting index moment w. q temps waiting index moment w)
 got_if_keeps Q s session (message.Unfit xid why) now plain q true = q s.temps s.waiting s.index _ (inl refl)
 got_if_keeps Q s session (message.Answer xid b) now plain q true = q s.temps s.waiting s.index _ (inl refl)
 got_if_keeps Q s session (message.Refuse xid why) now plain q true = q s.temps s.waiting s.index _ (inl refl)
 got_if_keeps Q s session m now plain q false = q s.temps s.waiting s.index s.moment (inl refl)
 
-pub got_keeps : (Q : server.State → Type 0) (s : server.State) (session : ℕ) (m : Message) (now : ℕ) → IsOfFiles m → Frees Q s session (IsCommitCall m) → Q (server_step s (event.Got session m now)).0
+pub got_keeps : (Q : server.State → Type 0) (s : server.State) (session : ℕ) (m : Message) (now : ℕ) → IsOfFiles m → Frees Q s session (IsByCommit m) → Q (server_step s (event.Got session m now)).0
 got_keeps Q s session m now plain q = got_if_keeps Q s session m now plain q (stands s session)
 
 -- ---- the tree, whatever the message

@@ -67,7 +67,7 @@ pub use Rattle.server_core.specs.Closing.{is_full, makes_change, at, makes, make
 pub use Rattle.chunk_calls.specs.Writing.{cond_fault, bytes_known, bytes_found}
 pub use Rattle.server_core.specs.Step.{server_step, stands, connect, has_room, got_if, called}
 pub use Rattle.server_core.specs.declared.change.Change.{Change}
-pub use Rattle.server_core.specs.declared.event.ServerStep.{ServerStep}
+pub use Rattle.server_steps.specs.declared.event.ServerStep.{ServerStep}
 pub use Rattle.server_core.specs.declared.change.Wanted.{Wanted}
 pub use Rattle.chunk_calls.specs.Files.{File}
 pub use Rattle.server_core.specs.declared.journal.Entry.{Entry}
@@ -76,8 +76,8 @@ pub use Rattle.file_close.specs.Closing.{store_at, is_stored, answered, store_of
 pub use Rattle.client_state.specs.Counting.{no_counts, ends, nothing_done}
 pub use Rattle.client_state.specs.Local.{local_most, written_size, written, truncated, part_of}
 pub use Rattle.file_open.specs.Opening.{read_at, with_hashes, reads_all, is_here, fetch_of, listed, reads_from, reads_next, reads_more, with_bytes, other_version, fault_in, slots_bytes, read_call, without_read, hash_call, shown_version, lease_call, reads_chunk, looked_up}
-pub use Rattle.client_state.specs.Limits.{calls_most, tries_most}
-pub use Rattle.client_state.specs.State.{is_none}
+pub use Rattle.transfer_rules.specs.Limits.{calls_most, tries_most}
+pub use Rattle.transfer_rules.specs.Chunks.{is_none}
 pub use Rattle.file_open.specs.Shape.{broken_of, Broken, with_pairs, broken_if, broken_pair, broken_pairs, broken_sum, chunks_from}
 pub use Rattle.client_state.specs.State.{has_call, store_pending, State, local_bytes, read_pending, pending, calls_of, local_at, without_call, waiting_of}
 pub use Rattle.client_state.specs.Ending.{idle, may_ask, on_local, ended_by, is_open, drops, joined, cut, refused, bad_peer, denied, has_xids, forgets}
@@ -88,7 +88,7 @@ pub use Rattle.file_close.specs.declared.calls.Names.{Names}
 pub use Rattle.file_open.specs.declared.calls.Reads.{Reads}
 pub use Rattle.client_state.specs.declared.step.BadPeer.{BadPeer}
 pub use Rattle.client_state.specs.declared.step.ClientStep.{ClientStep}
-pub use Rattle.client_state.specs.declared.step.Counts.{Counts}
+pub use Rattle.transfer_rules.specs.declared.counts.Counts.{Counts}
 pub use Rattle.client_state.specs.declared.step.Ended.{Ended}
 pub use Rattle.client_state.specs.declared.step.Outcome.{Outcome}
 pub use Rattle.client_state.specs.declared.task.Fetch.{Fetch}

@@ -2,13 +2,13 @@
 use Rattle.std.proofs.Common.{inl, inr, ◌≡◌, ℕ, ◌+◌, List, [], ◌∷◌, ◌++◌, Option, Some, None, Result, Ok, Err, Bool, true, false, refl, sym, ap, ◌∙◌, subst, arith}
 use Rattle.std.proofs.lemmas.List.{flat_map_more}
 use Rattle.server_core.specs.State as server
-use Rattle.server_core.specs.declared.event.Event.TheVariants as event
-use Rattle.server_core.specs.declared.event.Told.{Told}
-use Rattle.server_core.specs.declared.event.Told.TheVariants as told
+use Rattle.server_steps.specs.declared.event.Event.TheVariants as event
+use Rattle.server_rules.specs.declared.told.Told.{Told}
+use Rattle.server_rules.specs.declared.told.Told.TheVariants as told
 use Rattle.client_state.specs.State as client
 use Rattle.client_state.specs.declared.step.Outcome.TheVariants as outcome
 use Rattle.trace_sessions.specs.Session.{taken_of as session_taken}
-use Rattle.trace_ends.specs.Core.{entries_since, changed_file}
+use Rattle.trace_ends.specs.Core.{newest_entries, changed_file}
 use Rattle.trace_replay.specs.Trail.{taken_in, taken_of}
 use Rattle.kept_promise.proofs.Common.{slice_get, Command, parse_of, Message, WireFault, server_step, no_counts, command_step, got_step, ended_by, cut, BadPeer, ClientStep, Ended, Outcome, Task, Op, Opening, TakenCall, no_traffic, counted, op_after, ended_op, told_of, Core, Seat, Session, Event, Event.Joins, Event.Does, Event.Serves, Event.Hears, Event.Settles, Event.Cuts, Event.Hangs, CoreStep, numbered, server_waiting, serves_if, serves, session_of, ops_after, ops_with, does, joins_as, joins, settled_ops, settled_by, settles, cuts_if, cuts, hangs_if, hangs, happens, Moment, all_said, owner_in, client_of, sent_in, sent_of, wanted_by, taken_if, taken_from, taken_by, Book, Queue, pointed_at, Traffic, both}
 use Rattle.kept_promise.proofs.Lists.{nothing_there, at_replaced}
@@ -66,7 +66,8 @@ counted_serves past k n now bytes (Some x) h = by (parse_of server_waiting bytes
   where
     by : (m : Result Message WireFault) → CountedBy past k (Serves n now bytes) (serves_if k n now x m)
     by (Ok m) =
-        let changed = changed_file (entries_since k.server (server_step k.server (event.Got n m now)).0) in
+        let r = server_step k.server (event.Got n m now) in
+        let changed = changed_file (newest_entries r.0.journal r.1.entries) in
         counted_quiet (sent_of past) (taken_of past) k.steps (k.steps + 1) (pointed_at k.ops x.closing (k.steps + 1) changed) (omega arith) (counted_pointed (sent_of past) (taken_of past) k.steps (k.steps + 1) k.ops x.closing changed h)
     by (Err e) = counted_quiet (sent_of past) (taken_of past) k.steps (k.steps + 1) k.ops (omega arith) h
 
@@ -81,7 +82,7 @@ counted_hangs past k n (Some x) h = by x.hung
 counted_settles : (past : List Moment) (k : Core) (now : ℕ) → CountedAt past k → CountedBy past k (Settles now) (settles k now)
 counted_settles past k now h =
     let r = server_step k.server (event.Settle now) in
-    by r.1.told (changed_file (entries_since k.server r.0))
+    by r.1.told (changed_file (newest_entries r.0.journal r.1.entries))
   where
     quietly : (ops : List Op) → AreCounted (sent_of past) (taken_of past) k.steps ops → AreCounted (sent_of past ++ []) (taken_of past ++ []) (k.steps + 1) ops
     quietly ops c = counted_quiet (sent_of past) (taken_of past) k.steps (k.steps + 1) ops (omega arith) c

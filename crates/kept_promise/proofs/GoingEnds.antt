@@ -28,13 +28,13 @@ use Rattle.server_core.specs.Closing as closing
 use Rattle.server_core.specs.Closing.{entered_by, entries_by, entry_by as written_by, count_of}
 use Rattle.server_core.specs.declared.change.Wanted.{Wanted}
 use Rattle.server_core.specs.declared.change.Wanted.TheVariants as wanted
-use Rattle.server_core.specs.declared.event.Sent.{Sent}
-use Rattle.server_core.specs.declared.event.ServerStep.{ServerStep}
+use Rattle.server_steps.specs.declared.event.Sent.{Sent}
+use Rattle.server_steps.specs.declared.event.ServerStep.{ServerStep}
 use Rattle.client_state.specs.declared.task.Stage.TheVariants as stage
 use Rattle.register_model.specs.Register.{IsFit}
 use Rattle.register_model.specs.declared.op.Outcome.TheVariants as told
 use Rattle.register_model.specs.declared.op.Word.TheVariants as words
-use Rattle.trace_ends.specs.Core.{entries_since, settles, settled_by, changed_file, is_of_file}
+use Rattle.trace_ends.specs.Core.{newest_entries, settles, settled_by, changed_file, is_of_file}
 use Rattle.trace_sessions.specs.Session.{settled_ops}
 use Rattle.trace_replay.specs.Faithful.{IsKind, left_by as left_of}
 use Rattle.trace_replay.specs.Naming.{entry_file, refusal_of}
@@ -58,10 +58,9 @@ use Rattle.kept_promise.proofs.Takes.{file_still, fresh_still}
 use Rattle.kept_promise.proofs.Turns.{turned_core}
 use Rattle.kept_promise.proofs.Fits.{FitLaws}
 use Rattle.kept_promise.proofs.Facts.{FileIs, IsServer, IsSession, IsKept}
-use Rattle.kept_promise.proofs.ServesFiles.{pointed_none, drop_more}
+use Rattle.kept_promise.proofs.ServesFiles.{pointed_none, count_is, newest_more}
 use Rattle.kept_promise.proofs.Leading.{IsNoted, Leads, downs_put, downs_put_in}
 use Rattle.kept_promise.proofs.Rooted.{IsRooted}
-use Rattle.kept_promise.proofs.GoingServes.{count_is}
 use Rattle.kept_promise.proofs.GoingSettles.{makes_for, answer_key, behind, settled_server, ShowsSettled, kept_settled, settled_came}
 use Rattle.kept_promise.proofs.Unused.{unused_gone}
 
@@ -80,13 +79,13 @@ pub asked_settles : (k : Core) (now : ℕ) (c : Change) (cs : List Change) (a : 
 asked_settles k now c cs a waits what =
     ap (λ (ws : List Change). did (closing.settles k.server now ws)) waits
     ∙ ap (λ (w : Wanted). did (closing.makes_change (at (record k.server { waiting = cs }) now) c w)) what
-    ∙ ap (λ (es : List Entry). record (asked_step k now c cs p) { core = record (asked_step k now c cs p).core { ops = settled_ops k.ops (k.steps + 1) (changed_file es) (numbered k.sessions c.session) } }) (drop_more k.server.journal (entries_by c.session p.1.first p.1.second))
+    ∙ ap (λ (es : List Entry). record (asked_step k now c cs p) { core = record (asked_step k now c cs p).core { ops = settled_ops k.ops (k.steps + 1) (changed_file es) (numbered k.sessions c.session) } }) (newest_more k.server.journal (entries_by c.session p.1.first p.1.second) (count_of p.1.first p.1.second) (count_is c.session p.1.first p.1.second))
   where
     p : Tree × Finished
     p = tree_settles k.server.tree (server.held cs) a
 
     did : server.State × ServerStep → CoreStep
-    did r = record (quiet (record k { steps = k.steps + 1; server = r.0; ops = settled_by k (changed_file (entries_since k.server r.0)) r.1.told; entries = k.entries ++ replicate r.1.entries (k.steps + 1) })) { down = r.1.send }
+    did r = record (quiet (record k { steps = k.steps + 1; server = r.0; ops = settled_by k (changed_file (newest_entries r.0.journal r.1.entries)) r.1.told; entries = k.entries ++ replicate r.1.entries (k.steps + 1) })) { down = r.1.send }
 
 -- its session and its queue
 told_queue : (sessions : List Session) (qs : List Queue) (n : ℕ) (x : Session) (q : Queue) (t : Told) → numbered sessions n ≡ Some x → numbered qs n ≡ Some q → downs_put sessions qs ((n, t) ∷ []) ≡ with_numbered qs n (record q { downs = unless x.cut q.downs (t ∷ []) })

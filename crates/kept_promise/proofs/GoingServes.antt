@@ -26,7 +26,7 @@ use Rattle.path_calls.specs.declared.walk.Walk.{Walk}
 use Rattle.server_core.specs.State as server
 use Rattle.chunk_calls.specs.Files as the_files
 use Rattle.server_core.specs.Closing.{entries_by, entry_by as written_by, count_of}
-use Rattle.server_core.specs.declared.event.Sent.{Sent}
+use Rattle.server_steps.specs.declared.event.Sent.{Sent}
 use Rattle.client_state.specs.State as client
 use Rattle.client_state.specs.declared.task.Stage.TheVariants as stage
 use Rattle.trace_replay.specs.Naming.{entry_file, refusal_of}
@@ -56,7 +56,7 @@ use Rattle.kept_promise.proofs.Takes.{took, file_still, fresh_still}
 use Rattle.kept_promise.proofs.Fits.{FitLaws}
 use Rattle.kept_promise.proofs.Facts.{FileIs, is_there, IsServer, IsSession}
 use Rattle.kept_promise.proofs.Serves.{answered, parsed}
-use Rattle.kept_promise.proofs.ServesFiles.{making_got, pointed_none}
+use Rattle.kept_promise.proofs.ServesFiles.{count_is, making_got, pointed_none}
 use Rattle.kept_promise.proofs.Calls.{Given, session_in, first_fits, rest_of, leads_by, same_temps, held_still}
 use Rattle.kept_promise.proofs.Orderly.{locals_of, Orderly}
 use Rattle.kept_promise.proofs.Ordered.{held_rest, held_first}
@@ -95,12 +95,6 @@ names_unchanged n (Some x) (Some y) a b = ap (λ (z : Bool). option_map (λ (e :
 pub names_file : (first : Option TreeEntry) → IsName first → entry_file first ≡ None
 names_file None a = refl
 names_file (Some x) a = ap (λ (z : Bool). if z then Some x.file else None) (ap is_of_file (a x refl))
-
-pub count_is : (n : ℕ) (first second : Option TreeEntry) → count_of first second ≡ length (entries_by n first second)
-count_is n None None = refl
-count_is n None (Some y) = refl
-count_is n (Some x) None = refl
-count_is n (Some x) (Some y) = refl
 
 -- ---- a call is taken
 

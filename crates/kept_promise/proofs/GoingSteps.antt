@@ -11,17 +11,17 @@ use Rattle.tree_calls.specs.declared.asked.Outcome.TheVariants.{Answered, Waits}
 use Rattle.path_calls.specs.Walk.{next_call}
 use Rattle.path_calls.specs.declared.walk.Walk.{Walk}
 use Rattle.server_core.specs.State as server
-use Rattle.server_core.specs.Closing.{entries_by}
+use Rattle.server_core.specs.Closing.{count_of, entries_by}
 use Rattle.server_core.specs.Step.{asks_tree}
 use Rattle.server_core.specs.declared.change.Wanted.TheVariants as wanted
-use Rattle.server_core.specs.declared.event.ServerStep.{ServerStep}
+use Rattle.server_steps.specs.declared.event.ServerStep.{ServerStep}
 use Rattle.server_core.specs.declared.journal.Entry.{Entry}
-use Rattle.trace_ends.specs.Core.{entries_since, server_got, changed_file}
+use Rattle.trace_ends.specs.Core.{newest_entries, server_got, changed_file}
 use Rattle.trace_ops.specs.Ops.{pointed_at}
 use Rattle.kept_promise.proofs.Common.{Op, Change, at, has_waiting, got_if, stands, Core, Session, CoreStep, with_numbered, quiet}
 use Rattle.kept_promise.proofs.PathNames.{IsWalkSmall, is_going}
 use Rattle.kept_promise.proofs.Departures.{comes_by, called_going}
-use Rattle.kept_promise.proofs.ServesFiles.{making_got, none_since, pointed_none, drop_more}
+use Rattle.kept_promise.proofs.ServesFiles.{making_got, count_is, newest_more, none_newest, pointed_none}
 
 -- what the server did, and what is noted of it
 did : Core → (n : ℕ) → Session → (xid : ℕ) → server.State × ServerStep → CoreStep
@@ -29,7 +29,7 @@ did k n x xid r = record (quiet (record k {
   steps = k.steps + 1;
   server = r.0;
   sessions = with_numbered k.sessions n (record x { taken = x.taken ++ record { xid = xid; step = k.steps + 1 } ∷ [] });
-  ops = pointed_at k.ops x.closing (k.steps + 1) (changed_file (entries_since k.server r.0));
+  ops = pointed_at k.ops x.closing (k.steps + 1) (changed_file (newest_entries r.0.journal r.1.entries));
   entries = k.entries ++ replicate r.1.entries (k.steps + 1);
 })) { down = r.1.send }
 
@@ -59,12 +59,12 @@ unfolding did
 got_answered k n now x xid w after d small going standing is =
     got_going k n now x xid w small going standing
     ∙ ap (going_did k n now x xid) is
-    ∙ ap (λ (l : List Entry). record (making_got k n now x xid (after, d)) { core = record (making_got k n now x xid (after, d)).core { ops = pointed_at k.ops x.closing (k.steps + 1) (changed_file l) } }) (drop_more k.server.journal (entries_by n d.first d.second))
+    ∙ ap (λ (l : List Entry). record (making_got k n now x xid (after, d)) { core = record (making_got k n now x xid (after, d)).core { ops = pointed_at k.ops x.closing (k.steps + 1) (changed_file l) } }) (newest_more k.server.journal (entries_by n d.first d.second) (count_of d.first d.second) (count_is n d.first d.second))
 
 pub got_waits : (k : Core) (n now : ℕ) (x : Session) (xid : ℕ) (w : Walk) (a : Asked) → IsWalkSmall w → is_going w ≡ true → stands k.server n ≡ true → comes_by k.server.tree (server.held k.server.waiting) (has_waiting k.server.waiting n) w.dir w.goal ≡ (k.server.tree, Waits a) → server_got k n now x (message.Call xid (body.Nfs (next_call w))) ≡ waits_got k n now x xid a
 unfolding did
 got_waits k n now x xid w a small going standing is =
     got_going k n now x xid w small going standing
     ∙ ap (going_did k n now x xid) is
-    ∙ ap (λ (l : List Op). record (waits_got k n now x xid a) { core = record (waits_got k n now x xid a).core { ops = l; entries = k.entries ++ [] } }) (ap (pointed_at k.ops x.closing (k.steps + 1)) (none_since k.server (record (at k.server now) { waiting = k.server.waiting ++ coming n xid a ∷ [] }) refl) ∙ pointed_none k.ops x.closing (k.steps + 1))
+    ∙ ap (λ (l : List Op). record (waits_got k n now x xid a) { core = record (waits_got k n now x xid a).core { ops = l; entries = k.entries ++ [] } }) (ap (pointed_at k.ops x.closing (k.steps + 1)) (none_newest k.server.journal 0 refl) ∙ pointed_none k.ops x.closing (k.steps + 1))
     ∙ ap (λ (l : List ℕ). record (waits_got k n now x xid a) { core = record (waits_got k n now x xid a).core { entries = l } }) (append-nil k.entries)

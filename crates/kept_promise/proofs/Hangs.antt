@@ -3,7 +3,7 @@ use Rattle.std.proofs.Common.{inl, inr, ◌≡◌, ℕ, zero, suc, ◌+◌, ◌�
 use Rattle.server_core.specs.State as server
 use Rattle.chunk_calls.specs.Files as the_files
 use Rattle.server_core.specs.Step.{hangs, hangs_if}
-use Rattle.server_core.specs.declared.event.Event.TheVariants as event
+use Rattle.server_steps.specs.declared.event.Event.TheVariants as event
 use Rattle.client_state.specs.State as client
 use Rattle.trace_ends.specs.Core.{hangs_if as core_hangs_if, hangs as core_hangs}
 use Rattle.kept_promise.proofs.Common.{slice_get, not, cond, ◌==◌, filter, list_any, stands, server_step, Change, Op, Core, Seat, Session, quiet, numbered, with_numbered, Book, Ask, Queue, version_at}
@@ -73,7 +73,7 @@ was_there p (y ∷ xs) i x e = by (p y) i e (λ k f. was_there p xs k x f)
 
 -- ---- the changes that are left
 
-left_there : (n : ℕ) (ws : List Change) (i : ℕ) (c : Change) → slice_get (filter (λ d. not (d.session == n)) ws) i ≡ Some c → ((j : ℕ) × (slice_get ws j ≡ Some c)) × (c.session ≡ n → ⊥)
+pub left_there : (n : ℕ) (ws : List Change) (i : ℕ) (c : Change) → slice_get (filter (λ d. not (d.session == n)) ws) i ≡ Some c → ((j : ℕ) × (slice_get ws j ≡ Some c)) × (c.session ≡ n → ⊥)
 left_there n [] i c e = nothing_there c e
 left_there n (d ∷ ws) i c e = by (d.session == n) refl i e (λ k f. left_there n ws k c f)
   where

@@ -7,7 +7,6 @@ use Rattle.hash_calls.specs.declared.call.CondPiece.{CondPiece}
 use Rattle.hash_calls.specs.declared.message.LbProc.TheVariants as lb_proc
 use Rattle.wire.specs.declared.message.Program.TheVariants as program
 use Rattle.xdr_codec.specs.declared.status.Status.TheVariants as status
-use Rattle.server_core.specs.State as server
 use Rattle.chunk_calls.specs.Files as the_files
 use Rattle.server_core.specs.Closing.{looked_up}
 use Rattle.server_core.specs.Hashed.{bytes_compared, listed}

@@ -11,14 +11,14 @@ use Rattle.server_core.specs.Closing as closing
 use Rattle.server_core.specs.Step as stepping
 use Rattle.client_state.specs.State as client
 use Rattle.register_model.specs.declared.op.Word.TheVariants as words
-use Rattle.server_core.specs.declared.event.ServerStep.{ServerStep}
+use Rattle.server_steps.specs.declared.event.ServerStep.{ServerStep}
 use Rattle.path_calls.specs.Walk.{begun}
 use Rattle.path_calls.specs.declared.walk.Walk.{Walk}
 use Rattle.client_state.specs.View.{walk_left}
 use Rattle.kept_promise.proofs.Common.{nat_lt, ◌&&◌, not, cond, filter, ◌==◌, Command, parse_of, makes_change, got_if, stands, connect, has_room, Change, may_ask, command_step, ended_by, ClientStep, Ended, Task, Opening, Word, word_of, Core, Seat, Session, Event, Event.Joins, Event.Does, Event.Serves, Event.Hears, Event.Settles, Event.Cuts, Event.Hangs, CoreStep, numbered, with_numbered, server_waiting, session_of, serves_if, serves, is_newest, hears_if, hears_at, hears, commanded_session, commanded_sessions, does, joins_as, joins, settles, cut_session, cuts_if, cuts, hangs_if, hangs, happens, closing_with, Moment, unless, Call, Call.Commit, Ask, Told, Queue, ask_message, Loss, Loss.Nothing, Loss.Down_of, Loss.Up_of, no_queue, Wanted, Call.Walks, has_waiting}
 use Rattle.trace_ends.specs.Core.{Loss.Made}
 use Rattle.kept_promise.proofs.StepCases.{command_cases}
-use Rattle.kept_promise.proofs.CallsKeep.{IsCommitCall, is_of_files, Waits, got_if_keeps, makes_call, walk_made}
+use Rattle.kept_promise.proofs.CallsKeep.{IsByCommit, is_of_files, Waits, got_if_keeps, makes_call, walk_made}
 use Rattle.kept_promise.proofs.Statements.{CallFits}
 use Rattle.kept_promise.proofs.Lists.{some_is, nothing_there, same_or_not, set_count, of_appended, of_replaced, true_and_false}
 use Rattle.kept_promise.proofs.Keys.{own}
@@ -141,35 +141,35 @@ closing_stays c place w o e is = ap (closing_with c place w) is ∙ by w
 
 -- ---- what waits at the server
 
-got_waits : (s : server.State) (n now : ℕ) (a : Ask) (b : Bool) → CallFits a.xid a.call → Waits s.waiting n (change_number a.call ≡ 1) (got_if s b n (ask_message a) now).0.waiting
+got_waits : (s : server.State) (n now : ℕ) (a : Ask) (b : Bool) → CallFits a.xid a.call → Waits s.waiting n (λ d. change_number a.call ≡ 1) (got_if s b n (ask_message a) now).0.waiting
 got_waits s n now a b fits = by (makes_call a.call) refl
   where
-    of_commit : (c : Call) → IsCommitCall (ask_message (record { xid = a.xid; call = c })) → change_number c ≡ 1
-    of_commit (Commit temp g size) h = refl
-    of_commit _ h = absurd h
+    of_commit : (d : Change) (c : Call) → IsByCommit (ask_message (record { xid = a.xid; call = c })) d → change_number c ≡ 1
+    of_commit d (Commit temp g size) h = refl
+    of_commit d _ h = absurd h
 
     building : (w : Walk) → IsWalkSmall w → is_building w ≡ true → (b : Bool) → (got_if s b n (ask_message (record { xid = a.xid; call = Walks w })) now).0.waiting ≡ s.waiting
     building w small builds true = ap (λ (r : server.State × ServerStep). r.0.waiting) (called_making (closing.at s now) n a.xid w small builds)
     building w small builds false = refl
 
     -- by what the tree makes of a call that removes or renames
-    asks : (w : Walk) → is_creating w ≡ true → (p : Tree × Outcome) → Waits s.waiting n (change_number (Walks w) ≡ 1) (asks_tree (closing.at s now) n a.xid (some p)).0.waiting
+    asks : (w : Walk) → is_creating w ≡ true → (p : Tree × Outcome) → Waits s.waiting n (λ d. change_number (Walks w) ≡ 1) (asks_tree (closing.at s now) n a.xid (some p)).0.waiting
     asks w creates (t, Answered d) = inl refl
     asks w creates (t, ToWait c) = inr (coming n a.xid c, refl, refl, ap (λ (b : Bool). cond b 1 0) creates)
 
-    going : (w : Walk) → IsWalkSmall w → is_going w ≡ true → (b : Bool) → Waits s.waiting n (change_number (Walks w) ≡ 1) (got_if s b n (ask_message (record { xid = a.xid; call = Walks w })) now).0.waiting
-    going w small goes true = subst (λ (r : server.State × ServerStep). Waits s.waiting n (change_number (Walks w) ≡ 1) r.0.waiting) (sym (called_going (closing.at s now) n a.xid w small goes)) (asks w (going_creates w.left w.goal goes) (comes_by s.tree (server.held s.waiting) (has_waiting s.waiting n) w.dir w.goal))
+    going : (w : Walk) → IsWalkSmall w → is_going w ≡ true → (b : Bool) → Waits s.waiting n (λ d. change_number (Walks w) ≡ 1) (got_if s b n (ask_message (record { xid = a.xid; call = Walks w })) now).0.waiting
+    going w small goes true = subst (λ (r : server.State × ServerStep). Waits s.waiting n (λ d. change_number (Walks w) ≡ 1) r.0.waiting) (sym (called_going (closing.at s now) n a.xid w small goes)) (asks w (going_creates w.left w.goal goes) (comes_by s.tree (server.held s.waiting) (has_waiting s.waiting n) w.dir w.goal))
     going w small goes false = inl refl
 
-    by : (c : Bool) → makes_call a.call ≡ c → Waits s.waiting n (change_number a.call ≡ 1) (got_if s b n (ask_message a) now).0.waiting
-    by false none = elim (got_if_keeps (λ r. Waits s.waiting n (IsCommitCall (ask_message a)) r.waiting) s n (ask_message a) now (is_of_files a fits none) (λ temps waiting index moment w. w) b) [
+    by : (c : Bool) → makes_call a.call ≡ c → Waits s.waiting n (λ d. change_number a.call ≡ 1) (got_if s b n (ask_message a) now).0.waiting
+    by false none = elim (got_if_keeps (λ r. Waits s.waiting n (IsByCommit (ask_message a)) r.waiting) s n (ask_message a) now (is_of_files a fits none) (λ temps waiting index moment w. w) b) [
       | inl same ↦ inl same
-      | inr c ↦ inr (c.0, c.1, c.2, of_commit a.call c.3)
+      | inr c ↦ inr (c.0, c.1, c.2, of_commit c.0 a.call c.3)
     ]
     by true some_ =
         let w = walk_made a.call some_ in
         let fit = subst (CallFits a.xid) w.1 fits in
-        subst (λ (c : Call). Waits s.waiting n (change_number c ≡ 1) (got_if s b n (ask_message (record { xid = a.xid; call = c })) now).0.waiting) (sym w.1) (elim (making_is w.0.left w.0.goal w.2) [
+        subst (λ (c : Call). Waits s.waiting n (λ d. change_number c ≡ 1) (got_if s b n (ask_message (record { xid = a.xid; call = c })) now).0.waiting) (sym w.1) (elim (making_is w.0.left w.0.goal w.2) [
           | inl builds ↦ inl (building w.0 fit.1 builds b)
           | inr goes ↦ going w.0 fit.1 goes b
         ])
@@ -436,15 +436,15 @@ leaves_serves laws opening all k qs mid m now bytes kept f =
     one_less : (a : Ask) (us : List Ask) → change_number a.call ≡ 1 → commits_in (a ∷ us) ≡ suc (commits_in us)
     one_less a us h = omega (arith, h)
 
-    same_there : (after : List Change) → Waits k.server.waiting m (change_number f.1.call ≡ 1) after → commits_in f.2 + length (own m after) ≤ commits_in f.0.ups + length (own m k.server.waiting)
+    same_there : (after : List Change) → Waits k.server.waiting m (λ d. change_number f.1.call ≡ 1) after → commits_in f.2 + length (own m after) ≤ commits_in f.0.ups + length (own m k.server.waiting)
     same_there after (inl e) = let w = ap (λ ws. length (own m ws)) e in let n = commits_tail f.1 f.2 in let u = ap commits_in f.4 in omega (arith, w, n, u)
     same_there after (inr c) = let w = ap (λ ws. length (own m ws)) c.2 in let l = own_one m k.server.waiting c.0 in let n = one_less f.1 f.2 c.3 in let u = ap commits_in f.4 in omega (arith, w, l, n, u)
 
-    same_else : (after : List Change) (n : ℕ) → (n ≡ m → ⊥) → Waits k.server.waiting m (change_number f.1.call ≡ 1) after → length (own n after) ≤ length (own n k.server.waiting)
+    same_else : (after : List Change) (n : ℕ) → (n ≡ m → ⊥) → Waits k.server.waiting m (λ d. change_number f.1.call ≡ 1) after → length (own n after) ≤ length (own n k.server.waiting)
     same_else after n apart (inl e) = let w = ap (λ ws. length (own n ws)) e in omega (arith, w)
     same_else after n apart (inr c) = let w = ap (λ ws. length (own n ws)) (c.2) in let o = ap (λ (l : List Change). length l) (own_there n k.server.waiting c.0 (λ e. apart (sym e ∙ c.1))) in omega (arith, w, o)
 
-    by : (x : Session) → numbered k.sessions m ≡ Some x → Waits k.server.waiting m (change_number f.1.call ≡ 1) (got_if k.server (stands k.server m) m (ask_message f.1) now).0.waiting → Leaves k qs mid (serves_if k m now x (Ok (ask_message f.1)))
+    by : (x : Session) → numbered k.sessions m ≡ Some x → Waits k.server.waiting m (λ d. change_number f.1.call ≡ 1) (got_if k.server (stands k.server m) m (ask_message f.1) now).0.waiting → Leaves k qs mid (serves_if k m now x (Ok (ask_message f.1)))
     by x at waits =
         let t = serves_if k m now x (Ok (ask_message f.1)) in
         record {

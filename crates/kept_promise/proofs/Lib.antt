@@ -4,6 +4,7 @@ pub mod Lists
 pub mod Taking
 pub mod LogSums
 pub mod NamesLog
+pub mod NamesMove
 pub mod Logs
 pub mod LogEvents
 pub mod Paying
@@ -143,6 +144,7 @@ pub mod Answered
 pub mod Takings
 pub mod Acted
 pub mod Drops
+pub mod WalkFile
 pub mod WalkFinds
 pub mod WalkSteps
 pub mod Hears

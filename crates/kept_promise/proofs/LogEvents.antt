@@ -11,9 +11,9 @@ use Rattle.path_calls.specs.declared.walk.Walk.{Walk}
 use Rattle.open_close.specs.Walking.{asks_next, outcome_of, is_look, seen_in}
 use Rattle.client_state.specs.Ending.{forgets as forgets_of}
 use Rattle.server_core.specs.State as server
-use Rattle.server_core.specs.declared.event.Event.TheVariants as event
-use Rattle.server_core.specs.declared.event.Told.{Told as Announced}
-use Rattle.server_core.specs.declared.event.Told.TheVariants as announced
+use Rattle.server_steps.specs.declared.event.Event.TheVariants as event
+use Rattle.server_rules.specs.declared.told.Told.{Told as Announced}
+use Rattle.server_rules.specs.declared.told.Told.TheVariants as announced
 use Rattle.file_close.specs.Closing.{make_call}
 use Rattle.file_open.specs.Looking.{reading_by, with_file, reading_if, reading}
 use Rattle.client_state.specs.State as client

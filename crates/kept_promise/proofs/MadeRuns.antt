@@ -8,9 +8,9 @@ use Rattle.client_state.specs.State as client
 use Rattle.register_model.specs.declared.op.Word.TheVariants as words
 use Rattle.server_core.specs.declared.change.Wanted.{Wanted}
 use Rattle.server_core.specs.declared.change.Wanted.TheVariants as wanted
-use Rattle.server_core.specs.declared.event.Told.TheVariants as announced
+use Rattle.server_rules.specs.declared.told.Told.TheVariants as announced
 use Rattle.tree_plans.specs.declared.entry.EntryKind.TheVariants as kind
-use Rattle.trace_ends.specs.Core.{entries_since, changed_file}
+use Rattle.trace_ends.specs.Core.{newest_entries, changed_file}
 use Rattle.trace_replay.specs.Faithful.{IsSettled, SettlesFirst, IsMadeOrRefused}
 use Rattle.kept_promise.proofs.Common.{Contains-push_cases, slice_get, slice_set, Contains, makes_change, connect, has_room, stands, Change, ServerStep, File, Entry, ClientStep, Ended, Op, Opening, TakenCall, has_point, op_after, Core, Seat, Session, Event, Event.Joins, Event.Does, Event.Serves, Event.Hears, Event.Settles, Event.Cuts, Event.Hangs, CoreStep, numbered, joins_as, joins, does, cuts_if, cuts, hangs_if, hangs, ops_with, settles, happens, Moment, step_of, Book, Queue}
 use Rattle.kept_promise.proofs.Lists.{some_is, nothing_there, at_end, at_replaced, kept_appended, of_appended, same_or_not, set_else, within, of_more, in_front}
@@ -19,7 +19,7 @@ use Rattle.kept_promise.proofs.Facts.{IsKept}
 use Rattle.kept_promise.proofs.RunsCarried.{book_at, moment, Step, Carried}
 use Rattle.kept_promise.proofs.Actors.{heard_at}
 use Rattle.kept_promise.proofs.Fits.{FitLaws}
-use Rattle.kept_promise.proofs.ServesFiles.{one_since}
+use Rattle.kept_promise.proofs.ServesFiles.{newest_one}
 use Rattle.kept_promise.proofs.Promised.{own_there}
 use Rattle.kept_promise.proofs.Rights.{IsRight}
 use Rattle.kept_promise.proofs.VersionRuns.{close_not_opened}
@@ -202,7 +202,7 @@ made_entered opening all past k e count q points tells h = record {
 
 -- what a settling leaves, by what the server did
 abbrev left_by : Core → server.State × ServerStep → Core
-left_by k r = record k { steps = k.steps + 1; server = r.0; ops = Rattle.trace_ends.specs.Core.settled_by k (changed_file (entries_since k.server r.0)) r.1.told; entries = k.entries ++ replicate r.1.entries (k.steps + 1) }
+left_by k r = record k { steps = k.steps + 1; server = r.0; ops = Rattle.trace_ends.specs.Core.settled_by k (changed_file (newest_entries r.0.journal r.1.entries)) r.1.told; entries = k.entries ++ replicate r.1.entries (k.steps + 1) }
 
 -- a close that had no point gets one
 pointed_points : (ops : List Op) (place file step : ℕ) (o : Op) → slice_get ops place ≡ Some o → o.point ≡ None → KeepsPoints ops (slice_set ops place (record o { file = file; point = Some step }))
@@ -240,7 +240,7 @@ made_settling all past rest opening k qs now mid after s h = by (settling (book_
         let op : Op = record pending.op { file = c.file; point = Some (k.steps + 1) } in
         let made_op : slice_get (slice_set k.ops pending.place op) pending.place ≡ Some op = at_replaced k.ops pending.place op pending.op pending.there in
         let ops_are : (left_by k (made_change (at_reading (record k.server { waiting = cs }) now) c (content_wanted c.what) f)).ops ≡ slice_set k.ops pending.place op =
-        ap (λ (z : Option ℕ). Rattle.trace_ends.specs.Core.settled_by k z (announced.Settled c.session c.xid)) (one_since k.server (made_change (at_reading (record k.server { waiting = cs }) now) c (content_wanted c.what) f).0 (entry_of c (content_wanted c.what) f) refl)
+        ap (λ (z : Option ℕ). Rattle.trace_ends.specs.Core.settled_by k z (announced.Settled c.session c.xid)) (newest_one k.server.journal (entry_of c (content_wanted c.what) f))
         ∙ ap (Rattle.trace_sessions.specs.Session.settled_ops k.ops (k.steps + 1) (Some c.file)) home.1
         ∙ ap (λ l. Rattle.trace_ops.specs.Ops.pointed_at k.ops l (k.steps + 1) (Some c.file)) pending.known
         ∙ ap (Rattle.trace_ops.specs.Ops.pointed k.ops pending.place c.file (k.steps + 1)) pending.there in

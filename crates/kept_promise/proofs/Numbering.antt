@@ -85,7 +85,7 @@ hashes_number s calls file xid f (Done h) = by (h.version == f.version)
   where
     by : (same : Bool) → Numbers s (told_version s calls file xid f h same)
     by true = shape_number s calls file xid f h (broken_of f h)
-    by false = retries_number s calls file xid (nat_lt f.tries Rattle.client_state.specs.Limits.tries_most) f h.version 0
+    by false = retries_number s calls file xid (nat_lt f.tries Rattle.transfer_rules.specs.Limits.tries_most) f h.version 0
 
 first_numbers : (s : client.State) (calls : List Pending) (file xid tries : ℕ) (a : Answer Hashes Unit) → Numbers s (told_first s calls file xid tries a)
 first_numbers s calls file xid tries (Failed t u) = omega arith
@@ -100,7 +100,7 @@ lease_number s calls file xid (Failed t u) = omega arith
 lease_number s calls file xid (Done l) = kept_number s calls file xid l.version (content_in l.version (content_of s.cache file))
 
 misfits_number : (s : client.State) (calls : List Pending) (file xid : ℕ) (f : Fetch) (b : BadPeer) (bytes : ℕ) (o : Option ℕ) → Numbers s (misfits s calls file xid f b bytes o)
-misfits_number s calls file xid f b bytes (Some version) = retries_number s calls file xid (nat_lt f.tries Rattle.client_state.specs.Limits.tries_most) f version bytes
+misfits_number s calls file xid f b bytes (Some version) = retries_number s calls file xid (nat_lt f.tries Rattle.transfer_rules.specs.Limits.tries_most) f version bytes
 misfits_number s calls file xid f b bytes None = omega arith
 
 bytes_number : (s : client.State) (calls : List Pending) (file xid : ℕ) (f : Fetch) (c : ReadCall) (piece : Piece) (o : Option BadPeer) → Numbers s (told_bytes s calls file xid f c piece o)

@@ -1,9 +1,9 @@
 -- A run carries that a client is at one session as long as an operation of it is under way.
 use Rattle.std.proofs.Common.{◌⊎◌, inl, inr, ◌≡◌, ℕ, List, [], ◌∷◌, ◌++◌, length, Option, Some, None, Ok, Bool, true, false, refl, sym, ap, ◌∙◌, subst, arith}
 use Rattle.server_core.specs.State as server
-use Rattle.server_core.specs.declared.event.Event.TheVariants as event
-use Rattle.server_core.specs.declared.event.Told.{Told as Announced}
-use Rattle.server_core.specs.declared.event.Told.TheVariants as announced
+use Rattle.server_steps.specs.declared.event.Event.TheVariants as event
+use Rattle.server_rules.specs.declared.told.Told.{Told as Announced}
+use Rattle.server_rules.specs.declared.told.Told.TheVariants as announced
 use Rattle.client_state.specs.State as client
 use Rattle.kept_promise.proofs.Common.{slice_get, Contains, Contains-push_cases, Command, ClientStep, Ended, command_step, joined, Task, Op, Opening, Core, Seat, CoreStep, Event, Event.Joins, Event.Does, Event.Serves, Event.Hears, Event.Settles, Event.Cuts, Event.Hangs, numbered, with_numbered, place_with, place_after, joins, joins_as, does, cuts, cuts_if, got_step, told_message, server_step, happens, Moment, Queue}
 use Rattle.kept_promise.proofs.Actors.{heard_at, heard_acts, job_place, job_task}

@@ -49,7 +49,8 @@ use Rattle.kept_promise.proofs.WalkSaid.{AreSaid, GaveNow, said_event, own_calls
 use Rattle.kept_promise.proofs.WalkPages.{begun_pages}
 use Rattle.kept_promise.proofs.Messages.{job}
 use Rattle.kept_promise.proofs.Lists.{nothing_there}
-use Rattle.kept_promise.proofs.Saved.{AllSaved, carried_saved, none_unknown}
+use Rattle.kept_promise.proofs.Saved.{none_unknown}
+use Rattle.kept_promise.proofs.NamesMove.{AllNamed, carried_named, names_change}
 use Rattle.kept_promise.proofs.Promised.{no_fault, legal_kept, holds_files, holds_contents, holds_values}
 
 -- ---- facts that are carried together
@@ -91,7 +92,7 @@ Walked all past opening k qs = WalksAt all past opening k qs × ((IsFollowed pas
 
 -- all that is carried
 abbrev More : Fact
-More all past opening k qs = Used all past opening k qs × (AllSaved all past opening k qs × (SmallDeeds all past opening k qs × Walked all past opening k qs))
+More all past opening k qs = Used all past opening k qs × (AllNamed all past opening k qs × (SmallDeeds all past opening k qs × Walked all past opening k qs))
 
 told_carried : Carried Told
 told_carried =
@@ -102,12 +103,12 @@ told_carried =
 
 used_carried : Carried Used
 used_carried = record {
-  first = λ all opening tree count kept. (told_carried.first all opening tree count kept, (record { by = λ m there. (let lt = there.1 in absurd (omega (arith, lt))); leased = λ m there. (let lt = there.1 in absurd (omega (arith, lt))); each = λ m there. (let lt = there.1 in absurd (omega (arith, lt))); shut = λ m there. (let lt = there.1 in absurd (omega (arith, lt))) }, record { jobs = λ i seat j d o here is deed at. nothing_there o at; each = λ p d o deed at. nothing_there o at; gave = λ p d o deed at. nothing_there o at }));
+  first = λ all opening tree count kept. (told_carried.first all opening tree count kept, (record { by = λ m there. (let lt = there.1 in absurd (omega (arith, lt))); leased = λ m there. (let lt = there.1 in absurd (omega (arith, lt))); each = λ m there. (let lt = there.1 in absurd (omega (arith, lt))); shut = λ m there. (let lt = there.1 in absurd (omega (arith, lt))) }, record { jobs = λ i seat j d o here is deed at. nothing_there o at; each = λ p d o deed at. nothing_there o at; gave = λ p d o deed at. nothing_there o at; filed = λ p d o deed at. nothing_there o at }));
   steps = λ all past rest opening k qs e mid after s h.
       let told = told_carried.steps all past rest opening k qs e mid after s h.0 in
       let said = told.1.1.1.0.1.0.by (moment k e) (Contains-append_right past (moment k e ∷ []) (moment k e) (Contains-push [] (moment k e))) in
-      (told, (used_event fit_laws all past rest opening k qs e mid after s (record { opens = h.0.1.1.1.1.0; own = h.0.1.1.1.1.1.1; counted = h.0.1.0.counted }) said h.1.0, said_event fit_laws all past rest opening k qs e mid after s h.0.1.1.1.1.0.by h.0.0.followed.deeds.count h.1.1));
-  adjusts = λ all past opening k qs index seats same h. (told_carried.adjusts all past opening k qs index seats same h.0, (record { by = h.1.0.by; leased = h.1.0.leased; each = h.1.0.each; shut = h.1.0.shut }, record { jobs = λ i seat j d o here is deed at. (let z = same.was i seat here in h.1.1.jobs i z.0 j d o z.3 (ap job (sym z.4) ∙ is) deed at); each = h.1.1.each; gave = h.1.1.gave }));
+      (told, (used_event fit_laws all past rest opening k qs e mid after s (record { opens = h.0.1.1.1.1.0; own = h.0.1.1.1.1.1.1; counted = h.0.1.0.counted }) said h.1.0, said_event fit_laws all past rest opening k qs e mid after s h.0.1.1.1.1.0.by h.0.0.followed.deeds.count (λ p d o deed at. (h.0.0.followed.deeds.each p d o deed at).word) h.1.1));
+  adjusts = λ all past opening k qs index seats same h. (told_carried.adjusts all past opening k qs index seats same h.0, (record { by = h.1.0.by; leased = h.1.0.leased; each = h.1.0.each; shut = h.1.0.shut }, record { jobs = λ i seat j d o here is deed at. (let z = same.was i seat here in h.1.1.jobs i z.0 j d o z.3 (ap job (sym z.4) ∙ is) deed at); each = h.1.1.each; gave = h.1.1.gave; filed = h.1.1.filed }));
 }
 
 walked_carried : Carried Walked
@@ -118,8 +119,8 @@ walked_carried =
 
 more_carried : Carried More
 more_carried =
-    carried_both Used (λ all past opening k qs. AllSaved all past opening k qs × (SmallDeeds all past opening k qs × Walked all past opening k qs)) used_carried
-    (carried_both AllSaved (λ all past opening k qs. SmallDeeds all past opening k qs × Walked all past opening k qs) (carried_saved fit_laws)
+    carried_both Used (λ all past opening k qs. AllNamed all past opening k qs × (SmallDeeds all past opening k qs × Walked all past opening k qs)) used_carried
+    (carried_both AllNamed (λ all past opening k qs. SmallDeeds all past opening k qs × Walked all past opening k qs) (carried_named fit_laws)
     (carried_both SmallDeeds Walked carried_small walked_carried))
 
 -- ---- the promise of what a run leaves
@@ -164,6 +165,8 @@ promise_of input w ran h =
         attempts = λ k o at. attempts_end (book_of w all) all o (h.kept.sound.rights k o at) (logs.1.0.met.each k o at) (logs.1.1.each k o at);
         met = λ k o at open_. attempts_met all o open_ (logs.1.0.met.each k o at);
         owned = λ m there. is_for w.core.ops m (changes.1.0.each m there);
+        files = λ k d o was at. h.more.0.1.1.filed k d o was at;
+        names = λ m there. names_change (book_of w all) m (h.more.1.0.named.each m there) changes.1.0.each;
         calls = λ k d o at is. own_calls d.command o (deals_of o all) (h.more.0.1.1.each k d o at is) (logs.1.1.each k o is).0;
         numbered = λ n. changes.1.1.each n;
         silent = stored.counted.silent;
@@ -182,10 +185,10 @@ promise_of input w ran h =
             ends_well (book_of w all) d o _ (λ n is status refused. (is_known w all h walks k d o was at).ends n is (asked_late (deeds_of all) w.core.ops k d o n (h.more.0.0.0.followed.deeds.each k d o was at) is asks free) status refused) (deeds_done w all h.queues h.kept h.more.0.0.0.followed k d o was at (is_known w all h walks k d o was at)) (completes fit_laws w all h.queues h.kept h.carry h.rested k o at alone) asks free uncut;
       };
       saving = record {
-        known = λ m there. (h.more.1.0.each m there).0;
-        told = λ m there. (h.more.1.0.each m there).1;
-        saved = λ k o at close known. saves_all all o close (stored.closes.each k o at) (stored.counted.counts k o at) (none_unknown all o (λ m there. (h.more.1.0.each m there).1) known);
-        asked = λ m there. (h.more.1.0.each m there).2;
+        known = λ m there. (h.more.1.0.saved.each m there).0;
+        told = λ m there. (h.more.1.0.saved.each m there).1;
+        saved = λ k o at close known. saves_all all o close (stored.closes.each k o at) (stored.counted.counts k o at) (none_unknown all o (λ m there. (h.more.1.0.saved.each m there).1) known);
+        asked = λ m there. (h.more.1.0.saved.each m there).2;
         leased = λ m k o there at. h.more.0.1.0.leased m there k o at;
         used = λ m k o there at. h.more.0.1.0.each m there k o at;
       };

@@ -1,7 +1,6 @@
 -- What holds of an operation, and of the journal beside the operations.
 use Rattle.std.proofs.Common.{◌≡◌, ◌⊎◌, ℕ, ◌+◌, ◌<◌, ◌≤◌, List, length, Some, None, Bool, true, false, IsSome, refl}
 use Rattle.path_calls.specs.declared.walk.Walk.{Walk}
-use Rattle.server_core.specs.State as server
 use Rattle.chunk_calls.specs.Files as the_files
 use Rattle.client_state.specs.declared.task.Stage.TheVariants as stage
 use Rattle.register_model.specs.declared.op.Outcome.{Outcome}

@@ -1,5 +1,5 @@
 -- A call is taken: of one on a file nothing is made in that step, so that the operations and the entries are as they were; of a walk's last call something may be.
-use Rattle.std.proofs.Common.{◌≡◌, ℕ, ◌+◌, List, [], ◌∷◌, ◌++◌, length, drop, append-nil, Option, Some, None, Result, Ok, Err, Bool, true, false, refl, ap, ◌∙◌, replicate, if◌then◌else◌}
+use Rattle.std.proofs.Common.{◌≡◌, ℕ, ◌+◌, ◌-◌, List, [], ◌∷◌, ◌++◌, length, length-append, drop, append-nil, arith, Option, Some, None, Result, Ok, Err, Bool, true, false, refl, ap, ◌∙◌, replicate, if◌then◌else◌}
 use Rattle.xdr_codec.specs.declared.answer.Answer.TheVariants.{Failed}
 use Rattle.xdr_codec.specs.declared.status.Status.{Status}
 use Rattle.xdr_codec.specs.declared.status.Status.TheVariants as status
@@ -10,24 +10,26 @@ use Rattle.wire.specs.declared.message.Body.TheVariants as body
 use Rattle.wire.specs.declared.message.Message.{Message}
 use Rattle.wire.specs.declared.message.Message.TheVariants as message
 use Rattle.server_core.specs.State as server
-use Rattle.server_core.specs.declared.event.Event.TheVariants as event
-use Rattle.server_core.specs.declared.event.ServerStep.{ServerStep}
+use Rattle.server_steps.specs.declared.event.Event.TheVariants as event
+use Rattle.server_steps.specs.declared.event.ServerStep.{ServerStep}
 use Rattle.server_core.specs.declared.journal.Entry.{Entry}
 use Rattle.server_core.specs.declared.change.Wanted.TheVariants as wanted
 use Rattle.chunk_calls.specs.Answers.{Node, directory, file, node_of}
-use Rattle.server_core.specs.Closing.{sends, answers, looked_up as index_found}
+use Rattle.server_core.specs.Closing.{answers, looked_up as index_found}
+use Rattle.server_steps.specs.Steps.{sends}
 use Rattle.temp_files.specs.Temps.{without_temp}
-use Rattle.trace_ends.specs.Core.{entries_since, server_got, changed_file}
+use Rattle.trace_ends.specs.Core.{newest_entries, server_got, changed_file}
 use Rattle.trace_ops.specs.Ops.{pointed_at}
 use Rattle.kept_promise.proofs.Common.{size_most, room_fault, piece_fault, temp_at, Temp, assembled, nat_lt, Op, File, at, is_full, has_waiting, cond_fault, bytes_known, makes, makes_unless, writes_unless, names_unless, names_bytes, commits, commits_to, commits_whole, server_step, stands, got_if, called, Core, Session, CoreStep, with_numbered, quiet, taken_with}
 use Rattle.server_core.specs.Closing.{entries_by, count_of}
+use Rattle.tree_plans.specs.declared.entry.Entry.{Entry as TreeEntry}
 use Rattle.tree_reading.specs.Tree.{Tree}
 use Rattle.tree_calls.specs.declared.asked.Done.{Done}
 use Rattle.path_calls.specs.Walk.{next_call}
 use Rattle.path_calls.specs.declared.walk.Walk.{Walk}
 use Rattle.kept_promise.proofs.PathNames.{IsWalkSmall, is_building}
 use Rattle.kept_promise.proofs.Makings.{made_by, called_making}
-use Rattle.kept_promise.proofs.CallsKeep.{IsOfFiles, got_keeps}
+use Rattle.kept_promise.proofs.CallsKeep.{IsOfFiles}
 
 -- ---- nothing is made
 
@@ -106,16 +108,31 @@ drop_all : {A : Type 0} (xs : List A) → drop (length xs) xs ≡ []
 drop_all [] = refl
 drop_all (x ∷ xs) = drop_all xs
 
-pub none_since : (before after : server.State) → after.journal ≡ before.journal → changed_file (entries_since before after) ≡ None
-none_since before after same = ap (λ (l : List Entry). changed_file (drop (length before.journal) l)) same ∙ ap changed_file (drop_all before.journal)
+-- where none was made nothing was changed
+pub none_newest : (journal : List Entry) (made : ℕ) → made ≡ 0 → changed_file (newest_entries journal made) ≡ None
+none_newest journal made none = let all : length journal - made ≡ length journal = omega (arith, none) in ap (λ (n : ℕ). changed_file (drop n journal)) all ∙ ap changed_file (drop_all journal)
 
-pub drop_more : {A : Type 0} (xs ys : List A) → drop (length xs) (xs ++ ys) ≡ ys
+drop_more : {A : Type 0} (xs ys : List A) → drop (length xs) (xs ++ ys) ≡ ys
 drop_more [] ys = refl
 drop_more (x ∷ xs) ys = drop_more xs ys
 
--- one entry more
-pub one_since : (before after : server.State) (e : Entry) → after.journal ≡ before.journal ++ e ∷ [] → changed_file (entries_since before after) ≡ changed_file (e ∷ [])
-one_since before after e same = ap (λ (l : List Entry). changed_file (drop (length before.journal) l)) same ∙ ap changed_file (drop_more before.journal (e ∷ []))
+-- those that were appended, where these are so many
+pub newest_more : (journal es : List Entry) (made : ℕ) → made ≡ length es → newest_entries (journal ++ es) made ≡ es
+newest_more journal es made is =
+    let sum = length-append journal es in
+    let behind : length (journal ++ es) - made ≡ length journal = omega (arith, sum, is) in
+    ap (λ (n : ℕ). drop n (journal ++ es)) behind ∙ drop_more journal es
+
+-- the one that was
+pub newest_one : (journal : List Entry) (e : Entry) → changed_file (newest_entries (journal ++ e ∷ []) 1) ≡ changed_file (e ∷ [])
+newest_one journal e = ap changed_file (newest_more journal (e ∷ []) 1 refl)
+
+-- as many as a change tells
+pub count_is : (n : ℕ) (first second : Option TreeEntry) → count_of first second ≡ length (entries_by n first second)
+count_is n None None = refl
+count_is n None (Some y) = refl
+count_is n (Some x) None = refl
+count_is n (Some x) (Some y) = refl
 
 pub pointed_none : (ops : List Op) (place : Option ℕ) (step : ℕ) → pointed_at ops place step None ≡ ops
 pointed_none ops None step = refl
@@ -138,11 +155,8 @@ got_quiet k n now x m plain = ap (λ (o : List Op). with_both o (k.entries ++ re
     with_both : List Op → List ℕ → CoreStep
     with_both ops entries = record (quiet (record k { steps = k.steps + 1; server = r.0; sessions = with_numbered k.sessions n (record x { taken = taken_with x.taken m (k.steps + 1) }); ops = ops; entries = entries })) { down = r.1.send }
 
-    journal_same : r.0.journal ≡ k.server.journal
-    journal_same = got_keeps (λ (z : server.State). z.journal ≡ k.server.journal) k.server n m now plain (λ temps waiting index moment w. refl)
-
-    ops_same : pointed_at k.ops x.closing (k.steps + 1) (changed_file (entries_since k.server r.0)) ≡ k.ops
-    ops_same = ap (pointed_at k.ops x.closing (k.steps + 1)) (none_since k.server r.0 journal_same) ∙ pointed_none k.ops x.closing (k.steps + 1)
+    ops_same : pointed_at k.ops x.closing (k.steps + 1) (changed_file (newest_entries r.0.journal r.1.entries)) ≡ k.ops
+    ops_same = ap (pointed_at k.ops x.closing (k.steps + 1)) (none_newest r.0.journal r.1.entries (got_none k.server n m now plain (stands k.server n))) ∙ pointed_none k.ops x.closing (k.steps + 1)
 
     entries_same : k.entries ++ replicate r.1.entries (k.steps + 1) ≡ k.entries
     entries_same = ap (λ (i : ℕ). k.entries ++ replicate i (k.steps + 1)) (got_none k.server n m now plain (stands k.server n)) ∙ append-nil k.entries
@@ -165,7 +179,7 @@ pub got_making : (k : Core) (n now : ℕ) (x : Session) (xid : ℕ) (w : Walk) �
 got_making k n now x xid w small making standing =
     ap (λ (b : Bool). did (got_if k.server b n (message.Call xid (body.Nfs (next_call w))) now)) standing
     ∙ ap did (called_making (at k.server now) n xid w small making)
-    ∙ ap (λ (l : List Entry). with_ops (pointed_at k.ops x.closing (k.steps + 1) (changed_file l))) (drop_more k.server.journal (entries_by n p.1.first p.1.second))
+    ∙ ap (λ (l : List Entry). with_ops (pointed_at k.ops x.closing (k.steps + 1) (changed_file l))) (newest_more k.server.journal (entries_by n p.1.first p.1.second) (count_of p.1.first p.1.second) (count_is n p.1.first p.1.second))
   where
     p : Tree × Done
     p = made_by k.server.tree (server.held k.server.waiting) w.dir w.goal
@@ -175,7 +189,7 @@ got_making k n now x xid w small making standing =
       steps = k.steps + 1;
       server = r.0;
       sessions = with_numbered k.sessions n (record x { taken = x.taken ++ record { xid = xid; step = k.steps + 1 } ∷ [] });
-      ops = pointed_at k.ops x.closing (k.steps + 1) (changed_file (entries_since k.server r.0));
+      ops = pointed_at k.ops x.closing (k.steps + 1) (changed_file (newest_entries r.0.journal r.1.entries));
       entries = k.entries ++ replicate r.1.entries (k.steps + 1);
     })) { down = r.1.send }
 

@@ -29,11 +29,11 @@ use Rattle.kept_promise.proofs.CallsKeep.{got_keeps, is_of_files, makes_call, wa
 use Rattle.kept_promise.proofs.PathNames.{IsWalkSmall, builds_at, creates_at, is_making, is_building, is_going, is_creating, making_is}
 use Rattle.kept_promise.proofs.Makings.{made_by, MadeSo, refuses, enters, made_walk, EntryAt}
 use Rattle.kept_promise.proofs.MakingServes.{name_goal, make_goal, entry_name}
-use Rattle.kept_promise.proofs.ServesFiles.{quiet_got, got_quiet, got_making, making_got, pointed_none}
+use Rattle.kept_promise.proofs.ServesFiles.{count_is, quiet_got, got_quiet, got_making, making_got, pointed_none}
 use Rattle.kept_promise.proofs.GoingCalls.{IsName}
 use Rattle.kept_promise.proofs.Departures.{ComesSo, refused, done_now, waits, comes_so}
 use Rattle.kept_promise.proofs.GoingSteps.{waits_got, got_answered, got_waits}
-use Rattle.kept_promise.proofs.GoingServes.{names_none, names_unchanged, count_is}
+use Rattle.kept_promise.proofs.GoingServes.{names_none, names_unchanged}
 use Rattle.kept_promise.proofs.Actors.{serves_read, serves_fits}
 
 -- an operation made a file in this step, which is its point

@@ -8,7 +8,7 @@ use Rattle.chunk_calls.specs.Files as the_files
 use Rattle.server_core.specs.declared.change.Wanted.TheVariants as wanted
 use Rattle.file_tree.specs.Step.{replaced}
 use Rattle.server_core.specs.Closing as closing
-use Rattle.server_core.specs.declared.event.Told.TheVariants as told_
+use Rattle.server_rules.specs.declared.told.Told.TheVariants as told_
 use Rattle.client_state.specs.State as client
 use Rattle.hash_calls.specs.declared.message.LbProc.TheVariants as lb_proc
 use Rattle.wire.specs.declared.message.Program.TheVariants as program
@@ -24,8 +24,8 @@ use Rattle.kept_promise.proofs.Messages.{Job, job, hash_offset, FetchOf, CommitT
 use Rattle.kept_promise.proofs.Rights.{IsSound, IsUnmade, IsMade, WasThere}
 use Rattle.kept_promise.proofs.Growth.{Grows, or_map, made_later, or_later, there_later}
 use Rattle.kept_promise.proofs.History.{made_op, IsEntryOf, grows_made, goes_made, value_now, version_now, made_book}
-use Rattle.trace_ends.specs.Core.{entries_since, changed_file}
-use Rattle.kept_promise.proofs.ServesFiles.{one_since}
+use Rattle.trace_ends.specs.Core.{newest_entries, changed_file}
+use Rattle.kept_promise.proofs.ServesFiles.{newest_one}
 use Rattle.kept_promise.proofs.Later.{seat_later}
 use Rattle.kept_promise.proofs.Taken.{tolds_append}
 use Rattle.kept_promise.proofs.Turns.{around_same, around_with, also_numbered, turned_core, kept_turn}
@@ -346,7 +346,7 @@ settled_now laws book k qs now c cs f x q j o kept waits what there here unhung 
 
 -- what a settling leaves, by what the server did
 abbrev settled_by_step : Core → server.State × ServerStep → CoreStep
-settled_by_step k r = record (quiet (record k { steps = k.steps + 1; server = r.0; ops = settled_by k (changed_file (entries_since k.server r.0)) r.1.told; entries = k.entries ++ replicate r.1.entries (k.steps + 1) })) { down = r.1.send }
+settled_by_step k r = record (quiet (record k { steps = k.steps + 1; server = r.0; ops = settled_by k (changed_file (newest_entries r.0.journal r.1.entries)) r.1.told; entries = k.entries ++ replicate r.1.entries (k.steps + 1) })) { down = r.1.send }
 
 settled_core : (book more : Book) (k : Core) (r : server.State) (ops : List Op) (entries : List ℕ) → more.steps ≡ k.steps + 1 → more.ops ≡ ops → more.entries ≡ entries → turned_core more r k.seats k.sessions ≡ record { server = r; seats = k.seats; sessions = k.sessions; steps = k.steps + 1; ops = ops; entries = entries }
 settled_core book more k r ops entries a b c =
@@ -370,9 +370,9 @@ settled_leads laws book k qs now c cs f kept waits what there =
     let t : Told = answer c (f.version + 1) in
     let more = made_book book (entry_of c (content_wanted c.what) f ∷ []) j c.file o in
     let now_kept = settled_now laws book k qs now c cs f x q.0 j o kept waits what there home.1 home.2 q.1 pending refl refl in
-    let changed : Option ℕ = changed_file (entries_since k.server (settled_server k.server now c cs f)) in
+    let changed : Option ℕ = changed_file (newest_entries (settled_server k.server now c cs f).journal 1) in
     let ops_is : settled_by k changed (told_.Settled n c.xid) ≡ more.ops =
-    ap (λ (z : Option ℕ). settled_by k z (told_.Settled n c.xid)) (one_since k.server (settled_server k.server now c cs f) (entry_of c (content_wanted c.what) f) refl)
+    ap (λ (z : Option ℕ). settled_by k z (told_.Settled n c.xid)) (newest_one k.server.journal (entry_of c (content_wanted c.what) f))
     ∙ ap (λ (z : Option Session). settled_ops k.ops (k.steps + 1) (Some c.file) z) home.1
     ∙ ap (λ (z : Option ℕ). pointed_at k.ops z (k.steps + 1) (Some c.file)) pending.known
     ∙ ap (λ (os : List Op). pointed_at os (Some j) (k.steps + 1) (Some c.file)) (sym kept.ops)

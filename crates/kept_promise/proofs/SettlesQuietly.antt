@@ -18,7 +18,7 @@ use Rattle.server_core.specs.Closing.{entries_by, entered_by, entry_by}
 use Rattle.server_core.specs.Closing as closing
 use Rattle.server_core.specs.declared.change.Wanted.TheVariants as wanted
 use Rattle.trace_replay.specs.Faithful.{change_refusal}
-use Rattle.trace_ends.specs.Core.{changed_file, is_of_file}
+use Rattle.trace_ends.specs.Core.{newest_entries, changed_file, is_of_file}
 use Rattle.trace_ops.specs.Ops.{pointed, pointed_at}
 use Rattle.kept_promise.proofs.Common.{slice_get, slice_set, cond, option_map, find, Contains, Contains-push, Message, name_answer, told_message, Change, Wanted, File, Entry, Op, Core, Session, CoreStep, quiet, numbered, settles, settled_ops, Book, Queue}
 use Rattle.kept_promise.proofs.Lists.{some_is, nothing_there}
@@ -32,8 +32,7 @@ use Rattle.kept_promise.proofs.Departures.{SettlesSo, refused_late, goes, settle
 use Rattle.kept_promise.proofs.GoingEnds.{asked_step, asked_settles}
 use Rattle.kept_promise.proofs.Gone.{no_directory}
 use Rattle.kept_promise.proofs.Unmade.{node_gone, unmade_step, unmade_told, unmade_settles}
-use Rattle.kept_promise.proofs.ServesFiles.{pointed_none}
-use Rattle.kept_promise.proofs.GoingServes.{count_is}
+use Rattle.kept_promise.proofs.ServesFiles.{count_is, pointed_none}
 use Rattle.kept_promise.proofs.ServesQuietly.{Entered}
 
 -- the file of an operation went in this step, which is its point
@@ -137,7 +136,7 @@ settling book k qs now kept = by k.server.waiting refl
     by [] e = makes_else (inl (ap (λ (ws : List Change). (did ws).core.ops) e)) (record { es = []; entries = ap (λ (ws : List Change). (did ws).core.entries) e; journal = ap (λ (ws : List Change). (did ws).core.server.journal) e ∙ sym (append-nil k.server.journal); plain = λ i d at. nothing_there d at }) (λ c at. nothing_there c (ap (λ (l : List Change). slice_get l 0) (sym e) ∙ at))
       where
         did : List Change → CoreStep
-        did ws = let r = closing.settles k.server now ws in record (quiet (record k { steps = k.steps + 1; server = r.0; ops = Rattle.kept_promise.proofs.Common.settled_by k (changed_file (Rattle.trace_ends.specs.Core.entries_since k.server r.0)) r.1.told; entries = k.entries ++ replicate r.1.entries (k.steps + 1) })) { down = r.1.send }
+        did ws = let r = closing.settles k.server now ws in record (quiet (record k { steps = k.steps + 1; server = r.0; ops = Rattle.kept_promise.proofs.Common.settled_by k (changed_file (newest_entries r.0.journal r.1.entries)) r.1.told; entries = k.entries ++ replicate r.1.entries (k.steps + 1) })) { down = r.1.send }
     by (c ∷ cs) e = first c.what refl
       where
         at_first : slice_get k.server.waiting 0 ≡ Some c

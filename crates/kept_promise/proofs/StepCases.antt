@@ -23,10 +23,10 @@ use Rattle.client_cache.specs.Cache.{Entries, reserved, content_of}
 use Rattle.client_cache.specs.declared.kept.Content.{Content}
 use Rattle.file_open.specs.Caching.{content_in, from_index, found_all}
 use Rattle.file_open.specs.Looking.{listed_if, listed_by, taken_if, taken_at, taken_by, reading_by, with_file}
-use Rattle.client_state.specs.Limits.{calls_most}
+use Rattle.transfer_rules.specs.Limits.{calls_most}
 use Rattle.file_open.specs.Opening.{reads_chunk, looked_up}
 use Rattle.file_open.specs.Shape.{or_else, pairs_most}
-use Rattle.client_state.specs.Limits.{file_limit}
+use Rattle.transfer_rules.specs.Limits.{file_limit}
 use Rattle.file_open.specs.Fetching.{changes, asks_kept, asks_file, uses_kept, told_lease}
 use Rattle.file_close.specs.Storing.{closed}
 use Rattle.client_state.specs.State.{with_local, without_local}

@@ -13,8 +13,8 @@ use Rattle.tree_plans.specs.declared.call.Changed.{Changed}
 use Rattle.tree_plans.specs.declared.call.Held.{Held}
 use Rattle.tree_plans.specs.declared.call.Spot.{Spot}
 use Rattle.tree_reading.specs.Tree.{Tree, is_directory, file_or, directory_of, or_no_entry}
-use Rattle.tree_plans.specs.Plans.{spared, may_remove, remove_done, remove_plan}
-use Rattle.tree_calls.specs.Waiting.{is_node, still}
+use Rattle.tree_plans.specs.Plans.{spared, may_remove, remove_done, remove_plan, is_node}
+use Rattle.tree_calls.specs.Waiting.{still}
 use Rattle.server_law.proofs.TreeCalls.{bind_ok, ok_is}
 use Rattle.kept_promise.proofs.TreeTold.{entry_is}
 

@@ -15,11 +15,11 @@ use Rattle.server_core.specs.State as server
 use Rattle.chunk_calls.specs.Files as the_files
 use Rattle.server_core.specs.Closing as closing
 use Rattle.server_core.specs.declared.change.Wanted.TheVariants as wanted
-use Rattle.server_core.specs.declared.event.ServerStep.{ServerStep}
-use Rattle.server_core.specs.declared.event.Told.TheVariants as announced
+use Rattle.server_steps.specs.declared.event.ServerStep.{ServerStep}
+use Rattle.server_rules.specs.declared.told.Told.TheVariants as announced
 use Rattle.client_state.specs.State as client
 use Rattle.client_state.specs.declared.task.Stage.TheVariants as stage
-use Rattle.trace_ends.specs.Core.{entries_since, changed_file}
+use Rattle.trace_ends.specs.Core.{newest_entries, changed_file}
 use Rattle.kept_promise.proofs.Common.{slice_get, at, Failed, MessageFits, Change, Wanted, Entry, Op, Core, Session, CoreStep, quiet, numbered, with_numbered, settles, settled_by, unless, hashed_of, Book, Reply.Changed, Told, Queue, told_message, value_at}
 use Rattle.kept_promise.proofs.Lists.{some_is, nothing_there}
 use Rattle.kept_promise.proofs.Keys.{own, change_key, told_key}
@@ -39,7 +39,7 @@ use Rattle.kept_promise.proofs.Steps.{no_commits}
 use Rattle.kept_promise.proofs.Facts.{FileIs, IsServer, IsTalk, IsSession, IsKept, commits_in}
 use Rattle.kept_promise.proofs.Leading.{Leads, downs_put, downs_put_in}
 use Rattle.kept_promise.proofs.Hangs.{core_is}
-use Rattle.kept_promise.proofs.ServesFiles.{none_since, pointed_none}
+use Rattle.kept_promise.proofs.ServesFiles.{none_newest, pointed_none}
 use Rattle.kept_promise.proofs.GoingSettles.{first_own, other_own, behind, way_settled}
 
 -- ---- what the tree makes of it
@@ -71,7 +71,7 @@ unmade_settles k now c cs content waits what none =
     ap (λ (ws : List Change). did (closing.settles k.server now ws)) waits
     ∙ ap (λ (w : Wanted). did (closing.makes_change before c w)) what
     ∙ ap (λ (p : Tree × Committing). did (closing.committed_by before c content p)) (commit_gone k.server.tree (server.held cs) c.file content none)
-    ∙ ap (λ (o : Option ℕ). with_parts (k.server.journal ++ []) (settled_by k o (announced.Settled c.session c.xid)) (k.entries ++ [])) (none_since k.server (record before { journal = k.server.journal ++ [] }) (append-nil k.server.journal))
+    ∙ ap (λ (o : Option ℕ). with_parts (k.server.journal ++ []) (settled_by k o (announced.Settled c.session c.xid)) (k.entries ++ [])) (none_newest (k.server.journal ++ []) 0 refl)
     ∙ ap (λ (l : List Entry). with_parts l (settled_by k None (announced.Settled c.session c.xid)) (k.entries ++ [])) (append-nil k.server.journal)
     ∙ ap (λ (l : List Op). with_parts k.server.journal l (k.entries ++ [])) (same (numbered k.sessions c.session))
     ∙ ap (with_parts k.server.journal k.ops) (append-nil k.entries)
@@ -80,7 +80,7 @@ unmade_settles k now c cs content waits what none =
     before = at (record k.server { waiting = cs }) now
 
     did : server.State × ServerStep → CoreStep
-    did r = record (quiet (record k { steps = k.steps + 1; server = r.0; ops = settled_by k (changed_file (entries_since k.server r.0)) r.1.told; entries = k.entries ++ replicate r.1.entries (k.steps + 1) })) { down = r.1.send }
+    did r = record (quiet (record k { steps = k.steps + 1; server = r.0; ops = settled_by k (changed_file (newest_entries r.0.journal r.1.entries)) r.1.told; entries = k.entries ++ replicate r.1.entries (k.steps + 1) })) { down = r.1.send }
 
     with_parts : List Entry → List Op → List ℕ → CoreStep
     with_parts journal ops entries = record (quiet (record k { steps = k.steps + 1; server = record before { journal = journal }; ops = ops; entries = entries })) { down = record { session = c.session; message = told_message (unmade_told c) } ∷ [] }

@@ -5,9 +5,9 @@ use Rattle.wire.specs.declared.message.Message.TheVariants as message
 use Rattle.server_core.specs.Closing.{at as at_reading}
 use Rattle.server_core.specs.State as server
 use Rattle.server_core.specs.declared.change.Wanted.TheVariants as wanted
-use Rattle.server_core.specs.declared.event.Event.TheVariants as event
-use Rattle.server_core.specs.declared.event.Told.{Told as Announced}
-use Rattle.server_core.specs.declared.event.Told.TheVariants as announced
+use Rattle.server_steps.specs.declared.event.Event.TheVariants as event
+use Rattle.server_rules.specs.declared.told.Told.{Told as Announced}
+use Rattle.server_rules.specs.declared.told.Told.TheVariants as announced
 use Rattle.client_state.specs.State as client
 use Rattle.client_state.specs.declared.step.Outcome.TheVariants as outcome
 use Rattle.client_state.specs.declared.task.Stage.TheVariants as stage
@@ -35,8 +35,8 @@ use Rattle.kept_promise.proofs.JobFacts.{ops_shape, job_after}
 use Rattle.kept_promise.proofs.Actors.{acts_alone, job_place, job_task, placed, Heard, heard_at, heard_acts, heard_takes, serves_read}
 use Rattle.kept_promise.proofs.CountedRuns.{CountedAt, carried_counts, taken_more}
 use Rattle.kept_promise.proofs.Shapes.{TaskGood, OutcomeGood, EndGood, Good, TookIn, TaskTook, good_answer, good_command, busy_command, StageGood}
-use Rattle.trace_ends.specs.Core.{entries_since, changed_file}
-use Rattle.kept_promise.proofs.ServesFiles.{one_since}
+use Rattle.trace_ends.specs.Core.{newest_entries, changed_file}
+use Rattle.kept_promise.proofs.ServesFiles.{newest_one}
 use Rattle.kept_promise.proofs.Found.{heard_quiet, heard_apart, Quietly, IsFresh, step_found}
 use Rattle.kept_promise.proofs.Versions.{of_numbered, version_by, early_of, by_counts, count_replaced, count_appended, CameTo, Since, Attempt, Untold, takens, JobVersion, HaveVersions, Alike, alike_same, Extends, extends_same, came_alike, since_alike, job_alike, JobCame, versions_onward}
 use Rattle.kept_promise.proofs.Taking.{versions_after}
@@ -177,7 +177,7 @@ goes_of m = record { place = m.place; op = m.op; there = m.there; unmade = m.unm
 pub settled_are : (book : Book) (k : Core) (qs : List Queue) (now : ℕ) → IsKept book k qs → Settled k (settles k now).core.ops
 settled_are book k qs now kept = by (settling book k qs now kept)
   where
-    made : (cs : List Change) (c : Change) → k.server.waiting ≡ c ∷ cs → c.what ≡ wanted.Content (content_wanted c.what) → (f : File) → (let r = made_change (at_reading (record k.server { waiting = cs }) now) c (content_wanted c.what) f in Settled k (settled_by k (changed_file (entries_since k.server r.0)) r.1.told))
+    made : (cs : List Change) (c : Change) → k.server.waiting ≡ c ∷ cs → c.what ≡ wanted.Content (content_wanted c.what) → (f : File) → (let r = made_change (at_reading (record k.server { waiting = cs }) now) c (content_wanted c.what) f in Settled k (settled_by k (changed_file (newest_entries r.0.journal r.1.entries)) r.1.told))
     made cs c e what f =
         let first : slice_get k.server.waiting 0 ≡ Some c = ap (λ (l : List Change). slice_get l 0) e in
         let home = kept.home 0 c first in
@@ -192,7 +192,7 @@ settled_are book k qs now kept = by (settling book k qs now kept)
           there = there;
           unmade = pending.unmade;
           file = c.file;
-          is = ap (λ (z : Option ℕ). settled_by k z (announced.Settled c.session c.xid)) (one_since k.server (made_change (at_reading (record k.server { waiting = cs }) now) c (content_wanted c.what) f).0 (entry_of c (content_wanted c.what) f) refl)
+          is = ap (λ (z : Option ℕ). settled_by k z (announced.Settled c.session c.xid)) (newest_one k.server.journal (entry_of c (content_wanted c.what) f))
               ∙ ap (settled_ops k.ops (k.steps + 1) (Some c.file)) home.1
               ∙ ap (λ l. pointed_at k.ops l (k.steps + 1) (Some c.file)) pending.known
               ∙ ap (pointed k.ops pending.place c.file (k.steps + 1)) there;
@@ -203,8 +203,8 @@ settled_are book k qs now kept = by (settling book k qs now kept)
     by (makes_else (inl same) entered tells) = inl same
     by (makes_else (inr gone) entered tells) = inr (goes_of gone)
     by (makes_commit c cs f e what there) =
-        subst (λ (ws : List Change). (let r = Rattle.server_core.specs.Closing.settles k.server now ws in Settled k (settled_by k (changed_file (entries_since k.server r.0)) r.1.told))) (sym e)
-        (subst (λ (r : server.State × ServerStep). Settled k (settled_by k (changed_file (entries_since k.server r.0)) r.1.told)) (sym (made_is book k.server now c cs f kept.server e there what)) (made cs c e what f))
+        subst (λ (ws : List Change). (let r = Rattle.server_core.specs.Closing.settles k.server now ws in Settled k (settled_by k (changed_file (newest_entries r.0.journal r.1.entries)) r.1.told))) (sym e)
+        (subst (λ (r : server.State × ServerStep). Settled k (settled_by k (changed_file (newest_entries r.0.journal r.1.entries)) r.1.told)) (sym (made_is book k.server now c cs f kept.server e there what)) (made cs c e what f))
 
 -- a close has ended as no open
 pub close_not_opened : (book : Book) (o : Op) (len : ℕ) (digest : List ℕ) → IsRight book o → o.word ≡ words.Close → o.outcome ≡ told.Opened len digest → ⊥

@@ -139,7 +139,7 @@ bare_same (path.RemoveDir s) o r file point h = (file ∙ h.0, point ∙ h.1)
 bare_same (path.Rename s t) o r file point h = tt
 
 -- an answer that refuses leads to that
-refused_leads : (w : Walk) (a : Nfs) (s : Status) → refusal_of a ≡ Some s → walk_told w a ≡ leading.Ends (walk_end.Refused s)
+pub refused_leads : (w : Walk) (a : Nfs) (s : Status) → refusal_of a ≡ Some s → walk_told w a ≡ leading.Ends (walk_end.Refused s)
 refused_leads w (nfs.LookupAnswer (Done f)) s e = nothing_there s e
 refused_leads w (nfs.LookupAnswer (Failed r f)) s e = ap (λ (z : Status). leading.Ends (walk_end.Refused z)) (some_is r s e)
 refused_leads w (nfs.GetAttrAnswer (Done f)) s e = nothing_there s e

@@ -8,9 +8,9 @@ use Rattle.register_model.specs.declared.op.Outcome.{Outcome as History}
 use Rattle.wire.specs.declared.message.Message.TheVariants as message
 use Rattle.path_calls.specs.Walk.{begun}
 use Rattle.path_calls.specs.declared.walk.Walk.{Walk}
-use Rattle.server_core.specs.declared.event.Event.TheVariants as event
-use Rattle.server_core.specs.declared.event.Told.{Told as Announced}
-use Rattle.server_core.specs.declared.event.Told.TheVariants as announced
+use Rattle.server_steps.specs.declared.event.Event.TheVariants as event
+use Rattle.server_rules.specs.declared.told.Told.{Told as Announced}
+use Rattle.server_rules.specs.declared.told.Told.TheVariants as announced
 use Rattle.server_core.specs.State as server
 use Rattle.client_state.specs.State as client
 use Rattle.client_state.specs.Ending.{may_walk}
@@ -24,8 +24,8 @@ use Rattle.trace_sessions.specs.Session.{taken_of as session_taken}
 use Rattle.trace_ops.specs.Ops.{begun as op_begun, file_with}
 use Rattle.trace_replay.specs.Trail.{given_in, given_by_message}
 use Rattle.file_open.specs.Looking.{reading_by, with_file, reading_if, reading}
-use Rattle.trace_replay.specs.Walking.{Part, Part.asks, IsWalk, AreCalls}
-use Rattle.kept_promise.proofs.Common.{◌==◌, Outcome, told_of, slice_get, slice_set, Command, ClientStep, Ended, ended_by, joined, command_step, Stage, Task, Op, Opening, TakenCall, op_after, ops_with, ops_after, place_after, place_with, Core, Seat, CoreStep, Event, Event.Joins, Event.Does, Event.Serves, Event.Hears, Event.Settles, Event.Cuts, Event.Hangs, numbered, with_numbered, joins, joins_as, does, cuts, cuts_if, settles, acted, session_of, server_step, happens, Moment, Deed, deeds_of, Book, Queue, taken_by, given_by, got_step, got_message, told_message, reply_body, Body, took, took_if, idle, drops, Message, owner_in, is_in, joined_from, calls_from, word_of, file_of, value_at_begin, wanted_by, wanted_if, Deal, Deal.Sent, deals_with, deals_in, deals_of}
+use Rattle.trace_replay.specs.Walking.{Part, Part.asks, IsWalk, AreCalls, HasWalkFile, HasFoundFile}
+use Rattle.kept_promise.proofs.Common.{◌==◌, Word, Outcome, told_of, slice_get, slice_set, Command, ClientStep, Ended, ended_by, joined, command_step, Stage, Task, Op, Opening, TakenCall, op_after, ops_with, ops_after, place_after, place_with, Core, Seat, CoreStep, Event, Event.Joins, Event.Does, Event.Serves, Event.Hears, Event.Settles, Event.Cuts, Event.Hangs, numbered, with_numbered, joins, joins_as, does, cuts, cuts_if, settles, acted, session_of, server_step, happens, Moment, Deed, deeds_of, Book, Queue, taken_by, given_by, got_step, got_message, told_message, reply_body, Body, took, took_if, idle, drops, Message, owner_in, is_in, joined_from, calls_from, word_of, file_of, value_at_begin, wanted_by, wanted_if, Deal, Deal.Sent, deals_with, deals_in, deals_of}
 use Rattle.kept_promise.proofs.Lists.{some_is, nothing_there, of_appended, of_replaced, at_replaced, at_end, within}
 use Rattle.kept_promise.proofs.Messages.{Job, job, job_of, stage_word}
 use Rattle.kept_promise.proofs.PathNames.{IsSmall}
@@ -49,6 +49,8 @@ use Rattle.kept_promise.proofs.Logs.{IsSilent, ArePast, AreAsBefore, as_before, 
 use Rattle.kept_promise.proofs.LogEvents.{joins_silent, cuts_silent, hangs_silent, is_new, IsNew}
 use Rattle.kept_promise.proofs.WalkLog.{GaveUp, walk_gave, IsUnder, SaidOn, outcome_by, runs_so, lost_so, SendsNone, PlainOn, under_walk, under_word, walk_said, file_said, plain_said, first_said, command_none, command_plain, none_named, under_walking}
 use Rattle.kept_promise.proofs.OwnLog.{AreNear, near_is_own}
+use Rattle.kept_promise.proofs.WalkFile.{filed_found, filed_as, filed_made, found_as, unfound_as, unfound_of, walk_filed, command_filed, lost_point}
+use Rattle.kept_promise.proofs.Commands.{begun_word}
 use Rattle.kept_promise.proofs.WalkPages.{begun_file}
 use Rattle.kept_promise.proofs.Turns.{around_with}
 use Rattle.register_model.specs.Register.{changes}
@@ -78,6 +80,18 @@ outcome_now o c taken step acts running = by acts.ended
     by : (e : Option Ended) → (op_after o c taken step (record acts { ended = e })).outcome ≡ outcome_by e
     by None = running
     by (Some e) = refl
+
+-- an operation's file then
+file_now : (o : Op) (c : client.State) (taken : List TakenCall) (step : ℕ) (acts : ClientStep) → (op_after o c taken step acts).file ≡ file_with o.file acts.found
+file_now o c taken step acts = by acts.ended
+  where
+    by : (e : Option Ended) → (op_after o c taken step (record acts { ended = e })).file ≡ file_with o.file acts.found
+    by None = refl
+    by (Some e) = refl
+
+-- and its point, while it goes on
+point_now : (o : Op) (c : client.State) (taken : List TakenCall) (step : ℕ) (acts : ClientStep) → acts.ended ≡ None → (op_after o c taken step acts).point ≡ o.point
+point_now o c taken step acts none = ap (λ (l : Option Ended). (op_after o c taken step (record acts { ended = l })).point) none
 
 -- ---- what is carried
 
@@ -125,6 +139,11 @@ pub record AreSaid (past : List Moment) (k : Core) : Type 0 where
   pub jobs : (i : ℕ) (seat : Seat) (j : Job) (d : Deed) (o : Op) → numbered k.seats i ≡ Some seat → job seat ≡ Some j → slice_get (deeds_of past) j.place ≡ Some d → slice_get k.ops j.place ≡ Some o → IsSaid d.command (deals_of o past) o.file j.stage
   pub each : (p : ℕ) (d : Deed) (o : Op) → slice_get (deeds_of past) p ≡ Some d → slice_get k.ops p ≡ Some o → HasCalls d.command o.outcome o.end o.begin (deals_of o past)
   pub gave : (p : ℕ) (d : Deed) (o : Op) → slice_get (deeds_of past) p ≡ Some d → slice_get k.ops p ≡ Some o → GaveNow d.command o.outcome o.end o.begin (deals_of o past)
+  pub filed : (p : ℕ) (d : Deed) (o : Op) → slice_get (deeds_of past) p ≡ Some d → slice_get k.ops p ≡ Some o → HasFoundFile d.command o (deals_of o past)
+
+-- each operation is of its command's word
+abbrev pub AreWorded : (past : List Moment) → List Op → Type 0
+AreWorded past ops = (p : ℕ) (d : Deed) (o : Op) → slice_get (deeds_of past) p ≡ Some d → slice_get ops p ≡ Some o → o.word ≡ word_of d.command
 
 -- so what was said for a command is its operation's own, or its walk's
 pub own_calls : (d : Command) (o : Op) (ds : List Deal) → HasCalls d o.outcome o.end o.begin ds → AreNear o.word o.file o.value ds → AreCalls d o ds
@@ -133,8 +152,8 @@ own_calls _ o ds said near = near_is_own o.word o.file o.value ds near (none_nam
 
 -- ---- nothing is said
 
-said_quiet : (past : List Moment) (m : Moment) (k r : Core) → deeds_of (past ++ m ∷ []) ≡ deeds_of past → IsSilent m → ((i : ℕ) (seat : Seat) (j : Job) → numbered r.seats i ≡ Some seat → job seat ≡ Some j → (old : Seat) × (numbered k.seats i ≡ Some old) × (job old ≡ Some j)) → AreAsBefore k.ops r.ops → AreSaid past k → AreSaid (past ++ m ∷ []) r
-said_quiet past m k r none silent same were h = record {
+said_quiet : (past : List Moment) (m : Moment) (k r : Core) → deeds_of (past ++ m ∷ []) ≡ deeds_of past → IsSilent m → ((i : ℕ) (seat : Seat) (j : Job) → numbered r.seats i ≡ Some seat → job seat ≡ Some j → (old : Seat) × (numbered k.seats i ≡ Some old) × (job old ≡ Some j)) → AreAsBefore k.ops r.ops → ((p : ℕ) (q : Op) → slice_get r.ops p ≡ Some q → slice_get k.ops p ≡ Some q) → AreSaid past k → AreSaid (past ++ m ∷ []) r
+said_quiet past m k r none silent same were still h = record {
   jobs = λ i seat j d q here is deed at.
       let old = same i seat j here is in
       let w = were j.place q at in
@@ -145,6 +164,7 @@ said_quiet past m k r none silent same were h = record {
   gave = λ p d q deed at.
       let w = were p q at in
       subst (λ (z : Op). GaveNow d.command z.outcome z.end z.begin (deals_of z (past ++ m ∷ []))) (sym w.3) (subst (GaveNow d.command w.0.outcome w.0.end w.0.begin) (sym (pointed w.0 w.1)) (h.gave p d w.0 (deed_was p d deed) w.2));
+  filed = λ p d q deed at. subst (HasFoundFile d.command q) (sym (deals_same q past m (deals_silent q m silent))) (h.filed p d q (deed_was p d deed) (still p q at));
 }
   where
     pointed : (o : Op) (t : Option ℕ) → deals_of (record o { point = t }) (past ++ m ∷ []) ≡ deals_of o past
@@ -155,19 +175,28 @@ said_quiet past m k r none silent same were h = record {
 
 -- operations and clients are as they were
 said_same : (past : List Moment) (m : Moment) (k r : Core) → deeds_of (past ++ m ∷ []) ≡ deeds_of past → IsSilent m → r.seats ≡ k.seats → r.ops ≡ k.ops → AreSaid past k → AreSaid (past ++ m ∷ []) r
-said_same past m k r none silent seats ops h = said_quiet past m k r none silent (λ i seat j here is. (seat, ap (λ (l : List Seat). numbered l i) (sym seats) ∙ here, is)) (subst (AreAsBefore k.ops) (sym ops) (as_before k.ops)) h
+said_same past m k r none silent seats ops h = said_quiet past m k r none silent (λ i seat j here is. (seat, ap (λ (l : List Seat). numbered l i) (sym seats) ∙ here, is)) (subst (AreAsBefore k.ops) (sym ops) (as_before k.ops)) (λ p q at. ap (λ (l : List Op). slice_get l p) (sym ops) ∙ at) h
 
 said_joins : (past : List Moment) (k : Core) (c : ℕ) (seat : Seat) → numbered k.seats c ≡ Some seat → (s : server.State) (o : Announced) → AreSaid past k → AreSaid (past ++ moment k (Joins c) ∷ []) (joins_as k c seat s o).core
 said_joins past k c seat here s (announced.Session made) h = said_quiet past (moment k (Joins c)) k (joins_as k c seat s (announced.Session made)).core (deeds_more past (moment k (Joins c)) ∙ append-nil (deeds_of past)) (joins_silent k c)
     (λ i z j there is. elim (of_numbered k.seats c (record seat { client = joined seat.client; session = Some made }) i z there) [
       | inl mine ↦ (seat, ap (numbered k.seats) mine.0 ∙ here, ap job (sym mine.1) ∙ is)
       | inr other ↦ (z, other.1, is)
-    ]) (as_before k.ops) h
+    ]) (as_before k.ops) (λ p q at. at) h
 said_joins past k c seat here s o h = said_same past (moment k (Joins c)) k (joins_as k c seat s o).core (deeds_more past (moment k (Joins c)) ∙ append-nil (deeds_of past)) (joins_silent k c) refl refl h
 
+gets_changes : (w : Word) → gets_file w ≡ true → changes w ≡ true
+gets_changes words.Make e = refl
+gets_changes words.Remove e = refl
+gets_changes words.Rename e = refl
+gets_changes w e = absurd cc
+
+open_changes : changes words.Open ≡ true → ⊥
+open_changes e = absurd cc
+
 -- an operation's change was made
-said_change : (past : List Moment) (book : Book) (k : Core) (qs : List Queue) (e : Event) (after : Core) → IsKept book k qs → deeds_of (past ++ moment k e ∷ []) ≡ deeds_of past → IsSilent (moment k e) → after.seats ≡ k.seats → IsChange k after.ops → AreSaid past k → AreSaid (past ++ moment k e ∷ []) after
-said_change past book k qs e after kept none silent seats c h = record {
+said_change : (past : List Moment) (book : Book) (k : Core) (qs : List Queue) (e : Event) (after : Core) → IsKept book k qs → AreWorded past k.ops → deeds_of (past ++ moment k e ∷ []) ≡ deeds_of past → IsSilent (moment k e) → after.seats ≡ k.seats → IsChange k after.ops → AreSaid past k → AreSaid (past ++ moment k e ∷ []) after
+said_change past book k qs e after kept worded none silent seats c h = record {
   jobs = λ i seat j d q here is deed at. elim (of_replaced k.ops c.place new j.place q (ap (λ (l : List Op). slice_get l j.place) (sym c.is) ∙ at)) [
     | inr old ↦ subst (λ (l : List Deal). IsSaid d.command l q.file j.stage) (sym (quiet q)) (h.jobs i seat j d q (was_here i seat here) is (deed_was j.place d deed) old.1)
     | inl made ↦ subst (λ (z : Op). IsSaid d.command (deals_of z (past ++ moment k e ∷ [])) z.file j.stage) (sym made.1) (subst (λ (l : List Deal). IsSaid d.command l c.file j.stage) (sym quiet_new) (job_moves d i seat j (was_here i seat here) is made.0 c.kind (h.jobs i seat j d c.op (was_here i seat here) is (deed_was j.place d deed) (ap (slice_get k.ops) made.0 ∙ c.there))))
@@ -179,6 +208,12 @@ said_change past book k qs e after kept none silent seats c h = record {
   gave = λ p d q deed at. elim (of_replaced k.ops c.place new p q (ap (λ (l : List Op). slice_get l p) (sym c.is) ∙ at)) [
     | inr old ↦ subst (GaveNow d.command q.outcome q.end q.begin) (sym (quiet q)) (h.gave p d q (deed_was p d deed) old.1)
     | inl made ↦ subst (λ (z : Op). GaveNow d.command z.outcome z.end z.begin (deals_of z (past ++ moment k e ∷ []))) (sym made.1) (subst (GaveNow d.command c.op.outcome c.op.end c.op.begin) (sym quiet_new) (h.gave p d c.op (deed_was p d deed) (ap (slice_get k.ops) made.0 ∙ c.there)))
+  ];
+  filed = λ p d q deed at. elim (of_replaced k.ops c.place new p q (ap (λ (l : List Op). slice_get l p) (sym c.is) ∙ at)) [
+    | inr old ↦ subst (HasFoundFile d.command q) (sym (quiet q)) (h.filed p d q (deed_was p d deed) old.1)
+    | inl made ↦
+        let there : slice_get k.ops p ≡ Some c.op = ap (slice_get k.ops) made.0 ∙ c.there in
+        subst (λ (z : Op). HasFoundFile d.command z (deals_of z (past ++ moment k e ∷ []))) (sym made.1) (subst (HasFoundFile d.command new) (sym quiet_new) (file_made d.command (worded p d c.op (deed_was p d deed) there) (h.filed p d c.op (deed_was p d deed) there)))
   ];
 }
   where
@@ -193,6 +228,14 @@ said_change past book k qs e after kept none silent seats c h = record {
 
     deed_was : (p : ℕ) (d : Deed) → slice_get (deeds_of (past ++ moment k e ∷ [])) p ≡ Some d → slice_get (deeds_of past) p ≡ Some d
     deed_was p d at = ap (λ (l : List Deed). slice_get l p) (sym none) ∙ at
+
+    -- what a change is of changes files, and so is no open
+    changing : changes c.op.word ≡ true
+    changing = elim c.kind [ inl close ↦ ap changes close.0 | inr gets ↦ gets_changes c.op.word gets.0 ]
+
+    file_made : (x : Command) → c.op.word ≡ word_of x → HasFoundFile x c.op (deals_of c.op past) → HasFoundFile x new (deals_of c.op past)
+    file_made (command.Named n) word h = filed_made c.op new (inr (changing, refl)) (asks (begun n)) (deals_of c.op past) (λ e. open_changes (sym (ap changes (word ∙ begun_word n ∙ e)) ∙ changing)) h
+    file_made x word h = tt
 
     was_here : (i : ℕ) (seat : Seat) → numbered after.seats i ≡ Some seat → numbered k.seats i ≡ Some seat
     was_here i seat here = ap (λ (l : List Seat). numbered l i) (sym seats) ∙ here
@@ -214,10 +257,10 @@ said_change past book k qs e after kept none silent seats c h = record {
         let same : of.op ≡ c.op = some_is of.op c.op (sym of.there ∙ ap (slice_get book.ops) at ∙ ap (λ (l : List Op). slice_get l c.place) kept.ops ∙ c.there) in
         walk_moves d.command j.stage (ap gets_file (sym of.word ∙ ap (λ (z : Op). z.word) same) ∙ make.0) p
 
-said_settles : (past : List Moment) (book : Book) (k : Core) (qs : List Queue) (now : ℕ) → IsKept book k qs → AreSaid past k → AreSaid (past ++ moment k (Settles now) ∷ []) (settles k now).core
-said_settles past book k qs now kept h = elim (settled_are book k qs now kept) [
+said_settles : (past : List Moment) (book : Book) (k : Core) (qs : List Queue) (now : ℕ) → IsKept book k qs → AreWorded past k.ops → AreSaid past k → AreSaid (past ++ moment k (Settles now) ∷ []) (settles k now).core
+said_settles past book k qs now kept worded h = elim (settled_are book k qs now kept) [
   | inl same ↦ said_same past (moment k (Settles now)) k (settles k now).core (deeds_more past (moment k (Settles now)) ∙ append-nil (deeds_of past)) (refl, refl, refl) refl same h
-  | inr c ↦ said_change past book k qs (Settles now) (settles k now).core kept (deeds_more past (moment k (Settles now)) ∙ append-nil (deeds_of past)) (refl, refl, refl) refl c h
+  | inr c ↦ said_change past book k qs (Settles now) (settles k now).core kept worded (deeds_more past (moment k (Settles now)) ∙ append-nil (deeds_of past)) (refl, refl, refl) refl c h
 ]
 
 -- ---- a client goes on
@@ -227,6 +270,7 @@ pub record SaidNow (past : List Moment) (d : Command) (c : client.State) (acts :
   pub stage : (u : Task) → acts.ended ≡ None → c.task ≡ Some u → IsSaid d (deals_of new past) new.file u.stage
   pub each : HasCalls d new.outcome new.end new.begin (deals_of new past)
   pub gave : GaveNow d new.outcome new.end new.begin (deals_of new past)
+  pub filed : HasFoundFile d new (deals_of new past)
 
 said_acts : (past : List Moment) (m : Moment) (k r : Core) (c : ℕ) (seat : Seat) (s : client.State) (taken : List TakenCall) (acts : ClientStep) → deeds_of (past ++ m ∷ []) ≡ deeds_of past
     → r.seats ≡ with_numbered k.seats c (record seat { client = s; place = place_after seat.place acts.ended }) → r.ops ≡ ops_with k.ops seat.place s taken (k.steps + 1) acts
@@ -249,6 +293,10 @@ said_acts past m k r c seat s taken acts none seats ops others foreign renewed h
   gave = λ p d q deed at. elim (shape p q at) [
     | inl new ↦ subst (λ (x : Op). GaveNow d.command x.outcome x.end x.begin (deals_of x (past ++ m ∷ []))) (sym new.3) (renewed p d new.0 new.1 (deed_was p d deed) new.2).gave
     | inr old ↦ subst (GaveNow d.command q.outcome q.end q.begin) (sym (deals_same q past m (others p q old.1 old.0))) (h.gave p d q (deed_was p d deed) old.1)
+  ];
+  filed = λ p d q deed at. elim (shape p q at) [
+    | inl new ↦ subst (λ (x : Op). HasFoundFile d.command x (deals_of x (past ++ m ∷ []))) (sym new.3) (renewed p d new.0 new.1 (deed_was p d deed) new.2).filed
+    | inr old ↦ subst (HasFoundFile d.command q) (sym (deals_same q past m (others p q old.1 old.0))) (h.filed p d q (deed_was p d deed) old.1)
   ];
 }
   where
@@ -292,6 +340,21 @@ said_cuts past book k qs c seat kept here before h = by seat.client.linked
     cut_gave p d o deed at None = h.gave p d o deed at
     cut_gave p d o deed at (Some t) = gave_not d.command told.Lost (Some (k.steps + 1)) o.begin (deals_of o past) lost_link
 
+    -- its operation has the file that it had
+    cut_filed : (p : ℕ) (d : Deed) (o : Op) → slice_get (deeds_of past) p ≡ Some d → slice_get k.ops p ≡ Some o → HasFoundFile d.command (op_after o gone taken (k.steps + 1) (ended_by seat.client.task lost)) (deals_of o past)
+    cut_filed p d o deed at =
+        let new : Op = op_after o gone taken (k.steps + 1) (ended_by seat.client.task lost) in
+        let file : new.file ≡ o.file = file_now o gone taken (k.steps + 1) (ended_by seat.client.task lost) ∙ ap (file_with o.file) (lost_found seat.client.task) in
+        found_as d.command o new (deals_of o past) file (unfound_as o new file (word_after o gone taken (k.steps + 1) (ended_by seat.client.task lost)) (lost_point o gone taken (k.steps + 1) (ended_by seat.client.task lost) (lost_by seat.client.task))) (h.filed p d o deed at)
+      where
+        lost_found : (t : Option Task) → (ended_by t lost).found ≡ None
+        lost_found None = refl
+        lost_found (Some t) = refl
+
+        lost_by : (t : Option Task) (e : Ended) → (ended_by t lost).ended ≡ Some e → e.outcome ≡ outcome.Lost
+        lost_by None e is = nothing_there e is
+        lost_by (Some t) e is = ap (λ (z : Ended). z.outcome) (sym (some_is lost e is))
+
     by : (b : Bool) → AreSaid (past ++ moment k (Cuts c) ∷ []) (cuts_if k c seat b).core
     by false = said_same past (moment k (Cuts c)) k (cuts_if k c seat false).core (deeds_more past (moment k (Cuts c)) ∙ append-nil (deeds_of past)) (cuts_silent k c) refl refl h
     by true = said_acts past (moment k (Cuts c)) k (cuts_if k c seat true).core c seat gone taken (ended_by seat.client.task lost) (deeds_more past (moment k (Cuts c)) ∙ append-nil (deeds_of past)) refl refl (λ p o at apart. deals_silent o (moment k (Cuts c)) (cuts_silent k c)) (foreign_at book k qs c seat kept here)
@@ -301,6 +364,7 @@ said_cuts past book k qs c seat kept here before h = by seat.client.linked
           gave =
               let new : Op = op_after o gone taken (k.steps + 1) (ended_by seat.client.task lost) in
               subst (GaveNow d.command (op_after o gone taken (k.steps + 1) (ended_by seat.client.task lost)).outcome (op_after o gone taken (k.steps + 1) (ended_by seat.client.task lost)).end (op_after o gone taken (k.steps + 1) (ended_by seat.client.task lost)).begin) (sym (log_is o (op_after o gone taken (k.steps + 1) (ended_by seat.client.task lost)) (running_past o gone taken k.steps (ended_by seat.client.task lost) ((acts_alone book k qs c seat kept here).own p o e at).1))) (cut_gave p d o deed at seat.client.task);
+          filed = subst (HasFoundFile d.command (op_after o gone taken (k.steps + 1) (ended_by seat.client.task lost))) (sym (log_is o (op_after o gone taken (k.steps + 1) (ended_by seat.client.task lost)) (running_past o gone taken k.steps (ended_by seat.client.task lost) ((acts_alone book k qs c seat kept here).own p o e at).1))) (cut_filed p d o deed at);
         }) h
 
 -- ---- a command
@@ -353,6 +417,10 @@ said_does past book k qs c now d seat small kept here before count h = record {
   gave = λ p x q deed at. elim (of_appended k.ops new p q at) [
     | inr old ↦ subst (GaveNow x.command q.outcome q.end q.begin) (sym (deals_same q past m (others p q old))) (h.gave p x q (deed_before p x (deed_there p x deed) (within k.ops p q old)) old)
     | inl last ↦ subst (λ (z : Op). GaveNow x.command z.outcome z.end z.begin (deals_of z (past ++ moment k (Does c now d) ∷ []))) (sym last.1) (subst (λ (z : Deed). GaveNow z.command new.outcome new.end new.begin (deals_of new (past ++ moment k (Does c now d) ∷ []))) (sym (deed_last p x (deed_there p x deed) last.0)) (begins_gave (command_step seat.client d now).1.ended refl))
+  ];
+  filed = λ p x q deed at. elim (of_appended k.ops new p q at) [
+    | inr old ↦ subst (HasFoundFile x.command q) (sym (deals_same q past m (others p q old))) (h.filed p x q (deed_before p x (deed_there p x deed) (within k.ops p q old)) old)
+    | inl last ↦ subst (λ (z : Op). HasFoundFile x.command z (deals_of z (past ++ moment k (Does c now d) ∷ []))) (sym last.1) (subst (λ (z : Deed). HasFoundFile z.command new (deals_of new (past ++ moment k (Does c now d) ∷ []))) (sym (deed_last p x (deed_there p x deed) last.0)) (subst (HasFoundFile d new) (sym log_is) (command_filed new seat.client d now is.file)))
   ];
 }
   where
@@ -488,6 +556,30 @@ heard_said p log c j x b task was =
     by true is = own j.stage was is
     by false is = dropped (client.has_call c.forgotten x)
 
+-- the file of its operation, which was this, and is that then
+abbrev AnswerFiled : (n o : Op) → Part → List Deal → client.State × ClientStep → List Message → List (ℕ × ℕ) → Type 0
+AnswerFiled n o p log r ms found = (IsFault r.1.ended → ⊥) → n.file ≡ file_with o.file r.1.found → n.word ≡ o.word → (r.1.ended ≡ None → n.point ≡ o.point) → HasWalkFile n p (log ++ deals_with ms found r.1.send)
+
+heard_filed : (n o : Op) (p : Part) (log : List Deal) (c : client.State) (j : Job) (x : ℕ) (b : Body) → c.task ≡ Some (record { file = j.file; stage = j.stage }) → IsUnder p log o.file j.stage → HasWalkFile o p log → AnswerFiled n o p log (got_message c c.task (message.Answer x b)) (wanted_by c (Ok (message.Answer x b))) (given_by_message c (Ok (message.Answer x b)))
+heard_filed n o p log c j x b task was has =
+    subst (λ (t : Option Task). AnswerFiled n o p log (took_if c t x b (client.has_call (client.pending t) x)) (wanted_if (client.has_call (client.pending t) x) (message.Answer x b)) (given_in c (reading t (message.Answer x b)))) (sym task) (by (client.has_call (client.pending_in j.stage) x) refl)
+  where
+    dropped : (forgotten : Bool) → AnswerFiled n o p log (drops c (Some (record { file = j.file; stage = j.stage })) x forgotten) [] []
+    dropped true = λ well file word point. subst (HasWalkFile n p) (sym (append-nil log)) (filed_as o n file (unfound_as o n file word (point refl)) p log has)
+    dropped false = λ well. absurd (well (bad.UnknownXid x, refl))
+
+    own : (st : Stage) → IsUnder p log o.file st → client.has_call (client.pending_in st) x ≡ true → AnswerFiled n o p log (took (idle c) (client.calls_of c) j.file st x b) (message.Answer x b ∷ []) (given_in c (with_file j.file (reading_by st x b)))
+    own st was mine = elim (own_stage st) [
+      | inl of ↦ λ well file word point. filed_found n p log o.file st was of (file ∙ ap (file_with o.file) (took_finds (idle c) (client.calls_of c) j.file st x b of)) (deals_with (message.Answer x b ∷ []) (given_in c (with_file j.file (reading_by st x b))) (took (idle c) (client.calls_of c) j.file st x b).1.send)
+      | inr (y, w, is) ↦
+          subst (λ (z : Stage). IsUnder p log o.file z → client.has_call (client.pending_in z) x ≡ true → AnswerFiled n o p log (took (idle c) (client.calls_of c) j.file z x b) (message.Answer x b ∷ []) (given_in c (with_file j.file (reading_by z x b)))) (sym is)
+          (λ was mine well file word point. walk_filed n o.file p log o.file (idle c) (client.calls_of c) j.file y w x b (sym (eqb-true y x (or_none (y == x) mine))) was well file (λ none running. unfound_as o n (file ∙ ap (file_with o.file) none) word (point running) (unfound_of o p log o.file y w was has))) was mine
+    ]
+
+    by : (is_own : Bool) → client.has_call (client.pending_in j.stage) x ≡ is_own → AnswerFiled n o p log (took_if c (Some (record { file = j.file; stage = j.stage })) x b is_own) (wanted_if is_own (message.Answer x b)) (given_in c (reading_if (record { file = j.file; stage = j.stage }) x b is_own))
+    by true is = own j.stage was is
+    by false is = dropped (client.has_call c.forgotten x)
+
 -- and where a listing gives up
 abbrev AnswerGave : Part → List Deal → client.State × ClientStep → List Message → List (ℕ × ℕ) → Type 0
 AnswerGave p log r ms found = (e : Ended) → r.1.ended ≡ Some e → e.outcome ≡ outcome.NoLink → GaveUp p (log ++ deals_with ms found r.1.send)
@@ -538,14 +630,6 @@ heard_plain log c j x b task of none =
     by true well = plain_said log (idle c) (client.calls_of c) j.file j.stage x b (given_in c (with_file j.file (reading_by j.stage x b))) of none
     by false well = dropped (client.has_call c.forgotten x) well
 
--- an operation's file then
-file_now : (o : Op) (c : client.State) (taken : List TakenCall) (step : ℕ) (acts : ClientStep) → (op_after o c taken step acts).file ≡ file_with o.file acts.found
-file_now o c taken step acts = by acts.ended
-  where
-    by : (e : Option Ended) → (op_after o c taken step (record acts { ended = e })).file ≡ file_with o.file acts.found
-    by None = refl
-    by (Some e) = refl
-
 said_hears : FitLaws → (all past : List Moment) (opening : List Opening) (k : Core) (qs after : List Queue) (n now : ℕ) (bytes : List ℕ) (mid : List Queue) → IsKept (book_at opening k all) k qs → (h : Heard k qs n now bytes mid)
     → IsKept (book_at opening (happens k (Hears n now bytes)).core all) (happens k (Hears n now bytes)).core after → ArePast k.steps past → AreSaid past k → AreSaid (past ++ moment k (Hears n now bytes) ∷ []) (happens k (Hears n now bytes)).core
 said_hears fits all past opening k qs after n now bytes mid kept h left before said =
@@ -582,7 +666,7 @@ said_hears fits all past opening k qs after n now bytes mid kept h left before s
         )
 
     renewed : (p : ℕ) (d : Deed) (o : Op) → h.seat.place ≡ Some p → slice_get (deeds_of past) p ≡ Some d → slice_get k.ops p ≡ Some o → SaidNow (past ++ moment k (Hears n now bytes) ∷ []) d.command (got_step h.seat.client (Ok (told_message h.told)) now).0 (got_step h.seat.client (Ok (told_message h.told)) now).1 (op_after o (got_step h.seat.client (Ok (told_message h.told)) now).0 (session_taken (session_of k.sessions h.seat.session)) (k.steps + 1) (got_step h.seat.client (Ok (told_message h.told)) now).1)
-    renewed p d o e deed at = on d.command (said.jobs h.session.owner h.seat w.0 d o h.owner w.1 (ap (slice_get (deeds_of past)) w.2 ∙ deed) (ap (slice_get k.ops) w.2 ∙ at))
+    renewed p d o e deed at = on d.command (said.jobs h.session.owner h.seat w.0 d o h.owner w.1 (ap (slice_get (deeds_of past)) w.2 ∙ deed) (ap (slice_get k.ops) w.2 ∙ at)) (said.filed p d o deed at)
       where
         w : (j : Job) × (job h.seat ≡ Some j) × (j.place ≡ p) × (o.client ≡ h.session.owner) × (o.outcome ≡ told.Running) × (is_naming j.stage ≡ false → o.file ≡ j.file)
         w = own_op (book_at opening k all) k qs h.session.owner h.seat p o kept h.owner e at
@@ -638,34 +722,37 @@ said_hears fits all past opening k qs after n now bytes mid kept h left before s
         now_under c u running is (stage.Walking x v) on h = under_walking (asks (begun c)) said_now (file_with w.0.file r.1.found) new.file x v h
         now_under c u running is st on h = under_filed c u running is st on tt h
 
-        on : (x : Command) → IsSaid x (deals_of o past) o.file w.0.stage → SaidNow (past ++ moment k (Hears n now bytes) ∷ []) x (got_step h.seat.client (Ok (told_message h.told)) now).0 (got_step h.seat.client (Ok (told_message h.told)) now).1 new
-        on (command.Named c) was =
+        on : (x : Command) → IsSaid x (deals_of o past) o.file w.0.stage → HasFoundFile x o (deals_of o past) → SaidNow (past ++ moment k (Hears n now bytes) ∷ []) x (got_step h.seat.client (Ok (told_message h.told)) now).0 (got_step h.seat.client (Ok (told_message h.told)) now).1 new
+        on (command.Named c) was has =
             let a = heard_said (asks (begun c)) (deals_of o past) h.seat.client w.0 h.told.xid (reply_body h.told.reply) (job_task h.seat.place h.seat.client.task w.0 w.1) (under_moves (asks (begun c)) (deals_of o past) o.file w.0.file w.0.stage w.5 was) (λ fault. no_fault_after more o r.0 taken (k.steps + 1) r.1 right fault) in
             record {
               stage = λ u running is. subst (λ (l : List Deal). IsUnder (asks (begun c)) l new.file u.stage) (sym log) (now_under c u running is u.stage refl (a.stage u running is));
               each = inr (subst (λ (u : History). IsWalk u (asks (begun c)) (deals_of new (past ++ moment k (Hears n now bytes) ∷ []))) (sym (outcome_now o r.0 taken (k.steps + 1) r.1 w.4)) (subst (IsWalk (outcome_by (got_step h.seat.client (Ok (told_message h.told)) now).1.ended) (asks (begun c))) (sym log) a.each));
               gave = listed c was;
+              filed = subst (HasWalkFile new (asks (begun c))) (sym log)
+                  (heard_filed new o (asks (begun c)) (deals_of o past) h.seat.client w.0 h.told.xid (reply_body h.told.reply) (job_task h.seat.place h.seat.client.task w.0 w.1) was has
+                  (λ fault. no_fault_after more o r.0 taken (k.steps + 1) r.1 right fault) (file_now o r.0 taken (k.steps + 1) r.1) (word_after o r.0 taken (k.steps + 1) r.1) (point_now o r.0 taken (k.steps + 1) r.1));
             }
-        on (command.Open f) was = record { stage = λ u running is. ((plain was).stage u running is, subst SendsNone (sym log) (plain was).each); each = subst SendsNone (sym log) (plain was).each; gave = tt }
-        on (command.Write f a b) was = record { stage = λ u running is. ((plain was).stage u running is, subst SendsNone (sym log) (plain was).each); each = subst SendsNone (sym log) (plain was).each; gave = tt }
-        on (command.Trunc f a) was = record { stage = λ u running is. ((plain was).stage u running is, subst SendsNone (sym log) (plain was).each); each = subst SendsNone (sym log) (plain was).each; gave = tt }
-        on (command.Read f a b) was = record { stage = λ u running is. ((plain was).stage u running is, subst SendsNone (sym log) (plain was).each); each = subst SendsNone (sym log) (plain was).each; gave = tt }
-        on (command.Close f) was = record { stage = λ u running is. ((plain was).stage u running is, subst SendsNone (sym log) (plain was).each); each = subst SendsNone (sym log) (plain was).each; gave = tt }
-        on (command.Abandon f) was = record { stage = λ u running is. ((plain was).stage u running is, subst SendsNone (sym log) (plain was).each); each = subst SendsNone (sym log) (plain was).each; gave = tt }
+        on (command.Open f) was has = record { stage = λ u running is. ((plain was).stage u running is, subst SendsNone (sym log) (plain was).each); each = subst SendsNone (sym log) (plain was).each; gave = tt; filed = tt }
+        on (command.Write f a b) was has = record { stage = λ u running is. ((plain was).stage u running is, subst SendsNone (sym log) (plain was).each); each = subst SendsNone (sym log) (plain was).each; gave = tt; filed = tt }
+        on (command.Trunc f a) was has = record { stage = λ u running is. ((plain was).stage u running is, subst SendsNone (sym log) (plain was).each); each = subst SendsNone (sym log) (plain was).each; gave = tt; filed = tt }
+        on (command.Read f a b) was has = record { stage = λ u running is. ((plain was).stage u running is, subst SendsNone (sym log) (plain was).each); each = subst SendsNone (sym log) (plain was).each; gave = tt; filed = tt }
+        on (command.Close f) was has = record { stage = λ u running is. ((plain was).stage u running is, subst SendsNone (sym log) (plain was).each); each = subst SendsNone (sym log) (plain was).each; gave = tt; filed = tt }
+        on (command.Abandon f) was has = record { stage = λ u running is. ((plain was).stage u running is, subst SendsNone (sym log) (plain was).each); each = subst SendsNone (sym log) (plain was).each; gave = tt; filed = tt }
 
 -- ---- any event
 
-pub said_event : FitLaws → (all past rest : List Moment) (opening : List Opening) (k : Core) (qs : List Queue) (e : Event) (mid after : List Queue) → Step all past rest opening k qs e mid after → ArePast k.steps past → length k.ops ≡ length (deeds_of past) → AreSaid past k → AreSaid (past ++ moment k e ∷ []) (happens k e).core
-said_event fits all past rest opening k qs (Joins c) mid after s before count h = subst (λ (o : Option Seat). AreSaid (past ++ moment k (Joins c) ∷ []) (joins k c o).core) (sym s.finds.1) (let r = server_step k.server event.Connect in said_joins past k c s.finds.0 s.finds.1 r.0 r.1.told h)
-said_event fits all past rest opening k qs (Does c now d) mid after s before count h = subst (λ (o : Option Seat). AreSaid (past ++ moment k (Does c now d) ∷ []) (does k c now d o).core) (sym s.finds.1) (said_does past (book_at opening k all) k qs c now d s.finds.0 s.finds.2 s.kept s.finds.1 before count h)
-said_event fits all past rest opening k qs (Serves n now bytes) mid after s before count h =
+pub said_event : FitLaws → (all past rest : List Moment) (opening : List Opening) (k : Core) (qs : List Queue) (e : Event) (mid after : List Queue) → Step all past rest opening k qs e mid after → ArePast k.steps past → length k.ops ≡ length (deeds_of past) → AreWorded past k.ops → AreSaid past k → AreSaid (past ++ moment k e ∷ []) (happens k e).core
+said_event fits all past rest opening k qs (Joins c) mid after s before count worded h = subst (λ (o : Option Seat). AreSaid (past ++ moment k (Joins c) ∷ []) (joins k c o).core) (sym s.finds.1) (let r = server_step k.server event.Connect in said_joins past k c s.finds.0 s.finds.1 r.0 r.1.told h)
+said_event fits all past rest opening k qs (Does c now d) mid after s before count worded h = subst (λ (o : Option Seat). AreSaid (past ++ moment k (Does c now d) ∷ []) (does k c now d o).core) (sym s.finds.1) (said_does past (book_at opening k all) k qs c now d s.finds.0 s.finds.2 s.kept s.finds.1 before count h)
+said_event fits all past rest opening k qs (Serves n now bytes) mid after s before count worded h =
     let q = serves_quiet fits (book_at opening k all) k qs n now bytes mid s.kept s.finds in
     let none = deeds_more past (moment k (Serves n now bytes)) ∙ append-nil (deeds_of past) in
     elim q.ops [
       | inl same ↦ said_same past (moment k (Serves n now bytes)) k (happens k (Serves n now bytes)).core none (refl, refl, q.up) q.seats same h
-      | inr made ↦ said_change past (book_at opening k all) k qs (Serves n now bytes) (happens k (Serves n now bytes)).core s.kept none (refl, refl, q.up) q.seats (change_of made) h
+      | inr made ↦ said_change past (book_at opening k all) k qs (Serves n now bytes) (happens k (Serves n now bytes)).core s.kept worded none (refl, refl, q.up) q.seats (change_of made) h
     ]
-said_event fits all past rest opening k qs (Hears n now bytes) mid after s before count h = said_hears fits all past opening k qs after n now bytes mid s.kept (heard_at (book_at opening k all) k qs n now bytes mid s.kept s.finds) s.left before h
-said_event fits all past rest opening k qs (Settles now) mid after s before count h = said_settles past (book_at opening k all) k qs now s.kept h
-said_event fits all past rest opening k qs (Cuts c) mid after s before count h = subst (λ (o : Option Seat). AreSaid (past ++ moment k (Cuts c) ∷ []) (cuts k c o).core) (sym s.finds.1) (said_cuts past (book_at opening k all) k qs c s.finds.0 s.kept s.finds.1 before h)
-said_event fits all past rest opening k qs (Hangs n) mid after s before count h = let q = hangs_silent k n (numbered k.sessions n) in said_same past (moment k (Hangs n)) k (happens k (Hangs n)).core (deeds_more past (moment k (Hangs n)) ∙ append-nil (deeds_of past)) (refl, refl, q.0) q.2 q.1 h
+said_event fits all past rest opening k qs (Hears n now bytes) mid after s before count worded h = said_hears fits all past opening k qs after n now bytes mid s.kept (heard_at (book_at opening k all) k qs n now bytes mid s.kept s.finds) s.left before h
+said_event fits all past rest opening k qs (Settles now) mid after s before count worded h = said_settles past (book_at opening k all) k qs now s.kept worded h
+said_event fits all past rest opening k qs (Cuts c) mid after s before count worded h = subst (λ (o : Option Seat). AreSaid (past ++ moment k (Cuts c) ∷ []) (cuts k c o).core) (sym s.finds.1) (said_cuts past (book_at opening k all) k qs c s.finds.0 s.kept s.finds.1 before h)
+said_event fits all past rest opening k qs (Hangs n) mid after s before count worded h = let q = hangs_silent k n (numbered k.sessions n) in said_same past (moment k (Hangs n)) k (happens k (Hangs n)).core (deeds_more past (moment k (Hangs n)) ∙ append-nil (deeds_of past)) (refl, refl, q.0) q.2 q.1 h

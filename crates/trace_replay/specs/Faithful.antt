@@ -11,7 +11,7 @@ use Rattle.wire.specs.declared.message.Body.{Body}
 use Rattle.wire.specs.declared.message.Body.TheVariants as body
 use Rattle.wire.specs.declared.message.Message.{Message}
 use Rattle.wire.specs.declared.message.Message.TheVariants as message
-use Rattle.client_state.specs.Limits.{calls_most}
+use Rattle.transfer_rules.specs.Limits.{calls_most}
 use Rattle.server_core.specs.declared.change.Change.{Change}
 use Rattle.server_core.specs.declared.change.Wanted.TheVariants as wanted
 use Rattle.server_core.specs.declared.journal.Entry.{Entry}
@@ -27,7 +27,8 @@ use Rattle.register_model.specs.declared.op.Word.TheVariants as word
 use Rattle.trace_ops.specs.Ops.{no_traffic}
 use Rattle.trace_ends.specs.Core.{is_of_file, Event.Settles, Event.Cuts, happens}
 use Rattle.trace_replay.specs.Naming.{failed_by, refusal_of}
-use Rattle.trace_replay.specs.Walking.{AreCalls}
+use Rattle.trace_replay.specs.NameChanges.{NamesChangeBy}
+use Rattle.trace_replay.specs.Walking.{AreCalls, HasFoundFile}
 use Rattle.trace_ops.specs.Commands.{word_of, file_of}
 use Rattle.trace_sessions.specs.Session.{Session}
 use Rattle.trace_sessions.specs.Numbers.{numbered}
@@ -250,6 +251,10 @@ pub record IsFaithful (input : List ℕ) (book : Book) : Type 0 where
   -- nothing is sent or taken but for an operation, and what is sent for one are its own calls
   pub owned : (m : Moment) → Contains book.moments m → IsFor book.ops m
   pub calls : (k : ℕ) (d : Deed) (o : Op) → slice_get (deeds_of book.moments) k ≡ Some d → slice_get book.ops k ≡ Some o → AreCalls d.command o (deals_of o book.moments)
+  -- by which one on names has its file, whatever comes of it
+  pub files : (k : ℕ) (d : Deed) (o : Op) → slice_get (deeds_of book.moments) k ≡ Some d → slice_get book.ops k ≡ Some o → HasFoundFile d.command o (deals_of o book.moments)
+  -- names change by such calls alone
+  pub names : (m : Moment) → Contains book.moments m → NamesChangeBy book m
   -- the calls that go up a session are numbered from 1 on, in order: no two have one number, also where its client left it
   pub numbered : (session : ℕ) → CountOn 1 (numbers_of session book.moments)
   -- what a client answers by itself counts nothing

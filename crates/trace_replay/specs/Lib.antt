@@ -15,6 +15,7 @@ pub mod NameRows
 pub mod TrailRows
 pub mod Traffic
 pub mod Naming
+pub mod NameChanges
 pub mod Walking
 pub mod WalkingRows
 pub mod Fetches

@@ -6,7 +6,7 @@ use Rattle.sha1.specs.Sha1.{sha1, digest_bytes, hash_after, compress, rounds, sc
 use Rattle.chunk_cut.specs.Search.{closed_ends, next_end}
 use Rattle.chunk_index.specs.Index.{key_of}
 use Rattle.client_cache.specs.Cache.{fronted}
-use Rattle.client_state.specs.Limits.{calls_most}
+use Rattle.transfer_rules.specs.Limits.{calls_most}
 use Rattle.xdr_codec.specs.Answers.{outcome_form}
 use Rattle.xdr_codec.specs.Attr.{time_form, kind_form, attr_form}
 use Rattle.xdr_codec.specs.Xdr.{u32_form, u64_form, bool_form, bytes_form, fixed_form, count_form, opaque_spell, opaque_read}

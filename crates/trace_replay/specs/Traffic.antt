@@ -11,7 +11,7 @@ use Rattle.wire.specs.declared.message.Body.TheVariants as body
 use Rattle.wire.specs.declared.message.Message.{Message}
 use Rattle.wire.specs.declared.message.Message.TheVariants as message
 use Rattle.xdr_codec.specs.declared.attr.Attr.{Attr}
-use Rattle.client_state.specs.Limits.{tries_most}
+use Rattle.transfer_rules.specs.Limits.{tries_most}
 use Rattle.file_open.specs.Opening.{other_version}
 use Rattle.register_model.specs.declared.op.Op.{Op}
 use Rattle.register_model.specs.declared.op.Outcome.TheVariants as told

@@ -1,5 +1,5 @@
--- Which messages a command on names sends and takes, and how that ends it: those of its walk, by the last of which it ends.
-use Rattle.std.specs.Prelude.{◌≡◌, ◌⊎◌, ℕ, List, [], ◌∷◌, Some}
+-- Which messages a command on names sends and takes, and how that ends it: those of its walk, by the last of which it ends; and which file it has by them.
+use Rattle.std.specs.Prelude.{◌≡◌, ◌⊎◌, ℕ, List, [], ◌∷◌, Some, IsSome, true}
 use Rattle.command_text.specs.declared.command.Command.{Command}
 use Rattle.command_text.specs.declared.command.Command.TheVariants as command
 use Rattle.wire.specs.declared.message.Body.TheVariants as body
@@ -10,6 +10,7 @@ use Rattle.path_calls.specs.declared.answers.Told.TheVariants as told
 use Rattle.path_calls.specs.declared.walk.Walk.{Walk}
 use Rattle.open_close.specs.Walking.{outcome_of}
 use Rattle.told_outcome.specs.Told.{told_of}
+use Rattle.register_model.specs.Register.{changes}
 use Rattle.register_model.specs.declared.op.Op.{Op}
 use Rattle.register_model.specs.declared.op.Outcome.{Outcome}
 use Rattle.register_model.specs.declared.op.Outcome.TheVariants as outcome
@@ -34,3 +35,19 @@ IsWalk o p ds = ⊥
 abbrev pub AreCalls : Command → Op → List Deal → Type 0
 AreCalls (command.Named k) o ds = ((ds ≡ []) × (o.end ≡ Some o.begin) × ((o.outcome ≡ outcome.Busy) ⊎ (o.outcome ≡ outcome.NoLink))) ⊎ IsWalk o.outcome (asks (begun k)) ds
 AreCalls k o ds = AreOwn o.word o.file o.value ds
+
+-- It has found no file, unless a change that it asked for was made already, which then has its file: that of the journal's entry at its point.
+abbrev pub IsUnfound : Op → Type 0
+IsUnfound o = (o.file ≡ 0) ⊎ ((changes o.word ≡ true) × IsSome o.point)
+
+-- The file of an operation is the one that its walk found; while that waits for an answer it has found none.
+abbrev pub HasWalkFile : Op → Part → List Deal → Type 0
+HasWalkFile o (asks w) (Sent (message.Call xid (body.Nfs m)) ∷ ds) = HasWalkFile o (waits xid w) ds
+HasWalkFile o (waits xid w) [] = IsUnfound o
+HasWalkFile o (waits xid w) (Took (message.Answer y (body.Nfs a)) ∷ ds) = elim (walk_told w a) [ told.Asks v ↦ HasWalkFile o (asks v) ds | told.Finds id ↦ o.file ≡ id | _ ↦ Unit {0} ]
+HasWalkFile o p ds = Unit {0}
+
+-- of one on names
+abbrev pub HasFoundFile : Command → Op → List Deal → Type 0
+HasFoundFile (command.Named k) o ds = HasWalkFile o (asks (begun k)) ds
+HasFoundFile k o ds = Unit {0}

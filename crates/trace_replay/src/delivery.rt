@@ -11,7 +11,7 @@ ghost use Rattle.trace_replay.specs.WorldView.{world_of};
 use crate::state::WorldState;
 use rpc_record::record::Record;
 use std::alloc::{AllocError, Global};
-use trace_sessions::numbered::place_of;
+use trace_numbers::place_of;
 use trace_text::line::Amount;
 
 impl WorldState {

@@ -7,7 +7,7 @@ use std::alloc::AllocError;
 use trace_text::refusal::LineFault;
 
 /// A line that is refused.
-#[derive(Clone, Copy, Debug, PartialEq, Eq)]
+#[derive(Clone, Copy)]
 pub struct Refused {
     /// Its number, from 1. All lines count, skipped ones too.
     pub line: u64,
@@ -16,7 +16,7 @@ pub struct Refused {
 }
 
 /// Why a trace is not run.
-#[derive(Clone, Copy, Debug, PartialEq, Eq)]
+#[derive(Clone, Copy)]
 pub enum TraceErr {
     /// The first line that is refused.
     Refused(Refused),

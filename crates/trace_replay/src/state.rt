@@ -17,7 +17,7 @@ use trace_ends::adjusting::{Adjustment, adjust};
 use trace_ends::core_step::CoreStep;
 use trace_ends::world_core::Core;
 use trace_sessions::sending::up_put;
-use trace_sessions::wires::Wire;
+use trace_wires::wire::Wire;
 
 /// A world's fields.
 #[derive(Drop)]

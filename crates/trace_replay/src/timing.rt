@@ -10,7 +10,7 @@ ghost use Rattle.clock_rule.specs.declared.rule.Reading.TheVariants as reads;
 use clock_rule::clocks::Clocks;
 use clock_rule::rule::{NoteErr, Reading};
 use std::alloc::Global;
-use trace_sessions::numbered::place_of;
+use trace_numbers::place_of;
 use trace_sessions::session::Session;
 use trace_text::line::Line;
 

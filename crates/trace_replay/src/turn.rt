@@ -23,7 +23,7 @@ use lb_base::items::Name;
 use limits::{FILE_MOST, LINES_MOST, SESSIONS_MOST, TREE_MOST};
 use trace_ends::adjusting::Adjustment;
 use trace_ends::world_core::Core;
-use trace_sessions::numbered::place_of;
+use trace_numbers::place_of;
 use trace_sessions::seat::Seat;
 use trace_text::line::{Amount, Line, Who};
 use trace_text::refusal::{Limit, LineFault};

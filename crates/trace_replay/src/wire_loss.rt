@@ -8,8 +8,8 @@ ghost use Rattle.trace_ends.specs.View.{loss_of};
 
 use std::alloc::{AllocError, Global};
 use trace_ends::core_step::Loss;
-use trace_sessions::numbered::place_of;
-use trace_sessions::wires::Wire;
+use trace_numbers::place_of;
+use trace_wires::wire::Wire;
 
 /// What is on its way down a session is dropped.
 fn lose_down(alloc: Global, wires: &mut Vec<Wire>, number: u32)

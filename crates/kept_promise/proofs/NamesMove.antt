@@ -1,0 +1,482 @@
+-- A run carries by whose calls the names in directories change.
+use Rattle.std.proofs.Common.{◌⊎◌, inl, inr, ◌≡◌, ℕ, suc, List, [], ◌∷◌, ◌++◌, drop, length, Option, Some, None, Result, Ok, Err, Bool, true, false, refl, sym, ap, ◌∙◌, subst, arith, map}
+use Rattle.hash_calls.specs.declared.message.Lb.TheVariants as lb
+use Rattle.nfs3_calls.specs.declared.message.Nfs.{Nfs}
+use Rattle.wire.specs.declared.message.Body.TheVariants as body
+use Rattle.wire.specs.declared.message.Message.TheVariants as message
+use Rattle.tree_nodes.specs.declared.node.Node.{Node}
+use Rattle.tree_nodes.specs.declared.node.Body.TheVariants.{File as Plain}
+use Rattle.tree_nodes.specs.Nodes.{names, changed}
+use Rattle.tree_plans.specs.declared.call.Changed.{Changed}
+use Rattle.tree_plans.specs.declared.call.Held.{Held}
+use Rattle.file_tree.specs.Step.{replace_if}
+use Rattle.tree_plans.specs.Plans.{replace_plan}
+use Rattle.tree_calls.specs.Waiting.{commits, file_of, settles as tree_settles}
+use Rattle.tree_calls.specs.Changing.{said}
+use Rattle.tree_calls.specs.declared.asked.Asked.{Asked}
+use Rattle.tree_calls.specs.declared.asked.Asked.TheVariants as asked
+use Rattle.tree_calls.specs.declared.asked.Done.{Done as Finished}
+use Rattle.server_core.specs.State as server
+use Rattle.server_core.specs.Closing as closing
+use Rattle.server_steps.specs.declared.event.Event.TheVariants as event
+use Rattle.server_steps.specs.declared.event.Sent.{Sent}
+use Rattle.server_rules.specs.declared.told.Told.{Told as Announced}
+use Rattle.server_rules.specs.declared.told.Told.TheVariants as announced
+use Rattle.server_core.specs.declared.change.Wanted.TheVariants as wanted
+use Rattle.path_calls.specs.Told.{walk_told}
+use Rattle.path_calls.specs.Walk.{next_call, call_at}
+use Rattle.path_calls.specs.declared.answers.Ended.TheVariants as ended
+use Rattle.path_calls.specs.declared.answers.Told.TheVariants as told
+use Rattle.path_calls.specs.declared.walk.Goal.{Goal}
+use Rattle.path_calls.specs.declared.walk.Goal.TheVariants as goal
+use Rattle.path_calls.specs.declared.walk.Walk.{Walk}
+use Rattle.trace_replay.specs.NameChanges.{names_of, KeepsNames, ChangesNames, MakesOf, TakesNaming, MakesNaming, NamesChangeBy}
+use Rattle.server_law.proofs.Trees.{IsBounded}
+use Rattle.trace_ends.specs.Core.{server_got}
+use Rattle.trace_replay.specs.Naming.{refusal_of}
+use Rattle.trace_replay.specs.OwnCalls.{ComesTo, held_at}
+use Rattle.kept_promise.proofs.Common.{cond, if◌then◌else◌, ◌==◌, filter, not, slice_get, Command, Contains, Contains-append_left, Contains-append_right, Contains-push, Contains-push_cases, Status, Message, WireFault, parse_of, Tree, Change, Wanted, server_step, stands, connect, has_room, at, has_waiting, makes_change, Op, Opening, Core, Seat, Session, Event, Event.Joins, Event.Does, Event.Serves, Event.Hears, Event.Settles, Event.Cuts, Event.Hangs, CoreStep, numbered, server_waiting, is_newest, serves_if, serves, does, joins_as, joins, hears, hears_at, hears_if, cuts_if, cuts, hangs_if, hangs, happens, Moment, step_of, client_of, is_in, Book, Queue, Ask, NameReply, name_answer, ask_message, Call, Call.Walks}
+use Rattle.kept_promise.proofs.Lists.{nothing_there, of_appended}
+use Rattle.kept_promise.proofs.Messages.{AllAsks, AsksFor, walk_for, walk_is}
+use Rattle.kept_promise.proofs.Fits.{FitLaws}
+use Rattle.kept_promise.proofs.Rights.{WasThere}
+use Rattle.kept_promise.proofs.Facts.{IsWanted, IsSession, IsKept}
+use Rattle.kept_promise.proofs.Gone.{no_directory}
+use Rattle.kept_promise.proofs.Statements.{CallFits}
+use Rattle.kept_promise.proofs.Turns.{also_numbered}
+use Rattle.kept_promise.proofs.RunsCarried.{book_at, moment, Finds, Step, Carried}
+use Rattle.kept_promise.proofs.Actors.{serves_fits, serves_read}
+use Rattle.kept_promise.proofs.Hangs.{left_there}
+use Rattle.kept_promise.proofs.CallsKeep.{IsByCommit, is_of_files, Waits, got_keeps, makes_call, walk_made}
+use Rattle.kept_promise.proofs.PathNames.{IsWalkSmall, makes_at, is_making, is_building, is_going, making_is, building_makes, going_makes}
+use Rattle.kept_promise.proofs.Makings.{made_by, step_by, MadeSo, refuses, enters, made_walk}
+use Rattle.kept_promise.proofs.Departures.{ComesSo, refused, done_now, waits, comes_so, SettlesSo, refused_late, goes, settles_so}
+use Rattle.kept_promise.proofs.ServesFiles.{got_making, making_got}
+use Rattle.kept_promise.proofs.GoingSteps.{coming, got_answered, got_waits}
+use Rattle.kept_promise.proofs.GoingEnds.{asked_step, asked_settles}
+use Rattle.kept_promise.proofs.WalkRuns.{refused_leads}
+use Rattle.kept_promise.proofs.SentUp.{WasCalled, UpsSent}
+use Rattle.kept_promise.proofs.Logs.{IsSilent}
+use Rattle.kept_promise.proofs.Saved.{AllSaved, carried_saved}
+
+-- ---- another content changes no name
+
+abbrev entry_of : Node → List ℕ × ℕ
+entry_of n = (n.name, n.id)
+
+abbrev refilled : (version : ℕ) → List ℕ → Node → Node
+refilled version content m = record m { version = version; body = Plain content }
+
+names_refilled : (ns : List Node) (id version : ℕ) (content : List ℕ) (dir : ℕ) → map entry_of (names (changed ns id (refilled version content)) dir) ≡ map entry_of (names ns dir)
+names_refilled [] id version content dir = refl
+names_refilled (m ∷ ms) id version content dir = by (m.id == id) (names_refilled ms id version content dir)
+  where
+    first : (k : Node) → entry_of k ≡ entry_of m → (xs ys : List Node) → map entry_of xs ≡ map entry_of ys → (b : Bool) → map entry_of (cond b (k ∷ xs) xs) ≡ map entry_of (cond b (m ∷ ys) ys)
+    first k e xs ys later true = ap (λ (z : List ℕ × ℕ). z ∷ map entry_of xs) e ∙ ap (λ (l : List (List ℕ × ℕ)). entry_of m ∷ l) later
+    first k e xs ys later false = later
+
+    by : (b : Bool) → map entry_of (names (changed ms id (refilled version content)) dir) ≡ map entry_of (names ms dir) → map entry_of (filter (λ (j : Node). j.parent == dir) ((if b then refilled version content m else m) ∷ changed ms id (refilled version content))) ≡ map entry_of (names (m ∷ ms) dir)
+    by true later = first (refilled version content m) refl (names (changed ms id (refilled version content)) dir) (names ms dir) later (m.parent == dir)
+    by false later = first m refl (names (changed ms id (refilled version content)) dir) (names ms dir) later (m.parent == dir)
+
+commits_names : (t : Tree) (held : Held) (file : ℕ) (content : List ℕ) (dir : ℕ) → names_of (commits t held file content 0).0 dir ≡ names_of t dir
+commits_names t held file content dir = by (replace_plan t held file (length content))
+  where
+    by : (r : Result ℕ Status) → names_of (replace_if t file content r).0 dir ≡ names_of t dir
+    by (Err s) = refl
+    by (Ok version) = names_refilled t.nodes file version content dir
+
+-- ---- what waits
+
+-- each change that waits in one state waits in another, before
+abbrev AreOfThose : List Change → List Change → Type 0
+AreOfThose after before = (i : ℕ) (c : Change) → slice_get after i ≡ Some c → (j : ℕ) × (slice_get before j ≡ Some c)
+
+those_same : (after before : List Change) → after ≡ before → AreOfThose after before
+those_same after before same i c at = (i, ap (λ (l : List Change). slice_get l i) (sym same) ∙ at)
+
+-- what a step of the server leaves that makes nothing by a name: names are as they were, and what waits waited before
+pub record IsStill (before after : server.State) : Type 0 where
+  pub names : (dir : ℕ) → names_of after.tree dir ≡ names_of before.tree dir
+  pub waiting : AreOfThose after.waiting before.waiting
+
+still_same : (before after : server.State) → after ≡ before → IsStill before after
+still_same before after same = record { names = λ dir. ap (λ (s : server.State). names_of s.tree dir) same; waiting = those_same after.waiting before.waiting (ap (λ (s : server.State). s.waiting) same) }
+
+-- the last call of a walk that makes or removes something
+changes_made : (dir : ℕ) (left : List (List ℕ)) (g : Goal) → makes_at left g ≡ true → ChangesNames (call_at dir left g)
+changes_made dir [] (goal.Make n) e = tt
+changes_made dir [] (goal.MakeDir n) e = tt
+changes_made dir [] (goal.Remove n) e = tt
+changes_made dir [] (goal.RemoveDir n) e = tt
+changes_made dir [] (goal.RenameTo from n to) e = tt
+changes_made dir left g e = absurd cc
+
+-- a change of a COMMITTMP asks for nothing by a name
+commit_content : (m : Message) (c : Change) → IsByCommit m c → (content : List ℕ) × (c.what ≡ wanted.Content content)
+commit_content (message.Call xid (body.Lb (lb.CommitTmp a))) c h = h
+commit_content m c h = absurd h
+
+content_asked : (c : Change) (content : List ℕ) (a : Asked) → c.what ≡ wanted.Content content → c.what ≡ wanted.Asked a → ⊥
+content_asked c content a is asks_ = apart (sym is ∙ asks_)
+  where
+    apart : wanted.Content content ≡ wanted.Asked a → ⊥
+    apart e = absurd cc
+
+asked_is : (a b : Asked) → wanted.Asked a ≡ wanted.Asked b → a ≡ b
+asked_is a b e = cc
+
+-- ---- events that leave the server's tree, and what waits there
+
+joins_still : (k : Core) (c : ℕ) (o : Option Seat) → IsStill k.server (joins k c o).core.server
+joins_still k c None = still_same k.server k.server refl
+joins_still k c (Some seat) = room (has_room k.server)
+  where
+    as_is : (s : server.State) (o : Announced) → IsStill k.server s → IsStill k.server (joins_as k c seat s o).core.server
+    as_is s (announced.Session n) h = h
+    as_is s _ h = h
+
+    room : (b : Bool) → (let r = connect k.server b in IsStill k.server (joins_as k c seat r.0 r.1.told).core.server)
+    room true = let r = connect k.server true in as_is r.0 r.1.told (record { names = λ dir. refl; waiting = those_same k.server.waiting k.server.waiting refl })
+    room false = let r = connect k.server false in as_is r.0 r.1.told (still_same k.server k.server refl)
+
+does_still : (k : Core) (c now : ℕ) (d : Command) (o : Option Seat) → IsStill k.server (does k c now d o).core.server
+does_still k c now d None = still_same k.server k.server refl
+does_still k c now d (Some seat) = still_same k.server k.server refl
+
+hears_still : (k : Core) (n now : ℕ) (bytes : List ℕ) (o : Option Session) → IsStill k.server (hears k n now bytes o).core.server
+hears_still k n now bytes None = still_same k.server k.server refl
+hears_still k n now bytes (Some x) = seat (numbered k.seats x.owner)
+  where
+    newest : (s : Seat) (b : Bool) → IsStill k.server (hears_if k x.owner now s bytes b).core.server
+    newest s true = still_same k.server k.server refl
+    newest s false = still_same k.server k.server refl
+
+    seat : (o : Option Seat) → IsStill k.server (hears_at k n x.owner now bytes o).core.server
+    seat None = still_same k.server k.server refl
+    seat (Some s) = newest s (is_newest s.session n)
+
+cuts_still : (k : Core) (c : ℕ) (o : Option Seat) → IsStill k.server (cuts k c o).core.server
+cuts_still k c None = still_same k.server k.server refl
+cuts_still k c (Some seat) = by seat.client.linked
+  where
+    by : (b : Bool) → IsStill k.server (cuts_if k c seat b).core.server
+    by true = still_same k.server k.server refl
+    by false = still_same k.server k.server refl
+
+hangs_still : (k : Core) (n : ℕ) (o : Option Session) → IsStill k.server (hangs k n o).core.server
+hangs_still k n None = still_same k.server k.server refl
+hangs_still k n (Some x) = by x.hung
+  where
+    gone : (b : Bool) → IsStill k.server (Rattle.server_core.specs.Step.hangs_if k.server b n).0
+    gone true = record { names = λ dir. refl; waiting = λ i c at. (left_there n k.server.waiting i c at).0 }
+    gone false = still_same k.server k.server refl
+
+    by : (b : Bool) → IsStill k.server (hangs_if k n x b).core.server
+    by true = still_same k.server k.server refl
+    by false = gone (stands k.server n)
+
+-- ---- what is carried
+
+-- each change that waits and asks for something by a name came by a call that was taken; and so did each change of names that was made
+abbrev TakesAsked : List Moment → Change → Asked → Type 0
+TakesAsked past c a = (t : TakesNaming past c.session c.xid) × (t.call ≡ next_call (walk_for a))
+
+pub record AreNamed (past : List Moment) (k : Core) : Type 0 where
+  pub waiting : (i : ℕ) (c : Change) (a : Asked) → slice_get k.server.waiting i ≡ Some c → c.what ≡ wanted.Asked a → TakesAsked past c a
+  pub each : (m : Moment) → Contains past m → KeepsNames m ⊎ MakesNaming past m
+
+abbrev takes_later : (past : List Moment) (m : Moment) (session xid : ℕ) → TakesNaming past session xid → TakesNaming (past ++ m ∷ []) session xid
+takes_later past m session xid t = record {
+  call = t.call;
+  changes = t.changes;
+  taken = t.taken;
+  there = Contains-append_left past (m ∷ []) t.taken t.there;
+  now = t.now;
+  bytes = t.bytes;
+  event_is = t.event_is;
+  parsed = t.parsed;
+  sent = record { moment = t.sent.moment; there = Contains-append_left past (m ∷ []) t.sent.moment t.sent.there; before = t.sent.before; on = t.sent.on; sent = t.sent.sent };
+}
+
+makes_later : (past : List Moment) (m z : Moment) → MakesNaming past z → MakesNaming (past ++ m ∷ []) z
+makes_later past m z n = record { session = n.session; xid = n.xid; takes = takes_later past m n.session n.xid n.takes; comes = n.comes; makes = n.makes; answer = n.answer; told = n.told; done = n.done }
+
+-- what an event makes of it
+pub record NamesAfter (past : List Moment) (k : Core) (e : Event) : Type 0 where
+  pub now : KeepsNames (moment k e) ⊎ MakesNaming (past ++ moment k e ∷ []) (moment k e)
+  pub waiting : (i : ℕ) (c : Change) (a : Asked) → slice_get (happens k e).core.server.waiting i ≡ Some c → c.what ≡ wanted.Asked a → ((j : ℕ) × (slice_get k.server.waiting j ≡ Some c)) ⊎ TakesAsked (past ++ moment k e ∷ []) c a
+
+named_after : (past : List Moment) (k : Core) (e : Event) → NamesAfter past k e → AreNamed past k → AreNamed (past ++ moment k e ∷ []) (happens k e).core
+named_after past k e new h = record {
+  waiting = λ i c a at asks_. elim (new.waiting i c a at asks_) [
+    | inl old ↦ (let was = h.waiting old.0 c a old.1 asks_ in (takes_later past (moment k e) c.session c.xid was.0, was.1))
+    | inr takes ↦ takes
+  ];
+  each = λ z there. elim (Contains-push_cases past (moment k e) z there) [
+    | inl old ↦ elim (h.each z old) [ inl keeps ↦ inl keeps | inr makes ↦ inr (makes_later past (moment k e) z makes) ]
+    | inr is ↦ subst (λ (y : Moment). KeepsNames y ⊎ MakesNaming (past ++ moment k e ∷ []) y) is new.now
+  ];
+}
+
+after_still : (past : List Moment) (k : Core) (e : Event) → IsStill k.server (happens k e).core.server → NamesAfter past k e
+after_still past k e still = record { now = inl still.names; waiting = λ i c a at asks_. inl (still.waiting i c at) }
+
+-- ---- what is made, and what is answered
+
+-- a step that leaves this keeps names, or it makes what this call asks for, and answers it on a session that it is done
+abbrev Turned : Core → (session xid : ℕ) → (call : Nfs) → Held → CoreStep → Type 0
+Turned k n xid call held t = ((dir : ℕ) → names_of t.core.server.tree dir ≡ names_of k.server.tree dir) ⊎ ((a : Nfs) × Contains t.down (record { session = n; message = message.Answer xid (body.Nfs a) }) × (refusal_of a ≡ None) × MakesOf call k.server.tree held t.core.server.tree)
+
+-- nothing more waits then, or what a walk's call asked for
+abbrev Leaves : Core → (session xid : ℕ) → Walk → CoreStep → Type 0
+Leaves k n xid w t = (t.core.server.waiting ≡ k.server.waiting) ⊎ ((a : Asked) × (t.core.server.waiting ≡ k.server.waiting ++ coming n xid a ∷ []) × (w ≡ walk_for a))
+
+-- what ends a walk by that refuses nothing
+none_refused : (w : Walk) (a : Nfs) → walk_told w a ≡ told.Ends ended.Done → refusal_of a ≡ None
+none_refused w a done = by (refusal_of a) refl
+  where
+    apart : {A : Type 0} (s : Status) → told.Ends ended.Done ≡ told.Ends (ended.Refused s) → A
+    apart s e = absurd cc
+
+    by : (o : Option Status) → refusal_of a ≡ o → o ≡ None
+    by None is = refl
+    by (Some s) is = apart s (sym done ∙ refused_leads w a s is)
+
+makes_of : (dir : ℕ) (left : List (List ℕ)) (g : Goal) (t : Tree) (held : Held) → makes_at left g ≡ true → MakesOf (call_at dir left g) t held (step_by t held dir g).0
+makes_of dir [] (goal.Make n) t held e = (dir, n, refl, refl)
+makes_of dir [] (goal.MakeDir n) t held e = (dir, n, refl, refl)
+makes_of dir [] (goal.Remove n) t held e = (dir, n, refl, refl)
+makes_of dir [] (goal.RemoveDir n) t held e = (dir, n, refl, refl)
+makes_of dir [] (goal.RenameTo from n to) t held e = (from, n, dir, to, refl, refl)
+makes_of dir left g t held e = absurd cc
+
+said_done : (k : Core) (n xid : ℕ) (w : Walk) (held : Held) (r : NameReply) (t : CoreStep) (done : Changed) → is_making w ≡ true → step_by k.server.tree held w.dir w.goal ≡ (t.core.server.tree, Ok done) → t.down ≡ record { session = n; message = message.Answer xid (body.Nfs (name_answer r)) } ∷ [] → walk_told w (name_answer r) ≡ told.Ends ended.Done → Turned k n xid (next_call w) held t
+said_done k n xid w held r t done making step down leads = inr (
+  name_answer r,
+  subst (λ (l : List Sent). Contains l (record { session = n; message = message.Answer xid (body.Nfs (name_answer r)) })) (sym down) (Contains-push [] (record { session = n; message = message.Answer xid (body.Nfs (name_answer r)) })),
+  none_refused w (name_answer r) leads,
+  subst (MakesOf (next_call w) k.server.tree held) (ap (λ (p : Tree × Result Changed Status). p.0) step) (makes_of w.dir w.left w.goal k.server.tree held making),
+)
+
+built_turned : (k : Core) (n now : ℕ) (x : Session) (xid : ℕ) (w : Walk) → is_building w ≡ true → (let t = making_got k n now x xid (made_by k.server.tree (server.held k.server.waiting) w.dir w.goal) in Turned k n xid (next_call w) (server.held k.server.waiting) t × Leaves k n xid w t)
+built_turned k n now x xid w building = (by (made_walk k.server.tree (server.held k.server.waiting) w building), inl refl)
+  where
+    by : MadeSo k.server.tree (server.held k.server.waiting) w → Turned k n xid (next_call w) (server.held k.server.waiting) (making_got k n now x xid (made_by k.server.tree (server.held k.server.waiting) w.dir w.goal))
+    by (refuses s r is err turned leads procs) = subst (λ (p : Tree × Finished). Turned k n xid (next_call w) (server.held k.server.waiting) (making_got k n now x xid p)) (sym is) (inl (λ dir. refl))
+    by (enters done e r after is step first_is second_is entry_is after_is leads procs) = subst (λ (p : Tree × Finished). Turned k n xid (next_call w) (server.held k.server.waiting) (making_got k n now x xid p)) (sym is) (said_done k n xid w (server.held k.server.waiting) r (making_got k n now x xid (after, record { answer = name_answer r; first = Some e; second = None })) done (building_makes w.left w.goal building) step refl leads)
+
+going_turned : (k : Core) (n now : ℕ) (x : Session) (xid : ℕ) (w : Walk) → IsWalkSmall w → is_going w ≡ true → stands k.server n ≡ true → IsBounded k.server.tree → (let t = server_got k n now x (message.Call xid (body.Nfs (next_call w))) in Turned k n xid (next_call w) (server.held k.server.waiting) t × Leaves k n xid w t)
+going_turned k n now x xid w small going standing bounded = by (comes_so k.server.tree (server.held k.server.waiting) (has_waiting k.server.waiting n) w bounded small going)
+  where
+    by : ComesSo k.server.tree (server.held k.server.waiting) (has_waiting k.server.waiting n) w → (let t = server_got k n now x (message.Call xid (body.Nfs (next_call w))) in Turned k n xid (next_call w) (server.held k.server.waiting) t × Leaves k n xid w t)
+    by (refused s r is why turned leads procs) = subst (λ (t : CoreStep). Turned k n xid (next_call w) (server.held k.server.waiting) t × Leaves k n xid w t) (sym (got_answered k n now x xid w k.server.tree (said (name_answer r)) small going standing is)) (inl (λ dir. refl), inl refl)
+    by (done_now done r after is step first second leads procs files none root next) =
+        let d : Finished = record { answer = name_answer r; first = done.first; second = done.second } in
+        subst (λ (t : CoreStep). Turned k n xid (next_call w) (server.held k.server.waiting) t × Leaves k n xid w t) (sym (got_answered k n now x xid w after d small going standing is)) (said_done k n xid w (server.held k.server.waiting) r (making_got k n now x xid (after, d)) done (going_makes w.left w.goal going) step refl leads, inl refl)
+    by (waits a g is asks_ there room free two) = subst (λ (t : CoreStep). Turned k n xid (next_call w) (server.held k.server.waiting) t × Leaves k n xid w t) (sym (got_waits k n now x xid w a small going standing is)) (inl (λ dir. refl), inr (a, refl, walk_is w a asks_))
+
+asked_makes : (a : Asked) → is_making (walk_for a) ≡ true
+asked_makes (asked.Remove r) = refl
+asked_makes (asked.Rename r) = refl
+
+settled_turned : (k : Core) (now : ℕ) (c : Change) (cs : List Change) (a : Asked) → SettlesSo k.server.tree (server.held cs) (walk_for a) a → Turned k c.session c.xid (next_call (walk_for a)) (server.held cs) (asked_step k now c cs (tree_settles k.server.tree (server.held cs) a))
+settled_turned k now c cs a so = by so
+  where
+    by : SettlesSo k.server.tree (server.held cs) (walk_for a) a → Turned k c.session c.xid (next_call (walk_for a)) (server.held cs) (asked_step k now c cs (tree_settles k.server.tree (server.held cs) a))
+    by (refused_late s r is why turned leads procs) = subst (λ (p : Tree × Finished). Turned k c.session c.xid (next_call (walk_for a)) (server.held cs) (asked_step k now c cs p)) (sym is) (inl (λ dir. refl))
+    by (goes done r after is step gone second leads procs files none off root next) =
+        let d : Finished = record { answer = name_answer r; first = done.first; second = done.second } in
+        subst (λ (p : Tree × Finished). Turned k c.session c.xid (next_call (walk_for a)) (server.held cs) (asked_step k now c cs p)) (sym is) (said_done k c.session c.xid (walk_for a) (server.held cs) r (asked_step k now c cs (after, d)) done (asked_makes a) step refl leads)
+
+-- so what is said of the step
+now_by : (past : List Moment) (m : Moment) (n xid : ℕ) (takes : TakesNaming past n xid) → ComesTo m n xid (step_of takes.taken) → Turned m.before n xid takes.call (held_at m) (happens m.before m.event) → KeepsNames m ⊎ MakesNaming past m
+now_by past m n xid takes comes (inl keeps) = inl keeps
+now_by past m n xid takes comes (inr answered) = inr (record { session = n; xid = xid; takes = takes; comes = comes; makes = answered.3; answer = answered.0; told = answered.1; done = answered.2 })
+
+-- ---- a call is taken
+
+names_serves : FitLaws → (all past : List Moment) (opening : List Opening) (k : Core) (qs mid : List Queue) (n now : ℕ) (bytes : List ℕ) → IsKept (book_at opening k all) k qs → Finds k qs (Serves n now bytes) mid → UpsSent past k.steps qs → NamesAfter past k (Serves n now bytes)
+names_serves fits all past opening k qs mid n now bytes kept f sent = by (makes_call f.1.call) refl
+  where
+    past2 : List Moment
+    past2 = past ++ moment k (Serves n now bytes) ∷ []
+
+    x : (x : Session) × (numbered k.sessions n ≡ Some x)
+    x = also_numbered qs k.sessions n f.0 (sym kept.made.1) f.3
+
+    read : parse_of server_waiting bytes ≡ Ok (ask_message f.1)
+    read = serves_read fits (book_at opening k all) k qs n now bytes mid kept f
+
+    server_is : (happens k (Serves n now bytes)).core.server ≡ (server_step k.server (event.Got n (ask_message f.1) now)).0
+    server_is = ap (λ (o : Option Session). (serves k n now bytes o).core.server) x.1 ∙ ap (λ (r : Result Message WireFault). (serves_if k n now x.0 r).core.server) read
+
+    was : WasCalled past k.steps n f.1
+    was = (subst (AllAsks (WasCalled past k.steps n)) f.4 (sent n f.0 f.3)).0
+
+    none : makes_call f.1.call ≡ false → NamesAfter past k (Serves n now bytes)
+    none plain =
+        let of = is_of_files f.1 (serves_fits (book_at opening k all) k qs n now bytes mid kept f) plain in
+        let tree : (server_step k.server (event.Got n (ask_message f.1) now)).0.tree ≡ k.server.tree = got_keeps (λ (z : server.State). z.tree ≡ k.server.tree) k.server n (ask_message f.1) now of (λ temps waiting index moment w. refl) in
+        let came : Waits k.server.waiting n (IsByCommit (ask_message f.1)) (server_step k.server (event.Got n (ask_message f.1) now)).0.waiting = got_keeps (λ (z : server.State). Waits k.server.waiting n (IsByCommit (ask_message f.1)) z.waiting) k.server n (ask_message f.1) now of (λ temps waiting index moment w. w) in
+        record {
+          now = inl (λ dir. ap (λ (s : server.State). names_of s.tree dir) server_is ∙ ap (λ (t : Tree). names_of t dir) tree);
+          waiting = λ i c a there asks_. inl (elim came [
+            | inl same ↦ (i, ap (λ (l : List Change). slice_get l i) (sym same) ∙ ap (λ (s : server.State). slice_get s.waiting i) (sym server_is) ∙ there)
+            | inr one ↦ elim (of_appended k.server.waiting one.0 i c (ap (λ (l : List Change). slice_get l i) (sym one.2) ∙ ap (λ (s : server.State). slice_get s.waiting i) (sym server_is) ∙ there)) [
+              | inr old ↦ (i, old)
+              | inl last ↦ (let content = commit_content (ask_message f.1) one.0 one.3 in absurd (content_asked c content.0 a (ap (λ (z : Change). z.what) last.1 ∙ content.1) asks_))
+            ]
+          ]);
+        }
+
+    some_ : makes_call f.1.call ≡ true → NamesAfter past k (Serves n now bytes)
+    some_ makes = record {
+      now = now_by past2 (moment k (Serves n now bytes)) n f.1.xid takes (inl refl) both.0;
+      waiting = λ i c a there asks_. elim both.1 [
+        | inl same ↦ inl (i, ap (λ (l : List Change). slice_get l i) (sym same) ∙ there)
+        | inr new ↦ elim (of_appended k.server.waiting (coming n f.1.xid new.0) i c (ap (λ (l : List Change). slice_get l i) (sym new.1) ∙ there)) [
+          | inr old ↦ inl (i, old)
+          | inl last ↦ inr (subst (λ (z : Change). z.what ≡ wanted.Asked a → TakesAsked past2 z a) (sym last.1) (λ what. (takes, ap (λ (v : Walk). next_call v) new.2 ∙ ap (λ (b : Asked). next_call (walk_for b)) (asked_is new.0 a what))) asks_)
+        ]
+      ];
+    }
+      where
+        w : (w : Walk) × (f.1.call ≡ Walks w) × (is_making w ≡ true)
+        w = walk_made f.1.call makes
+
+        is : ask_message f.1 ≡ message.Call f.1.xid (body.Nfs (next_call w.0))
+        is = ap (λ (c : Call). ask_message (record { xid = f.1.xid; call = c })) w.1
+
+        fit : CallFits f.1.xid (Walks w.0)
+        fit = subst (CallFits f.1.xid) w.1 (serves_fits (book_at opening k all) k qs n now bytes mid kept f)
+
+        h : IsSession (book_at opening k all) k.seats k.server n x.0 f.0
+        h = kept.sessions n x.0 f.0 x.1 f.3
+
+        unhung : (b : Bool) → x.0.hung ≡ b → x.0.hung ≡ false
+        unhung false e = e
+        unhung true e = absurd (no_ups (sym (h.lost e) ∙ f.4))
+          where
+            no_ups : {a : Ask} {us : List Ask} → ◌≡◌ {A = List Ask} [] (a ∷ us) → ⊥
+            no_ups e = absurd cc
+
+        standing : stands k.server n ≡ true
+        standing = h.stands_is ∙ ap not (unhung x.0.hung refl)
+
+        step_is : happens k (Serves n now bytes) ≡ server_got k n now x.0 (message.Call f.1.xid (body.Nfs (next_call w.0)))
+        step_is = ap (λ (o : Option Session). serves k n now bytes o) x.1 ∙ ap (λ (r : Result Message WireFault). serves_if k n now x.0 r) (read ∙ ap (λ (m : Message). Ok m) is)
+
+        changes : ChangesNames (next_call w.0)
+        changes = changes_made w.0.dir w.0.left w.0.goal w.2
+
+        takes : TakesNaming past2 n f.1.xid
+        takes = record {
+          call = next_call w.0;
+          changes = changes;
+          taken = moment k (Serves n now bytes);
+          there = Contains-append_right past (moment k (Serves n now bytes) ∷ []) (moment k (Serves n now bytes)) (Contains-push [] (moment k (Serves n now bytes)));
+          now = now;
+          bytes = bytes;
+          event_is = refl;
+          parsed = read ∙ ap (λ (m : Message). Ok m) is;
+          sent = record {
+            moment = was.moment;
+            there = Contains-append_left past (moment k (Serves n now bytes) ∷ []) was.moment was.there;
+            before = (let le = was.by in omega (arith, le));
+            on = was.session;
+            sent = subst (λ (m : Message). Contains (happens was.moment.before was.moment.event).up m) is was.sent;
+          };
+        }
+
+        both : Turned k n f.1.xid (next_call w.0) (server.held k.server.waiting) (happens k (Serves n now bytes)) × Leaves k n f.1.xid w.0 (happens k (Serves n now bytes))
+        both = subst (λ (t : CoreStep). Turned k n f.1.xid (next_call w.0) (server.held k.server.waiting) t × Leaves k n f.1.xid w.0 t) (sym step_is) (elim (making_is w.0.left w.0.goal w.2) [
+          | inl built ↦ subst (λ (t : CoreStep). Turned k n f.1.xid (next_call w.0) (server.held k.server.waiting) t × Leaves k n f.1.xid w.0 t) (sym (got_making k n now x.0 f.1.xid w.0 fit.1 built standing)) (built_turned k n now x.0 f.1.xid w.0 built)
+          | inr going ↦ going_turned k n now x.0 f.1.xid w.0 fit.1 going standing kept.server.bounded
+        ])
+
+    by : (b : Bool) → makes_call f.1.call ≡ b → NamesAfter past k (Serves n now bytes)
+    by true is = some_ is
+    by false is = none is
+
+-- ---- what waits is settled
+
+asks_itself : (a : Asked) → AsksFor (walk_for a) a
+asks_itself (asked.Remove r) = (refl, refl, refl)
+asks_itself (asked.Rename r) = (refl, refl, refl)
+
+made_waiting : (s : server.State) (c : Change) (w : Wanted) → (makes_change s c w).0.waiting ≡ s.waiting
+made_waiting s c (wanted.Content content) = refl
+made_waiting s c (wanted.Asked a) = refl
+
+names_settles : (past : List Moment) (book : Book) (k : Core) (qs : List Queue) (now : ℕ) → IsKept book k qs → AreNamed past k → NamesAfter past k (Settles now)
+names_settles past book k qs now kept h = by k.server.waiting refl
+  where
+    by : (ws : List Change) → k.server.waiting ≡ ws → NamesAfter past k (Settles now)
+    by [] e = after_still past k (Settles now) (still_same k.server (happens k (Settles now)).core.server (ap (λ (ws : List Change). (closing.settles k.server now ws).0) e))
+    by (c ∷ cs) e = record { now = first c.what refl; waiting = λ i d a there asks_. inl (suc i, ap (λ (l : List Change). slice_get l (suc i)) e ∙ ap (λ (l : List Change). slice_get l i) (sym left) ∙ there) }
+      where
+        before : server.State
+        before = at (record k.server { waiting = cs }) now
+
+        server_is : (happens k (Settles now)).core.server ≡ (makes_change (at (record k.server { waiting = cs }) now) c c.what).0
+        server_is = ap (λ (ws : List Change). (closing.settles k.server now ws).0) e
+
+        left : (happens k (Settles now)).core.server.waiting ≡ cs
+        left = ap (λ (s : server.State). s.waiting) server_is ∙ made_waiting before c c.what
+
+        at_first : slice_get k.server.waiting 0 ≡ Some c
+        at_first = ap (λ (l : List Change). slice_get l 0) e
+
+        first : (w : Wanted) → c.what ≡ w → KeepsNames (moment k (Settles now)) ⊎ MakesNaming (past ++ moment k (Settles now) ∷ []) (moment k (Settles now))
+        first (wanted.Content content) what = inl (λ dir.
+            ap (λ (s : server.State). names_of s.tree dir) server_is
+            ∙ ap (λ (w : Wanted). names_of (makes_change (at (record k.server { waiting = cs }) now) c w).0.tree dir) what
+            ∙ commits_names k.server.tree (server.held cs) c.file content dir)
+        first (wanted.Asked a) what =
+            let wants = subst (IsWanted c.file) what (kept.server.wants 0 c at_first) in
+            let so = settles_so k.server.tree (server.held cs) (walk_for a) a kept.server.bounded wants.2 (asks_itself a) wants.1 (λ n d. no_directory book k.server (file_of a) n kept.server (subst (λ (f : ℕ). WasThere book f) wants.0 (kept.server.targets 0 c at_first)) d) in
+            let was = h.waiting 0 c a at_first what in
+            let room : server.held cs ≡ server.held (drop 1 k.server.waiting) = sym (ap (λ (ws : List Change). server.held (drop 1 ws)) e) in
+            now_by (past ++ moment k (Settles now) ∷ []) (moment k (Settles now)) c.session c.xid
+            (takes_later past (moment k (Settles now)) c.session c.xid was.0)
+            (inr (record { now = now; event_is = refl; change = c; first = at_first; session_is = refl; xid_is = refl }))
+            (subst (λ (call : Nfs). Turned k c.session c.xid call (held_at (moment k (Settles now))) (happens k (Settles now))) (sym was.1)
+            (subst (λ (held : Held). Turned k c.session c.xid (next_call (walk_for a)) held (happens k (Settles now))) room
+            (subst (Turned k c.session c.xid (next_call (walk_for a)) (server.held cs)) (sym (asked_settles k now c cs a e what)) (settled_turned k now c cs a so))))
+
+-- ---- any event
+
+names_event : FitLaws → (all past rest : List Moment) (opening : List Opening) (k : Core) (qs : List Queue) (e : Event) (mid after : List Queue) → Step all past rest opening k qs e mid after → UpsSent past k.steps qs → AreNamed past k → NamesAfter past k e
+names_event fits all past rest opening k qs (Joins c) mid after s sent h = after_still past k (Joins c) (joins_still k c (numbered k.seats c))
+names_event fits all past rest opening k qs (Does c now d) mid after s sent h = after_still past k (Does c now d) (does_still k c now d (numbered k.seats c))
+names_event fits all past rest opening k qs (Serves n now bytes) mid after s sent h = names_serves fits all past opening k qs mid n now bytes s.kept s.finds sent
+names_event fits all past rest opening k qs (Hears n now bytes) mid after s sent h = after_still past k (Hears n now bytes) (hears_still k n now bytes (numbered k.sessions n))
+names_event fits all past rest opening k qs (Settles now) mid after s sent h = names_settles past (book_at opening k all) k qs now s.kept h
+names_event fits all past rest opening k qs (Cuts c) mid after s sent h = after_still past k (Cuts c) (cuts_still k c (numbered k.seats c))
+names_event fits all past rest opening k qs (Hangs n) mid after s sent h = after_still past k (Hangs n) (hangs_still k n (numbered k.sessions n))
+
+-- beside what is saved, by which each call that is taken had been sent
+pub record AllNamed (all past : List Moment) (opening : List Opening) (k : Core) (qs : List Queue) : Type 0 where
+  pub saved : AllSaved all past opening k qs
+  pub named : AreNamed past k
+
+pub carried_named : FitLaws → Carried AllNamed
+carried_named fits = record {
+  first = λ all opening tree count kept. record { saved = (carried_saved fits).first all opening tree count kept; named = record { waiting = λ i c a there asks_. nothing_there c there; each = λ m there. (let lt = there.1 in absurd (omega (arith, lt))) } };
+  steps = λ all past rest opening k qs e mid after s h. record { saved = (carried_saved fits).steps all past rest opening k qs e mid after s h.saved; named = named_after past k e (names_event fits all past rest opening k qs e mid after s h.saved.called h.named) h.named };
+  adjusts = λ all past opening k qs index seats same h. record { saved = (carried_saved fits).adjusts all past opening k qs index seats same h.saved; named = record { waiting = h.named.waiting; each = h.named.each } };
+}
+
+-- ---- what it makes of the promise
+
+pub names_change : (book : Book) (m : Moment) → KeepsNames m ⊎ MakesNaming book.moments m → ((z : Moment) → Contains book.moments z → IsSilent z ⊎ ((k : ℕ) × (o : Op) × (slice_get book.ops k ≡ Some o) × (is_in o (step_of z) (client_of z.before z.event) ≡ true))) → NamesChangeBy book m
+names_change book m (inl keeps) owned = inl keeps
+names_change book m (inr n) owned = (let w = own (owned n.takes.sent.moment n.takes.sent.there) in inr (n, w.0, w.1, w.2, w.3))
+  where
+    none_sent : (z : Message) → Contains [] z → ⊥
+    none_sent z c = let lt = c.1 in absurd (omega (arith, lt))
+
+    own : IsSilent n.takes.sent.moment ⊎ ((k : ℕ) × (o : Op) × (slice_get book.ops k ≡ Some o) × (is_in o (step_of n.takes.sent.moment) (client_of n.takes.sent.moment.before n.takes.sent.moment.event) ≡ true)) → (k : ℕ) × (o : Op) × (slice_get book.ops k ≡ Some o) × (is_in o (step_of n.takes.sent.moment) (client_of n.takes.sent.moment.before n.takes.sent.moment.event) ≡ true)
+    own (inr has) = has
+    own (inl silent) = absurd (none_sent (message.Call n.xid (body.Nfs n.takes.call)) (subst (λ (l : List Message). Contains l (message.Call n.xid (body.Nfs n.takes.call))) silent.2 n.takes.sent.sent))
