@@ -4,6 +4,7 @@
 //! and the examples test it.
 #![tactic(auto)]
 
+use exit_status::status::Status;
 use folder_store::folder::FolderStore;
 use host::host_files::HostFiles;
 use host::tcp::TcpNetwork;
@@ -11,7 +12,6 @@ use host::time::{HostClock, HostRest};
 use lb_base::streams::{StreamSink, StreamSource};
 use lbfs_run::outside::Outside;
 use lbfs_run::run::run;
-use program_words::status::Status;
 use std::io::ErrorKind;
 use std::process::ExitCode;
 use std::{env, io, process};

@@ -7,8 +7,8 @@ use Rattle.trace_text.specs.declared.refusal.Refusal.TheVariants.{LimitBytes, Li
 use Rattle.lbfs_mount.specs.Mounts.{IsBadLine, IsDone, IsTooLong, Writes}
 use Rattle.lbfs_mount.specs.declared.mount_err.MountErr.{MountErr}
 use Rattle.lbfs_mount.specs.declared.mount_err.MountErr.TheVariants as errors
-use Rattle.program_words.specs.declared.status.Status.{Status}
-use Rattle.program_words.specs.declared.status.Status.TheVariants as status
+use Rattle.exit_status.specs.declared.status.Status.{Status}
+use Rattle.exit_status.specs.declared.status.Status.TheVariants as status
 use Rattle.lbfs_run.specs.Telling.{Tells}
 
 -- the status, and what is written behind the operations' lines

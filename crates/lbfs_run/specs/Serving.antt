@@ -8,8 +8,8 @@ use Rattle.lbfs_server.specs.declared.serve.Served.{Served}
 use Rattle.lbfs_server.specs.declared.serve.ServeErr.{ServeErr}
 use Rattle.lbfs_server.specs.declared.serve.ServeErr.TheVariants as errors
 use Rattle.program_words.specs.declared.asked.ServeOptions.{ServeOptions}
-use Rattle.program_words.specs.declared.status.Status.{Status}
-use Rattle.program_words.specs.declared.status.Status.TheVariants as status
+use Rattle.exit_status.specs.declared.status.Status.{Status}
+use Rattle.exit_status.specs.declared.status.Status.TheVariants as status
 use Rattle.lbfs_run.specs.Telling.{Tells}
 
 -- how many sessions were served, and how many changes the server's journal tells

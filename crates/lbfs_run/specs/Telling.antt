@@ -2,8 +2,8 @@
 use Rattle.std.specs.Prelude.{◌≡◌, ◌⊎◌, ℕ, List, Option}
 use Rattle.std.specs.Io.KnownBytes.{Appends}
 use Rattle.lb_base.specs.Known.{AppendsPart, AppendsPrefix}
-use Rattle.program_words.specs.declared.status.Status.{Status}
-use Rattle.program_words.specs.Statuses.{code_of}
+use Rattle.exit_status.specs.declared.status.Status.{Status}
+use Rattle.exit_status.specs.Statuses.{code_of}
 
 -- the text was written and the status is this one; or writing failed, and a front of it was written, and not all; or
 -- memory ran out, and a front was written, or nothing

@@ -10,6 +10,7 @@ ghost use Rattle.lbfs_run.specs.Telling.{Tells};
 
 use crate::outside::Outside;
 use crate::telling::tell;
+use exit_status::status::Status;
 use lb_base::items::Items;
 use lb_base::sink::Sink;
 use lb_base::source::Source;
@@ -20,7 +21,6 @@ use links::files::Files;
 use links::network::Network;
 use plain_run::output::{Output, refused};
 use program_words::asked::MountOptions;
-use program_words::status::Status;
 use std::alloc::{AllocError, Global};
 use std::sync::Wait;
 use std::thread::Threads;

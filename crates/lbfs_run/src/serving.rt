@@ -9,6 +9,7 @@ ghost use Rattle.lbfs_run.specs.Telling.{Tells};
 
 use crate::outside::Outside;
 use crate::telling::tell;
+use exit_status::status::Status;
 use lb_base::items::{Bytes, Items};
 use lb_base::sink::Sink;
 use lbfs_server::gate::OpenGate;
@@ -18,7 +19,6 @@ use links::network::Network;
 use links::rest::Rest;
 use plain_run::output::Output;
 use program_words::asked::ServeOptions;
-use program_words::status::Status;
 use std::alloc::{AllocError, Global};
 use std::fmt::Write;
 use std::sync::Wait;

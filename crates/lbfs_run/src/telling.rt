@@ -2,12 +2,12 @@
 
 ghost use Rattle.std.specs.Prelude.{◌≡◌, ◌≤◌, ◌⊎◌};
 ghost use Rattle.lb_base.specs.Causes.{Rose};
-ghost use Rattle.program_words.specs.Statuses.{code_of};
+ghost use Rattle.exit_status.specs.Statuses.{code_of};
 ghost use Rattle.lbfs_run.specs.Telling.{Tells};
 
+use exit_status::status::Status;
 use lb_base::sink::{GiveErr, Sink, give_all};
 use plain_run::output::Output;
-use program_words::status::Status;
 
 /// Writes the output, and answers its status, or that of what went wrong.
 pub(crate) fn tell<K: Sink>(output: &Output, sink: &mut K) -> u8

@@ -7,7 +7,7 @@ use Rattle.trace_replay.specs.World.{World}
 use Rattle.trace_replay.specs.Timed.{accepted}
 use Rattle.trace_replay.specs.Traces.{IsKeptPromise}
 use Rattle.trace_generator.specs.Lines.{generated_text}
-use Rattle.program_words.specs.declared.status.Status.{Status}
+use Rattle.exit_status.specs.declared.status.Status.{Status}
 use Rattle.program_words.specs.declared.asked.View.{View}
 use Rattle.program_words.specs.declared.asked.View.TheVariants.{History}
 use Rattle.program_words.specs.declared.asked.InputCommand.TheVariants as input
@@ -15,7 +15,7 @@ use Rattle.program_words.specs.declared.asked.SeedCommand.{SeedCommand}
 use Rattle.program_words.specs.declared.asked.SeedCommand.TheVariants as seeded
 use Rattle.program_words.specs.declared.asked.Command.{Command}
 use Rattle.program_words.specs.declared.asked.Command.TheVariants.{OfInput, OfSeed}
-use Rattle.program_words.specs.Statuses.{code_of}
+use Rattle.exit_status.specs.Statuses.{code_of}
 use Rattle.program_words.specs.Words.{IsFew}
 use Rattle.plain_run.specs.Output.{told, output_for, replay_output, seed_output, unless_long, most_bytes}
 use Rattle.plain_run.specs.Ends.{IsAnswered, IsAnsweredFrom, IsRun}

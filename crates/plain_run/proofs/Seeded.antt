@@ -1,11 +1,11 @@
 -- A command that makes its trace takes nothing from the source.
 use Rattle.std.proofs.Common.{◌≡◌, ℕ, List, [], Bool, true, false, Option, Some, None, refl, sym, ap, ◌∙◌}
 use Rattle.std.specs.Io.KnownBytes.{Consumes, IsAtEnd}
-use Rattle.program_words.specs.declared.status.Status.{Status}
+use Rattle.exit_status.specs.declared.status.Status.{Status}
 use Rattle.program_words.specs.declared.asked.SeedCommand.{SeedCommand}
 use Rattle.program_words.specs.declared.asked.Command.{Command}
 use Rattle.program_words.specs.declared.asked.Command.TheVariants.{OfSeed}
-use Rattle.program_words.specs.Statuses.{code_of}
+use Rattle.exit_status.specs.Statuses.{code_of}
 use Rattle.program_words.specs.Words.{reads}
 use Rattle.plain_run.specs.Output.{output_for, seed_output}
 

@@ -10,7 +10,7 @@ use Rattle.trace_replay.specs.Timed.{accepted}
 use Rattle.trace_replay.specs.Traces.{IsKeptPromise}
 use Rattle.program_words.specs.declared.asked.View.{View}
 use Rattle.program_words.specs.declared.asked.Command.{Command}
-use Rattle.program_words.specs.Statuses.{code_of}
+use Rattle.exit_status.specs.Statuses.{code_of}
 use Rattle.program_words.specs.Words.{reads}
 use Rattle.plain_run.specs.Output.{output_for, view_text}
 

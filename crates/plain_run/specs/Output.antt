@@ -13,7 +13,7 @@ use Rattle.trace_replay.specs.World.{World}
 use Rattle.trace_replay.specs.World.{history_of}
 use Rattle.trace_replay.specs.Timed.{accepted}
 use Rattle.trace_generator.specs.Lines.{generated_text}
-use Rattle.program_words.specs.Statuses.{code_of}
+use Rattle.exit_status.specs.Statuses.{code_of}
 use Rattle.program_words.specs.declared.asked.View.{View}
 use Rattle.program_words.specs.declared.asked.View.TheVariants.{History, Summary}
 use Rattle.program_words.specs.declared.asked.InputCommand.{InputCommand}
@@ -22,8 +22,8 @@ use Rattle.program_words.specs.declared.asked.SeedCommand.{SeedCommand}
 use Rattle.program_words.specs.declared.asked.SeedCommand.TheVariants as seeded
 use Rattle.program_words.specs.declared.asked.Command.{Command}
 use Rattle.program_words.specs.declared.asked.Command.TheVariants.{OfInput, OfSeed}
-use Rattle.program_words.specs.declared.status.Status.{Status}
-use Rattle.program_words.specs.declared.status.Status.TheVariants as status
+use Rattle.exit_status.specs.declared.status.Status.{Status}
+use Rattle.exit_status.specs.declared.status.Status.TheVariants as status
 
 -- all of the output was written
 abbrev pub IsWhole : Status → Type 0

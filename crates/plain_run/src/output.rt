@@ -5,13 +5,13 @@ ghost use Rattle.std.specs.Prelude.{◌≡◌, ℕ, ◌≤◌, ◌<◌, List, le
 ghost use Rattle.trace_text.specs.Refusals.{refusal_of};
 ghost use Rattle.plain_run.specs.Output.{view_text, replay_output, input_output, seed_output, IsWhole};
 ghost use Rattle.trace_generator.specs.declared.TheConstants.{BLOCKS_MOST};
-ghost use Rattle.program_words.specs.declared.status.Status.TheVariants as status;
+ghost use Rattle.exit_status.specs.declared.status.Status.TheVariants as status;
 
 use crate::chunk_lines::cut_text;
+use exit_status::status::Status;
 use generated_traces::replayed::replayed;
 use lb_base::items::{Bytes, Items};
 use program_words::asked::{InputCommand, SeedCommand, View};
-use program_words::status::Status;
 use record_show::show::shown;
 use register_model::text;
 use std::alloc::{AllocError, Global};

@@ -1,4 +1,3 @@
 pub mod Line
 pub mod Words
 pub mod Rows
-pub mod Statuses

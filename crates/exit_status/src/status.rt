@@ -1,7 +1,7 @@
 //! The numbers that the program ends with: `code_of` of `specs/Statuses.antt`.
 
 ghost use Rattle.std.specs.Prelude.{◌≡◌};
-ghost use Rattle.program_words.specs.Statuses.{code_of};
+ghost use Rattle.exit_status.specs.Statuses.{code_of};
 
 /// How a run ends.
 #[derive(Clone, Copy)]

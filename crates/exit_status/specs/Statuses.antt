@@ -1,7 +1,7 @@
 -- The numbers that the program ends with.
 use Rattle.std.specs.Prelude.{ℕ}
-use Rattle.program_words.specs.declared.status.Status.{Status}
-use Rattle.program_words.specs.declared.status.Status.TheVariants as status
+use Rattle.exit_status.specs.declared.status.Status.{Status}
+use Rattle.exit_status.specs.declared.status.Status.TheVariants as status
 
 abbrev pub code_of : Status → ℕ
 code_of status.Done = 0
