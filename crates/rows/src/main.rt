@@ -22,51 +22,30 @@ use out::Out;
 use std::alloc::{AllocError, Global};
 use std::{fs, io};
 
-/// What the rows of a file are.
-#[derive(Clone, Copy)]
-enum Kind {
-    /// Items of XDR, one after the other.
-    Items,
-    /// Handles.
-    Handles,
-    /// Bytes that are marked as a record, or come as a stream of them.
-    Streams,
-    /// Headers of calls and replies.
-    Headers,
-    /// Arguments and results.
-    Bodies,
-    /// Numbers of procedures.
-    Procedures,
-    /// Whole records.
-    Records,
-    /// Streams as they are shown.
-    Shown,
-}
-
 /// The files of rows.
-const FILES: [(&str, Kind); 9] = [
-    ("items", Kind::Items),
-    ("handles", Kind::Handles),
-    ("streams", Kind::Streams),
-    ("headers", Kind::Headers),
-    ("nfs", Kind::Bodies),
-    ("lbfs", Kind::Bodies),
-    ("procedures", Kind::Procedures),
-    ("records", Kind::Records),
-    ("shown", Kind::Shown),
+const FILES: [&str; 9] = [
+    "items",
+    "handles",
+    "streams",
+    "headers",
+    "nfs",
+    "lbfs",
+    "procedures",
+    "records",
+    "shown",
 ];
 
-/// What comes of a row.
-fn put_row(alloc: Global, kind: Kind, row: &str, out: &mut Out) {
-    match kind {
-        Kind::Items => items::put(alloc, row, out),
-        Kind::Handles => handles::put(alloc, row, out),
-        Kind::Streams => streams::put(alloc, row, out),
-        Kind::Headers => headers::put(alloc, row, out),
-        Kind::Bodies => bodies::put(alloc, row, out),
-        Kind::Procedures => procedures::put(row, out),
-        Kind::Records => records::put(alloc, row, out),
-        Kind::Shown => shown::put(alloc, row, out),
+/// What comes of a row of a file.
+fn put_row(alloc: Global, file: &str, row: &str, out: &mut Out) {
+    match file {
+        "items" => items::put(alloc, row, out),
+        "handles" => handles::put(alloc, row, out),
+        "streams" => streams::put(alloc, row, out),
+        "headers" => headers::put(alloc, row, out),
+        "procedures" => procedures::put(row, out),
+        "records" => records::put(alloc, row, out),
+        "shown" => shown::put(alloc, row, out),
+        _ => bodies::put(alloc, row, out),
     }
 }
 
@@ -76,30 +55,30 @@ fn is_remark(row: &str) -> bool {
 }
 
 /// Each row of a text, and what comes of it.
-fn rows_of(alloc: Global, kind: Kind, text: &str) -> Result<String, AllocError> {
+fn rows_of(alloc: Global, file: &str, text: &str) -> Result<String, AllocError> {
     let mut out = Out::new(alloc);
     for row in text.lines() {
         if !is_remark(row) {
             out.text(row);
             out.text(" =>");
-            put_row(alloc, kind, row, &mut out);
+            put_row(alloc, file, row, &mut out);
             out.text("\n");
         }
     }
     out.done()
 }
 
-/// What comes of all rows of a file.
-fn print_file(rt: &HostRuntime, name: &str, kind: Kind) -> io::Result<()> {
-    let text = fs::read_to_string(rt, name)?;
-    let out = rows_of(rt.alloc(), kind, text.as_str())?;
-    println!(rt; "== {name}")?;
+/// Prints what comes of all rows of a file.
+fn print_file(rt: &HostRuntime, file: &str) -> io::Result<()> {
+    let text = fs::read_to_string(rt, file)?;
+    let out = rows_of(rt.alloc(), file, text.as_str())?;
+    println!(rt; "== {file}")?;
     print!(rt; "{out}")
 }
 
 fn main(rt: HostRuntime) -> io::Result<()> {
-    for (name, kind) in FILES {
-        print_file(&rt, name, kind)?;
+    for file in FILES {
+        print_file(&rt, file)?;
     }
     Ok(())
 }

@@ -59,6 +59,18 @@ impl Out {
         self.note(done)
     }
 
+    /// A name behind a blank, with the versions that it tells, ` NAME { low: 2, high: 3 }`.
+    pub fn versions(&mut self, name: &str, low: u32, high: u32) {
+        let done = write!(self.text, " {name} {{ low: {low}, high: {high} }}");
+        self.note(done)
+    }
+
+    /// A refusal for who the caller is, with its number, ` AuthError(2)`.
+    pub fn auth_error(&mut self, stat: u32) {
+        let done = write!(self.text, " AuthError({stat})");
+        self.note(done)
+    }
+
     /// A byte in hexadecimal.
     pub fn byte(&mut self, byte: u8) {
         let done = write!(self.text, "{byte:02x}");

@@ -7,7 +7,7 @@ use crate::values::Put;
 use lb_base::items::Items;
 use std::alloc::Global;
 use wire::fault::WireErr;
-use wire::message::{Body, Message, Pending, Side, Waiting};
+use wire::message::{Body, Message, Pending, RpcRefusal, Side, Waiting};
 use wire::parse::parse;
 use wire::spell::spell;
 
@@ -61,6 +61,19 @@ fn side_of(front: &str) -> Side {
     Side::Either
 }
 
+/// Why a call is refused, by its name and what it tells.
+fn put_refusal(out: &mut Out, why: &RpcRefusal) {
+    match why {
+        RpcRefusal::ProgUnavail => out.text(" ProgUnavail"),
+        RpcRefusal::ProgMismatch { low, high } => out.versions("ProgMismatch", *low, *high),
+        RpcRefusal::ProcUnavail => out.text(" ProcUnavail"),
+        RpcRefusal::GarbageArgs => out.text(" GarbageArgs"),
+        RpcRefusal::SystemErr => out.text(" SystemErr"),
+        RpcRefusal::RpcMismatch { low, high } => out.versions("RpcMismatch", *low, *high),
+        RpcRefusal::AuthError(stat) => out.auth_error(*stat),
+    }
+}
+
 fn put_message(out: &mut Out, message: &Message) {
     match message {
         Message::Call(xid, body) => {
@@ -76,12 +89,12 @@ fn put_message(out: &mut Out, message: &Message) {
         Message::Refuse(xid, why) => {
             out.text(" Refuse");
             out.number(u64::from(*xid));
-            out.name(why)
+            put_refusal(out, why)
         }
         Message::Unfit(xid, why) => {
             out.text(" Unfit");
             out.number(u64::from(*xid));
-            out.name(why)
+            put_refusal(out, why)
         }
     }
 }

@@ -85,3 +85,23 @@ pub fn put(alloc: Global, row: &str, out: &mut Out) {
     }
     drop(line)
 }
+
+/// `BEGIN LETTER COUNT`: how many bytes a content has that begins so and goes on with so many of the
+/// letter, where its text is too long to be written down. Quadratic time would pass the time that a
+/// program has.
+pub fn put_long(alloc: Global, row: &str, out: &mut Out) {
+    let (begin, rest) = first(row);
+    let (letter, count) = first(rest);
+    let mut word = Out::new(alloc);
+    word.text(begin);
+    for _ in 0..number(count) {
+        word.text(letter);
+    }
+    match word.done() {
+        Ok(word) => {
+            let bytes = bytes_of(alloc, word.as_str(), out);
+            out.number(bytes.len() as u64)
+        }
+        Err(_) => out.lack(),
+    }
+}

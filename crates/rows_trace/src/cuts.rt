@@ -1,5 +1,8 @@
 //! Cuts of contents, whole and in pieces.
 
+ghost use Rattle.std.specs.Prelude.{◌≡◌, ◌+◌, ◌^◌, ◌<◌, length, OnOk};
+ghost use Rattle.chunk_cut.specs.Cutting.{fed};
+
 use crate::contents::bytes_of;
 use crate::out::Out;
 use chunk_cut::chunk::Chunk;
@@ -27,6 +30,20 @@ fn put_chunks(chunks: &[Chunk], out: &mut Out) {
     }
 }
 
+/// Feeds a piece, and adds the chunks that end in it.
+fn feed(
+    alloc: Global,
+    cutter: &mut Cutter,
+    chunks: &mut Vec<Chunk>,
+    piece: &[u8],
+) -> Result<(), AllocError>
+    requires { fed cutter.old + length piece.now < 2 ^ 64 }
+    ensures { OnOk result (fed cutter.new ≡ fed cutter.old + length piece.now) }
+{
+    let more = cutter.feed(alloc, piece)?;
+    chunks.extend_from_slice(more.as_slice())
+}
+
 /// Whether the content has these chunks where it comes in three pieces, of which the second has
 /// `middle` bytes from the place on.
 fn is_cut_so(
@@ -39,12 +56,11 @@ fn is_cut_so(
     let (front, rest) = content.split_at(place.min(content.len()));
     let (second, third) = rest.split_at(middle.min(rest.len()));
     let mut cutter = Cutter::new();
-    let mut chunks = cutter.feed(alloc, front)?;
-    let more = cutter.feed(alloc, second)?;
-    let most = cutter.feed(alloc, third)?;
+    let mut chunks = Vec::new(alloc);
+    feed(alloc, &mut cutter, &mut chunks, front)?;
+    feed(alloc, &mut cutter, &mut chunks, second)?;
+    feed(alloc, &mut cutter, &mut chunks, third)?;
     let is_all = cutter.fed() == content.len() as u64;
-    chunks.extend_from_slice(more.as_slice())?;
-    chunks.extend_from_slice(most.as_slice())?;
     if let Some(last) = cutter.finish() {
         chunks.push(last)?;
     }

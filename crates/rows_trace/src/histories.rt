@@ -18,7 +18,7 @@ const STEPS: u64 = 23;
 
 /// The rows of a history so far: its files and its operations, each as its line has it.
 #[derive(Drop)]
-struct Rows<'a> {
+pub struct Rows<'a> {
     files: Vec<&'a str>,
     ops: Vec<&'a str>,
 }
@@ -254,23 +254,20 @@ fn take<'a>(alloc: Global, rows: &mut Rows<'a>, kind: &str, row: &'a str, out: &
     }
 }
 
-/// What comes of each row of a text: `file` and `op` give the history, `anew` drops its operations,
-/// `with` looks at a variant of it, and the others say what they print.
-pub fn rows_of(alloc: Global, text: &str) -> Result<String, AllocError> {
-    let mut out = Out::new(alloc);
-    let mut rows = Rows {
-        files: Vec::new(alloc),
-        ops: Vec::new(alloc),
-    };
-    for line in text.lines() {
-        if !line.is_empty() && !line.starts_with("## ") {
-            let (kind, row) = first(line);
-            out.text(line);
-            out.text(" => ");
-            take(alloc, &mut rows, kind, row, &mut out);
-            put(alloc, &rows, kind, row, &mut out);
-            out.text("\n");
+impl<'a> Rows<'a> {
+    /// No file and no operation.
+    pub fn new(alloc: Global) -> Rows<'a> {
+        Rows {
+            files: Vec::new(alloc),
+            ops: Vec::new(alloc),
         }
     }
-    out.done()
+
+    /// What comes of a row: `file` and `op` give the history, `anew` drops its operations, `with` looks at
+    /// a variant of it, and the others say what they print.
+    pub fn put_row(&mut self, alloc: Global, line: &'a str, out: &mut Out) {
+        let (kind, row) = first(line);
+        take(alloc, self, kind, row, out);
+        put(alloc, self, kind, row, out)
+    }
 }

@@ -17,49 +17,34 @@ mod readings;
 mod refusals;
 mod text;
 
+use histories::Rows;
 use out::Out;
 use std::alloc::{AllocError, Global};
 use std::{fs, io};
 
-/// What the rows of a file are.
-#[derive(Clone, Copy)]
-enum Kind {
-    /// Lines of traces.
-    Lines,
-    /// Contents.
-    Contents,
-    /// Faults that a run is refused for.
-    Refusals,
-    /// Readings of clocks.
-    Clocks,
-    /// Bytes with a fingerprint.
-    Prints,
-    /// Contents that are cut.
-    Cuts,
-}
-
-/// The files of rows, in which each row stands for itself.
-const FILES: [(&str, Kind); 6] = [
-    ("lines", Kind::Lines),
-    ("contents", Kind::Contents),
-    ("refusals", Kind::Refusals),
-    ("clocks", Kind::Clocks),
-    ("prints", Kind::Prints),
-    ("cuts", Kind::Cuts),
+/// The files of rows. Those of `histories` are of one history; each row of the others stands for itself.
+const FILES: [&str; 8] = [
+    "lines",
+    "contents",
+    "long",
+    "refusals",
+    "clocks",
+    "prints",
+    "cuts",
+    "histories",
 ];
 
-/// The file of the rows of one history.
-const HISTORIES: &str = "histories";
-
-/// What comes of a row.
-fn put_row(alloc: Global, kind: Kind, row: &str, out: &mut Out) {
-    match kind {
-        Kind::Lines => lines::put(alloc, row, out),
-        Kind::Contents => contents::put(alloc, row, out),
-        Kind::Refusals => refusals::put(alloc, row, out),
-        Kind::Clocks => clocks::put(alloc, row, out),
-        Kind::Prints => prints::put(alloc, row, out),
-        Kind::Cuts => cuts::put(alloc, row, out),
+/// What comes of a row of a file.
+fn put_row<'a>(alloc: Global, file: &str, rows: &mut Rows<'a>, row: &'a str, out: &mut Out) {
+    match file {
+        "lines" => lines::put(alloc, row, out),
+        "contents" => contents::put(alloc, row, out),
+        "long" => contents::put_long(alloc, row, out),
+        "refusals" => refusals::put(alloc, row, out),
+        "clocks" => clocks::put(alloc, row, out),
+        "prints" => prints::put(alloc, row, out),
+        "cuts" => cuts::put(alloc, row, out),
+        _ => rows.put_row(alloc, row, out),
     }
 }
 
@@ -69,40 +54,31 @@ fn is_remark(row: &str) -> bool {
 }
 
 /// Each row of a text, and what comes of it.
-fn rows_of(alloc: Global, kind: Kind, text: &str) -> Result<String, AllocError> {
+fn rows_of(alloc: Global, file: &str, text: &str) -> Result<String, AllocError> {
     let mut out = Out::new(alloc);
+    let mut rows = Rows::new(alloc);
     for row in text.lines() {
         if !is_remark(row) {
             out.text(row);
             out.text(" => ");
-            put_row(alloc, kind, row, &mut out);
+            put_row(alloc, file, &mut rows, row, &mut out);
             out.text("\n");
         }
     }
     out.done()
 }
 
-/// Prints what came of the rows of a file.
-fn print_rows(rt: &HostRuntime, name: &str, rows: Result<String, AllocError>) -> io::Result<()> {
-    let rows = rows?;
-    println!(rt; "== {name}")?;
+/// Prints what comes of all rows of a file.
+fn print_file(rt: &HostRuntime, file: &str) -> io::Result<()> {
+    let text = fs::read_to_string(rt, file)?;
+    let rows = rows_of(rt.alloc(), file, text.as_str())?;
+    println!(rt; "== {file}")?;
     print!(rt; "{rows}")
 }
 
-/// What comes of all rows of a file.
-fn print_file(rt: &HostRuntime, name: &str, kind: Kind) -> io::Result<()> {
-    let text = fs::read_to_string(rt, name)?;
-    print_rows(rt, name, rows_of(rt.alloc(), kind, text.as_str()))
-}
-
 fn main(rt: HostRuntime) -> io::Result<()> {
-    for (name, kind) in FILES {
-        print_file(&rt, name, kind)?;
+    for file in FILES {
+        print_file(&rt, file)?;
     }
-    let text = fs::read_to_string(&rt, HISTORIES)?;
-    print_rows(
-        &rt,
-        HISTORIES,
-        histories::rows_of(rt.alloc(), text.as_str()),
-    )
+    Ok(())
 }

@@ -1,115 +1,134 @@
 //! One run of the program over an outside in memory, and what is printed of it. Every trial goes by
 //! `run_end`, so that the program is proved for one type of outside, at one call.
 
-use crate::outside::{Trial, files, sink, source, store, words};
+use crate::out::Out;
+use crate::outside::{files, store, words};
 use crate::port::{Port, PortLink, PortNet};
-use lb_base::mem_sink::MemSink;
-use lb_base::mem_source::MemSource;
+use crate::screen::{Screen, Typist};
+use crate::trial::Trial;
 use lbfs_run::outside::Outside;
 use lbfs_run::run::run;
 use links::clock::FixedClock;
 use links::mem_files::MemFiles;
 use links::rest::NoRest;
-use std::alloc::{AllocError, Global};
-use std::io;
-use std::io::Print;
-use std::sync::Wait;
+use std::alloc::Global;
+use std::sync::atomic::AtomicU64;
+use std::sync::{Arc, Wait};
 use std::thread::Threads;
 use store::mem_store::MemStore;
 
 /// The outside of each run.
 type Whole<'a, R> = Outside<
-    MemSource,
-    MemSink,
+    Typist<'a>,
+    Screen<'a>,
     MemStore,
     MemFiles,
-    PortNet<'a, R>,
+    PortNet<R>,
     FixedClock,
     NoRest,
 >;
 
-/// How a run ended, and what is left of its outside.
-#[derive(Drop)]
-pub struct Ended {
-    status: u8,
-    sink: MemSink,
-    files: MemFiles,
-    /// The faults of the link that has no twin, if one was given back.
-    faults: Option<u64>,
-}
-
 /// The program's run. It stands alone because its contract is large.
-fn run_whole<'a, R: Threads + Wait + Sync>(
-    rt: &'a R,
+fn run_whole<'a, R: Threads + Wait + Sync + Send + Copy + Drop>(
+    rt: &R,
     alloc: Global,
     words: &[String],
     whole: Whole<'a, R>,
-) -> (u8, Whole<'a, R>, Option<PortLink<'a, R>>) {
+) -> (u8, Whole<'a, R>, Option<PortLink<R>>) {
     run(rt, alloc, words, whole)
 }
 
-/// Runs an end's words, and shuts the line behind it.
-pub fn run_end<R: Threads + Wait + Sync>(
+/// Numbers, one behind the other.
+fn put_counts(counts: &[u64], out: &mut Out) {
+    for count in counts.iter() {
+        out.number(*count);
+    }
+}
+
+/// The files of the host.
+fn put_files(files: &MemFiles, out: &mut Out) {
+    for file in files.files().iter() {
+        out.text("file ");
+        out.letters(file.name.as_slice());
+        out.text(" ");
+        out.letters(file.bytes.as_slice());
+        out.text("\n");
+    }
+}
+
+/// How a run ended, and what is left of its outside.
+fn put_end<R: Wait + Copy>(
+    trial: &Trial<'_>,
+    status: u8,
+    whole: &Whole<'_, R>,
+    unpaired: &Option<PortLink<R>>,
+    out: &mut Out,
+) {
+    let is_mount = trial.words.starts_with("mount");
+    out.text(": status");
+    out.number(u64::from(status));
+    if is_mount {
+        out.text(" lines");
+        put_counts(whole.source.seen(), out);
+    }
+    if trial.words.starts_with("serve") {
+        out.text(" faults");
+        out.number(whole.network.faults());
+        out.text(" records");
+        out.number(whole.store.records().len() as u64);
+    }
+    out.text("\n");
+    out.letters(whole.sink.text());
+    if let Some(link) = unpaired {
+        out.text("link without a twin, faults");
+        out.number(link.faults());
+        out.text("\n");
+    }
+    if is_mount {
+        put_files(&whole.files, out);
+    }
+}
+
+/// Runs an end's words over these bytes of input, and tells how it ended.
+fn put_run<'a, R: Threads + Wait + Sync + Send + Copy + Drop>(
     rt: &R,
     alloc: Global,
-    port: &Port,
+    port: Arc<Port>,
     trial: &Trial<'_>,
-) -> Result<Ended, AllocError> {
-    let words = words(alloc, trial)?;
-    let source = source(alloc, trial)?;
-    let sink = sink(alloc, trial)?;
-    let store = store(alloc, trial)?;
-    let files = files(alloc)?;
+    input: &'a [u8],
+    answers: &'a AtomicU64,
+    out: &mut Out,
+) {
+    let words = words(alloc, trial, out);
     let whole = Outside {
-        source,
-        sink,
-        store,
-        files,
-        network: PortNet::new(rt, port, trial.network, trial.has_twins),
+        source: Typist::new(alloc, trial, input, answers),
+        sink: Screen::new(alloc, trial, answers),
+        store: store(alloc, trial, out),
+        files: files(alloc, trial, out),
+        network: PortNet::new(*rt, port, trial),
         clock: FixedClock::at(0),
         rest: NoRest,
     };
-    let (status, whole, unpaired) = run_whole(rt, alloc, &words, whole);
+    let (status, whole, unpaired) = run_whole(rt, alloc, words.as_slice(), whole);
+    put_end(trial, status, &whole, &unpaired, out);
+    drop(whole);
+    drop(unpaired)
+}
+
+/// Runs a trial's end, shuts the port behind it, and tells how it ended.
+pub fn run_end<R: Threads + Wait + Sync + Send + Copy + Drop>(
+    rt: &R,
+    alloc: Global,
+    port: &Arc<Port>,
+    trial: &Trial<'_>,
+) -> Out {
+    let mut out = Out::new(alloc);
+    let input = trial.input(alloc, &mut out);
+    let answers = AtomicU64::new(0);
+    match port.clone() {
+        Ok(its) => put_run(rt, alloc, its, trial, input.as_slice(), &answers, &mut out),
+        Err(_) => out.lack(),
+    }
     port.shut(rt);
-    let faults = match unpaired {
-        Some(link) => Some(link.faults()),
-        None => None,
-    };
-    let Outside { sink, files, .. } = whole;
-    Ok(Ended {
-        status,
-        sink,
-        files,
-        faults,
-    })
-}
-
-/// Prints bytes as text.
-fn print_text<R: Print>(rt: &R, bytes: &[u8]) -> io::Result<()> {
-    for byte in bytes.iter() {
-        print!(rt; "{}", char::from(*byte))?;
-    }
-    Ok(())
-}
-
-/// Prints the status, what was written, and the faults of a link without a twin.
-pub fn print_end<R: Print>(rt: &R, title: &str, ended: &Ended) -> io::Result<()> {
-    println!(rt; "{title}: status {}", ended.status)?;
-    print_text(rt, ended.sink.held())?;
-    match ended.faults {
-        Some(faults) => println!(rt; "link without a twin, faults {faults}"),
-        None => Ok(()),
-    }
-}
-
-/// Prints the files of the host.
-pub fn print_files<R: Print>(rt: &R, ended: &Ended) -> io::Result<()> {
-    for file in ended.files.files().iter() {
-        print!(rt; "file ")?;
-        print_text(rt, file.name.as_slice())?;
-        print!(rt; " ")?;
-        print_text(rt, file.bytes.as_slice())?;
-        println!(rt; "")?;
-    }
-    Ok(())
+    out
 }

@@ -1,186 +1,174 @@
-//! Runs of the program over an outside in memory: with which status each ends, and what it has written
-//! then. The output is compared with the file `stdout`.
+//! Runs of the program over an outside in memory, and sessions of a server: a row of data each. What is
+//! printed is compared with the file `stdout`.
 #![tactic(auto)]
 
 mod end;
+mod line;
+mod out;
 mod outside;
 mod port;
+mod screen;
+mod sessions;
+mod trial;
 
-use end::{Ended, print_end, print_files, run_end};
-use outside::Trial;
+use end::run_end;
+use out::Out;
 use port::Port;
+use std::alloc::{AllocError, Global};
 use std::io::Print;
-use std::sync::Wait;
+use std::sync::{Arc, Wait};
 use std::thread::Threads;
-use std::{io, thread};
+use std::{fs, io, thread};
+use trial::{Trial, split};
 
-/// A NULL call of LBFS under xid 7, as a record.
-const CALL: [u8; 44] = [
-    128, 0, 0, 40, 0, 0, 0, 7, 0, 0, 0, 0, 0, 0, 0, 2, 32, 0, 76, 66, 0, 0, 0, 1, 0, 0, 0, 0, 0, 0,
-    0, 0, 0, 0, 0, 0, 0, 0, 0, 0, 0, 0, 0, 0,
-];
-
-/// A trace in which nothing happens.
-const TRACE: &[u8] = b"lbfs-trace 1\nterm 1000\ndrift 0\nclients 1\n";
-
-/// The words by which a store is served to one session.
-const SERVE: [&str; 9] = [
-    "serve",
-    "--port",
-    "7000",
-    "--term",
-    "1000",
-    "--sessions",
-    "1",
-    "--store",
-    "DIR",
-];
-
-/// The words by which it is mounted.
-const MOUNT: [&str; 5] = ["mount", "--port", "7000", "--drift", "100"];
-
-/// Runs a command, or one end over a line on which nothing comes, and prints what came of it.
-fn alone<R: Threads + Wait + Sync + AllocGlobal + Print>(
-    rt: &R,
-    title: &str,
-    trial: Trial<'_>,
-) -> io::Result<()> {
-    let port = Port::new(rt.alloc(), true);
-    let ended = run_end(rt, rt.alloc(), &port, &trial)?;
-    print_end(rt, title, &ended)
+/// Whether a line of data is a remark, which begins with two `#` and a blank, or empty.
+fn is_remark(row: &str) -> bool {
+    row.is_empty() || row.starts_with("## ")
 }
 
-/// Prints what came of a mount and of its server.
-fn print_both<R: Print>(rt: &R, title: &str, served: &Ended, mounted: &Ended) -> io::Result<()> {
-    print_end(rt, title, mounted)?;
-    print_files(rt, mounted)?;
-    print_end(rt, "its server", served)
+/// Runs one end, and tells how it ended and, where it is asked for, what its lines were given.
+fn put_alone<R: Threads + Wait + Sync + Send + Copy + Drop>(
+    rt: &R,
+    alloc: Global,
+    port: &Arc<Port>,
+    trial: &Trial<'_>,
+    out: &mut Out,
+) {
+    let ended = run_end(rt, alloc, port, trial);
+    out.join(&ended);
+    if trial.setting("given").is_some() {
+        port.put_lines(rt, out);
+    }
 }
 
-/// Serves an empty store, of which this call fails, to one session, mounts it and runs this script, and
-/// prints what came of both.
-fn beside<R: Threads + Wait + Sync + AllocGlobal + Print>(
+/// Runs a mount and its server beside each other.
+fn put_both<R: Threads + Wait + Sync + Send + Copy + Drop>(
     rt: &R,
-    title: &str,
-    store: &[u64],
-    script: &[u8],
-) -> io::Result<()> {
-    let alloc = rt.alloc();
-    let port = Port::new(alloc, false);
-    let server = Trial {
-        store,
-        ..Trial::of(&SERVE, b"")
-    };
-    let mount = Trial::of(&MOUNT, script);
+    alloc: Global,
+    port: &Arc<Port>,
+    mount: &Trial<'_>,
+    server: &Trial<'_>,
+    out: &mut Out,
+) {
     let (served, mounted) = thread::join(
         rt,
-        || run_end(rt, alloc, &port, &server),
-        || run_end(rt, alloc, &port, &mount),
+        || run_end(rt, alloc, port, server),
+        || run_end(rt, alloc, port, mount),
     );
-    let (served, mounted) = (served?, mounted?);
-    print_both(rt, title, &served, &mounted)
+    out.join(&mounted);
+    out.text("its server");
+    out.join(&served)
 }
 
-/// Commands that need no end.
-fn commands<R: Threads + Wait + Sync + AllocGlobal + Print>(rt: &R) -> io::Result<()> {
-    alone(rt, "show", Trial::of(&["show"], &CALL))?;
-    alone(rt, "no command", Trial::of(&["frob"], &CALL))?;
-    let replay = Trial::of(&["replay"], TRACE);
-    alone(rt, "replay", replay)?;
-    let trial = Trial {
-        source: &[0],
-        ..replay
-    };
-    alone(rt, "a source that fails", trial)?;
-    let trial = Trial {
-        sink: &[0],
-        ..replay
-    };
-    alone(rt, "a sink that fails", trial)
+/// The port of a trial.
+fn port_of(
+    alloc: Global,
+    trial: &Trial<'_>,
+    is_silent: bool,
+    out: &mut Out,
+) -> Result<Arc<Port>, AllocError> {
+    Ok(Arc::new(alloc, Port::new(alloc, trial, is_silent, out))?)
 }
 
-/// A server of one session.
-fn servers<R: Threads + Wait + Sync + AllocGlobal + Print>(rt: &R) -> io::Result<()> {
-    let serve = Trial::of(&SERVE, b"");
-    alone(rt, "a silent session", serve)?;
-    let trial = Trial {
-        has_twins: false,
-        ..serve
+/// `TITLE | WORDS | SETTINGS | LINES | INPUT`, with the words and the settings of a server behind a
+/// `&`: what comes of a run, or of both ends.
+fn put_run<R: Threads + Wait + Sync + Send + Copy + Drop>(
+    rt: &R,
+    alloc: Global,
+    records: &str,
+    row: &str,
+    out: &mut Out,
+) -> Result<(), AllocError> {
+    let (title, rest) = split(row, '|');
+    let (words, rest) = split(rest, '|');
+    let (settings, rest) = split(rest, '|');
+    let (links, input) = split(rest, '|');
+    let (words, other) = split(words, '&');
+    let (settings, its) = split(settings, '&');
+    let one = Trial {
+        words,
+        settings,
+        links,
+        input,
+        records,
     };
-    alone(rt, "a session without a twin", trial)?;
-    let trial = Trial {
-        network: Some(0),
-        ..serve
+    out.text(title);
+    let port = port_of(alloc, &one, other.is_empty(), out)?;
+    if other.is_empty() {
+        put_alone(rt, alloc, &port, &one, out);
+        return Ok(());
+    }
+    let two = Trial {
+        words: other,
+        settings: its,
+        input: "",
+        ..one
     };
-    alone(rt, "a network that can't listen", trial)?;
-    let trial = Trial {
-        network: Some(1),
-        ..serve
-    };
-    alone(rt, "a network that can't accept", trial)?;
-    let trial = Trial {
-        is_headless: true,
-        ..serve
-    };
-    alone(rt, "a store with no head", trial)?;
-    let trial = Trial {
-        store: &[0],
-        ..serve
-    };
-    alone(rt, "a store that can't be read", trial)?;
-    let trial = Trial {
-        sink: &[0],
-        ..serve
-    };
-    alone(rt, "a server's sink that fails", trial)
+    put_both(rt, alloc, &port, &one, &two, out);
+    Ok(())
 }
 
-/// A mount.
-fn mounts<R: Threads + Wait + Sync + AllocGlobal + Print>(rt: &R) -> io::Result<()> {
-    let mount = Trial::of(&MOUNT, b"put none a\n");
-    alone(rt, "a file that isn't there", mount)?;
+/// `TITLE | KIND | LINE`: what comes of a session.
+fn put_session<R: Threads + Wait + Sync + Send + Copy + Drop>(
+    rt: &R,
+    alloc: Global,
+    records: &str,
+    row: &str,
+    out: &mut Out,
+) -> Result<(), AllocError> {
+    let (title, rest) = split(row, '|');
+    let (kind, links) = split(rest, '|');
     let trial = Trial {
-        input: b"# a script\nfrob\n",
-        ..mount
+        words: "",
+        settings: "",
+        links,
+        input: "",
+        records,
     };
-    alone(rt, "a line that is none", trial)?;
-    let trial = Trial {
-        network: Some(0),
-        ..mount
-    };
-    alone(rt, "a network that can't dial", trial)?;
-    let trial = Trial {
-        has_twins: false,
-        ..mount
-    };
-    alone(rt, "a link without a twin", trial)?;
-    let trial = Trial {
-        source: &[0],
-        ..mount
-    };
-    alone(rt, "a script that can't be read", trial)?;
-    let trial = Trial {
-        sink: &[0],
-        ..mount
-    };
-    alone(rt, "a mount's sink that fails", trial)
+    let port = port_of(alloc, &trial, true, out)?;
+    out.text(title);
+    out.text(":");
+    sessions::put(rt, alloc, &port, kind, out);
+    Ok(())
 }
 
-/// A server and a mount over one line.
-fn both_ends<R: Threads + Wait + Sync + AllocGlobal + Print>(rt: &R) -> io::Result<()> {
-    let opened = b"make a\nopen a\nwrite #2 0 t:abc\nclose #2\nopen #2\nabandon #2\n";
-    beside(rt, "commands", &[], opened)?;
-    let put = b"make a\nput h a\nget a k\nlist /\nrmdir a\n";
-    beside(rt, "put and get", &[], put)?;
-    let make = b"make a\nmake a\n";
-    beside(rt, "a store that fails at a make", &[1], make)?;
-    let close = b"make a\nput h a\nlook a\nput h a\nget a k\n";
-    beside(rt, "a store that fails at a close", &[2], close)
+/// What comes of each row.
+fn text_of<R: Threads + Wait + Sync + Send + Copy + Drop>(
+    rt: &R,
+    alloc: Global,
+    records: &str,
+    row: &str,
+    is_run: bool,
+) -> Result<String, AllocError> {
+    let mut out = Out::new(alloc);
+    if is_run {
+        put_run(rt, alloc, records, row, &mut out)?;
+    } else {
+        put_session(rt, alloc, records, row, &mut out)?;
+    }
+    out.done()
+}
+
+/// Prints what comes of the rows of a file.
+fn print_rows<R: Threads + Wait + Sync + Send + Copy + Drop + AllocGlobal + Print>(
+    rt: &R,
+    records: &str,
+    rows: &str,
+    is_run: bool,
+) -> io::Result<()> {
+    for row in rows.lines() {
+        if !is_remark(row) {
+            let text = text_of(rt, rt.alloc(), records, row, is_run)?;
+            print!(rt; "{text}")?;
+        }
+    }
+    Ok(())
 }
 
 fn main(rt: HostRuntime) -> io::Result<()> {
-    commands(&rt)?;
-    servers(&rt)?;
-    mounts(&rt)?;
-    both_ends(&rt)
+    let records = fs::read_to_string(&rt, "records")?;
+    let runs = fs::read_to_string(&rt, "runs")?;
+    let sessions = fs::read_to_string(&rt, "sessions")?;
+    print_rows(&rt, records.as_str(), runs.as_str(), true)?;
+    print_rows(&rt, records.as_str(), sessions.as_str(), false)
 }

@@ -1,100 +1,132 @@
-//! The outside of a run, in memory: what it is given, and which of its calls fail.
+//! The outside of a run, in memory: what it is given, and which of its calls fail. Where memory is
+//! wanting for a part, the output is short of it; so no part has an early exit.
 
-ghost use Rattle.std.specs.Prelude.{◌<◌};
-
-use lb_base::items::Items;
-use lb_base::mem_sink::MemSink;
-use lb_base::mem_source::MemSource;
+use crate::out::Out;
+use crate::trial::Trial;
+use lb_base::items::{Bytes, Items};
 use links::files::Files;
 use links::mem_files::MemFiles;
+use shared_bytes::SharedBytes;
 use std::alloc::{AllocError, Global};
 use store::mem_store::MemStore;
-use store::record::{Kept, NodeKind, NodeRecord};
+use store::record::{ContentRecord, Head, Kept, NodeKind, NodeRecord};
 
-/// A run, and what it is tried on.
-#[derive(Clone, Copy)]
-pub struct Trial<'x> {
-    pub words: &'x [&'x str],
-    pub input: &'x [u8],
-    /// Whether the store's first record is no head; else it is empty.
-    pub is_headless: bool,
-    /// Whether a link has a twin.
-    pub has_twins: bool,
-    /// Of each part of the outside the calls that fail, numbered from 0.
-    pub source: &'x [u64],
-    pub sink: &'x [u64],
-    pub store: &'x [u64],
-    /// The network's call that fails, if one does.
-    pub network: Option<u64>,
-}
-
-impl<'x> Trial<'x> {
-    /// Nothing fails.
-    pub fn of(words: &'x [&'x str], input: &'x [u8]) -> Trial<'x> {
-        Trial {
-            words,
-            input,
-            is_headless: false,
-            has_twins: true,
-            source: &[],
-            sink: &[],
-            store: &[],
-            network: None,
-        }
-    }
-}
-
-/// How much a source gives and a sink takes a call.
-const PIECE: usize = 1000;
+/// The size of the largest file.
+const FILE_MOST: usize = 67_108_864;
 
 /// The words.
-pub fn words(alloc: Global, trial: &Trial<'_>) -> Result<Vec<String>, AllocError> {
+pub fn words(alloc: Global, trial: &Trial<'_>, out: &mut Out) -> Vec<String> {
     let mut all = Vec::new(alloc);
-    for word in trial.words.iter() {
-        all.push(String::from_str(alloc, word)?)?;
-    }
-    Ok(all)
-}
-
-/// A source of the input.
-pub fn source(alloc: Global, trial: &Trial<'_>) -> Result<MemSource, AllocError> {
-    let failing = Items::copy_of(alloc, trial.source)?;
-    Ok(MemSource::new(Items::copy_of(alloc, trial.input)?, PIECE, failing))
-}
-
-/// An empty sink.
-pub fn sink(alloc: Global, trial: &Trial<'_>) -> Result<MemSink, AllocError> {
-    let failing = Items::copy_of(alloc, trial.sink)?;
-    Ok(MemSink::new(alloc, PIECE, failing, Items::new(alloc)))
-}
-
-/// The record of a file with no content, which no store may begin with.
-fn headless(alloc: Global) -> Result<Kept, AllocError> {
-    Ok(Kept::Node(NodeRecord {
-        id: 2,
-        parent: 1,
-        kind: NodeKind::File,
-        name: Items::copy_of(alloc, b"a")?,
-    }))
-}
-
-/// An empty store, or one that begins with no head.
-pub fn store(alloc: Global, trial: &Trial<'_>) -> Result<MemStore, AllocError> {
-    let mut records = Items::new(alloc);
-    if trial.is_headless {
-        match records.push(headless(alloc)?) {
-            Ok(()) => {}
-            Err(_) => return Err(AllocError),
+    for word in trial.words.split_whitespace() {
+        match String::from_str(alloc, word) {
+            Ok(word) => push(&mut all, word, out),
+            Err(_) => out.lack(),
         }
     }
-    Ok(MemStore::new(records, Items::copy_of(alloc, trial.store)?))
+    all
+}
+
+/// Adds an item.
+fn push<T: Drop>(all: &mut Vec<T>, item: T, out: &mut Out) {
+    let pushed = all.push(item);
+    if pushed.is_err() {
+        out.lack();
+    }
+    drop(pushed)
+}
+
+/// The calls that fail: the one of this number, if there is one.
+fn failing(alloc: Global, call: Option<u64>, out: &mut Out) -> Items<u64> {
+    let mut calls = Vec::new(alloc);
+    if let Some(call) = call {
+        push(&mut calls, call, out);
+    }
+    Items::from_vec(calls)
+}
+
+/// A name of one letter.
+fn name(alloc: Global, letter: u8, out: &mut Out) -> Bytes {
+    match Items::copy_of(alloc, &[letter]) {
+        Ok(name) => name,
+        Err(_) => {
+            out.lack();
+            Items::new(alloc)
+        }
+    }
+}
+
+/// The record of a file.
+fn node(alloc: Global, id: u64, parent: u64, letter: u8, out: &mut Out) -> Kept {
+    Kept::Node(NodeRecord {
+        id,
+        parent,
+        kind: NodeKind::File,
+        name: name(alloc, letter, out),
+    })
+}
+
+/// As many zeros as the largest file has.
+fn zeros(alloc: Global) -> Result<SharedBytes, AllocError> {
+    let bytes = vec![in alloc; 0u8; FILE_MOST]?;
+    Ok(SharedBytes::new(alloc, Items::from_vec(bytes))?)
+}
+
+/// The records of 16 files of the root, each of which has these bytes.
+fn put_files(alloc: Global, bytes: &SharedBytes, records: &mut Vec<Kept>, out: &mut Out) {
+    for at in 0..16u8 {
+        let id = u64::from(at) + 2;
+        push(records, node(alloc, id, 1, b'a' + at, out), out);
+        match bytes.share() {
+            Ok(bytes) => push(
+                records,
+                Kept::Content(ContentRecord {
+                    id,
+                    version: 1,
+                    bytes,
+                }),
+                out,
+            ),
+            Err(_) => out.lack(),
+        }
+    }
+}
+
+/// The records of the store: a head, if it has one; the file `a` of the directory that is told, whose
+/// content is missing; or as many files as a tree may have bytes.
+fn records(alloc: Global, trial: &Trial<'_>, out: &mut Out) -> Vec<Kept> {
+    let mut records = Vec::new(alloc);
+    if let Some(next) = trial.setting("head") {
+        push(&mut records, Kept::Head(Head { next, changes: 1 }), out);
+    }
+    if let Some(parent) = trial.setting("parent") {
+        push(&mut records, node(alloc, 2, parent, b'a', out), out);
+    }
+    if trial.setting("full").is_some() {
+        match zeros(alloc) {
+            Ok(bytes) => put_files(alloc, &bytes, &mut records, out),
+            Err(_) => out.lack(),
+        }
+    }
+    records
+}
+
+/// The store.
+pub fn store(alloc: Global, trial: &Trial<'_>, out: &mut Out) -> MemStore {
+    let records = records(alloc, trial, out);
+    MemStore::new(
+        Items::from_vec(records),
+        failing(alloc, trial.setting("store"), out),
+    )
 }
 
 /// The file `h` with the bytes `abc`, and no other.
-pub fn files(alloc: Global) -> Result<MemFiles, AllocError> {
-    let mut files = MemFiles::new(Items::new(alloc), Items::new(alloc));
-    match files.put(alloc, "h", b"abc") {
-        Ok(()) => Ok(files),
-        Err(_) => Err(AllocError),
+pub fn files(alloc: Global, trial: &Trial<'_>, out: &mut Out) -> MemFiles {
+    let mut files = MemFiles::new(
+        Items::new(alloc),
+        failing(alloc, trial.setting("files"), out),
+    );
+    if files.put(alloc, "h", b"abc").is_err() {
+        out.lack();
     }
+    files
 }

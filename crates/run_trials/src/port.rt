@@ -1,129 +1,107 @@
-//! A line in memory between two ends, each of which may be in a thread of its own, and the network by
-//! which an end comes to it. They tell nothing of the bytes.
+//! A port at which lines in memory begin, whose ends may be in threads of their own, and the network by
+//! which an end comes to them. They tell nothing of the bytes.
 
-ghost use Rattle.std.specs.Prelude.{◌≡◌, ◌≤◌, None, OnErr};
+ghost use Rattle.std.specs.Prelude.{◌≡◌, ◌≤◌, None, OnErr, IsErr};
 ghost use Rattle.lb_base.specs.Causes.{Rose};
 
+use crate::line::{
+    Given, Line, Side, give_at, is_quiet_at, is_shut_at, lines_of, pairs_at, put_lines, shut_all,
+    shut_at, speaks_at, take_at,
+};
+use crate::out::Out;
+use crate::trial::Trial;
 use lb_base::faults::one_more;
 use lb_base::sink::GiveErr;
 use lb_base::source::Failed;
 use links::link::Link;
 use links::network::Network;
-use std::alloc::Global;
-use std::sync::{Condvar, Mutex, Wait};
+use std::alloc::{AllocError, Global};
+use std::sync::{Arc, Condvar, Mutex, Wait};
 
-/// Who holds a link.
-#[derive(Clone, Copy)]
-enum Side {
-    Dialler,
-    Listener,
-}
-
-/// What is on its way on a line.
-#[derive(Drop)]
-struct Line {
-    /// Nothing comes on it, and no end waits for it.
-    is_silent: bool,
-    is_shut: bool,
-    /// To the listener.
-    up: Vec<u8>,
-    /// To the dialler.
-    down: Vec<u8>,
-}
-
-/// The bytes at the front go into the front of `into`; it answers how many.
-fn take_front(bytes: &mut Vec<u8>, into: &mut [u8]) -> usize {
-    let count = bytes.len().min(into.len());
-    for at in 0..count {
-        into[at] = bytes[at];
-    }
-    let left = bytes.len() - count;
-    bytes.copy_within(count.., 0);
-    bytes.truncate(left);
-    count
-}
-
-impl Line {
-    /// Whether an end waits for what may come yet.
-    fn is_quiet(&self, side: Side) -> bool {
-        let coming = match side {
-            Side::Dialler => &self.down,
-            Side::Listener => &self.up,
-        };
-        coming.is_empty() && !self.is_shut && !self.is_silent
-    }
-
-    /// What is on its way to an end goes into the front of `into`; it answers how many bytes.
-    fn take(&mut self, side: Side, into: &mut [u8]) -> usize {
-        if self.is_silent {
-            return 0;
-        }
-        match side {
-            Side::Dialler => take_front(&mut self.down, into),
-            Side::Listener => take_front(&mut self.up, into),
-        }
-    }
-
-    /// An end gives these bytes.
-    fn give(&mut self, side: Side, from: &[u8]) -> Result<(), GiveErr> {
-        let going = match side {
-            Side::Dialler => &mut self.up,
-            Side::Listener => &mut self.down,
-        };
-        match going.extend_from_slice(from) {
-            Ok(()) => Ok(()),
-            Err(_) => Err(GiveErr::Memory),
-        }
-    }
-}
-
-/// A port at which one line begins, under a lock.
+/// A port with its lines, which are there from the beginning, under a lock.
 #[derive(Drop)]
 pub struct Port {
-    line: Mutex<Line>,
-    /// Something came, or the line was shut.
+    lines: Mutex<Vec<Line>>,
+    /// Something came, or a line was shut.
     news: Condvar,
+    /// Whether one end alone is tried: it waits for nothing behind what is on its way.
+    is_silent: bool,
 }
 
 impl Port {
-    /// A port of which nobody has taken anything yet. It takes no memory.
-    pub fn new(alloc: Global, is_silent: bool) -> Port {
+    /// The port of a trial, of which nobody has taken anything yet.
+    pub fn new(alloc: Global, trial: &Trial<'_>, is_silent: bool, out: &mut Out) -> Port {
         Port {
-            line: Mutex::new(Line {
-                is_silent,
-                is_shut: false,
-                up: Vec::new(alloc),
-                down: Vec::new(alloc),
-            }),
+            lines: Mutex::new(lines_of(alloc, trial, out)),
             news: Condvar::new(),
+            is_silent,
         }
     }
 
-    /// Ends the line both ways.
+    /// Ends all lines both ways.
     pub fn shut<R: Wait>(&self, rt: &R) {
-        self.line.lock(rt).is_shut = true;
+        let mut lines = self.lines.lock(rt);
+        shut_all(&mut lines);
+        drop(lines);
         self.news.notify_all();
+    }
+
+    /// Waits until somebody has something to say on the first line, to a dialler that takes nothing.
+    pub fn await_speaker<R: Wait>(&self, rt: &R) {
+        let lines = self.lines.lock(rt);
+        let spoken = self
+            .news
+            .wait_while(rt, lines, |lines| !speaks_at(lines, 0));
+        drop(spoken);
+    }
+
+    /// Waits until a line is shut.
+    fn await_shut<R: Wait>(&self, rt: &R, at: usize) {
+        let lines = self.lines.lock(rt);
+        let shut = self
+            .news
+            .wait_while(rt, lines, |lines| !is_shut_at(lines, at));
+        drop(shut);
+    }
+
+    /// Whether each line is shut, and what its listener gave.
+    pub fn put_lines<R: Wait>(&self, rt: &R, out: &mut Out) {
+        let lines = self.lines.lock(rt);
+        put_lines(&lines, out);
+        drop(lines);
     }
 }
 
 /// An end's link.
 #[derive(Drop)]
-pub struct PortLink<'a, R> {
-    rt: &'a R,
-    port: &'a Port,
+pub struct PortLink<R> {
+    rt: R,
+    port: Arc<Port>,
     side: Side,
-    has_twin: bool,
+    /// The line's place.
+    at: usize,
     faults: u64,
 }
 
-impl<'a, R> PortLink<'a, R> {
+impl<R: Copy> PortLink<R> {
+    /// A link of the side to the line at this place.
+    pub fn new(rt: R, port: &Arc<Port>, side: Side, at: usize) -> Result<PortLink<R>, AllocError> {
+        Ok(PortLink {
+            rt,
+            port: port.clone()?,
+            side,
+            at,
+            faults: 0,
+        })
+    }
+
     /// How many faults there were.
     pub fn faults(&self) -> u64 {
         self.faults
     }
 }
 
-impl<'a, R: Wait> Link for PortLink<'a, R> {
+impl<R: Wait + Copy> Link for PortLink<R> {
     ghost left = { λ _. None };
 
     ghost held = { λ _. None };
@@ -131,127 +109,148 @@ impl<'a, R: Wait> Link for PortLink<'a, R> {
     ghost faults = { λ l. l.faults };
 
     fn take(&mut self, into: &mut [u8]) -> Result<usize, Failed> {
-        let side = self.side;
-        let line = self.port.line.lock(self.rt);
-        let mut line = self
-            .port
-            .news
-            .wait_while(self.rt, line, |line| line.is_quiet(side));
-        let count = line.take(side, into);
+        let (side, at, is_silent) = (self.side, self.at, self.port.is_silent);
+        let lines = self.port.lines.lock(&self.rt);
+        let mut lines = self.port.news.wait_while(&self.rt, lines, |lines| {
+            is_quiet_at(lines, at, side, is_silent)
+        });
+        let count = take_at(&mut lines, at, side, into);
         Ok(count.min(into.len()))
     }
 
     fn give(&mut self, from: &[u8]) -> Result<usize, GiveErr> {
-        let mut line = self.port.line.lock(self.rt);
-        if line.is_shut {
-            self.faults = one_more(self.faults);
-            return Err(GiveErr::Failed);
-        }
-        let given = line.give(self.side, from);
-        drop(line);
+        let mut lines = self.port.lines.lock(&self.rt);
+        let given = give_at(&mut lines, self.at, self.side, from);
+        drop(lines);
         self.port.news.notify_all();
         match given {
-            Ok(()) => Ok(from.len()),
-            Err(_) => Err(GiveErr::Memory),
+            Given::Taken => return Ok(from.len()),
+            Given::Memory => return Err(GiveErr::Memory),
+            Given::Failed => {}
+            Given::Waits => self.port.await_shut(&self.rt, self.at),
         }
+        self.faults = one_more(self.faults);
+        Err(GiveErr::Failed)
     }
 
     fn shut(&mut self) {
-        self.port.shut(self.rt);
+        let mut lines = self.port.lines.lock(&self.rt);
+        shut_at(&mut lines, self.at);
+        drop(lines);
+        self.port.news.notify_all();
     }
 
-    fn twin(&mut self) -> Result<PortLink<'a, R>, Failed> {
-        if !self.has_twin {
-            self.faults = one_more(self.faults);
-            return Err(Failed);
+    fn twin(&mut self) -> Result<PortLink<R>, Failed> {
+        let is_tried = self.port.is_silent || self.side == Side::Dialler;
+        let pairs = !is_tried || pairs_at(&mut self.port.lines.lock(&self.rt), self.at);
+        if pairs {
+            if let Ok(twin) = PortLink::new(self.rt, &self.port, self.side, self.at) {
+                return Ok(twin);
+            }
         }
-        Ok(PortLink {
-            rt: self.rt,
-            port: self.port,
-            side: self.side,
-            has_twin: true,
-            faults: 0,
-        })
+        self.faults = one_more(self.faults);
+        Err(Failed)
     }
 }
 
-/// A network of the one port. Its link is there before it is listened at.
+/// A network of the one port. Its lines are accepted and dialled in their order; behind them nothing
+/// comes on what is accepted, and no more are dialled.
 #[derive(Drop)]
-pub struct PortNet<'a, R> {
-    rt: &'a R,
-    port: &'a Port,
+pub struct PortNet<R> {
+    rt: R,
+    port: Arc<Port>,
     /// The call that fails, numbered from 0, if one does.
     failing: Option<u64>,
-    /// Whether its links have twins.
-    has_twins: bool,
+    lines: usize,
+    next: usize,
     made: u64,
     accepted: u64,
     faults: u64,
 }
 
-impl<'a, R> PortNet<'a, R> {
+impl<R: Wait + Copy> PortNet<R> {
     /// A network with no fault so far.
-    pub fn new(rt: &'a R, port: &'a Port, failing: Option<u64>, has_twins: bool) -> PortNet<'a, R> {
+    pub fn new(rt: R, port: Arc<Port>, trial: &Trial<'_>) -> PortNet<R> {
+        let lines = port.lines.lock(&rt).len();
         PortNet {
             rt,
             port,
-            failing,
-            has_twins,
+            failing: trial.setting("network"),
+            lines,
+            next: 0,
             made: 0,
             accepted: 0,
             faults: 0,
         }
     }
 
-    /// Counts a call, which fails if it is the one that is to.
-    fn call(&mut self) -> Result<(), Failed>
+    /// How many faults there were.
+    pub fn faults(&self) -> u64 {
+        self.faults
+    }
+
+    /// Counts a fault.
+    fn fail<T>(&mut self) -> Result<T, Failed>
+        ensures failed { IsErr result }
         ensures accepted { self.new.accepted ≡ self.old.accepted }
         ensures later { self.old.faults ≤ self.new.faults }
         ensures cause { OnErr result (Rose self.old.faults self.new.faults) }
     {
-        let fails = match self.failing {
-            Some(failing) => failing == self.made,
-            None => false,
-        };
-        self.made = one_more(self.made);
-        if fails {
-            self.faults = one_more(self.faults);
-            return Err(Failed);
-        }
-        Ok(())
+        self.faults = one_more(self.faults);
+        Err(Failed)
     }
 
-    /// An end's link.
-    fn link(&self, side: Side) -> PortLink<'a, R> {
-        PortLink {
-            rt: self.rt,
-            port: self.port,
-            side,
-            has_twin: self.has_twins,
-            faults: 0,
+    /// Counts a call, and answers whether it is the one that is to fail.
+    fn fails(&mut self) -> bool
+        ensures { (self.new.accepted ≡ self.old.accepted) × (self.new.faults ≡ self.old.faults) }
+    {
+        let made = self.made;
+        self.made = one_more(made);
+        self.failing == Some(made)
+    }
+
+    /// A link of the side to the next line.
+    fn link(&mut self, side: Side) -> Result<PortLink<R>, Failed>
+        ensures accepted { self.new.accepted ≡ self.old.accepted }
+        ensures later { self.old.faults ≤ self.new.faults }
+        ensures cause { OnErr result (Rose self.old.faults self.new.faults) }
+    {
+        let at = self.next;
+        self.next = at.saturating_add(1);
+        match PortLink::new(self.rt, &self.port, side, at) {
+            Ok(link) => Ok(link),
+            Err(_) => self.fail(),
         }
     }
 }
 
-impl<'a, R: Wait> Network for PortNet<'a, R> {
-    type L = PortLink<'a, R>;
+impl<R: Wait + Copy> Network for PortNet<R> {
+    type L = PortLink<R>;
 
     ghost faults = { λ n. n.faults };
 
     ghost accepted = { λ n. n.accepted };
 
     fn listen(&mut self, _port: u16) -> Result<(), Failed> {
-        self.call()
+        if self.fails() {
+            return self.fail();
+        }
+        Ok(())
     }
 
-    fn accept(&mut self) -> Result<PortLink<'a, R>, Failed> {
-        self.call()?;
+    fn accept(&mut self) -> Result<PortLink<R>, Failed> {
+        if self.fails() {
+            return self.fail();
+        }
+        let link = self.link(Side::Listener)?;
         self.accepted = one_more(self.accepted);
-        Ok(self.link(Side::Listener))
+        Ok(link)
     }
 
-    fn dial(&mut self, _port: u16) -> Result<PortLink<'a, R>, Failed> {
-        self.call()?;
-        Ok(self.link(Side::Dialler))
+    fn dial(&mut self, _port: u16) -> Result<PortLink<R>, Failed> {
+        if self.fails() || self.next >= self.lines {
+            return self.fail();
+        }
+        self.link(Side::Dialler)
     }
 }

@@ -1,0 +1,170 @@
+//! What a run reads and writes: an input that is typed, and a screen on which answers appear. A call of
+//! each fails where it is told to.
+
+ghost use Rattle.std.specs.Prelude.{◌≡◌, None};
+
+use crate::trial::Trial;
+use lb_base::faults::one_more;
+use lb_base::sink::{GiveErr, Sink};
+use lb_base::source::{Failed, Source};
+use std::alloc::Global;
+use std::sync::atomic::{AtomicU64, Ordering};
+
+/// How many bytes the first line of a text has, with its end.
+fn line_len(text: &[u8]) -> usize {
+    for (at, byte) in text.iter().enumerate() {
+        if *byte == b'\n' {
+            return at.saturating_add(1);
+        }
+    }
+    text.len()
+}
+
+/// Zeros, which are nowhere held, and behind them an input that is given in pieces, or line by line. It
+/// notes how many answers had appeared before each call.
+#[derive(Drop)]
+pub struct Typist<'a> {
+    /// What is left of it.
+    text: &'a [u8],
+    zeros: usize,
+    piece: usize,
+    is_by_line: bool,
+    /// The call that fails, numbered from 0.
+    failing: Option<u64>,
+    calls: u64,
+    answers: &'a AtomicU64,
+    seen: Vec<u64>,
+    faults: u64,
+}
+
+impl<'a> Typist<'a> {
+    /// Nothing was typed yet.
+    pub fn new(
+        alloc: Global,
+        trial: &Trial<'_>,
+        text: &'a [u8],
+        answers: &'a AtomicU64,
+    ) -> Typist<'a> {
+        Typist {
+            text,
+            zeros: trial.size("zeros", 0),
+            piece: trial.size("gives", 1000),
+            is_by_line: trial.setting("typed").is_some(),
+            failing: trial.setting("source"),
+            calls: 0,
+            answers,
+            seen: Vec::new(alloc),
+            faults: 0,
+        }
+    }
+
+    /// How many answers had appeared before each call.
+    pub fn seen(&self) -> &[u64] {
+        self.seen.as_slice()
+    }
+
+    /// Gives so many zeros of those that are left, as there is room for.
+    fn give_zeros(&mut self, into: &mut [u8]) -> usize
+        ensures { self.new.faults ≡ self.old.faults }
+    {
+        let count = into.len().min(self.zeros);
+        into[..count].fill(0);
+        self.zeros -= count;
+        count.min(into.len())
+    }
+
+    /// Gives what is typed next.
+    fn type_on(&mut self, into: &mut [u8]) -> usize
+        ensures { self.new.faults ≡ self.old.faults }
+    {
+        let piece = if self.is_by_line {
+            line_len(self.text)
+        } else {
+            self.piece
+        };
+        let count = piece.min(self.text.len()).min(into.len());
+        for at in 0..count {
+            into[at] = self.text[at];
+        }
+        self.text = &self.text[count..];
+        count
+    }
+}
+
+impl<'a> Source for Typist<'a> {
+    ghost left = { λ _. None };
+
+    ghost faults = { λ t. t.faults };
+
+    fn take(&mut self, into: &mut [u8]) -> Result<usize, Failed> {
+        let noted = self.seen.push(self.answers.load(Ordering::SeqCst));
+        drop(noted);
+        let fails = self.failing == Some(self.calls);
+        self.calls = one_more(self.calls);
+        if fails {
+            self.faults = one_more(self.faults);
+            return Err(Failed);
+        }
+        let count = if self.zeros > 0 {
+            self.give_zeros(into)
+        } else {
+            self.type_on(into)
+        };
+        Ok(count.min(into.len()))
+    }
+}
+
+/// What was written. It counts how many answers have appeared, one a call.
+#[derive(Drop)]
+pub struct Screen<'a> {
+    text: Vec<u8>,
+    piece: usize,
+    /// The call that fails, and the one that answers want of memory, numbered from 0.
+    failing: Option<u64>,
+    starved: Option<u64>,
+    calls: u64,
+    answers: &'a AtomicU64,
+    faults: u64,
+}
+
+impl<'a> Screen<'a> {
+    /// Nothing was written yet.
+    pub fn new(alloc: Global, trial: &Trial<'_>, answers: &'a AtomicU64) -> Screen<'a> {
+        Screen {
+            text: Vec::new(alloc),
+            piece: trial.size("takes", 1000),
+            failing: trial.setting("sink"),
+            starved: trial.setting("starved"),
+            calls: 0,
+            answers,
+            faults: 0,
+        }
+    }
+
+    /// What was written.
+    pub fn text(&self) -> &[u8] {
+        self.text.as_slice()
+    }
+}
+
+impl<'a> Sink for Screen<'a> {
+    ghost held = { λ _. None };
+
+    ghost faults = { λ s. s.faults };
+
+    fn give(&mut self, from: &[u8]) -> Result<usize, GiveErr> {
+        let call = self.calls;
+        self.calls = one_more(call);
+        if self.failing == Some(call) {
+            self.faults = one_more(self.faults);
+            return Err(GiveErr::Failed);
+        }
+        if self.starved == Some(call) {
+            return Err(GiveErr::Memory);
+        }
+        let count = from.len().min(self.piece.max(1));
+        self.text.extend_from_slice(&from[..count])?;
+        self.answers.fetch_add(1, Ordering::SeqCst);
+        Ok(count)
+    }
+}
