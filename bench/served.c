@@ -2,7 +2,8 @@
  * each answer, beside a bare exchange of as many bytes both ways with a process that only answers.
  *
  *   served ask PORT CALLS ROUNDS OWN OTHER
- *                                     the medians of the rounds' microseconds, by turns: of the server, bare.
+ *                                     the medians of the rounds' microseconds, by turns: of the server, bare;
+ *                                     and the least of each.
  *                                     It runs on the processor OWN alone, and the process that only answers on
  *                                     OTHER; the server is to be bound to OTHER too
  *   served idle PORT SESSIONS SECONDS stands still with so many sessions
@@ -147,7 +148,8 @@ static void ask(int port, long calls, int rounds, int own, int other)
         served[i] = timed(server, calls);
         plain[i] = timed(beside, calls);
     }
-    printf("%.0f %.0f\n", median(served, rounds), median(plain, rounds));
+    double half = median(served, rounds), half_bare = median(plain, rounds);
+    printf("%.0f %.0f %.0f %.0f\n", half, half_bare, served[0], plain[0]);
 }
 
 static void idle(int port, int sessions, unsigned seconds)

@@ -1,6 +1,6 @@
 #!/usr/bin/env bash
 # Measures a served folder over loopback: how many GETATTR of one client that waits for each answer are
-# answered, beside a bare exchange of as many bytes (bench/served.c), by turns and the medians of the rounds;
+# answered, beside a bare exchange of as many bytes (bench/served.c), by turns, the medians and the least of the rounds;
 # and how much of a processor a server takes to which 64 clients are connected that ask for nothing.
 # It judges nothing.
 #
@@ -36,11 +36,12 @@ spent() {
 
 # The server on one processor, and the client on one: exchanged WHAT CLIENT SERVER
 exchanged() {
-    local served bare
+    local served bare least least_bare
     taskset -a -c -p "$3" "$server" >/dev/null
-    read -r served bare < <("$work/served" ask "$port" "$calls" "$rounds" "$2" "$3")
-    awk -v w="$1" -v n="$calls" -v s="$served" -v b="$bare" 'BEGIN {
-        printf "GETATTR, one client, %s: %.1f us each, bare %.1f us: %.2f times as many a second\n", w, s / n, b / n, b / s
+    read -r served bare least least_bare < <("$work/served" ask "$port" "$calls" "$rounds" "$2" "$3")
+    awk -v w="$1" -v n="$calls" -v s="$served" -v b="$bare" -v t="$least" -v c="$least_bare" 'BEGIN {
+        printf "GETATTR, one client, %s: %.1f us each, bare %.1f us: %.2f times as many a second", w, s / n, b / n, b / s
+        printf " (the least of the rounds: %.1f and %.1f us, %.2f)\n", t / n, c / n, c / t
     }'
 }
 
