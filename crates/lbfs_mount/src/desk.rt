@@ -1,7 +1,7 @@
 //! What the threads of a mount share: the client, the link on which its messages go, and the line of
 //! what ended last. `specs/Turns.antt` says what a turn makes of the client.
 
-ghost use Rattle.std.specs.Prelude.{◌≡◌, ◌⊎◌, IfOk, IsOk, false};
+ghost use Rattle.std.specs.Prelude.{◌≡◌, ◌⊎◌, ◌==◌, IfOk, IsOk, IsTrue, true, false};
 ghost use Rattle.lbfs_client.specs.Mounting.{Runs, Receives, joined_step};
 ghost use Rattle.lbfs_mount.specs.Turns.{IsTold, Loses, Sends, Turns};
 
@@ -130,7 +130,8 @@ impl<F: Files + Drop, L: Link + Drop> Desk<F, L> {
 
     /// A record came on a connection. It answers whether more may come there.
     pub(crate) fn hear(&mut self, alloc: Global, connection: u64, record: &[u8], now: u64) -> bool
-        ensures { self.new.starved ≡ false → (self.new.mounted ≡ self.old.mounted) ⊎ Turns (λ m said. Receives self.old.mounted record.now now m said) now self.new.mounted }
+        ensures other { (self.old.connection == connection) ≡ false → self.new ≡ self.old }
+        ensures turn { self.new.starved ≡ false → (self.new.mounted ≡ self.old.mounted) ⊎ Turns (λ m said. Receives self.old.mounted record.now now m said) now self.new.mounted }
     {
         if !self.is_open(connection) {
             return false;
@@ -143,7 +144,8 @@ impl<F: Files + Drop, L: Link + Drop> Desk<F, L> {
 
     /// No more records come on a connection.
     pub(crate) fn stop(&mut self, alloc: Global, connection: u64, end: End, now: u64)
-        ensures { self.new.starved ≡ false → (self.new.mounted ≡ self.old.mounted) ⊎ Loses self.old.mounted end now self.new.mounted }
+        ensures other { (self.old.connection == connection) ≡ false → self.new ≡ self.old }
+        ensures turn { self.new.starved ≡ false → (self.new.mounted ≡ self.old.mounted) ⊎ Loses self.old.mounted end now self.new.mounted }
     {
         if self.is_open(connection) {
             self.lose(alloc, end, now);
@@ -173,7 +175,9 @@ impl<F: Files + Drop, L: Link + Drop> Desk<F, L> {
     }
 
     /// Whether this is the connection that is joined.
-    fn is_open(&self, connection: u64) -> bool {
+    fn is_open(&self, connection: u64) -> bool
+        ensures { IsTrue result → (self.now.connection == connection) ≡ true }
+    {
         self.connection == connection && self.link.is_some() && !self.starved
     }
 
