@@ -11,7 +11,7 @@ use std::marker::Model;
 pub const BLOCK_MOST: usize = 2048;
 
 /// Numbers in a ring, so that one comes or goes at either end without a move of the others.
-#[derive(Drop, Debug)]
+#[derive(Drop)]
 pub struct Block {
     numbers: VecDeque<u32>,
 }

@@ -13,11 +13,21 @@ const LIST_MOST: usize = 1 << 62;
 
 /// Numbers in blocks, all full but the last. One that comes or goes moves some of its block, and one
 /// number of each block behind that; its place is found by division. Blocks come by `reserve` alone.
-#[derive(Drop, Debug)]
 pub struct BlockList {
     blocks: Vec<Block>,
     len: usize,
     room: usize,
+}
+
+impl Drop for BlockList {
+    fn drop(self) {
+        let BlockList {
+            blocks,
+            len: _len,
+            room: _room,
+        } = self;
+        drop(blocks);
+    }
 }
 
 impl Model for BlockList {

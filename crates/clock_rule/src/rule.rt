@@ -8,7 +8,7 @@ ghost use Rattle.clock_rule.specs.Clocks.{breaks, first_broken};
 use std::alloc::{AllocError, AllocFailed};
 
 /// An event of a client: its reading, and the last reading of the server, in milliseconds.
-#[derive(Clone, Copy, Debug, PartialEq, Eq)]
+#[derive(Clone, Copy, Drop)]
 pub struct Note {
     /// The client.
     pub client: u64,
@@ -19,7 +19,7 @@ pub struct Note {
 }
 
 /// How readings break the rule. All numbers but the client are milliseconds.
-#[derive(Clone, Copy, Debug, PartialEq, Eq)]
+#[derive(Clone, Copy, Debug, Drop)]
 pub enum ClockFault {
     /// The server's reading fell.
     Server {
@@ -53,7 +53,7 @@ pub enum ClockFault {
 }
 
 /// What a line of a trace reads, in milliseconds.
-#[derive(Clone, Copy, Debug, PartialEq, Eq)]
+#[derive(Clone, Copy, Drop)]
 pub enum Reading {
     /// The server's clock.
     Server(u64),
@@ -76,7 +76,7 @@ pub enum Reading {
 }
 
 /// Why a reading was not taken: the server's, or a client's at an event, which is then not noted.
-#[derive(Clone, Copy, Debug, PartialEq, Eq)]
+#[derive(Clone, Copy, Debug, Drop)]
 pub enum NoteErr {
     /// It breaks the rule: the server's reading fell, the client's did, or the server's clock went on
     /// too far.

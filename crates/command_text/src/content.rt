@@ -9,7 +9,7 @@ use std::alloc::{AllocError, Global};
 
 /// A part of a content. It takes no memory but for bytes that stand in the trace. Where the parts
 /// of a line were read, their counts are 1 to 2^64 - 1, and none has no bytes.
-#[derive(Debug, Drop)]
+#[derive(Debug)]
 pub enum Part {
     /// `t:TEXT` or `x:HEX`: these bytes.
     Bytes(Bytes),
@@ -21,6 +21,16 @@ pub enum Part {
     /// its state s becomes s * 6364136223846793005 + 1442695040888963407 modulo 2^64, and the byte
     /// is s div 2^56.
     Random { seed: u64, count: u64 },
+}
+
+// Written by hand, it is proved here alone; derived, each crate above would prove how bytes are let go.
+impl Drop for Part {
+    fn drop(self) {
+        match self {
+            Part::Bytes(bytes) => drop(bytes),
+            Part::Zeros(_) | Part::Marks(_) | Part::Random { seed: _, count: _ } => (),
+        }
+    }
 }
 
 /// A content, part by part; `-` is the empty list.

@@ -12,7 +12,12 @@ const LONGEST_NAME: usize = limits::NAME_MOST;
 fn are_digits(word: &[u8]) -> bool
     ensures { result ≡ list_all is_ascii_digit word.now }
 {
-    word.iter().all(|b| b.is_ascii_digit())
+    for byte in word {
+        if !byte.is_ascii_digit() {
+            return false;
+        }
+    }
+    true
 }
 
 /// Whether a 0 stands before another digit.
@@ -79,7 +84,12 @@ fn is_letter(b: u8) -> bool
 fn are_letters(text: &[u8]) -> bool
     ensures { result ≡ list_all is_letter text.now }
 {
-    text.iter().all(|b| is_letter(*b))
+    for byte in text {
+        if !is_letter(*byte) {
+            return false;
+        }
+    }
+    true
 }
 
 /// Whether these are letters, at least one.

@@ -6,7 +6,7 @@ ghost use Rattle.command_text.specs.declared.line_err.LineErr.TheVariants as err
 use std::alloc::{AllocError, AllocFailed};
 
 /// Why a line was not read.
-#[derive(Clone, Copy, Debug, PartialEq, Eq)]
+#[derive(Clone, Copy, Debug, Drop)]
 pub enum LineErr {
     /// It is not in the grammar.
     BadLine,

@@ -29,7 +29,12 @@ fn text(alloc: Global, text: &[u8]) -> Result<Part, LineErr>
 fn are_lower_digits(text: &[u8]) -> bool
     ensures { result ≡ list_all is_lower_digit text.now }
 {
-    text.iter().all(|b| matches!(*b, b'0'..=b'9' | b'a'..=b'f'))
+    for byte in text {
+        if !matches!(*byte, b'0'..=b'9' | b'a'..=b'f') {
+            return false;
+        }
+    }
+    true
 }
 
 /// The bytes of pairs of hex digits.

@@ -14,7 +14,7 @@ use xdr_codec::reader::Reader;
 use xdr_codec::writer::Writer;
 
 /// What a GETLEASE gave.
-#[derive(Drop)]
+#[derive(Clone, Copy, Drop)]
 pub struct Leased {
     /// The file's attributes.
     pub attr: Attr,
@@ -36,7 +36,7 @@ pub struct HashRange {
 }
 
 /// A chunk of a file.
-#[derive(Drop)]
+#[derive(Clone, Copy, Drop)]
 pub struct Pair {
     /// The SHA-1 digest of the chunk's bytes.
     pub digest: Digest,
@@ -81,7 +81,7 @@ pub struct TempPiece {
 
 /// What a CONDWRITE asks for: bytes put into a temporary file that are told by their digest, where
 /// the other end knows such bytes.
-#[derive(Drop)]
+#[derive(Clone, Copy, Drop)]
 pub struct CondPiece {
     /// The number of the temporary file.
     pub fd: u32,
@@ -105,7 +105,7 @@ pub struct Commit {
 }
 
 /// What a COMMITTMP gave.
-#[derive(Drop)]
+#[derive(Clone, Copy, Drop)]
 pub struct Committed {
     /// The file's version from now on.
     pub version: u64,

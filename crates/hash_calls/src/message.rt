@@ -62,7 +62,6 @@ impl LbProc {
 }
 
 /// The arguments of a call of LBFS, or what it gave: a failure answer is the status alone.
-#[derive(Drop)]
 pub enum Lb {
     /// NULL has no arguments.
     Null,
@@ -92,6 +91,27 @@ pub enum Lb {
     CommitTmp(Commit),
     /// What a COMMITTMP gave.
     CommitTmpAnswer(Answer<Committed, ()>),
+}
+
+// Written by hand, it is proved here alone; derived, each crate above would prove how each part is
+// let go.
+impl Drop for Lb {
+    fn drop(self) {
+        match self {
+            Lb::Null | Lb::NullAnswer => (),
+            Lb::GetLease(handle) => drop(handle),
+            Lb::GetHash(range) => drop(range),
+            Lb::MkTmpFile(temp) => drop(temp),
+            Lb::TmpWrite(piece) => drop(piece),
+            Lb::CondWrite(piece) => drop(piece),
+            Lb::CommitTmp(commit) => drop(commit),
+            Lb::GetLeaseAnswer(answer) => drop(answer),
+            Lb::GetHashAnswer(answer) => drop(answer),
+            Lb::MkTmpFileAnswer(answer) | Lb::TmpWriteAnswer(answer) => drop(answer),
+            Lb::CondWriteAnswer(answer) => drop(answer),
+            Lb::CommitTmpAnswer(answer) => drop(answer),
+        }
+    }
 }
 
 impl Lb {
@@ -145,7 +165,6 @@ impl BackProc {
 }
 
 /// The arguments of a call of the callback program, or what it gave.
-#[derive(Drop)]
 pub enum Back {
     /// NULL has no arguments.
     Null,
@@ -155,6 +174,16 @@ pub enum Back {
     Recall(Handle),
     /// RECALL gives nothing, and no status.
     RecallAnswer,
+}
+
+// By hand, as that of `Lb`.
+impl Drop for Back {
+    fn drop(self) {
+        match self {
+            Back::Recall(handle) => drop(handle),
+            Back::Null | Back::NullAnswer | Back::RecallAnswer => (),
+        }
+    }
 }
 
 impl Back {

@@ -7,9 +7,17 @@ use std::marker::Model;
 
 /// A list that grows at its end. Contracts see it as the list of its items, so that it may stand
 /// in a field or a variant of what they compare.
-#[derive(Drop, Debug)]
+#[derive(Debug)]
 pub struct Items<T> {
     held: Vec<T>,
+}
+
+// Written by hand, it is proved here alone, for all items.
+impl<T: Drop> Drop for Items<T> {
+    fn drop(self) {
+        let Items { held } = self;
+        drop(held)
+    }
 }
 
 /// Bytes, as messages and files hold them.

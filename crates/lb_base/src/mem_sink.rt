@@ -13,7 +13,7 @@ use std::alloc::Global;
 use std::marker::Model;
 
 /// A sink in memory that never fails; only memory may run out.
-#[derive(Drop, Debug)]
+#[derive(Drop)]
 pub struct SureSink {
     held: Bytes,
     piece: usize,
@@ -70,7 +70,7 @@ impl Sink for SureSink {
 }
 
 /// A sink in memory, of which some calls fail and some answer want of memory.
-#[derive(Drop, Debug)]
+#[derive(Drop)]
 pub struct MemSink {
     bytes: SureSink,
     calls: u64,

@@ -11,7 +11,7 @@ use crate::source::{Failed, Source};
 use std::marker::Model;
 
 /// A source in memory that never fails.
-#[derive(Drop, Debug)]
+#[derive(Drop)]
 pub struct SureSource {
     bytes: Bytes,
     at: usize,
@@ -80,7 +80,7 @@ impl Source for SureSource {
 }
 
 /// A source in memory, of which some calls fail.
-#[derive(Drop, Debug)]
+#[derive(Drop)]
 pub struct MemSource {
     bytes: SureSource,
     calls: u64,

@@ -11,7 +11,7 @@ use crate::source::Failed;
 use std::alloc::AllocError;
 
 /// Why a sink did not take bytes.
-#[derive(Clone, Copy, Debug, PartialEq, Eq)]
+#[derive(Clone, Copy, Debug)]
 pub enum GiveErr {
     /// The outside failed; the count of faults rose.
     Failed,

@@ -8,7 +8,7 @@ ghost use Rattle.lb_base.specs.declared.source.ReadError.TheVariants as errors;
 use std::alloc::{AllocError, Global};
 
 /// The outside failed; the count of faults rose.
-#[derive(Clone, Copy, Debug, PartialEq, Eq)]
+#[derive(Clone, Copy, Debug)]
 pub struct Failed;
 
 /// A source of bytes.
@@ -29,7 +29,7 @@ pub trait Source {
 }
 
 /// Why an input was not read.
-#[derive(Clone, Copy, Debug, PartialEq, Eq)]
+#[derive(Clone, Copy, Debug)]
 pub enum ReadError {
     /// The source failed.
     Fault,

@@ -8,10 +8,18 @@ use std::alloc::Global;
 use std::marker::Model;
 
 /// A list of the calls that are to fail, by their numbers, and how many calls there were.
-#[derive(Drop)]
 pub struct Calls {
     made: u64,
     failing: Items<u64>,
+}
+
+// Written by hand, it is proved here alone; derived, each crate above would prove how each part is let
+// go.
+impl Drop for Calls {
+    fn drop(self) {
+        let Calls { made: _, failing } = self;
+        drop(failing);
+    }
 }
 
 impl Model for Calls {

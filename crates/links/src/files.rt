@@ -15,14 +15,23 @@ use lb_base::source::Failed;
 use std::alloc::{AllocError, Global};
 
 /// A file of the host.
-#[derive(Drop)]
 pub struct HostFile {
     pub name: Name,
     pub bytes: Bytes,
 }
 
+// Written by hand, it is proved here alone; derived, each crate above would prove how each part is let
+// go.
+impl Drop for HostFile {
+    fn drop(self) {
+        let HostFile { name, bytes } = self;
+        drop(name);
+        drop(bytes);
+    }
+}
+
 /// Why a file's bytes were not given.
-#[derive(Clone, Copy, PartialEq, Eq)]
+#[derive(Clone, Copy)]
 pub enum FilesErr {
     /// The outside failed, as where there is no file of the name; the count of faults rose.
     Failed,

@@ -102,9 +102,17 @@ fn put(
 }
 
 /// Files in memory that never fail; only memory may run out. A file that isn't there has no bytes.
-#[derive(Drop)]
 pub struct SureFiles {
     files: Vec<HostFile>,
+}
+
+// Written by hand, it is proved here alone; derived, each crate above would prove how each part is let
+// go.
+impl Drop for SureFiles {
+    fn drop(self) {
+        let SureFiles { files } = self;
+        drop(files);
+    }
 }
 
 impl Model for SureFiles {
@@ -160,11 +168,24 @@ impl Files for SureFiles {
 }
 
 /// Files in memory, of which some calls fail; so does `get` of a name that isn't there.
-#[derive(Drop)]
 pub struct MemFiles {
     files: SureFiles,
     calls: Calls,
     faults: u64,
+}
+
+// Written by hand, it is proved here alone; derived, each crate above would prove how each part is let
+// go.
+impl Drop for MemFiles {
+    fn drop(self) {
+        let MemFiles {
+            files,
+            calls,
+            faults: _,
+        } = self;
+        drop(files);
+        drop(calls);
+    }
 }
 
 impl Model for MemFiles {

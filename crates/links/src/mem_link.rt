@@ -21,12 +21,26 @@ use std::marker::Model;
 use std::mem;
 
 /// A link in memory that never fails; only memory may run out.
-#[derive(Drop)]
 pub struct SureLink {
     incoming: SureSource,
     outgoing: SureSink,
     shut: bool,
     alloc: Global,
+}
+
+// Written by hand, it is proved here alone; derived, each crate above would prove how each part is let
+// go.
+impl Drop for SureLink {
+    fn drop(self) {
+        let SureLink {
+            incoming,
+            outgoing,
+            shut: _,
+            alloc: _,
+        } = self;
+        drop(incoming);
+        drop(outgoing);
+    }
 }
 
 impl Model for SureLink {
@@ -117,7 +131,6 @@ impl Link for SureLink {
 }
 
 /// A link in memory, of which some calls fail and some answer want of memory.
-#[derive(Drop)]
 pub struct MemLink {
     incoming: MemSource,
     outgoing: MemSink,
@@ -125,6 +138,24 @@ pub struct MemLink {
     shut: bool,
     faults: u64,
     alloc: Global,
+}
+
+// Written by hand, it is proved here alone; derived, each crate above would prove how each part is let
+// go.
+impl Drop for MemLink {
+    fn drop(self) {
+        let MemLink {
+            incoming,
+            outgoing,
+            twins,
+            shut: _,
+            faults: _,
+            alloc: _,
+        } = self;
+        drop(incoming);
+        drop(outgoing);
+        drop(twins);
+    }
 }
 
 impl Model for MemLink {

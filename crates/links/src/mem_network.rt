@@ -16,12 +16,26 @@ use std::marker::Model;
 
 /// A network in memory that never fails: where no link is left to give, it gives one on which
 /// nothing comes.
-#[derive(Drop)]
 pub struct SureNetwork {
     coming: Items<SureLink>,
     reached: Items<SureLink>,
     accepted: u64,
     alloc: Global,
+}
+
+// Written by hand, it is proved here alone; derived, each crate above would prove how each part is let
+// go.
+impl Drop for SureNetwork {
+    fn drop(self) {
+        let SureNetwork {
+            coming,
+            reached,
+            accepted: _,
+            alloc: _,
+        } = self;
+        drop(coming);
+        drop(reached);
+    }
 }
 
 impl Model for SureNetwork {
@@ -91,7 +105,6 @@ impl Network for SureNetwork {
 
 /// A network in memory, of which some calls fail. So do `accept` and `dial` where no link is left to
 /// give, and `accept` where no port is listened at.
-#[derive(Drop)]
 pub struct MemNetwork {
     coming: Items<MemLink>,
     reached: Items<MemLink>,
@@ -99,6 +112,24 @@ pub struct MemNetwork {
     calls: Calls,
     accepted: u64,
     faults: u64,
+}
+
+// Written by hand, it is proved here alone; derived, each crate above would prove how each part is let
+// go.
+impl Drop for MemNetwork {
+    fn drop(self) {
+        let MemNetwork {
+            coming,
+            reached,
+            listens: _,
+            calls,
+            accepted: _,
+            faults: _,
+        } = self;
+        drop(coming);
+        drop(reached);
+        drop(calls);
+    }
 }
 
 impl Model for MemNetwork {

@@ -86,7 +86,6 @@ impl NfsProc {
 }
 
 /// The arguments of a call, or what it gave.
-#[derive(Drop)]
 pub enum Nfs {
     /// No arguments (RFC 1813, section 3.3.0: NULL).
     Null,
@@ -136,6 +135,33 @@ pub enum Nfs {
     FsInfo(Handle),
     /// RFC 1813, section 3.3.19: FSINFO3res.
     FsInfoAnswer(Answer<FsInfo, Option<Attr>>),
+}
+
+// Written by hand, it is proved here alone; derived, each crate above would prove how each part is
+// let go.
+impl Drop for Nfs {
+    fn drop(self) {
+        match self {
+            Nfs::Null | Nfs::NullAnswer => (),
+            Nfs::GetAttr(handle) | Nfs::FsInfo(handle) => drop(handle),
+            Nfs::Lookup(place) | Nfs::Remove(place) | Nfs::RmDir(place) => drop(place),
+            Nfs::Access(access) => drop(access),
+            Nfs::Read(range) => drop(range),
+            Nfs::Create(file) => drop(file),
+            Nfs::MkDir(dir) => drop(dir),
+            Nfs::Rename(rename) => drop(rename),
+            Nfs::ReadDir(range) => drop(range),
+            Nfs::ReadAnswer(answer) => drop(answer),
+            Nfs::CreateAnswer(answer) | Nfs::MkDirAnswer(answer) => drop(answer),
+            Nfs::ReadDirAnswer(answer) => drop(answer),
+            Nfs::GetAttrAnswer(answer) => drop(answer),
+            Nfs::LookupAnswer(answer) => drop(answer),
+            Nfs::AccessAnswer(answer) => drop(answer),
+            Nfs::RemoveAnswer(answer) | Nfs::RmDirAnswer(answer) => drop(answer),
+            Nfs::RenameAnswer(answer) => drop(answer),
+            Nfs::FsInfoAnswer(answer) => drop(answer),
+        }
+    }
 }
 
 impl Nfs {

@@ -19,7 +19,6 @@ use std::marker::Model;
 const AT_ONCE: usize = 65536;
 
 /// The end of a link at which records come out of its bytes.
-#[derive(Drop)]
 pub struct Inbox {
     /// What came behind the last whole record.
     end: Records,
@@ -29,6 +28,21 @@ pub struct Inbox {
     spoilt: bool,
     /// Room for the next piece.
     room: Vec<u8>,
+}
+
+// Written by hand, it is proved here alone.
+impl Drop for Inbox {
+    fn drop(self) {
+        let Inbox {
+            end,
+            waiting,
+            spoilt: _,
+            room,
+        } = self;
+        drop(end);
+        drop(waiting);
+        drop(room)
+    }
 }
 
 impl Model for Inbox {

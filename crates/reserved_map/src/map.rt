@@ -17,11 +17,18 @@ use std::marker::Model;
 
 /// Entries by rising key. A place for an entry can be reserved, so that putting it in never wants
 /// memory.
-#[derive(Drop)]
 pub struct ReservedMap<K: Ord, V> {
     map: BTreeMap<K, V>,
     /// Entries that found no memory in the map, in no order.
     spare: Vec<(K, V)>,
+}
+
+impl<K: Ord + Drop, V: Drop> Drop for ReservedMap<K, V> {
+    fn drop(self) {
+        let ReservedMap { map, spare } = self;
+        drop(map);
+        drop(spare);
+    }
 }
 
 impl<K: Ord, V> Model for ReservedMap<K, V> {

@@ -34,7 +34,6 @@ pub struct Front {
 
 /// Who is asking, or proof of it (RFC 5531, section 8.2: opaque_auth). More than `AUTH_MOST` bytes are
 /// refused as `TooLong`.
-#[derive(Drop)]
 pub struct Auth {
     /// Which form the body has (auth_flavor); any number is read.
     pub flavor: u32,
@@ -43,7 +42,6 @@ pub struct Auth {
 }
 
 /// What a call's header says behind the version of RPC (RFC 5531, section 9: call_body).
-#[derive(Drop)]
 pub struct CallHead {
     /// The program's number (prog).
     pub program: u32,
@@ -96,12 +94,43 @@ pub enum Denial {
 
 /// The header of a reply behind its type (RFC 5531, section 9: reply_body, by its reply_stat). Other
 /// numbers than 0 and 1 are refused as `BadValue`.
-#[derive(Drop)]
 pub enum ReplyHead {
     /// 0: the server's verifier, and what became of the call (accepted_reply).
     Accepted(Auth, Accept),
     /// 1: why the call was not taken (rejected_reply).
     Denied(Denial),
+}
+
+// Written by hand, these are proved here alone; derived, each crate above would prove how the bytes of
+// a header are let go.
+impl Drop for Auth {
+    fn drop(self) {
+        let Auth { flavor: _, body } = self;
+        drop(body)
+    }
+}
+
+impl Drop for CallHead {
+    fn drop(self) {
+        let CallHead {
+            program: _,
+            version: _,
+            procedure: _,
+            cred,
+            verf,
+        } = self;
+        drop(cred);
+        drop(verf)
+    }
+}
+
+impl Drop for ReplyHead {
+    fn drop(self) {
+        match self {
+            ReplyHead::Accepted(verf, _) => drop(verf),
+            ReplyHead::Denied(_) => (),
+        }
+    }
 }
 
 #[tactic(auto, unfolding(crate::specs::Header::direction_form))]

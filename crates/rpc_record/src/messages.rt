@@ -24,7 +24,6 @@ const CALL: u32 = 0;
 const REPLY: u32 = 1;
 
 /// The header of a call (RFC 5531, section 9: rpc_msg with a call_body).
-#[derive(Drop)]
 pub struct Call {
     /// The number by which its reply is known.
     pub xid: u32,
@@ -35,12 +34,30 @@ pub struct Call {
 }
 
 /// The header of a reply (RFC 5531, section 9: rpc_msg with a reply_body).
-#[derive(Drop)]
 pub struct Reply {
     /// The number of the call that it answers.
     pub xid: u32,
     /// What became of that call.
     pub head: ReplyHead,
+}
+
+// By hand, as those of their heads.
+impl Drop for Call {
+    fn drop(self) {
+        let Call {
+            xid: _,
+            rpcvers: _,
+            head,
+        } = self;
+        drop(head)
+    }
+}
+
+impl Drop for Reply {
+    fn drop(self) {
+        let Reply { xid: _, head } = self;
+        drop(head)
+    }
 }
 
 /// The header of a call; a refusal leaves the reader inside it.

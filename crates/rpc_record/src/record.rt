@@ -7,12 +7,19 @@ use std::marker::Model;
 
 /// The contents of a record. A record that came as one fragment, and alone, keeps the bytes in which
 /// it came; of any other the contents were copied.
-#[derive(Drop)]
 pub struct Record {
     /// The bytes that hold them.
     held: Bytes,
     /// Where they begin.
     start: usize,
+}
+
+// Written by hand, it is proved here alone.
+impl Drop for Record {
+    fn drop(self) {
+        let Record { held, start: _ } = self;
+        drop(held)
+    }
 }
 
 impl Model for Record {

@@ -118,11 +118,22 @@ fn take_off(alloc: Global, bytes: &mut Vec<u8>, known: Progress) -> Result<Cut, 
 
 /// One end of a stream of records. A record has at most `RECORD_MOST` bytes, in at most `FRAGMENTS_MOST` fragments;
 /// fragments of no bytes are taken, and count.
-#[derive(Drop)]
 pub struct Records {
     rest: Vec<u8>,
     known: Progress,
     spoilt: Option<Refusal>,
+}
+
+// Written by hand, it is proved here alone.
+impl Drop for Records {
+    fn drop(self) {
+        let Records {
+            rest,
+            known: _,
+            spoilt: _,
+        } = self;
+        drop(rest)
+    }
 }
 
 impl Model for Records {

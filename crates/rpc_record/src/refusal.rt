@@ -9,7 +9,7 @@ use std::alloc::AllocError;
 use xdr_codec::fault::{Fault, ReadError};
 
 /// Why a stream is spoilt: a header that no record may have.
-#[derive(Clone, Copy, Debug, PartialEq, Eq)]
+#[derive(Clone, Copy, Debug, Drop)]
 pub enum Refusal {
     /// The headers of a record promise so many bytes, which are more than `RECORD_MOST`.
     TooBig {
@@ -21,7 +21,7 @@ pub enum Refusal {
 }
 
 /// Why a record was not marked.
-#[derive(Debug, Drop, PartialEq, Eq)]
+#[derive(Clone, Copy, Debug, Drop)]
 pub enum MarkError {
     /// It has so many bytes, which are more than `RECORD_MOST`.
     TooBig {
@@ -41,7 +41,7 @@ impl From<AllocError> for MarkError {
 }
 
 /// Why a record does not begin with the header that was asked for.
-#[derive(Debug, Drop)]
+#[derive(Clone, Copy, Debug, Drop)]
 pub enum HeaderError {
     /// An item of the header could not be read, or is the type of the other header.
     Xdr(Fault),

@@ -5,18 +5,27 @@
 #![tactic(auto)]
 
 ghost use Rattle.std.specs.Prelude.{◌≡◌, [], ◌∷◌, ◌++◌, OnOk, OnErr};
-ghost use Rattle.std.specs.Option.{option_copied};
+ghost use Rattle.std.specs.Option.{option_copied, option_to_list};
 ghost use Rattle.send_list.specs.Sent.{sent_list};
 
 use lb_base::items::Items;
 use std::alloc::{AllocError, Global};
 use std::marker::Model;
+use std::mem;
 
 /// Messages that are sent, in order. Contracts see their list.
-#[derive(Drop)]
 pub struct SendList<T> {
     first: Option<T>,
     rest: Items<T>,
+}
+
+/// By hand, so that the crates above prove nothing of how the parts go.
+impl<T: Drop> Drop for SendList<T> {
+    fn drop(self) {
+        let SendList { first, rest } = self;
+        drop(first);
+        drop(rest);
+    }
 }
 
 impl<T> Model for SendList<T> {
@@ -84,4 +93,43 @@ impl<T: Drop> SendList<T> {
             }
         }
     }
+}
+
+/// The item goes behind those that there are, if there is one.
+fn add_first<T: Drop>(all: &mut Items<T>, first: Option<T>) -> Result<(), AllocError>
+    ensures { OnOk result (all.new ≡ all.old ++ option_to_list first) }
+{
+    match first {
+        None => Ok(()),
+        Some(first) => {
+            all.push(first)?;
+            Ok(())
+        }
+    }
+}
+
+/// Items go behind those that there are. After an error some may be gone.
+fn add_rest<T: Drop>(alloc: Global, all: &mut Items<T>, rest: Items<T>) -> Result<(), AllocError>
+    ensures { OnOk result (all.new ≡ all.old ++ rest) }
+{
+    let mut items = mem::replace(all, Items::new(alloc)).into_vec();
+    let mut more = rest.into_vec();
+    items.append(&mut more)?;
+    *all = Items::from_vec(items);
+    Ok(())
+}
+
+/// The messages of a step go behind those that there are. The one error is want of memory, and some of
+/// them may be gone then.
+pub fn append<T: Drop>(
+    alloc: Global,
+    all: &mut Items<T>,
+    more: SendList<T>,
+) -> Result<(), AllocError>
+    ensures { OnOk result (all.new ≡ all.old ++ more) }
+{
+    let (first, rest) = more.into_parts();
+    add_first(all, first)?;
+    add_rest(alloc, all, rest)?;
+    Ok(())
 }

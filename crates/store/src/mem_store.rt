@@ -19,9 +19,15 @@ use std::alloc::{AllocError, Global};
 use std::marker::Model;
 
 /// A store in memory that never fails.
-#[derive(Drop)]
 pub struct SureStore {
     records: Vec<Kept>,
+}
+
+impl Drop for SureStore {
+    fn drop(self) {
+        let SureStore { records } = self;
+        drop(records);
+    }
 }
 
 impl Model for SureStore {
@@ -91,12 +97,24 @@ impl Store for SureStore {
 }
 
 /// A store in memory, of which some calls fail.
-#[derive(Drop)]
 pub struct MemStore {
     store: SureStore,
     calls: u64,
     failing: Items<u64>,
     faults: u64,
+}
+
+impl Drop for MemStore {
+    fn drop(self) {
+        let MemStore {
+            store,
+            calls: _calls,
+            failing,
+            faults: _faults,
+        } = self;
+        drop(store);
+        drop(failing);
+    }
 }
 
 impl Model for MemStore {

@@ -14,7 +14,7 @@ use command_text::path::Spot;
 use std::alloc::Global;
 
 /// How many bytes of a queue are delivered.
-#[derive(Clone, Copy, Debug, PartialEq, Eq)]
+#[derive(Clone, Copy, Debug)]
 pub enum Amount {
     /// `all`: those that are queued at that moment.
     All,
@@ -23,7 +23,7 @@ pub enum Amount {
 }
 
 /// Whose index a line is about.
-#[derive(Clone, Copy, Debug, PartialEq, Eq)]
+#[derive(Clone, Copy, Debug)]
 pub enum Who {
     /// `server`.
     Server,

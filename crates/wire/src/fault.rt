@@ -6,7 +6,7 @@ ghost use Rattle.wire.specs.Parse.{fault_at, not_rpc, garbage};
 use xdr_codec::fault::{Fault, ReadError};
 
 /// What is wrong with a record.
-#[derive(Clone, Copy, Debug, PartialEq, Eq, Drop)]
+#[derive(Clone, Copy, Debug, Drop)]
 pub enum WireFault {
     /// No RPC message: too short for an xid and a direction, another direction than 0 and 1, or a
     /// call whose header ends early or has an authentication item outside its grammar (above
@@ -21,7 +21,7 @@ pub enum WireFault {
 }
 
 /// Why no message was read.
-#[derive(Clone, Copy, Debug, PartialEq, Eq, Drop)]
+#[derive(Clone, Copy, Debug, Drop)]
 pub enum WireErr {
     /// Memory ran out; the record may be a message.
     Memory,

@@ -32,7 +32,6 @@ pub const RPC_VERSION: u32 = 2;
 
 /// What a program's call or answer says: the arguments in a `Call`, what the call gave in an
 /// `Answer`.
-#[derive(Drop)]
 pub enum Body {
     /// Of NFS version 3 (RFC 1813, section 3.3).
     Nfs(Nfs),
@@ -117,6 +116,18 @@ pub struct Waiting {
     /// The calls without an answer yet, any number of them. Where two have one xid, an answer is
     /// taken as the first's. `parse` takes none out: its caller does so with the answer.
     pub calls: Items<Pending>,
+}
+
+// Written by hand, it is proved here alone; derived, each crate above would prove how each part of a
+// message is let go.
+impl Drop for Body {
+    fn drop(self) {
+        match self {
+            Body::Nfs(message) => drop(message),
+            Body::Lb(message) => drop(message),
+            Body::Back(message) => drop(message),
+        }
+    }
 }
 
 impl Body {

@@ -76,15 +76,15 @@ fn called(side: Side, head: &CallHead) -> Result<Program, RpcRefusal>
     ensures { result ≡ called side head.now }
 {
     if side.serves_files() && head.program == NFS_PROGRAM {
-        let found = NfsProc::of_number(head.procedure).map(|found| Program::Nfs(found));
+        let found = NfsProc::of_number(head.procedure).map(Program::Nfs);
         return versioned(NFS_VERSION, head.version, found);
     }
     if side.serves_files() && head.program == LBFS_PROGRAM {
-        let found = LbProc::of_number(head.procedure).map(|found| Program::Lb(found));
+        let found = LbProc::of_number(head.procedure).map(Program::Lb);
         return versioned(LBFS_VERSION, head.version, found);
     }
     if side.serves_callbacks() && head.program == BACK_PROGRAM {
-        let found = BackProc::of_number(head.procedure).map(|found| Program::Back(found));
+        let found = BackProc::of_number(head.procedure).map(Program::Back);
         return versioned(BACK_VERSION, head.version, found);
     }
     Err(RpcRefusal::ProgUnavail)

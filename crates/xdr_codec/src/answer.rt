@@ -13,12 +13,21 @@ use crate::writer::Writer;
 use std::alloc::{AllocError, Global};
 
 /// An answer. A number that is no status is refused as `BadValue`.
-#[derive(Drop)]
 pub enum Answer<T, F> {
     /// Status OK, the number 0, and the body.
     Done(T),
     /// Why not, and what goes with it.
     Failed(Status, F),
+}
+
+// Written by hand, it is proved here alone, for all bodies.
+impl<T: Drop, F: Drop> Drop for Answer<T, F> {
+    fn drop(self) {
+        match self {
+            Answer::Done(body) => drop(body),
+            Answer::Failed(_, body) => drop(body),
+        }
+    }
 }
 
 /// Whether the call was done, or why not.

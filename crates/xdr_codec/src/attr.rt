@@ -10,7 +10,7 @@ use crate::writer::Writer;
 use std::alloc::{AllocError, Global};
 
 /// What a node is (ftype3). Other numbers than 1 and 2 are refused as `BadValue`.
-#[derive(Clone, Copy, Debug, PartialEq, Eq, Drop)]
+#[derive(Clone, Copy, Drop)]
 pub enum Kind {
     /// The number 1 (NF3REG).
     File,
@@ -19,7 +19,7 @@ pub enum Kind {
 }
 
 /// A time since the first moment of 1970, UTC (nfstime3).
-#[derive(Clone, Copy, Debug, PartialEq, Eq, Drop)]
+#[derive(Clone, Copy, Drop)]
 pub struct Time {
     /// Whole seconds.
     pub seconds: u32,
@@ -28,7 +28,7 @@ pub struct Time {
 }
 
 /// The attributes of a file or a directory: 84 bytes, in the order of fattr3.
-#[derive(Clone, Copy, Debug, PartialEq, Eq, Drop)]
+#[derive(Clone, Copy, Drop)]
 pub struct Attr {
     /// What it is (type).
     pub kind: Kind,

@@ -8,7 +8,7 @@ ghost use Rattle.xdr_codec.specs.declared.fault.ReadError.TheVariants.{Memory};
 use std::alloc::{AllocError, AllocFailed};
 
 /// What is wrong with the bytes: the first fault from left to right, with its place.
-#[derive(Clone, Copy, Debug, PartialEq, Eq)]
+#[derive(Clone, Copy, Debug, Drop)]
 pub enum Fault {
     /// An item passes the end.
     Short {
@@ -51,7 +51,7 @@ pub enum Fault {
 }
 
 /// Why nothing was read.
-#[derive(Debug, Drop)]
+#[derive(Clone, Copy, Debug, Drop)]
 pub enum ReadError {
     /// Memory ran out.
     Memory,

@@ -7,7 +7,7 @@ ghost use Rattle.xdr_codec.specs.Status.{status_number, status_of};
 
 /// A status other than OK, by its number. The numbers of other statuses of RFC 1813, as ROFS, stand
 /// for nothing: an answer with one of them is refused as `BadValue`.
-#[derive(Clone, Copy, Debug, PartialEq, Eq)]
+#[derive(Clone, Copy, Drop)]
 pub enum Status {
     /// 1, NFS3ERR_PERM: the asker is not the owner.
     Perm,

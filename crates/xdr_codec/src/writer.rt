@@ -12,9 +12,16 @@ use std::alloc::{AllocError, Global};
 use std::marker::Model;
 
 /// The bytes so far.
-#[derive(Drop)]
 pub struct Writer {
     out: Vec<u8>,
+}
+
+// Written by hand, it is proved here alone.
+impl Drop for Writer {
+    fn drop(self) {
+        let Writer { out } = self;
+        drop(out)
+    }
 }
 
 impl Model for Writer {
