@@ -8,11 +8,24 @@ use std::marker::Model;
 
 /// What the clients of a run did: the files that were there at first, the operations in the order
 /// of their begins, and the number of steps.
-#[derive(Drop)]
 pub struct History {
     opening: Items<Opening>,
     ops: Items<Op>,
     steps: u64,
+}
+
+// Written by hand, it is proved here alone; derived, each crate above would prove how each part is let
+// go.
+impl Drop for History {
+    fn drop(self) {
+        let History {
+            opening,
+            ops,
+            steps: _,
+        } = self;
+        drop(opening);
+        drop(ops);
+    }
 }
 
 impl Model for History {

@@ -13,11 +13,24 @@ use std::alloc::{AllocError, Global};
 use std::marker::Model;
 
 /// A history, and where its changes stand. Contracts see it as the history.
-#[derive(Drop)]
 pub struct IndexedHistory {
     history: History,
     index: Index,
     is_by_file: bool,
+}
+
+// Written by hand, it is proved here alone; derived, each crate above would prove how each part is let
+// go.
+impl Drop for IndexedHistory {
+    fn drop(self) {
+        let IndexedHistory {
+            history,
+            index,
+            is_by_file: _,
+        } = self;
+        drop(history);
+        drop(index);
+    }
 }
 
 impl Model for IndexedHistory {

@@ -44,7 +44,6 @@ pub enum Word {
 }
 
 /// How an operation ended. Lengths are bytes, digests the 20 bytes of SHA-1.
-#[derive(Drop)]
 pub enum Outcome {
     /// An open got the whole content.
     Opened {
@@ -130,7 +129,6 @@ pub struct Traffic {
 
 /// One operation of a client. Its number is its place in the history, from 1; steps are numbered
 /// from 1 too.
-#[derive(Drop)]
 pub struct Op {
     /// The client's number, from 1.
     pub client: u32,
@@ -153,12 +151,76 @@ pub struct Op {
 }
 
 /// A file that was there before the first step.
-#[derive(Drop)]
 pub struct Opening {
     /// The file's id.
     pub file: u64,
     /// Its whole content.
     pub content: Bytes,
+}
+
+// Written by hand, it is proved here alone; derived, each crate above would prove how each part is let
+// go.
+impl Drop for Outcome {
+    fn drop(self) {
+        match self {
+            Outcome::Opened { len: _, sha1 }
+            | Outcome::Piece { len: _, sha1 }
+            | Outcome::Closed {
+                version: _,
+                len: _,
+                sha1,
+            } => drop(sha1),
+            Outcome::Names(names) => drop(names),
+            Outcome::Seen {
+                file: _,
+                kind: _,
+                version: _,
+                len: _,
+            }
+            | Outcome::Changed { first: _, last: _ }
+            | Outcome::Refused(_)
+            | Outcome::BadPeer(_)
+            | Outcome::TooBig(_) => {}
+            Outcome::Done
+            | Outcome::Busy
+            | Outcome::NotOpen
+            | Outcome::AlreadyOpen
+            | Outcome::Lost
+            | Outcome::PeerMemory
+            | Outcome::Memory
+            | Outcome::NoLink
+            | Outcome::Running => {}
+        }
+    }
+}
+
+// Written by hand, it is proved here alone; derived, each crate above would prove how each part is let
+// go.
+impl Drop for Op {
+    fn drop(self) {
+        let Op {
+            client: _,
+            word: _,
+            file: _,
+            begin: _,
+            end: _,
+            point: _,
+            outcome,
+            value,
+            traffic: _,
+        } = self;
+        drop(outcome);
+        drop(value);
+    }
+}
+
+// Written by hand, it is proved here alone; derived, each crate above would prove how each part is let
+// go.
+impl Drop for Opening {
+    fn drop(self) {
+        let Opening { file: _, content } = self;
+        drop(content);
+    }
 }
 
 impl Word {

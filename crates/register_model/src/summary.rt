@@ -1,11 +1,10 @@
 //! The counts of a history: `counts_of` of `specs/Summary.antt`.
 
-ghost use Rattle.std.specs.Prelude.{◌≡◌, ◌+◌, ◌*◌, ◌<◌, ◌^◌, length, sum_by, count_by};
-ghost use Rattle.register_model.specs.Register.{is_opened, is_closed};
-ghost use Rattle.register_model.specs.Summary.{is_other, is_refused, is_running, ended, endings_of, totals_of, counts_of};
+ghost use Rattle.std.specs.Prelude.{◌≡◌, ◌+◌, ◌*◌, ◌<◌, ◌^◌, length};
+ghost use Rattle.register_model.specs.Summary.{ended_so, ended, number_of, total, endings_of, totals_of, counts_of};
 
 use crate::history::History;
-use crate::op::Op;
+use crate::op::{Op, Outcome, Traffic};
 
 /// How many operations ended in each way. Each operation counts once.
 #[derive(Clone, Copy)]
@@ -46,39 +45,52 @@ pub struct Counts {
     pub totals: Totals,
 }
 
-/// Opens that got a content.
-fn count_opened(ops: &[Op]) -> usize
-    ensures { result ≡ ended is_opened ops.now }
-{
-    ops.iter().filter(|op| op.outcome.is_opened()).count()
+/// A way in which an operation may have ended.
+#[derive(Clone, Copy)]
+enum Way {
+    /// An open got a content.
+    Opened,
+    /// A close replaced a file.
+    Closed,
+    /// It was done, and was neither.
+    Other,
+    /// It ended, and was not done.
+    Refused,
+    /// It has not ended.
+    Running,
 }
 
-/// Closes that replaced a file.
-fn count_closed(ops: &[Op]) -> usize
-    ensures { result ≡ ended is_closed ops.now }
-{
-    ops.iter().filter(|op| op.outcome.is_closed()).count()
+/// One of the numbers of what an operation sent and received.
+#[derive(Clone, Copy)]
+enum Share {
+    /// CONDWRITE calls.
+    Cond,
+    /// TMPWRITE calls.
+    Tmp,
+    /// READ calls.
+    Read,
+    /// Bytes of file data.
+    Data,
 }
 
-/// Others that were done.
-fn count_other(ops: &[Op]) -> usize
-    ensures { result ≡ ended is_other ops.now }
+/// Whether an operation ended in this way.
+fn ended_so(way: Way, outcome: &Outcome) -> bool
+    ensures { result ≡ ended_so way outcome.now }
 {
-    ops.iter().filter(|op| op.outcome.is_other()).count()
+    match way {
+        Way::Opened => outcome.is_opened(),
+        Way::Closed => outcome.is_closed(),
+        Way::Other => outcome.is_other(),
+        Way::Refused => outcome.is_refused(),
+        Way::Running => outcome.is_running(),
+    }
 }
 
-/// Those that ended otherwise.
-fn count_refused(ops: &[Op]) -> usize
-    ensures { result ≡ ended is_refused ops.now }
+/// How many operations ended in this way.
+fn count(ops: &[Op], way: Way) -> usize
+    ensures { result ≡ ended (ended_so way) ops.now }
 {
-    ops.iter().filter(|op| op.outcome.is_refused()).count()
-}
-
-/// Those that have not ended.
-fn count_running(ops: &[Op]) -> usize
-    ensures { result ≡ ended is_running ops.now }
-{
-    ops.iter().filter(|op| op.outcome.is_running()).count()
+    ops.iter().filter(|op| ended_so(way, &op.outcome)).count()
 }
 
 /// How many operations ended in each way.
@@ -86,12 +98,33 @@ fn count_endings(ops: &[Op]) -> Endings
     ensures { result ≡ endings_of ops.now }
 {
     Endings {
-        opened: count_opened(ops),
-        closed: count_closed(ops),
-        other: count_other(ops),
-        refused: count_refused(ops),
-        running: count_running(ops),
+        opened: count(ops, Way::Opened),
+        closed: count(ops, Way::Closed),
+        other: count(ops, Way::Other),
+        refused: count(ops, Way::Refused),
+        running: count(ops, Way::Running),
     }
+}
+
+/// One number of what was sent and received.
+fn number_of(traffic: &Traffic, which: Share) -> u64
+    ensures { result ≡ number_of which traffic.now }
+{
+    match which {
+        Share::Cond => traffic.cond,
+        Share::Tmp => traffic.tmp,
+        Share::Read => traffic.read,
+        Share::Data => traffic.data,
+    }
+}
+
+/// One number of what all operations sent and received.
+fn total(ops: &[Op], which: Share) -> u128
+    ensures { result ≡ total (number_of which) ops.now }
+{
+    ops.iter()
+        .map(|op| number_of(&op.traffic, which) as u128)
+        .sum()
 }
 
 /// What all operations sent and received.
@@ -99,10 +132,10 @@ fn add_totals(ops: &[Op]) -> Totals
     ensures { result ≡ totals_of ops.now }
 {
     Totals {
-        cond: ops.iter().map(|op| op.traffic.cond as u128).sum(),
-        tmp: ops.iter().map(|op| op.traffic.tmp as u128).sum(),
-        read: ops.iter().map(|op| op.traffic.read as u128).sum(),
-        data: ops.iter().map(|op| op.traffic.data as u128).sum(),
+        cond: total(ops, Share::Cond),
+        tmp: total(ops, Share::Tmp),
+        read: total(ops, Share::Read),
+        data: total(ops, Share::Data),
     }
 }
 
