@@ -26,9 +26,16 @@ pub fn key_of(digest: &[u8]) -> Key
 
 /// Places by keys, the most recent pair first. A digest may be of any kind that has eight bytes at
 /// least.
-#[derive(Drop)]
 pub struct Index {
     pairs: LruCache<Key, Place>,
+}
+
+/// By hand, so that the crates above prove nothing of how the parts go.
+impl Drop for Index {
+    fn drop(self) {
+        let Index { pairs } = self;
+        drop(pairs);
+    }
 }
 
 impl Model for Index {

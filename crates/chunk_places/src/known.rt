@@ -7,16 +7,13 @@ ghost use Rattle.chunk_index.specs.Placed.{bytes_placed};
 ghost use Rattle.chunk_places.specs.Known.{with_digest};
 
 use chunk_index::place::Place;
-use sha1::Sha1;
+use transfer_rules::pieces::{has_digest, range_end};
 
 /// The bytes of a place, where they lie in a content. It takes no memory.
 pub fn bytes_placed<'a>(content: &'a [u8], place: &Place) -> Option<&'a [u8]>
     ensures { option_copied result ≡ bytes_placed content.now place.now }
 {
-    let end = place.offset.checked_add(place.count)?;
-    if end > content.len() as u64 {
-        return None;
-    }
+    let end = range_end(place.offset, place.count, content.len() as u64)?;
     Some(&content[place.offset as usize..end as usize])
 }
 
@@ -26,7 +23,7 @@ pub fn with_digest<'a>(found: Option<&'a [u8]>, digest: &[u8; 20]) -> Option<&'a
 {
     match found {
         Some(bytes) => {
-            if Sha1::digest(bytes) == *digest {
+            if has_digest(bytes, digest) {
                 Some(bytes)
             } else {
                 None

@@ -12,6 +12,7 @@ use shared_bytes::SharedBytes;
 use std::alloc::{AllocError, Global};
 use std::marker::Model;
 use std::num::NonZeroUsize;
+use transfer_rules::kept::evict;
 
 /// The most files of which something is kept.
 const FILES_MOST: usize = 256;
@@ -21,9 +22,16 @@ type Keyed = LruCache<u64, Kept>;
 
 /// What a client keeps of at most 256 files, the most recent first. Contracts see a list of entries,
 /// each a file's id and what is kept of it.
-#[derive(Drop)]
 pub struct Cache {
     entries: Keyed,
+}
+
+/// By hand, so that the crates above prove nothing of how the parts go.
+impl Drop for Cache {
+    fn drop(self) {
+        let Cache { entries } = self;
+        drop(entries);
+    }
 }
 
 impl Model for Cache {
@@ -88,7 +96,7 @@ fn drop_content(entries: &mut Keyed, file: u64)
     ensures { entries.new ≡ lru_cache (without_content entries.old.entries file) entries.old.cap }
 {
     if let Some(kept) = entries.peek_mut(&file) {
-        kept.content = None;
+        evict(&mut kept.content);
     }
 }
 

@@ -1,4 +1,3 @@
-pub mod Appended
 pub mod Bounds
 pub mod Edits
 pub mod Keeping

@@ -6,10 +6,8 @@
 //! opens a file, and what closes one, stands in crates above.
 #![tactic(auto)]
 
-pub mod drops;
 pub mod local;
 pub mod parts;
-pub mod sending;
 pub mod state;
 pub mod step;
 pub mod task;

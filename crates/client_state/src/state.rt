@@ -11,12 +11,13 @@ ghost use Rattle.client_state.specs.declared.task.Stage.TheVariants as stage;
 
 use crate::step::{BadPeer, ClientStep, Outcome};
 use crate::task::{Local, ReadCall, Stage, Task};
-use crate::{parts, sending, waiting};
+use crate::{parts, waiting};
 use chunk_index::index::{Index, Key};
 use chunk_index::place::Place;
 use client_cache::cache::Cache;
 use lb_base::items::Items;
 use path_calls::walk::{Goal, Walk};
+use send_list::SendList;
 use shared_bytes::SharedBytes;
 use std::alloc::{AllocError, Global};
 use std::collections::BTreeMap;
@@ -35,7 +36,6 @@ const XIDS: u128 = 4_294_967_296;
 const OPEN_CALLS_MOST: u128 = 262_162;
 
 /// A client's fields.
-#[derive(Drop)]
 pub struct ClientState {
     /// Whether a connection is joined.
     pub linked: bool,
@@ -56,6 +56,28 @@ pub struct ClientState {
     pub cache: Cache,
     /// Where the bytes of chunks may be found among what is kept.
     pub index: Index,
+}
+
+/// By hand, so that the crates above prove nothing of how the parts go.
+impl Drop for ClientState {
+    fn drop(self) {
+        let ClientState {
+            linked: _,
+            next: _,
+            next_temp: _,
+            opened,
+            task,
+            waiting,
+            own: _,
+            cache,
+            index,
+        } = self;
+        drop(opened);
+        drop(task);
+        drop(waiting);
+        drop(cache);
+        drop(index);
+    }
 }
 
 /// The calls of a stage, and behind them those of ended operations and attempts.
@@ -461,7 +483,7 @@ impl ClientState {
     {
         let calls = mem::replace(&mut self.waiting.calls, Items::new(alloc));
         self.waiting.calls = waiting::without_call(calls, xid);
-        parts::sends(sending::none(alloc), counts::late_counts())
+        parts::sends(SendList::none(alloc), counts::late_counts())
     }
 
     /// An answer to nothing that waits for one, whether or not an operation is under way.

@@ -1,6 +1,8 @@
 //! What a client does in one step: what it sends, how the operation under way ended, and what is
 //! counted. `specs/Counting.antt` has the plain ones.
 
+ghost use Rattle.std.specs.Prelude.{◌≡◌};
+
 use lb_base::items::{Items, Name};
 use send_list::SendList;
 use transfer_rules::counts::Counts;
@@ -86,7 +88,6 @@ pub enum Outcome {
 }
 
 /// How a command ended, and on which call of its operation that rests.
-#[derive(Drop)]
 pub struct Ended {
     pub outcome: Outcome,
     /// The call's xid: the first GETHASH of the last attempt for Opened, the call that was answered for
@@ -95,8 +96,18 @@ pub struct Ended {
     pub rests_on: u32,
 }
 
+/// By hand, so that the crates above prove nothing of how the parts go.
+impl Drop for Ended {
+    fn drop(self) {
+        let Ended {
+            outcome,
+            rests_on: _,
+        } = self;
+        drop(outcome);
+    }
+}
+
 /// What a client does in one step.
-#[derive(Drop)]
 pub struct ClientStep {
     /// The messages that it sends, in order.
     pub send: SendList<Message>,
@@ -107,4 +118,30 @@ pub struct ClientStep {
     pub found: Option<u64>,
     /// Whether memory ran out: then the operation under way ended with Memory.
     pub missed: bool,
+}
+
+/// By hand, so that the crates above prove nothing of how the parts go.
+impl Drop for ClientStep {
+    fn drop(self) {
+        let (send, ended) = self.into_parts();
+        drop(send);
+        drop(ended);
+    }
+}
+
+impl ClientStep {
+    /// What is sent, and how the operation under way ended. It takes no memory.
+    pub fn into_parts(self) -> (SendList<Message>, Option<Ended>)
+        ensures send { result.0 ≡ self.send }
+        ensures ended { result.1 ≡ self.ended }
+    {
+        let ClientStep {
+            send,
+            ended,
+            counts: _,
+            found: _,
+            missed: _,
+        } = self;
+        (send, ended)
+    }
 }

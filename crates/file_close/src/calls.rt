@@ -11,7 +11,6 @@ ghost use Rattle.client_state.specs.declared.task.Stage.TheVariants as stage;
 
 use crate::messages;
 use client_state::task::{Store, StoreCall, Way};
-use client_state::{drops, sending};
 use lb_base::items::Items;
 use send_list::SendList;
 use std::alloc::{AllocError, Global};
@@ -39,7 +38,7 @@ fn name_next(names: &mut Names) -> Result<(), AllocError>
     };
     let xid = names.next;
     let call = messages::cond_call(xid, names.store.temp, &chunk);
-    sending::push(&mut names.send, call)?;
+    names.send.push(call)?;
     let way = Way::Named;
     names.store.under.push(StoreCall { xid, index, way })?;
     names.store.named = index + 1;
@@ -58,7 +57,7 @@ pub fn name_all(alloc: Global, store: Store, next: u32) -> Result<Names, AllocEr
     let mut names = Names {
         store,
         next,
-        send: sending::none(alloc),
+        send: SendList::none(alloc),
     };
     for _i in 0..room {
         match name_next(&mut names) {
@@ -70,7 +69,7 @@ pub fn name_all(alloc: Global, store: Store, next: u32) -> Result<Names, AllocEr
                     send,
                 } = names;
                 drop(store);
-                drops::messages(send);
+                drop(send);
                 return Err(error);
             }
         }
@@ -90,7 +89,7 @@ pub fn send_commit(
     ensures { OnOk result (send.new ≡ send.old ++ commit_call xid temp file size ∷ []) }
 {
     let call = messages::commit_call(alloc, xid, temp, file, size)?;
-    sending::push(send, call)?;
+    send.push(call)?;
     Ok(())
 }
 

@@ -2,8 +2,7 @@
 //! is then committed. `specs/Closing.antt` and `specs/Storing.antt` say how.
 
 ghost use Rattle.std.specs.Prelude.{◌≡◌, ◌+◌, ◌<◌, ◌≤◌, length, None, Some, slice_get, IfOk, OnOk, OnErr, false, true};
-ghost use Rattle.client_cache.specs.Cache.{reserved};
-ghost use Rattle.client_state.specs.View.{state_of, whole_of, IsHeld, IsSound, IsThere, HasXids, IsWithin, calls_after, store_left, IsStore, StageIsThere};
+ghost use Rattle.client_state.specs.View.{state_of, whole_of, IsHeld, IsSound, IsThere, HasXids, calls_after, store_left, IsStore};
 ghost use Rattle.file_close.specs.Closing.{store_of};
 ghost use Rattle.client_state.specs.State.{local_at, local_bytes};
 ghost use Rattle.client_state.specs.Ending.{on_local, may_ask, MayMissOn};
@@ -14,11 +13,12 @@ ghost use Rattle.client_state.specs.declared.task.Way.TheVariants as way;
 use crate::calls::Names;
 use crate::{calls, messages, stores};
 use chunk_cut::chunk::Chunk;
+use client_state::parts;
 use client_state::state::ClientState;
 use client_state::step::{ClientStep, Outcome};
 use client_state::task::{Stage, Store, StoreCall, Way};
-use client_state::{drops, parts, sending};
 use hash_calls::message::Lb;
+use send_list::SendList;
 use std::alloc::{AllocError, Global};
 use transfer_rules::answers;
 use transfer_rules::chunks::chunk_at;
@@ -67,60 +67,6 @@ fn ask_temp(alloc: Global, state: &mut ClientState, file: u64) -> Result<ClientS
     Ok(parts::sends_one(alloc, call, 0))
 }
 
-/// Messages go out, and the operation under way has come this far. An `Err` changes nothing.
-fn send_and_wait(
-    alloc: Global,
-    state: &mut ClientState,
-    file: u64,
-    stage: Stage,
-    next: u32,
-    step: ClientStep,
-) -> Result<ClientStep, AllocError>
-    requires held { IsHeld state.old }
-    requires rises { state.old.next ≤ next }
-    requires xids { HasXids next stage }
-    requires within { IsWithin stage }
-    requires there { StageIsThere state.old.cache file stage }
-    ensures ok { IfOk result (λ a. (a ≡ step) × (state_of state.new ≡ record (state_of state.old) { next = next; task = Some (record { file = file; stage = stage }) })) }
-    ensures err { OnErr result (whole_of state.new ≡ whole_of state.old) }
-    ensures sound { OnOk result (IsSound state.new) }
-    ensures held { OnErr result (IsHeld state.new) }
-{
-    match state.wait(alloc, file, stage, next) {
-        Ok(()) => Ok(step),
-        Err(error) => {
-            drops::step(step);
-            Err(error)
-        }
-    }
-}
-
-/// COMMITTMP goes out with this xid, and the file has an entry in the cache for the content that it
-/// gets. An `Err` changes nothing.
-fn wait_commit(
-    alloc: Global,
-    state: &mut ClientState,
-    file: u64,
-    xid: u32,
-    step: ClientStep,
-) -> Result<ClientStep, AllocError>
-    requires held { IsHeld state.old }
-    requires rises { state.old.next ≤ xid }
-    requires xid { xid + 1 < 4294967296 }
-    ensures ok { IfOk result (λ a. (a ≡ step) × (state_of state.new ≡ record (state_of state.old) { next = xid + 1; task = Some (record { file = file; stage = stage.Committing xid }); cache = reserved state.old.cache file })) }
-    ensures err { OnErr result (whole_of state.new ≡ whole_of state.old) }
-    ensures sound { OnOk result (IsSound state.new) }
-    ensures held { OnErr result (IsHeld state.new) }
-{
-    match state.wait_there(alloc, file, Stage::Committing(xid), xid + 1) {
-        Ok(()) => Ok(step),
-        Err(error) => {
-            drops::step(step);
-            Err(error)
-        }
-    }
-}
-
 /// All chunks are stored: COMMITTMP goes out behind what goes out already, which are so many
 /// CONDWRITEs. An `Err` changes nothing.
 fn commit(
@@ -148,16 +94,9 @@ fn commit(
     let temp = store.temp;
     drop(store);
     let size = parts::local_bytes(&state.opened, file).len() as u64;
-    match calls::send_commit(alloc, next, temp, file, size, &mut send) {
-        Ok(()) => {
-            let step = parts::sends(send, stores::names_counted(count));
-            wait_commit(alloc, state, file, next, step)
-        }
-        Err(error) => {
-            drops::messages(send);
-            Err(error)
-        }
-    }
+    calls::send_commit(alloc, next, temp, file, size, &mut send)?;
+    state.wait_there(alloc, file, Stage::Committing(next), next + 1)?;
+    Ok(parts::sends(send, stores::names_counted(count)))
 }
 
 /// CONDWRITEs go out, so many, and their answers are waited for. An `Err` changes nothing.
@@ -180,8 +119,8 @@ fn wait_names(
     ensures held { OnErr result (IsHeld state.new) }
 {
     let Names { store, next, send } = names;
-    let step = parts::sends(send, stores::names_counted(count));
-    send_and_wait(alloc, state, file, Stage::Storing(store), next, step)
+    state.wait(alloc, file, Stage::Storing(store), next)?;
+    Ok(parts::sends(send, stores::names_counted(count)))
 }
 
 /// All CONDWRITEs that may be under way go out, or COMMITTMP where all chunks are stored. An `Err`
@@ -256,13 +195,8 @@ fn send_whole(
     let bytes = stores::bytes_count(content, chunk);
     let store = stores::with_whole(store, call, xid)?;
     let whole = messages::temp_call(alloc, xid, temp, content, chunk)?;
-    match state.wait(alloc, file, Stage::Storing(store), xid + 1) {
-        Ok(()) => Ok(parts::sends(sending::one(alloc, whole), stores::whole_counted(bytes))),
-        Err(error) => {
-            drops::message(whole);
-            Err(error)
-        }
-    }
+    state.wait(alloc, file, Stage::Storing(store), xid + 1)?;
+    Ok(parts::sends(SendList::one(alloc, whole), stores::whole_counted(bytes)))
 }
 
 /// The server doesn't know a chunk that was named. An `Err` changes nothing.

@@ -12,9 +12,9 @@ use crate::{caching, fetch, messages};
 use chunk_cut::chunk::Chunk;
 use chunk_index::index::Index;
 use client_cache::cache::Cache;
+use client_state::parts;
 use client_state::step::ClientStep;
 use client_state::task::{Fetch, ReadCall};
-use client_state::{drops, parts, sending};
 use lb_base::items::{Bytes, Items};
 use send_list::SendList;
 use std::alloc::{AllocError, Global};
@@ -46,7 +46,7 @@ fn ask_chunk(
 {
     let xid = reads.next;
     let call = messages::read_call(alloc, xid, file, chunk)?;
-    sending::push(&mut reads.send, call)?;
+    reads.send.push(call)?;
     reads.fetch.under.push(ReadCall { xid, index })?;
     reads.fetch.asked = index + 1;
     reads.next = xid + 1;
@@ -108,7 +108,7 @@ pub fn let_go(reads: Reads) {
         send,
     } = reads;
     drop(fetch);
-    drops::messages(send);
+    drop(send);
 }
 
 /// The chunks that are left are taken from what is kept, or asked for, while calls may be under way.
@@ -129,7 +129,7 @@ pub fn read_all(
     let mut reads = Reads {
         fetch,
         next,
-        send: sending::none(alloc),
+        send: SendList::none(alloc),
     };
     for _i in 0..left {
         let under = reads.fetch.under.len();

@@ -40,7 +40,7 @@ pub fn ask_version(
 {
     let xid = state.next;
     let handle = Handle::of_file(alloc, file)?;
-    opening::begin(alloc, state, file, Stage::Asking(xid))?;
+    state.wait_there(alloc, file, Stage::Asking(xid), xid + 1)?;
     let call = messages::lease_call(xid, handle);
     Ok(parts::sends_one(alloc, call, 0))
 }

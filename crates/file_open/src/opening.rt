@@ -2,7 +2,7 @@
 //! `specs/Opening.antt` and `specs/Fetching.antt` say how.
 
 ghost use Rattle.std.specs.Prelude.{◌≡◌, ◌+◌, ◌-◌, ◌<◌, ◌≤◌, ◌==◌, length, take, drop, None, Some, slice_get, is_some, IfOk, OnOk, OnErr, false, true};
-ghost use Rattle.client_cache.specs.Cache.{reserved, content_of};
+ghost use Rattle.client_cache.specs.Cache.{content_of};
 ghost use Rattle.file_open.specs.Caching.{found_all};
 ghost use Rattle.file_open.specs.Opening.{read_at, fault_in, with_bytes, other_version, with_hashes, listed};
 ghost use Rattle.transfer_rules.specs.Limits.{tries_most};
@@ -10,16 +10,16 @@ ghost use Rattle.file_open.specs.Looking.{with_file, listed_if, listed_by, taken
 ghost use Rattle.file_open.specs.Shape.{broken_of};
 ghost use Rattle.file_open.specs.Fetching.{opens, asks_file, MayMissOpen, Comes, tries_anew, opened_with, changes, reads_if, reads_on, lists_on, told_shape, told_version, misfits, told_bytes, told_chunk, told_piece};
 ghost use Rattle.client_state.specs.Ending.{forgets};
-ghost use Rattle.client_state.specs.View.{state_of, whole_of, later_left, IsListing, IsReading, IsFetch, IsHeld, IsSound, IsThere, HasXids, IsWithin};
+ghost use Rattle.client_state.specs.View.{state_of, whole_of, later_left, IsListing, IsReading, IsFetch, IsHeld, IsSound, IsThere, HasXids};
 ghost use Rattle.client_state.specs.declared.task.Stage.TheVariants as stage;
 
 use crate::calls::Reads;
 use crate::{caching, calls, faults, fetch, kept, messages, shape};
 use chunk_cut::chunk::Chunk;
+use client_state::parts;
 use client_state::state::ClientState;
 use client_state::step::{BadPeer, ClientStep, Outcome};
 use client_state::task::{Fetch, ReadCall, Stage};
-use client_state::{drops, parts};
 use hash_calls::call::Hashes;
 use lb_base::items::Bytes;
 use nfs3_calls::call::Piece;
@@ -82,28 +82,9 @@ fn ask_hashes(alloc: Global, state: &mut ClientState, file: u64) -> Result<Clien
 {
     let xid = state.next;
     let handle = Handle::of_file(alloc, file)?;
-    begin(alloc, state, file, Stage::Hashing { tries: 1, xid })?;
+    state.wait_there(alloc, file, Stage::Hashing { tries: 1, xid }, xid + 1)?;
     let call = messages::hash_call(xid, handle, 0);
     Ok(parts::sends_one(alloc, call, 0))
-}
-
-/// An open begins with the call of the next xid: the file has an entry in the cache, at its
-/// front. An `Err` changes nothing.
-pub fn begin(
-    alloc: Global,
-    state: &mut ClientState,
-    file: u64,
-    stage: Stage,
-) -> Result<(), AllocError>
-    requires held { IsHeld state.old }
-    requires xids { HasXids (state.old.next + 1) stage }
-    requires within { IsWithin stage }
-    ensures ok { OnOk result (state_of state.new ≡ record (state_of state.old) { next = state.old.next + 1; task = Some (record { file = file; stage = stage }); cache = reserved state.old.cache file }) }
-    ensures err { OnErr result (whole_of state.new ≡ whole_of state.old) }
-    ensures sound { OnOk result (IsSound state.new) }
-    ensures held { OnErr result (IsHeld state.new) }
-{
-    state.wait_there(alloc, file, stage, state.next + 1)
 }
 
 /// The file is whole and open, its content is kept, and its chunks' places enter the index, but
@@ -129,10 +110,11 @@ fn opened_with(
 {
     let content = fetch::slots_bytes(alloc, fetch.slots.as_slice(), fetch.size)?;
     let version = fetch.version;
-    let step = kept::keep_open(alloc, state, file, version, content, fetch.first, bytes)?;
+    let mut step = kept::keep_open(alloc, state, file, version, content, fetch.first, bytes)?;
     let missed = caching::enter_fetched(&mut state.index, file, fetch, from);
     state.forget(alloc, xid);
-    Ok(ClientStep { missed, ..step })
+    step.missed = missed;
+    Ok(step)
 }
 
 /// The next attempt begins. An `Err` changes nothing.
@@ -218,18 +200,10 @@ fn wait_reads(
     ensures held { OnErr result (IsHeld state.new) }
 {
     let Reads { fetch, next, send } = reads;
-    match state.list_reads(alloc, fetch.under.as_slice()) {
-        Ok((calls, own)) => {
-            caching::find_asked(&mut state.index, &fetch, from);
-            state.set_waiting(calls, own, file, Stage::Reading(fetch), next);
-            Ok(calls::sends_reads(send, count, bytes))
-        }
-        Err(error) => {
-            drop(fetch);
-            drops::messages(send);
-            Err(error)
-        }
-    }
+    let (calls, own) = state.list_reads(alloc, fetch.under.as_slice())?;
+    caching::find_asked(&mut state.index, &fetch, from);
+    state.set_waiting(calls, own, file, Stage::Reading(fetch), next);
+    Ok(calls::sends_reads(send, count, bytes))
 }
 
 /// The chunks that are left are taken from what is kept, or READs go out for them, or all are here.

@@ -11,11 +11,12 @@ use crate::taking;
 use chunk_index::index::Key;
 use chunk_index::place::Place;
 use client_cache::cache::Cache;
+use client_state::parts;
 use client_state::state::ClientState;
 use client_state::step::{ClientStep, Ended, Outcome};
-use client_state::{parts, sending};
 use command_text::command::Command;
 use lb_base::items::Items;
+use send_list::SendList;
 use shared_bytes::SharedBytes;
 use std::alloc::{AllocError, Global};
 use std::collections::BTreeMap;
@@ -25,9 +26,16 @@ use wire::fault::WireFault;
 use wire::message::{Message, Side, Waiting};
 
 /// A client of one connection, with its open files and at most one operation under way.
-#[derive(Drop)]
 pub struct Client {
     state: ClientState,
+}
+
+/// By hand, so that the crates above prove nothing of how the parts go.
+impl Drop for Client {
+    fn drop(self) {
+        let Client { state } = self;
+        drop(state);
+    }
 }
 
 impl Model for Client {
@@ -47,7 +55,7 @@ fn missed(alloc: Global) -> ClientStep
     ensures { result ≡ misses (Some by_memory) }
 {
     ClientStep {
-        send: sending::none(alloc),
+        send: SendList::none(alloc),
         ended: Some(Ended {
             outcome: Outcome::Memory,
             rests_on: 0,
@@ -183,11 +191,5 @@ impl Client {
         ensures { option_copied result ≡ option_map (λ l. l.bytes) (local_at self.now.opened file) }
     {
         parts::find_local(&self.state.opened, file).map(|l| l.bytes.as_slice())
-    }
-
-    /// The client is let go: here, so that no crate above proves how each of its parts is. Nothing is told of
-    /// what is gone.
-    pub fn let_go(self) {
-        drop(self);
     }
 }

@@ -12,7 +12,7 @@ use crate::{answers, commands, walking};
 use client_state::state::ClientState;
 use client_state::step::{BadPeer, ClientStep};
 use client_state::task::{Stage, Task};
-use client_state::{drops, parts, waiting};
+use client_state::{parts, waiting};
 use command_text::command::Command;
 use file_close::closing;
 use file_open::opening;
@@ -124,7 +124,7 @@ fn take_own(
     ensures sound { IsSound state.new }
 {
     let done = took(alloc, state, task, xid, &mut body);
-    drops::body(body);
+    drop(body);
     match done {
         Ok(step) => Ok(step),
         Err(error) => {
@@ -149,13 +149,13 @@ fn answered(
     ensures sound { IsSound state.new }
 {
     if !waiting::has_call(state.own_calls(), xid) {
-        drops::body(body);
+        drop(body);
         return Ok(state.take_other(alloc, xid));
     }
     match state.task.take() {
         Some(task) => take_own(alloc, state, task, xid, body),
         None => {
-            drops::body(body);
+            drop(body);
             Ok(state.take_other(alloc, xid))
         }
     }
@@ -173,7 +173,7 @@ fn was_refused(alloc: Global, state: &mut ClientState, xid: u32, refusal: RpcRef
     }
     match state.task.take() {
         Some(task) => {
-            drops::task(task);
+            drop(task);
             state.denied(alloc, xid, refusal)
         }
         None => state.take_other(alloc, xid),
@@ -215,7 +215,7 @@ fn got_message(
             Ok(parts::sends_one(alloc, refuse, 0))
         }
         Message::Call(_, body) => {
-            drops::body(body);
+            drop(body);
             Ok(parts::nothing_done(alloc))
         }
     }

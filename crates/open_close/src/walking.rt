@@ -9,10 +9,10 @@ ghost use Rattle.open_close.specs.Step.{took};
 ghost use Rattle.open_close.specs.Walking.{asks_next, walks, finds_if, outcome_of, is_look, seen_in, walked, is_its, told_walk, HasXidsFor, MayMissWalk};
 ghost use Rattle.path_calls.specs.declared.answers.Told.TheVariants as told;
 
+use client_state::parts;
 use client_state::state::ClientState;
 use client_state::step::{BadPeer, ClientStep, Outcome};
 use client_state::task::Stage;
-use client_state::{drops, parts};
 use command_text::path::PathCommand;
 use file_open::opening;
 use nfs3_calls::message::Nfs;
@@ -32,20 +32,9 @@ fn ask_next(alloc: Global, state: &mut ClientState, walk: Walk) -> Result<Client
     ensures held { OnErr result (IsHeld state.new) }
 {
     let xid = state.next;
-    let call = match walk.next_call(alloc) {
-        Ok(call) => Message::Call(xid, Body::Nfs(call)),
-        Err(error) => {
-            drop(walk);
-            return Err(error);
-        }
-    };
-    match state.wait(alloc, 0, Stage::Walking { xid, walk }, xid + 1) {
-        Ok(()) => Ok(parts::sends_one(alloc, call, 0)),
-        Err(error) => {
-            drops::message(call);
-            Err(error)
-        }
-    }
+    let call = walk.next_call(alloc)?;
+    state.wait(alloc, 0, Stage::Walking { xid, walk }, xid + 1)?;
+    Ok(parts::sends_one(alloc, Message::Call(xid, Body::Nfs(call)), 0))
 }
 
 /// A command on names. An `Err` changes nothing, and comes only where a call is sent.

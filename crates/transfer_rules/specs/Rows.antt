@@ -4,7 +4,7 @@ use Rattle.xdr_codec.specs.declared.answer.Answer.TheVariants.{Done, Failed}
 use Rattle.xdr_codec.specs.declared.status.Status.TheVariants as status
 use Rattle.transfer_rules.specs.Limits.{tries_most}
 use Rattle.transfer_rules.specs.Chunks.{all_came}
-use Rattle.transfer_rules.specs.Pieces.{broken_sum}
+use Rattle.transfer_rules.specs.Pieces.{broken_sum, range_end}
 use Rattle.transfer_rules.specs.Answers.{wants_bytes}
 
 -- a fourth attempt follows a third, and no fifth the fourth
@@ -46,3 +46,10 @@ not_known = refl
 
 refused_otherwise : wants_bytes (Failed status.NoSpc tt) ≡ false
 refused_otherwise = refl
+
+-- bytes 3 to 7 lie in seven bytes, and not in six
+to_the_last : range_end 3 4 7 ≡ Some 7
+to_the_last = refl
+
+one_past : range_end 3 4 6 ≡ None
+one_past = refl

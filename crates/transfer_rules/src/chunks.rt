@@ -24,7 +24,7 @@ pub fn next_chunk(chunks: &[Chunk], asked: usize) -> Option<Chunk>
 pub fn all_came<T>(under: &[T], asked: usize, count: usize) -> bool
     ensures { result ≡ all_came under.now asked count }
 {
-    under.is_empty() && asked == count
+    asked == count && under.is_empty()
 }
 
 /// The bytes of the chunk at this place have come: its slot has them. It takes no memory.

@@ -1,13 +1,16 @@
 //! The rules by which a client fetches and stores a file's chunks, each over the few values that it looks
 //! at: how many calls and attempts there may be, which chunk comes next, whether what came fits, whose
-//! answer it is, and what is counted of it.
+//! answer it is, what is counted of it, and what an evicted content leaves. Whether what an index found
+//! fits is asked by both ends.
 //!
 //! They know no message and no state, so that a wrong rule is refused here, in a check of seconds.
-//! `client_state`, `file_open` and `file_close` go by them.
+//! `client_cache`, `client_state`, `file_open` and `file_close` go by them, and `chunk_places` for both
+//! ends.
 #![tactic(auto)]
 
 pub mod answers;
 pub mod bounds;
 pub mod chunks;
 pub mod counts;
+pub mod kept;
 pub mod pieces;

@@ -1,10 +1,11 @@
-//! Whether what came fits: its version, the end of its chunks, and the digest of its bytes.
-//! `specs/Pieces.antt` says what is wrong with an end.
+//! Whether what came, or was found by an index, fits: its version, the end of its chunks, the range
+//! that it lies in, and the digest of its bytes. `specs/Pieces.antt` says what is wrong with an end, and
+//! where a range ends.
 
 ghost use Rattle.std.specs.Prelude.{◌≡◌, ◌==◌};
 ghost use Rattle.std.specs.Str.{bytes_eq};
 ghost use Rattle.sha1.specs.Sha1.{sha1};
-ghost use Rattle.transfer_rules.specs.Pieces.{broken_sum};
+ghost use Rattle.transfer_rules.specs.Pieces.{broken_sum, range_end};
 
 use sha1::Sha1;
 
@@ -15,7 +16,15 @@ pub fn is_of_version(version: u64, told: u64) -> bool
     told == version
 }
 
-/// Whether bytes have this digest.
+/// Where a range of so many bytes ends, if it lies in so many.
+pub fn range_end(offset: u64, count: u64, len: u64) -> Option<u64>
+    ensures { result ≡ range_end offset count len }
+{
+    let end = offset.checked_add(count)?;
+    if end > len { None } else { Some(end) }
+}
+
+/// Whether bytes have this digest, in all twenty bytes: they are hashed each time.
 pub fn has_digest(bytes: &[u8], digest: &[u8; 20]) -> bool
     ensures { result ≡ bytes_eq (sha1 bytes.now) digest.now }
 {

@@ -20,4 +20,4 @@ returns-clause-ok c =
     let begun : State = record s { next = s.next + 1; task = Some (record { file = file; stage = stage.Asking s.next }); cache = reserved s.cache file } in
     let asked : List ℕ → Message = λ h. message.Call s.next (body.Lb (lb.GetLease h)) in
     asks_version (record s { cache = reserved s.cache file }) file (content_of s.cache file) c.requires.kept
-    ∙ sent_one begun (state_of c.begin.new.state) c.sends_one.result (lease_call s.next file) c.lease_call-call.result 0 c.in_ok-begin.ensures.ok c.sends_one.ensures (c.lease_call-call.ensures ∙ ap asked c.in_ok-handle.ensures)
+    ∙ sent_one begun (state_of c.wait_there.new.self) c.sends_one.result (lease_call s.next file) c.lease_call-call.result 0 c.in_ok-wait_there.ensures.ok c.sends_one.ensures (c.lease_call-call.ensures ∙ ap asked c.in_ok-handle.ensures)

@@ -20,4 +20,4 @@ returns-clause-ok c =
     let begun : State = record s { next = s.next + 1; task = Some (record { file = file; stage = stage.Hashing 1 s.next }); cache = reserved s.cache file } in
     let asked : List ℕ → Message = λ h. message.Call s.next (body.Lb (lb.GetHash (record { handle = h; offset = 0; count = 4294967295 }))) in
     asks_hashes (record s { cache = reserved s.cache file }) file (content_of s.cache file) c.requires.kept
-    ∙ sent_one begun (state_of c.begin.new.state) c.sends_one.result (hash_call s.next file 0) c.hash_call-call.result 0 c.in_ok-begin.ensures.ok c.sends_one.ensures (c.hash_call-call.ensures ∙ ap asked c.in_ok-handle.ensures)
+    ∙ sent_one begun (state_of c.wait_there.new.self) c.sends_one.result (hash_call s.next file 0) c.hash_call-call.result 0 c.in_ok-wait_there.ensures.ok c.sends_one.ensures (c.hash_call-call.ensures ∙ ap asked c.in_ok-handle.ensures)

@@ -12,8 +12,8 @@ use Rattle.file_open.proofs.opening.wait_reads.Goals as goal
 pub set_waiting-requires-clause-held : goal.set_waiting-requires-clause-held
 set_waiting-requires-clause-held c = held_index c.args.state.now c.find_asked.new.index c.requires.held
 
-pub returns-in-Ok-clause-ok : goal.returns-in-Ok-clause-ok
-returns-in-Ok-clause-ok c =
+pub returns-clause-ok : goal.returns-clause-ok
+returns-clause-ok c =
     let s = c.args.state.now in
     let r = c.args.reads in
     let looked = take (r.fetch.asked - c.args.from) (drop c.args.from r.fetch.chunks) in
