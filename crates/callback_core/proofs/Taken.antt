@@ -11,7 +11,7 @@ use Rattle.std.proofs.lemmas.List.Sums.{sum_by-append, sum_by-remove}
 use Rattle.lease_table.proofs.Lists.{filter_all, pairs_head, pairs_tail, some_is}
 use Rattle.lease_rules.specs.declared.change.Change.{Change}
 use Rattle.callback_core.specs.Waits.{change_of, has_wait, without, without_made, entries_of, bytes_of, AreOthers, AreBounded}
-use Rattle.callback_core.specs.Places.{place_in, without_place}
+use Rattle.hang_rules.specs.Places.{place_in, without_place}
 
 module _ {X : Type 0} where
   there : (xs : List X) (i : ℕ) → i < length xs → (x : X) × (slice_get xs i ≡ Some x)
@@ -31,6 +31,11 @@ module _ {P : Type 0} where
     entries = omega (arith, b.entries, sum_removed (λ (c : Change P). c.entries) waits i h);
     bytes = omega (arith, b.bytes, sum_removed (λ (c : Change P). c.bytes) waits i h);
   }
+
+  -- the same where the leases' places were lent too
+  pub bounded_hung : (waits left : List (Change P)) (room kept : ℕ) (at : Option ℕ) → left ≡ without_place waits at → kept ≡ room → IfSome at (λ i. i < length waits) → AreBounded waits room → AreBounded left kept
+  bounded_hung waits left room kept at is same within b =
+      subst (λ (r : ℕ). AreBounded left r) (sym same) (subst (λ (cs : List (Change P)). AreBounded cs room) (sym is) (bounded_taken waits room at within b))
 
   -- the one at a place is the only one of its session
   only_one : (waits : List (Change P)) → AllPairs AreOthers waits → (i : ℕ) (c : Change P) → slice_get waits i ≡ Some c → filter (λ d. not (d.session == c.session)) waits ≡ remove waits i

@@ -6,6 +6,7 @@ use Rattle.std.specs.List.{list_any}
 use Rattle.lease_rules.specs.declared.lease.Lease.{Lease}
 use Rattle.lease_table.specs.Leases.{is_blocked, others}
 pub use Rattle.lease_rules.specs.Changes.{asker_of, asker, is_about, meets, waits_behind}
+pub use Rattle.hang_rules.specs.Places.{places_of}
 use Rattle.lease_rules.specs.declared.change.Change.{Change}
 use Rattle.lease_rules.specs.declared.change.Recall.{Recall}
 use Rattle.lease_rules.specs.declared.change.AskErr.{AskErr}
@@ -60,11 +61,6 @@ module _ {P : Type 0} where
   abbrev pub without_made : List (Change P) → Option (Change P) → List (Change P)
   without_made waits None = waits
   without_made waits (Some c) = without waits c.session
-
-  -- how many places it leaves, where it is there
-  abbrev pub places_of : Option (Change P) → ℕ
-  places_of None = 0
-  places_of (Some c) = 1
 
   -- how many entries of the journal, and bytes of the tree, they will make
   abbrev pub entries_of : List (Change P) → ℕ

@@ -1,9 +1,8 @@
-//! How a change comes to wait, and how it leaves (`specs/Waits.antt`).
+//! How a change comes to wait (`specs/Waits.antt`).
 
-ghost use Rattle.std.specs.Prelude.{◌≡◌, ◌+◌, ◌<◌, ◌≤◌, ◌^◌, ◌∷◌, ◌++◌, [], OnOk, OnErr, IfOk, IfSome, OnSome, IsSome, ◌⊎◌, map, length, vec_len, vec_capacity, ℕ, false, IsOk};
+ghost use Rattle.std.specs.Prelude.{◌≡◌, ◌+◌, ◌<◌, ◌≤◌, ◌^◌, ◌∷◌, ◌++◌, [], OnOk, OnErr, IfOk, IsSome, ◌⊎◌, map, length, vec_len, vec_capacity, ℕ, false, IsOk};
 ghost use Rattle.lease_table.specs.Leases.{grant, lease_at};
-ghost use Rattle.callback_core.specs.Waits.{recall_of, recalls_due, has_wait, without_made, places_of, entries_of, bytes_of, IsAnswered, AreBounded};
-ghost use Rattle.callback_core.specs.Places.{place_in, without_place};
+ghost use Rattle.callback_core.specs.Waits.{recall_of, recalls_due, has_wait, entries_of, bytes_of, IsAnswered, AreBounded};
 
 use crate::ready::has;
 use lb_base::items::Items;
@@ -171,18 +170,4 @@ pub fn grant<P>(
         leases.reserve(waits.len() + 1)?;
     }
     leases.grant(session, file, now, term)
-}
-
-/// Takes out the change at a place, if there is one.
-pub fn take_out<P>(waits: &mut Vec<Change<P>>, at: Option<usize>) -> Option<Change<P>>
-    requires { IfSome at (λ i. i < length waits.old.items) }
-    ensures change { result ≡ place_in waits.old.items at }
-    ensures rest { waits.new.items ≡ without_place waits.old.items at }
-    ensures len { vec_len waits.new + places_of result ≡ vec_len waits.old }
-    ensures capacity { vec_capacity waits.new ≡ vec_capacity waits.old }
-{
-    match at {
-        Some(at) => Some(waits.remove(at)),
-        None => None,
-    }
 }

@@ -1,11 +1,12 @@
 //! The changes that wait, and the leases that they wait for. `specs/Waits.antt` has the words of the
 //! contracts.
 
-ghost use Rattle.std.specs.Prelude.{◌≡◌, ◌+◌, ◌<◌, ◌≤◌, ◌^◌, ◌∷◌, ◌++◌, [], OnOk, OnErr, IfOk, IsOk, IsSome, is_some, ◌⊎◌, OnSome, option_copied, false};
+ghost use Rattle.std.specs.Prelude.{◌≡◌, ◌+◌, ◌<◌, ◌≤◌, ◌^◌, ◌∷◌, ◌++◌, [], OnOk, OnErr, IfOk, IsOk, IsSome, is_some, ◌⊎◌, option_copied, false};
 ghost use Rattle.lease_table.specs.Leases.{grant, without_lease, marked, without_recalled, without_ended, is_blocked, others, lease_at};
 ghost use Rattle.callback_core.specs.Waits.{recalls_due, ready, change_of, has_wait, waits_on, without, without_made, places_of, entries_of, bytes_of, IsAnswered};
 
 use crate::{asking, ready, sizes};
+use hang_rules::leaving::{hang, take_out};
 use lb_base::items::Items;
 use lease_rules::change::{AskErr, Change, Recall};
 use lease_table::table::Leases;
@@ -117,7 +118,7 @@ impl<P: Drop> Waits<P> {
         ensures spare { self.new.spare ≡ self.old.spare + places_of result }
     {
         let at = ready::place_of_ready(&self.waits, &self.leases, now);
-        asking::take_out(&mut self.waits, at)
+        take_out(&mut self.waits, at)
     }
 
     /// Takes out the change of a session whose connection is lost, if it has one. Its leases stay.
@@ -130,7 +131,7 @@ impl<P: Drop> Waits<P> {
         ensures spare { self.new.spare ≡ self.old.spare + places_of result }
     {
         let at = ready::place_of(&self.waits, session);
-        asking::take_out(&mut self.waits, at)
+        hang(&mut self.leases, &mut self.waits, at)
     }
 
     /// Whether a change of the session waits. It takes no memory.

@@ -1,4 +1,4 @@
--- Where changes stand among those that wait.
+-- Where changes stand among those that wait, and what is left where one leaves.
 use Rattle.std.specs.Prelude.{ℕ, List, Option, Some, None, slice_get, remove}
 use Rattle.lease_rules.specs.declared.change.Change.{Change}
 
@@ -12,3 +12,8 @@ module _ {P : Type 0} where
   abbrev pub without_place : List (Change P) → Option ℕ → List (Change P)
   without_place waits None = waits
   without_place waits (Some at) = remove waits at
+
+  -- how many places it leaves, where it is there
+  abbrev pub places_of : Option (Change P) → ℕ
+  places_of None = 0
+  places_of (Some c) = 1
