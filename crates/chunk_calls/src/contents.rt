@@ -21,10 +21,17 @@ use tree_nodes::content::Content;
 
 /// A content that is needed twice, by the tree and by the store: its bytes have two owners. Contracts
 /// see the content.
-#[derive(Drop)]
 pub struct ContentPair {
     content: Content,
     copy: SharedBytes,
+}
+
+impl Drop for ContentPair {
+    fn drop(self) {
+        let ContentPair { content, copy } = self;
+        drop(content);
+        drop(copy);
+    }
 }
 
 impl Model for ContentPair {

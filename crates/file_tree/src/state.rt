@@ -13,6 +13,7 @@ ghost use Rattle.tree_reading.specs.View.{tree_of};
 ghost use Rattle.file_tree.specs.View.{IsWithinLimits};
 
 use lb_base::items::Name;
+use server_rules::tree::changes_after;
 use std::alloc::{AllocError, Global};
 use tree_nodes::content::Content;
 use tree_nodes::node::{Body, Node};
@@ -52,7 +53,7 @@ impl TreeState {
         ensures room { self.old.nodes.room ≤ self.new.nodes.room + 1 }
     {
         let dir = node.parent;
-        self.changes += 1;
+        self.changes = changes_after(self.changes, 1);
         self.nodes.insert(node);
         self.nodes.set_version(dir, self.changes);
     }
@@ -79,7 +80,7 @@ impl TreeState {
         ensures state { IsState self.new }
         ensures room { self.old.nodes.room ≤ self.new.nodes.room }
     {
-        self.changes += 1;
+        self.changes = changes_after(self.changes, 1);
         self.nodes.set_version(dir, self.changes);
     }
 
@@ -106,7 +107,7 @@ impl TreeState {
         ensures state { IsState self.new }
         ensures room { self.old.nodes.room ≤ self.new.nodes.room }
     {
-        self.changes += more;
+        self.changes = changes_after(self.changes, more);
         self.nodes.rename(dir, name, to, to_name);
         self.nodes.set_version(dir, self.changes);
         self.nodes.set_version(to, self.changes);

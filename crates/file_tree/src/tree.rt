@@ -32,9 +32,15 @@ use xdr_codec::attr::Attr;
 use xdr_codec::status::Status;
 
 /// A tree of files and directories, and the places that are reserved for nodes more.
-#[derive(Drop)]
 pub struct Tree {
     state: TreeState,
+}
+
+impl Drop for Tree {
+    fn drop(self) {
+        let Tree { state } = self;
+        drop(state);
+    }
 }
 
 impl Model for Tree {

@@ -26,7 +26,6 @@ const READ_MOST: usize = FILE_MOST as usize + 8;
 const LIST_ROOM: usize = 128;
 
 /// A store in a folder.
-#[derive(Drop)]
 pub struct FolderStore<R> {
     rt: R,
     /// The folder, once it was loaded.
@@ -35,8 +34,20 @@ pub struct FolderStore<R> {
     faults: u64,
 }
 
-/// A folder that was loaded.
-#[derive(Drop)]
+impl<R: Drop> Drop for FolderStore<R> {
+    fn drop(self) {
+        let FolderStore {
+            rt,
+            folder,
+            spare: _spare,
+            faults: _faults,
+        } = self;
+        drop(rt);
+        drop(folder);
+    }
+}
+
+/// A folder that is loaded.
 struct Folder {
     /// The folder itself, which is locked as long as this is open.
     lock: File,
@@ -45,6 +56,20 @@ struct Folder {
     list: String,
     /// Whether the change that was made last may not have been carried out to its end.
     unfinished: bool,
+}
+
+impl Drop for Folder {
+    fn drop(self) {
+        let Folder {
+            lock,
+            paths,
+            list,
+            unfinished: _unfinished,
+        } = self;
+        drop(lock);
+        drop(paths);
+        drop(list);
+    }
 }
 
 impl<R> FolderStore<R> {
@@ -154,38 +179,65 @@ fn lock_folder<R: Files<File = File>>(rt: &R, folder: &str) -> Result<File, Stor
     }
 }
 
-fn load_folder<R: Files<File = File> + AllocGlobal + Clone + Drop>(
+/// Adds the record that is named to those that were read.
+fn add_record<R: Files>(
+    records: &mut Vec<Kept>,
     rt: &R,
     alloc: Global,
-    place: &str,
-) -> Result<(Folder, Vec<Kept>), StoreErr> {
-    let mut paths = Paths::new(alloc, place)?;
-    let lock = lock_folder(rt, place)?;
-    finish(rt, alloc, &mut paths)?;
+    paths: &mut Paths,
+    which: Which,
+) -> Result<(), StoreErr> {
+    let record = read_record(rt, alloc, paths, which)?;
+    match records.push(record) {
+        Ok(()) => Ok(()),
+        Err(_) => Err(StoreErr::Memory),
+    }
+}
+
+/// The records of a folder, once the change is carried out that was made last.
+fn records_of<R: Files + AllocGlobal + Clone + Drop>(
+    rt: &R,
+    alloc: Global,
+    paths: &mut Paths,
+) -> Result<Vec<Kept>, StoreErr> {
+    finish(rt, alloc, paths)?;
     let there = match records_there(rt, alloc, paths.folder()) {
         Ok(there) => there,
         Err(error) => return Err(is_want(error)),
     };
     let mut records = Vec::new(alloc);
     for which in there.iter() {
-        let record = read_record(rt, alloc, &mut paths, *which)?;
-        match records.push(record) {
-            Ok(()) => {}
-            Err(_) => return Err(StoreErr::Memory),
-        }
+        add_record(&mut records, rt, alloc, paths, *which)?;
     }
-    let mut list = String::new(alloc);
-    list.reserve(LIST_ROOM)?;
-    let folder = Folder {
-        lock,
-        paths,
-        list,
-        unfinished: false,
-    };
-    Ok((folder, records))
+    Ok(records)
+}
+
+fn load_folder<R: Files<File = File> + AllocGlobal + Clone + Drop>(
+    rt: &R,
+    alloc: Global,
+    place: &str,
+) -> Result<(Folder, Vec<Kept>), StoreErr> {
+    let mut folder = Folder::open(rt, alloc, place)?;
+    match records_of(rt, alloc, &mut folder.paths) {
+        Ok(records) => Ok((folder, records)),
+        Err(error) => Err(error),
+    }
 }
 
 impl Folder {
+    /// A folder that is locked, and of which nothing was read.
+    fn open<R: Files<File = File>>(rt: &R, alloc: Global, place: &str) -> Result<Folder, StoreErr> {
+        let list = String::with_capacity(alloc, LIST_ROOM)?;
+        let paths = Paths::new(alloc, place)?;
+        let lock = lock_folder(rt, place)?;
+        Ok(Folder {
+            lock,
+            paths,
+            list,
+            unfinished: false,
+        })
+    }
+
     /// Names a file that the change makes, and opens it beside the one that it replaces.
     fn create<R: Files>(&mut self, rt: &R, which: Which) -> io::Result<R::File> {
         self.list.push_str("+")?;
@@ -288,10 +340,14 @@ impl<R: Files<File = File> + AllocGlobal + Clone + Drop> Store for FolderStore<R
     }
 
     fn apply(&mut self, head: Head, first: Change, second: Option<Change>) -> Result<(), Failed> {
-        if let Some(folder) = &mut self.folder {
-            if folder.apply(&self.rt, head, &first, &second).is_ok() {
-                return Ok(());
-            }
+        let made = match &mut self.folder {
+            Some(folder) => folder.apply(&self.rt, head, &first, &second).is_ok(),
+            None => false,
+        };
+        drop(first);
+        drop(second);
+        if made {
+            return Ok(());
         }
         self.faults = one_more(self.faults);
         Err(Failed)

@@ -23,11 +23,19 @@ const NAME_ROOM: usize = 32;
 
 /// The paths of the folder's files. They have room for the longest, so that naming one takes no
 /// memory.
-#[derive(Drop)]
 pub struct Paths {
     folder: String,
     at: String,
     beside: String,
+}
+
+impl Drop for Paths {
+    fn drop(self) {
+        let Paths { folder, at, beside } = self;
+        drop(folder);
+        drop(at);
+        drop(beside);
+    }
 }
 
 /// A text of these bytes, with room for a name behind them.

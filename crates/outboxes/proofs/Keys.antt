@@ -6,6 +6,12 @@ use Rattle.slab.specs.Slab.{Slab, get}
 use Rattle.outboxes.specs.declared.boxes.Outbox.{Outbox}
 use Rattle.outboxes.specs.Boxes.{Holds, Lacks, IsUnique, KeepsOthers}
 
+pub alike : (a b : ℕ) → (a == b) ≡ true → a ≡ b
+alike a b e = grind (arith, nat_tests, e)
+
+pub apart : (a b : ℕ) → (a == b) ≡ false → ¬ (a ≡ b)
+apart a b e same = grind (arith, nat_tests, e, same)
+
 module _ {T : Type 0} where
   -- what stands at the key is the session's alone, or nothing, before and after
   pub record IsAt (old new : Slab (Outbox T)) (key session : ℕ) : Type 0 where

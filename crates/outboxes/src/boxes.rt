@@ -7,15 +7,27 @@ ghost use Rattle.outboxes.specs.Boxes.{AllEmpty, Holds, Lacks, IsUnique, KeepsOt
 ghost use Rattle.outboxes.specs.declared.boxes.Outbox.{Outbox};
 
 use lb_base::items::Items;
+use server_rules::sessions::is_of;
 use slab::Slab;
 use std::alloc::{AllocError, Global};
 use std::mem;
 
 /// The messages to a session that were not taken yet, in order.
-#[derive(Drop)]
 pub struct Outbox<T> {
     pub session: u32,
     pub messages: Items<T>,
+}
+
+// Written by hand, it is proved here alone; derived, each crate above would prove how each part is let
+// go.
+impl<T: Drop> Drop for Outbox<T> {
+    fn drop(self) {
+        let Outbox {
+            session: _,
+            messages,
+        } = self;
+        drop(messages);
+    }
 }
 
 /// The key of a session's box.
@@ -24,7 +36,7 @@ pub fn key_of<T>(boxes: &Slab<Outbox<T>>, session: u32) -> Option<usize>
     ensures none { IfNone result (Lacks boxes.now session) }
 {
     for (key, one) in boxes.iter() {
-        if one.session == session {
+        if is_of(one.session, session) {
             return Some(key);
         }
     }

@@ -10,10 +10,18 @@ use std::alloc::{AllocError, Global};
 use std::marker::Model;
 
 /// The outboxes of sessions.
-#[derive(Drop)]
 pub struct Outboxes<T> {
     boxes: Slab<Outbox<T>>,
     alloc: Global,
+}
+
+// Written by hand, it is proved here alone; derived, each crate above would prove how each part is let
+// go.
+impl<T: Drop> Drop for Outboxes<T> {
+    fn drop(self) {
+        let Outboxes { boxes, alloc: _ } = self;
+        drop(boxes);
+    }
 }
 
 impl<T> Model for Outboxes<T> {

@@ -29,9 +29,15 @@ use tree_nodes::node::Body;
 use tree_reading::reading::Standing;
 
 /// A server of a tree of files and directories.
-#[derive(Drop)]
 pub struct Server {
     state: ServerState,
+}
+
+impl Drop for Server {
+    fn drop(self) {
+        let Server { state } = self;
+        drop(state);
+    }
 }
 
 impl Model for Server {
@@ -199,10 +205,5 @@ impl Server {
         let mut store = NoStore;
         let step = self.state.step(alloc, &mut store, event);
         step
-    }
-
-    /// The server goes: here, so that no crate above proves how each of its parts does.
-    pub fn let_go(self) {
-        drop(self);
     }
 }

@@ -25,3 +25,10 @@ pub fn stays(owner: u32, lost: u32) -> bool
 {
     owner != lost
 }
+
+/// Whether what has this owner is the session's, and so goes to it and to no other.
+pub fn is_of(owner: u32, session: u32) -> bool
+    ensures { result ≡ (owner == session) }
+{
+    owner == session
+}

@@ -7,10 +7,17 @@ use std::alloc::{AllocError, Global};
 use std::marker::Model;
 
 /// A name, and a copy of it. Contracts see the name.
-#[derive(Drop)]
 pub struct NamePair {
     name: Name,
     copy: Name,
+}
+
+impl Drop for NamePair {
+    fn drop(self) {
+        let NamePair { name, copy } = self;
+        drop(name);
+        drop(copy);
+    }
 }
 
 impl Model for NamePair {

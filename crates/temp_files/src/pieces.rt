@@ -11,6 +11,7 @@ use crate::fault::TempErr;
 use crate::front::Front;
 use crate::gathering::Placed;
 use lb_base::items::Bytes;
+use server_rules::temps::follows;
 use shared_bytes::SharedBytes;
 use std::alloc::{AllocError, Global};
 use std::collections::BTreeMap;
@@ -88,7 +89,7 @@ fn cover(front: u64, pieces: &Placed, size: u64) -> bool
 {
     let mut end = front;
     for (at, bytes) in pieces.iter() {
-        if *at != end {
+        if !follows(end, *at) {
             return false;
         }
         end += bytes.len() as u64;

@@ -16,6 +16,7 @@ use crate::fault::TempErr;
 use crate::pieces::SIZE_MOST;
 use crate::temp::Temp;
 use lb_base::items::Bytes;
+use server_rules::sessions::stays;
 use shared_bytes::SharedBytes;
 use std::alloc::{AllocError, Global};
 use std::collections::BTreeMap;
@@ -212,10 +213,16 @@ fn take(
 /// picks; it has at most sixteen, each of at most 67,108,864 bytes.
 ///
 /// Contracts see them in a list by rising keys, each a session and a number behind it.
-#[derive(Drop)]
 pub struct Temps {
     alloc: Global,
     files: Keyed,
+}
+
+impl Drop for Temps {
+    fn drop(self) {
+        let Temps { alloc: _, files } = self;
+        drop(files);
+    }
 }
 
 impl Model for Temps {
@@ -330,6 +337,6 @@ impl Temps {
     pub fn drop_session(&mut self, session: u32)
         ensures { self.new ≡ without_session self.old session }
     {
-        self.files.retain(|_, temp| temp.session() != session);
+        self.files.retain(|_, temp| stays(temp.session(), session));
     }
 }

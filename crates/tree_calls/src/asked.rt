@@ -30,10 +30,16 @@ pub struct Removing {
 }
 
 /// A name that a node is to get in a directory, twice: a store keeps it too. Contracts see it once.
-#[derive(Drop)]
 pub struct NewSpot {
     dir: u64,
     name: NamePair,
+}
+
+impl Drop for NewSpot {
+    fn drop(self) {
+        let NewSpot { dir: _, name } = self;
+        drop(name);
+    }
 }
 
 impl Model for NewSpot {

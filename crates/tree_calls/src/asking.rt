@@ -7,19 +7,18 @@ ghost use Rattle.nfs3_calls.specs.declared.message.Nfs.TheVariants as nfs;
 ghost use Rattle.stored_tree.specs.Stores.{Keeps};
 ghost use Rattle.tree_calls.specs.Calling.{IsCalled, places_of};
 ghost use Rattle.tree_calls.specs.Changing.{no_side, said};
-ghost use Rattle.tree_calls.specs.Waiting.{busy_first, remove_comes, is_over_file, over_comes, rename_comes, removing, asks_remove, renaming_under, asks_rename};
+ghost use Rattle.tree_calls.specs.Waiting.{busy_first, remove_comes, is_over_file, over_comes, rename_comes, removing, asks_remove, renaming_under, asks_rename, spot_of};
 
 use crate::asked::{Asked, Done, NewSpot, Outcome, Removing, Renaming};
-use crate::changing;
 use crate::naming::spot_of;
 use crate::sides::{no_side, said};
+use crate::{changing, room};
 use file_tree::tree::Tree;
 use lb_base::items::Name;
 use nfs3_calls::message::Nfs;
 use std::alloc::{AllocError, Global};
 use store::store::Store;
 use stored_tree::pair::NamePair;
-use stored_tree::places::places;
 use tree_plans::call::{Changed, Held, Planned};
 use tree_reading::reading::Standing;
 use xdr_codec::answer::Answer;
@@ -140,8 +139,8 @@ pub fn remove<S: Store>(
     match asks_remove(tree, held, busy, dir, name.as_slice()) {
         Err(status) => Ok(Outcome::Answered(refuse_remove(status))),
         Ok(file) => {
+            room::reserve(store, held, 1)?;
             let spot = spot_of(alloc, dir, name)?;
-            store.reserve(places(held, 1)?)?;
             Ok(Outcome::Waits(Asked::Remove(Removing { spot, file })))
         }
     }
@@ -161,6 +160,28 @@ pub fn asks_rename(
 {
     let found = tree.stands_for(to, to_name);
     rename_comes(busy, found, tree.plan_rename(dir, name, to, to_name, held))
+}
+
+// What waits of a RENAME over a file. The one error is want of memory.
+fn renaming_of(
+    alloc: Global,
+    dir: u64,
+    name: &Name,
+    to: u64,
+    to_name: &Name,
+    node: u64,
+    file: u64,
+) -> Result<Renaming, AllocError>
+    ensures { IfOk result (λ r. r ≡ record { from = spot_of dir name.now; to = spot_of to to_name.now; node = node; file = file }) }
+{
+    let from = spot_of(alloc, dir, name)?;
+    let to = NewSpot::new(alloc, to, to_name)?;
+    Ok(Renaming {
+        from,
+        to,
+        node,
+        file,
+    })
 }
 
 /// RENAME in a directory. The one error is want of memory, where the call is not refused, and the
@@ -197,21 +218,15 @@ pub fn rename<S: Store>(
     match comes {
         Err(status) => Ok(Outcome::Answered(changing::refuse_rename(status))),
         Ok(None) => {
+            room::reserve(store, held, 2)?;
             let to_name = NamePair::copy_of(alloc, to_name)?;
-            store.reserve(places(held, 2)?)?;
             let done = changing::rename(tree, store, held, dir, name.as_slice(), to, to_name);
             Ok(Outcome::Answered(done))
         }
         Ok(Some((node, file))) => {
-            let from = spot_of(alloc, dir, name)?;
-            let to = NewSpot::new(alloc, to, to_name)?;
-            store.reserve(places(held, 2)?)?;
-            Ok(Outcome::Waits(Asked::Rename(Renaming {
-                from,
-                to,
-                node,
-                file,
-            })))
+            room::reserve(store, held, 2)?;
+            let waits = renaming_of(alloc, dir, name, to, to_name, node, file)?;
+            Ok(Outcome::Waits(Asked::Rename(waits)))
         }
     }
 }

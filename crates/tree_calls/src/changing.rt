@@ -11,6 +11,7 @@ ghost use Rattle.tree_calls.specs.Calling.{IsCalled};
 ghost use Rattle.tree_calls.specs.Changing.{before, no_side, said, made_of, created, made_directory, mode_of, removed_directory, refused_rename, renamed, creates_under, mkdirs_under, rmdirs_under, renames_under};
 
 use crate::asked::Done;
+use crate::room;
 use crate::sides::{before, both_sides, did, known, no_side, said};
 use file_tree::tree::Tree;
 use lb_base::items::Name;
@@ -20,7 +21,6 @@ use nfs3_calls::message::Nfs;
 use std::alloc::{AllocError, Global};
 use store::store::Store;
 use stored_tree::pair::NamePair;
-use stored_tree::places::places;
 use stored_tree::steps;
 use tree_plans::call::{Changed, CreateMode, Held};
 use xdr_codec::answer::Answer;
@@ -68,10 +68,11 @@ fn prepared<S: Store>(
     ensures later { S.faults store.old ≤ S.faults store.new }
     ensures tree { tree.new.tree ≡ tree.old.tree }
 {
-    let handle = Handle::of_file(alloc, tree.head().next)?;
-    let name = NamePair::copy_of(alloc, name)?;
+    let next = tree.head().next;
     tree.reserve(1)?;
-    store.reserve(places(held, 2)?)?;
+    room::reserve(store, held, 2)?;
+    let handle = Handle::of_file(alloc, next)?;
+    let name = NamePair::copy_of(alloc, name)?;
     Ok((handle, name))
 }
 
@@ -300,7 +301,7 @@ pub fn rmdir<S: Store>(
 {
     match tree.plan_rmdir(dir, name, held) {
         Ok(_) => {
-            store.reserve(places(held, 1)?)?;
+            room::reserve(store, held, 1)?;
             Ok(remove_directory(tree, store, held, dir, name))
         }
         Err(status) => Ok(refuse_rmdir(status)),

@@ -10,6 +10,7 @@ pub mod calls;
 pub mod changing;
 pub mod entering;
 pub mod naming;
+mod room;
 pub mod settling;
 pub mod sides;
 pub mod telling;

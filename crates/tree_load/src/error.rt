@@ -6,7 +6,7 @@ ghost use Rattle.tree_load.specs.declared.error.LoadError.TheVariants.{Memory};
 use std::alloc::AllocError;
 
 /// Why there is no tree.
-#[derive(Clone, Copy, PartialEq, Eq)]
+#[derive(Clone, Copy)]
 pub enum LoadError {
     /// Memory ran out.
     Memory,

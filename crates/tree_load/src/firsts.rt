@@ -18,6 +18,17 @@ pub struct Found {
     pub kind: NodeKind,
 }
 
+/// Where the first records of ids and names stand.
+#[derive(Drop)]
+pub struct Firsts<'a> {
+    /// The first node of each id.
+    pub nodes: BTreeMap<u64, Found>,
+    /// The first node of each name in each directory.
+    pub names: BTreeMap<(u64, &'a [u8]), usize>,
+    /// The first content of each id.
+    pub contents: BTreeMap<u64, usize>,
+}
+
 // Puts what was found under an id, in place of what stood there.
 #[tactic(auto, using(crate::proofs::Tables::put_is))]
 fn put_node(firsts: &mut BTreeMap<u64, Found>, id: u64, found: Found) -> Result<(), AllocError>
@@ -50,92 +61,42 @@ fn put_name<'a>(
     Ok(())
 }
 
-// Notes a record, where it is a node.
-fn note_node(firsts: &mut BTreeMap<u64, Found>, place: usize, one: &Kept) -> Result<(), AllocError>
-    ensures { OnOk result ((id : ℕ) → get nat_cmp firsts.new id ≡ node_over place one.now (get nat_cmp firsts.old id) id) }
+// Notes a record that comes before those that were noted.
+fn note<'a>(firsts: &mut Firsts<'a>, place: usize, one: &'a Kept) -> Result<(), AllocError>
+    ensures nodes { OnOk result ((id : ℕ) → get nat_cmp firsts.new.nodes id ≡ node_over place one.now (get nat_cmp firsts.old.nodes id) id) }
+    ensures names { OnOk result (IsNameNoted place one.now firsts.old.names firsts.new.names) }
+    ensures contents { OnOk result ((id : ℕ) → get nat_cmp firsts.new.contents id ≡ content_over place one.now (get nat_cmp firsts.old.contents id) id) }
 {
     match one {
-        Kept::Node(node) => put_node(
-            firsts,
-            node.id,
-            Found {
+        Kept::Head(_) => Ok(()),
+        Kept::Node(node) => {
+            let found = Found {
                 place,
                 kind: node.kind,
-            },
-        ),
-        Kept::Head(_) | Kept::Content(_) => Ok(()),
+            };
+            put_node(&mut firsts.nodes, node.id, found)?;
+            put_name(&mut firsts.names, node.parent, node.name.as_slice(), place)
+        }
+        Kept::Content(content) => put_content(&mut firsts.contents, content.id, place),
     }
 }
 
-// Notes a record, where it is a content.
-fn note_content(
-    firsts: &mut BTreeMap<u64, usize>,
-    place: usize,
-    one: &Kept,
-) -> Result<(), AllocError>
-    ensures { OnOk result ((id : ℕ) → get nat_cmp firsts.new id ≡ content_over place one.now (get nat_cmp firsts.old id) id) }
+/// Where the first records stand. The one error is want of memory.
+#[tactic(auto, using(crate::proofs::Tables::nodes_none, crate::proofs::Tables::nodes_back, crate::proofs::Tables::names_none, crate::proofs::Tables::names_back, crate::proofs::Tables::contents_none, crate::proofs::Tables::contents_back))]
+pub fn first_places<'a>(alloc: Global, records: &'a [Kept]) -> Result<Firsts<'a>, AllocError>
+    ensures nodes { IfOk result (λ f. AreFirstNodes 0 records.now f.nodes) }
+    ensures names { IfOk result (λ f. AreFirstNames 0 records.now f.names) }
+    ensures contents { IfOk result (λ f. AreFirstContents 0 records.now f.contents) }
 {
-    match one {
-        Kept::Content(content) => put_content(firsts, content.id, place),
-        Kept::Head(_) | Kept::Node(_) => Ok(()),
-    }
-}
-
-// Notes the name of a record, where it is a node.
-fn note_name<'a>(
-    firsts: &mut BTreeMap<(u64, &'a [u8]), usize>,
-    place: usize,
-    one: &'a Kept,
-) -> Result<(), AllocError>
-    ensures { OnOk result (IsNameNoted place one.now firsts.old firsts.new) }
-{
-    match one {
-        Kept::Node(node) => put_name(firsts, node.parent, node.name.as_slice(), place),
-        Kept::Head(_) | Kept::Content(_) => Ok(()),
-    }
-}
-
-/// The first node of each id. The one error is want of memory.
-#[tactic(auto, using(crate::proofs::Tables::nodes_none, crate::proofs::Tables::nodes_back))]
-pub fn first_nodes(alloc: Global, records: &[Kept]) -> Result<BTreeMap<u64, Found>, AllocError>
-    ensures { IfOk result (AreFirstNodes 0 records.now) }
-{
-    let mut firsts = BTreeMap::new(alloc);
+    let mut firsts = Firsts {
+        nodes: BTreeMap::new(alloc),
+        names: BTreeMap::new(alloc),
+        contents: BTreeMap::new(alloc),
+    };
     let mut place = records.len();
     'records: while place > 0 {
         place -= 1;
-        note_node(&mut firsts, place, &records[place])?;
-    }
-    Ok(firsts)
-}
-
-/// The first node of each name in each directory. The one error is want of memory.
-#[tactic(auto, using(crate::proofs::Tables::names_none, crate::proofs::Tables::names_back))]
-pub fn first_names<'a>(
-    alloc: Global,
-    records: &'a [Kept],
-) -> Result<BTreeMap<(u64, &'a [u8]), usize>, AllocError>
-    ensures { IfOk result (AreFirstNames 0 records.now) }
-{
-    let mut firsts = BTreeMap::new(alloc);
-    let mut place = records.len();
-    'records: while place > 0 {
-        place -= 1;
-        note_name(&mut firsts, place, &records[place])?;
-    }
-    Ok(firsts)
-}
-
-/// The first content of each id. The one error is want of memory.
-#[tactic(auto, using(crate::proofs::Tables::contents_none, crate::proofs::Tables::contents_back))]
-pub fn first_contents(alloc: Global, records: &[Kept]) -> Result<BTreeMap<u64, usize>, AllocError>
-    ensures { IfOk result (AreFirstContents 0 records.now) }
-{
-    let mut firsts = BTreeMap::new(alloc);
-    let mut place = records.len();
-    'records: while place > 0 {
-        place -= 1;
-        note_content(&mut firsts, place, &records[place])?;
+        note(&mut firsts, place, &records[place])?;
     }
     Ok(firsts)
 }

@@ -8,7 +8,7 @@ ghost use Rattle.tree_load.specs.Known.{IsKnown};
 ghost use Rattle.tree_load.specs.Load.{is_head_well, is_name_well, is_directory_kind, is_at, is_well, size_of, first_fault};
 
 use crate::above;
-use crate::firsts::{self, Found};
+use crate::firsts::{self, Firsts, Found};
 use limits::{CHANGES_MOST, FILE_MOST, TREE_MOST};
 use std::alloc::{AllocError, Global};
 use std::collections::BTreeMap;
@@ -46,11 +46,14 @@ pub fn learn<'a>(alloc: Global, records: &'a [Kept]) -> Result<Known<'a>, AllocE
     requires { 0 < length records.now }
     ensures { IfOk result (IsKnown records.now) }
 {
-    let nodes = firsts::first_nodes(alloc, records)?;
-    let names = firsts::first_names(alloc, records)?;
-    let contents = firsts::first_contents(alloc, records)?;
-    let steps = above::steps_up(alloc, &nodes, records)?;
+    let firsts = firsts::first_places(alloc, records)?;
+    let steps = above::steps_up(alloc, &firsts.nodes, records)?;
     let tops = above::walks(alloc, steps, records.len())?;
+    let Firsts {
+        nodes,
+        names,
+        contents,
+    } = firsts;
     Ok(Known {
         nodes,
         names,

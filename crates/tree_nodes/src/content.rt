@@ -12,11 +12,22 @@ use std::marker::Model;
 
 /// The bytes of a file, cut into chunks and hashed once, when they came. A store may own them too.
 /// Contracts see the bytes.
-#[derive(Drop, Debug)]
 pub struct Content {
     bytes: SharedBytes,
     chunks: Items<Chunk>,
     digest: [u8; 20],
+}
+
+impl Drop for Content {
+    fn drop(self) {
+        let Content {
+            bytes,
+            chunks,
+            digest: _digest,
+        } = self;
+        drop(bytes);
+        drop(chunks);
+    }
 }
 
 impl Model for Content {

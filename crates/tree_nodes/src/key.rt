@@ -7,7 +7,7 @@ ghost use Rattle.tree_nodes.specs.Places.{start_of, key_of, key_or, AreBytes};
 use crate::node::Node;
 
 /// A name's directory, and where the name begins. Two keys that differ stand as their names do.
-#[derive(Clone, Copy, Debug)]
+#[derive(Clone, Copy)]
 pub struct Key {
     pub dir: u64,
     /// The number of the name's first eight bytes, the highest first.

@@ -20,9 +20,15 @@ use std::marker::Model;
 /// Nodes with ids and names of their own. By an id and by a name one is found in a time that goes
 /// with the logarithm of their number; a node that is added, removed or renamed moves some numbers
 /// (of four bytes) of one block in the order, and one of each block behind that.
-#[derive(Drop, Debug)]
 pub struct Nodes {
     table: Table,
+}
+
+impl Drop for Nodes {
+    fn drop(self) {
+        let Nodes { table } = self;
+        drop(table);
+    }
 }
 
 impl Model for Nodes {

@@ -13,7 +13,7 @@ use std::cmp::Ordering;
 use std::mem;
 
 /// A place for a node. A node that went leaves its place behind, with its id.
-#[derive(Drop, Debug)]
+#[derive(Drop)]
 pub enum Slot {
     Gone(u64),
     Taken(Node),

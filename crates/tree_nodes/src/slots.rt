@@ -16,7 +16,7 @@ use std::alloc::{AllocError, Global};
 use std::marker::Model;
 
 /// Places for nodes, by rising ids.
-#[derive(Drop, Debug)]
+#[derive(Drop)]
 pub struct Slots {
     held: Vec<Slot>,
     keys: Vec<Key>,

@@ -13,10 +13,11 @@ ghost use Rattle.tree_nodes.specs.Table.{shown, place_for, IsTable, IsNodeAt, be
 
 use crate::content::Content;
 use crate::key::start_of;
-use crate::node::{Body, Node};
+use crate::node::Node;
 use crate::slots::Slots;
 use block_list::list::BlockList;
 use lb_base::items::Name;
+use server_rules::tree::next_once_gone;
 use std::alloc::AllocError;
 
 /// The place of a name in the order of the nodes, or where it would be.
@@ -155,7 +156,7 @@ pub fn named<'a>(slots: &'a Slots, order: &BlockList, dir: u64, name: &[u8]) -> 
 }
 
 /// Nodes in places by rising ids, and the numbers of the places in the order of the nodes.
-#[derive(Drop, Debug)]
+#[derive(Drop)]
 pub struct Table {
     pub slots: Slots,
     pub order: BlockList,
@@ -225,6 +226,7 @@ impl Table {
         ensures room { room_of self.old ≤ room_of self.new }
     {
         let out = take_out(&mut self.slots, &mut self.order, place);
+        self.next = next_once_gone(self.next, out.1.id);
         out.1
     }
 
@@ -240,7 +242,7 @@ impl Table {
         ensures room { room_of self.old ≤ room_of self.new }
     {
         let (slot, node) = take_out(&mut self.slots, &mut self.order, place);
-        let node = renamed(node, dir, name);
+        let node = node.renamed(dir, name);
         put_in(&mut self.slots, &mut self.order, slot, node);
     }
 
@@ -268,7 +270,7 @@ impl Table {
     {
         let place = place_of(&self.slots, id);
         let node = self.slots.take(place);
-        let node = renewed(node, version);
+        let node = node.renewed(version);
         self.slots.put(place, node);
     }
 
@@ -283,7 +285,7 @@ impl Table {
     {
         let place = place_of(&self.slots, id);
         let node = self.slots.take(place);
-        let node = refilled(node, version, content);
+        let node = node.refilled(version, content);
         self.slots.put(place, node);
     }
 
@@ -304,32 +306,6 @@ impl Table {
     }
 }
 
-// The node with another version.
-fn renewed(node: Node, version: u64) -> Node
-    ensures { result ≡ record node { version = version } }
-{
-    Node {
-        id: node.id,
-        parent: node.parent,
-        name: node.name,
-        version,
-        body: node.body,
-    }
-}
-
-// The node with another version and content.
-fn refilled(node: Node, version: u64, content: Content) -> Node
-    ensures { result ≡ record node { version = version; body = File content } }
-{
-    Node {
-        id: node.id,
-        parent: node.parent,
-        name: node.name,
-        version,
-        body: Body::File(content),
-    }
-}
-
 /// The place of the node with an id.
 #[tactic(auto, using(crate::proofs::Renewing::place_is))]
 fn place_of(slots: &Slots, id: u64) -> usize
@@ -338,17 +314,4 @@ fn place_of(slots: &Slots, id: u64) -> usize
     ensures { IsNodeAt slots.now.items result id }
 {
     slots.first_from(id)
-}
-
-// The node in another directory and under another name.
-fn renamed(node: Node, dir: u64, name: Name) -> Node
-    ensures { result ≡ record node { parent = dir; name = name } }
-{
-    Node {
-        id: node.id,
-        parent: dir,
-        name,
-        version: node.version,
-        body: node.body,
-    }
 }

@@ -1,6 +1,7 @@
-use Rattle.std.proofs.Common.{◌≡◌, ap, subst, refl, inl, inr, ◌∙◌, Some, arith}
+use Rattle.std.proofs.Common.{◌≡◌, ap, subst, refl, sym, inl, inr, ◌∙◌, Some, arith}
 use Rattle.slab.specs.Slab.{get}
 use Rattle.slab.proofs.SlabLemmas.{Contains-cons, Contains-cons_cases, Contains-entries}
+use Rattle.outboxes.proofs.Keys.{apart, alike}
 use Rattle.outboxes.proofs.boxes.key_of.Goals as goal
 
 pub loop-key-init : goal.loop-key-init
@@ -18,16 +19,16 @@ loop-key-preserved g c =
       tt,
       tt,
       λ key one found same. elim (Contains-cons_cases _ _ _ (rw at at (c.loop-key.invariant.2 key one found same))) [
-        | inl is ↦ elim (c.if-one-session.false (ap (λ e. e.1.session) is ∙ same)) [ ]
+        | inl is ↦ absurd (apart _ _ (sym c.is_of.ensures ∙ c.if-is_of.false) (ap (λ e. e.1.session) is ∙ same))
         | inr rest ↦ rest
       ],
       λ key one there. c.loop-key.invariant.3 key one (rw at (Contains-cons _ _ _ there)),
     )
 
-pub returns-then-one-session-clause-found : goal.returns-then-one-session-clause-found
-returns-then-one-session-clause-found g c =
+pub returns-then-is_of-clause-found : goal.returns-then-is_of-clause-found
+returns-then-is_of-clause-found g c =
     let there = c.loop-key.invariant.3 c.in-Some.key c.in-Some.one.now (rw c.in-Some.ensures.steps (0, omega arith, refl)) in
-    (c.in-Some.one.now.messages, subst (λ s. get c.args.boxes.now c.in-Some.key ≡ Some (record { session = s; messages = c.in-Some.one.now.messages })) c.if-one-session.true there)
+    (c.in-Some.one.now.messages, subst (λ s. get c.args.boxes.now c.in-Some.key ≡ Some (record { session = s; messages = c.in-Some.one.now.messages })) (alike _ _ (sym c.is_of.ensures ∙ c.if-is_of.true)) there)
 
 pub returns-clause-none : goal.returns-clause-none
 returns-clause-none g c = λ key one found same.

@@ -1,4 +1,5 @@
-use Rattle.std.proofs.Common.{arith}
+use Rattle.std.proofs.Common.{◌≡◌, ◌∙◌, sym, arith}
+use Rattle.std.proofs.lemmas.Bool.Decides.{nat_tests}
 use Rattle.temp_files.proofs.Joins.{within_most}
 use Rattle.temp_files.proofs.pieces.cover.Goals as goal
 
@@ -6,4 +7,5 @@ pub overflow_add-end : goal.overflow_add-end
 overflow_add-end c =
     let left = rw c.in-Some.ensures.steps at c.loop-at.invariant.1 in
     let within = within_most _ _ left.2 in
-    omega (arith, within, c.len.ensures, c.if-at-end.false)
+    let next : c.in-Some.at.now ≡ c.loop-at.end = grind (arith, nat_tests, sym c.follows.ensures ∙ c.if-not-follows.false) in
+    omega (arith, within, c.len.ensures, next)

@@ -1,0 +1,20 @@
+//! Places that changes take in a store.
+
+ghost use Rattle.std.specs.Prelude.{◌≡◌, ◌+◌, ◌≤◌, OnOk};
+
+use std::alloc::AllocError;
+use store::store::Store;
+use stored_tree::places::places;
+use tree_plans::call::Held;
+
+/// Takes so many places in the store, beside one for each entry of the changes that wait. The one error
+/// is want of memory; no record changes.
+pub fn reserve<S: Store>(store: &mut S, held: Held, count: u8) -> Result<(), AllocError>
+    ensures spare { OnOk result (held.entries + count ≤ S.spare store.new) }
+    ensures kept { S.spare store.old ≤ S.spare store.new }
+    ensures records { S.records store.new ≡ S.records store.old }
+    ensures later { S.faults store.old ≤ S.faults store.new }
+{
+    let all = places(held, count)?;
+    store.reserve(all)
+}
