@@ -117,7 +117,7 @@ pub use Rattle.trace_replay.specs.Traffic.{Deal, deals_with, Deal.Sent, deals_of
 pub use Rattle.trace_replay.specs.Trail.{Moment, hashed_of, owner_in, Deed, step_of, Said, all_said, client_of, wanted_by, taken_by, deeds_of, turn_moments, moments, sent_of, deed_by, moments_from, hashed_by, wanted_if, taken_if, taken_from, deeds_from, moments_of, up_moments_at, up_moments, down_moments_at, down_moments, round_moments, passes_moments, sent_in, joined_by, joined_from, calls_among, sent_if, calls_by, calls_from, given_by}
 pub use Rattle.trace_replay.specs.World.{World, adjusts, happened, start, lost_by, down_put, routed, down_put_in, down_lost, up_lost}
 pub use Rattle.trace_replay.specs.declared.fault.Refused.{Refused}
-pub use Rattle.trace_ops.specs.declared.taken_call.TakenCall.{TakenCall}
+pub use Rattle.session_rules.specs.declared.taken_call.TakenCall.{TakenCall}
 pub use Rattle.trace_replay.specs.declared.turn.Turn.{Turn}
 pub use Rattle.kept_promise.specs.Rounds.{rounds}
 pub use Rattle.kept_promise.specs.Talk.{Call.Walks, Reply.Walked, NameReply, NameReply.LookedUp, NameReply.Shown, NameReply.Listed, NameReply.MadeFile, NameReply.MadeDir, NameReply.NoDir, NameReply.Gone, NameReply.Renamed, name_answer, Queue, Ask, Told, told_message, Reply, Call.Commit, Call, ask_message, Call.Lease, Reply.Versioned, Reply.Changed, Reply.Bytes, Call.Send, reply_program, Reply.Hashed, Reply.Named, Call.Name, Call.Hash, Call.Read, Call.Make, Reply.Made, Reply.Stored, reply_body, call_program, no_queue, Carries, call_message}

@@ -9,8 +9,8 @@ ghost use Rattle.trace_ends.specs.View.{core_of};
 
 use crate::world_core::Core;
 use chunk_index::place::Place;
+use session_rules::numbers::place_of;
 use std::alloc::AllocError;
-use trace_numbers::place_of;
 use trace_text::line::Who;
 
 /// A change of an index or a cache alone. Clients are numbered from 1.

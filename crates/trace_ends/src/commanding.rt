@@ -10,17 +10,18 @@ ghost use Rattle.trace_ends.specs.View.{core_of, core_step_of};
 
 use crate::core_step::{CoreStep, Loss};
 use crate::world_core::{Core, count_on};
-use client_state::drops;
 use client_state::step::ClientStep;
 use command_text::command::Command;
 use open_close::client::Client;
 use register_model::op::{Op, Word};
+use session_rules::numbers::place_of;
+use session_rules::running::Runs;
+use session_rules::session::Session;
 use shared_bytes::SharedBytes;
 use std::alloc::{AllocError, Global};
-use trace_numbers::place_of;
 use trace_ops::commands::{file_of, value_at_begin, word_of};
 use trace_ops::ops;
-use trace_sessions::session::{Session, short_number};
+use trace_sessions::session::{commanded, short_number};
 
 /// What a command leaves of its client's newest session.
 fn command_session(
@@ -38,7 +39,7 @@ fn command_session(
         None => return,
     };
     match place_of(sessions.len(), u64::from(number)) {
-        Some(at) => sessions[at].commanded(running, place, word, acts),
+        Some(at) => commanded(&mut sessions[at], running, place, word, acts),
         None => (),
     }
 }
@@ -118,10 +119,7 @@ fn does_at(
     core.steps = step;
     match done {
         Ok(()) => Ok(CoreStep::acted(alloc, Loss::Nothing, session, acts)),
-        Err(error) => {
-            drops::step(acts);
-            Err(error)
-        }
+        Err(error) => Err(error),
     }
 }
 

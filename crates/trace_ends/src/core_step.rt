@@ -7,9 +7,8 @@ ghost use Rattle.server_steps.specs.declared.event.ServerStep.{ServerStep as Ser
 ghost use Rattle.trace_ends.specs.declared.core_step.Loss.TheVariants as losses;
 
 use client_state::step::ClientStep;
-use client_state::{drops, sending};
 use send_list::SendList;
-use server_steps::event::{Sent, ServerStep, let_go_sent, none_sent};
+use server_steps::event::{Sent, ServerStep};
 use std::alloc::Global;
 use wire::message::Message;
 
@@ -27,7 +26,6 @@ pub enum Loss {
 }
 
 /// What an event drops, and sends.
-#[derive(Drop)]
 pub struct CoreStep {
     pub loss: Loss,
     /// The session on which the messages `up` are sent.
@@ -38,6 +36,21 @@ pub struct CoreStep {
     pub down: SendList<Sent>,
 }
 
+// Written by hand, it is proved here alone; derived, each crate above would prove how each part is let
+// go.
+impl Drop for CoreStep {
+    fn drop(self) {
+        let CoreStep {
+            loss: _,
+            session: _,
+            up,
+            down,
+        } = self;
+        drop(up);
+        drop(down);
+    }
+}
+
 impl CoreStep {
     /// Nothing is sent. It takes no memory.
     pub fn losing(alloc: Global, loss: Loss) -> CoreStep
@@ -46,8 +59,8 @@ impl CoreStep {
         CoreStep {
             loss,
             session: None,
-            up: sending::none(alloc),
-            down: none_sent(alloc),
+            up: SendList::none(alloc),
+            down: SendList::none(alloc),
         }
     }
 
@@ -62,21 +75,13 @@ impl CoreStep {
     pub fn acted(alloc: Global, loss: Loss, session: Option<u32>, acts: ClientStep) -> CoreStep
         ensures { result ≡ record { loss = loss; session = session; up = acts.send; down = [] } }
     {
-        let ClientStep { send, ended, .. } = acts;
-        drop(ended);
+        let (send, _ended) = acts.into_parts();
         CoreStep {
             loss,
             session,
             up: send,
-            down: none_sent(alloc),
+            down: SendList::none(alloc),
         }
-    }
-
-    /// What was sent is let go: here, so that no crate above proves how each part of a message is.
-    pub fn let_go(self) {
-        let CoreStep { up, down, .. } = self;
-        drops::messages(up);
-        let_go_sent(down);
     }
 
     /// What the server did in a step is sent.
@@ -87,7 +92,7 @@ impl CoreStep {
         CoreStep {
             loss: Loss::Nothing,
             session: None,
-            up: sending::none(alloc),
+            up: SendList::none(alloc),
             down: send,
         }
     }

@@ -11,14 +11,14 @@ ghost use Rattle.trace_ends.specs.View.{core_of, loss_of, core_step_of};
 
 use crate::core_step::{CoreStep, Loss};
 use crate::world_core::{Core, count_on};
-use client_state::drops;
 use server_core::server::Server;
 use server_steps::event::{Event, let_go_step};
+use session_rules::numbers::place_of;
+use session_rules::running::running_at;
+use session_rules::session::Session;
 use std::alloc::{AllocError, Global};
-use trace_numbers::place_of;
 use trace_ops::ops::note_with;
-use trace_sessions::seat::running_at;
-use trace_sessions::session::{Session, short_number, taken_of};
+use trace_sessions::session::{short_number, taken_of};
 
 /// What is dropped where a client loses its newest session: what is on its way down.
 fn loss_down(session: Option<u32>) -> Loss
@@ -59,15 +59,9 @@ fn cuts_at(alloc: Global, core: &mut Core, place: usize) -> Result<CoreStep, All
     let acts = core.seats[place].cuts(alloc);
     let taken = taken_of(&core.sessions, session);
     let client = core.seats[place].client();
-    let done = note_with(alloc, &mut core.ops, running, client, taken, step, &acts);
+    note_with(alloc, &mut core.ops, running, client, taken, step, &acts)?;
     cut_session(&mut core.sessions, session);
-    match done {
-        Ok(()) => Ok(CoreStep::acted(alloc, loss_down(session), session, acts)),
-        Err(error) => {
-            drops::step(acts);
-            Err(error)
-        }
-    }
+    Ok(CoreStep::acted(alloc, loss_down(session), session, acts))
 }
 
 /// A client sees its connection lost, if there is one of this number. Where it isn't joined that is

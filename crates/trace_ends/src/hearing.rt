@@ -7,9 +7,9 @@ ghost use Rattle.trace_ends.specs.View.{core_of, core_step_of};
 
 use crate::core_step::{CoreStep, Loss};
 use crate::world_core::{Core, count_on};
-use client_state::drops;
+use session_rules::numbers::place_of;
+use session_rules::running::Runs;
 use std::alloc::{AllocError, Global};
-use trace_numbers::place_of;
 use trace_ops::ops::note_with;
 use trace_sessions::session::{is_newest, taken_of};
 
@@ -34,15 +34,9 @@ fn hears_at(
     let acts = core.seats[place].hears(alloc, bytes, now)?;
     let taken = taken_of(&core.sessions, session);
     let client = core.seats[place].client();
-    let done = note_with(alloc, &mut core.ops, running, client, taken, step, &acts);
+    note_with(alloc, &mut core.ops, running, client, taken, step, &acts)?;
     core.steps = step;
-    match done {
-        Ok(()) => Ok(CoreStep::acted(alloc, Loss::Nothing, session, acts)),
-        Err(error) => {
-            drops::step(acts);
-            Err(error)
-        }
-    }
+    Ok(CoreStep::acted(alloc, Loss::Nothing, session, acts))
 }
 
 /// The client of this number hears a record of this session, if there is one.

@@ -13,9 +13,9 @@ use crate::world_core::{Core, count_on};
 use server_core::server::Server;
 use server_rules::told::Told;
 use server_steps::event::{Event, let_go_step};
+use session_rules::numbers::place_of;
+use session_rules::session::Session;
 use std::alloc::{AllocError, Global};
-use trace_numbers::place_of;
-use trace_sessions::session::Session;
 
 /// What the server tells a client that connects. A server in want of memory can tell nothing.
 fn connect(alloc: Global, server: &mut Server) -> Result<Told, AllocError>

@@ -12,11 +12,11 @@ use crate::entering::{changed_by, enter};
 use crate::world_core::{Core, count_on};
 use lb_base::items::Items;
 use server_steps::event::{Event, let_go, let_go_step};
+use session_rules::numbers::place_of;
+use session_rules::pointing::point_at;
 use std::alloc::{AllocError, Global};
-use trace_numbers::place_of;
-use trace_ops::ops::point_at;
 use trace_sessions::parsing::parse_record;
-use trace_sessions::session::short_number;
+use trace_sessions::session::{remember, short_number};
 use wire::message::{Message, Side, Waiting};
 
 /// The server asks for nothing, so nothing waits there.
@@ -35,7 +35,7 @@ fn note(core: &mut Core, place: usize, message: &Message) -> Result<(), AllocErr
     ensures { OnOk result (IfSome (slice_get core.old.sessions.items place) (λ x. core_of core.new ≡ record (core_of core.old) { steps = core.old.steps + 1; sessions = slice_set core.old.sessions.items place (record x { taken = taken_with x.taken message.now (core.old.steps + 1) }) })) }
 {
     let step = count_on(core.steps, 1)?;
-    core.sessions[place].remember(message, step)?;
+    remember(&mut core.sessions[place], message, step)?;
     core.steps = step;
     Ok(())
 }

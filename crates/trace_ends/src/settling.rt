@@ -10,8 +10,8 @@ use crate::entering::{changed_by, enter};
 use crate::world_core::{Core, count_on};
 use server_rules::told::Told;
 use server_steps::event::{Event, let_go_step};
+use session_rules::pointing::settle_session;
 use std::alloc::{AllocError, Global};
-use trace_sessions::pointing::settle_session;
 
 /// The server makes the first change that waits, if there is one that can be made, in a step at this
 /// reading of its clock.

@@ -14,13 +14,12 @@ use command_text::command::Command;
 use lb_base::items::{Items, Name};
 use register_model::op::Op;
 use server_core::server::Server;
+use session_rules::session::Session;
 use std::alloc::{AllocError, Global};
 use trace_sessions::seat::Seat;
-use trace_sessions::session::Session;
 use tree_nodes::node::Body;
 
 /// The server, the clients, and what the history tells of them, without the bytes between them.
-#[derive(Drop)]
 pub struct Core {
     pub server: Server,
     /// The clients, by their numbers.
@@ -32,6 +31,26 @@ pub struct Core {
     pub ops: Vec<Op>,
     /// The step of each change in the server's journal.
     pub entries: Vec<u64>,
+}
+
+// Written by hand, it is proved here alone; derived, each crate above would prove how each part is let
+// go.
+impl Drop for Core {
+    fn drop(self) {
+        let Core {
+            server,
+            seats,
+            sessions,
+            steps: _,
+            ops,
+            entries,
+        } = self;
+        drop(server);
+        drop(seats);
+        drop(sessions);
+        drop(ops);
+        drop(entries);
+    }
 }
 
 /// The count with so many steps more. No run comes to 2^64 steps, so there it is want of memory.
@@ -154,21 +173,6 @@ impl Core {
         disconnecting::hangs(alloc, self, session)
     }
 
-    /// The two ends are let go: here, so that no crate above proves how each of their parts is.
-    pub fn let_go(self) {
-        let Core {
-            server,
-            seats,
-            sessions,
-            ops,
-            ..
-        } = self;
-        server.let_go();
-        drop(seats);
-        drop(sessions);
-        drop(ops);
-    }
-
     /// The operations and the number of steps. The ends are let go.
     pub fn history(self) -> (Items<Op>, u64)
         ensures { result ≡ (self.ops.items, self.steps) }
@@ -176,12 +180,15 @@ impl Core {
         let Core {
             server,
             seats,
-            ops,
+            sessions,
             steps,
-            ..
+            ops,
+            entries,
         } = self;
-        server.let_go();
+        drop(server);
         drop(seats);
+        drop(sessions);
+        drop(entries);
         (Items::from_vec(ops), steps)
     }
 }

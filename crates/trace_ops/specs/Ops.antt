@@ -14,7 +14,8 @@ use Rattle.register_model.specs.declared.op.Outcome.TheVariants as told
 use Rattle.register_model.specs.declared.op.Traffic.{Traffic}
 use Rattle.register_model.specs.declared.op.Word.{Word}
 use Rattle.register_model.specs.declared.op.Word.TheVariants as word
-use Rattle.trace_ops.specs.declared.taken_call.TakenCall.{TakenCall}
+use Rattle.session_rules.specs.declared.taken_call.TakenCall.{TakenCall}
+pub use Rattle.session_rules.specs.Points.{pointed, pointed_at}
 pub use Rattle.told_outcome.specs.Told.{fault_number, told_of}
 
 -- ---- how one ends
@@ -98,15 +99,3 @@ taken_on (Some p) taken = taken
 abbrev pub closing_with : Option ℕ → (place : ℕ) → Word → Option Ended → Option ℕ
 closing_with closing place what None = if changes what then Some place else closing
 closing_with closing place what (Some e) = closing
-
--- ---- a change is made
-
--- the operation at a place changed this file in this step, which is its point
-abbrev pub pointed : List Op → (place file step : ℕ) → Option Op → List Op
-pointed ops place file step None = ops
-pointed ops place file step (Some o) = slice_set ops place (record o { file = file; point = Some step })
-
--- the same of the operation at a place, if there is one, where a file was changed
-abbrev pub pointed_at : List Op → Option ℕ → (step : ℕ) → (changed : Option ℕ) → List Op
-pointed_at ops (Some place) step (Some file) = pointed ops place file step (slice_get ops place)
-pointed_at ops place step changed = ops

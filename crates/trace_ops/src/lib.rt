@@ -2,11 +2,9 @@
 //! step of that client.
 //!
 //! `specs/Commands.antt` says what a command is called, and `specs/Ops.antt` how its operation begins,
-//! goes on, ends, and gets its point. Nothing here knows the server: of a change it is told the file and
-//! the step.
+//! goes on and ends. Nothing here knows the server.
 #![tactic(auto)]
 
 pub mod commands;
 pub mod ops;
 pub mod places;
-pub mod taken_call;

@@ -3,14 +3,14 @@
 
 ghost use Rattle.std.specs.Prelude.{◌≡◌, ◌==◌, find, slice_get, IfOk, OnOk};
 ghost use Rattle.std.specs.Option.{option_copied};
-ghost use Rattle.trace_ops.specs.Ops.{ops_after, ops_with, has_point, taken_at, point_if, value_of, counted, ended_op, file_with, op_after, begun, pointed, pointed_at};
+ghost use Rattle.trace_ops.specs.Ops.{ops_after, ops_with, has_point, taken_at, point_if, value_of, counted, ended_op, file_with, op_after, begun};
 
 use crate::commands::local_bytes;
-use crate::taken_call::TakenCall;
 use client_state::step;
 use client_state::step::{ClientStep, Ended};
 use open_close::client::Client;
 use register_model::op::{Op, Outcome, Traffic, Word};
+use session_rules::taken_call::TakenCall;
 use shared_bytes::SharedBytes;
 use std::alloc::{AllocError, Global};
 use told_outcome::told_of;
@@ -195,27 +195,5 @@ pub fn note_with(
     match place {
         None => Ok(()),
         Some(place) => note_at(alloc, ops, place, client, taken, step, acts),
-    }
-}
-
-/// The operation of this place, if there is one, changed this file in this step, which is its point.
-fn point(ops: &mut Vec<Op>, place: usize, file: u64, step: u64)
-    ensures { ops.new.items ≡ pointed ops.old.items place file step (slice_get ops.old.items place) }
-{
-    if ops.len() <= place {
-        return;
-    }
-    let op = &mut ops[place];
-    op.file = file;
-    op.point = Some(step);
-}
-
-/// The operation at a place, if there is one, changed a file in this step, if one was changed.
-pub fn point_at(ops: &mut Vec<Op>, place: Option<usize>, step: u64, changed: Option<u64>)
-    ensures { ops.new.items ≡ pointed_at ops.old.items place step changed }
-{
-    match (place, changed) {
-        (Some(place), Some(file)) => point(ops, place, file, step),
-        _ => (),
     }
 }

@@ -10,8 +10,8 @@ ghost use Rattle.trace_replay.specs.WorldView.{world_of};
 
 use crate::state::WorldState;
 use rpc_record::record::Record;
+use session_rules::numbers::place_of;
 use std::alloc::{AllocError, Global};
-use trace_numbers::place_of;
 use trace_text::line::Amount;
 
 impl WorldState {

@@ -57,15 +57,8 @@ pub fn run(alloc: Global, input: &[u8]) -> Result<World, TraceErr>
     ensures { ComesTo result (accepted input.now) }
 {
     let mut world = World::new(alloc)?;
-    let next = match run_lines(alloc, &mut world, 1, input) {
-        Ok(next) => next,
-        Err(error) => {
-            world.let_go();
-            return Err(error);
-        }
-    };
+    let next = run_lines(alloc, &mut world, 1, input)?;
     if world.in_header() {
-        world.let_go();
         return Err(bad_line(next));
     }
     Ok(world)

@@ -7,10 +7,10 @@ ghost use Rattle.trace_replay.specs.World.{down_put_in, down_put};
 
 use send_list::SendList;
 use server_steps::event::Sent;
+use session_rules::session::Session;
+use session_rules::wire::Wire;
 use std::alloc::{AllocError, Global};
 use trace_sessions::sending;
-use trace_sessions::session::Session;
-use trace_wires::wire::Wire;
 
 /// Puts a message of the server on its way down its session, unless the client saw it lost.
 #[tactic(auto, using(crate::proofs::SentDown::message_in))]

@@ -3,24 +3,24 @@
 
 ghost use Rattle.std.specs.Prelude.{◌≡◌, ◌<◌, ◌^◌, IfOk, OnOk};
 ghost use Rattle.trace_ends.specs.Core.{Event.Joins, Event.Does, Event.Serves, Event.Hears, Event.Settles, Event.Cuts, Event.Hangs};
-ghost use Rattle.trace_replay.specs.World.{start, routed, happened, adjusts};
+ghost use Rattle.trace_replay.specs.World.{start, routed, happened, adjusts, history_of};
 ghost use Rattle.trace_ends.specs.View.{core_of, core_step_of};
 ghost use Rattle.trace_replay.specs.WorldView.{world_of};
 
-use crate::opening::OpeningFile;
+use crate::opening::{OpeningFile, build_all};
 use crate::sending::down_put;
 use crate::stage::Stage;
 use crate::wire_loss::lose;
 use command_text::command::Command;
+use register_model::history::History;
+use session_rules::wire::Wire;
 use std::alloc::{AllocError, Global};
 use trace_ends::adjusting::{Adjustment, adjust};
 use trace_ends::core_step::CoreStep;
 use trace_ends::world_core::Core;
 use trace_sessions::sending::up_put;
-use trace_wires::wire::Wire;
 
 /// A world's fields.
-#[derive(Drop)]
 pub struct WorldState {
     pub stage: Stage,
     /// The files that the trace opens with.
@@ -30,6 +30,23 @@ pub struct WorldState {
     pub core: Core,
     /// The bytes of each session that was ever made, by its number.
     pub wires: Vec<Wire>,
+}
+
+// Written by hand, it is proved here alone; derived, each crate above would prove how each part is let
+// go.
+impl Drop for WorldState {
+    fn drop(self) {
+        let WorldState {
+            stage: _,
+            opening,
+            size: _,
+            core,
+            wires,
+        } = self;
+        drop(opening);
+        drop(core);
+        drop(wires);
+    }
 }
 
 impl WorldState {
@@ -47,6 +64,24 @@ impl WorldState {
         })
     }
 
+    /// The history that the world has come to. The ends are let go before the bytes of the opening
+    /// files are made. The one error is want of memory.
+    pub fn history(self, alloc: Global) -> Result<History, AllocError>
+        ensures { IfOk result (λ history. history ≡ history_of (world_of self)) }
+    {
+        let WorldState {
+            stage: _,
+            opening,
+            size: _,
+            core,
+            wires,
+        } = self;
+        drop(wires);
+        let (ops, steps) = core.history();
+        let opening = build_all(alloc, opening.as_slice())?;
+        Ok(History::new(opening, ops, steps))
+    }
+
     /// What an event dropped is gone, and what it sent is on its way.
     fn routes(&mut self, alloc: Global, step: &CoreStep) -> Result<(), AllocError>
         ensures { OnOk result (world_of self.new ≡ routed (world_of self.old) (core_step_of self.old.core step.now)) }
@@ -62,9 +97,7 @@ impl WorldState {
         ensures { OnOk result (world_of self.new ≡ happened (world_of self.old) (Joins client)) }
     {
         let step = self.core.joins(alloc, client)?;
-        let done = self.routes(alloc, &step);
-        step.let_go();
-        done
+        self.routes(alloc, &step)
     }
 
     /// A client does what it is told to, at a reading of its clock.
@@ -78,9 +111,7 @@ impl WorldState {
         ensures { OnOk result (world_of self.new ≡ happened (world_of self.old) (Does client now command)) }
     {
         let step = self.core.does(alloc, client, now, command)?;
-        let done = self.routes(alloc, &step);
-        step.let_go();
-        done
+        self.routes(alloc, &step)
     }
 
     /// The server takes a record of a session, at a reading of its clock.
@@ -95,9 +126,7 @@ impl WorldState {
         ensures { OnOk result (world_of self.new ≡ happened (world_of self.old) (Serves session now bytes.now)) }
     {
         let step = self.core.serves(alloc, session, now, bytes)?;
-        let done = self.routes(alloc, &step);
-        step.let_go();
-        done
+        self.routes(alloc, &step)
     }
 
     /// A session's client takes a record, at a reading of its clock.
@@ -111,9 +140,7 @@ impl WorldState {
         ensures { OnOk result (world_of self.new ≡ happened (world_of self.old) (Hears session now bytes.now)) }
     {
         let step = self.core.hears(alloc, session, now, bytes)?;
-        let done = self.routes(alloc, &step);
-        step.let_go();
-        done
+        self.routes(alloc, &step)
     }
 
     /// A change that waits may be made, at a reading of the server's clock.
@@ -122,9 +149,7 @@ impl WorldState {
         ensures { OnOk result (world_of self.new ≡ happened (world_of self.old) (Settles now)) }
     {
         let step = self.core.settles(alloc, now)?;
-        let done = self.routes(alloc, &step);
-        step.let_go();
-        done
+        self.routes(alloc, &step)
     }
 
     /// An index or a cache is changed, and nothing else.
@@ -139,9 +164,7 @@ impl WorldState {
         ensures { OnOk result (world_of self.new ≡ happened (world_of self.old) (Cuts client)) }
     {
         let step = self.core.cuts(alloc, client)?;
-        let done = self.routes(alloc, &step);
-        step.let_go();
-        done
+        self.routes(alloc, &step)
     }
 
     /// The server sees a session's connection lost.
@@ -149,8 +172,6 @@ impl WorldState {
         ensures { OnOk result (world_of self.new ≡ happened (world_of self.old) (Hangs session)) }
     {
         let step = self.core.hangs(alloc, session)?;
-        let done = self.routes(alloc, &step);
-        step.let_go();
-        done
+        self.routes(alloc, &step)
     }
 }

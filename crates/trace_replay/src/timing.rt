@@ -9,9 +9,9 @@ ghost use Rattle.clock_rule.specs.declared.rule.Reading.TheVariants as reads;
 
 use clock_rule::clocks::Clocks;
 use clock_rule::rule::{NoteErr, Reading};
+use session_rules::numbers::place_of;
+use session_rules::session::Session;
 use std::alloc::Global;
-use trace_numbers::place_of;
-use trace_sessions::session::Session;
 use trace_text::line::Line;
 
 /// What a line says of the clocks.

@@ -6,10 +6,10 @@ ghost use Rattle.trace_replay.specs.World.{down_lost, up_lost, lost_by};
 ghost use Rattle.trace_sessions.specs.Numbers.{numbered};
 ghost use Rattle.trace_ends.specs.View.{loss_of};
 
+use session_rules::numbers::place_of;
+use session_rules::wire::Wire;
 use std::alloc::{AllocError, Global};
 use trace_ends::core_step::Loss;
-use trace_numbers::place_of;
-use trace_wires::wire::Wire;
 
 /// What is on its way down a session is dropped.
 fn lose_down(alloc: Global, wires: &mut Vec<Wire>, number: u32)

@@ -10,7 +10,6 @@ ghost use Rattle.trace_replay.specs.Turns.{IsApplied, IsRefused};
 ghost use Rattle.trace_replay.specs.declared.fault.TraceErr.TheVariants as errors;
 
 use crate::fault::{Refused, TraceErr};
-use crate::opening::build_all;
 use crate::stage::Stage;
 use crate::state::WorldState;
 use crate::timing::{Times, timing_of};
@@ -23,10 +22,19 @@ use trace_text::line::Line;
 use trace_text::refusal::LineFault;
 
 /// The two ends of a trace, what is on its way between them, and their clocks.
-#[derive(Drop)]
 pub struct World {
     state: WorldState,
     times: Times,
+}
+
+// Written by hand, it is proved here alone; derived, each crate above would prove how each part is let
+// go.
+impl Drop for World {
+    fn drop(self) {
+        let World { state, times } = self;
+        drop(state);
+        drop(times);
+    }
 }
 
 impl Model for World {
@@ -105,22 +113,13 @@ impl World {
         self.state.core.server.journal().len()
     }
 
-    /// The world is let go.
-    pub fn let_go(self) {
-        let World { state, .. } = self;
-        let WorldState { core, .. } = state;
-        core.let_go();
-    }
-
     /// The history that the world has come to. The ends are let go before the bytes of the opening
     /// files are made. The one error is want of memory.
     pub fn history(self, alloc: Global) -> Result<History, AllocError>
         ensures { IfOk result (λ history. history ≡ history_of self.world) }
     {
-        let World { state, .. } = self;
-        let WorldState { opening, core, .. } = state;
-        let (ops, steps) = core.history();
-        let opening = build_all(alloc, opening.as_slice())?;
-        Ok(History::new(opening, ops, steps))
+        let World { state, times } = self;
+        drop(times);
+        state.history(alloc)
     }
 }

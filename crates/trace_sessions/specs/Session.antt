@@ -1,14 +1,15 @@
 -- The clients of a trace and its sessions, beside the bytes on their way.
-use Rattle.std.specs.Prelude.{ℕ, ◌+◌, List, [], ◌∷◌, ◌++◌, Option, Some, None, Bool, false, ◌==◌}
+use Rattle.std.specs.Prelude.{ℕ, List, [], ◌∷◌, ◌++◌, Option, Some, None, Bool, false, ◌==◌}
 use Rattle.wire.specs.declared.message.Message.{Message}
 use Rattle.wire.specs.declared.message.Message.TheVariants as message
 use Rattle.client_state.specs.State as client
 use Rattle.client_state.specs.declared.step.ClientStep.{ClientStep}
-use Rattle.register_model.specs.declared.op.Op.{Op}
 use Rattle.register_model.specs.declared.op.Word.{Word}
-use Rattle.trace_ops.specs.declared.taken_call.TakenCall.{TakenCall}
-use Rattle.trace_ops.specs.Ops.{taken_on, closing_with, pointed_at}
+use Rattle.session_rules.specs.declared.taken_call.TakenCall.{TakenCall}
+use Rattle.trace_ops.specs.Ops.{taken_on, closing_with}
 use Rattle.trace_sessions.specs.Numbers.{numbered}
+pub use Rattle.session_rules.specs.Session.{Session, new_session}
+pub use Rattle.session_rules.specs.Points.{settled_ops}
 
 -- ---- what they are
 
@@ -20,18 +21,6 @@ pub record Seat : Type 0 where
 
 abbrev pub new_seat : Seat
 new_seat = record { client = client.start; session = None; place = None }
-
--- what is kept of a session beside the bytes on their way: its client, the calls of the operation under way that the server took, the
--- place of the last operation that sent calls on it and may change a file, and whether an end saw the connection lost
-pub record Session : Type 0 where
-  pub owner : ℕ
-  pub taken : List TakenCall
-  pub closing : Option ℕ
-  pub cut : Bool
-  pub hung : Bool
-
-abbrev pub new_session : (owner : ℕ) → Session
-new_session owner = record { owner = owner; taken = []; closing = None; cut = false; hung = false }
 
 -- ---- a session
 
@@ -59,8 +48,3 @@ is_newest (Some newest) number = newest == number
 -- what a command leaves of its client's newest session
 abbrev pub commanded_session : Session → (running : Option ℕ) → (place : ℕ) → Word → ClientStep → Session
 commanded_session x running place what acts = record x { taken = taken_on running x.taken; closing = closing_with x.closing place what acts.ended }
-
--- the operation whose change was made has its point there: the last that sent calls on the change's session and may change a file
-abbrev pub settled_ops : List Op → (step : ℕ) → (changed : Option ℕ) → Option Session → List Op
-settled_ops ops step changed (Some x) = pointed_at ops x.closing step changed
-settled_ops ops step changed None = ops

@@ -5,7 +5,7 @@ use Rattle.wire.specs.Message.{message_spell}
 use Rattle.wire.specs.declared.message.Message.{Message}
 use Rattle.trace_sessions.specs.Numbers.{numbered, with_numbered}
 use Rattle.trace_sessions.specs.Session.{Session}
-pub use Rattle.trace_wires.specs.Wires.{Wire, new_wire, is_still_at}
+pub use Rattle.session_rules.specs.Wires.{Wire, new_wire, is_still_at}
 
 -- the bytes of messages, each a record of one fragment
 abbrev pub bytes_of : List Message → List ℕ

@@ -7,7 +7,6 @@
 
 mod outbox;
 pub mod parsing;
-pub mod pointing;
 pub mod seat;
 pub mod sending;
 pub mod session;

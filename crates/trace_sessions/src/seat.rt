@@ -1,7 +1,7 @@
 //! A client of the trace, with what is kept of it beside its own state. `Seat` in
 //! `specs/Session.antt` says what that is.
 
-ghost use Rattle.std.specs.Prelude.{◌≡◌, ◌<◌, Some, length, slice_get, IfOk, IfSome, OnOk};
+ghost use Rattle.std.specs.Prelude.{◌≡◌, Some, IfOk, OnOk};
 ghost use Rattle.wire.specs.Parse.{parse_of};
 ghost use Rattle.client_state.specs.State.{waiting_of, forged, index_cleared, evicted};
 ghost use Rattle.open_close.specs.Step.{command_step, got_step};
@@ -11,16 +11,15 @@ ghost use Rattle.trace_ops.specs.Ops.{place_after, place_with};
 
 use crate::parsing::parse_record;
 use chunk_index::place::Place;
-use client_state::drops;
 use client_state::step::ClientStep;
 use command_text::command::Command;
 use open_close::client::Client;
+use session_rules::running::Runs;
 use std::alloc::{AllocError, Global};
 use std::marker::Model;
 use trace_ops::places::{place_after, place_with};
 
 /// A client, which may have joined or not.
-#[derive(Drop)]
 pub struct Seat {
     client: Client,
     /// The number of its newest session, if it ever had one.
@@ -29,12 +28,35 @@ pub struct Seat {
     place: Option<usize>,
 }
 
+// Written by hand, it is proved here alone; derived, each crate above would prove how each part is let
+// go.
+impl Drop for Seat {
+    fn drop(self) {
+        let Seat {
+            client,
+            session: _,
+            place: _,
+        } = self;
+        drop(client);
+    }
+}
+
 impl Model for Seat {
     ghost use Rattle.trace_sessions.specs.Session.{Seat as CoreSeat};
 
     ghost Value = { CoreSeat };
 
     ghost view = { λ s. record { client = s.client; session = s.session; place = s.place } };
+}
+
+impl Runs for Seat {
+    ghost running = { λ s. s.place };
+
+    fn place(&self) -> Option<usize>
+        ensures { result ≡ self.now.place }
+    {
+        self.place
+    }
 }
 
 impl Seat {
@@ -71,13 +93,6 @@ impl Seat {
         self.session
     }
 
-    /// The place of its operation under way.
-    pub fn place(&self) -> Option<usize>
-        ensures { result ≡ self.now.place }
-    {
-        self.place
-    }
-
     /// The client joins, and has the session of this number then.
     pub fn joins(&mut self, alloc: Global, made: u32)
         ensures { self.new ≡ record self.old { client = joined self.old.client; session = Some made } }
@@ -99,7 +114,6 @@ impl Seat {
     {
         let acts = self.client.command(alloc, command, now);
         if acts.missed {
-            drops::step(acts);
             return Err(AllocError);
         }
         self.place = place_with(self.place, place, &acts.ended);
@@ -114,7 +128,6 @@ impl Seat {
         let said = parse_record(alloc, bytes, self.client.waiting())?;
         let acts = self.client.got(alloc, said, now);
         if acts.missed {
-            drops::step(acts);
             return Err(AllocError);
         }
         self.place = place_after(self.place, &acts.ended);
@@ -151,12 +164,4 @@ impl Seat {
         self.place = place_after(self.place, &acts.ended);
         acts
     }
-}
-
-/// Where the operation under way of the client at this place stands, if it has one.
-pub fn running_at(seats: &[Seat], place: usize) -> Option<usize>
-    requires { place < length seats.now }
-    ensures { IfSome (slice_get seats.now place) (λ seat. result ≡ seat.place) }
-{
-    seats[place].place()
 }

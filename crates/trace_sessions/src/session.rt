@@ -1,89 +1,36 @@
-//! What is kept of a session beside the bytes on their way. `Session` in `specs/Session.antt` says
-//! what that is.
+//! What becomes of what is kept of a session (`session` of `session_rules`): `specs/Session.antt` says
+//! what a command and a call that is taken leave of it.
 
-ghost use Rattle.std.specs.Prelude.{◌≡◌, true, OnOk, IfOk};
-ghost use Rattle.trace_sessions.specs.Session.{is_newest, new_session, taken_with, taken_of, session_of, commanded_session};
+ghost use Rattle.std.specs.Prelude.{◌≡◌, OnOk, IfOk};
+ghost use Rattle.trace_sessions.specs.Session.{is_newest, taken_with, taken_of, session_of, commanded_session};
 
 use client_state::step::ClientStep;
 use register_model::op::Word;
-use std::alloc::{AllocError, Global};
-use std::marker::Model;
-use trace_numbers::place_of;
+use session_rules::numbers::place_of;
+use session_rules::session::Session;
+use session_rules::taken_call::TakenCall;
+use std::alloc::AllocError;
 use trace_ops::places::closing_with;
-use trace_ops::taken_call::TakenCall;
 use wire::message::Message;
 
-/// A session that was made.
-#[derive(Drop)]
-pub struct Session {
-    /// The number of its client.
-    pub owner: u64,
-    /// The calls of the operation under way that the server took.
-    pub taken: Vec<TakenCall>,
-    /// The place of the last operation that sent calls on it and may change a file.
-    pub closing: Option<usize>,
-    /// Whether the client saw the connection lost.
-    pub cut: bool,
-    /// Whether the server saw the connection lost.
-    pub hung: bool,
-}
-
-impl Model for Session {
-    ghost use Rattle.trace_sessions.specs.Session.{Session as CoreSession};
-
-    ghost Value = { CoreSession };
-
-    ghost view = { λ s. record { owner = s.owner; taken = s.taken.items; closing = s.closing; cut = s.cut; hung = s.hung } };
-}
-
-impl Session {
-    /// A session of this client. It takes no memory.
-    pub fn new(alloc: Global, owner: u64) -> Session
-        ensures { result ≡ new_session owner }
-    {
-        Session {
-            owner,
-            taken: Vec::new(alloc),
-            closing: None,
-            cut: false,
-            hung: false,
-        }
+/// What a command of its client leaves of a session, where it is that one's newest.
+pub fn commanded(
+    session: &mut Session,
+    running: Option<usize>,
+    place: usize,
+    word: Word,
+    acts: &ClientStep,
+)
+    ensures { session.new ≡ commanded_session session.old running place word acts.now }
+{
+    if running.is_none() {
+        session.taken.clear();
     }
-
-    /// Whether the server saw the connection lost.
-    pub fn is_hung(&self) -> bool
-        ensures { result ≡ self.now.hung }
-    {
-        self.hung
-    }
-
-    /// The server sees the connection lost.
-    pub fn hang(&mut self)
-        ensures { self.new ≡ record self.old { hung = true } }
-    {
-        self.hung = true;
-    }
-
-    /// Remembers a call that is taken, with its step.
-    pub fn remember(&mut self, message: &Message, step: u64) -> Result<(), AllocError>
-        ensures { OnOk result (self.new ≡ record self.old { taken = taken_with self.old.taken message.now step }) }
-    {
-        remember(&mut self.taken, message, step)
-    }
-
-    /// What a command of its client leaves of it, where it is that one's newest.
-    pub fn commanded(&mut self, running: Option<usize>, place: usize, word: Word, acts: &ClientStep)
-        ensures { self.new ≡ commanded_session self.old running place word acts.now }
-    {
-        if running.is_none() {
-            self.taken.clear();
-        }
-        self.closing = closing_with(self.closing, place, word, &acts.ended);
-    }
+    session.closing = closing_with(session.closing, place, word, &acts.ended);
 }
 
 /// Remembers a call that is taken, with its step.
-fn remember(taken: &mut Vec<TakenCall>, message: &Message, step: u64) -> Result<(), AllocError>
+fn take(taken: &mut Vec<TakenCall>, message: &Message, step: u64) -> Result<(), AllocError>
     ensures { OnOk result (taken.new.items ≡ taken_with taken.old.items message.now step) }
 {
     match message {
@@ -93,6 +40,13 @@ fn remember(taken: &mut Vec<TakenCall>, message: &Message, step: u64) -> Result<
         }
         Message::Answer(..) | Message::Refuse(..) | Message::Unfit(..) => Ok(()),
     }
+}
+
+/// Remembers a session's call that is taken, with its step.
+pub fn remember(session: &mut Session, message: &Message, step: u64) -> Result<(), AllocError>
+    ensures { OnOk result (session.new ≡ record session.old { taken = taken_with session.old.taken message.now step }) }
+{
+    take(&mut session.taken, message, step)
 }
 
 /// The calls that the server took of a client's newest session.

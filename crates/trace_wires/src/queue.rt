@@ -66,7 +66,6 @@ fn give_whole(alloc: Global, piece: Bytes, end: &mut Records) -> Result<Given, A
 }
 
 /// Bytes that are on their way.
-#[derive(Drop)]
 pub struct Queue {
     /// A piece of which a part may have been delivered.
     begun: Bytes,
@@ -74,6 +73,20 @@ pub struct Queue {
     done: usize,
     /// The pieces behind it, none of them empty.
     behind: VecDeque<Bytes>,
+}
+
+// Written by hand, it is proved here alone; derived, each crate above would prove how each part is let
+// go.
+impl Drop for Queue {
+    fn drop(self) {
+        let Queue {
+            begun,
+            done: _,
+            behind,
+        } = self;
+        drop(begun);
+        drop(behind);
+    }
 }
 
 impl Model for Queue {

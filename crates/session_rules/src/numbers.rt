@@ -1,7 +1,6 @@
 //! Numbers from 1 as places in a list. Clients and sessions have such numbers, and each step of a trace
 //! finds here whom it is about, and each message its session. What stands at a number is `numbered` in
-//! `specs/Numbers.antt` of `trace_sessions`.
-#![tactic(auto)]
+//! `specs/Numbers.antt`.
 
 ghost use Rattle.std.specs.Prelude.{◌≡◌, ◌+◌, ◌<◌, ◌⊎◌, MatchOption};
 

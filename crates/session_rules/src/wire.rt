@@ -1,22 +1,21 @@
 //! The bytes of a session on their way, and what each of its ends has of a record that is not
-//! whole. `specs/Wires.antt` says what they are and what is put on its way, and `specs/Queue.antt` how many
-//! bytes a delivery takes.
+//! whole. `specs/Wires.antt` says what they are, and `specs/Queue.antt` of `trace_wires` how many bytes a
+//! delivery takes.
 
 ghost use Rattle.std.specs.Prelude.{◌≡◌, [], Some, length, take, drop, IfOk, OnOk};
 ghost use Rattle.rpc_record.specs.Records.{nothing_read, fed};
-ghost use Rattle.trace_wires.specs.Wires.{new_wire, is_still_at};
+ghost use Rattle.session_rules.specs.Wires.{new_wire, is_still_at};
 ghost use Rattle.trace_wires.specs.Queue.{count_of};
 
-use crate::queue::{Queue, deliver};
 use lb_base::items::Items;
 use rpc_record::record::Record;
 use rpc_record::records::Records;
 use std::alloc::{AllocError, Global};
 use std::marker::Model;
 use trace_text::line::Amount;
+use trace_wires::queue::{Queue, deliver};
 
 /// The two directions of a session.
-#[derive(Drop)]
 pub struct Wire {
     /// The bytes on their way to the server.
     pub up: Queue,
@@ -28,8 +27,25 @@ pub struct Wire {
     client_end: Records,
 }
 
+// Written by hand, it is proved here alone; derived, each crate above would prove how each part is let
+// go.
+impl Drop for Wire {
+    fn drop(self) {
+        let Wire {
+            up,
+            down,
+            server_end,
+            client_end,
+        } = self;
+        drop(up);
+        drop(down);
+        drop(server_end);
+        drop(client_end);
+    }
+}
+
 impl Model for Wire {
-    ghost use Rattle.trace_wires.specs.Wires as wires;
+    ghost use Rattle.session_rules.specs.Wires as wires;
 
     ghost Value = { wires.Wire };
 

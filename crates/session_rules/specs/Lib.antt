@@ -1,0 +1,5 @@
+pub mod Numbers
+pub mod Points
+pub mod Session
+pub mod Ways
+pub mod Wires

@@ -1,0 +1,15 @@
+-- What is kept of a session.
+use Rattle.std.specs.Prelude.{ℕ, List, [], Option, None, Bool, false}
+use Rattle.session_rules.specs.declared.taken_call.TakenCall.{TakenCall}
+
+-- what is kept of a session beside the bytes on their way: its client, the calls of the operation under way that the server took, the
+-- place of the last operation that sent calls on it and may change a file, and whether an end saw the connection lost
+pub record Session : Type 0 where
+  pub owner : ℕ
+  pub taken : List TakenCall
+  pub closing : Option ℕ
+  pub cut : Bool
+  pub hung : Bool
+
+abbrev pub new_session : (owner : ℕ) → Session
+new_session owner = record { owner = owner; taken = []; closing = None; cut = false; hung = false }
