@@ -1,20 +1,13 @@
 //! The lines of a block: `block_lines` of `specs/Lines.antt`.
 
 ghost use Rattle.std.specs.Prelude.{◌≡◌, ◌<◌, ◌≤◌, ◌^◌, ◌++◌, [], ◌∷◌, OnOk, string_bytes};
-ghost use Rattle.trace_generator.specs.Lines.{choice, do_front, do_line, on_file, write_command, pass_line, settle_line, open_lines, all_lines, change_lines, rest_lines, block_lines, text_of};
+ghost use Rattle.trace_generator.specs.Lines.{do_front, do_line, on_file, write_command, pass_line, settle_line, open_lines, all_lines, change_lines, rest_lines, block_lines, text_of};
 ghost use Rattle.trace_generator.specs.declared.TheConstants.{BLOCKS_MOST};
 
 use crate::BLOCKS_MOST;
+use block_choice::{choice, client_of, file_of, offset_of};
 use std::alloc::AllocError;
 use std::fmt::Write;
-
-/// What the seed says of a block.
-fn choice(seed: u64, block: u64) -> u64
-    ensures chosen { result ≡ choice seed block }
-    ensures bound { result < 2 ^ 32 }
-{
-    ((seed as u128 + block as u128) % (1 << 32)) as u64
-}
 
 /// So many rounds of a session.
 #[tactic(auto, unfolding(crate::specs::Lines::text_of))]
@@ -115,11 +108,11 @@ fn put_rest(out: &mut String, choice: u64, block: u64) -> Result<(), AllocError>
     requires block { block ≤ BLOCKS_MOST }
     ensures { OnOk result (string_bytes out.new ≡ string_bytes out.old ++ text_of (rest_lines choice block)) }
 {
-    let (client, file, time) = (1 + choice % 4, 2 + choice / 4 % 8, 10 * block);
+    let (client, file, time) = (client_of(choice), file_of(choice), 10 * block);
     if choice / 32 % 2 == 0 {
         put_do(out, client, time, "abandon", file)
     } else {
-        put_change(out, client, file, 37 * choice % 9000, block, time)
+        put_change(out, client, file, offset_of(choice), block, time)
     }
 }
 
@@ -130,6 +123,6 @@ pub fn put_block(out: &mut String, seed: u64, block: u64) -> Result<(), AllocErr
     ensures { OnOk result (string_bytes out.new ≡ string_bytes out.old ++ text_of (block_lines seed block)) }
 {
     let choice = choice(seed, block);
-    put_open(out, 1 + choice % 4, 2 + choice / 4 % 8, 10 * block)?;
+    put_open(out, client_of(choice), file_of(choice), 10 * block)?;
     put_rest(out, choice, block)
 }
