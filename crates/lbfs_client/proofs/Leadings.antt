@@ -25,6 +25,13 @@ use Rattle.lbfs_client.specs.declared.walk.Walk.TheVariants as walk
 abbrev pub mount_of : Host → State → Option Walk → Mount
 mount_of h c w = record { host = h; client = c; walk = w }
 
+-- ---- a step of the client is followed
+
+pub follows_is : {E : Type 0} (r : Result Said E) (h : Host) (c : State) (w : Option Walk) (step : ClientStep) (now : ℕ) (before send more : List Message) (ended : Option Ended) (m' : Mount) → before ≡ [] → send ≡ before ++ more → more ≡ step.send → ended ≡ step.ended → IfOk r (λ said. Leads (mount_of h c w) ended now send m' said) → IfOk r (λ said. Leads (mount_of h c w) step.ended now step.send m' said)
+follows_is r h c w step now before send more ended m' none is same ends p =
+    subst (λ (o : Option Ended). IfOk r (λ said. Leads (mount_of h c w) o now step.send m' said)) ends
+    (subst (λ (xs : List Message). IfOk r (λ said. Leads (mount_of h c w) ended now xs m' said)) (is ∙ (ap (λ (xs : List Message). xs ++ more) none ∙ same)) p)
+
 -- ---- a walk goes on
 
 pub walks_plain : (h : Host) (c : State) (w w' : Option Walk) (o : Outcome) (now : ℕ) (send : List Message) (said : Said) → w ≡ None → w' ≡ None → said ≡ says send (Some (answer_of o)) → Walks (mount_of h c w) w o now send (mount_of h c w') said

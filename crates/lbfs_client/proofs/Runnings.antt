@@ -26,13 +26,13 @@ use Rattle.lbfs_client.specs.declared.walk.Walk.TheVariants as walk
 use Rattle.lbfs_client.proofs.Leadings.{mount_of}
 
 -- a command is all of its line
-pub commands_is : {E : Type 0} (r : Result Said E) (c : State) (command : Command) (now : ℕ) (c' : State) (step : ClientStep) (before send : List Message) → Takes c command now c' step → before ≡ [] → send ≡ before ++ step.send → IfOk r (λ said. said ≡ says send (answer_to step.ended)) → IfOk r (λ said. Commands c command now c' said)
-commands_is (Ok said) c command now c' step before send takes none is e = record {
+pub commands_is : {E : Type 0} (r : Result Said E) (c : State) (command : Command) (now : ℕ) (c' : State) (step : ClientStep) (before send more : List Message) (ended : Option Ended) → Takes c command now c' step → before ≡ [] → send ≡ before ++ more → more ≡ step.send → ended ≡ step.ended → IfOk r (λ said. said ≡ says send (answer_to ended)) → IfOk r (λ said. Commands c command now c' said)
+commands_is (Ok said) c command now c' step before send more ended takes none is same ends e = record {
   step = step;
   takes = takes;
-  is_said = e ∙ ap (λ (xs : List Message). says xs (answer_to step.ended)) (is ∙ ap (λ (xs : List Message). xs ++ step.send) none);
+  is_said = e ∙ (ap (λ (xs : List Message). says xs (answer_to ended)) (is ∙ (ap (λ (xs : List Message). xs ++ more) none ∙ same)) ∙ ap (λ (o : Option Ended). says step.send (answer_to o)) ends);
 }
-commands_is (Err e) c command now c' step before send takes none is p = tt
+commands_is (Err e) c command now c' step before send more ended takes none is same ends p = tt
 
 -- the open of a line
 pub begins_is : {E : Type 0} (r : Result Said E) (h : Host) (c : State) (w : Option Walk) (next : Walk) (place : Place) (now : ℕ) (c1 : State) (ended : Option Ended) (before sent : List Message) (k : Command) (m' : Mount) → before ≡ [] → k ≡ opening place → Goes c k now before c1 ended sent → IfOk r (λ said. Leads (mount_of h c1 (Some next)) ended now sent m' said) → IfOk r (λ said. Begins (mount_of h c w) next place now m' said)

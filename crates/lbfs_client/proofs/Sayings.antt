@@ -1,9 +1,7 @@
 -- The cases of a walk, as the code comes to them.
-use Rattle.std.proofs.Common.{◌≡◌, ℕ, List, [], ◌∷◌, ◌++◌, true, false, refl, sym, ap, ◌∙◌, subst, Bool, append_assoc}
+use Rattle.std.proofs.Common.{◌≡◌, ℕ, List, true, false, refl, sym, subst, Bool}
 use Rattle.std.specs.Prelude.{Option, Some, None, Result}
-use Rattle.std.specs.Option.{option_to_list}
 use Rattle.lb_base.specs.declared.sink.GiveErr.{GiveErr}
-use Rattle.send_list.specs.Sent.{sent_list}
 use Rattle.command_text.specs.declared.content.Part.{Part}
 use Rattle.wire.specs.declared.message.Message.{Message}
 use Rattle.client_state.specs.State.{State, local_bytes}
@@ -15,15 +13,6 @@ use Rattle.lbfs_client.specs.Walks.{says, answer_of, is_closed, opened_file, Aba
 use Rattle.lbfs_client.specs.declared.said.Said.{Said}
 use Rattle.lbfs_client.specs.declared.walk.Walk.{Walk}
 use Rattle.lbfs_client.specs.declared.walk.Walk.TheVariants as walk
-
-append_none : {T : Type 0} → (xs : List T) → xs ++ [] ≡ xs
-append_none [] = refl
-append_none (x ∷ xs) = ap (λ z. x ∷ z) (append_none xs)
-
--- the first message and those behind it, behind some
-pub added : {T : Type 0} (old : List T) (first : Option T) (rest more : List T) → sent_list first rest ≡ more → (old ++ option_to_list first) ++ rest ≡ old ++ more
-added old None rest more is = ap (λ xs. xs ++ rest) (append_none old) ∙ ap (λ xs. old ++ xs) is
-added old (Some x) rest more is = append_assoc old (x ∷ []) rest ∙ ap (λ xs. old ++ xs) is
 
 pub closed_well : (c : State) (file : ℕ) (o : Outcome) (now : ℕ) (send : List Message) (said : Said) → is_closed o ≡ true → said ≡ says send (Some (answer_of o)) → Closed c file o now send c said
 closed_well c file o now send said is e = subst (λ (b : Bool). ClosedIf c file b o now send c said) (sym is) (refl, e)

@@ -4,11 +4,11 @@ ghost use Rattle.std.specs.Prelude.{◌≡◌, IfOk};
 ghost use Rattle.lbfs_client.specs.Client.{Takes, Hears, Goes};
 ghost use Rattle.lbfs_client.specs.Walks.{is_done, has_done, is_closed, opened_file};
 
-use crate::said::add;
 use client_state::step::{ClientStep, Ended, Outcome};
 use command_text::command::Command;
 use lb_base::items::Items;
 use open_close::client::Client;
+use send_list::append;
 use std::alloc::{AllocError, Global};
 use wire::fault::WireFault;
 use wire::message::Message;
@@ -43,12 +43,8 @@ pub(crate) fn go(
     ensures { IfOk result (λ ended. Goes client.old command now send.old client.new ended send.new) }
 {
     let step = take(alloc, client, command, now);
-    let ClientStep {
-        send: more,
-        ended,
-        ..
-    } = step;
-    match add(alloc, send, more) {
+    let (more, ended) = step.into_parts();
+    match append(alloc, send, more) {
         Ok(()) => Ok(ended),
         Err(want) => {
             drop(ended);

@@ -17,11 +17,24 @@ use std::alloc::{AllocError, Global};
 use std::marker::Model;
 
 /// A client, the files of the host, and what the line under way has left to do.
-#[derive(Drop)]
 pub struct Mounted<F: Files> {
     files: F,
     client: Client,
     walk: Option<Walk>,
+}
+
+/// By hand, so that the crates above prove nothing of how the parts go.
+impl<F: Files + Drop> Drop for Mounted<F> {
+    fn drop(self) {
+        let Mounted {
+            files,
+            client,
+            walk,
+        } = self;
+        drop(files);
+        drop(client);
+        drop(walk);
+    }
 }
 
 impl<F: Files> Model for Mounted<F> {

@@ -8,10 +8,9 @@ ghost use Rattle.client_state.specs.Ending.{joined};
 
 use crate::commanding::{go, take};
 use crate::fetching::read;
-use crate::said::{Said, add, says, says_step, sends};
+use crate::said::{Said, says, says_step, sends};
 use crate::walk::Walk;
 use crate::walking::lead;
-use client_state::step::ClientStep;
 use command_text::command::Command;
 use command_text::content::{Content, Part};
 use lb_base::items::{Bytes, Items};
@@ -21,6 +20,7 @@ use mount_text::line::{MountLine, Place};
 use mount_text::local::LocalName;
 use open_close::client::Client;
 use register_model::op::Outcome;
+use send_list::append;
 use std::alloc::{AllocError, Global};
 
 /// A command that is all of its line.
@@ -28,13 +28,9 @@ fn plain(alloc: Global, client: &mut Client, command: Command, now: u64) -> Resu
     ensures { IfOk result (λ said. Commands client.old command now client.new said) }
 {
     let step = take(alloc, client, command, now);
-    let ClientStep {
-        send: more,
-        ended,
-        ..
-    } = step;
+    let (more, ended) = step.into_parts();
     let mut send = Items::new(alloc);
-    match add(alloc, &mut send, more) {
+    match append(alloc, &mut send, more) {
         Ok(()) => {
             let said = says_step(alloc, send, &ended);
             drop(ended);

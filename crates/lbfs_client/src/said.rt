@@ -1,15 +1,12 @@
 //! What a mounted client says: `says` of `specs/Walks.antt`.
 
-ghost use Rattle.std.specs.Prelude.{◌≡◌, ◌++◌, IfOk, OnOk, Some, None};
-ghost use Rattle.std.specs.Option.{option_to_list};
+ghost use Rattle.std.specs.Prelude.{◌≡◌, IfOk, Some, None};
 ghost use Rattle.lbfs_client.specs.Walks.{says, answer_of, answer_to};
 
 use client_state::step::{Ended, Outcome};
 use lb_base::items::{Bytes, Items};
 use mount_text::answer::Answer;
-use send_list::SendList;
 use std::alloc::{AllocError, Global};
-use std::mem;
 use told_outcome::told_of;
 use wire::message::Message;
 
@@ -20,45 +17,6 @@ pub struct Said {
     pub send: Items<Message>,
     /// The line of what ended, if anything did, with its line feed.
     pub line: Option<Bytes>,
-}
-
-/// Adds an item behind those that there are, if there is one.
-fn add_first<T: Drop>(all: &mut Items<T>, first: Option<T>) -> Result<(), AllocError>
-    ensures { OnOk result (all.new ≡ all.old ++ option_to_list first) }
-{
-    match first {
-        None => Ok(()),
-        Some(first) => {
-            all.push(first)?;
-            Ok(())
-        }
-    }
-}
-
-/// Adds items behind those that there are. After an error some may be gone.
-fn add_rest<T: Drop>(alloc: Global, all: &mut Items<T>, rest: Items<T>) -> Result<(), AllocError>
-    ensures { OnOk result (all.new ≡ all.old ++ rest) }
-{
-    let mut items = mem::replace(all, Items::new(alloc)).into_vec();
-    let mut more = rest.into_vec();
-    items.append(&mut more)?;
-    *all = Items::from_vec(items);
-    Ok(())
-}
-
-/// Adds messages behind those that there are. The one error is want of memory, and some of them may
-/// be gone then.
-pub(crate) fn add<T: Drop>(
-    alloc: Global,
-    all: &mut Items<T>,
-    more: SendList<T>,
-) -> Result<(), AllocError>
-    ensures { OnOk result (all.new ≡ all.old ++ more) }
-{
-    let (first, rest) = more.into_parts();
-    add_first(all, first)?;
-    add_rest(alloc, all, rest)?;
-    Ok(())
 }
 
 /// These messages go out, and nothing ended.

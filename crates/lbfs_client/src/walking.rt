@@ -7,7 +7,7 @@ ghost use Rattle.lbfs_client.specs.Mounting.{Walks, Leads, Hearing, Receives, Lo
 
 use crate::commanding;
 use crate::fetching::fetched;
-use crate::said::{Said, add, says_end, sends};
+use crate::said::{Said, says_end, sends};
 use crate::storing::{closed, opened};
 use crate::walk::Walk;
 use client_state::step::{ClientStep, Ended, Outcome};
@@ -15,6 +15,7 @@ use lb_base::items::Items;
 use links::files::Files;
 use open_close::client::Client;
 use record_ends::end::End;
+use send_list::append;
 use std::alloc::{AllocError, Global};
 use wire::fault::{WireErr, WireFault};
 use wire::message::{Message, Waiting};
@@ -112,13 +113,9 @@ fn follow<F: Files>(
 ) -> Result<Said, AllocError>
     ensures { IfOk result (λ said. Leads (record { host = record { files = F.files files.old; faults = F.faults files.old }; client = client.old; walk = walk.old }) step.ended now step.send (record { host = record { files = F.files files.new; faults = F.faults files.new }; client = client.new; walk = walk.new }) said) }
 {
-    let ClientStep {
-        send: more,
-        ended,
-        ..
-    } = step;
+    let (more, ended) = step.into_parts();
     let mut send = Items::new(alloc);
-    match add(alloc, &mut send, more) {
+    match append(alloc, &mut send, more) {
         Ok(()) => {
             let said = lead(alloc, files, client, walk, &ended, now, send);
             drop(ended);

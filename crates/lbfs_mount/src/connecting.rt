@@ -6,9 +6,9 @@ ghost use Rattle.lbfs_mount.specs.Mounts.{IsFaulty, Unjoined};
 use crate::hearing::hear_all;
 use crate::mount_err::MountErr;
 use crate::shared::Shared;
+use crate::turns::Turns;
 use lb_base::source::Failed;
 use links::clock::Clock;
-use links::files::Files;
 use links::link::Link;
 use links::network::Network;
 use record_ends::inbox::Inbox;
@@ -85,13 +85,13 @@ pub(crate) fn connect<
     's,
     'e,
     R: Threads + Wait + Sync,
-    F: Files + Drop + Send,
+    D: Turns<L = N::L> + Drop + Send,
     N: Network,
     C: Clock + Sync,
 >(
     scope: &'s Scope<'s, &'e ()>,
     rt: &'e R,
-    shared: &'e Shared<F, N::L>,
+    shared: &'e Shared<D>,
     dialler: &mut Dialler<N, N::L>,
     clock: &'e C,
 ) -> Result<(), MountErr>

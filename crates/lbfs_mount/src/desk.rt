@@ -6,7 +6,7 @@ ghost use Rattle.lbfs_client.specs.Mounting.{Runs, Receives, joined_step};
 ghost use Rattle.lbfs_mount.specs.Turns.{IsTold, Loses, Sends, Turns};
 
 use crate::answer_line::AnswerLine;
-use client_state::drops;
+use crate::turns::Turns;
 use lb_base::items::{Bytes, Items};
 use lbfs_client::mounted::Mounted;
 use lbfs_client::said::Said;
@@ -87,78 +87,6 @@ impl<F: Files + Drop, L: Link + Drop> Desk<F, L> {
         }
     }
 
-    /// Whether there is something for whoever waits for a line.
-    pub(crate) fn has_news(&self) -> bool {
-        self.line.is_some() || self.starved
-    }
-
-    /// The line of what ended. The error says that memory ran out.
-    pub(crate) fn take_line(&mut self) -> Result<AnswerLine, AllocError>
-        ensures { self.new.mounted ≡ self.old.mounted }
-    {
-        if self.starved {
-            return Err(AllocError);
-        }
-        match self.line.take() {
-            Some(line) => Ok(line),
-            None => Err(AllocError),
-        }
-    }
-
-    /// A line of the script begins. It answers whether a connection is to be joined for it.
-    pub(crate) fn run(&mut self, alloc: Global, line: MountLine, now: u64) -> bool
-        ensures { self.new.starved ≡ false → Turns (λ m said. Runs self.old.mounted line now m said) now self.new.mounted }
-    {
-        let wants = wants_link(&line, self.mounted.linked());
-        let said = self.mounted.line(alloc, line, now);
-        self.settle(alloc, said, now);
-        wants
-    }
-
-    /// A connection is joined, on this link. Its number is what the thread that takes its records is
-    /// known by.
-    pub(crate) fn join(&mut self, alloc: Global, link: L, now: u64) -> u64
-        ensures { self.new.starved ≡ false → Turns (λ m said. joined_step self.old.mounted ≡ (m, said)) now self.new.mounted }
-    {
-        close(&mut self.link);
-        self.link = Some(link);
-        self.connection = self.connection.saturating_add(1);
-        let said = self.mounted.joined(alloc);
-        self.settle(alloc, said, now);
-        self.connection
-    }
-
-    /// A record came on a connection. It answers whether more may come there.
-    pub(crate) fn hear(&mut self, alloc: Global, connection: u64, record: &[u8], now: u64) -> bool
-        ensures other { (self.old.connection == connection) ≡ false → self.new ≡ self.old }
-        ensures turn { self.new.starved ≡ false → (self.new.mounted ≡ self.old.mounted) ⊎ Turns (λ m said. Receives self.old.mounted record.now now m said) now self.new.mounted }
-    {
-        if !self.is_open(connection) {
-            return false;
-        }
-        let said = self.mounted.got(alloc, record, now);
-        self.settle(alloc, said, now);
-        close_unless(self.mounted.linked(), &mut self.link);
-        self.is_open(connection)
-    }
-
-    /// No more records come on a connection.
-    pub(crate) fn stop(&mut self, alloc: Global, connection: u64, end: End, now: u64)
-        ensures other { (self.old.connection == connection) ≡ false → self.new ≡ self.old }
-        ensures turn { self.new.starved ≡ false → (self.new.mounted ≡ self.old.mounted) ⊎ Loses self.old.mounted end now self.new.mounted }
-    {
-        if self.is_open(connection) {
-            self.lose(alloc, end, now);
-        }
-    }
-
-    /// The link is shut, where there is one.
-    pub(crate) fn close(&mut self)
-        ensures { (self.new.mounted ≡ self.old.mounted) × (self.new.starved ≡ self.old.starved) }
-    {
-        close(&mut self.link);
-    }
-
     /// The files of the host, which the mount lets go.
     pub(crate) fn into_files(self) -> F
         ensures { self.mounted.host ≡ record { files = F.files result; faults = F.faults result } }
@@ -200,7 +128,7 @@ impl<F: Files + Drop, L: Link + Drop> Desk<F, L> {
         let Said { send, line } = said;
         keep(&mut self.line, line);
         let sent = send_on(alloc, &mut self.link, &send);
-        drops::items(send);
+        drop(send);
         match sent {
             Ok(()) => {}
             Err(end) => self.lose(alloc, end, now),
@@ -215,10 +143,86 @@ impl<F: Files + Drop, L: Link + Drop> Desk<F, L> {
         match self.mounted.ended(alloc, end, now) {
             Ok(said) => {
                 let Said { send, line } = said;
-                drops::items(send);
+                drop(send);
                 keep(&mut self.line, line);
             }
             Err(_want) => self.starved = true,
         }
+    }
+}
+
+impl<F: Files + Drop, L: Link + Drop> Turns for Desk<F, L> {
+    type L = L;
+
+    /// Whether there is something for whoever waits for a line.
+    fn has_news(&self) -> bool {
+        self.line.is_some() || self.starved
+    }
+
+    /// The line of what ended. The error says that memory ran out.
+    fn take_line(&mut self) -> Result<AnswerLine, AllocError>
+        ensures { self.new.mounted ≡ self.old.mounted }
+    {
+        if self.starved {
+            return Err(AllocError);
+        }
+        match self.line.take() {
+            Some(line) => Ok(line),
+            None => Err(AllocError),
+        }
+    }
+
+    /// A line of the script begins. It answers whether a connection is to be joined for it.
+    fn run(&mut self, alloc: Global, line: MountLine, now: u64) -> bool
+        ensures { self.new.starved ≡ false → Turns (λ m said. Runs self.old.mounted line now m said) now self.new.mounted }
+    {
+        let wants = wants_link(&line, self.mounted.linked());
+        let said = self.mounted.line(alloc, line, now);
+        self.settle(alloc, said, now);
+        wants
+    }
+
+    /// A connection is joined, on this link. Its number is what the thread that takes its records is
+    /// known by.
+    fn join(&mut self, alloc: Global, link: L, now: u64) -> u64
+        ensures { self.new.starved ≡ false → Turns (λ m said. joined_step self.old.mounted ≡ (m, said)) now self.new.mounted }
+    {
+        close(&mut self.link);
+        self.link = Some(link);
+        self.connection = self.connection.saturating_add(1);
+        let said = self.mounted.joined(alloc);
+        self.settle(alloc, said, now);
+        self.connection
+    }
+
+    /// A record came on a connection. It answers whether more may come there.
+    fn hear(&mut self, alloc: Global, connection: u64, record: &[u8], now: u64) -> bool
+        ensures other { (self.old.connection == connection) ≡ false → self.new ≡ self.old }
+        ensures turn { self.new.starved ≡ false → (self.new.mounted ≡ self.old.mounted) ⊎ Turns (λ m said. Receives self.old.mounted record.now now m said) now self.new.mounted }
+    {
+        if !self.is_open(connection) {
+            return false;
+        }
+        let said = self.mounted.got(alloc, record, now);
+        self.settle(alloc, said, now);
+        close_unless(self.mounted.linked(), &mut self.link);
+        self.is_open(connection)
+    }
+
+    /// No more records come on a connection.
+    fn stop(&mut self, alloc: Global, connection: u64, end: End, now: u64)
+        ensures other { (self.old.connection == connection) ≡ false → self.new ≡ self.old }
+        ensures turn { self.new.starved ≡ false → (self.new.mounted ≡ self.old.mounted) ⊎ Loses self.old.mounted end now self.new.mounted }
+    {
+        if self.is_open(connection) {
+            self.lose(alloc, end, now);
+        }
+    }
+
+    /// The link is shut, where there is one.
+    fn close(&mut self)
+        ensures { (self.new.mounted ≡ self.old.mounted) × (self.new.starved ≡ self.old.starved) }
+    {
+        close(&mut self.link);
     }
 }

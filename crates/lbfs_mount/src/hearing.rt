@@ -2,16 +2,16 @@
 //! server asks is answered also while no line runs.
 
 use crate::shared::Shared;
+use crate::turns::Turns;
 use links::clock::Clock;
-use links::files::Files;
 use links::link::Link;
 use record_ends::inbox::Inbox;
 use std::sync::Wait;
 
 /// Takes the records of a connection, until no more come or the client is done with it.
-pub(crate) fn hear_all<W: Wait, F: Files + Drop, L: Link + Drop, C: Clock>(
+pub(crate) fn hear_all<W: Wait, D: Turns + Drop, L: Link + Drop, C: Clock>(
     rt: &W,
-    shared: &Shared<F, L>,
+    shared: &Shared<D>,
     connection: u64,
     link: L,
     inbox: Inbox,

@@ -1,8 +1,9 @@
 //! A mount: the lines of a script, run one by one over a client on its connection.
 //!
 //! `desk` has what the threads share: the client, and the link on which its messages go. `shared` has
-//! it under a lock; each turn is one call of `Desk`. `hearing` is the thread of a connection, which
-//! takes its records; `connecting` dials one; `running` goes through the script. `mount` has them all.
+//! it under a lock; each turn is one call of `Desk`, by the trait of `turns`. `hearing` is the thread
+//! of a connection, which takes its records; `connecting` dials one; `running` goes through the script.
+//! `mount` has them all.
 #![tactic(auto)]
 
 pub mod answer_line;
@@ -13,3 +14,4 @@ pub mod mount;
 pub mod mount_err;
 mod running;
 mod shared;
+mod turns;

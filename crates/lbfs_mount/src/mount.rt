@@ -6,9 +6,11 @@ ghost use Rattle.lbfs_mount.specs.Mounts.{Ends, IsBadLine, IsDone, IsFaulty, IsT
 ghost use Rattle.lbfs_mount.specs.declared.mount_err.MountErr.TheVariants as errors;
 
 use crate::connecting::Dialler;
+use crate::desk::Desk;
 use crate::mount_err::MountErr;
 use crate::running::run_lines;
 use crate::shared::Shared;
+use crate::turns::Turns;
 use lb_base::sink::Sink;
 use lb_base::source::Source;
 use lbfs_client::mounted::Mounted;
@@ -26,12 +28,12 @@ fn run_shared<
     R: Threads + Wait + Sync,
     S: Source + Drop,
     K: Sink + Drop,
-    F: Files + Drop + Send,
+    D: Turns<L = N::L> + Drop + Send,
     N: Network + Drop,
     C: Clock + Sync,
 >(
     rt: &'x R,
-    shared: &'x Shared<F, N::L>,
+    shared: &'x Shared<D>,
     script: S,
     sink: K,
     dialler: Dialler<N, N::L>,
@@ -111,7 +113,7 @@ where
         Ok(mounted) => mounted,
         Err(files) => return (Err(MountErr::Memory), script, sink, files, net, None),
     };
-    let shared = Shared::new(alloc, mounted);
+    let shared = Shared::new(alloc, Desk::new(mounted));
     let dialler = Dialler {
         net,
         port,
@@ -119,5 +121,6 @@ where
     };
     let (ended, script, sink, dialler) = run_shared(rt, &shared, script, sink, dialler, clock);
     let Dialler { net, unpaired, .. } = dialler;
-    (ended, script, sink, shared.into_files(), net, unpaired)
+    let files = shared.into_desk().into_files();
+    (ended, script, sink, files, net, unpaired)
 }

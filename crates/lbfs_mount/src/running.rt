@@ -9,11 +9,11 @@ use crate::answer_line::AnswerLine;
 use crate::connecting::{Dialler, connect};
 use crate::mount_err::MountErr;
 use crate::shared::Shared;
+use crate::turns::Turns;
 use command_text::line_err::LineErr;
 use lb_base::sink::{GiveErr, Sink, give_all};
 use lb_base::source::{ReadError, Source};
 use links::clock::Clock;
-use links::files::Files;
 use links::network::Network;
 use mount_text::line::MountLine;
 use script_lines::script::Script;
@@ -59,10 +59,17 @@ fn write_answer<K: Sink>(sink: &mut K, answer: &AnswerLine) -> Result<(), MountE
 }
 
 /// A line runs to its end.
-fn run_line<'s, 'e, R: Threads + Wait + Sync, F: Files + Drop + Send, N: Network, C: Clock + Sync>(
+fn run_line<
+    's,
+    'e,
+    R: Threads + Wait + Sync,
+    D: Turns<L = N::L> + Drop + Send,
+    N: Network,
+    C: Clock + Sync,
+>(
     scope: &'s Scope<'s, &'e ()>,
     rt: &'e R,
-    shared: &'e Shared<F, N::L>,
+    shared: &'e Shared<D>,
     dialler: &mut Dialler<N, N::L>,
     clock: &'e C,
     line: MountLine,
@@ -89,14 +96,14 @@ fn tell_line<
     's,
     'e,
     R: Threads + Wait + Sync,
-    F: Files + Drop + Send,
+    D: Turns<L = N::L> + Drop + Send,
     N: Network,
     C: Clock + Sync,
     K: Sink,
 >(
     scope: &'s Scope<'s, &'e ()>,
     rt: &'e R,
-    shared: &'e Shared<F, N::L>,
+    shared: &'e Shared<D>,
     dialler: &mut Dialler<N, N::L>,
     clock: &'e C,
     sink: &mut K,
@@ -118,14 +125,14 @@ fn run_text<
     's,
     'e,
     R: Threads + Wait + Sync,
-    F: Files + Drop + Send,
+    D: Turns<L = N::L> + Drop + Send,
     N: Network,
     C: Clock + Sync,
     K: Sink,
 >(
     scope: &'s Scope<'s, &'e ()>,
     rt: &'e R,
-    shared: &'e Shared<F, N::L>,
+    shared: &'e Shared<D>,
     dialler: &mut Dialler<N, N::L>,
     clock: &'e C,
     sink: &mut K,
@@ -155,7 +162,7 @@ fn run_on<
     's,
     'e,
     R: Threads + Wait + Sync,
-    F: Files + Drop + Send,
+    D: Turns<L = N::L> + Drop + Send,
     N: Network,
     C: Clock + Sync,
     S: Source,
@@ -163,7 +170,7 @@ fn run_on<
 >(
     scope: &'s Scope<'s, &'e ()>,
     rt: &'e R,
-    shared: &'e Shared<F, N::L>,
+    shared: &'e Shared<D>,
     dialler: &mut Dialler<N, N::L>,
     clock: &'e C,
     script: &mut S,
@@ -211,7 +218,7 @@ pub(crate) fn run_lines<
     's,
     'e,
     R: Threads + Wait + Sync,
-    F: Files + Drop + Send,
+    D: Turns<L = N::L> + Drop + Send,
     N: Network,
     C: Clock + Sync,
     S: Source,
@@ -219,7 +226,7 @@ pub(crate) fn run_lines<
 >(
     scope: &'s Scope<'s, &'e ()>,
     rt: &'e R,
-    shared: &'e Shared<F, N::L>,
+    shared: &'e Shared<D>,
     dialler: &mut Dialler<N, N::L>,
     clock: &'e C,
     script: &mut S,

@@ -1,12 +1,9 @@
-//! The turns of a mount: each locks what its threads share, and is one call of `Desk`. That a call is
+//! The turns of a mount: each locks what its threads share, and is one call of `Turns`. That a call is
 //! what its contract says is proved of `Desk`; of a turn no clause speaks, since another thread's may
 //! stand before and behind it.
 
 use crate::answer_line::AnswerLine;
-use crate::desk::Desk;
-use lbfs_client::mounted::Mounted;
-use links::files::Files;
-use links::link::Link;
+use crate::turns::Turns;
 use mount_text::line::MountLine;
 use record_ends::end::End;
 use std::alloc::{AllocError, Global};
@@ -14,18 +11,18 @@ use std::sync::{Condvar, Mutex, Wait};
 
 /// What the threads of a mount share, and by what the script is woken that waits for a line.
 #[derive(Drop)]
-pub(crate) struct Shared<F: Files, L> {
-    desk: Mutex<Desk<F, L>>,
+pub(crate) struct Shared<D> {
+    desk: Mutex<D>,
     /// A line ended, or memory ran out.
     news: Condvar,
     alloc: Global,
 }
 
-impl<F: Files + Drop, L: Link + Drop> Shared<F, L> {
+impl<D: Turns + Drop> Shared<D> {
     /// What a mount's threads share. It takes no memory.
-    pub(crate) fn new(alloc: Global, mounted: Mounted<F>) -> Shared<F, L> {
+    pub(crate) fn new(alloc: Global, desk: D) -> Shared<D> {
         Shared {
-            desk: Mutex::new(Desk::new(mounted)),
+            desk: Mutex::new(desk),
             news: Condvar::new(),
             alloc,
         }
@@ -36,11 +33,11 @@ impl<F: Files + Drop, L: Link + Drop> Shared<F, L> {
         self.alloc
     }
 
-    /// The files of the host, once no thread shares them any more.
-    pub(crate) fn into_files(self) -> F {
+    /// What was shared, once no thread does any more.
+    pub(crate) fn into_desk(self) -> D {
         let Shared { desk, news, .. } = self;
         drop(news);
-        desk.into_inner().into_files()
+        desk.into_inner()
     }
 
     /// A turn in which a line begins. It answers whether a connection is to be joined for it.
@@ -51,13 +48,18 @@ impl<F: Files + Drop, L: Link + Drop> Shared<F, L> {
     /// A turn that takes the line of what ended, once there is one. The error says that memory ran
     /// out.
     pub(crate) fn await_line<W: Wait>(&self, rt: &W) -> Result<AnswerLine, AllocError> {
-        let desk = self.desk.lock(rt);
-        let mut told = self.news.wait_while(rt, desk, |desk| !desk.has_news());
-        told.take_line()
+        let mut desk = self.desk.lock(rt);
+        for _turn in rt.forever() {
+            if desk.has_news() {
+                return desk.take_line();
+            }
+            desk = self.news.wait(rt, desk);
+        }
+        unreachable!()
     }
 
     /// A turn in which a connection is joined, on this link. It answers the connection's number.
-    pub(crate) fn join<W: Wait>(&self, rt: &W, link: L, now: u64) -> u64 {
+    pub(crate) fn join<W: Wait>(&self, rt: &W, link: D::L, now: u64) -> u64 {
         self.desk.lock(rt).join(self.alloc, link, now)
     }
 

@@ -10,7 +10,7 @@ pub trait Gate {
 }
 
 /// Nothing looks on.
-#[derive(Clone, Copy, Debug, Drop)]
+#[derive(Clone, Copy)]
 pub struct OpenGate;
 
 impl Gate for OpenGate {

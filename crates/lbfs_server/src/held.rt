@@ -14,6 +14,7 @@ ghost use Rattle.lbfs_server.specs.Held.{After, Delivered, HeardOrLeft, Joined, 
 ghost use Rattle.lbfs_server.specs.declared.held.Went.TheVariants as went;
 
 use crate::kept::KeptServer;
+use crate::turns::Turns;
 use hash_calls::call::Commit;
 use lb_base::items::Items;
 use outboxes::outboxes::Outboxes;
@@ -30,7 +31,7 @@ use wire::message::{Message, Side, Waiting};
 use wire::parse::parse;
 
 /// What came of an event.
-#[derive(Clone, Copy, Debug, PartialEq, Eq)]
+#[derive(Clone, Copy, Debug)]
 pub enum Went {
     /// It was done, and this session stands: the one that was made or that sent a message, or whose
     /// change was settled.
@@ -49,11 +50,19 @@ pub enum Went {
 }
 
 /// What the threads of a server share.
-#[derive(Drop)]
 pub struct Held<S: Store> {
     /// The server, and what keeps its tree from one start to the next.
     kept: KeptServer<S>,
     boxes: Outboxes<Message>,
+}
+
+// By hand, so that no crate above proves how each part is let go.
+impl<S: Store + Drop> Drop for Held<S> {
+    fn drop(self) {
+        let Held { kept, boxes } = self;
+        drop(kept);
+        drop(boxes);
+    }
 }
 
 fn both(one: bool, other: bool) -> bool
@@ -103,35 +112,6 @@ impl<S: Store + Drop> Held<S> {
             kept: KeptServer::new(server, store),
             boxes: Outboxes::new(alloc),
         }
-    }
-
-    /// Whether a session stands.
-    pub fn stands(&self, session: u32) -> bool
-        ensures some { IsTrue result → (messages : List Message) × Holds self.now.boxes session messages }
-        ensures none { result ≡ false → Lacks self.now.boxes session }
-    {
-        self.boxes.has(session)
-    }
-
-    /// Whether a session stands to which nothing is to be said.
-    pub fn is_quiet(&self, session: u32) -> bool
-        ensures { IsTrue result ↔ Holds self.now.boxes session [] }
-    {
-        self.boxes.is_quiet(session)
-    }
-
-    /// Whether nothing is to be said to any session.
-    pub fn is_still(&self) -> bool
-        ensures { IsTrue result ↔ AllEmpty self.now.boxes }
-    {
-        self.boxes.is_still()
-    }
-
-    /// Whether a change of the session waits.
-    pub fn waits(&self, session: u32) -> bool
-        ensures { result ≡ has_waiting self.now.kept.server.waiting session }
-    {
-        self.kept.waits(session)
     }
 
     /// How many changes were made.
@@ -261,27 +241,6 @@ impl<S: Store + Drop> Held<S> {
         }
     }
 
-    /// One event of the server. What it sends goes into the boxes of its sessions; where memory is
-    /// wanting for that the session is hung.
-    pub fn event(&mut self, alloc: Global, event: Event) -> Went
-        requires { IsTimed event }
-        ensures { After S.records S.faults self.old event result self.new }
-    {
-        match event {
-            Event::Connect => self.connect(alloc),
-            Event::Got {
-                session,
-                message,
-                now,
-            } => self.take_message(alloc, session, message, now),
-            Event::Settle { now } => self.settle(alloc, now),
-            Event::Hang { session } => {
-                self.hang(alloc, session);
-                Went::Closed
-            }
-        }
-    }
-
     /// A record came that is no message.
     fn unheard(&mut self, alloc: Global, session: u32, fault: WireFault) -> Went
         ensures { Unheard S.records S.faults self.old session fault result self.new }
@@ -308,9 +267,79 @@ impl<S: Store + Drop> Held<S> {
         }
     }
 
+    /// A record of a session came.
+    pub fn got(&mut self, alloc: Global, session: u32, bytes: &[u8], now: u64) -> Went
+        requires { now < 2 ^ 63 }
+        ensures { HeardOrLeft S.records S.faults self.old session now (parse_of server_waits bytes.now) result self.new }
+    {
+        let read = read_record(alloc, bytes);
+        self.heard(alloc, session, read, now)
+    }
+
+    /// The store, once nobody is told anything any more.
+    pub fn into_store(self) -> S
+        ensures { result ≡ self.kept.store }
+    {
+        let Held { kept, boxes } = self;
+        drop(boxes);
+        kept.into_store()
+    }
+}
+
+impl<S: Store + Drop> Turns for Held<S> {
+    /// Whether a session stands.
+    fn stands(&self, session: u32) -> bool
+        ensures some { IsTrue result → (messages : List Message) × Holds self.now.boxes session messages }
+        ensures none { result ≡ false → Lacks self.now.boxes session }
+    {
+        self.boxes.has(session)
+    }
+
+    /// Whether a session stands to which nothing is to be said.
+    fn is_quiet(&self, session: u32) -> bool
+        ensures { IsTrue result ↔ Holds self.now.boxes session [] }
+    {
+        self.boxes.is_quiet(session)
+    }
+
+    /// Whether nothing is to be said to any session.
+    fn is_still(&self) -> bool
+        ensures { IsTrue result ↔ AllEmpty self.now.boxes }
+    {
+        self.boxes.is_still()
+    }
+
+    /// Whether a change of the session waits.
+    fn waits(&self, session: u32) -> bool
+        ensures { result ≡ has_waiting self.now.kept.server.waiting session }
+    {
+        self.kept.waits(session)
+    }
+
+    /// One event of the server. What it sends goes into the boxes of its sessions; where memory is
+    /// wanting for that the session is hung.
+    fn event(&mut self, alloc: Global, event: Event) -> Went
+        requires { IsTimed event }
+        ensures { After S.records S.faults self.old event result self.new }
+    {
+        match event {
+            Event::Connect => self.connect(alloc),
+            Event::Got {
+                session,
+                message,
+                now,
+            } => self.take_message(alloc, session, message, now),
+            Event::Settle { now } => self.settle(alloc, now),
+            Event::Hang { session } => {
+                self.hang(alloc, session);
+                Went::Closed
+            }
+        }
+    }
+
     /// A record of a session was read: the event of its message. A record that is no message hangs the
     /// session, and an answer that nobody waits for is no event; want of memory hangs it too.
-    pub fn heard(
+    fn heard(
         &mut self,
         alloc: Global,
         session: u32,
@@ -326,46 +355,28 @@ impl<S: Store + Drop> Held<S> {
         }
     }
 
-    /// A record of a session came.
-    pub fn got(&mut self, alloc: Global, session: u32, bytes: &[u8], now: u64) -> Went
-        requires { now < 2 ^ 63 }
-        ensures { HeardOrLeft S.records S.faults self.old session now (parse_of server_waits bytes.now) result self.new }
-    {
-        let read = read_record(alloc, bytes);
-        self.heard(alloc, session, read, now)
-    }
-
     /// An owner of the whole content of a temporary file of a session, where it has one of this size
     /// and memory suffices. Nothing changes.
-    pub fn share_temp(&mut self, session: u32, commit: &Commit) -> Option<SharedBytes>
+    fn share_temp(&mut self, session: u32, commit: &Commit) -> Option<SharedBytes>
         ensures { self.new ≡ self.old }
     {
         self.kept.share_temp(session, commit)
     }
 
     /// Keeps a content that was made ahead, or none. Nothing changes.
-    pub fn prepare(&mut self, ahead: Option<Content>)
+    fn prepare(&mut self, ahead: Option<Content>)
         ensures { self.new ≡ self.old }
     {
         self.kept.prepare(ahead);
     }
 
     /// All that is to be said to a session, in order; nothing is left. It takes no memory.
-    pub fn take_out(&mut self, session: u32) -> Vec<Message>
+    fn take_out(&mut self, session: u32) -> Vec<Message>
         ensures taken { (messages : List Message) → Holds self.old.boxes session messages → (result.items ≡ messages) × Holds self.new.boxes session [] }
         ensures none { Lacks self.old.boxes session → result.items ≡ [] }
         ensures others { KeepsOthers self.old.boxes self.new.boxes session }
         ensures kept { self.new.kept ≡ self.old.kept }
     {
         self.boxes.take(session).into_vec()
-    }
-
-    /// The store, once nobody is told anything any more.
-    pub fn into_store(self) -> S
-        ensures { result ≡ self.kept.store }
-    {
-        let Held { kept, boxes } = self;
-        drop(boxes);
-        kept.into_store()
     }
 }

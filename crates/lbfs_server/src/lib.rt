@@ -8,3 +8,4 @@ pub mod listener;
 pub mod serve;
 pub mod session;
 pub mod shared;
+pub mod turns;

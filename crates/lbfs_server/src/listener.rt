@@ -9,6 +9,7 @@ use crate::gate::Gate;
 use crate::held::Went;
 use crate::session::{session_both, session_in, session_out};
 use crate::shared::Shared;
+use crate::turns::Turns;
 use lb_base::source::Failed;
 use links::clock::Clock;
 use links::link::Link;
@@ -20,7 +21,6 @@ use std::sync::atomic::{AtomicBool, Ordering};
 use std::sync::{Mutex, Wait};
 use std::thread;
 use std::thread::{Scope, Threads};
-use store::store::Store;
 
 /// Serves a session on its link and the link's twin: one thread takes records and puts out their
 /// answers, and another puts out what further events have to say. Where no thread can be had the
@@ -28,13 +28,13 @@ use store::store::Store;
 fn serve_twins<
     'x,
     R: Threads + Wait + Sync,
-    S: Store + Drop + Send,
+    H: Turns + Drop + Send,
     G: Gate + Drop + Sync,
     L: Link + Drop + Send,
     C: Clock + Sync,
 >(
     rt: &'x R,
-    shared: &'x Shared<S, G, L>,
+    shared: &'x Shared<H, G, L>,
     session: u32,
     gives: &'x Mutex<L>,
     twin: L,
@@ -55,11 +55,11 @@ fn serve_twins<
 /// Serves a session on its link, in two threads; where the link has no twin, in one.
 fn serve_session<
     R: Threads + Wait + Sync,
-    S: Store + Drop + Send,
+    H: Turns + Drop + Send,
     G: Gate + Drop + Sync,
     L: Link + Drop + Send,
     C: Clock + Sync,
->(rt: &R, shared: &Shared<S, G, L>, session: u32, link: L, clock: &C) -> End {
+>(rt: &R, shared: &Shared<H, G, L>, session: u32, link: L, clock: &C) -> End {
     let mut link = link;
     let Ok(twin) = link.twin() else {
         return session_both(rt, shared, session, &mut link, clock);
@@ -74,9 +74,9 @@ fn serve_session<
 }
 
 /// Lets changes be made that wait for a moment, until all sessions were served.
-fn tick<R: Wait, S: Store + Drop, G: Gate + Drop, L: Link + Drop, C: Clock, T: Rest>(
+fn tick<R: Wait, H: Turns + Drop, G: Gate + Drop, L: Link + Drop, C: Clock, T: Rest>(
     rt: &R,
-    shared: &Shared<S, G, L>,
+    shared: &Shared<H, G, L>,
     clock: &C,
     rest: &T,
     done: &AtomicBool,
@@ -96,14 +96,14 @@ fn begin<
     's,
     'e,
     R: Threads + Wait + Sync,
-    S: Store + Drop + Send,
+    H: Turns + Drop + Send,
     G: Gate + Drop + Sync,
     L: Link + Drop + Send + 's,
     C: Clock + Sync,
 >(
     scope: &'s Scope<'s, &'e ()>,
     rt: &'e R,
-    shared: &'e Shared<S, G, L>,
+    shared: &'e Shared<H, G, L>,
     link: L,
     clock: &'e C,
 ) -> bool {
@@ -128,14 +128,14 @@ fn begin_next<
     's,
     'e,
     R: Threads + Wait + Sync,
-    S: Store + Drop + Send,
+    H: Turns + Drop + Send,
     G: Gate + Drop + Sync,
     N: Network,
     C: Clock + Sync,
 >(
     scope: &'s Scope<'s, &'e ()>,
     rt: &'e R,
-    shared: &'e Shared<S, G, N::L>,
+    shared: &'e Shared<H, G, N::L>,
     net: &mut N,
     clock: &'e C,
 ) -> Result<(), Failed>
@@ -159,14 +159,14 @@ fn accept_all<
     's,
     'e,
     R: Threads + Wait + Sync,
-    S: Store + Drop + Send,
+    H: Turns + Drop + Send,
     G: Gate + Drop + Sync,
     N: Network,
     C: Clock + Sync,
 >(
     scope: &'s Scope<'s, &'e ()>,
     rt: &'e R,
-    shared: &'e Shared<S, G, N::L>,
+    shared: &'e Shared<H, G, N::L>,
     net: &mut N,
     clock: &'e C,
     sessions: u32,
@@ -188,13 +188,13 @@ where
 fn serve_all<
     'x,
     R: Threads + Wait + Sync,
-    S: Store + Drop + Send,
+    H: Turns + Drop + Send,
     G: Gate + Drop + Sync,
     N: Network + Drop,
     C: Clock + Sync,
 >(
     rt: &'x R,
-    shared: &'x Shared<S, G, N::L>,
+    shared: &'x Shared<H, G, N::L>,
     net: N,
     clock: &'x C,
     sessions: u32,
@@ -229,14 +229,14 @@ where
 pub fn serve_links<
     'x,
     R: Threads + Wait + Sync,
-    S: Store + Drop + Send,
+    H: Turns + Drop + Send,
     G: Gate + Drop + Sync,
     N: Network + Drop,
     C: Clock + Sync,
     T: Rest + Sync,
 >(
     rt: &'x R,
-    shared: &'x Shared<S, G, N::L>,
+    shared: &'x Shared<H, G, N::L>,
     net: N,
     clock: &'x C,
     rest: &'x T,

@@ -24,7 +24,7 @@ use tree_load::error::LoadError;
 use tree_load::load::load;
 
 /// What came of serving.
-#[derive(Clone, Copy, Debug, PartialEq, Eq)]
+#[derive(Clone, Copy)]
 pub struct Served {
     /// How many sessions were served.
     pub sessions: u32,
@@ -33,7 +33,7 @@ pub struct Served {
 }
 
 /// Why nothing more is served.
-#[derive(Clone, Copy, Debug, PartialEq, Eq)]
+#[derive(Clone, Copy)]
 pub enum ServeErr {
     /// The network failed.
     Network,

@@ -9,6 +9,7 @@ ghost use Rattle.lbfs_server.specs.Ends.{IsSpoilt};
 
 use crate::gate::Gate;
 use crate::shared::{Outgoing, Shared};
+use crate::turns::Turns;
 use links::clock::Clock;
 use links::link::Link;
 use record_ends::end::End;
@@ -17,7 +18,6 @@ use record_ends::outgoing::put_out;
 use server_steps::event::Event;
 use std::alloc::Global;
 use std::sync::{Mutex, Wait};
-use store::store::Store;
 
 /// Gives a link what there is to say to a session, and answers whether more may follow; where none
 /// may it shuts the link.
@@ -36,9 +36,9 @@ fn give_out<L: Link>(alloc: Global, link: &mut L, out: &Outgoing) -> bool
 /// Takes a session's records off its link, each in a turn of its own, and puts out what there is to
 /// say then: no other thread has to be woken for it. Whoever takes what there is to say holds the
 /// link, so that what is taken first goes out first.
-fn read_on<W: Wait, S: Store + Drop, G: Gate + Drop, L: Link + Drop, C: Clock>(
+fn read_on<W: Wait, H: Turns + Drop, G: Gate + Drop, L: Link + Drop, C: Clock>(
     rt: &W,
-    shared: &Shared<S, G, L>,
+    shared: &Shared<H, G, L>,
     session: u32,
     link: &mut L,
     gives: &Mutex<L>,
@@ -73,9 +73,9 @@ fn read_on<W: Wait, S: Store + Drop, G: Gate + Drop, L: Link + Drop, C: Clock>(
 ///
 /// `InputEnd` comes where the input ended, `Failed` only where the link's count of faults rose, and
 /// `Spoilt` only where no record can stand behind the bytes that came.
-pub fn session_in<W: Wait, S: Store + Drop, G: Gate + Drop, L: Link + Drop, C: Clock>(
+pub fn session_in<W: Wait, H: Turns + Drop, G: Gate + Drop, L: Link + Drop, C: Clock>(
     rt: &W,
-    shared: &Shared<S, G, L>,
+    shared: &Shared<H, G, L>,
     session: u32,
     link: &mut L,
     gives: &Mutex<L>,
@@ -95,9 +95,9 @@ pub fn session_in<W: Wait, S: Store + Drop, G: Gate + Drop, L: Link + Drop, C: C
 
 /// Puts out what there is to say to a session until it is gone, or its link fails; then it shuts the
 /// link.
-pub fn session_out<W: Wait, S: Store + Drop, G: Gate + Drop, L: Link + Drop>(
+pub fn session_out<W: Wait, H: Turns + Drop, G: Gate + Drop, L: Link + Drop>(
     rt: &W,
-    shared: &Shared<S, G, L>,
+    shared: &Shared<H, G, L>,
     session: u32,
     gives: &Mutex<L>,
 ) {
@@ -111,9 +111,9 @@ pub fn session_out<W: Wait, S: Store + Drop, G: Gate + Drop, L: Link + Drop>(
     }
 }
 
-fn both_on<W: Wait, S: Store + Drop, G: Gate + Drop, L: Link + Drop, C: Clock>(
+fn both_on<W: Wait, H: Turns + Drop, G: Gate + Drop, L: Link + Drop, C: Clock>(
     rt: &W,
-    shared: &Shared<S, G, L>,
+    shared: &Shared<H, G, L>,
     session: u32,
     link: &mut L,
     clock: &C,
@@ -142,9 +142,9 @@ fn both_on<W: Wait, S: Store + Drop, G: Gate + Drop, L: Link + Drop, C: Clock>(
 /// A session in one thread: each record is taken, a change of it that waits may be made, and what
 /// there is to say is put out. It answers as `session_in` does, and has shut the link where the session
 /// was closed before its input ended.
-pub fn session_both<W: Wait, S: Store + Drop, G: Gate + Drop, L: Link + Drop, C: Clock>(
+pub fn session_both<W: Wait, H: Turns + Drop, G: Gate + Drop, L: Link + Drop, C: Clock>(
     rt: &W,
-    shared: &Shared<S, G, L>,
+    shared: &Shared<H, G, L>,
     session: u32,
     link: &mut L,
     clock: &C,

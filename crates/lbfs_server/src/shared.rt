@@ -1,4 +1,4 @@
-//! The turns of a server: each locks what the threads share, and changes it by calls of `Held`. That
+//! The turns of a server: each locks what the threads share, and changes it by calls of `Turns`. That
 //! a call is what its contract says is proved of `Held`; of a turn no clause speaks, since another
 //! thread's may stand before and behind it.
 
@@ -6,28 +6,44 @@ ghost use Rattle.std.specs.Prelude.{◌<◌, ◌^◌};
 ghost use Rattle.server_core.specs.Step.{IsTimed};
 
 use crate::gate::Gate;
-use crate::held::{Held, Went, read_record};
+use crate::held::{Went, read_record};
+use crate::turns::Turns;
 use hash_calls::call::Commit;
 use hash_calls::message::Lb;
 use links::link::Link;
 use server_steps::event::Event;
 use std::alloc::Global;
 use std::sync::{Condvar, Mutex, Wait};
-use store::store::Store;
 use tree_nodes::content::Content;
 use wire::fault::WireErr;
 use wire::message::{Body, Message};
 
 /// What the threads of a server share, and by what those are woken that have nothing to say.
-#[derive(Drop)]
-pub struct Shared<S: Store, G, L> {
-    held: Mutex<Held<S>>,
+pub struct Shared<H, G, L> {
+    held: Mutex<H>,
     /// Something was put into a box that another thread has to take out, or a session went.
     said: Condvar,
     /// A link of each session that has threads, by which whoever hangs it shuts it.
     links: Mutex<Vec<SessionLink<L>>>,
     gate: G,
     alloc: Global,
+}
+
+// By hand, so that no crate above proves how each part is let go.
+impl<H: Drop, G: Drop, L: Drop> Drop for Shared<H, G, L> {
+    fn drop(self) {
+        let Shared {
+            held,
+            said,
+            links,
+            gate,
+            alloc: _,
+        } = self;
+        drop(held);
+        drop(said);
+        drop(links);
+        drop(gate);
+    }
 }
 
 /// A further link to a session's client, on which nothing is taken and nothing given.
@@ -47,7 +63,19 @@ pub struct Outgoing {
 
 /// Whether a session went in a turn.
 fn is_of_leaving(went: Went) -> bool {
-    went == Went::Closed || went == Went::Memory
+    matches!(went, Went::Closed | Went::Memory)
+}
+
+/// Lets a session's link go, where there is one. A session's link is kept once (`keep_link`), and its
+/// number is no later session's, so there is no second one.
+fn remove_link<L: Drop>(links: &mut Vec<SessionLink<L>>, session: u32) {
+    let mut at = 0;
+    while at < links.len() && links[at].session != session {
+        at += 1;
+    }
+    if at < links.len() {
+        drop(links.swap_remove(at));
+    }
 }
 
 /// The COMMITTMP that a message is, if it is one.
@@ -61,9 +89,9 @@ fn commit_in(message: &Message) -> Option<&Commit> {
     }
 }
 
-impl<S: Store + Drop, G: Gate + Drop, L: Link + Drop> Shared<S, G, L> {
+impl<H: Turns + Drop, G: Gate + Drop, L: Link + Drop> Shared<H, G, L> {
     /// What a server's threads share. It takes no memory.
-    pub fn new(alloc: Global, held: Held<S>, gate: G) -> Shared<S, G, L> {
+    pub fn new(alloc: Global, held: H, gate: G) -> Shared<H, G, L> {
         Shared {
             held: Mutex::new(held),
             said: Condvar::new(),
@@ -79,13 +107,13 @@ impl<S: Store + Drop, G: Gate + Drop, L: Link + Drop> Shared<S, G, L> {
     }
 
     /// What was shared, once no thread does any more.
-    pub fn into_held(self) -> Held<S> {
+    pub fn into_held(self) -> H {
         let Shared {
             held,
             said,
             links,
             gate,
-            ..
+            alloc: _,
         } = self;
         drop(said);
         drop(links);
@@ -101,7 +129,7 @@ impl<S: Store + Drop, G: Gate + Drop, L: Link + Drop> Shared<S, G, L> {
         let mut held = self.held.lock(rt);
         let went = held.event(self.alloc, event);
         // Where no change could be made nothing was said to anybody.
-        let says = went != Went::NotReady && !held.is_still();
+        let says = !matches!(went, Went::NotReady) && !held.is_still();
         drop(held);
         self.wake(rt, went, says);
         self.gate.after();
@@ -178,11 +206,13 @@ impl<S: Store + Drop, G: Gate + Drop, L: Link + Drop> Shared<S, G, L> {
     /// Waits until there is something to say to a session, or it is gone. Another may have taken it
     /// by then.
     pub fn await_said<W: Wait>(&self, rt: &W, session: u32) {
-        let held = self.held.lock(rt);
-        let spoke = self
-            .said
-            .wait_while(rt, held, |held| held.is_quiet(session));
-        drop(spoke);
+        let mut held = self.held.lock(rt);
+        for _turn in rt.forever() {
+            if !held.is_quiet(session) {
+                return;
+            }
+            held = self.said.wait(rt, held);
+        }
     }
 
     /// Wakes the threads that have nothing to say, where one of them has now, or its session went.
@@ -192,7 +222,7 @@ impl<S: Store + Drop, G: Gate + Drop, L: Link + Drop> Shared<S, G, L> {
         if says || is_of_leaving(went) {
             self.said.notify_all();
         }
-        if went == Went::Memory {
+        if matches!(went, Went::Memory) {
             self.shut_links(rt);
         }
     }
@@ -208,7 +238,7 @@ impl<S: Store + Drop, G: Gate + Drop, L: Link + Drop> Shared<S, G, L> {
     /// Lets the link of a session's client go.
     pub fn drop_link<W: Wait>(&self, rt: &W, session: u32) {
         let mut links = self.links.lock(rt);
-        links.retain(|one| one.session != session);
+        remove_link(&mut *links, session);
     }
 
     /// Shuts the links of the sessions that don't stand any more.

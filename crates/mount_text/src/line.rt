@@ -50,30 +50,38 @@ fn read_place(alloc: Global, word: &[u8]) -> Result<Place, LineErr>
 fn two<'a>(words: &mut Words<'a>) -> Option<(&'a [u8], &'a [u8])>
     ensures { MatchOption result (AreNotTwo words.old) (λ p. words.old ≡ p.0.now ∷ p.1.now ∷ []) }
 {
-    let first = words.next()?;
-    let second = words.next()?;
-    words.end()?;
-    Some((first, second))
+    match (words.next(), words.next(), words.next()) {
+        (Some(first), Some(second), None) => Some((first, second)),
+        _ => None,
+    }
 }
 
 /// `put LOCAL PLACE`.
 fn put(alloc: Global, words: &mut Words) -> Result<MountLine, LineErr>
     ensures { Gives result (put_of words.old) }
 {
-    let (name, word) = two(words).ok_or(LineErr::BadLine)?;
+    let Some((name, word)) = two(words) else {
+        return Err(LineErr::BadLine);
+    };
     let local = LocalName::read(alloc, name)?;
-    let place = read_place(alloc, word)?;
-    Ok(MountLine::Put { local, place })
+    match read_place(alloc, word) {
+        Ok(place) => Ok(MountLine::Put { local, place }),
+        Err(error) => Err(error),
+    }
 }
 
 /// `get PLACE LOCAL`.
 fn get(alloc: Global, words: &mut Words) -> Result<MountLine, LineErr>
     ensures { Gives result (get_of words.old) }
 {
-    let (word, name) = two(words).ok_or(LineErr::BadLine)?;
+    let Some((word, name)) = two(words) else {
+        return Err(LineErr::BadLine);
+    };
     let place = read_place(alloc, word)?;
-    let local = LocalName::read(alloc, name)?;
-    Ok(MountLine::Get { place, local })
+    match LocalName::read(alloc, name) {
+        Ok(local) => Ok(MountLine::Get { place, local }),
+        Err(error) => Err(error),
+    }
 }
 
 /// `join`.
@@ -97,7 +105,10 @@ fn read_kind(alloc: Global, kind: &[u8], words: &mut Words) -> Result<MountLine,
     } else if kind == b"join".as_slice() {
         join(words).ok_or(LineErr::BadLine)
     } else {
-        Ok(MountLine::Plain(Command::read(alloc, kind, words)?))
+        match Command::read(alloc, kind, words) {
+            Ok(command) => Ok(MountLine::Plain(command)),
+            Err(error) => Err(error),
+        }
     }
 }
 

@@ -1,7 +1,7 @@
 use Rattle.std.proofs.Common.{subst}
 use Rattle.wire.specs.Parse.{IsParsed}
 use Rattle.lbfs_server.proofs.Hearing.{heard_ok, heard_err}
-use Rattle.lbfs_server.proofs.held.Held.heard.Goals as goal
+use Rattle.lbfs_server.proofs.held.HeldTurns.heard.Goals as goal
 
 pub returns-in-Ok : goal.returns-in-Ok
 returns-in-Ok g c = λ parsed is. heard_ok g.S.Store.records g.S.Store.faults c.args.self.now c.args.session c.args.now parsed c.in-Ok.message c.take_message.result c.take_message.new.self (subst (λ r. IsParsed r parsed) c.in-Ok.is is) c.take_message.ensures

@@ -2,7 +2,7 @@ use Rattle.std.proofs.Common.{sym, subst}
 use Rattle.server_core.specs.Step.{IsTimed}
 use Rattle.lbfs_server.specs.declared.held.Went.TheVariants as went
 use Rattle.lbfs_server.specs.Held.{After}
-use Rattle.lbfs_server.proofs.held.Held.event.Goals as goal
+use Rattle.lbfs_server.proofs.held.HeldTurns.event.Goals as goal
 
 pub take_message-requires : goal.take_message-requires
 take_message-requires g c = subst IsTimed c.in-Got.is c.requires

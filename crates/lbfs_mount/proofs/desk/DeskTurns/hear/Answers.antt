@@ -1,7 +1,7 @@
 use Rattle.std.proofs.Common.{inr}
 use Rattle.lbfs_client.specs.Mounting.{Receives}
 use Rattle.lbfs_mount.proofs.Telling.{receives_all, turn}
-use Rattle.lbfs_mount.proofs.desk.Desk.hear.Goals as goal
+use Rattle.lbfs_mount.proofs.desk.DeskTurns.hear.Goals as goal
 
 pub settle-requires : goal.settle-requires
 settle-requires g c = receives_all c.got-said.result c.args.self.now.mounted c.args.record.now c.args.now c.got-said.new.self c.got-said.ensures

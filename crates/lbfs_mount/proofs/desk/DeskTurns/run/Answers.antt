@@ -1,6 +1,6 @@
 use Rattle.lbfs_client.specs.Mounting.{Runs}
 use Rattle.lbfs_mount.proofs.Telling.{runs_all, turn}
-use Rattle.lbfs_mount.proofs.desk.Desk.run.Goals as goal
+use Rattle.lbfs_mount.proofs.desk.DeskTurns.run.Goals as goal
 
 pub settle-requires : goal.settle-requires
 settle-requires g c = runs_all c.line-said.result c.args.self.now.mounted c.args.line c.args.now c.line-said.new.self c.line-said.ensures

@@ -1,9 +1,0 @@
-use Rattle.std.proofs.Common.{List, ◌++◌, ap, ◌∙◌}
-use Rattle.lbfs_client.proofs.Sayings.{added}
-use Rattle.lbfs_client.proofs.said.add.Goals as goal
-
-pub returns : goal.returns
-returns g c =
-    c.in_ok-add_rest.ensures
-    ∙ ap (λ xs. xs ++ c.into_parts-first.result.1) c.in_ok-add_first.ensures
-    ∙ added c.args.all.now c.into_parts-first.result.0 c.into_parts-first.result.1 c.args.more c.into_parts-first.ensures

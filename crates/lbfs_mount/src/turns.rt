@@ -1,0 +1,35 @@
+//! What a turn of a mount asks of that which its threads share. It is `Desk`; the turns, the script and
+//! the connections are written for any such thing, and so none of them is checked with all that a
+//! client consists of.
+
+use crate::answer_line::AnswerLine;
+use mount_text::line::MountLine;
+use record_ends::end::End;
+use std::alloc::{AllocError, Global};
+
+/// What a turn asks; what each call does states `Desk`.
+pub(crate) trait Turns {
+    /// The links of its connections.
+    type L;
+
+    /// Whether there is something for whoever waits for a line.
+    fn has_news(&self) -> bool;
+
+    /// The line of what ended. The error says that memory ran out.
+    fn take_line(&mut self) -> Result<AnswerLine, AllocError>;
+
+    /// A line of the script begins. It answers whether a connection is to be joined for it.
+    fn run(&mut self, alloc: Global, line: MountLine, now: u64) -> bool;
+
+    /// A connection is joined, on this link. It answers the connection's number.
+    fn join(&mut self, alloc: Global, link: Self::L, now: u64) -> u64;
+
+    /// A record came on a connection. It answers whether more may come there.
+    fn hear(&mut self, alloc: Global, connection: u64, record: &[u8], now: u64) -> bool;
+
+    /// No more records come on a connection.
+    fn stop(&mut self, alloc: Global, connection: u64, end: End, now: u64);
+
+    /// The link is shut, where there is one.
+    fn close(&mut self);
+}
