@@ -1,11 +1,12 @@
 //! Arguments and results of procedures.
 
-use crate::out::Out;
+use crate::bytes::{number_of, put_same, read_bytes};
 use crate::procedures::of_number;
-use crate::text::{number_of, put_same, read_bytes, split};
 use crate::values::{Put, put_error};
 use hash_calls::message::{Back, Lb};
 use nfs3_calls::message::Nfs;
+use row_text::out::Out;
+use row_text::text::split;
 use std::alloc::Global;
 use wire::message::Program;
 use xdr_codec::fault::ReadError;

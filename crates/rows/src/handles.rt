@@ -1,8 +1,8 @@
 //! Handles.
 
-use crate::out::Out;
-use crate::text::{put_bytes, read_bytes};
+use crate::bytes::{put_bytes, read_bytes};
 use crate::values::Put;
+use row_text::out::Out;
 use std::alloc::Global;
 use xdr_codec::handle::Handle;
 

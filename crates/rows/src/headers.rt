@@ -1,8 +1,9 @@
 //! Headers of calls and replies.
 
-use crate::out::Out;
-use crate::text::{put_bytes, put_same, read_bytes, split};
-use crate::values::put_numbers;
+use crate::bytes::{put_bytes, put_same, read_bytes};
+use crate::values::{put_name, put_numbers};
+use row_text::out::Out;
+use row_text::text::split;
 use rpc_record::header::{Accept, Auth, Denial, ReplyHead, Versions};
 use rpc_record::messages::{Call, Reply};
 use rpc_record::refusal::HeaderError;
@@ -14,7 +15,7 @@ use xdr_codec::writer::Writer;
 fn put_error(out: &mut Out, error: &HeaderError, at: usize) {
     match error {
         HeaderError::Memory => out.lack(),
-        HeaderError::Xdr(fault) => out.name(fault),
+        HeaderError::Xdr(fault) => put_name(out, fault),
         HeaderError::BadType { value } => {
             out.text(" BadType");
             out.number(u64::from(*value));

@@ -1,9 +1,10 @@
 //! Items of XDR, read one after the other.
 
-use crate::out::Out;
-use crate::text::{number_of, put_same, read_bytes, split};
+use crate::bytes::{number_of, put_same, read_bytes};
 use crate::values::{Put, put_error};
 use lb_base::items::Items;
+use row_text::out::Out;
+use row_text::text::split;
 use std::alloc::Global;
 use xdr_codec::answer::Answer;
 use xdr_codec::attr::{Attr, Kind};
@@ -121,8 +122,8 @@ impl Copying<'_> {
         }
     }
 
-    /// An item of a type.
-    fn typed(&mut self, word: &str, out: &mut Out) {
+    /// An item of a type without parts.
+    fn simple(&mut self, word: &str, out: &mut Out) {
         match word {
             "u32" => self.item::<u32>(out),
             "u64" => self.item::<u64>(out),
@@ -130,6 +131,13 @@ impl Copying<'_> {
             "kind" => self.item::<Kind>(out),
             "handle" => self.item::<Handle>(out),
             "digest" => self.item::<Digest>(out),
+            _ => out.text(" no item"),
+        }
+    }
+
+    /// An item of a type.
+    fn typed(&mut self, word: &str, out: &mut Out) {
+        match word {
             "maybe-u32" => self.item::<Option<u32>>(out),
             "maybe-kind" => self.item::<Option<Kind>>(out),
             "attributes" => self.item::<Answer<Attr, ()>>(out),
@@ -137,7 +145,7 @@ impl Copying<'_> {
             "opt" => self.opt(out),
             "chain" => self.chain(out),
             "end" => self.end(out),
-            _ => out.text(" no item"),
+            _ => self.simple(word, out),
         }
     }
 

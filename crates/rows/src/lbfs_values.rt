@@ -1,12 +1,12 @@
 //! Arguments and results of LBFS and of the callback program as they are printed.
 
-use crate::out::Out;
 use crate::values::Put;
 use hash_calls::call::{
     Commit, Committed, CondPiece, HashRange, Hashes, Leased, NewTemp, Pair, TempPiece,
 };
 use hash_calls::message::{Back, Lb};
 use lb_base::items::Items;
+use row_text::out::Out;
 
 impl Put for Leased {
     fn put(&self, out: &mut Out) {

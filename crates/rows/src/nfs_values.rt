@@ -1,6 +1,5 @@
 //! Arguments and results of NFS version 3 as they are printed.
 
-use crate::out::Out;
 use crate::values::{Put, put_numbers};
 use lb_base::items::Items;
 use nfs3_calls::call::{Access, Granted, Piece, Range};
@@ -10,6 +9,7 @@ use nfs3_calls::listing::{Entry, ListRange, Listing};
 use nfs3_calls::making::{HowMade, Made, NewDir, NewFile, SetAttr, SetTime};
 use nfs3_calls::message::Nfs;
 use nfs3_calls::place::{Found, Place, Rename};
+use row_text::out::Out;
 
 impl Put for Place {
     fn put(&self, out: &mut Out) {

@@ -1,9 +1,9 @@
 //! Procedures by their numbers.
 
-use crate::out::Out;
-use crate::text::split;
 use hash_calls::message::{BackProc, LbProc};
 use nfs3_calls::message::NfsProc;
+use row_text::out::Out;
+use row_text::text::split;
 use wire::message::Program;
 
 /// The procedure of NFS that has the number.

@@ -1,10 +1,11 @@
 //! Whole records as messages.
 
-use crate::out::Out;
+use crate::bytes::{number_of, put_same, read_bytes};
 use crate::procedures::of_number;
-use crate::text::{number_of, put_same, read_bytes, split};
-use crate::values::Put;
+use crate::values::{Put, put_name};
 use lb_base::items::Items;
+use row_text::out::Out;
+use row_text::text::split;
 use std::alloc::Global;
 use wire::fault::WireErr;
 use wire::message::{Body, Message, Pending, RpcRefusal, Side, Waiting};
@@ -61,16 +62,30 @@ fn side_of(front: &str) -> Side {
     Side::Either
 }
 
+/// The versions that a refusal tells, ` NAME { low: 2, high: 3 }`.
+fn put_versions(out: &mut Out, name: &str, low: u32, high: u32) {
+    out.text(name);
+    out.text(" { low: ");
+    out.bare(u64::from(low));
+    out.text(", high: ");
+    out.bare(u64::from(high));
+    out.text(" }")
+}
+
 /// Why a call is refused, by its name and what it tells.
 fn put_refusal(out: &mut Out, why: &RpcRefusal) {
     match why {
         RpcRefusal::ProgUnavail => out.text(" ProgUnavail"),
-        RpcRefusal::ProgMismatch { low, high } => out.versions("ProgMismatch", *low, *high),
+        RpcRefusal::ProgMismatch { low, high } => put_versions(out, " ProgMismatch", *low, *high),
         RpcRefusal::ProcUnavail => out.text(" ProcUnavail"),
         RpcRefusal::GarbageArgs => out.text(" GarbageArgs"),
         RpcRefusal::SystemErr => out.text(" SystemErr"),
-        RpcRefusal::RpcMismatch { low, high } => out.versions("RpcMismatch", *low, *high),
-        RpcRefusal::AuthError(stat) => out.auth_error(*stat),
+        RpcRefusal::RpcMismatch { low, high } => put_versions(out, " RpcMismatch", *low, *high),
+        RpcRefusal::AuthError(stat) => {
+            out.text(" AuthError(");
+            out.bare(u64::from(*stat));
+            out.text(")")
+        }
     }
 }
 
@@ -109,7 +124,7 @@ fn put_read(alloc: Global, read: &Result<Message, WireErr>, record: &[u8], out: 
                 Err(_) => out.lack(),
             }
         }
-        Err(WireErr::Fault(fault)) => out.name(fault),
+        Err(WireErr::Fault(fault)) => put_name(out, fault),
         Err(WireErr::Memory) => out.lack(),
     }
 }

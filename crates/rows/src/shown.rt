@@ -1,8 +1,8 @@
 //! Streams as they are shown.
 
-use crate::out::Out;
-use crate::text::read_bytes;
+use crate::bytes::read_bytes;
 use record_show::show::shown;
+use row_text::out::Out;
 use std::alloc::Global;
 
 /// The lines of a text, each behind a blank and with a `;` for its end.

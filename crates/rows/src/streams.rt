@@ -1,8 +1,10 @@
 //! Streams of records, and records that are marked.
 
-use crate::out::Out;
-use crate::text::{put_bytes, read_bytes, split};
+use crate::bytes::{put_bytes, read_bytes};
+use crate::values::put_name;
 use lb_base::items::Bytes;
+use row_text::out::Out;
+use row_text::text::split;
 use rpc_record::marking::{mark, mark_in_place};
 use rpc_record::records::{Fed, Records};
 use rpc_record::refusal::MarkError;
@@ -17,7 +19,7 @@ fn put_fed(fed: &Result<Fed, AllocError>, out: &mut Out) {
         put_bytes(out, record.as_slice());
     }
     if let Some(refusal) = fed.spoilt {
-        out.name(&refusal);
+        put_name(out, &refusal);
     }
 }
 
@@ -75,7 +77,24 @@ fn put_record(marked: &Result<Bytes, MarkError>, out: &mut Out) {
     match marked {
         Ok(marked) => put_bytes(out, marked.as_slice()),
         Err(MarkError::Memory) => out.lack(),
-        Err(error) => out.name(error),
+        Err(error) => put_name(out, error),
+    }
+}
+
+/// The size that is too big for a record.
+fn size_in(error: &MarkError) -> Option<usize> {
+    match error {
+        MarkError::TooBig { len } => Some(*len),
+        MarkError::Memory => None,
+    }
+}
+
+/// Whether both are the same record, or none for the same size.
+fn is_same(one: &Result<Bytes, MarkError>, other: &Result<Bytes, MarkError>) -> bool {
+    match (one, other) {
+        (Ok(one), Ok(other)) => one == other,
+        (Err(one), Err(other)) => size_in(one) == size_in(other),
+        _ => false,
     }
 }
 
@@ -84,7 +103,7 @@ fn put_marked(alloc: Global, bytes: &str, out: &mut Out) {
     let bytes = read_bytes(alloc, bytes, out);
     let marked = mark(alloc, bytes.as_slice());
     put_record(&marked, out);
-    let is_same = marked == marked_in_place(alloc, bytes.as_slice());
+    let is_same = is_same(&marked, &marked_in_place(alloc, bytes.as_slice()));
     out.text(if is_same { "; same" } else { "; other" })
 }
 

@@ -1,8 +1,9 @@
 //! Values as they are printed: their numbers, truth values and bytes in the order of their spelling.
 
-use crate::out::Out;
-use crate::text::put_bytes;
+use crate::bytes::put_bytes;
 use lb_base::items::Items;
+use row_text::out::Out;
+use std::fmt::Debug;
 use xdr_codec::answer::Answer;
 use xdr_codec::attr::{Attr, Kind, Time};
 use xdr_codec::fault::ReadError;
@@ -15,11 +16,17 @@ pub trait Put {
     fn put(&self, out: &mut Out);
 }
 
+/// A name behind a blank.
+pub fn put_name<T: Debug>(out: &mut Out, name: &T) {
+    out.text(" ");
+    out.value(name)
+}
+
 /// Why nothing was read.
 pub fn put_error(out: &mut Out, error: &ReadError) {
     match error {
         ReadError::Memory => out.lack(),
-        ReadError::Fault(fault) => out.name(fault),
+        ReadError::Fault(fault) => put_name(out, fault),
     }
 }
 
@@ -68,7 +75,10 @@ impl Put for [u8; 20] {
 impl Put for Handle {
     fn put(&self, out: &mut Out) {
         match self.file_of() {
-            Some(file) => out.file(file),
+            Some(file) => {
+                out.text(" #");
+                out.bare(file)
+            }
             None => put_bytes(out, self.as_slice()),
         }
     }

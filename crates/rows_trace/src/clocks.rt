@@ -1,10 +1,10 @@
 //! Readings of clocks: which are taken, and what is answered to the others.
 
-use crate::out::Out;
 use crate::readings::Series;
-use crate::text::{first, number};
 use clock_rule::clocks::Clocks;
 use clock_rule::rule::NoteErr;
+use row_text::out::Out;
+use row_text::text::{first, number};
 use std::alloc::Global;
 
 /// How many of the readings were taken, and the fault of each other one.
@@ -21,7 +21,6 @@ fn put_series(alloc: Global, clocks: &mut Clocks, series: Series, out: &mut Out)
         }
     }
     if taken > 0 {
-        out.text(" ");
         out.number(taken);
         out.text(" ok");
     }

@@ -1,10 +1,10 @@
 //! Contents: how many bytes they have, and which.
 
-use crate::out::Out;
-use crate::text::{first, number, put_bytes};
 use command_text::content::{Content, build, length, length_within};
 use command_text::line_err::LineErr;
 use lb_base::items::Bytes;
+use row_text::out::Out;
+use row_text::text::{first, number, put_bytes};
 use std::alloc::Global;
 use trace_text::line::Line;
 
@@ -100,7 +100,7 @@ pub fn put_long(alloc: Global, row: &str, out: &mut Out) {
     match word.done() {
         Ok(word) => {
             let bytes = bytes_of(alloc, word.as_str(), out);
-            out.number(bytes.len() as u64)
+            out.bare(bytes.len() as u64)
         }
         Err(_) => out.lack(),
     }

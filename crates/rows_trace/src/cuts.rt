@@ -4,28 +4,19 @@ ghost use Rattle.std.specs.Prelude.{◌≡◌, ◌+◌, ◌^◌, ◌<◌, length
 ghost use Rattle.chunk_cut.specs.Cutting.{fed};
 
 use crate::contents::bytes_of;
-use crate::out::Out;
 use chunk_cut::chunk::Chunk;
 use chunk_cut::cutter::Cutter;
 use chunk_cut::{cut, digest};
+use row_text::out::Out;
 use std::alloc::{AllocError, Global};
-
-/// A digest.
-fn put_digest(out: &mut Out, digest: &[u8; 20]) {
-    for byte in digest {
-        out.byte(*byte);
-    }
-}
 
 /// The chunks, each with its digest.
 fn put_chunks(chunks: &[Chunk], out: &mut Out) {
     for chunk in chunks {
-        out.text(" ");
         out.number(chunk.start as u64);
-        out.text(" ");
         out.number(chunk.len as u64);
         out.text(" ");
-        put_digest(out, &chunk.digest);
+        out.bytes(chunk.digest.as_slice());
         out.text(";");
     }
 }
@@ -78,7 +69,6 @@ fn put_pieces(alloc: Global, content: &[u8], wanted: &[Chunk], first: usize, out
             }
         }
     }
-    out.text(" ");
     out.number(alike);
     out.text(" ways to come in pieces are alike")
 }
@@ -86,7 +76,7 @@ fn put_pieces(alloc: Global, content: &[u8], wanted: &[Chunk], first: usize, out
 /// The chunks of the content, and how many ways to come in pieces from the place on.
 fn put_cut(alloc: Global, content: &[u8], chunks: &[Chunk], place: &str, out: &mut Out) {
     out.text("whole ");
-    put_digest(out, &digest(content));
+    out.bytes(digest(content).as_slice());
     out.text(";");
     put_chunks(chunks, out);
     if let Ok(first) = place.parse::<usize>() {

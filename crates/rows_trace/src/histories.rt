@@ -1,8 +1,6 @@
 //! A history and its variants: whether each is legal, by the test and by a plain one beside it; and its
 //! texts.
 
-use crate::out::Out;
-use crate::text::{first, number};
 use crate::{plain, random};
 use chunk_cut::digest;
 use lb_base::items::{Bytes, Items};
@@ -10,6 +8,8 @@ use register_model::history::History;
 use register_model::legal::is_legal;
 use register_model::op::{Op, Opening, Outcome, Traffic, Word};
 use register_model::text::{summary_text, text};
+use row_text::out::Out;
+use row_text::text::{copied, first, number};
 use shared_bytes::SharedBytes;
 use std::alloc::{AllocError, Global};
 
@@ -57,17 +57,6 @@ fn word_of(name: &str) -> Word {
         "remove" => Word::Remove,
         "rename" => Word::Rename,
         _ => Word::Look,
-    }
-}
-
-/// A copy of the bytes; none where memory is wanting.
-pub fn copied(alloc: Global, bytes: &[u8], out: &mut Out) -> Bytes {
-    match Bytes::copy_of(alloc, bytes) {
-        Ok(copy) => copy,
-        Err(_) => {
-            out.lack();
-            Bytes::new(alloc)
-        }
     }
 }
 
@@ -187,11 +176,6 @@ pub fn verdicts(alloc: Global, history: History, out: &mut Out) -> (bool, bool) 
     }
 }
 
-/// A verdict.
-pub fn put_truth(out: &mut Out, truth: bool) {
-    out.text(if truth { "true" } else { "false" })
-}
-
 /// What both tests say.
 fn put_verdicts(alloc: Global, history: History, out: &mut Out) {
     let (test, plain) = verdicts(alloc, history, out);
@@ -199,9 +183,9 @@ fn put_verdicts(alloc: Global, history: History, out: &mut Out) {
         return out.text(if test { "legal" } else { "not legal" });
     }
     out.text("the test says ");
-    put_truth(out, test);
+    out.truth(test);
     out.text(", and the plain one ");
-    put_truth(out, plain)
+    out.truth(plain)
 }
 
 /// `K OP`: with another operation in the place of the one with this number.
@@ -223,11 +207,7 @@ fn put_texts(alloc: Global, rows: &Rows, row: &str, out: &mut Out) {
 /// The bytes of a text.
 fn put_text(out: &mut Out, text: &Result<Bytes, AllocError>) {
     match text {
-        Ok(bytes) => {
-            for byte in bytes.as_slice() {
-                out.letter(char::from(*byte));
-            }
-        }
+        Ok(bytes) => out.letters(bytes.as_slice()),
         Err(_) => out.lack(),
     }
 }

@@ -1,11 +1,12 @@
 //! Lines of traces: what each is read as.
 
 use crate::contents::put_content;
-use crate::out::Out;
-use crate::text::{put_bytes, unescaped};
+use crate::escaped::unescaped;
 use command_text::command::Command;
 use command_text::line_err::LineErr;
 use command_text::path::Spot;
+use row_text::out::Out;
+use row_text::text::put_bytes;
 use std::alloc::Global;
 use trace_text::line::Line;
 
@@ -46,10 +47,10 @@ fn put_line(alloc: Global, line: &Line, out: &mut Out) {
                 content,
             },
         } => {
-            put_number(out, "Do ", *client);
-            put_number(out, " at ", *at);
-            put_number(out, " Write ", *file);
-            put_number(out, " from ", *offset);
+            put_number(out, "Do", *client);
+            put_number(out, " at", *at);
+            put_number(out, " Write", *file);
+            put_number(out, " from", *offset);
             out.text(" ");
             put_content(alloc, out, content)
         }

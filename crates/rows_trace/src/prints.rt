@@ -1,9 +1,15 @@
 //! Fingerprints: of all bytes, and of the last 48 of a stream that begins with zeros.
 
 use crate::contents::bytes_of;
-use crate::out::Out;
 use rabin_window::{Window, fp};
+use row_text::out::Out;
 use std::alloc::Global;
+
+/// A fingerprint, of which the first byte is 0, in the digits of the others.
+fn put_print(out: &mut Out, print: u64) {
+    let bytes = print.to_be_bytes();
+    out.bytes(&bytes[1..])
+}
 
 /// `WORD`: the fingerprint of the content, and that of the window behind it.
 pub fn put(alloc: Global, row: &str, out: &mut Out) {
@@ -12,7 +18,7 @@ pub fn put(alloc: Global, row: &str, out: &mut Out) {
     for byte in bytes.as_slice() {
         window.push(*byte);
     }
-    out.print(fp(bytes.as_slice()));
+    put_print(out, fp(bytes.as_slice()));
     out.text(" window ");
-    out.print(window.value())
+    put_print(out, window.value())
 }

@@ -2,12 +2,12 @@
 
 ghost use Rattle.std.specs.Prelude.{◌<◌};
 
-use crate::histories::{Times, files_of, op, push_op, put_truth, value, verdicts};
-use crate::out::Out;
-use crate::text::{first, number};
+use crate::histories::{Times, files_of, op, push_op, value, verdicts};
 use lb_base::items::{Bytes, Items};
 use register_model::history::History;
 use register_model::op::{Op, Outcome, Word};
+use row_text::out::Out;
+use row_text::text::{first, number};
 use std::alloc::Global;
 
 /// An open or a close that got or stored a byte.
@@ -49,9 +49,9 @@ pub fn put_rounds(alloc: Global, files: &[&str], row: &str, out: &mut Out) {
     let files = files_of(alloc, files, out);
     let ops = rounds(alloc, number(count), last.as_bytes(), out);
     let (test, plain) = verdicts(alloc, History::new(files, ops, 23), out);
-    put_truth(out, test);
+    out.truth(test);
     out.text(" ");
-    put_truth(out, plain)
+    out.truth(plain)
 }
 
 /// The next number of a fixed sequence, below the bound.
@@ -136,8 +136,8 @@ pub fn put_random(alloc: Global, files: &[&str], row: &str, out: &mut Out) {
         legal = legal.saturating_add(u64::from(test));
         apart = apart.saturating_add(u64::from(test != plain));
     }
-    out.number(legal);
-    out.text(" legal, of ");
+    out.bare(legal);
+    out.text(" legal, of");
     out.number(apart);
     out.text(" the plain test says otherwise")
 }

@@ -1,8 +1,8 @@
 //! Readings of clocks as rows write them: `server:S`, `client:C:R` and `both:S:C:R`, where S and R may
 //! be `FROM+STEP`, and `N*` before one means that it stands there so often, each a step further on.
 
-use crate::text::{number, split};
 use clock_rule::rule::Reading;
+use row_text::text::{number, split};
 
 /// A number that goes up by a step.
 #[derive(Clone, Copy)]

@@ -1,8 +1,8 @@
 //! The texts of refusals.
 
-use crate::out::Out;
-use crate::text::{first, number};
 use clock_rule::rule::ClockFault;
+use row_text::out::Out;
+use row_text::text::{first, number};
 use std::alloc::Global;
 use trace_text::refusal::{Limit, LineFault, Refusal};
 

@@ -1,7 +1,6 @@
 //! One run of the program over an outside in memory, and what is printed of it. Every trial goes by
 //! `run_end`, so that the program is proved for one type of outside, at one call.
 
-use crate::out::Out;
 use crate::outside::{files, store, words};
 use crate::port::{Port, PortLink, PortNet};
 use crate::screen::{Screen, Typist};
@@ -11,6 +10,7 @@ use lbfs_run::run::run;
 use links::clock::FixedClock;
 use links::mem_files::MemFiles;
 use links::rest::NoRest;
+use row_text::out::Out;
 use std::alloc::Global;
 use std::sync::atomic::AtomicU64;
 use std::sync::{Arc, Wait};

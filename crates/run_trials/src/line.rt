@@ -1,7 +1,7 @@
 //! Lines in memory between two ends: what is on its way on each, and when the dialler's side of one ends.
 
-use crate::out::Out;
 use crate::trial::{Trial, bytes_of, number_of, split};
+use row_text::out::Out;
 use std::alloc::Global;
 
 /// No record can begin with these.
@@ -269,8 +269,8 @@ pub fn is_shut_at(lines: &[Line], at: usize) -> bool {
 pub fn put_lines(lines: &[Line], out: &mut Out) {
     for line in lines.iter() {
         out.text(" shut");
-        out.name(&line.is_shut);
+        out.text(if line.is_shut { " true\n" } else { " false\n" });
+        out.bytes(line.down.as_slice());
         out.text("\n");
-        out.digits(line.down.as_slice());
     }
 }

@@ -1,11 +1,12 @@
 //! The outside of a run, in memory: what it is given, and which of its calls fail. Where memory is
 //! wanting for a part, the output is short of it; so no part has an early exit.
 
-use crate::out::Out;
 use crate::trial::Trial;
-use lb_base::items::{Bytes, Items};
+use lb_base::items::Items;
 use links::files::Files;
 use links::mem_files::MemFiles;
+use row_text::out::Out;
+use row_text::text::copied;
 use shared_bytes::SharedBytes;
 use std::alloc::{AllocError, Global};
 use store::mem_store::MemStore;
@@ -37,21 +38,9 @@ fn push<T: Drop>(all: &mut Vec<T>, item: T, out: &mut Out) {
 
 /// The calls that fail: the one of this number, if there is one.
 fn failing(alloc: Global, call: Option<u64>, out: &mut Out) -> Items<u64> {
-    let mut calls = Vec::new(alloc);
-    if let Some(call) = call {
-        push(&mut calls, call, out);
-    }
-    Items::from_vec(calls)
-}
-
-/// A name of one letter.
-fn name(alloc: Global, letter: u8, out: &mut Out) -> Bytes {
-    match Items::copy_of(alloc, &[letter]) {
-        Ok(name) => name,
-        Err(_) => {
-            out.lack();
-            Items::new(alloc)
-        }
+    match call {
+        Some(call) => copied(alloc, &[call], out),
+        None => Items::new(alloc),
     }
 }
 
@@ -61,7 +50,7 @@ fn node(alloc: Global, id: u64, parent: u64, letter: u8, out: &mut Out) -> Kept 
         id,
         parent,
         kind: NodeKind::File,
-        name: name(alloc, letter, out),
+        name: copied(alloc, &[letter], out),
     })
 }
 

@@ -8,15 +8,45 @@ use crate::line::{
     Given, Line, Side, give_at, is_quiet_at, is_shut_at, lines_of, pairs_at, put_lines, shut_all,
     shut_at, speaks_at, take_at,
 };
-use crate::out::Out;
 use crate::trial::Trial;
 use lb_base::faults::one_more;
 use lb_base::sink::GiveErr;
 use lb_base::source::Failed;
 use links::link::Link;
 use links::network::Network;
+use row_text::out::Out;
 use std::alloc::{AllocError, Global};
-use std::sync::{Arc, Condvar, Mutex, Wait};
+use std::sync::{Arc, Condvar, Mutex, MutexGuard, Wait};
+
+/// What an end waits for.
+#[derive(Clone, Copy)]
+enum Until {
+    /// Somebody has something to say on the first line, to a dialler that takes nothing.
+    Speaker,
+    /// A line is shut.
+    Shut {
+        at: usize,
+    },
+    /// Something came to a side of a line, or can't come any more.
+    News {
+        at: usize,
+        side: Side,
+        is_silent: bool,
+    },
+}
+
+/// Whether it is still to be waited.
+fn is_early(lines: &[Line], until: Until) -> bool {
+    match until {
+        Until::Speaker => !speaks_at(lines, 0),
+        Until::Shut { at } => !is_shut_at(lines, at),
+        Until::News {
+            at,
+            side,
+            is_silent,
+        } => is_quiet_at(lines, at, side, is_silent),
+    }
+}
 
 /// A port with its lines, which are there from the beginning, under a lock.
 #[derive(Drop)]
@@ -46,22 +76,16 @@ impl Port {
         self.news.notify_all();
     }
 
-    /// Waits until somebody has something to say on the first line, to a dialler that takes nothing.
-    pub fn await_speaker<R: Wait>(&self, rt: &R) {
+    /// Waits, and holds the lines then. All waiting is done here, by one closure.
+    fn held<R: Wait>(&self, rt: &R, until: Until) -> MutexGuard<'_, Vec<Line>> {
         let lines = self.lines.lock(rt);
-        let spoken = self
-            .news
-            .wait_while(rt, lines, |lines| !speaks_at(lines, 0));
-        drop(spoken);
+        self.news
+            .wait_while(rt, lines, |lines| is_early(lines, until))
     }
 
-    /// Waits until a line is shut.
-    fn await_shut<R: Wait>(&self, rt: &R, at: usize) {
-        let lines = self.lines.lock(rt);
-        let shut = self
-            .news
-            .wait_while(rt, lines, |lines| !is_shut_at(lines, at));
-        drop(shut);
+    /// Waits until somebody has something to say on the first line, to a dialler that takes nothing.
+    pub fn await_speaker<R: Wait>(&self, rt: &R) {
+        drop(self.held(rt, Until::Speaker))
     }
 
     /// Whether each line is shut, and what its listener gave.
@@ -109,12 +133,13 @@ impl<R: Wait + Copy> Link for PortLink<R> {
     ghost faults = { λ l. l.faults };
 
     fn take(&mut self, into: &mut [u8]) -> Result<usize, Failed> {
-        let (side, at, is_silent) = (self.side, self.at, self.port.is_silent);
-        let lines = self.port.lines.lock(&self.rt);
-        let mut lines = self.port.news.wait_while(&self.rt, lines, |lines| {
-            is_quiet_at(lines, at, side, is_silent)
-        });
-        let count = take_at(&mut lines, at, side, into);
+        let until = Until::News {
+            at: self.at,
+            side: self.side,
+            is_silent: self.port.is_silent,
+        };
+        let mut lines = self.port.held(&self.rt, until);
+        let count = take_at(&mut lines, self.at, self.side, into);
         Ok(count.min(into.len()))
     }
 
@@ -127,7 +152,7 @@ impl<R: Wait + Copy> Link for PortLink<R> {
             Given::Taken => return Ok(from.len()),
             Given::Memory => return Err(GiveErr::Memory),
             Given::Failed => {}
-            Given::Waits => self.port.await_shut(&self.rt, self.at),
+            Given::Waits => drop(self.port.held(&self.rt, Until::Shut { at: self.at })),
         }
         self.faults = one_more(self.faults);
         Err(GiveErr::Failed)

@@ -2,7 +2,6 @@
 //! back where its client takes nothing.
 
 use crate::line::Side;
-use crate::out::Out;
 use crate::port::{Port, PortLink};
 use lb_base::items::Items;
 use lbfs_server::gate::OpenGate;
@@ -11,6 +10,7 @@ use lbfs_server::session::{session_both, session_in, session_out};
 use lbfs_server::shared::Shared;
 use links::clock::FixedClock;
 use record_ends::end::End;
+use row_text::out::Out;
 use server_core::server::Server;
 use server_steps::event::Event;
 use std::alloc::{AllocError, Global};
@@ -21,7 +21,34 @@ use store::mem_store::MemStore;
 use wire::message::{Message, RpcRefusal};
 
 /// What the threads of a server share.
-type PortShared<R> = Shared<MemStore, OpenGate, PortLink<R>>;
+type PortShared<R> = Shared<Held<MemStore>, OpenGate, PortLink<R>>;
+
+/// Why a session ended.
+fn name_of(end: End) -> &'static str {
+    match end {
+        End::InputEnd => " InputEnd",
+        End::Failed => " Failed",
+        End::Spoilt => " Spoilt",
+        End::Memory => " Memory",
+    }
+}
+
+/// The session that stands, if one does.
+fn session_of(went: Went) -> Option<u32> {
+    match went {
+        Went::Open { session } => Some(session),
+        _ => None,
+    }
+}
+
+/// Why no session stands.
+fn put_refused(went: Went, out: &mut Out) {
+    out.text(match went {
+        Went::Full => " Full",
+        Went::Memory => " Memory",
+        _ => " another end",
+    })
+}
 
 /// Something is to be said to the session. Once a thread of it waits for its client, the session is
 /// hung, where it should be.
@@ -111,7 +138,7 @@ fn put_session<R: Threads + Wait + Sync + Send + Copy + Drop>(
         _ => run_alone(rt, shared, session, port),
     };
     match end {
-        Ok(end) => out.name(&end),
+        Ok(end) => out.text(name_of(end)),
         Err(_) => out.lack(),
     }
     port.put_lines(rt, out)
@@ -119,15 +146,15 @@ fn put_session<R: Threads + Wait + Sync + Send + Copy + Drop>(
 
 /// How many connections in a row are told the next number, of 64, and how two more end.
 fn put_connections<R: Wait + Copy + Drop>(rt: &R, shared: &PortShared<R>, out: &mut Out) {
-    let mut told = 0u32;
+    let mut told = 0u64;
     for next in 1..65u32 {
-        if shared.event(rt, Event::Connect) == (Went::Open { session: next }) {
+        if session_of(shared.event(rt, Event::Connect)) == Some(next) {
             told = told.wrapping_add(1);
         }
     }
-    out.number(u64::from(told));
+    out.number(told);
     for _at in 0..2 {
-        out.name(&shared.event(rt, Event::Connect));
+        put_refused(shared.event(rt, Event::Connect), out);
     }
     out.text("\n")
 }
@@ -145,7 +172,7 @@ fn put_shared<R: Threads + Wait + Sync + Send + Copy + Drop>(
     }
     match shared.event(rt, Event::Connect) {
         Went::Open { session } => put_session(rt, shared, session, port, kind, out),
-        went => out.name(&went),
+        went => put_refused(went, out),
     }
 }
 

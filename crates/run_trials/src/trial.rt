@@ -1,6 +1,6 @@
 //! A row of `data/runs`, and the bytes that it names.
 
-use crate::out::Out;
+use row_text::out::Out;
 use std::alloc::Global;
 
 /// A run of the program, and what it is tried on. `data/runs` says how each part is written.

@@ -1,67 +1,61 @@
 //! A list that grows, and its copy.
 
 use lb_base::items::{Bytes, Items};
-use std::alloc::{AllocError, Global};
-use std::io;
+use row_text::out::Out;
+use row_text::text::copied;
+use std::alloc::Global;
 
-/// What came of it.
-#[derive(Clone, Copy)]
-struct Seen {
-    is_grown: bool,
-    is_same: bool,
-    gone: u8,
-    is_still: bool,
-}
-
-/// A list of `ab` that grew to `abcde`.
-fn grown(alloc: Global) -> Result<Bytes, AllocError> {
-    let mut list = Items::copy_of(alloc, b"ab")?;
+/// A list of `ab` grows to `abcde`.
+fn grow(list: &mut Bytes, out: &mut Out) {
     if list.push(b'c').is_err() {
-        return Err(AllocError);
+        out.lack();
     }
-    list.extend_from_slice(b"de")?;
-    Ok(list)
+    out.note(list.extend_from_slice(b"de"));
+    out.text("list: grown ");
+    out.truth(list.as_slice() == b"abcde".as_slice());
 }
 
-/// The list loses its second letter.
-fn seen_of(list: &mut Bytes, copy: &Bytes) -> Seen {
-    let is_grown = list.as_slice() == b"abcde".as_slice();
-    let is_same = copy == list;
+/// The list loses its second letter. It answers whether it still is like its copy then.
+fn shrink(list: &mut Bytes, copy: &Bytes, out: &mut Out) -> bool {
+    out.text(", its copy the same ");
+    out.truth(copy == list);
     let gone = if list.len() > 1 { list.remove(1) } else { 0 };
-    Seen {
-        is_grown,
-        is_same,
-        gone,
-        is_still: copy == list,
-    }
+    out.text("; without");
+    out.number(u64::from(gone));
+    copy == list
 }
 
-/// The list beside its copy, and whether it is shorter by that letter then.
-fn list_of(alloc: Global) -> Result<(Seen, bool), AllocError> {
-    let mut list = grown(alloc)?;
-    let copy = list.try_clone(alloc)?;
-    let seen = seen_of(&mut list, &copy);
-    Ok((seen, list.into_vec().as_slice() == b"acde".as_slice()))
+/// The list beside its copy.
+fn put_beside(alloc: Global, list: &mut Bytes, out: &mut Out) -> bool {
+    match list.try_clone(alloc) {
+        Ok(copy) => shrink(list, &copy, out),
+        Err(_) => {
+            out.lack();
+            false
+        }
+    }
 }
 
 /// Whether a new list is empty, and one of a number.
-fn emptiness(alloc: Global) -> Result<(bool, bool), AllocError> {
+fn put_empty(alloc: Global, out: &mut Out) {
     let none: Items<u64> = Items::new(alloc);
-    let one = Items::from_vec(vec![in alloc; 7u64]?);
-    Ok((none.is_empty(), one.is_empty()))
+    let one = copied(alloc, &[7u64], out);
+    out.text("; empty ");
+    out.truth(none.is_empty());
+    out.text(" ");
+    out.truth(one.is_empty());
+    out.text("\n")
 }
 
-/// What came of the list.
-pub fn print_list(rt: &HostRuntime) -> io::Result<()> {
-    let (seen, is_shorter) = list_of(rt.alloc())?;
-    let (none, one) = emptiness(rt.alloc())?;
-    let Seen {
-        is_grown,
-        is_same,
-        gone,
-        is_still,
-    } = seen;
-    println!(rt;
-        "list: grown {is_grown}, its copy the same {is_same}; without {gone} {is_shorter}, the same {is_still}; empty {none} {one}"
-    )
+/// What comes of the list.
+pub fn put(alloc: Global, out: &mut Out) {
+    let mut list = copied(alloc, b"ab", out);
+    grow(&mut list, out);
+    let is_still = put_beside(alloc, &mut list, out);
+    let left = list.into_vec();
+    out.text(" ");
+    out.truth(left.as_slice() == b"acde".as_slice());
+    out.text(", the same ");
+    out.truth(is_still);
+    put_empty(alloc, out)
 }

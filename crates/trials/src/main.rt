@@ -1,7 +1,6 @@
-//! Trials of what neither a definition nor a line of data can show of `lb_base`: lists, sources and sinks
-//! that fail at a call of their own, and streams that are interrupted. The output is compared with the
-//! file `stdout`. What came of a trial is made of small values first, and printed once all else is let
-//! go of.
+//! The trials that the gate runs: what comes of lists, sources and sinks that fail, and streams that
+//! are interrupted, which no row of data can show; and of each row of `data/`. What is printed is
+//! compared with the file `stdout`.
 #![tactic(auto)]
 
 mod lists;
@@ -9,19 +8,111 @@ mod sinks;
 mod sources;
 mod streams;
 
-use std::io;
+use row_text::out::Out;
+use run_trials::runs;
+use std::alloc::{AllocError, Global};
+use std::io::Print;
+use std::sync::Wait;
+use std::thread::Threads;
+use std::{fs, io};
+
+/// What goes through the rows of a file.
+#[derive(Clone, Copy)]
+enum Kind {
+    /// The calls of the protocol.
+    Calls,
+    /// The parts of traces.
+    Traces,
+    /// The program over an outside in memory.
+    Runs,
+    /// A server alone.
+    Sessions,
+}
+
+/// The files of rows.
+const FILES: [(Kind, &str); 19] = [
+    (Kind::Calls, "items"),
+    (Kind::Calls, "handles"),
+    (Kind::Calls, "streams"),
+    (Kind::Calls, "headers"),
+    (Kind::Calls, "nfs"),
+    (Kind::Calls, "lbfs"),
+    (Kind::Calls, "procedures"),
+    (Kind::Calls, "records"),
+    (Kind::Calls, "shown"),
+    (Kind::Traces, "lines"),
+    (Kind::Traces, "contents"),
+    (Kind::Traces, "long"),
+    (Kind::Traces, "refusals"),
+    (Kind::Traces, "clocks"),
+    (Kind::Traces, "prints"),
+    (Kind::Traces, "cuts"),
+    (Kind::Traces, "histories"),
+    (Kind::Runs, "runs"),
+    (Kind::Sessions, "sessions"),
+];
+
+/// What comes of the trials without a row.
+fn plain_text(alloc: Global) -> Result<String, AllocError> {
+    let mut out = Out::new(alloc);
+    lists::put(alloc, &mut out);
+    for limit in [6usize, 5, 4, 0] {
+        sources::put_read(alloc, 2, limit, &[], &mut out);
+    }
+    sources::put_read(alloc, 9, 9, &[0], &mut out);
+    sources::put_takes(alloc, &mut out);
+    sources::put_sure(alloc, &mut out);
+    sinks::put(alloc, &mut out);
+    for interrupts in [3u32, 300] {
+        streams::put_idle(interrupts, &mut out);
+    }
+    streams::put_memory(alloc, &mut out);
+    out.done()
+}
+
+/// Prints what comes of the trials without a row.
+fn print_plain(rt: &HostRuntime) -> io::Result<()> {
+    let out = plain_text(rt.alloc())?;
+    print!(rt; "{out}")
+}
+
+/// What comes of the rows of a file, which may name these records.
+fn text_of<R: Threads + Wait + Sync + Send + Copy + Drop>(
+    rt: &R,
+    alloc: Global,
+    records: &str,
+    kind: Kind,
+    file: &str,
+    text: &str,
+) -> Result<String, AllocError> {
+    let mut out = Out::new(alloc);
+    match kind {
+        Kind::Calls => rows::files::put_rows(alloc, file, text, &mut out),
+        Kind::Traces => rows_trace::files::put_rows(alloc, file, text, &mut out),
+        Kind::Runs => runs::put_runs(rt, alloc, records, text, &mut out),
+        Kind::Sessions => runs::put_sessions(rt, alloc, records, text, &mut out),
+    }
+    out.done()
+}
+
+/// Prints what comes of the rows of a file.
+fn print_file<R: Threads + Wait + Sync + Send + Copy + Drop + AllocGlobal + Print>(
+    rt: &R,
+    records: &str,
+    kind: Kind,
+    file: &str,
+    text: &str,
+) -> io::Result<()> {
+    let out = text_of(rt, rt.alloc(), records, kind, file, text)?;
+    print!(rt; "== {file}\n{out}")
+}
 
 fn main(rt: HostRuntime) -> io::Result<()> {
-    lists::print_list(&rt)?;
-    for limit in [6usize, 5, 4, 0] {
-        sources::print_read(&rt, 2, limit, &[])?;
+    print_plain(&rt)?;
+    let records = fs::read_to_string(&rt, "named")?;
+    for (kind, file) in FILES {
+        let text = fs::read_to_string(&rt, file)?;
+        print_file(&rt, records.as_str(), kind, file, text.as_str())?;
     }
-    sources::print_read(&rt, 9, 9, &[0])?;
-    sources::print_takes(&rt)?;
-    sources::print_sure(&rt)?;
-    sinks::print_gives(&rt)?;
-    for interrupts in [3u32, 300] {
-        streams::print_idle(&rt, interrupts)?;
-    }
-    streams::print_memory(&rt)
+    Ok(())
 }

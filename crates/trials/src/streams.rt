@@ -2,9 +2,11 @@
 
 ghost use Rattle.std.specs.Prelude.{◌≡◌, IfOk};
 
-use lb_base::sink::{GiveErr, Sink, give_all};
-use lb_base::source::{Failed, Source};
+use lb_base::sink::{Sink, give_all};
+use lb_base::source::Source;
 use lb_base::streams::{StreamSink, StreamSource};
+use row_text::out::Out;
+use std::alloc::Global;
 use std::io;
 use std::io::{ErrorKind, Read, Write};
 
@@ -42,33 +44,40 @@ impl Write for Idle {
     }
 }
 
-/// What a stream that is interrupted so many times gives, and the faults.
-fn taken_of(interrupts: u32) -> (Result<usize, Failed>, u64) {
+/// What a stream that is interrupted so many times gives, and its faults.
+fn put_taken(interrupts: u32, out: &mut Out) {
     let mut room = [0u8; 4];
     let mut source = StreamSource::new(Idle { interrupts });
-    (source.take(&mut room), source.faults())
+    out.value(&source.take(&mut room));
+    out.text(", faults");
+    out.number(source.faults())
 }
 
-/// What came of giving to one, and the faults.
-fn given_of(interrupts: u32) -> (Result<(), GiveErr>, u64) {
+/// What comes of giving to one, and its faults.
+fn put_given(interrupts: u32, out: &mut Out) {
     let mut sink = StreamSink::new(Idle { interrupts });
-    (give_all(&mut sink, b"x"), sink.faults())
+    out.value(&give_all(&mut sink, b"x"));
+    out.text(", faults");
+    out.number(sink.faults())
 }
 
-/// What came of a stream that is interrupted so many times, and takes and gives nothing.
-pub fn print_idle(rt: &HostRuntime, interrupts: u32) -> io::Result<()> {
-    let (taken, faults) = taken_of(interrupts);
-    let (given, missed) = given_of(interrupts);
-    println!(rt;
-        "interrupted {interrupts} times: {taken:?}, faults {faults}; {given:?}, faults {missed}"
-    )
+/// What comes of a stream that is interrupted so many times, and takes and gives nothing.
+pub fn put_idle(interrupts: u32, out: &mut Out) {
+    out.text("interrupted");
+    out.number(u64::from(interrupts));
+    out.text(" times: ");
+    put_taken(interrupts, out);
+    out.text("; ");
+    put_given(interrupts, out);
+    out.text("\n")
 }
 
-/// What came of giving to a stream in memory.
-pub fn print_memory(rt: &HostRuntime) -> io::Result<()> {
-    let mut sink = StreamSink::new(Vec::new(rt.alloc()));
-    let given = sink.give(b"hello");
-    let faults = sink.faults();
-    drop(sink);
-    println!(rt; "to memory: {given:?}, faults {faults}")
+/// What comes of giving to a stream in memory.
+pub fn put_memory(alloc: Global, out: &mut Out) {
+    let mut sink = StreamSink::new(Vec::new(alloc));
+    out.text("to memory: ");
+    out.value(&sink.give(b"hello"));
+    out.text(", faults");
+    out.number(sink.faults());
+    out.text("\n")
 }

@@ -8,10 +8,17 @@ use std::alloc::{AllocError, Global};
 use std::fmt::{Debug, Write};
 
 /// A text that grows.
-#[derive(Drop)]
 pub struct Out {
     text: String,
     is_short: bool,
+}
+
+/// Written by hand, so that no crate above proves it again for its parts.
+impl Drop for Out {
+    fn drop(self) {
+        let Out { text, is_short: _ } = self;
+        drop(text)
+    }
 }
 
 impl Out {
@@ -41,33 +48,26 @@ impl Out {
         self.note(done)
     }
 
+    /// A number as it is.
+    pub fn bare(&mut self, number: u64) {
+        let done = write!(self.text, "{number}");
+        self.note(done)
+    }
+
     /// A number behind a blank.
     pub fn number(&mut self, number: u64) {
-        let done = write!(self.text, " {number}");
-        self.note(done)
+        self.text(" ");
+        self.bare(number)
     }
 
-    /// A file's number behind a `#`.
-    pub fn file(&mut self, file: u64) {
-        let done = write!(self.text, " #{file}");
-        self.note(done)
+    /// A truth value as it is.
+    pub fn truth(&mut self, truth: bool) {
+        self.text(if truth { "true" } else { "false" })
     }
 
-    /// A name behind a blank.
-    pub fn name<T: Debug>(&mut self, name: &T) {
-        let done = write!(self.text, " {name:?}");
-        self.note(done)
-    }
-
-    /// A name behind a blank, with the versions that it tells, ` NAME { low: 2, high: 3 }`.
-    pub fn versions(&mut self, name: &str, low: u32, high: u32) {
-        let done = write!(self.text, " {name} {{ low: {low}, high: {high} }}");
-        self.note(done)
-    }
-
-    /// A refusal for who the caller is, with its number, ` AuthError(2)`.
-    pub fn auth_error(&mut self, stat: u32) {
-        let done = write!(self.text, " AuthError({stat})");
+    /// What `Debug` makes of a value.
+    pub fn value<T: Debug>(&mut self, value: &T) {
+        let done = write!(self.text, "{value:?}");
         self.note(done)
     }
 
@@ -77,17 +77,35 @@ impl Out {
         self.note(done)
     }
 
-    /// So many times the same byte, `[2047*00]`.
-    pub fn run(&mut self, byte: u8, count: u64) {
-        let done = write!(self.text, "[{count}*{byte:02x}]");
-        self.note(done)
+    /// Bytes in hexadecimal.
+    pub fn bytes(&mut self, bytes: &[u8]) {
+        for byte in bytes.iter() {
+            self.byte(*byte);
+        }
+    }
+
+    /// Bytes as text, those beyond ASCII as the characters of their numbers.
+    pub fn letters(&mut self, bytes: &[u8]) {
+        for byte in bytes.iter() {
+            let done = self.text.push(char::from(*byte));
+            self.note(done)
+        }
+    }
+
+    /// What another text has.
+    pub fn join(&mut self, other: &Out) {
+        self.text(other.text.as_str());
+        if other.is_short {
+            self.is_short = true;
+        }
     }
 
     /// The text, where it is whole.
     pub fn done(self) -> Result<String, AllocError> {
-        if self.is_short {
+        let Out { text, is_short } = self;
+        if is_short {
             return Err(AllocError);
         }
-        Ok(self.text)
+        Ok(text)
     }
 }

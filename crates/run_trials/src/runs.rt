@@ -1,30 +1,15 @@
-//! Runs of the program over an outside in memory, and sessions of a server: a row of data each. What is
-//! printed is compared with the file `stdout`.
-#![tactic(auto)]
+//! Rows of runs and of sessions, and what comes of them.
 
-mod end;
-mod line;
-mod out;
-mod outside;
-mod port;
-mod screen;
-mod sessions;
-mod trial;
-
-use end::run_end;
-use out::Out;
-use port::Port;
+use crate::end::run_end;
+use crate::port::Port;
+use crate::sessions;
+use crate::trial::{Trial, split};
+use row_text::out::Out;
+use row_text::text::is_remark;
 use std::alloc::{AllocError, Global};
-use std::io::Print;
 use std::sync::{Arc, Wait};
+use std::thread;
 use std::thread::Threads;
-use std::{fs, io, thread};
-use trial::{Trial, split};
-
-/// Whether a line of data is a remark, which begins with two `#` and a blank, or empty.
-fn is_remark(row: &str) -> bool {
-    row.is_empty() || row.starts_with("## ")
-}
 
 /// Runs one end, and tells how it ended and, where it is asked for, what its lines were given.
 fn put_alone<R: Threads + Wait + Sync + Send + Copy + Drop>(
@@ -132,43 +117,34 @@ fn put_session<R: Threads + Wait + Sync + Send + Copy + Drop>(
     Ok(())
 }
 
-/// What comes of each row.
-fn text_of<R: Threads + Wait + Sync + Send + Copy + Drop>(
+/// What comes of each run.
+pub fn put_runs<R: Threads + Wait + Sync + Send + Copy + Drop>(
     rt: &R,
     alloc: Global,
     records: &str,
-    row: &str,
-    is_run: bool,
-) -> Result<String, AllocError> {
-    let mut out = Out::new(alloc);
-    if is_run {
-        put_run(rt, alloc, records, row, &mut out)?;
-    } else {
-        put_session(rt, alloc, records, row, &mut out)?;
-    }
-    out.done()
-}
-
-/// Prints what comes of the rows of a file.
-fn print_rows<R: Threads + Wait + Sync + Send + Copy + Drop + AllocGlobal + Print>(
-    rt: &R,
-    records: &str,
     rows: &str,
-    is_run: bool,
-) -> io::Result<()> {
+    out: &mut Out,
+) {
     for row in rows.lines() {
         if !is_remark(row) {
-            let text = text_of(rt, rt.alloc(), records, row, is_run)?;
-            print!(rt; "{text}")?;
+            let done = put_run(rt, alloc, records, row, out);
+            out.note(done)
         }
     }
-    Ok(())
 }
 
-fn main(rt: HostRuntime) -> io::Result<()> {
-    let records = fs::read_to_string(&rt, "records")?;
-    let runs = fs::read_to_string(&rt, "runs")?;
-    let sessions = fs::read_to_string(&rt, "sessions")?;
-    print_rows(&rt, records.as_str(), runs.as_str(), true)?;
-    print_rows(&rt, records.as_str(), sessions.as_str(), false)
+/// What comes of each session.
+pub fn put_sessions<R: Threads + Wait + Sync + Send + Copy + Drop>(
+    rt: &R,
+    alloc: Global,
+    records: &str,
+    rows: &str,
+    out: &mut Out,
+) {
+    for row in rows.lines() {
+        if !is_remark(row) {
+            let done = put_session(rt, alloc, records, row, out);
+            out.note(done)
+        }
+    }
 }

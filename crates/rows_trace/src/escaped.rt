@@ -1,10 +1,7 @@
-//! Bytes as rows write them, and as they are printed.
+//! Bytes as lines of traces are written in rows.
 
-use crate::out::Out;
+use row_text::out::Out;
 use std::alloc::Global;
-
-/// How many equal bytes are printed as one run.
-const LEAST_RUN: u64 = 8;
 
 /// Where the reading of a text stands.
 #[derive(Clone, Copy)]
@@ -65,45 +62,4 @@ pub fn unescaped(alloc: Global, text: &str, out: &mut Out) -> Vec<u8> {
         }
     }
     bytes
-}
-
-/// A text up to the first such mark, and what stands behind that.
-pub fn split(text: &str, mark: char) -> (&str, &str) {
-    text.split_once(mark).unwrap_or((text, ""))
-}
-
-/// A text up to its first blank, and what stands behind that.
-pub fn first(text: &str) -> (&str, &str) {
-    split(text, ' ')
-}
-
-/// The number that a word is; 0 where it is none.
-pub fn number(word: &str) -> u64 {
-    word.parse::<u64>().unwrap_or(0)
-}
-
-/// So many times the same byte, in hexadecimal.
-fn put_run(out: &mut Out, byte: u8, count: u64) {
-    if count >= LEAST_RUN {
-        return out.run(byte, count);
-    }
-    for _ in 0..count {
-        out.byte(byte);
-    }
-}
-
-/// Bytes in hexadecimal; eight and more equal ones as a run, `[2047*00]`.
-pub fn put_bytes(out: &mut Out, bytes: &[u8]) {
-    let mut last = 0u8;
-    let mut count = 0u64;
-    for byte in bytes {
-        if *byte == last {
-            count = count.saturating_add(1);
-        } else {
-            put_run(out, last, count);
-            last = *byte;
-            count = 1;
-        }
-    }
-    put_run(out, last, count)
 }

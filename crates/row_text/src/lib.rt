@@ -1,0 +1,6 @@
+//! What programs over rows of data share: a text that grows by calls that never fail, and rows, words
+//! and bytes as texts have them.
+#![tactic(auto)]
+
+pub mod out;
+pub mod text;
