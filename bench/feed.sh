@@ -15,7 +15,7 @@ mib=${1:-64}
 rounds=${2:-5}
 how=${3:-run}
 . bench/made
-copy_for feed_bench "rpc_record lb_base limits" limits lb_base xdr_codec rpc_record
+copy_for feed_bench "rpc_record lb_base limits"
 cat >"$work/crates/feed_bench/src/main.rt" <<'EOF'
 //! Feeds one end of a stream of records in large and in small pieces, all of it and a quarter of
 //! it, and prints the microseconds of each.

@@ -13,7 +13,7 @@ cd "$(dirname "$0")/.."
 
 rounds=${1:-9}
 . bench/made
-copy_for index_bench "chunk_index lru" chunk_index
+copy_for index_bench "chunk_index lru"
 words_of index_bench
 cat >"$work/crates/index_bench/src/main.rt" <<'EOF'
 //! Puts and finds 65,536 places through the index and through `lru` alone, and prints the

@@ -18,7 +18,7 @@ nodes=${1:-65536}
 rounds=${2:-7}
 how=${3:-run}
 . bench/made
-copy_for load_bench "tree_load store shared_bytes lb_base" limits lb_base shared_bytes xdr_codec nfs3_calls rabin_window chunk_cut store block_list tree_nodes tree_reading tree_plans file_tree tree_load
+copy_for load_bench "tree_load store shared_bytes lb_base"
 cat >"$work/crates/load_bench/src/main.rt" <<'EOF'
 //! Loads trees of as many nodes as said and of a quarter, in many directories and in one, and prints
 //! the microseconds of each load.

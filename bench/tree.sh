@@ -17,7 +17,7 @@ names=${1:-65000}
 rounds=${2:-5}
 how=${3:-run}
 . bench/made
-copy_for tree_bench "file_tree tree_plans nfs3_calls xdr_codec lb_base" limits lb_base shared_bytes xdr_codec nfs3_calls rabin_window chunk_cut store block_list tree_nodes tree_reading tree_plans file_tree
+copy_for tree_bench "file_tree tree_plans nfs3_calls xdr_codec lb_base"
 cat >"$work/crates/tree_bench/src/main.rt" <<'EOF'
 //! Makes files in a directory, lists it and removes them, as many as said and a quarter, and prints
 //! the microseconds of each.

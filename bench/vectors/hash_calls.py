@@ -3,8 +3,8 @@
 
     python3.11 bench/vectors/hash_calls.py
 
-Writes rows of crates/rows/data/lbfs, in words of four bytes in hexadecimal, and behind ` =>` what is to
-be printed of them (crates/rows/stdout): what was packed, in order. Nothing here was taken from the
+Writes rows of crates/trials/data/lbfs, in words of four bytes in hexadecimal, and behind ` =>` what is to
+be printed of them (crates/trials/stdout): what was packed, in order. Nothing here was taken from the
 crate. xdrlib is in Python up to 3.12.
 """
 import hashlib

@@ -5,8 +5,8 @@
     python3.11 bench/vectors/nfs3_calls.py pcap FILE && tshark -V -r FILE
     python3.11 bench/vectors/nfs3_calls.py hex | bench/vectors/nfs3_again
 
-The first writes rows of crates/rows/data/nfs, in words of four bytes in hexadecimal, and behind ` =>`
-what is to be printed of them (crates/rows/stdout): what was packed, in order. The second writes the same messages behind RPC headers as packets of a connection to port 2049, so that
+The first writes rows of crates/trials/data/nfs, in words of four bytes in hexadecimal, and behind ` =>`
+what is to be printed of them (crates/trials/stdout): what was packed, in order. The second writes the same messages behind RPC headers as packets of a connection to port 2049, so that
 tshark's NFS dissector can say what it reads in them. The third writes them in hexadecimal, for the
 code that rpcgen makes of RFC 1813's XDR (`README.md` says how to build it). Nothing here was taken
 from the crate: each function packs one struct of RFC 1813, named in its first line, in the order of
@@ -273,7 +273,7 @@ def packed(message):
     return p.get_buffer()
 
 
-# ---- the rows of crates/rows/data/nfs, each with what is to be printed
+# ---- the rows of crates/trials/data/nfs, each with what is to be printed
 
 
 class Told(xdrlib.Packer):
