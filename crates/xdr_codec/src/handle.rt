@@ -14,29 +14,27 @@ use limits::HANDLE_MOST;
 use std::alloc::{AllocError, Global};
 use std::marker::Model;
 
-/// What names a file or a directory: at most `HANDLE_MOST` bytes, which contracts see as a list.
+/// What names a file or a directory: at most `HANDLE_MOST` bytes, which contracts see as a list. It
+/// holds them itself, with zeros behind them, so that it is `Copy` and owns nothing.
+#[derive(Clone, Copy)]
 pub struct Handle {
-    bytes: Bytes,
-}
-
-// Written by hand, it is proved here alone; derived, each crate above would prove how the bytes are
-// let go.
-impl Drop for Handle {
-    fn drop(self) {
-        let Handle { bytes } = self;
-        drop(bytes)
-    }
+    held: [u8; HANDLE_MOST as usize],
+    len: usize,
 }
 
 impl Model for Handle {
-    ghost use Rattle.std.specs.Prelude.{List, ℕ, length, ◌≤◌};
-    ghost use Rattle.limits.specs.declared.TheConstants.{HANDLE_MOST};
+    ghost use Rattle.std.specs.Prelude.{ℕ, List, ◌++◌, length, take};
+    ghost use Rattle.xdr_codec.specs.Handle.{IsHeld, zeros_behind, len_back, held_back};
 
     ghost Value = { List ℕ };
 
-    ghost view = { λ h. h.bytes };
+    ghost view = { λ h. take h.len h.held };
 
-    ghost invariant = { λ h. length h.bytes ≤ HANDLE_MOST };
+    ghost invariant = { λ h. IsHeld h.len h.held };
+
+    ghost inverse = { λ bytes. record { held = bytes ++ zeros_behind (length bytes); len = length bytes } };
+
+    ghost inverse_ok = { λ h is i. record { held = held_back h.len h.held is i; len = len_back h.len h.held is i } };
 }
 
 /// How the handles of this file system begin: "LB01", and four zeros.
@@ -51,7 +49,7 @@ impl Handle {
         if bytes.len() > HANDLE_MOST as usize {
             return None;
         }
-        Some(Handle { bytes })
+        Some(copied(bytes.as_slice()))
     }
 
     /// The handle that this file system gives for a file's number: 16 bytes, its mark and the
@@ -61,9 +59,7 @@ impl Handle {
     {
         let mut bytes = Vec::from_slice(alloc, &MARK)?;
         bytes.extend_from_slice(&id.to_be_bytes())?;
-        Ok(Handle {
-            bytes: Bytes::from_vec(bytes),
-        })
+        Ok(copied(&bytes))
     }
 
     /// Its bytes.
@@ -71,7 +67,7 @@ impl Handle {
         ensures value { result.now ≡ self.now }
         ensures short { length result.now ≤ HANDLE_MOST }
     {
-        self.bytes.as_slice()
+        &self.held[..self.len]
     }
 
     /// The number of the file, where the handle is one that this file system gives. Takes no memory.
@@ -80,8 +76,19 @@ impl Handle {
         ensures some { IfSome result (λ id. self.now ≡ handle_bytes id) }
         ensures none { IfNone result ((id : ℕ) → id < 2 ^ 64 → ¬ (self.now ≡ handle_bytes id)) }
     {
-        own_file(self.bytes.as_slice())
+        own_file(self.as_slice())
     }
+}
+
+/// These bytes, and zeros behind them.
+fn copied(bytes: &[u8]) -> Handle
+    requires { length bytes.now ≤ HANDLE_MOST }
+    ensures { result ≡ bytes.now }
+{
+    let len = bytes.len();
+    let mut held = [0; HANDLE_MOST as usize];
+    held[..len].copy_from_slice(bytes);
+    Handle { held, len }
 }
 
 fn own_file(bytes: &[u8]) -> Option<u64>
@@ -106,7 +113,7 @@ impl Item for Handle {
 
     fn read(alloc: Global, reader: &mut Reader) -> Result<Handle, ReadError> {
         let bytes = reader.opaque(alloc, HANDLE_MOST)?;
-        Ok(Handle { bytes })
+        Ok(copied(bytes.as_slice()))
     }
 
     fn write(&self, writer: &mut Writer) -> Result<(), AllocError> {
