@@ -25,7 +25,7 @@ pub struct Leased {
 }
 
 /// What a GETHASH asks for: the chunks of a file that meet `count` bytes from `offset` on.
-#[derive(Drop)]
+#[derive(Clone, Copy, Drop)]
 pub struct HashRange {
     /// The file.
     pub handle: Handle,
@@ -60,7 +60,7 @@ pub struct Hashes {
 }
 
 /// What a MKTMPFILE asks for: a temporary file with nothing in it.
-#[derive(Drop)]
+#[derive(Clone, Copy, Drop)]
 pub struct NewTemp {
     /// The number under which the asker will name the temporary file.
     pub fd: u32,
@@ -94,7 +94,7 @@ pub struct CondPiece {
 }
 
 /// What a COMMITTMP asks for: a file's content replaced by that of a temporary file.
-#[derive(Drop)]
+#[derive(Clone, Copy, Drop)]
 pub struct Commit {
     /// The number of the temporary file, which ends.
     pub fd: u32,
@@ -122,9 +122,7 @@ impl Item for Leased {
     ghost short = { λ _. Unit {0} };
 
     fn read(alloc: Global, reader: &mut Reader) -> Result<Leased, ReadError> {
-        let attr = Attr::read(alloc, reader)?;
-        let version = reader.u64()?;
-        let term = reader.u32()?;
+        let (attr, (version, term)) = Item::read(alloc, reader)?;
         Ok(Leased {
             attr,
             version,
@@ -133,9 +131,7 @@ impl Item for Leased {
     }
 
     fn write(&self, writer: &mut Writer) -> Result<(), AllocError> {
-        self.attr.write(writer)?;
-        writer.u64(self.version)?;
-        writer.u32(self.term)
+        (self.attr, (self.version, self.term)).write(writer)
     }
 }
 
@@ -148,9 +144,7 @@ impl Item for HashRange {
     ghost short = { λ _. Unit {0} };
 
     fn read(alloc: Global, reader: &mut Reader) -> Result<HashRange, ReadError> {
-        let handle = Handle::read(alloc, reader)?;
-        let offset = reader.u64()?;
-        let count = reader.u32()?;
+        let (handle, (offset, count)) = Item::read(alloc, reader)?;
         Ok(HashRange {
             handle,
             offset,
@@ -159,9 +153,7 @@ impl Item for HashRange {
     }
 
     fn write(&self, writer: &mut Writer) -> Result<(), AllocError> {
-        self.handle.write(writer)?;
-        writer.u64(self.offset)?;
-        writer.u32(self.count)
+        (self.handle, (self.offset, self.count)).write(writer)
     }
 }
 
@@ -174,14 +166,12 @@ impl Item for Pair {
     ghost short = { λ _. Unit {0} };
 
     fn read(alloc: Global, reader: &mut Reader) -> Result<Pair, ReadError> {
-        let digest = Item::read(alloc, reader)?;
-        let size = reader.u32()?;
+        let (digest, size) = Item::read(alloc, reader)?;
         Ok(Pair { digest, size })
     }
 
     fn write(&self, writer: &mut Writer) -> Result<(), AllocError> {
-        self.digest.write(writer)?;
-        writer.u32(self.size)
+        (self.digest, self.size).write(writer)
     }
 }
 
@@ -228,14 +218,12 @@ impl Item for NewTemp {
     ghost short = { λ _. Unit {0} };
 
     fn read(alloc: Global, reader: &mut Reader) -> Result<NewTemp, ReadError> {
-        let fd = reader.u32()?;
-        let handle = Handle::read(alloc, reader)?;
+        let (fd, handle) = Item::read(alloc, reader)?;
         Ok(NewTemp { fd, handle })
     }
 
     fn write(&self, writer: &mut Writer) -> Result<(), AllocError> {
-        writer.u32(self.fd)?;
-        self.handle.write(writer)
+        (self.fd, self.handle).write(writer)
     }
 }
 
@@ -272,10 +260,7 @@ impl Item for CondPiece {
     ghost short = { λ _. Unit {0} };
 
     fn read(alloc: Global, reader: &mut Reader) -> Result<CondPiece, ReadError> {
-        let fd = reader.u32()?;
-        let offset = reader.u64()?;
-        let count = reader.u32()?;
-        let digest = Item::read(alloc, reader)?;
+        let (fd, (offset, (count, digest))) = Item::read(alloc, reader)?;
         Ok(CondPiece {
             fd,
             offset,
@@ -285,10 +270,7 @@ impl Item for CondPiece {
     }
 
     fn write(&self, writer: &mut Writer) -> Result<(), AllocError> {
-        writer.u32(self.fd)?;
-        writer.u64(self.offset)?;
-        writer.u32(self.count)?;
-        self.digest.write(writer)
+        (self.fd, (self.offset, (self.count, self.digest))).write(writer)
     }
 }
 
@@ -301,16 +283,12 @@ impl Item for Commit {
     ghost short = { λ _. Unit {0} };
 
     fn read(alloc: Global, reader: &mut Reader) -> Result<Commit, ReadError> {
-        let fd = reader.u32()?;
-        let handle = Handle::read(alloc, reader)?;
-        let size = reader.u64()?;
+        let (fd, (handle, size)) = Item::read(alloc, reader)?;
         Ok(Commit { fd, handle, size })
     }
 
     fn write(&self, writer: &mut Writer) -> Result<(), AllocError> {
-        writer.u32(self.fd)?;
-        self.handle.write(writer)?;
-        writer.u64(self.size)
+        (self.fd, (self.handle, self.size)).write(writer)
     }
 }
 
@@ -322,14 +300,12 @@ impl Item for Committed {
 
     ghost short = { λ _. Unit {0} };
 
-    fn read(_alloc: Global, reader: &mut Reader) -> Result<Committed, ReadError> {
-        let version = reader.u64()?;
-        let term = reader.u32()?;
+    fn read(alloc: Global, reader: &mut Reader) -> Result<Committed, ReadError> {
+        let (version, term) = Item::read(alloc, reader)?;
         Ok(Committed { version, term })
     }
 
     fn write(&self, writer: &mut Writer) -> Result<(), AllocError> {
-        writer.u64(self.version)?;
-        writer.u32(self.term)
+        (self.version, self.term).write(writer)
     }
 }

@@ -12,7 +12,7 @@ use xdr_codec::reader::{NO_MAXIMUM, Reader};
 use xdr_codec::writer::Writer;
 
 /// What an ACCESS asks for (RFC 1813, section 3.3.4: ACCESS3args).
-#[derive(Drop)]
+#[derive(Clone, Copy, Drop)]
 pub struct Access {
     /// The file or directory (RFC 1813, section 3.3.4: object).
     pub handle: Handle,
@@ -30,7 +30,7 @@ pub struct Granted {
 }
 
 /// What a READ asks for (RFC 1813, section 3.3.6: READ3args).
-#[derive(Drop)]
+#[derive(Clone, Copy, Drop)]
 pub struct Range {
     /// The file (RFC 1813, section 3.3.6: file).
     pub handle: Handle,
@@ -62,14 +62,12 @@ impl Item for Access {
     ghost short = { λ _. Unit {0} };
 
     fn read(alloc: Global, reader: &mut Reader) -> Result<Access, ReadError> {
-        let handle = Handle::read(alloc, reader)?;
-        let bits = reader.u32()?;
+        let (handle, bits) = Item::read(alloc, reader)?;
         Ok(Access { handle, bits })
     }
 
     fn write(&self, writer: &mut Writer) -> Result<(), AllocError> {
-        self.handle.write(writer)?;
-        writer.u32(self.bits)
+        (self.handle, self.bits).write(writer)
     }
 }
 
@@ -82,14 +80,12 @@ impl Item for Granted {
     ghost short = { λ _. Unit {0} };
 
     fn read(alloc: Global, reader: &mut Reader) -> Result<Granted, ReadError> {
-        let attr = Option::read(alloc, reader)?;
-        let bits = reader.u32()?;
+        let (attr, bits) = Item::read(alloc, reader)?;
         Ok(Granted { attr, bits })
     }
 
     fn write(&self, writer: &mut Writer) -> Result<(), AllocError> {
-        self.attr.write(writer)?;
-        writer.u32(self.bits)
+        (self.attr, self.bits).write(writer)
     }
 }
 
@@ -102,9 +98,7 @@ impl Item for Range {
     ghost short = { λ _. Unit {0} };
 
     fn read(alloc: Global, reader: &mut Reader) -> Result<Range, ReadError> {
-        let handle = Handle::read(alloc, reader)?;
-        let offset = reader.u64()?;
-        let count = reader.u32()?;
+        let (handle, (offset, count)) = Item::read(alloc, reader)?;
         Ok(Range {
             handle,
             offset,
@@ -113,9 +107,7 @@ impl Item for Range {
     }
 
     fn write(&self, writer: &mut Writer) -> Result<(), AllocError> {
-        self.handle.write(writer)?;
-        writer.u64(self.offset)?;
-        writer.u32(self.count)
+        (self.handle, (self.offset, self.count)).write(writer)
     }
 }
 

@@ -49,16 +49,12 @@ impl Item for Before {
     ghost short = { λ _. Unit {0} };
 
     fn read(alloc: Global, reader: &mut Reader) -> Result<Before, ReadError> {
-        let size = reader.u64()?;
-        let mtime = Time::read(alloc, reader)?;
-        let ctime = Time::read(alloc, reader)?;
+        let (size, (mtime, ctime)) = Item::read(alloc, reader)?;
         Ok(Before { size, mtime, ctime })
     }
 
     fn write(&self, writer: &mut Writer) -> Result<(), AllocError> {
-        writer.u64(self.size)?;
-        self.mtime.write(writer)?;
-        self.ctime.write(writer)
+        (self.size, (self.mtime, self.ctime)).write(writer)
     }
 }
 
@@ -71,14 +67,12 @@ impl Item for Wcc {
     ghost short = { λ _. Unit {0} };
 
     fn read(alloc: Global, reader: &mut Reader) -> Result<Wcc, ReadError> {
-        let before = Option::read(alloc, reader)?;
-        let after = Option::read(alloc, reader)?;
+        let (before, after) = Item::read(alloc, reader)?;
         Ok(Wcc { before, after })
     }
 
     fn write(&self, writer: &mut Writer) -> Result<(), AllocError> {
-        self.before.write(writer)?;
-        self.after.write(writer)
+        (self.before, self.after).write(writer)
     }
 }
 
@@ -91,13 +85,11 @@ impl Item for Moved {
     ghost short = { λ _. Unit {0} };
 
     fn read(alloc: Global, reader: &mut Reader) -> Result<Moved, ReadError> {
-        let from = Wcc::read(alloc, reader)?;
-        let to = Wcc::read(alloc, reader)?;
+        let (from, to) = Item::read(alloc, reader)?;
         Ok(Moved { from, to })
     }
 
     fn write(&self, writer: &mut Writer) -> Result<(), AllocError> {
-        self.from.write(writer)?;
-        self.to.write(writer)
+        (self.from, self.to).write(writer)
     }
 }

@@ -47,10 +47,8 @@ impl Item for Sizes {
 
     ghost short = { λ _. Unit {0} };
 
-    fn read(_alloc: Global, reader: &mut Reader) -> Result<Sizes, ReadError> {
-        let most = reader.u32()?;
-        let best = reader.u32()?;
-        let multiple = reader.u32()?;
+    fn read(alloc: Global, reader: &mut Reader) -> Result<Sizes, ReadError> {
+        let (most, (best, multiple)) = Item::read(alloc, reader)?;
         Ok(Sizes {
             most,
             best,
@@ -59,9 +57,7 @@ impl Item for Sizes {
     }
 
     fn write(&self, writer: &mut Writer) -> Result<(), AllocError> {
-        writer.u32(self.most)?;
-        writer.u32(self.best)?;
-        writer.u32(self.multiple)
+        (self.most, (self.best, self.multiple)).write(writer)
     }
 }
 
@@ -74,13 +70,9 @@ impl Item for FsInfo {
     ghost short = { λ _. Unit {0} };
 
     fn read(alloc: Global, reader: &mut Reader) -> Result<FsInfo, ReadError> {
-        let attr = Option::read(alloc, reader)?;
-        let reading = Sizes::read(alloc, reader)?;
-        let writing = Sizes::read(alloc, reader)?;
-        let dtpref = reader.u32()?;
-        let maxfilesize = reader.u64()?;
-        let time_delta = Time::read(alloc, reader)?;
-        let properties = reader.u32()?;
+        let (attr, sizes) = Item::read(alloc, reader)?;
+        let (reading, (writing, (dtpref, limits))) = sizes;
+        let (maxfilesize, (time_delta, properties)) = limits;
         Ok(FsInfo {
             attr,
             reading,
@@ -93,12 +85,8 @@ impl Item for FsInfo {
     }
 
     fn write(&self, writer: &mut Writer) -> Result<(), AllocError> {
-        self.attr.write(writer)?;
-        self.reading.write(writer)?;
-        self.writing.write(writer)?;
-        writer.u32(self.dtpref)?;
-        writer.u64(self.maxfilesize)?;
-        self.time_delta.write(writer)?;
-        writer.u32(self.properties)
+        let limits = (self.maxfilesize, (self.time_delta, self.properties));
+        let sizes = (self.reading, (self.writing, (self.dtpref, limits)));
+        (self.attr, sizes).write(writer)
     }
 }

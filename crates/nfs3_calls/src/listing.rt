@@ -13,7 +13,7 @@ use xdr_codec::reader::{NO_MAXIMUM, Reader};
 use xdr_codec::writer::Writer;
 
 /// What a READDIR asks for (RFC 1813, section 3.3.16: READDIR3args).
-#[derive(Drop)]
+#[derive(Clone, Copy, Drop)]
 pub struct ListRange {
     /// The directory (RFC 1813, section 3.3.16: dir).
     pub dir: Handle,
@@ -60,10 +60,7 @@ impl Item for ListRange {
     ghost short = { λ _. Unit {0} };
 
     fn read(alloc: Global, reader: &mut Reader) -> Result<ListRange, ReadError> {
-        let dir = Handle::read(alloc, reader)?;
-        let cookie = reader.u64()?;
-        let verifier = reader.u64()?;
-        let count = reader.u32()?;
+        let (dir, (cookie, (verifier, count))) = Item::read(alloc, reader)?;
         Ok(ListRange {
             dir,
             cookie,
@@ -73,10 +70,7 @@ impl Item for ListRange {
     }
 
     fn write(&self, writer: &mut Writer) -> Result<(), AllocError> {
-        self.dir.write(writer)?;
-        writer.u64(self.cookie)?;
-        writer.u64(self.verifier)?;
-        writer.u32(self.count)
+        (self.dir, (self.cookie, (self.verifier, self.count))).write(writer)
     }
 }
 

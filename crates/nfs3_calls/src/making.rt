@@ -75,7 +75,7 @@ pub struct NewDir {
 
 /// What a CREATE or a MKDIR made (RFC 1813, sections 3.3.8 and 3.3.9: CREATE3resok and
 /// MKDIR3resok).
-#[derive(Drop)]
+#[derive(Clone, Copy, Drop)]
 pub struct Made {
     /// What was made (RFC 1813, section 3.3.8: obj).
     pub handle: Option<Handle>,
@@ -124,12 +124,7 @@ impl Item for SetAttr {
     ghost short = { λ _. Unit {0} };
 
     fn read(alloc: Global, reader: &mut Reader) -> Result<SetAttr, ReadError> {
-        let mode = Option::read(alloc, reader)?;
-        let uid = Option::read(alloc, reader)?;
-        let gid = Option::read(alloc, reader)?;
-        let size = Option::read(alloc, reader)?;
-        let atime = SetTime::read(alloc, reader)?;
-        let mtime = SetTime::read(alloc, reader)?;
+        let (mode, (uid, (gid, (size, (atime, mtime))))) = Item::read(alloc, reader)?;
         Ok(SetAttr {
             mode,
             uid,
@@ -141,12 +136,8 @@ impl Item for SetAttr {
     }
 
     fn write(&self, writer: &mut Writer) -> Result<(), AllocError> {
-        self.mode.write(writer)?;
-        self.uid.write(writer)?;
-        self.gid.write(writer)?;
-        self.size.write(writer)?;
-        self.atime.write(writer)?;
-        self.mtime.write(writer)
+        let times = (self.atime, self.mtime);
+        (self.mode, (self.uid, (self.gid, (self.size, times)))).write(writer)
     }
 }
 
@@ -196,8 +187,7 @@ impl Item for NewFile {
     ghost short = { λ f. length f.place.name < 2 ^ 32 };
 
     fn read(alloc: Global, reader: &mut Reader) -> Result<NewFile, ReadError> {
-        let place = Place::read(alloc, reader)?;
-        let how = HowMade::read(alloc, reader)?;
+        let (place, how) = Item::read(alloc, reader)?;
         Ok(NewFile { place, how })
     }
 
@@ -217,8 +207,7 @@ impl Item for NewDir {
     ghost short = { λ d. length d.place.name < 2 ^ 32 };
 
     fn read(alloc: Global, reader: &mut Reader) -> Result<NewDir, ReadError> {
-        let place = Place::read(alloc, reader)?;
-        let attr = SetAttr::read(alloc, reader)?;
+        let (place, attr) = Item::read(alloc, reader)?;
         Ok(NewDir { place, attr })
     }
 
@@ -237,15 +226,11 @@ impl Item for Made {
     ghost short = { λ _. Unit {0} };
 
     fn read(alloc: Global, reader: &mut Reader) -> Result<Made, ReadError> {
-        let handle = Option::read(alloc, reader)?;
-        let attr = Option::read(alloc, reader)?;
-        let dir = Wcc::read(alloc, reader)?;
+        let (handle, (attr, dir)) = Item::read(alloc, reader)?;
         Ok(Made { handle, attr, dir })
     }
 
     fn write(&self, writer: &mut Writer) -> Result<(), AllocError> {
-        self.handle.write(writer)?;
-        self.attr.write(writer)?;
-        self.dir.write(writer)
+        (self.handle, (self.attr, self.dir)).write(writer)
     }
 }

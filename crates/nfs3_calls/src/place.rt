@@ -23,7 +23,7 @@ pub struct Place {
 }
 
 /// What a LOOKUP found (RFC 1813, section 3.3.3: LOOKUP3resok).
-#[derive(Drop)]
+#[derive(Clone, Copy, Drop)]
 pub struct Found {
     /// What the name stands for (RFC 1813, section 3.3.3: object).
     pub handle: Handle,
@@ -72,16 +72,12 @@ impl Item for Found {
     ghost short = { λ _. Unit {0} };
 
     fn read(alloc: Global, reader: &mut Reader) -> Result<Found, ReadError> {
-        let handle = Handle::read(alloc, reader)?;
-        let attr = Option::read(alloc, reader)?;
-        let dir = Option::read(alloc, reader)?;
+        let (handle, (attr, dir)) = Item::read(alloc, reader)?;
         Ok(Found { handle, attr, dir })
     }
 
     fn write(&self, writer: &mut Writer) -> Result<(), AllocError> {
-        self.handle.write(writer)?;
-        self.attr.write(writer)?;
-        self.dir.write(writer)
+        (self.handle, (self.attr, self.dir)).write(writer)
     }
 }
 
@@ -95,8 +91,7 @@ impl Item for Rename {
     ghost short = { λ r. (length r.from.name < 2 ^ 32) × (length r.to.name < 2 ^ 32) };
 
     fn read(alloc: Global, reader: &mut Reader) -> Result<Rename, ReadError> {
-        let from = Place::read(alloc, reader)?;
-        let to = Place::read(alloc, reader)?;
+        let (from, to) = Item::read(alloc, reader)?;
         Ok(Rename { from, to })
     }
 

@@ -167,14 +167,12 @@ impl Item for Front {
     ghost short = { λ _. Unit {0} };
 
     fn read(alloc: Global, reader: &mut Reader) -> Result<Front, ReadError> {
-        let xid = reader.u32()?;
-        let direction = Direction::read(alloc, reader)?;
+        let (xid, direction) = Item::read(alloc, reader)?;
         Ok(Front { xid, direction })
     }
 
     fn write(&self, writer: &mut Writer) -> Result<(), AllocError> {
-        writer.u32(self.xid)?;
-        self.direction.write(writer)
+        (self.xid, self.direction).write(writer)
     }
 }
 
@@ -242,15 +240,13 @@ impl Item for Versions {
 
     ghost short = { λ _. Unit {0} };
 
-    fn read(_alloc: Global, reader: &mut Reader) -> Result<Versions, ReadError> {
-        let low = reader.u32()?;
-        let high = reader.u32()?;
+    fn read(alloc: Global, reader: &mut Reader) -> Result<Versions, ReadError> {
+        let (low, high) = Item::read(alloc, reader)?;
         Ok(Versions { low, high })
     }
 
     fn write(&self, writer: &mut Writer) -> Result<(), AllocError> {
-        writer.u32(self.low)?;
-        writer.u32(self.high)
+        (self.low, self.high).write(writer)
     }
 }
 

@@ -68,9 +68,8 @@ impl Item for Time {
 
     ghost short = { λ _. Unit {0} };
 
-    fn read(_alloc: Global, reader: &mut Reader) -> Result<Time, ReadError> {
-        let seconds = reader.u32()?;
-        let nanoseconds = reader.u32()?;
+    fn read(alloc: Global, reader: &mut Reader) -> Result<Time, ReadError> {
+        let (seconds, nanoseconds) = Item::read(alloc, reader)?;
         Ok(Time {
             seconds,
             nanoseconds,
@@ -78,8 +77,7 @@ impl Item for Time {
     }
 
     fn write(&self, writer: &mut Writer) -> Result<(), AllocError> {
-        writer.u32(self.seconds)?;
-        writer.u32(self.nanoseconds)
+        (self.seconds, self.nanoseconds).write(writer)
     }
 }
 
@@ -117,20 +115,12 @@ impl Item for Attr {
     ghost short = { λ _. Unit {0} };
 
     fn read(alloc: Global, reader: &mut Reader) -> Result<Attr, ReadError> {
-        let kind = Kind::read(alloc, reader)?;
-        let mode = reader.u32()?;
-        let nlink = reader.u32()?;
-        let uid = reader.u32()?;
-        let gid = reader.u32()?;
-        let size = reader.u64()?;
-        let used = reader.u64()?;
-        let rdev_major = reader.u32()?;
-        let rdev_minor = reader.u32()?;
-        let fsid = reader.u64()?;
-        let fileid = reader.u64()?;
-        let atime = Time::read(alloc, reader)?;
-        let mtime = Time::read(alloc, reader)?;
-        let ctime = Time::read(alloc, reader)?;
+        let (kind, (mode, owners)) = Item::read(alloc, reader)?;
+        let (nlink, (uid, (gid, sizes))) = owners;
+        let (size, (used, device)) = sizes;
+        let (rdev_major, (rdev_minor, numbers)) = device;
+        let (fsid, (fileid, times)) = numbers;
+        let (atime, (mtime, ctime)) = times;
         Ok(Attr {
             kind,
             mode,
@@ -150,19 +140,11 @@ impl Item for Attr {
     }
 
     fn write(&self, writer: &mut Writer) -> Result<(), AllocError> {
-        self.kind.write(writer)?;
-        writer.u32(self.mode)?;
-        writer.u32(self.nlink)?;
-        writer.u32(self.uid)?;
-        writer.u32(self.gid)?;
-        writer.u64(self.size)?;
-        writer.u64(self.used)?;
-        writer.u32(self.rdev_major)?;
-        writer.u32(self.rdev_minor)?;
-        writer.u64(self.fsid)?;
-        writer.u64(self.fileid)?;
-        self.atime.write(writer)?;
-        self.mtime.write(writer)?;
-        self.ctime.write(writer)
+        let times = (self.atime, (self.mtime, self.ctime));
+        let numbers = (self.fsid, (self.fileid, times));
+        let device = (self.rdev_major, (self.rdev_minor, numbers));
+        let sizes = (self.size, (self.used, device));
+        let owners = (self.nlink, (self.uid, (self.gid, sizes)));
+        (self.kind, (self.mode, owners)).write(writer)
     }
 }

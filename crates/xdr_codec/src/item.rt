@@ -119,6 +119,25 @@ impl Item for () {
     }
 }
 
+impl<A: Item, B: Item> Item for (A, B) {
+    ghost use Rattle.xdr_codec.specs.Compose.{◌⋆◌};
+
+    ghost form = { A.form ⋆ B.form };
+
+    ghost short = { λ p. A.short p.0 × B.short p.1 };
+
+    fn read(alloc: Global, reader: &mut Reader) -> Result<(A, B), ReadError> {
+        let first = A::read(alloc, reader)?;
+        let second = B::read(alloc, reader)?;
+        Ok((first, second))
+    }
+
+    fn write(&self, writer: &mut Writer) -> Result<(), AllocError> {
+        self.0.write(writer)?;
+        self.1.write(writer)
+    }
+}
+
 impl<T: Item> Item for Option<T> {
     ghost form = { optional T.form };
 
