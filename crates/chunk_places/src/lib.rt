@@ -13,6 +13,7 @@ use chunk_index::place::Place;
 use limits::INDEX_MOST;
 use std::alloc::{AllocError, Global};
 use std::num::NonZeroUsize;
+use transfer_rules::lookups::look_up;
 
 /// An index with no pairs. The one error is want of memory.
 pub fn empty(alloc: Global) -> Result<Index, AllocError>
@@ -59,6 +60,6 @@ pub fn find_all(index: &mut Index, chunks: &[Chunk])
     ensures { index.new ≡ found_all index.old chunks.now }
 {
     for chunk in chunks {
-        let _place = index.find(&chunk.digest);
+        look_up(index, &chunk.digest);
     }
 }

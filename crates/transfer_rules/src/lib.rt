@@ -1,7 +1,7 @@
 //! The rules by which a client fetches and stores a file's chunks, each over the few values that it looks
 //! at: how many calls and attempts there may be, which chunk comes next, whether what came fits, whose
-//! answer it is, what is counted of it, and what an evicted content leaves. Whether what an index found
-//! fits is asked by both ends.
+//! answer it is, what is counted of it, and what an evicted content leaves. What a look-up makes of an
+//! index, and whether what it found fits, is asked by both ends.
 //!
 //! They know no message and no state, so that a wrong rule is refused here, in a check of seconds.
 //! `client_cache`, `client_state`, `file_open` and `file_close` go by them, and `chunk_places` for both
@@ -13,4 +13,5 @@ pub mod bounds;
 pub mod chunks;
 pub mod counts;
 pub mod kept;
+pub mod lookups;
 pub mod pieces;
