@@ -1,21 +1,11 @@
 //! The search for the end of the chunk under way: `MayEnd` of `specs/Ends.antt`.
 
-ghost use Rattle.std.specs.Prelude.{◌≡◌, ℕ, ◌+◌, ◌%◌, ◌^◌, ◌<◌, ◌≤◌, ◌⊎◌, List, ◌++◌, length, take, IsTrue, ◌↔◌, IfSome, MatchOption};
+ghost use Rattle.std.specs.Prelude.{◌≡◌, ℕ, ◌+◌, ◌^◌, ◌<◌, ◌≤◌, ◌⊎◌, List, ◌++◌, length, take, IfSome, MatchOption};
 ghost use Rattle.chunk_cut.specs.Cutting.{IsUnderWay};
 ghost use Rattle.chunk_cut.specs.Ends.{IsLeastEnd, window_before};
 
+use rabin_window::ends::{LEAST, ends_here, is_end};
 use rabin_window::{WINDOW_LEN, Window, fp, roll};
-
-/// The least number of bytes of a chunk that is not the last.
-pub const LEAST: u64 = limits::CHUNK_LEAST as u64;
-
-/// The most bytes of a chunk.
-pub const MOST: u64 = limits::CHUNK_MOST as u64;
-
-// A window is marked by these low bits of its fingerprint.
-const MARK_BITS: u64 = 0x1FFF;
-
-const MARK: u64 = 0x78;
 
 // No window that ends nearer than `LEAST` is looked at, so the bytes before are not needed.
 const UNWATCHED: u64 = LEAST - WINDOW_LEN as u64;
@@ -75,18 +65,4 @@ fn unwatched(len: u64, count: usize) -> usize
 {
     let watched = UNWATCHED.saturating_sub(len) as usize;
     watched.min(count)
-}
-
-// Whether a chunk of `len` bytes ends with the window of this fingerprint.
-fn is_end(print: u64, len: u64) -> bool
-    ensures { IsTrue result ↔ (2048 ≤ len) × ((print % 2 ^ 13 ≡ 0x78) ⊎ (len ≡ 65536)) }
-{
-    len >= LEAST && ends_here(print, len)
-}
-
-// Whether it does where it has the least number of bytes.
-fn ends_here(print: u64, len: u64) -> bool
-    ensures { IsTrue result ↔ ((print % 2 ^ 13 ≡ 0x78) ⊎ (len ≡ 65536)) }
-{
-    print & MARK_BITS == MARK || len == MOST
 }

@@ -8,6 +8,7 @@ ghost use Rattle.rabin_window.specs.Fingerprint.{fp, high_part, oldest_part};
 use std::alloc::AllocError;
 use std::marker::Model;
 
+pub mod ends;
 mod tables;
 
 use tables::{HIGH, OLDEST};
