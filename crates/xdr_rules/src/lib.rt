@@ -12,7 +12,12 @@ ghost use Rattle.std.specs.List.{list_all};
 pub fn is_fill(fill: &[u8]) -> bool
     ensures { result ≡ list_all (λ b. b == 0) fill.now }
 {
-    fill.iter().all(|b| *b == 0)
+    for byte in fill {
+        if *byte != 0 {
+            return false;
+        }
+    }
+    true
 }
 
 /// Whether nothing is left of a record.
