@@ -7,6 +7,7 @@ ghost use Rattle.trace_text.specs.Grammar.{join_of, do_with, do_of, up_of, down_
 
 use crate::fields;
 use crate::line::Line;
+use crate::words::{one, three, two};
 use command_text::command::Command;
 use command_text::fields::number;
 use command_text::line_err::LineErr;
@@ -17,15 +18,11 @@ use std::alloc::Global;
 fn join(words: &mut Words) -> Option<Line>
     ensures { result ≡ join_of words.old }
 {
-    let client = words.next()?;
-    let at = words.next()?;
-    let server = words.next()?;
-    words.end()?;
-    Some(Line::Join {
-        client: number(client)?,
-        at: fields::reading(at)?,
-        server: fields::reading(server)?,
-    })
+    let (client, at, server) = three(words)?;
+    match (number(client), fields::reading(at), fields::reading(server)) {
+        (Some(client), Some(at), Some(server)) => Some(Line::Join { client, at, server }),
+        _ => None,
+    }
 }
 
 /// The client and the reading of a command, and its first word.
@@ -35,14 +32,19 @@ fn command_words<'a>(words: &mut Words<'a>) -> Option<(u64, u64, &'a [u8])>
     let client = words.next()?;
     let at = words.next()?;
     let word = words.next()?;
-    Some((number(client)?, fields::reading(at)?, word))
+    match (number(client), fields::reading(at)) {
+        (Some(client), Some(at)) => Some((client, at, word)),
+        _ => None,
+    }
 }
 
 /// `do C c COMMAND`.
 pub(crate) fn command_line(alloc: Global, words: &mut Words) -> Result<Line, LineErr>
     ensures { Gives result (do_of words.old) }
 {
-    let (client, at, word) = command_words(words).ok_or(LineErr::BadLine)?;
+    let Some((client, at, word)) = command_words(words) else {
+        return Err(LineErr::BadLine);
+    };
     Ok(Line::Do {
         client,
         at,
@@ -54,30 +56,34 @@ pub(crate) fn command_line(alloc: Global, words: &mut Words) -> Result<Line, Lin
 fn up(words: &mut Words) -> Option<Line>
     ensures { result ≡ up_of words.old }
 {
-    let session = words.next()?;
-    let amount = words.next()?;
-    let server = words.next()?;
-    words.end()?;
-    Some(Line::Up {
-        session: number(session)?,
-        amount: fields::amount(amount)?,
-        server: fields::reading(server)?,
-    })
+    let (session, amount, server) = three(words)?;
+    match (
+        number(session),
+        fields::amount(amount),
+        fields::reading(server),
+    ) {
+        (Some(session), Some(amount), Some(server)) => Some(Line::Up {
+            session,
+            amount,
+            server,
+        }),
+        _ => None,
+    }
 }
 
 /// `down S n c`.
 fn down(words: &mut Words) -> Option<Line>
     ensures { result ≡ down_of words.old }
 {
-    let session = words.next()?;
-    let amount = words.next()?;
-    let at = words.next()?;
-    words.end()?;
-    Some(Line::Down {
-        session: number(session)?,
-        amount: fields::amount(amount)?,
-        at: fields::reading(at)?,
-    })
+    let (session, amount, at) = three(words)?;
+    match (number(session), fields::amount(amount), fields::reading(at)) {
+        (Some(session), Some(amount), Some(at)) => Some(Line::Down {
+            session,
+            amount,
+            at,
+        }),
+        _ => None,
+    }
 }
 
 /// `pass S k s c`.
@@ -85,24 +91,28 @@ fn pass(words: &mut Words) -> Option<Line>
     ensures { result ≡ pass_of words.old }
 {
     let session = words.next()?;
-    let rounds = words.next()?;
-    let server = words.next()?;
-    let at = words.next()?;
-    words.end()?;
-    Some(Line::Pass {
-        session: number(session)?,
-        rounds: number(rounds)?,
-        server: fields::reading(server)?,
-        at: fields::reading(at)?,
-    })
+    let (rounds, server, at) = three(words)?;
+    match (
+        number(session),
+        number(rounds),
+        fields::reading(server),
+        fields::reading(at),
+    ) {
+        (Some(session), Some(rounds), Some(server), Some(at)) => Some(Line::Pass {
+            session,
+            rounds,
+            server,
+            at,
+        }),
+        _ => None,
+    }
 }
 
 /// `settle s`.
 fn settle(words: &mut Words) -> Option<Line>
     ensures { result ≡ settle_of words.old }
 {
-    let server = words.next()?;
-    words.end()?;
+    let server = one(words)?;
     Some(Line::Settle {
         server: fields::reading(server)?,
     })
@@ -112,26 +122,22 @@ fn settle(words: &mut Words) -> Option<Line>
 fn cut(words: &mut Words) -> Option<Line>
     ensures { result ≡ cut_of words.old }
 {
-    let client = words.next()?;
-    let at = words.next()?;
-    words.end()?;
-    Some(Line::Cut {
-        client: number(client)?,
-        at: fields::reading(at)?,
-    })
+    let (client, at) = two(words)?;
+    match (number(client), fields::reading(at)) {
+        (Some(client), Some(at)) => Some(Line::Cut { client, at }),
+        _ => None,
+    }
 }
 
 /// `hang S s`.
 fn hang(words: &mut Words) -> Option<Line>
     ensures { result ≡ hang_of words.old }
 {
-    let session = words.next()?;
-    let server = words.next()?;
-    words.end()?;
-    Some(Line::Hang {
-        session: number(session)?,
-        server: fields::reading(server)?,
-    })
+    let (session, server) = two(words)?;
+    match (number(session), fields::reading(server)) {
+        (Some(session), Some(server)) => Some(Line::Hang { session, server }),
+        _ => None,
+    }
 }
 
 /// `forge WHO KEY FILE OFFSET COUNT`.
@@ -140,25 +146,30 @@ fn forge(words: &mut Words) -> Option<Line>
 {
     let who = words.next()?;
     let key = words.next()?;
-    let file = words.next()?;
-    let offset = words.next()?;
-    let count = words.next()?;
-    words.end()?;
-    Some(Line::Forge {
-        who: fields::who(who)?,
-        key: fields::key(key)?,
-        file: number(file)?,
-        offset: number(offset)?,
-        count: number(count)?,
-    })
+    let (file, offset, count) = three(words)?;
+    match (
+        fields::who(who),
+        fields::key(key),
+        number(file),
+        number(offset),
+        number(count),
+    ) {
+        (Some(who), Some(key), Some(file), Some(offset), Some(count)) => Some(Line::Forge {
+            who,
+            key,
+            file,
+            offset,
+            count,
+        }),
+        _ => None,
+    }
 }
 
 /// `clear WHO`.
 fn clear(words: &mut Words) -> Option<Line>
     ensures { result ≡ clear_of words.old }
 {
-    let who = words.next()?;
-    words.end()?;
+    let who = one(words)?;
     Some(Line::Clear(fields::who(who)?))
 }
 
@@ -166,13 +177,11 @@ fn clear(words: &mut Words) -> Option<Line>
 fn evict(words: &mut Words) -> Option<Line>
     ensures { result ≡ evict_of words.old }
 {
-    let client = words.next()?;
-    let file = words.next()?;
-    words.end()?;
-    Some(Line::Evict {
-        client: number(client)?,
-        file: number(file)?,
-    })
+    let (client, file) = two(words)?;
+    match (number(client), number(file)) {
+        (Some(client), Some(file)) => Some(Line::Evict { client, file }),
+        _ => None,
+    }
 }
 
 /// An event other than a command that begins with this word.

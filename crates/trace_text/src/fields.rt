@@ -44,7 +44,12 @@ pub(crate) fn who(word: &[u8]) -> Option<Who>
 fn are_lower_digits(text: &[u8]) -> bool
     ensures { result ≡ list_all is_lower_digit text.now }
 {
-    text.iter().all(|b| matches!(*b, b'0'..=b'9' | b'a'..=b'f'))
+    for byte in text {
+        if !matches!(*byte, b'0'..=b'9' | b'a'..=b'f') {
+            return false;
+        }
+    }
+    true
 }
 
 /// Whether these are the sixteen digits of a key.

@@ -1,12 +1,13 @@
 //! Each kind of line, from the words behind its first: the lines that say what there is at first.
 //! The rule is `line_from` of `specs/Grammar.antt`.
 
-ghost use Rattle.std.specs.Prelude.{◌≡◌, false, [], ◌∷◌, None, bytes_eq, codes, MatchOption};
+ghost use Rattle.std.specs.Prelude.{◌≡◌, false, bytes_eq, codes};
 ghost use Rattle.command_text.specs.Reading.{Gives};
 ghost use Rattle.trace_text.specs.Grammar.{version_of, term_of, drift_of, clients_of, dir_of, file_of, line_from};
 
 use crate::events::{command_line, event};
 use crate::line::Line;
+use crate::words::{one, two};
 use command_text::line_err::LineErr;
 use command_text::parts::Words;
 use command_text::{fields, path, pieces};
@@ -17,8 +18,7 @@ use std::alloc::Global;
 fn version(words: &mut Words) -> Option<Line>
     ensures { result ≡ version_of words.old }
 {
-    let version = words.next()?;
-    words.end()?;
+    let version = one(words)?;
     if version == b"1".as_slice() {
         Some(Line::Version)
     } else {
@@ -30,8 +30,7 @@ fn version(words: &mut Words) -> Option<Line>
 fn term(words: &mut Words) -> Option<Line>
     ensures { result ≡ term_of words.old }
 {
-    let term = words.next()?;
-    words.end()?;
+    let term = one(words)?;
     Some(Line::Term(fields::number_within(1, TERM_MOST, term)?))
 }
 
@@ -39,8 +38,7 @@ fn term(words: &mut Words) -> Option<Line>
 fn drift(words: &mut Words) -> Option<Line>
     ensures { result ≡ drift_of words.old }
 {
-    let drift = words.next()?;
-    words.end()?;
+    let drift = one(words)?;
     Some(Line::Drift(fields::number_within(0, DRIFT_MOST, drift)?))
 }
 
@@ -48,43 +46,27 @@ fn drift(words: &mut Words) -> Option<Line>
 fn clients(words: &mut Words) -> Option<Line>
     ensures { result ≡ clients_of words.old }
 {
-    let count = words.next()?;
-    words.end()?;
+    let count = one(words)?;
     Some(Line::Clients(fields::number_within(1, CLIENTS_MOST, count)?))
-}
-
-/// The word of a directory's path.
-fn dir_word<'a>(words: &mut Words<'a>) -> Option<&'a [u8]>
-    ensures { MatchOption result (dir_of words.old ≡ None) (λ p. words.old ≡ p.now ∷ []) }
-{
-    let path = words.next()?;
-    words.end()?;
-    Some(path)
 }
 
 /// `dir PATH`.
 fn dir(alloc: Global, words: &mut Words) -> Result<Line, LineErr>
     ensures { Gives result (dir_of words.old) }
 {
-    let path = dir_word(words).ok_or(LineErr::BadLine)?;
+    let Some(path) = one(words) else {
+        return Err(LineErr::BadLine);
+    };
     Ok(Line::Dir(path::read_spot(alloc, path)?))
-}
-
-/// The words of a file's path and content.
-fn file_words<'a>(words: &mut Words<'a>) -> Option<(&'a [u8], &'a [u8])>
-    ensures { MatchOption result (file_of words.old ≡ None) (λ p. words.old ≡ p.0.now ∷ p.1.now ∷ []) }
-{
-    let path = words.next()?;
-    let content = words.next()?;
-    words.end()?;
-    Some((path, content))
 }
 
 /// `file PATH CONTENT`.
 fn file(alloc: Global, words: &mut Words) -> Result<Line, LineErr>
     ensures { Gives result (file_of words.old) }
 {
-    let (path, content) = file_words(words).ok_or(LineErr::BadLine)?;
+    let Some((path, content)) = two(words) else {
+        return Err(LineErr::BadLine);
+    };
     let spot = path::read_spot(alloc, path)?;
     let content = pieces::content(alloc, content)?;
     Ok(Line::File { spot, content })

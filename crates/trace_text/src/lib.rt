@@ -8,3 +8,4 @@ mod fields;
 mod kinds;
 pub mod line;
 pub mod refusal;
+mod words;
