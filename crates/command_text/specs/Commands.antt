@@ -59,6 +59,21 @@ AreNotOne [] = Unit {0}
 AreNotOne (word ∷ []) = ⊥
 AreNotOne (word ∷ other ∷ words) = Unit {0}
 
+-- there are fewer words than two, or more
+abbrev pub AreNotTwo : List (List ℕ) → Type 0
+AreNotTwo [] = Unit {0}
+AreNotTwo (word ∷ []) = Unit {0}
+AreNotTwo (first ∷ second ∷ []) = ⊥
+AreNotTwo (first ∷ second ∷ third ∷ words) = Unit {0}
+
+-- there are fewer words than three, or more
+abbrev pub AreNotThree : List (List ℕ) → Type 0
+AreNotThree [] = Unit {0}
+AreNotThree (word ∷ []) = Unit {0}
+AreNotThree (first ∷ second ∷ []) = Unit {0}
+AreNotThree (first ∷ second ∷ third ∷ []) = ⊥
+AreNotThree (first ∷ second ∷ third ∷ fourth ∷ words) = Unit {0}
+
 -- the one name that a command is about
 abbrev pub one_spot : List (List ℕ) → Option Spot
 one_spot (word ∷ []) = spot_of word

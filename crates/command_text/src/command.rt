@@ -9,6 +9,7 @@ use crate::content::Content;
 use crate::line_err::LineErr;
 use crate::parts::Words;
 use crate::path::PathCommand;
+use crate::words::{one, three, two};
 use crate::{fields, naming, pieces};
 use std::alloc::Global;
 
@@ -48,18 +49,20 @@ pub enum Command {
 fn write_words<'a>(words: &mut Words<'a>) -> Option<(u64, u64, &'a [u8])>
     ensures { MatchOption result (write_of words.old ≡ None) (λ p. write_of words.old ≡ write_with p.0 p.1 (content_of p.2.now)) }
 {
-    let place = words.next()?;
-    let offset = words.next()?;
-    let content = words.next()?;
-    words.end()?;
-    Some((fields::id(place)?, fields::number(offset)?, content))
+    let (place, offset, content) = three(words)?;
+    match (fields::id(place), fields::number(offset)) {
+        (Some(file), Some(offset)) => Some((file, offset, content)),
+        _ => None,
+    }
 }
 
 /// `write #ID OFFSET CONTENT`.
 fn write(alloc: Global, words: &mut Words) -> Result<Command, LineErr>
     ensures { Gives result (write_of words.old) }
 {
-    let (file, offset, content) = write_words(words).ok_or(LineErr::BadLine)?;
+    let Some((file, offset, content)) = write_words(words) else {
+        return Err(LineErr::BadLine);
+    };
     Ok(Command::Write {
         file,
         offset,
@@ -71,36 +74,37 @@ fn write(alloc: Global, words: &mut Words) -> Result<Command, LineErr>
 fn trunc(words: &mut Words) -> Option<Command>
     ensures { result ≡ trunc_of words.old }
 {
-    let place = words.next()?;
-    let size = words.next()?;
-    words.end()?;
-    Some(Command::Trunc {
-        file: fields::id(place)?,
-        size: fields::number(size)?,
-    })
+    let (place, size) = two(words)?;
+    match (fields::id(place), fields::number(size)) {
+        (Some(file), Some(size)) => Some(Command::Trunc { file, size }),
+        _ => None,
+    }
 }
 
 /// `read #ID OFFSET COUNT`.
 fn read(words: &mut Words) -> Option<Command>
     ensures { result ≡ read_of words.old }
 {
-    let place = words.next()?;
-    let offset = words.next()?;
-    let count = words.next()?;
-    words.end()?;
-    Some(Command::Read {
-        file: fields::id(place)?,
-        offset: fields::number(offset)?,
-        count: fields::number(count)?,
-    })
+    let (place, offset, count) = three(words)?;
+    match (
+        fields::id(place),
+        fields::number(offset),
+        fields::number(count),
+    ) {
+        (Some(file), Some(offset), Some(count)) => Some(Command::Read {
+            file,
+            offset,
+            count,
+        }),
+        _ => None,
+    }
 }
 
 /// `close #ID`.
 fn close(words: &mut Words) -> Option<Command>
     ensures { result ≡ close_of words.old }
 {
-    let place = words.next()?;
-    words.end()?;
+    let place = one(words)?;
     Some(Command::Close(fields::id(place)?))
 }
 
@@ -108,8 +112,7 @@ fn close(words: &mut Words) -> Option<Command>
 fn abandon(words: &mut Words) -> Option<Command>
     ensures { result ≡ abandon_of words.old }
 {
-    let place = words.next()?;
-    words.end()?;
+    let place = one(words)?;
     Some(Command::Abandon(fields::id(place)?))
 }
 

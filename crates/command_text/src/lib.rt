@@ -15,3 +15,4 @@ mod naming;
 pub mod parts;
 pub mod path;
 pub mod pieces;
+mod words;

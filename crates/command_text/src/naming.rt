@@ -1,7 +1,7 @@
 //! Commands on names, and `open`, as `specs/Commands.antt` has their words.
 
-ghost use Rattle.std.specs.Prelude.{◌≡◌, [], ◌∷◌, List, ℕ, MatchOption, Option, None};
-ghost use Rattle.command_text.specs.Commands.{find_of, open_of, spot_command, rename_of, list_of, look_of, one_spot, path_command_of, AreNotOne};
+ghost use Rattle.std.specs.Prelude.{◌≡◌};
+ghost use Rattle.command_text.specs.Commands.{find_of, open_of, spot_command, rename_of, list_of, look_of, one_spot, path_command_of};
 ghost use Rattle.command_text.specs.declared.path.PathCommand.TheVariants.{Make, MakeDir, Remove, RemoveDir};
 ghost use Rattle.command_text.specs.Reading.{Gives};
 
@@ -10,16 +10,8 @@ use crate::fields;
 use crate::line_err::LineErr;
 use crate::parts::Words;
 use crate::path::{self, PathCommand, Spot};
+use crate::words::{one, two};
 use std::alloc::Global;
-
-/// The one word that is left.
-fn only<'a>(words: &mut Words<'a>) -> Option<&'a [u8]>
-    ensures { MatchOption result (AreNotOne words.old) (λ w. words.old ≡ w.now ∷ []) }
-{
-    let word = words.next()?;
-    words.end()?;
-    Some(word)
-}
 
 /// `open PATH`.
 fn find(alloc: Global, word: &[u8]) -> Result<Command, LineErr>
@@ -32,7 +24,9 @@ fn find(alloc: Global, word: &[u8]) -> Result<Command, LineErr>
 pub fn open(alloc: Global, words: &mut Words) -> Result<Command, LineErr>
     ensures { Gives result (open_of words.old) }
 {
-    let word = only(words).ok_or(LineErr::BadLine)?;
+    let Some(word) = one(words) else {
+        return Err(LineErr::BadLine);
+    };
     match fields::id(word) {
         Some(file) => Ok(Command::Open(file)),
         None => find(alloc, word),
@@ -43,7 +37,9 @@ pub fn open(alloc: Global, words: &mut Words) -> Result<Command, LineErr>
 fn one_spot(alloc: Global, words: &mut Words) -> Result<Spot, LineErr>
     ensures { Gives result (one_spot words.old) }
 {
-    let word = only(words).ok_or(LineErr::BadLine)?;
+    let Some(word) = one(words) else {
+        return Err(LineErr::BadLine);
+    };
     path::read_spot(alloc, word)
 }
 
@@ -51,8 +47,9 @@ fn one_spot(alloc: Global, words: &mut Words) -> Result<Spot, LineErr>
 fn rename(alloc: Global, words: &mut Words) -> Result<Command, LineErr>
     ensures { Gives result (rename_of words.old) }
 {
-    let from = words.next().ok_or(LineErr::BadLine)?;
-    let to = only(words).ok_or(LineErr::BadLine)?;
+    let Some((from, to)) = two(words) else {
+        return Err(LineErr::BadLine);
+    };
     let from = path::read_spot(alloc, from)?;
     let to = path::read_spot(alloc, to)?;
     Ok(Command::Named(PathCommand::Rename(from, to)))
@@ -62,7 +59,9 @@ fn rename(alloc: Global, words: &mut Words) -> Result<Command, LineErr>
 fn list(alloc: Global, words: &mut Words) -> Result<Command, LineErr>
     ensures { Gives result (list_of words.old) }
 {
-    let word = only(words).ok_or(LineErr::BadLine)?;
+    let Some(word) = one(words) else {
+        return Err(LineErr::BadLine);
+    };
     Ok(Command::Named(PathCommand::List(path::read_path(alloc, word)?)))
 }
 
@@ -70,7 +69,9 @@ fn list(alloc: Global, words: &mut Words) -> Result<Command, LineErr>
 fn look(alloc: Global, words: &mut Words) -> Result<Command, LineErr>
     ensures { Gives result (look_of words.old) }
 {
-    let word = only(words).ok_or(LineErr::BadLine)?;
+    let Some(word) = one(words) else {
+        return Err(LineErr::BadLine);
+    };
     if word == b"/".as_slice() {
         return Ok(Command::Named(PathCommand::LookRoot));
     }
