@@ -47,8 +47,7 @@ fn with<'a>(command: Command<'a>, arg: Arg<'a>) -> Result<Command<'a>, AllocErro
     requires { arg.global ≡ false }
     ensures { IfOk result (λ c. app_of c ≡ with_rule (app_of command.entry) (rule_of arg.entry)) }
 {
-    let command = command.arg(arg)?;
-    Ok(command)
+    command.arg(arg)
 }
 
 /// `replay` and its options.
@@ -95,8 +94,7 @@ fn below<'a>(above: Command<'a>, command: Command<'a>) -> Result<Command<'a>, Al
     requires { (app_of command).top.is_plain ≡ true }
     ensures { IfOk result (λ c. app_of c ≡ with_subcommand (app_of above.entry) (app_of command.entry).top) }
 {
-    let all = above.subcommand(command)?;
-    Ok(all)
+    above.subcommand(command)
 }
 
 /// The program, with no command yet.
