@@ -2,9 +2,8 @@
 
 ghost use Rattle.std.specs.Prelude.{◌≡◌, ◌+◌, ◌<◌, ◌++◌, ◌∷◌, [], length, slice_get, IfOk, OnOk};
 ghost use Rattle.trace_ops.specs.Commands.{word_of, file_of, value_at_begin};
-ghost use Rattle.trace_ends.specs.Core.{does, commanded_sessions};
+ghost use Rattle.trace_ends.specs.Core.{does, commanded_sessions, happens, Event.Does};
 ghost use Rattle.trace_sessions.specs.Session.{session_of};
-ghost use Rattle.trace_sessions.specs.Numbers.{numbered};
 ghost use Rattle.trace_ops.specs.Ops.{begun, op_after};
 ghost use Rattle.trace_ends.specs.View.{core_of, core_step_of};
 
@@ -123,21 +122,24 @@ fn does_at(
     }
 }
 
-/// A client does what it is told to, if there is one of this number.
-pub fn does(
-    alloc: Global,
-    core: &mut Core,
-    client: u64,
-    now: u64,
-    command: Command,
-) -> Result<CoreStep, AllocError>
-    ensures { IfOk result (λ t. core_step_of core.new t ≡ does (core_of core.old) client now command (numbered core.old.seats.items client)) }
-{
-    match place_of(core.seats.len(), client) {
-        Some(place) => does_at(alloc, core, place, now, command),
-        None => {
-            drop(command);
-            Ok(CoreStep::quiet(alloc))
+impl Core {
+    /// A client does what it is told to, at a reading of its clock in milliseconds, if there is one of
+    /// this number.
+    pub fn does(
+        &mut self,
+        alloc: Global,
+        client: u64,
+        now: u64,
+        command: Command,
+    ) -> Result<CoreStep, AllocError>
+        ensures { IfOk result (λ t. core_step_of self.new t ≡ happens (core_of self.old) (Does client now command)) }
+    {
+        match place_of(self.seats.len(), client) {
+            Some(place) => does_at(alloc, self, place, now, command),
+            None => {
+                drop(command);
+                Ok(CoreStep::quiet(alloc))
+            }
         }
     }
 }

@@ -4,9 +4,8 @@
 ghost use Rattle.std.specs.Prelude.{◌≡◌, ◌+◌, ◌<◌, length, slice_get, IfOk, OnOk};
 ghost use Rattle.server_core.specs.Step.{server_step};
 ghost use Rattle.server_steps.specs.declared.event.Event.TheVariants as event;
-ghost use Rattle.trace_ends.specs.Core.{loss_down, cut_session, cuts, hangs};
+ghost use Rattle.trace_ends.specs.Core.{loss_down, cut_session, cuts, happens, Event.Cuts, Event.Hangs};
 ghost use Rattle.trace_sessions.specs.Session.{session_of};
-ghost use Rattle.trace_sessions.specs.Numbers.{numbered};
 ghost use Rattle.trace_ends.specs.View.{core_of, loss_of, core_step_of};
 
 use crate::core_step::{CoreStep, Loss};
@@ -44,7 +43,8 @@ fn cut_session(sessions: &mut Vec<Session>, session: Option<u32>)
     }
 }
 
-/// The client at this place sees its connection lost.
+/// The client at this place sees its connection lost. Where it isn't joined that is a step, and no
+/// more.
 fn cuts_at(alloc: Global, core: &mut Core, place: usize) -> Result<CoreStep, AllocError>
     requires { place < length core.old.seats.items }
     ensures { IfOk result (λ t. core_step_of core.new t ≡ cuts (core_of core.old) (place + 1) (slice_get core.old.seats.items place)) }
@@ -59,19 +59,14 @@ fn cuts_at(alloc: Global, core: &mut Core, place: usize) -> Result<CoreStep, All
     let acts = core.seats[place].cuts(alloc);
     let taken = taken_of(&core.sessions, session);
     let client = core.seats[place].client();
-    note_with(alloc, &mut core.ops, running, client, taken, step, &acts)?;
+    let noted = note_with(alloc, &mut core.ops, running, client, taken, step, &acts);
     cut_session(&mut core.sessions, session);
-    Ok(CoreStep::acted(alloc, loss_down(session), session, acts))
-}
-
-/// A client sees its connection lost, if there is one of this number. Where it isn't joined that is
-/// a step, and no more.
-pub fn cuts(alloc: Global, core: &mut Core, client: u64) -> Result<CoreStep, AllocError>
-    ensures { IfOk result (λ t. core_step_of core.new t ≡ cuts (core_of core.old) client (numbered core.old.seats.items client)) }
-{
-    match place_of(core.seats.len(), client) {
-        Some(place) => cuts_at(alloc, core, place),
-        None => Ok(CoreStep::quiet(alloc)),
+    match noted {
+        Ok(()) => Ok(CoreStep::acted(alloc, loss_down(session), session, acts)),
+        Err(error) => {
+            drop(acts);
+            Err(error)
+        }
     }
 }
 
@@ -88,27 +83,32 @@ fn hang(alloc: Global, server: &mut Server, session: u32) -> Result<(), AllocErr
     Ok(())
 }
 
-/// The server sees the connection lost of the session at this place, unless it did so before.
-fn hangs_at(alloc: Global, core: &mut Core, place: usize) -> Result<CoreStep, AllocError>
-    requires { place < length core.old.sessions.items }
-    ensures { IfOk result (λ t. core_step_of core.new t ≡ hangs (core_of core.old) (place + 1) (slice_get core.old.sessions.items place)) }
-{
-    if core.sessions[place].is_hung() {
-        return Ok(CoreStep::quiet(alloc));
+impl Core {
+    /// A client sees its connection lost, if there is one of this number.
+    pub fn cuts(&mut self, alloc: Global, client: u64) -> Result<CoreStep, AllocError>
+        ensures { IfOk result (λ t. core_step_of self.new t ≡ happens (core_of self.old) (Cuts client)) }
+    {
+        match place_of(self.seats.len(), client) {
+            Some(place) => cuts_at(alloc, self, place),
+            None => Ok(CoreStep::quiet(alloc)),
+        }
     }
-    let number = short_number(place as u64 + 1)?;
-    core.steps = count_on(core.steps, 1)?;
-    hang(alloc, &mut core.server, number)?;
-    core.sessions[place].hang();
-    Ok(CoreStep::losing(alloc, Loss::UpOf(number)))
-}
 
-/// The server sees a session's connection lost, if there is one of this number.
-pub fn hangs(alloc: Global, core: &mut Core, session: u64) -> Result<CoreStep, AllocError>
-    ensures { IfOk result (λ t. core_step_of core.new t ≡ hangs (core_of core.old) session (numbered core.old.sessions.items session)) }
-{
-    match place_of(core.sessions.len(), session) {
-        Some(place) => hangs_at(alloc, core, place),
-        None => Ok(CoreStep::quiet(alloc)),
+    /// The server sees a session's connection lost, if there is one of this number, unless it did so
+    /// before.
+    pub fn hangs(&mut self, alloc: Global, session: u64) -> Result<CoreStep, AllocError>
+        ensures { IfOk result (λ t. core_step_of self.new t ≡ happens (core_of self.old) (Hangs session)) }
+    {
+        let Some(place) = place_of(self.sessions.len(), session) else {
+            return Ok(CoreStep::quiet(alloc));
+        };
+        if self.sessions[place].is_hung() {
+            return Ok(CoreStep::quiet(alloc));
+        }
+        let number = short_number(session)?;
+        self.steps = count_on(self.steps, 1)?;
+        hang(alloc, &mut self.server, number)?;
+        self.sessions[place].hang();
+        Ok(CoreStep::losing(alloc, Loss::UpOf(number)))
     }
 }

@@ -1,7 +1,7 @@
 //! A record comes to a client. `hears` in `specs/Core.antt` says what that makes of the two ends.
 
 ghost use Rattle.std.specs.Prelude.{◌≡◌, ◌+◌, ◌<◌, length, slice_get, IfOk};
-ghost use Rattle.trace_ends.specs.Core.{hears, hears_at};
+ghost use Rattle.trace_ends.specs.Core.{hears_at, happens, Event.Hears};
 ghost use Rattle.trace_sessions.specs.Numbers.{numbered};
 ghost use Rattle.trace_ends.specs.View.{core_of, core_step_of};
 
@@ -34,9 +34,15 @@ fn hears_at(
     let acts = core.seats[place].hears(alloc, bytes, now)?;
     let taken = taken_of(&core.sessions, session);
     let client = core.seats[place].client();
-    note_with(alloc, &mut core.ops, running, client, taken, step, &acts)?;
+    let noted = note_with(alloc, &mut core.ops, running, client, taken, step, &acts);
     core.steps = step;
-    Ok(CoreStep::acted(alloc, Loss::Nothing, session, acts))
+    match noted {
+        Ok(()) => Ok(CoreStep::acted(alloc, Loss::Nothing, session, acts)),
+        Err(error) => {
+            drop(acts);
+            Err(error)
+        }
+    }
 }
 
 /// The client of this number hears a record of this session, if there is one.
@@ -56,21 +62,24 @@ fn hears_by(
     }
 }
 
-/// A record of this session, if there is one, comes to its client.
-pub fn hears(
-    alloc: Global,
-    core: &mut Core,
-    number: u64,
-    now: u64,
-    bytes: &[u8],
-) -> Result<CoreStep, AllocError>
-    ensures { IfOk result (λ t. core_step_of core.new t ≡ hears (core_of core.old) number now bytes.now (numbered core.old.sessions.items number)) }
-{
-    match place_of(core.sessions.len(), number) {
-        Some(at) => {
-            let owner = core.sessions[at].owner;
-            hears_by(alloc, core, number, owner, now, bytes)
+impl Core {
+    /// A record of this session, if there is one, comes to its client, at a reading of that one's
+    /// clock in milliseconds.
+    pub fn hears(
+        &mut self,
+        alloc: Global,
+        session: u64,
+        now: u64,
+        bytes: &[u8],
+    ) -> Result<CoreStep, AllocError>
+        ensures { IfOk result (λ t. core_step_of self.new t ≡ happens (core_of self.old) (Hears session now bytes.now)) }
+    {
+        match place_of(self.sessions.len(), session) {
+            Some(at) => {
+                let owner = self.sessions[at].owner;
+                hears_by(alloc, self, session, owner, now, bytes)
+            }
+            None => Ok(CoreStep::quiet(alloc)),
         }
-        None => Ok(CoreStep::quiet(alloc)),
     }
 }

@@ -1,11 +1,10 @@
 //! A client joins. `joins` in `specs/Core.antt` says what that makes of the two ends.
 
-ghost use Rattle.std.specs.Prelude.{◌≡◌, ◌+◌, ◌<◌, length, slice_get, IfOk, OnOk};
+ghost use Rattle.std.specs.Prelude.{◌≡◌, IfOk, OnOk};
 ghost use Rattle.server_core.specs.Step.{server_step};
 ghost use Rattle.server_steps.specs.declared.event.Event.TheVariants as event;
 ghost use Rattle.server_rules.specs.declared.told.Told.TheVariants as told;
-ghost use Rattle.trace_ends.specs.Core.{joins, joins_as};
-ghost use Rattle.trace_sessions.specs.Numbers.{numbered};
+ghost use Rattle.trace_ends.specs.Core.{happens, Event.Joins};
 ghost use Rattle.trace_ends.specs.View.{core_of, core_step_of};
 
 use crate::core_step::{CoreStep, Loss};
@@ -32,29 +31,24 @@ fn connect(alloc: Global, server: &mut Server) -> Result<Told, AllocError>
     Ok(told)
 }
 
-/// The client at this place joins: a step of the server, and one of its own.
-fn joins_at(alloc: Global, core: &mut Core, place: usize) -> Result<CoreStep, AllocError>
-    requires { place < length core.old.seats.items }
-    ensures { IfOk result (λ t. core_step_of core.new t ≡ joins (core_of core.old) (place + 1) (slice_get core.old.seats.items place)) }
-{
-    core.steps = count_on(core.steps, 2)?;
-    match connect(alloc, &mut core.server)? {
-        Told::Session(made) => {
-            core.seats[place].joins(alloc, made);
-            let session = Session::new(alloc, place as u64 + 1);
-            core.sessions.push(session)?;
-            Ok(CoreStep::losing(alloc, Loss::Made))
+impl Core {
+    /// A client joins, if there is one of this number: a step of the server, and one of its own. The
+    /// one error is want of memory, as of each event: the two ends may be left half-way then.
+    pub fn joins(&mut self, alloc: Global, client: u64) -> Result<CoreStep, AllocError>
+        ensures { IfOk result (λ t. core_step_of self.new t ≡ happens (core_of self.old) (Joins client)) }
+    {
+        let Some(place) = place_of(self.seats.len(), client) else {
+            return Ok(CoreStep::quiet(alloc));
+        };
+        self.steps = count_on(self.steps, 2)?;
+        match connect(alloc, &mut self.server)? {
+            Told::Session(made) => {
+                self.seats[place].joins(alloc, made);
+                let session = Session::new(alloc, client);
+                self.sessions.push(session)?;
+                Ok(CoreStep::losing(alloc, Loss::Made))
+            }
+            _ => Ok(CoreStep::quiet(alloc)),
         }
-        _ => Ok(CoreStep::quiet(alloc)),
-    }
-}
-
-/// A client joins, if there is one of this number.
-pub fn joins(alloc: Global, core: &mut Core, client: u64) -> Result<CoreStep, AllocError>
-    ensures { IfOk result (λ t. core_step_of core.new t ≡ joins (core_of core.old) client (numbered core.old.seats.items client)) }
-{
-    match place_of(core.seats.len(), client) {
-        Some(place) => joins_at(alloc, core, place),
-        None => Ok(CoreStep::quiet(alloc)),
     }
 }

@@ -1,10 +1,9 @@
 //! A record comes to the server. `serves` in `specs/Core.antt` says what that makes of the two ends.
 
 ghost use Rattle.std.specs.Prelude.{◌≡◌, ◌+◌, ◌<◌, ◌^◌, ◌++◌, length, replicate, slice_get, slice_set, IfOk, IfSome, OnOk};
-ghost use Rattle.trace_ends.specs.Core.{changed_file, newest_entries, server_waiting, server_got, serves};
+ghost use Rattle.trace_ends.specs.Core.{changed_file, newest_entries, server_waiting, server_got, serves, happens, Event.Serves};
 ghost use Rattle.trace_ops.specs.Ops.{pointed_at};
 ghost use Rattle.trace_sessions.specs.Session.{taken_with};
-ghost use Rattle.trace_sessions.specs.Numbers.{numbered};
 ghost use Rattle.trace_ends.specs.View.{core_of, core_step_of};
 
 use crate::core_step::CoreStep;
@@ -120,19 +119,22 @@ fn serves_at(
     }
 }
 
-/// The server takes a record of this session, if there is one, at this reading of its clock.
-pub fn serves(
-    alloc: Global,
-    core: &mut Core,
-    number: u64,
-    now: u64,
-    bytes: &[u8],
-) -> Result<CoreStep, AllocError>
-    requires { now < 2 ^ 63 }
-    ensures { IfOk result (λ t. core_step_of core.new t ≡ serves (core_of core.old) number now bytes.now (numbered core.old.sessions.items number)) }
-{
-    match place_of(core.sessions.len(), number) {
-        Some(place) => serves_at(alloc, core, place, now, bytes),
-        None => Ok(CoreStep::quiet(alloc)),
+impl Core {
+    /// The server takes a record of this session, if there is one, at a reading of its clock in
+    /// milliseconds.
+    pub fn serves(
+        &mut self,
+        alloc: Global,
+        session: u64,
+        now: u64,
+        bytes: &[u8],
+    ) -> Result<CoreStep, AllocError>
+        requires { now < 2 ^ 63 }
+        ensures { IfOk result (λ t. core_step_of self.new t ≡ happens (core_of self.old) (Serves session now bytes.now)) }
+    {
+        match place_of(self.sessions.len(), session) {
+            Some(place) => serves_at(alloc, self, place, now, bytes),
+            None => Ok(CoreStep::quiet(alloc)),
+        }
     }
 }

@@ -2,7 +2,7 @@
 //! the two ends.
 
 ghost use Rattle.std.specs.Prelude.{◌≡◌, ◌<◌, ◌^◌, IfOk};
-ghost use Rattle.trace_ends.specs.Core.{settles};
+ghost use Rattle.trace_ends.specs.Core.{happens, Event.Settles};
 ghost use Rattle.trace_ends.specs.View.{core_of, core_step_of};
 
 use crate::core_step::CoreStep;
@@ -13,31 +13,33 @@ use server_steps::event::{Event, let_go_step};
 use session_rules::pointing::settle_session;
 use std::alloc::{AllocError, Global};
 
-/// The server makes the first change that waits, if there is one that can be made, in a step at this
-/// reading of its clock.
-pub fn settles(alloc: Global, core: &mut Core, now: u64) -> Result<CoreStep, AllocError>
-    requires { now < 2 ^ 63 }
-    ensures { IfOk result (λ t. core_step_of core.new t ≡ settles (core_of core.old) now) }
-{
-    let at = count_on(core.steps, 1)?;
-    core.steps = at;
-    let step = core.server.step_unkept(alloc, Event::Settle { now });
-    if step.missed {
-        let_go_step(step);
-        return Err(AllocError);
-    }
-    match step.told {
-        Told::Settled { session, .. } => {
-            let changed = changed_by(core.server.journal(), step.entries);
-            settle_session(&mut core.ops, &core.sessions, session, at, changed)
-        }
-        _ => (),
-    }
-    match enter(&mut core.entries, step.entries, at) {
-        Ok(()) => Ok(CoreStep::served(alloc, step)),
-        Err(error) => {
+impl Core {
+    /// The server makes the first change that waits, if there is one that can be made, in a step at
+    /// a reading of its clock in milliseconds.
+    pub fn settles(&mut self, alloc: Global, now: u64) -> Result<CoreStep, AllocError>
+        requires { now < 2 ^ 63 }
+        ensures { IfOk result (λ t. core_step_of self.new t ≡ happens (core_of self.old) (Settles now)) }
+    {
+        let at = count_on(self.steps, 1)?;
+        self.steps = at;
+        let step = self.server.step_unkept(alloc, Event::Settle { now });
+        if step.missed {
             let_go_step(step);
-            Err(error)
+            return Err(AllocError);
+        }
+        match step.told {
+            Told::Settled { session, .. } => {
+                let changed = changed_by(self.server.journal(), step.entries);
+                settle_session(&mut self.ops, &self.sessions, session, at, changed)
+            }
+            _ => (),
+        }
+        match enter(&mut self.entries, step.entries, at) {
+            Ok(()) => Ok(CoreStep::served(alloc, step)),
+            Err(error) => {
+                let_go_step(step);
+                Err(error)
+            }
         }
     }
 }

@@ -1,16 +1,12 @@
 //! The two ends of a trace, and what happens to them. `Core` in `specs/Core.antt` says what they are,
-//! and `happens` what each event makes of them.
+//! and `happens` what each event makes of them. An event is a method of `Core`, in a module of its own.
 
-ghost use Rattle.std.specs.Prelude.{◌≡◌, ◌+◌, ◌<◌, ◌^◌, [], ◌++◌, replicate, IfOk, OnOk};
+ghost use Rattle.std.specs.Prelude.{◌≡◌, ◌+◌, [], ◌++◌, replicate, IfOk, OnOk};
 ghost use Rattle.server_core.specs.State.{empty};
 ghost use Rattle.server_core.specs.Step.{opens_with};
 ghost use Rattle.trace_sessions.specs.Session.{new_seat};
-ghost use Rattle.trace_ends.specs.Core.{happens, Event.Joins, Event.Does, Event.Serves, Event.Hears, Event.Settles, Event.Cuts, Event.Hangs};
-ghost use Rattle.trace_ends.specs.View.{core_of, core_step_of};
+ghost use Rattle.trace_ends.specs.View.{core_of};
 
-use crate::core_step::CoreStep;
-use crate::{commanding, disconnecting, hearing, joining, serving, settling};
-use command_text::command::Command;
 use lb_base::items::{Items, Name};
 use register_model::op::Op;
 use server_core::server::Server;
@@ -100,77 +96,6 @@ impl Core {
     {
         self.seats.clear();
         seat_more(alloc, &mut self.seats, count)
-    }
-
-    /// A client joins. The one error is want of memory, as of each event: the two ends may be left
-    /// half-way then.
-    pub fn joins(&mut self, alloc: Global, client: u64) -> Result<CoreStep, AllocError>
-        ensures { IfOk result (λ t. core_step_of self.new t ≡ happens (core_of self.old) (Joins client)) }
-    {
-        joining::joins(alloc, self, client)
-    }
-
-    /// A client does what it is told to, at a reading of its clock in milliseconds.
-    pub fn does(
-        &mut self,
-        alloc: Global,
-        client: u64,
-        now: u64,
-        command: Command,
-    ) -> Result<CoreStep, AllocError>
-        ensures { IfOk result (λ t. core_step_of self.new t ≡ happens (core_of self.old) (Does client now command)) }
-    {
-        commanding::does(alloc, self, client, now, command)
-    }
-
-    /// A record of a session comes to the server, at a reading of its clock in milliseconds.
-    pub fn serves(
-        &mut self,
-        alloc: Global,
-        session: u64,
-        now: u64,
-        bytes: &[u8],
-    ) -> Result<CoreStep, AllocError>
-        requires { now < 2 ^ 63 }
-        ensures { IfOk result (λ t. core_step_of self.new t ≡ happens (core_of self.old) (Serves session now bytes.now)) }
-    {
-        serving::serves(alloc, self, session, now, bytes)
-    }
-
-    /// A record of a session comes to its client, at a reading of that one's clock in milliseconds.
-    pub fn hears(
-        &mut self,
-        alloc: Global,
-        session: u64,
-        now: u64,
-        bytes: &[u8],
-    ) -> Result<CoreStep, AllocError>
-        ensures { IfOk result (λ t. core_step_of self.new t ≡ happens (core_of self.old) (Hears session now bytes.now)) }
-    {
-        hearing::hears(alloc, self, session, now, bytes)
-    }
-
-    /// The server makes the first change that waits, if there is one that can be made, at a reading
-    /// of its clock in milliseconds.
-    pub fn settles(&mut self, alloc: Global, now: u64) -> Result<CoreStep, AllocError>
-        requires { now < 2 ^ 63 }
-        ensures { IfOk result (λ t. core_step_of self.new t ≡ happens (core_of self.old) (Settles now)) }
-    {
-        settling::settles(alloc, self, now)
-    }
-
-    /// A client sees its connection lost.
-    pub fn cuts(&mut self, alloc: Global, client: u64) -> Result<CoreStep, AllocError>
-        ensures { IfOk result (λ t. core_step_of self.new t ≡ happens (core_of self.old) (Cuts client)) }
-    {
-        disconnecting::cuts(alloc, self, client)
-    }
-
-    /// The server sees a session's connection lost.
-    pub fn hangs(&mut self, alloc: Global, session: u64) -> Result<CoreStep, AllocError>
-        ensures { IfOk result (λ t. core_step_of self.new t ≡ happens (core_of self.old) (Hangs session)) }
-    {
-        disconnecting::hangs(alloc, self, session)
     }
 
     /// The operations and the number of steps. The ends are let go.
