@@ -1,6 +1,6 @@
 -- The text of a history, and of its summary: lines of words that are parted by one blank. Numbers are
 -- decimal, and digests and names hexadecimal.
-use Rattle.std.specs.Prelude.{ℕ, ◌+◌, List, [], ◌∷◌, ◌++◌, length, Option, Some, None, codes}
+use Rattle.std.specs.Prelude.{◌≡◌, ℕ, ◌+◌, List, [], ◌∷◌, ◌++◌, length, Option, Some, None, codes}
 use Rattle.std.specs.List.{flat_map}
 use Rattle.std.specs.Fmt.{decimal}
 use Rattle.hex.specs.Hex.{encode_lower}
@@ -65,6 +65,19 @@ outcome_text (outcome.TooBig len) = codes "TooBig" ++ number len
 outcome_text outcome.Memory = codes "Memory"
 outcome_text outcome.NoLink = codes "NoLink"
 outcome_text outcome.Running = codes "Running"
+
+-- an ending that has nothing more to tell has this word; of any other nothing is said
+abbrev pub IsWordAlone : Outcome → List ℕ → Type 0
+IsWordAlone (outcome.Opened len sha1) word = Unit {0}
+IsWordAlone (outcome.Piece len sha1) word = Unit {0}
+IsWordAlone (outcome.Closed version len sha1) word = Unit {0}
+IsWordAlone (outcome.Names names) word = Unit {0}
+IsWordAlone (outcome.Seen file kind version len) word = Unit {0}
+IsWordAlone (outcome.Changed first last) word = Unit {0}
+IsWordAlone (outcome.Refused status) word = Unit {0}
+IsWordAlone (outcome.BadPeer fault) word = Unit {0}
+IsWordAlone (outcome.TooBig len) word = Unit {0}
+IsWordAlone o word = word ≡ outcome_text o
 
 -- what an operation sent and received
 abbrev pub traffic_text : Traffic → List ℕ

@@ -1,9 +1,10 @@
 //! The text of a history, and that of its counts: `history_text` and `summary_text` of
 //! `specs/Text.antt`.
 
-ghost use Rattle.std.specs.Prelude.{◌≡◌, ℕ, ◌+◌, ◌<◌, ◌^◌, List, ◌++◌, length, OnOk, IfOk, string_bytes};
+ghost use Rattle.std.specs.Prelude.{◌≡◌, ℕ, ◌+◌, ◌<◌, ◌^◌, List, ◌++◌, length, codes, OnOk, IfOk, string_bytes};
+ghost use Rattle.std.specs.Fmt.{decimal};
 ghost use Rattle.register_model.specs.declared.op.Outcome.TheVariants as outcome;
-ghost use Rattle.register_model.specs.Text.{history_text, summary_text, done_text, undone_text, ops_line, totals_line, op_name, op_times, op_line, op_lines, end_line, outcome_text, word_text, bytes_text, moment, traffic_text};
+ghost use Rattle.register_model.specs.Text.{history_text, summary_text, done_text, undone_text, ops_line, totals_line, op_name, op_times, op_line, op_lines, end_line, outcome_text, IsWordAlone, word_text, bytes_text, moment, traffic_text};
 
 use crate::history::History;
 use crate::op::{Op, Outcome, Traffic, Word};
@@ -63,24 +64,49 @@ fn put_names(alloc: Global, out: &mut String, names: &Items<Name>) -> Result<(),
     Ok(())
 }
 
+/// A word, a length and a digest.
+fn put_sized(
+    alloc: Global,
+    out: &mut String,
+    word: &str,
+    len: u64,
+    sha1: &Bytes,
+) -> Result<(), AllocError>
+    ensures { OnOk result (string_bytes out.new ≡ string_bytes out.old ++ word.now ++ codes " " ++ decimal len ++ bytes_text sha1.now) }
+{
+    write!(out, "{word} {len}")?;
+    put_bytes(alloc, out, sha1)
+}
+
+/// The word of an ending that has nothing more to tell. That of any other is empty.
+fn word_alone(ended: &Outcome) -> &'static str
+    ensures { IsWordAlone ended.now result.now }
+{
+    match ended {
+        Outcome::Done => "Done",
+        Outcome::Busy => "Busy",
+        Outcome::NotOpen => "NotOpen",
+        Outcome::AlreadyOpen => "AlreadyOpen",
+        Outcome::Lost => "Lost",
+        Outcome::PeerMemory => "PeerMemory",
+        Outcome::Memory => "Memory",
+        Outcome::NoLink => "NoLink",
+        Outcome::Running => "Running",
+        _ => "",
+    }
+}
+
 /// How an operation ended. The one error is want of memory.
 pub fn put_outcome(alloc: Global, out: &mut String, ended: &Outcome) -> Result<(), AllocError>
     ensures { OnOk result (string_bytes out.new ≡ string_bytes out.old ++ outcome_text ended.now) }
 {
     match ended {
-        Outcome::Opened { len, sha1 } => {
-            write!(out, "Opened {len}")?;
-            put_bytes(alloc, out, sha1)
-        }
-        Outcome::Piece { len, sha1 } => {
-            write!(out, "Piece {len}")?;
-            put_bytes(alloc, out, sha1)
-        }
+        Outcome::Opened { len, sha1 } => put_sized(alloc, out, "Opened", *len, sha1),
+        Outcome::Piece { len, sha1 } => put_sized(alloc, out, "Piece", *len, sha1),
         Outcome::Closed { version, len, sha1 } => {
             write!(out, "Closed {version} {len}")?;
             put_bytes(alloc, out, sha1)
         }
-        Outcome::Done => out.push_str("Done"),
         Outcome::Names(names) => put_names(alloc, out, names),
         Outcome::Seen {
             file,
@@ -88,18 +114,11 @@ pub fn put_outcome(alloc: Global, out: &mut String, ended: &Outcome) -> Result<(
             version,
             len,
         } => write!(out, "Seen {file} {kind} {version} {len}"),
-        Outcome::Busy => out.push_str("Busy"),
-        Outcome::NotOpen => out.push_str("NotOpen"),
-        Outcome::AlreadyOpen => out.push_str("AlreadyOpen"),
-        Outcome::Lost => out.push_str("Lost"),
         Outcome::Changed { first, last } => write!(out, "Changed {first} {last}"),
         Outcome::Refused(status) => write!(out, "Refused {status}"),
-        Outcome::PeerMemory => out.push_str("PeerMemory"),
         Outcome::BadPeer(fault) => write!(out, "BadPeer {fault}"),
         Outcome::TooBig(len) => write!(out, "TooBig {len}"),
-        Outcome::Memory => out.push_str("Memory"),
-        Outcome::NoLink => out.push_str("NoLink"),
-        Outcome::Running => out.push_str("Running"),
+        _ => out.push_str(word_alone(ended)),
     }
 }
 
@@ -209,7 +228,8 @@ fn put_totals(out: &mut String, totals: &Totals) -> Result<(), AllocError>
         read,
         data,
     } = *totals;
-    write!(out, "cond {cond} tmp {tmp} read {read} data {data}\n")
+    write!(out, "cond {cond} tmp {tmp} read {read} data {data}")?;
+    out.push_str("\n")
 }
 
 /// The counts of a history in three lines; the last is the number of entries in the server's
