@@ -1,6 +1,10 @@
--- The world's fields as a world, and its clocks.
+-- The world's fields as a world, and its clocks; and what a line asks for as an event.
+use Rattle.std.specs.Prelude.{ℕ, ◌<◌, ◌^◌}
 use Rattle.trace_replay.specs.declared.state.WorldState.{WorldState}
 use Rattle.trace_replay.specs.declared.timing.Times.{Times as TimeFields}
+use Rattle.trace_replay.specs.declared.state.Event.{Event as Asked}
+use Rattle.trace_replay.specs.declared.state.Event.TheVariants as asked
+use Rattle.trace_ends.specs.Core.{Event, Event.Joins, Event.Does, Event.Settles, Event.Cuts, Event.Hangs}
 use Rattle.trace_ends.specs.View.{core_of}
 use Rattle.trace_replay.specs.World.{World}
 use Rattle.trace_replay.specs.Timed.{Times, Timed}
@@ -13,3 +17,15 @@ times_of t = record { term = t.term; clocks = t.clocks }
 
 abbrev pub timed_of : WorldState → TimeFields → Timed
 timed_of w t = record { world = world_of w; times = times_of t }
+
+abbrev pub event_of : Asked → Event
+event_of (asked.Joins c) = Joins c
+event_of (asked.Does c now command) = Does c now command
+event_of (asked.Settles now) = Settles now
+event_of (asked.Cuts c) = Cuts c
+event_of (asked.Hangs n) = Hangs n
+
+-- a reading of the server's clock has at most 63 bits
+abbrev pub IsEventBounded : Asked → Type 0
+IsEventBounded (asked.Settles now) = now < 2 ^ 63
+IsEventBounded e = Unit {0}

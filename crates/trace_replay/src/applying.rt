@@ -7,7 +7,7 @@ ghost use Rattle.trace_replay.specs.Turns.{IsTurnBounded};
 ghost use Rattle.trace_replay.specs.WorldView.{world_of};
 
 use crate::opening::OpeningFile;
-use crate::state::WorldState;
+use crate::state::{Event, WorldState};
 use crate::turn::{Turn, stage_after};
 use command_text::content::{Content, build};
 use lb_base::items::{Bytes, Name};
@@ -71,12 +71,19 @@ impl WorldState {
             Turn::Clients(count) => self.core.seat_all(alloc, count),
             Turn::Dir { dir, name } => self.core.open(dir, name, Body::Directory),
             Turn::File { dir, name, content } => self.builds(alloc, dir, name, content),
-            Turn::Join(client) => self.joins(alloc, client),
+            Turn::Join(client) => self.happens(alloc, Event::Joins(client)),
             Turn::Do {
                 client,
                 now,
                 command,
-            } => self.does(alloc, client, now, command),
+            } => {
+                let does = Event::Does {
+                    client,
+                    now,
+                    command,
+                };
+                self.happens(alloc, does)
+            }
             Turn::Up {
                 session,
                 amount,
@@ -87,9 +94,9 @@ impl WorldState {
                 amount,
                 now,
             } => self.down_some(alloc, session, amount, now),
-            Turn::Settle(now) => self.settles(alloc, now),
-            Turn::Cut(client) => self.cuts(alloc, client),
-            Turn::Hang(session) => self.hangs(alloc, session),
+            Turn::Settle(now) => self.happens(alloc, Event::Settles(now)),
+            Turn::Cut(client) => self.happens(alloc, Event::Cuts(client)),
+            Turn::Hang(session) => self.happens(alloc, Event::Hangs(session)),
             Turn::Adjust(adjustment) => self.adjusts(adjustment),
             Turn::Pass {
                 session,

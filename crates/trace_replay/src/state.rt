@@ -2,10 +2,10 @@
 //! `specs/World.antt` says what an event makes of a world.
 
 ghost use Rattle.std.specs.Prelude.{◌≡◌, ◌<◌, ◌^◌, IfOk, OnOk};
-ghost use Rattle.trace_ends.specs.Core.{Event.Joins, Event.Does, Event.Serves, Event.Hears, Event.Settles, Event.Cuts, Event.Hangs};
+ghost use Rattle.trace_ends.specs.Core.{happens, Event.Serves, Event.Hears};
 ghost use Rattle.trace_replay.specs.World.{start, routed, happened, adjusts, history_of};
 ghost use Rattle.trace_ends.specs.View.{core_of, core_step_of};
-ghost use Rattle.trace_replay.specs.WorldView.{world_of};
+ghost use Rattle.trace_replay.specs.WorldView.{event_of, world_of, IsEventBounded};
 
 use crate::opening::{OpeningFile, build_all};
 use crate::sending::down_put;
@@ -46,6 +46,39 @@ impl Drop for WorldState {
         drop(opening);
         drop(core);
         drop(wires);
+    }
+}
+
+/// What happens at the two ends, where a line asks for it by itself and no bytes bring it. Clients and
+/// sessions are numbered from 1; `now` is a reading of the clock of the end that acts.
+#[derive(Drop)]
+pub enum Event {
+    Joins(u64),
+    Does {
+        client: u64,
+        now: u64,
+        command: Command,
+    },
+    Settles(u64),
+    Cuts(u64),
+    Hangs(u64),
+}
+
+/// The step of the ends in which this happens.
+fn step_of(alloc: Global, core: &mut Core, event: Event) -> Result<CoreStep, AllocError>
+    requires { IsEventBounded event }
+    ensures { IfOk result (λ t. core_step_of core.new t ≡ happens (core_of core.old) (event_of event)) }
+{
+    match event {
+        Event::Joins(client) => core.joins(alloc, client),
+        Event::Does {
+            client,
+            now,
+            command,
+        } => core.does(alloc, client, now, command),
+        Event::Settles(now) => core.settles(alloc, now),
+        Event::Cuts(client) => core.cuts(alloc, client),
+        Event::Hangs(session) => core.hangs(alloc, session),
     }
 }
 
@@ -92,25 +125,12 @@ impl WorldState {
         down_put(alloc, sessions, &mut self.wires, &step.down)
     }
 
-    /// A client joins.
-    pub fn joins(&mut self, alloc: Global, client: u64) -> Result<(), AllocError>
-        ensures { OnOk result (world_of self.new ≡ happened (world_of self.old) (Joins client)) }
+    /// What a line asks for by itself happens.
+    pub fn happens(&mut self, alloc: Global, event: Event) -> Result<(), AllocError>
+        requires { IsEventBounded event }
+        ensures { OnOk result (world_of self.new ≡ happened (world_of self.old) (event_of event)) }
     {
-        let step = self.core.joins(alloc, client)?;
-        self.routes(alloc, &step)
-    }
-
-    /// A client does what it is told to, at a reading of its clock.
-    pub fn does(
-        &mut self,
-        alloc: Global,
-        client: u64,
-        now: u64,
-        command: Command,
-    ) -> Result<(), AllocError>
-        ensures { OnOk result (world_of self.new ≡ happened (world_of self.old) (Does client now command)) }
-    {
-        let step = self.core.does(alloc, client, now, command)?;
+        let step = step_of(alloc, &mut self.core, event)?;
         self.routes(alloc, &step)
     }
 
@@ -143,35 +163,10 @@ impl WorldState {
         self.routes(alloc, &step)
     }
 
-    /// A change that waits may be made, at a reading of the server's clock.
-    pub fn settles(&mut self, alloc: Global, now: u64) -> Result<(), AllocError>
-        requires { now < 2 ^ 63 }
-        ensures { OnOk result (world_of self.new ≡ happened (world_of self.old) (Settles now)) }
-    {
-        let step = self.core.settles(alloc, now)?;
-        self.routes(alloc, &step)
-    }
-
     /// An index or a cache is changed, and nothing else.
     pub fn adjusts(&mut self, adjustment: Adjustment) -> Result<(), AllocError>
         ensures { OnOk result (world_of self.new ≡ adjusts (world_of self.old) adjustment) }
     {
         adjust(&mut self.core, adjustment)
-    }
-
-    /// A client sees its connection lost.
-    pub fn cuts(&mut self, alloc: Global, client: u64) -> Result<(), AllocError>
-        ensures { OnOk result (world_of self.new ≡ happened (world_of self.old) (Cuts client)) }
-    {
-        let step = self.core.cuts(alloc, client)?;
-        self.routes(alloc, &step)
-    }
-
-    /// The server sees a session's connection lost.
-    pub fn hangs(&mut self, alloc: Global, session: u64) -> Result<(), AllocError>
-        ensures { OnOk result (world_of self.new ≡ happened (world_of self.old) (Hangs session)) }
-    {
-        let step = self.core.hangs(alloc, session)?;
-        self.routes(alloc, &step)
     }
 }
