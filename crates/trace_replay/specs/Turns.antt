@@ -1,6 +1,7 @@
 -- What a line that is applied makes of the world, or why it is refused.
-use Rattle.std.specs.Prelude.{◌≡◌, ℕ, ◌<◌, ◌^◌, Ok, Err}
+use Rattle.std.specs.Prelude.{◌≡◌, ℕ, ◌<◌, ◌^◌, Ok, Err, Bool, true, false}
 use Rattle.trace_text.specs.declared.line.Line.{Line}
+use Rattle.trace_text.specs.declared.line.Line.TheVariants as line
 use Rattle.trace_replay.specs.declared.fault.TraceErr.{TraceErr}
 use Rattle.trace_replay.specs.declared.fault.TraceErr.TheVariants as errors
 use Rattle.trace_replay.specs.declared.stage.Stage.{Stage}
@@ -15,6 +16,11 @@ IsTurnBounded (turn.Up session amount now) = now < 2 ^ 63
 IsTurnBounded (turn.Settle now) = now < 2 ^ 63
 IsTurnBounded (turn.Pass session rounds server at) = server < 2 ^ 63
 IsTurnBounded t = Unit {0}
+
+-- whether a line is a client's command
+abbrev pub is_do : Line → Bool
+is_do (line.Do c r command) = true
+is_do l = false
 
 -- which lines may come after a turn: once an event came, events alone
 abbrev pub stage_after : Stage → Turn → Stage

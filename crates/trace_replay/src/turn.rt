@@ -1,15 +1,14 @@
 //! What a line of a trace asks for, and which lines are refused. `specs/Run.antt` says so of each.
 
-ghost use Rattle.std.specs.Prelude.{◌≡◌, true, nat_lt, nat_le, IfOk, Some};
+ghost use Rattle.std.specs.Prelude.{◌≡◌, true, false, nat_lt, nat_le, IfOk, Some};
 ghost use Rattle.trace_text.specs.Reading.{IsTimely};
 ghost use Rattle.trace_sessions.specs.Numbers.{numbered};
 ghost use Rattle.trace_replay.specs.World.{World};
 ghost use Rattle.trace_replay.specs.Run.{is_there, has_index, asks_if, place_for, file_asks, directory_asks, joins_within, joins_if, adjust_asks, event_asks, asks_at, asks, asks_within, asked, in_header};
-ghost use Rattle.trace_replay.specs.Turns.{IsTurnBounded, stage_after};
+ghost use Rattle.trace_replay.specs.Turns.{IsTurnBounded, is_do, stage_after};
 ghost use Rattle.trace_ends.specs.View.{core_of};
 ghost use Rattle.trace_replay.specs.WorldView.{world_of};
 ghost use Rattle.trace_replay.specs.declared.stage.Stage.TheVariants as stage;
-ghost use Rattle.trace_ends.specs.declared.adjusting.Adjustment.TheVariants as adjustment;
 ghost use Rattle.trace_replay.specs.declared.turn.Turn.TheVariants as turn;
 
 use crate::paths::place_for;
@@ -209,58 +208,17 @@ fn has_session(core: &Core, session: u64) -> bool
     place_of(core.sessions.len(), session).is_some()
 }
 
-/// A client that is there does what it is told to.
-fn do_asks(core: &Core, client: u64, now: u64, command: Command) -> Result<Turn, LineFault>
-    ensures { result ≡ asks_if (is_there (numbered (core_of core.now).seats client)) (turn.Do client now command) }
+/// What a client that is there asks for.
+fn by_client(core: &Core, client: u64, turn: Turn) -> Result<Turn, LineFault>
+    ensures { result ≡ asks_if (is_there (numbered (core_of core.now).seats client)) turn }
 {
-    let turn = Turn::Do {
-        client,
-        now,
-        command,
-    };
     asks_if(has_client(core, client), turn)
 }
 
-/// Bytes go up a session that was made.
-fn up_asks(core: &Core, session: u64, amount: Amount, now: u64) -> Result<Turn, LineFault>
-    ensures { result ≡ asks_if (is_there (numbered (core_of core.now).sessions session)) (turn.Up session amount now) }
+/// What is asked of a session that was made.
+fn of_session(core: &Core, session: u64, turn: Turn) -> Result<Turn, LineFault>
+    ensures { result ≡ asks_if (is_there (numbered (core_of core.now).sessions session)) turn }
 {
-    let turn = Turn::Up {
-        session,
-        amount,
-        now,
-    };
-    asks_if(has_session(core, session), turn)
-}
-
-/// Bytes go down a session that was made.
-fn down_asks(core: &Core, session: u64, amount: Amount, now: u64) -> Result<Turn, LineFault>
-    ensures { result ≡ asks_if (is_there (numbered (core_of core.now).sessions session)) (turn.Down session amount now) }
-{
-    let turn = Turn::Down {
-        session,
-        amount,
-        now,
-    };
-    asks_if(has_session(core, session), turn)
-}
-
-/// Bytes go up and down a session that was made, so many times.
-fn pass_asks(
-    core: &Core,
-    session: u64,
-    rounds: u64,
-    server: u64,
-    at: u64,
-) -> Result<Turn, LineFault>
-    ensures { result ≡ asks_if (is_there (numbered (core_of core.now).sessions session)) (turn.Pass session rounds server at) }
-{
-    let turn = Turn::Pass {
-        session,
-        rounds,
-        server,
-        at,
-    };
     asks_if(has_session(core, session), turn)
 }
 
@@ -274,32 +232,16 @@ fn has_index(core: &Core, who: Who) -> bool
     }
 }
 
-/// An index that is there gets a place for a key.
-fn forge_asks(core: &Core, who: Who, key: u64, place: Place) -> Result<Turn, LineFault>
-    ensures { result ≡ asks_if (has_index (core_of core.now) who) (turn.Adjust (adjustment.Forge who key place)) }
+/// What is asked of an index that is there.
+fn of_index(core: &Core, who: Who, adjustment: Adjustment) -> Result<Turn, LineFault>
+    ensures { result ≡ asks_if (has_index (core_of core.now) who) (turn.Adjust adjustment) }
 {
-    let turn = Turn::Adjust(Adjustment::Forge { who, key, place });
-    asks_if(has_index(core, who), turn)
-}
-
-/// An index that is there has no place any more.
-fn clear_asks(core: &Core, who: Who) -> Result<Turn, LineFault>
-    ensures { result ≡ asks_if (has_index (core_of core.now) who) (turn.Adjust (adjustment.Clear who)) }
-{
-    asks_if(has_index(core, who), Turn::Adjust(Adjustment::Clear(who)))
-}
-
-/// A client that is there drops a content that it keeps.
-fn evict_asks(core: &Core, client: u64, file: u64) -> Result<Turn, LineFault>
-    ensures { result ≡ asks_if (is_there (numbered (core_of core.now).seats client)) (turn.Adjust (adjustment.Evict client file)) }
-{
-    let turn = Turn::Adjust(Adjustment::Evict { client, file });
-    asks_if(has_client(core, client), turn)
+    asks_if(has_index(core, who), Turn::Adjust(adjustment))
 }
 
 /// What a line asks for that changes an index or a cache alone.
-fn adjust_asks(core: &Core, line: Line) -> Result<Turn, LineFault>
-    ensures { result ≡ adjust_asks (core_of core.now) line }
+fn adjust_asks(core: &Core, line: &Line) -> Result<Turn, LineFault>
+    ensures { result ≡ adjust_asks (core_of core.now) line.now }
 {
     match line {
         Line::Forge {
@@ -310,15 +252,85 @@ fn adjust_asks(core: &Core, line: Line) -> Result<Turn, LineFault>
             count,
         } => {
             let place = Place {
-                file,
-                offset,
-                count,
+                file: *file,
+                offset: *offset,
+                count: *count,
             };
-            forge_asks(core, who, key, place)
+            let (who, key) = (*who, *key);
+            of_index(core, who, Adjustment::Forge { who, key, place })
         }
-        Line::Clear(who) => clear_asks(core, who),
-        Line::Evict { client, file } => evict_asks(core, client, file),
+        Line::Clear(who) => of_index(core, *who, Adjustment::Clear(*who)),
+        Line::Evict { client, file } => {
+            let (client, file) = (*client, *file);
+            let evicts = Turn::Adjust(Adjustment::Evict { client, file });
+            by_client(core, client, evicts)
+        }
         _ => Err(LineFault::Grammar),
+    }
+}
+
+/// What an event asks for that is no command.
+fn plain_asks(core: &Core, line: &Line) -> Result<Turn, LineFault>
+    requires { is_do line.now ≡ false }
+    ensures { result ≡ event_asks (core_of core.now) line.now }
+{
+    match line {
+        Line::Up {
+            session,
+            amount,
+            server,
+        } => {
+            let (session, amount, now) = (*session, *amount, *server);
+            of_session(
+                core,
+                session,
+                Turn::Up {
+                    session,
+                    amount,
+                    now,
+                },
+            )
+        }
+        Line::Down {
+            session,
+            amount,
+            at,
+        } => {
+            let (session, amount, now) = (*session, *amount, *at);
+            of_session(
+                core,
+                session,
+                Turn::Down {
+                    session,
+                    amount,
+                    now,
+                },
+            )
+        }
+        Line::Pass {
+            session,
+            rounds,
+            server,
+            at,
+        } => {
+            let (session, rounds, server, at) = (*session, *rounds, *server, *at);
+            of_session(
+                core,
+                session,
+                Turn::Pass {
+                    session,
+                    rounds,
+                    server,
+                    at,
+                },
+            )
+        }
+        Line::Join { client, .. } => joins_if(core.server.standing(), *client, &core.seats),
+        Line::Settle { server } => Ok(Turn::Settle(*server)),
+        Line::Cut { client, .. } => by_client(core, *client, Turn::Cut(*client)),
+        Line::Hang { session, .. } => of_session(core, *session, Turn::Hang(*session)),
+        Line::Do { .. } => Err(LineFault::Grammar),
+        _ => adjust_asks(core, line),
     }
 }
 
@@ -327,32 +339,24 @@ fn event_asks(core: &Core, line: Line) -> Result<Turn, LineFault>
     ensures { result ≡ event_asks (core_of core.now) line }
 {
     match line {
-        Line::Join { client, .. } => joins_if(core.server.standing(), client, &core.seats),
         Line::Do {
             client,
             at,
             command,
-        } => do_asks(core, client, at, command),
-        Line::Up {
-            session,
-            amount,
-            server,
-        } => up_asks(core, session, amount, server),
-        Line::Down {
-            session,
-            amount,
-            at,
-        } => down_asks(core, session, amount, at),
-        Line::Settle { server } => Ok(Turn::Settle(server)),
-        Line::Cut { client, .. } => asks_if(has_client(core, client), Turn::Cut(client)),
-        Line::Hang { session, .. } => asks_if(has_session(core, session), Turn::Hang(session)),
-        Line::Pass {
-            session,
-            rounds,
-            server,
-            at,
-        } => pass_asks(core, session, rounds, server, at),
-        line => adjust_asks(core, line),
+        } => by_client(
+            core,
+            client,
+            Turn::Do {
+                client,
+                now: at,
+                command,
+            },
+        ),
+        line => {
+            let asked = plain_asks(core, &line);
+            drop(line);
+            asked
+        }
     }
 }
 
