@@ -59,15 +59,9 @@ fn cuts_at(alloc: Global, core: &mut Core, place: usize) -> Result<CoreStep, All
     let acts = core.seats[place].cuts(alloc);
     let taken = taken_of(&core.sessions, session);
     let client = core.seats[place].client();
-    let noted = note_with(alloc, &mut core.ops, running, client, taken, step, &acts);
+    note_with(alloc, &mut core.ops, running, client, taken, step, &acts)?;
     cut_session(&mut core.sessions, session);
-    match noted {
-        Ok(()) => Ok(CoreStep::acted(alloc, loss_down(session), session, acts)),
-        Err(error) => {
-            drop(acts);
-            Err(error)
-        }
-    }
+    Ok(CoreStep::acted(alloc, loss_down(session), session, acts))
 }
 
 /// The server sees this session's connection lost, and has nothing to say.

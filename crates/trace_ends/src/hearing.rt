@@ -34,15 +34,9 @@ fn hears_at(
     let acts = core.seats[place].hears(alloc, bytes, now)?;
     let taken = taken_of(&core.sessions, session);
     let client = core.seats[place].client();
-    let noted = note_with(alloc, &mut core.ops, running, client, taken, step, &acts);
+    note_with(alloc, &mut core.ops, running, client, taken, step, &acts)?;
     core.steps = step;
-    match noted {
-        Ok(()) => Ok(CoreStep::acted(alloc, Loss::Nothing, session, acts)),
-        Err(error) => {
-            drop(acts);
-            Err(error)
-        }
-    }
+    Ok(CoreStep::acted(alloc, Loss::Nothing, session, acts))
 }
 
 /// The client of this number hears a record of this session, if there is one.
