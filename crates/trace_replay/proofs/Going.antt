@@ -1,14 +1,18 @@
 -- Lines that are run in parts.
-use Rattle.std.proofs.Common.{◌≡◌, ℕ, suc, ◌+◌, List, [], ◌∷◌, ◌++◌, length, refl, ap, ◌∙◌, arith}
+use Rattle.std.proofs.Common.{◌≡◌, ℕ, suc, ◌+◌, List, [], ◌∷◌, ◌++◌, length, true, false, refl, sym, ap, subst, ◌∙◌, arith}
+use Rattle.command_text.specs.Parts.{lines_of}
 use Rattle.std.specs.Prelude.{Result, Ok, Err}
 use Rattle.trace_text.specs.Grammar.{line_of}
 use Rattle.trace_text.specs.declared.refusal.LineFault.{LineFault}
+use Rattle.trace_text.specs.declared.refusal.LineFault.TheVariants.{Grammar}
 use Rattle.trace_replay.specs.declared.fault.Refused.{Refused}
+use Rattle.trace_replay.specs.declared.fault.TraceErr.{TraceErr}
+use Rattle.trace_replay.specs.declared.fault.TraceErr.TheVariants as errors
 use Rattle.trace_replay.specs.declared.turn.Turn.{Turn}
 use Rattle.trace_replay.specs.World.{World}
-use Rattle.trace_replay.specs.Run.{refused}
-use Rattle.trace_replay.specs.Timed.{Timed, Times, timed_by, timed_turn, accepted_from}
-use Rattle.trace_replay.specs.Lines.{applied_from, ended_at}
+use Rattle.trace_replay.specs.Run.{refused, in_header, ended}
+use Rattle.trace_replay.specs.Timed.{Timed, Times, timed_start, timed_by, timed_turn, accepted_from, accepted}
+use Rattle.trace_replay.specs.Lines.{applied_from, ended_at, AreApplied, ComesTo}
 
 -- a trace is accepted where all its lines are taken and it may end there
 pub accepted_at_end : (v : Timed) (n : ℕ) (ls : List (List ℕ)) → accepted_from v n ls ≡ ended_at (applied_from v n ls)
@@ -19,6 +23,20 @@ accepted_at_end v n (l ∷ ls) = by (timed_by v n (line_of l)) (λ t. accepted_a
         → elim r as (λ (x : Result (Turn × Times) LineFault). Result World Refused) [ Err f ↦ Err (refused n f) | Ok t ↦ accepted_from (timed_turn v t) (n + 1) ls ] ≡ ended_at (elim r as (λ (x : Result (Turn × Times) LineFault). Result (Timed × ℕ) Refused) [ Err f ↦ Err (refused n f) | Ok t ↦ applied_from (timed_turn v t) (n + 1) ls ])
     by (Err f) later = refl
     by (Ok t) later = later t
+
+-- what a trace comes to whose lines come to this
+at_end : (input : List ℕ) (first : Timed) (r : Result (Timed × ℕ) Refused) → first ≡ timed_start → applied_from first 1 (lines_of input) ≡ r → accepted input ≡ ended_at r
+at_end input first r start ran = accepted_at_end timed_start 1 (lines_of input) ∙ ap (λ (v : Timed). ended_at (applied_from v 1 (lines_of input))) (sym start) ∙ ap ended_at ran
+
+pub runs_through : (input : List ℕ) (first new : Timed) (next : ℕ) → first ≡ timed_start → applied_from first 1 (lines_of input) ≡ Ok (new, next) → in_header new.world.stage ≡ false → accepted input ≡ Ok new.world
+runs_through input first new next start ran last = at_end input first (Ok (new, next)) start ran ∙ ap (ended new.world next) last
+
+pub stops_short : (input : List ℕ) (first new : Timed) (next : ℕ) (e : TraceErr) → first ≡ timed_start → applied_from first 1 (lines_of input) ≡ Ok (new, next) → in_header new.world.stage ≡ true → e ≡ errors.Refused (refused next Grammar) → ComesTo (Err e) (accepted input)
+stops_short input first new next e start ran wanted is = subst (λ (x : TraceErr). ComesTo (Err x) (accepted input)) (sym is) (at_end input first (Ok (new, next)) start ran ∙ ap (ended new.world next) wanted)
+
+pub stops_at : (input : List ℕ) (first new : Timed) (e : TraceErr) → first ≡ timed_start → AreApplied (Err e) (applied_from first 1 (lines_of input)) new → ComesTo (Err e) (accepted input)
+stops_at input first new errors.Memory start ran = tt
+stops_at input first new (errors.Refused r) start ran = at_end input first (Err r) start ran
 
 abbrev these : Timed × ℕ → Result (Timed × ℕ) Refused
 these p = Ok p
