@@ -1,36 +1,16 @@
 //! What the client does: its own steps, as `specs/Client.antt` has them, and what one of them came to.
 
 ghost use Rattle.std.specs.Prelude.{◌≡◌, IfOk};
-ghost use Rattle.lbfs_client.specs.Client.{Takes, Hears, Goes};
+ghost use Rattle.lbfs_client.specs.Client.{Goes};
 ghost use Rattle.lbfs_client.specs.Walks.{is_done, has_done, is_closed, opened_file};
 
-use client_state::step::{ClientStep, Ended, Outcome};
+use client_state::step::{Ended, Outcome};
 use command_text::command::Command;
 use lb_base::items::Items;
 use open_close::client::Client;
 use send_list::append;
 use std::alloc::{AllocError, Global};
-use wire::fault::WireFault;
 use wire::message::Message;
-
-/// The client takes a command.
-pub(crate) fn take(alloc: Global, client: &mut Client, command: Command, now: u64) -> ClientStep
-    ensures { Takes client.old command now client.new result }
-{
-    client.command(alloc, command, now)
-}
-
-/// The client hears what came.
-pub(crate) fn hear(
-    alloc: Global,
-    client: &mut Client,
-    message: Result<Message, WireFault>,
-    now: u64,
-) -> ClientStep
-    ensures { Hears client.old message now client.new result }
-{
-    client.got(alloc, message, now)
-}
 
 /// The client takes a command, whose messages go behind those that there are.
 pub(crate) fn go(
@@ -42,7 +22,7 @@ pub(crate) fn go(
 ) -> Result<Option<Ended>, AllocError>
     ensures { IfOk result (λ ended. Goes client.old command now send.old client.new ended send.new) }
 {
-    let step = take(alloc, client, command, now);
+    let step = client.command(alloc, command, now);
     let (more, ended) = step.into_parts();
     match append(alloc, send, more) {
         Ok(()) => Ok(ended),

@@ -83,8 +83,7 @@ fn keep<F: Files>(
 {
     let wrote = write(alloc, files, name, local(client, file));
     let answer = kept_answer(alloc, outcome, wrote)?;
-    let said = abandon(alloc, client, file, &answer, now, send)?;
-    Ok(said)
+    abandon(alloc, client, file, &answer, now, send)
 }
 
 /// The open of a get has ended so.
@@ -100,13 +99,7 @@ pub(crate) fn fetched<F: Files>(
     ensures { IfOk result (λ said. Fetched (record { files = F.files files.old; faults = F.faults files.old }) client.old name.now outcome.now now send (record { files = F.files files.new; faults = F.faults files.new }) client.new said) }
 {
     match opened_file(outcome) {
-        Some(file) => {
-            let said = keep(alloc, files, client, file, name, outcome, now, send)?;
-            Ok(said)
-        }
-        None => {
-            let said = says_end(alloc, send, outcome)?;
-            Ok(said)
-        }
+        Some(file) => keep(alloc, files, client, file, name, outcome, now, send),
+        None => says_end(alloc, send, outcome),
     }
 }

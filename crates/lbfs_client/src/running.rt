@@ -6,7 +6,7 @@ ghost use Rattle.command_text.specs.declared.content.Part.TheVariants as part;
 ghost use Rattle.lbfs_client.specs.Mounting.{Commands, Begins, unread_answer, PutsRead, PutLine, GetLine, JoinLine, Runs, is_joining, joined_walk};
 ghost use Rattle.client_state.specs.Ending.{joined};
 
-use crate::commanding::{go, take};
+use crate::commanding::go;
 use crate::fetching::read;
 use crate::said::{Said, says, says_step, sends};
 use crate::walk::Walk;
@@ -20,27 +20,17 @@ use mount_text::line::{MountLine, Place};
 use mount_text::local::LocalName;
 use open_close::client::Client;
 use register_model::op::Outcome;
-use send_list::append;
 use std::alloc::{AllocError, Global};
 
 /// A command that is all of its line.
 fn plain(alloc: Global, client: &mut Client, command: Command, now: u64) -> Result<Said, AllocError>
     ensures { IfOk result (λ said. Commands client.old command now client.new said) }
 {
-    let step = take(alloc, client, command, now);
-    let (more, ended) = step.into_parts();
     let mut send = Items::new(alloc);
-    match append(alloc, &mut send, more) {
-        Ok(()) => {
-            let said = says_step(alloc, send, &ended);
-            drop(ended);
-            said
-        }
-        Err(want) => {
-            drop(ended);
-            Err(want)
-        }
-    }
+    let ended = go(alloc, client, command, now, &mut send)?;
+    let said = says_step(alloc, send, &ended);
+    drop(ended);
+    said
 }
 
 /// A line that takes several operations opens its file.
@@ -105,14 +95,11 @@ fn put_read<F: Files>(
     match read {
         Ok(bytes) => {
             let content = content_of(alloc, bytes)?;
-            let next = Walk::Opens(content);
-            let said = begin(alloc, files, client, walk, next, place, now)?;
-            Ok(said)
+            begin(alloc, files, client, walk, Walk::Opens(content), place, now)
         }
         Err(error) => {
             drop(place);
-            let said = says(alloc, Items::new(alloc), &unread_answer(error))?;
-            Ok(said)
+            says(alloc, Items::new(alloc), &unread_answer(error))
         }
     }
 }
@@ -130,12 +117,11 @@ fn put<F: Files>(
     ensures { IfOk result (λ said. PutLine (record { host = record { files = F.files files.old; faults = F.faults files.old }; client = client.old; walk = walk.old }) walk.old name.now place now (record { host = record { files = F.files files.new; faults = F.faults files.new }; client = client.new; walk = walk.new }) said) }
 {
     if walk.is_some() {
-        let said = says(alloc, Items::new(alloc), &Answer::Ended(Outcome::Busy))?;
-        return Ok(said);
+        drop(place);
+        return says(alloc, Items::new(alloc), &Answer::Ended(Outcome::Busy));
     }
     let bytes = read(alloc, files, name);
-    let said = put_read(alloc, files, client, walk, place, bytes, now)?;
-    Ok(said)
+    put_read(alloc, files, client, walk, place, bytes, now)
 }
 
 /// `get PLACE LOCAL`.
@@ -151,11 +137,11 @@ fn get<F: Files>(
     ensures { IfOk result (λ said. GetLine (record { host = record { files = F.files files.old; faults = F.faults files.old }; client = client.old; walk = walk.old }) walk.old place name now (record { host = record { files = F.files files.new; faults = F.faults files.new }; client = client.new; walk = walk.new }) said) }
 {
     if walk.is_some() {
-        let said = says(alloc, Items::new(alloc), &Answer::Ended(Outcome::Busy))?;
-        return Ok(said);
+        drop(place);
+        drop(name);
+        return says(alloc, Items::new(alloc), &Answer::Ended(Outcome::Busy));
     }
-    let said = begin(alloc, files, client, walk, Walk::Gets(name), place, now)?;
-    Ok(said)
+    begin(alloc, files, client, walk, Walk::Gets(name), place, now)
 }
 
 /// `join`.
@@ -163,12 +149,10 @@ fn join(alloc: Global, client: &Client, walk: &mut Option<Walk>) -> Result<Said,
     ensures { IfOk result (λ said. JoinLine client.now.linked walk.old walk.new said) }
 {
     if walk.is_some() {
-        let said = says(alloc, Items::new(alloc), &Answer::Ended(Outcome::Busy))?;
-        return Ok(said);
+        return says(alloc, Items::new(alloc), &Answer::Ended(Outcome::Busy));
     }
     if client.linked() {
-        let said = says(alloc, Items::new(alloc), &Answer::Ended(Outcome::Done))?;
-        return Ok(said);
+        return says(alloc, Items::new(alloc), &Answer::Ended(Outcome::Done));
     }
     *walk = Some(Walk::Joins);
     Ok(sends(Items::new(alloc)))
@@ -186,23 +170,14 @@ pub(crate) fn run<F: Files>(
     ensures { IfOk result (λ said. Runs (record { host = record { files = F.files files.old; faults = F.faults files.old }; client = client.old; walk = walk.old }) line now (record { host = record { files = F.files files.new; faults = F.faults files.new }; client = client.new; walk = walk.new }) said) }
 {
     match line {
-        MountLine::Plain(command) => {
-            let said = plain(alloc, client, command, now)?;
-            Ok(said)
-        }
+        MountLine::Plain(command) => plain(alloc, client, command, now),
         MountLine::Put { local, place } => {
             let said = put(alloc, files, client, walk, &local, place, now);
             drop(local);
             said
         }
-        MountLine::Get { place, local } => {
-            let said = get(alloc, files, client, walk, place, local, now)?;
-            Ok(said)
-        }
-        MountLine::Join => {
-            let said = join(alloc, client, walk)?;
-            Ok(said)
-        }
+        MountLine::Get { place, local } => get(alloc, files, client, walk, place, local, now),
+        MountLine::Join => join(alloc, client, walk),
         MountLine::Skipped => Ok(sends(Items::new(alloc))),
     }
 }

@@ -54,8 +54,7 @@ pub(crate) fn says_end(
     ensures { IfOk result (λ said. said ≡ says send (Some (answer_of outcome.now))) }
 {
     let answer = answer_of(alloc, outcome)?;
-    let said = says(alloc, send, &answer)?;
-    Ok(said)
+    says(alloc, send, &answer)
 }
 
 /// These messages go out, and an operation ended if it did.

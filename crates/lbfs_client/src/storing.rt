@@ -42,8 +42,7 @@ fn store(
         return Ok(written);
     }
     drop(written);
-    let ended = go(alloc, client, Command::Close(file), now, send)?;
-    Ok(ended)
+    go(alloc, client, Command::Close(file), now, send)
 }
 
 /// The file is abandoned, and this is said.
@@ -59,8 +58,7 @@ pub(crate) fn abandon(
 {
     let gone = go(alloc, client, Command::Abandon(file), now, &mut send)?;
     drop(gone);
-    let said = says(alloc, send, answer)?;
-    Ok(said)
+    says(alloc, send, answer)
 }
 
 /// The close of a put has ended so.
@@ -75,12 +73,10 @@ pub(crate) fn closed(
     ensures { IfOk result (λ said. Closed client.old file outcome.now now send client.new said) }
 {
     if is_closed(outcome) {
-        let said = says_end(alloc, send, outcome)?;
-        return Ok(said);
+        return says_end(alloc, send, outcome);
     }
     let answer = answer_of(alloc, outcome)?;
-    let said = abandon(alloc, client, file, &answer, now, send)?;
-    Ok(said)
+    abandon(alloc, client, file, &answer, now, send)
 }
 
 /// The close of a put is under way, or has ended.
@@ -101,10 +97,7 @@ fn closes(
             *walk = Some(Walk::Closes(file));
             Ok(sends(send))
         }
-        Some(ended) => {
-            let said = closed(alloc, client, file, &ended.outcome, now, send)?;
-            Ok(said)
-        }
+        Some(ended) => closed(alloc, client, file, &ended.outcome, now, send),
     }
 }
 
@@ -141,14 +134,10 @@ pub(crate) fn opened(
     ensures { IfOk result (λ said. Opened client.old content outcome.now now send client.new walk.new said) }
 {
     match opened_file(outcome) {
-        Some(file) => {
-            let said = put(alloc, client, walk, file, content, now, send)?;
-            Ok(said)
-        }
+        Some(file) => put(alloc, client, walk, file, content, now, send),
         None => {
             drop(content);
-            let said = says_end(alloc, send, outcome)?;
-            Ok(said)
+            says_end(alloc, send, outcome)
         }
     }
 }

@@ -5,7 +5,6 @@ ghost use Rattle.wire.specs.Parse.{parse_of};
 ghost use Rattle.client_state.specs.Ending.{cut};
 ghost use Rattle.lbfs_client.specs.Mounting.{Walks, Leads, Hearing, Receives, Loses, Stops};
 
-use crate::commanding;
 use crate::fetching::fetched;
 use crate::said::{Said, says_end, sends};
 use crate::storing::{closed, opened};
@@ -38,17 +37,10 @@ fn walk_with<F: Files>(
     match held {
         Walk::Joins => {
             *walk = Some(Walk::Joins);
-            let said = says_end(alloc, send, outcome)?;
-            Ok(said)
+            says_end(alloc, send, outcome)
         }
-        Walk::Opens(content) => {
-            let said = opened(alloc, client, walk, content, outcome, now, send)?;
-            Ok(said)
-        }
-        Walk::Closes(file) => {
-            let said = closed(alloc, client, file, outcome, now, send)?;
-            Ok(said)
-        }
+        Walk::Opens(content) => opened(alloc, client, walk, content, outcome, now, send),
+        Walk::Closes(file) => closed(alloc, client, file, outcome, now, send),
         Walk::Gets(name) => {
             let said = fetched(alloc, files, client, &name, outcome, now, send);
             drop(name);
@@ -70,14 +62,8 @@ fn walk_on<F: Files>(
     ensures { IfOk result (λ said. Walks (record { host = record { files = F.files files.old; faults = F.faults files.old }; client = client.old; walk = walk.old }) walk.old outcome.now now send (record { host = record { files = F.files files.new; faults = F.faults files.new }; client = client.new; walk = walk.new }) said) }
 {
     match walk.take() {
-        None => {
-            let said = says_end(alloc, send, outcome)?;
-            Ok(said)
-        }
-        Some(held) => {
-            let said = walk_with(alloc, files, client, walk, held, outcome, now, send)?;
-            Ok(said)
-        }
+        None => says_end(alloc, send, outcome),
+        Some(held) => walk_with(alloc, files, client, walk, held, outcome, now, send),
     }
 }
 
@@ -95,10 +81,7 @@ pub(crate) fn lead<F: Files>(
 {
     match ended {
         None => Ok(sends(send)),
-        Some(ended) => {
-            let said = walk_on(alloc, files, client, walk, &ended.outcome, now, send)?;
-            Ok(said)
-        }
+        Some(ended) => walk_on(alloc, files, client, walk, &ended.outcome, now, send),
     }
 }
 
@@ -139,9 +122,8 @@ fn hear<F: Files>(
 ) -> Result<Said, AllocError>
     ensures { IfOk result (λ said. Hearing (record { host = record { files = F.files files.old; faults = F.faults files.old }; client = client.old; walk = walk.old }) message now (record { host = record { files = F.files files.new; faults = F.faults files.new }; client = client.new; walk = walk.new }) said) }
 {
-    let step = commanding::hear(alloc, client, message, now);
-    let said = follow(alloc, files, client, walk, step, now)?;
-    Ok(said)
+    let step = client.got(alloc, message, now);
+    follow(alloc, files, client, walk, step, now)
 }
 
 /// The message that a record is, or why it is none.
@@ -171,8 +153,7 @@ pub(crate) fn receive<F: Files>(
     ensures { IfOk result (λ said. Receives (record { host = record { files = F.files files.old; faults = F.faults files.old }; client = client.old; walk = walk.old }) bytes.now now (record { host = record { files = F.files files.new; faults = F.faults files.new }; client = client.new; walk = walk.new }) said) }
 {
     let message = message_of(alloc, bytes, client.waiting())?;
-    let said = hear(alloc, files, client, walk, message, now)?;
-    Ok(said)
+    hear(alloc, files, client, walk, message, now)
 }
 
 /// The connection is lost.
@@ -186,8 +167,7 @@ fn lose<F: Files>(
     ensures { IfOk result (λ said. Loses (record { host = record { files = F.files files.old; faults = F.faults files.old }; client = client.old; walk = walk.old }) (cut client.old) now (record { host = record { files = F.files files.new; faults = F.faults files.new }; client = client.new; walk = walk.new }) said) }
 {
     let step = client.cut(alloc);
-    let said = follow(alloc, files, client, walk, step, now)?;
-    Ok(said)
+    follow(alloc, files, client, walk, step, now)
 }
 
 /// The link has ended so.
@@ -202,18 +182,11 @@ pub(crate) fn stop<F: Files>(
     ensures { IfOk result (λ said. Stops (record { host = record { files = F.files files.old; faults = F.faults files.old }; client = client.old; walk = walk.old }) end now (record { host = record { files = F.files files.new; faults = F.faults files.new }; client = client.new; walk = walk.new }) said) }
 {
     match end {
-        End::InputEnd => {
-            let said = lose(alloc, files, client, walk, now)?;
-            Ok(said)
-        }
-        End::Failed => {
-            let said = lose(alloc, files, client, walk, now)?;
-            Ok(said)
-        }
+        End::InputEnd => lose(alloc, files, client, walk, now),
+        End::Failed => lose(alloc, files, client, walk, now),
         End::Spoilt => {
             let spoilt = Err(WireFault::NotRpc { at: 0 });
-            let said = hear(alloc, files, client, walk, spoilt, now)?;
-            Ok(said)
+            hear(alloc, files, client, walk, spoilt, now)
         }
         End::Memory => Err(AllocError),
     }
