@@ -1,9 +1,9 @@
 //! What comes of an answer (`specs/Told.antt`).
 
-ghost use Rattle.std.specs.Prelude.{◌≡◌, ◌+◌, ◌<◌, ◌++◌, IfOk, OnOk, map, nat_le};
+ghost use Rattle.std.specs.Prelude.{◌≡◌, ◌++◌, IfOk, OnOk, map};
 ghost use Rattle.xdr_codec.specs.Handle.{file_of};
-ghost use Rattle.path_calls.specs.Walk.{arrived, arrives, pages_most};
-ghost use Rattle.path_calls.specs.Told.{lacks, goes_down, finds, shown_version, seen, sees, told_goal, told_found, last_cookie, with_page, asks_page, more_pages, lists_on, told_page, told_attr, refused, changed_by, plainly_told, walk_told};
+ghost use Rattle.path_calls.specs.Walk.{arrives};
+ghost use Rattle.path_calls.specs.Told.{seen, sees, told_goal, told_found, last_cookie, lists_on, told_page, told_attr, changed_by, plainly_told, walk_told};
 
 use crate::walk::{Goal, Pages, Walk, from_root};
 use command_text::path::Path;
@@ -53,24 +53,14 @@ pub enum Told {
     Other,
 }
 
-/// What is wrong where a number was wanted and none came.
-fn lacks() -> Told
-    ensures { result ≡ lacks }
+/// These names are left, the first in this directory. It takes no memory.
+pub fn arrive(alloc: Global, dir: u64, left: Path, goal: Goal) -> Walk
+    ensures { result ≡ arrives dir left goal }
 {
-    Told::Shape { got: 0, wanted: 1 }
-}
-
-/// By this status.
-fn refused(status: Status) -> Told
-    ensures { result ≡ refused status }
-{
-    Told::Ends(Ended::Refused(status))
-}
-
-/// All names are looked up, in this directory. It takes no memory.
-fn arrived(alloc: Global, dir: u64, goal: Goal) -> Walk
-    ensures { result ≡ arrived dir goal }
-{
+    if !left.is_empty() {
+        return Walk { dir, left, goal };
+    }
+    drop(left);
     match goal {
         Goal::RenameFrom(name, to) => from_root(to.dirs, Goal::RenameTo(dir, name, to.name)),
         goal => Walk {
@@ -81,43 +71,17 @@ fn arrived(alloc: Global, dir: u64, goal: Goal) -> Walk
     }
 }
 
-/// These names are left, the first in this directory. It takes no memory.
-pub fn arrive(alloc: Global, dir: u64, left: Path, goal: Goal) -> Walk
-    ensures { result ≡ arrives dir left goal }
-{
-    if left.is_empty() {
-        return arrived(alloc, dir, goal);
-    }
-    Walk { dir, left, goal }
-}
-
-/// The next name is looked up in what was found.
-fn go_down(alloc: Global, found: &Found, left: Path, goal: Goal) -> Told
-    ensures { result ≡ goes_down left goal (file_of found.now.handle) }
-{
-    match found.handle.file_of() {
-        None => lacks(),
-        Some(id) => Told::Asks(arrive(alloc, id, left, goal)),
-    }
-}
-
-/// The version that attributes show.
-fn shown_version(attr: &Attr) -> u64
-    ensures { result ≡ shown_version attr.now }
-{
-    let seconds = attr.mtime.seconds;
-    let nanoseconds = attr.mtime.nanoseconds;
-    u64::from(seconds) * 1_000_000_000 + u64::from(nanoseconds)
-}
-
 /// What has these attributes.
 fn seen(id: u64, attr: &Attr) -> Told
     ensures { result ≡ seen id attr.now }
 {
+    let seconds = u64::from(attr.mtime.seconds);
+    let nanoseconds = u64::from(attr.mtime.nanoseconds);
+    let version = seconds * 1_000_000_000 + nanoseconds;
     Told::Ends(Ended::Seen {
         id,
         kind: attr.kind,
-        version: shown_version(attr),
+        version,
         len: attr.size,
     })
 }
@@ -128,17 +92,7 @@ fn see(found: &Found) -> Told
 {
     match (found.handle.file_of(), &found.attr) {
         (Some(id), Some(attr)) => seen(id, attr),
-        _ => lacks(),
-    }
-}
-
-/// What a name that was to be opened stands for.
-fn find(found: &Found) -> Told
-    ensures { result ≡ finds (file_of found.now.handle) }
-{
-    match found.handle.file_of() {
-        None => lacks(),
-        Some(id) => Told::Finds(id),
+        _ => Told::Shape { got: 0, wanted: 1 },
     }
 }
 
@@ -147,7 +101,10 @@ fn told_goal(goal: &Goal, found: &Found) -> Told
     ensures { result ≡ told_goal goal.now found.now }
 {
     match goal {
-        Goal::Find(_) => find(found),
+        Goal::Find(_) => match found.handle.file_of() {
+            None => Told::Shape { got: 0, wanted: 1 },
+            Some(id) => Told::Finds(id),
+        },
         Goal::Look(_) => see(found),
         _ => Told::Other,
     }
@@ -162,45 +119,41 @@ fn told_found(alloc: Global, mut left: Path, goal: Goal, found: &Found) -> Told
     }
     let name = left.remove(0);
     drop(name);
-    go_down(alloc, found, left, goal)
+    match found.handle.file_of() {
+        None => Told::Shape { got: 0, wanted: 1 },
+        Some(id) => Told::Asks(arrive(alloc, id, left, goal)),
+    }
 }
 
-/// The cookie of the last of these entries.
-fn last_cookie(cookie: u64, entries: &[Entry]) -> u64
-    ensures { result ≡ last_cookie cookie entries.now }
+/// Copies of the names of entries are put behind those that are there. The cookie of the last entry.
+fn add_names(
+    alloc: Global,
+    names: &mut Items<Name>,
+    cookie: u64,
+    entries: &[Entry],
+) -> Result<u64, AllocError>
+    ensures names { OnOk result (names.new ≡ names.old ++ map (λ e. e.name) entries.now) }
+    ensures last { IfOk result (λ last. last ≡ last_cookie cookie entries.now) }
 {
     let mut last = cookie;
     for entry in entries {
-        last = entry.cookie;
-    }
-    last
-}
-
-/// Copies of the names of entries are put behind those that are there.
-fn add_names(alloc: Global, names: &mut Items<Name>, entries: &[Entry]) -> Result<(), AllocError>
-    ensures { OnOk result (names.new ≡ names.old ++ map (λ e. e.name) entries.now) }
-{
-    for entry in entries {
         let name = entry.name.try_clone(alloc)?;
         names.push(name)?;
+        last = entry.cookie;
     }
-    Ok(())
+    Ok(last)
 }
 
-/// A page more has come.
-fn with_page(alloc: Global, mut pages: Pages, page: &Listing) -> Result<Pages, AllocError>
-    ensures { IfOk result (λ p. p ≡ with_page pages page.now) }
+/// A page of a directory has come: the next is asked for, if there may be one more.
+fn list_on(alloc: Global, dir: u64, mut pages: Pages, page: &Listing) -> Told
+    ensures { result ≡ lists_on dir pages page.now.entries page.now.eof }
 {
-    add_names(alloc, &mut pages.names, page.entries.as_slice())?;
-    pages.cookie = last_cookie(pages.cookie, page.entries.as_slice());
-    pages.verifier = page.verifier;
-    Ok(pages)
-}
-
-/// The next page is asked for, if there may be one more.
-fn ask_page(alloc: Global, dir: u64, mut pages: Pages) -> Told
-    ensures { result ≡ asks_page dir pages (nat_le pages_most (pages.count + 1)) }
-{
+    if page.eof {
+        return Told::Ends(Ended::Names(pages.names));
+    }
+    if page.entries.is_empty() {
+        return Told::Shape { got: 0, wanted: 1 };
+    }
     if pages.count >= PAGES_MOST - 1 {
         return Told::Ends(Ended::NoLink);
     }
@@ -212,26 +165,15 @@ fn ask_page(alloc: Global, dir: u64, mut pages: Pages) -> Told
     })
 }
 
-/// A page of a directory has come.
-fn list_on(alloc: Global, dir: u64, pages: Pages, page: &Listing) -> Told
-    ensures { result ≡ lists_on dir pages page.now.entries page.now.eof }
-{
-    if page.eof {
-        return Told::Ends(Ended::Names(pages.names));
-    }
-    if page.entries.is_empty() {
-        return lacks();
-    }
-    ask_page(alloc, dir, pages)
-}
-
 fn told_page(alloc: Global, dir: u64, goal: Goal, page: &Listing) -> Result<Told, AllocError>
     ensures { IfOk result (λ t. t ≡ told_page dir goal page.now) }
 {
-    let Goal::List(pages) = goal else {
+    let Goal::List(mut pages) = goal else {
         return Ok(Told::Other);
     };
-    let pages = with_page(alloc, pages, page)?;
+    let entries = page.entries.as_slice();
+    pages.cookie = add_names(alloc, &mut pages.names, pages.cookie, entries)?;
+    pages.verifier = page.verifier;
     Ok(list_on(alloc, dir, pages, page))
 }
 
@@ -250,7 +192,7 @@ fn told_change<D, F>(answer: &Answer<D, F>) -> Told
 {
     match answer {
         Answer::Done(_) => Told::Ends(Ended::Done),
-        Answer::Failed(status, _) => refused(*status),
+        Answer::Failed(status, _) => Told::Ends(Ended::Refused(*status)),
     }
 }
 
@@ -274,9 +216,9 @@ fn told_plainly(answer: &Nfs) -> Told
     ensures { result ≡ plainly_told answer.now }
 {
     match answer {
-        Nfs::LookupAnswer(Answer::Failed(status, _)) => refused(*status),
-        Nfs::GetAttrAnswer(Answer::Failed(status, _)) => refused(*status),
-        Nfs::ReadDirAnswer(Answer::Failed(status, _)) => refused(*status),
+        Nfs::LookupAnswer(Answer::Failed(status, _)) => Told::Ends(Ended::Refused(*status)),
+        Nfs::GetAttrAnswer(Answer::Failed(status, _)) => Told::Ends(Ended::Refused(*status)),
+        Nfs::ReadDirAnswer(Answer::Failed(status, _)) => Told::Ends(Ended::Refused(*status)),
         Nfs::CreateAnswer(made) => told_change(made),
         Nfs::MkDirAnswer(made) => told_change(made),
         Nfs::RemoveAnswer(gone) => told_change(gone),

@@ -1,11 +1,11 @@
 //! The next call of a walk, as `specs/Walk.antt` writes it.
 
 ghost use Rattle.std.specs.Prelude.{◌≡◌, ◌<◌, ◌^◌, ℕ, IfOk};
-ghost use Rattle.path_calls.specs.Walk.{place, keeps_all, page_call, create_call, make_dir_call, rename_call, goal_call, next_call, goal_left, calls_left};
+ghost use Rattle.path_calls.specs.Walk.{place, rename_call, goal_call, next_call, goal_left, calls_left};
 ghost use Rattle.nfs3_calls.specs.Nfs.{nfs_proc};
 
 use crate::answers::PAGES_MOST;
-use crate::walk::{Goal, Pages, Walk};
+use crate::walk::{Goal, Walk};
 use lb_base::items::Name;
 use limits::LISTING_MOST;
 use nfs3_calls::listing::ListRange;
@@ -35,38 +35,6 @@ fn place(alloc: Global, dir: u64, name: &Name) -> Result<Place, AllocError>
     })
 }
 
-/// The call for the page behind those that came.
-fn page_call(alloc: Global, dir: u64, pages: &Pages) -> Result<Nfs, AllocError>
-    ensures { IfOk result (λ c. c ≡ page_call dir pages.now) }
-{
-    Ok(Nfs::ReadDir(ListRange {
-        dir: Handle::of_file(alloc, dir)?,
-        cookie: pages.cookie,
-        verifier: pages.verifier,
-        count: LISTING_MOST,
-    }))
-}
-
-/// The call that makes a file, where the name is free.
-fn create_call(alloc: Global, dir: u64, name: &Name) -> Result<Nfs, AllocError>
-    ensures { IfOk result (λ c. c ≡ create_call dir name.now) }
-{
-    Ok(Nfs::Create(NewFile {
-        place: place(alloc, dir, name)?,
-        how: HowMade::Guarded(KEEPS_ALL),
-    }))
-}
-
-/// The call that makes a directory.
-fn make_dir_call(alloc: Global, dir: u64, name: &Name) -> Result<Nfs, AllocError>
-    ensures { IfOk result (λ c. c ≡ make_dir_call dir name.now) }
-{
-    Ok(Nfs::MkDir(NewDir {
-        place: place(alloc, dir, name)?,
-        attr: KEEPS_ALL,
-    }))
-}
-
 /// The call that moves a name.
 fn rename_call(
     alloc: Global,
@@ -91,9 +59,20 @@ fn goal_call(alloc: Global, dir: u64, goal: &Goal) -> Result<Nfs, AllocError>
             Ok(Nfs::Lookup(place(alloc, dir, name)?))
         }
         Goal::LookRoot => Ok(Nfs::GetAttr(Handle::of_file(alloc, dir)?)),
-        Goal::List(pages) => page_call(alloc, dir, pages),
-        Goal::Make(name) => create_call(alloc, dir, name),
-        Goal::MakeDir(name) => make_dir_call(alloc, dir, name),
+        Goal::List(pages) => Ok(Nfs::ReadDir(ListRange {
+            dir: Handle::of_file(alloc, dir)?,
+            cookie: pages.cookie,
+            verifier: pages.verifier,
+            count: LISTING_MOST,
+        })),
+        Goal::Make(name) => Ok(Nfs::Create(NewFile {
+            place: place(alloc, dir, name)?,
+            how: HowMade::Guarded(KEEPS_ALL),
+        })),
+        Goal::MakeDir(name) => Ok(Nfs::MkDir(NewDir {
+            place: place(alloc, dir, name)?,
+            attr: KEEPS_ALL,
+        })),
         Goal::Remove(name) => Ok(Nfs::Remove(place(alloc, dir, name)?)),
         Goal::RemoveDir(name) => Ok(Nfs::RmDir(place(alloc, dir, name)?)),
         Goal::RenameTo(from, name, to_name) => rename_call(alloc, *from, name, dir, to_name),

@@ -65,18 +65,6 @@ pub fn from_root(left: Path, goal: Goal) -> Walk
     }
 }
 
-/// No page came yet. It takes no memory.
-fn no_pages(alloc: Global) -> Pages
-    ensures { result ≡ Rattle.path_calls.specs.Walk.no_pages }
-{
-    Pages {
-        names: Items::new(alloc),
-        count: 0,
-        cookie: 0,
-        verifier: 0,
-    }
-}
-
 impl Walk {
     /// The walk that a command begins with. It takes no memory.
     pub fn new(alloc: Global, command: PathCommand) -> Walk
@@ -86,7 +74,15 @@ impl Walk {
             PathCommand::Find(spot) => from_root(spot.dirs, Goal::Find(spot.name)),
             PathCommand::Look(spot) => from_root(spot.dirs, Goal::Look(spot.name)),
             PathCommand::LookRoot => from_root(Items::new(alloc), Goal::LookRoot),
-            PathCommand::List(path) => from_root(path, Goal::List(no_pages(alloc))),
+            PathCommand::List(path) => {
+                let pages = Pages {
+                    names: Items::new(alloc),
+                    count: 0,
+                    cookie: 0,
+                    verifier: 0,
+                };
+                from_root(path, Goal::List(pages))
+            }
             PathCommand::Make(spot) => from_root(spot.dirs, Goal::Make(spot.name)),
             PathCommand::MakeDir(spot) => from_root(spot.dirs, Goal::MakeDir(spot.name)),
             PathCommand::Remove(spot) => from_root(spot.dirs, Goal::Remove(spot.name)),
