@@ -13,6 +13,7 @@ use std::alloc::{AllocError, Global};
 use std::marker::Model;
 use std::num::NonZeroUsize;
 use transfer_rules::kept::evict;
+use transfer_rules::pieces::range_end;
 
 /// The most files of which something is kept.
 const FILES_MOST: usize = 256;
@@ -124,12 +125,12 @@ impl Cache {
         ensures { option_copied result ≡ fresh_of self.now file now }
     {
         let kept = self.entries.peek(&file)?;
-        let content = kept.content.as_ref()?;
-        let note = kept.note?;
-        if !is_fresh(content, note, now) {
-            return None;
+        match (&kept.content, kept.note) {
+            (Some(content), Some(note)) if is_fresh(content, note, now) => {
+                Some(content.bytes.as_slice())
+            }
+            _ => None,
         }
-        Some(content.bytes.as_slice())
     }
 
     /// The bytes at a place, where the content of its file is kept and has the range. It takes no
@@ -139,10 +140,7 @@ impl Cache {
     {
         let content = self.entries.peek(&place.file)?.content.as_ref()?;
         let bytes = content.bytes.as_slice();
-        let end = place.offset.checked_add(place.count)?;
-        if end > bytes.len() as u64 {
-            return None;
-        }
+        let end = range_end(place.offset, place.count, bytes.len() as u64)?;
         Some(&bytes[place.offset as usize..end as usize])
     }
 
