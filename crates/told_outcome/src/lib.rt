@@ -28,16 +28,6 @@ fn fault_number(fault: &BadPeer) -> u32
     }
 }
 
-/// The number of a kind (ftype3 of RFC 1813, section 2.6).
-fn kind_number(kind: Kind) -> u32
-    ensures { result ≡ kind_number kind }
-{
-    match kind {
-        Kind::File => 1,
-        Kind::Directory => 2,
-    }
-}
-
 /// Copies of these names.
 fn copied_names(alloc: Global, names: &[Name]) -> Result<Items<Name>, AllocError>
     ensures { IfOk result (λ all. all ≡ names.now) }
@@ -49,34 +39,17 @@ fn copied_names(alloc: Global, names: &[Name]) -> Result<Items<Name>, AllocError
     Ok(Items::from_vec(all))
 }
 
-/// What was read.
-fn piece(alloc: Global, len: u64, sha1: &[u8]) -> Result<Outcome, AllocError>
-    ensures { IfOk result (λ o. o ≡ told.Piece len sha1.now) }
-{
-    Ok(Outcome::Piece {
-        len,
-        sha1: Bytes::copy_of(alloc, sha1)?,
-    })
-}
-
-/// A close that stored what it had.
-fn closed(alloc: Global, version: u64, len: u64, sha1: &[u8]) -> Result<Outcome, AllocError>
-    ensures { IfOk result (λ o. o ≡ told.Closed version len sha1.now) }
-{
-    Ok(Outcome::Closed {
-        version,
-        len,
-        sha1: Bytes::copy_of(alloc, sha1)?,
-    })
-}
-
-/// What a name stands for.
+/// What a name stands for, with the number of its kind (ftype3 of RFC 1813, section 2.6).
 fn seen(file: u64, kind: Kind, version: u64, len: u64) -> Outcome
     ensures { result ≡ told.Seen file (kind_number kind) version len }
 {
+    let kind = match kind {
+        Kind::File => 1,
+        Kind::Directory => 2,
+    };
     Outcome::Seen {
         file,
-        kind: kind_number(kind),
+        kind,
         version,
         len,
     }
@@ -91,13 +64,20 @@ pub fn told_of(alloc: Global, outcome: &step::Outcome) -> Result<Outcome, AllocE
             len: *len,
             sha1: Bytes::copy_of(alloc, sha1)?,
         },
-        step::Outcome::Piece { len, sha1 } => piece(alloc, *len, sha1)?,
+        step::Outcome::Piece { len, sha1 } => Outcome::Piece {
+            len: *len,
+            sha1: Bytes::copy_of(alloc, sha1)?,
+        },
         step::Outcome::Closed {
             version,
             len,
             sha1,
             ..
-        } => closed(alloc, *version, *len, sha1)?,
+        } => Outcome::Closed {
+            version: *version,
+            len: *len,
+            sha1: Bytes::copy_of(alloc, sha1)?,
+        },
         step::Outcome::Done => Outcome::Done,
         step::Outcome::Names(names) => Outcome::Names(copied_names(alloc, names.as_slice())?),
         step::Outcome::Seen {
