@@ -6,5 +6,5 @@ use Rattle.path_calls.proofs.answers.add_names.Given as goal
 abbrev pub invariant-loop-entry : goal.invariant-loop-entry
 invariant-loop-entry l = record {
   names : l.names ++ map (λ e. e.name) (drop l.entry-index l.entries) ≡ l.initial.names ++ map (λ e. e.name) l.entries;
-  last : last_cookie l.last (drop l.entry-index l.entries) ≡ last_cookie l.cookie l.entries
+  last : last_cookie l.last (drop l.entry-index l.entries) ≡ last_cookie l.cookie l.entries;
 }
