@@ -8,7 +8,6 @@ ghost use Rattle.client_state.specs.State.{local_at, local_bytes};
 ghost use Rattle.client_state.specs.Ending.{on_local, may_ask, MayMissOn};
 ghost use Rattle.file_close.specs.Storing.{closes, asks_temp, goes_if, goes_on, sends_whole, told_named, told_way, closed};
 ghost use Rattle.client_state.specs.declared.task.Stage.TheVariants as stage;
-ghost use Rattle.client_state.specs.declared.task.Way.TheVariants as way;
 
 use crate::calls::Names;
 use crate::{calls, messages, stores};
@@ -199,30 +198,6 @@ fn send_whole(
     Ok(parts::sends(SendList::one(alloc, whole), stores::whole_counted(bytes)))
 }
 
-/// The server doesn't know a chunk that was named. An `Err` changes nothing.
-fn told_missing(
-    alloc: Global,
-    state: &mut ClientState,
-    file: u64,
-    store: Store,
-    call: StoreCall,
-    xid: u32,
-) -> Result<ClientStep, AllocError>
-    requires held { IsHeld state.old }
-    requires within { IsStore store }
-    requires xids { state.old.next + store_left store + 1 < 4294967296 }
-    ensures ok { IfOk result (λ a. sends_whole (state_of state.old) file xid (local_bytes state.old.opened.entries file) store call (slice_get store.chunks call.index) ≡ (state_of state.new, a)) }
-    ensures done { IfOk result (λ a. a.missed ≡ false) }
-    ensures err { OnErr result (whole_of state.new ≡ whole_of state.old) }
-    ensures sound { OnOk result (IsSound state.new) }
-    ensures held { OnErr result (IsHeld state.new) }
-{
-    match chunk_at(store.chunks.as_slice(), call.index) {
-        Some(chunk) => send_whole(alloc, state, file, store, call, &chunk),
-        None => Ok(state.unknown(alloc, xid)),
-    }
-}
-
 /// The answer to a CONDWRITE, which is no longer under way. An `Err` changes nothing.
 fn told_named(
     alloc: Global,
@@ -243,66 +218,14 @@ fn told_named(
     ensures held { OnErr result (IsHeld state.new) }
 {
     if answers::wants_bytes(answer) {
-        return told_missing(alloc, state, file, store, call, xid);
+        return match chunk_at(store.chunks.as_slice(), call.index) {
+            Some(chunk) => send_whole(alloc, state, file, store, call, &chunk),
+            None => Ok(state.unknown(alloc, xid)),
+        };
     }
     match answer {
         Answer::Done(()) => go_on(alloc, state, file, store),
         Answer::Failed(status, _) => Ok(state.refused(alloc, xid, *status)),
-    }
-}
-
-/// An answer where a CONDWRITE was under way. An `Err` changes nothing.
-fn took_named(
-    alloc: Global,
-    state: &mut ClientState,
-    file: u64,
-    store: Store,
-    call: StoreCall,
-    xid: u32,
-    body: &Body,
-) -> Result<ClientStep, AllocError>
-    requires held { IsHeld state.old }
-    requires within { IsStore store }
-    requires xids { state.old.next + store_left store + 1 < 4294967296 }
-    ensures ok { IfOk result (λ a. told_way (state_of state.old) state.old.waiting.calls file xid (local_bytes state.old.opened.entries file) store call way.Named body.now ≡ (state_of state.new, a)) }
-    ensures done { IfOk result (λ a. a.missed ≡ false) }
-    ensures err { OnErr result (whole_of state.new ≡ whole_of state.old) }
-    ensures sound { OnOk result (IsSound state.new) }
-    ensures held { OnErr result (IsHeld state.new) }
-{
-    match body {
-        Body::Lb(Lb::CondWriteAnswer(answer)) => {
-            told_named(alloc, state, file, store, call, xid, answer)
-        }
-        _ => Ok(state.unknown(alloc, xid)),
-    }
-}
-
-/// An answer where a TMPWRITE was under way. An `Err` changes nothing.
-fn took_whole(
-    alloc: Global,
-    state: &mut ClientState,
-    file: u64,
-    store: Store,
-    call: StoreCall,
-    xid: u32,
-    body: &Body,
-) -> Result<ClientStep, AllocError>
-    requires held { IsHeld state.old }
-    requires within { IsStore store }
-    requires xids { HasXids state.old.next (stage.Storing store) }
-    ensures ok { IfOk result (λ a. told_way (state_of state.old) state.old.waiting.calls file xid (local_bytes state.old.opened.entries file) store call way.Whole body.now ≡ (state_of state.new, a)) }
-    ensures done { IfOk result (λ a. a.missed ≡ false) }
-    ensures err { OnErr result (whole_of state.new ≡ whole_of state.old) }
-    ensures sound { OnOk result (IsSound state.new) }
-    ensures held { OnErr result (IsHeld state.new) }
-{
-    match body {
-        Body::Lb(Lb::TmpWriteAnswer(answer)) => match answer {
-            Answer::Done(_) => go_on(alloc, state, file, store),
-            Answer::Failed(status, _) => Ok(state.refused(alloc, xid, *status)),
-        },
-        _ => Ok(state.unknown(alloc, xid)),
     }
 }
 
@@ -326,8 +249,19 @@ pub fn told_chunk(
     ensures held { OnErr result (IsHeld state.new) }
 {
     match call.way {
-        Way::Named => took_named(alloc, state, file, store, call, xid, body),
-        Way::Whole => took_whole(alloc, state, file, store, call, xid, body),
+        Way::Named => match body {
+            Body::Lb(Lb::CondWriteAnswer(answer)) => {
+                told_named(alloc, state, file, store, call, xid, answer)
+            }
+            _ => Ok(state.unknown(alloc, xid)),
+        },
+        Way::Whole => match body {
+            Body::Lb(Lb::TmpWriteAnswer(answer)) => match answer {
+                Answer::Done(_) => go_on(alloc, state, file, store),
+                Answer::Failed(status, _) => Ok(state.refused(alloc, xid, *status)),
+            },
+            _ => Ok(state.unknown(alloc, xid)),
+        },
     }
 }
 
