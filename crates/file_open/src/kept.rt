@@ -1,9 +1,9 @@
-//! The opens of files whose content is kept: its version is asked for, and where the file has it still
-//! the content is open again. `specs/Caching.antt` and `specs/Fetching.antt` say how.
+//! The opens of files whose content is kept: where the file has its version still the content is open
+//! again. `specs/Caching.antt` and `specs/Fetching.antt` say how.
 
-ghost use Rattle.std.specs.Prelude.{◌≡◌, ◌+◌, ◌≤◌, length, None, Some, is_some, IfOk, OnOk, OnErr, false, true};
+ghost use Rattle.std.specs.Prelude.{◌≡◌, ◌≤◌, length, None, Some, IfOk, OnOk, OnErr, false};
 ghost use Rattle.client_cache.specs.Cache.{content_of, with_content};
-ghost use Rattle.file_open.specs.Fetching.{asks_file, uses_kept};
+ghost use Rattle.file_open.specs.Fetching.{uses_kept};
 ghost use Rattle.client_state.specs.View.{state_of, whole_of, IsHeld, IsSound, IsThere, HasXids};
 ghost use Rattle.limits.specs.declared.TheConstants.{FILE_MOST};
 ghost use Rattle.sha1.specs.Sha1.{sha1};
@@ -13,37 +13,13 @@ ghost use Rattle.client_state.specs.State.{with_local};
 ghost use Rattle.client_state.specs.declared.task.Stage.TheVariants as stage;
 ghost use Rattle.client_state.specs.declared.step.Outcome.TheVariants as outcome;
 
-use crate::{caching, messages, opening};
+use crate::{caching, opening};
 use client_state::parts;
 use client_state::state::ClientState;
 use client_state::step::{ClientStep, Outcome};
-use client_state::task::Stage;
 use sha1::Sha1;
 use shared_bytes::SharedBytes;
 use std::alloc::{AllocError, Global};
-use xdr_codec::handle::Handle;
-
-/// The version of a file is asked for, since a content of it is kept. An `Err` changes nothing.
-pub fn ask_version(
-    alloc: Global,
-    state: &mut ClientState,
-    file: u64,
-) -> Result<ClientStep, AllocError>
-    requires held { IsHeld state.old }
-    requires xids { HasXids (state.old.next + 1) (stage.Asking 0) }
-    requires kept { is_some (content_of state.old.cache file) ≡ true }
-    ensures ok { IfOk result (λ a. asks_file (state_of state.old) file true ≡ (state_of state.new, a)) }
-    ensures done { IfOk result (λ a. a.missed ≡ false) }
-    ensures err { OnErr result (whole_of state.new ≡ whole_of state.old) }
-    ensures sound { OnOk result (IsSound state.new) }
-    ensures held { OnErr result (IsHeld state.new) }
-{
-    let xid = state.next;
-    let handle = Handle::of_file(alloc, file)?;
-    state.wait_there(alloc, file, Stage::Asking(xid), xid + 1)?;
-    let call = messages::lease_call(xid, handle);
-    Ok(parts::sends_one(alloc, call, 0))
-}
 
 /// A file is open with this content, which its open tells, resting on the call with this xid, after
 /// so many bytes of a READ came. An `Err` changes nothing.

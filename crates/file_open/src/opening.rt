@@ -1,16 +1,15 @@
 //! The operation that opens a file: its chunks are asked for, piece by piece, and then their bytes.
 //! `specs/Opening.antt` and `specs/Fetching.antt` say how.
 
-ghost use Rattle.std.specs.Prelude.{◌≡◌, ◌+◌, ◌-◌, ◌<◌, ◌≤◌, ◌==◌, length, take, drop, None, Some, slice_get, is_some, IfOk, OnOk, OnErr, false, true};
-ghost use Rattle.client_cache.specs.Cache.{content_of};
+ghost use Rattle.std.specs.Prelude.{◌≡◌, ◌+◌, ◌-◌, ◌<◌, ◌≤◌, ◌==◌, length, take, drop, None, Some, slice_get, IfOk, OnOk, OnErr, false, true};
 ghost use Rattle.file_open.specs.Caching.{found_all};
-ghost use Rattle.file_open.specs.Opening.{read_at, fault_in, with_bytes, other_version, with_hashes, listed};
+ghost use Rattle.file_open.specs.Opening.{read_at, fault_in, with_hashes};
 ghost use Rattle.transfer_rules.specs.Limits.{tries_most};
-ghost use Rattle.file_open.specs.Looking.{with_file, listed_if, listed_by, taken_if, taken_at, taken_by, entering_by};
+ghost use Rattle.file_open.specs.Looking.{with_file, listed_if, listed_by, taken_if, taken_by, entering_by};
 ghost use Rattle.file_open.specs.Shape.{broken_of};
-ghost use Rattle.file_open.specs.Fetching.{opens, asks_file, MayMissOpen, Comes, tries_anew, opened_with, changes, reads_if, reads_on, lists_on, told_shape, told_version, misfits, told_bytes, told_chunk, told_piece};
+ghost use Rattle.file_open.specs.Fetching.{opens, asks_file, MayMissOpen, Comes, tries_anew, opened_with, changes, reads_if, reads_on, lists_on, told_version, told_bytes, told_piece};
 ghost use Rattle.client_state.specs.Ending.{forgets};
-ghost use Rattle.client_state.specs.View.{state_of, whole_of, later_left, IsListing, IsReading, IsFetch, IsHeld, IsSound, IsThere, HasXids};
+ghost use Rattle.client_state.specs.View.{state_of, whole_of, later_left, IsListing, IsReading, IsHeld, IsSound, IsThere, HasXids};
 ghost use Rattle.client_state.specs.declared.task.Stage.TheVariants as stage;
 
 use crate::calls::Reads;
@@ -21,12 +20,10 @@ use client_state::state::ClientState;
 use client_state::step::{BadPeer, ClientStep, Outcome};
 use client_state::task::{Fetch, ReadCall, Stage};
 use hash_calls::call::Hashes;
-use lb_base::items::Bytes;
 use nfs3_calls::call::Piece;
 use std::alloc::{AllocError, Global};
 use transfer_rules::chunks::chunk_at;
 use transfer_rules::{bounds, pieces};
-use xdr_codec::attr::Attr;
 use xdr_codec::handle::Handle;
 
 /// A command to open a file. An `Err` changes nothing, and comes only where the file is asked for.
@@ -62,26 +59,13 @@ pub fn ask_file(alloc: Global, state: &mut ClientState, file: u64) -> Result<Cli
     ensures sound { OnOk result (IsSound state.new) }
     ensures held { OnErr result (IsHeld state.new) }
 {
-    if caching::is_kept(&state.cache, file) {
-        kept::ask_version(alloc, state, file)
-    } else {
-        ask_hashes(alloc, state, file)
-    }
-}
-
-/// The first attempt begins. An `Err` changes nothing.
-fn ask_hashes(alloc: Global, state: &mut ClientState, file: u64) -> Result<ClientStep, AllocError>
-    requires held { IsHeld state.old }
-    requires xids { HasXids (state.old.next + 1) (stage.Asking 0) }
-    requires kept { is_some (content_of state.old.cache file) ≡ false }
-    ensures ok { IfOk result (λ a. asks_file (state_of state.old) file true ≡ (state_of state.new, a)) }
-    ensures done { IfOk result (λ a. a.missed ≡ false) }
-    ensures err { OnErr result (whole_of state.new ≡ whole_of state.old) }
-    ensures sound { OnOk result (IsSound state.new) }
-    ensures held { OnErr result (IsHeld state.new) }
-{
     let xid = state.next;
     let handle = Handle::of_file(alloc, file)?;
+    if caching::is_kept(&state.cache, file) {
+        state.wait_there(alloc, file, Stage::Asking(xid), xid + 1)?;
+        let call = messages::lease_call(xid, handle);
+        return Ok(parts::sends_one(alloc, call, 0));
+    }
     state.wait_there(alloc, file, Stage::Hashing { tries: 1, xid }, xid + 1)?;
     let call = messages::hash_call(xid, handle, 0);
     Ok(parts::sends_one(alloc, call, 0))
@@ -263,29 +247,6 @@ fn list_on(
     Ok(parts::sends_one(alloc, call, 0))
 }
 
-/// All chunks are told. An `Err` changes nothing.
-#[tactic(auto, using(crate::proofs::Slots::listed_fits))]
-fn read_first(
-    alloc: Global,
-    state: &mut ClientState,
-    file: u64,
-    fetch: Fetch,
-    xid: u32,
-) -> Result<ClientStep, AllocError>
-    requires held { IsHeld state.old }
-    requires there { IsThere state.old.cache file }
-    requires within { IsFetch fetch }
-    requires fresh { fetch.asked ≡ 0 }
-    requires xids { HasXids state.old.next (stage.Reading fetch) }
-    ensures ok { IfOk result (λ a. Comes state.old.index (entering_by (state_of state.old) (Some (file, listed fetch))) (reads_on (state_of state.old) state.old.waiting.calls file xid (listed fetch) 0) (state_of state.new) a) }
-    ensures err { OnErr result (whole_of state.new ≡ whole_of state.old) }
-    ensures sound { OnOk result (IsSound state.new) }
-    ensures held { OnErr result (IsHeld state.new) }
-{
-    let fetch = fetch::listed(alloc, fetch)?;
-    read_on(alloc, state, file, fetch, xid, 0)
-}
-
 /// A piece can be, and its chunks are listed. An `Err` changes nothing.
 #[tactic(auto, using(crate::proofs::Pieces::few_pairs))]
 fn add_piece(
@@ -308,33 +269,10 @@ fn add_piece(
 {
     let fetch = fetch::with_hashes(fetch, hashes)?;
     if hashes.eof {
-        read_first(alloc, state, file, fetch, xid)
+        let whole = fetch::listed(alloc, fetch)?;
+        read_on(alloc, state, file, whole, xid, 0)
     } else {
         list_on(alloc, state, file, fetch)
-    }
-}
-
-/// A piece is of the attempt's version. An `Err` changes nothing.
-fn told_shape(
-    alloc: Global,
-    state: &mut ClientState,
-    file: u64,
-    fetch: Fetch,
-    hashes: &Hashes,
-    xid: u32,
-) -> Result<ClientStep, AllocError>
-    requires held { IsHeld state.old }
-    requires there { IsThere state.old.cache file }
-    requires within { IsListing fetch }
-    requires xids { HasXids state.old.next (stage.Listing 0 fetch) }
-    ensures ok { IfOk result (λ a. Comes state.old.index (entering_by (state_of state.old) (with_file file (listed_if fetch hashes.now true (broken_of fetch hashes.now) hashes.now.eof))) (told_shape (state_of state.old) state.old.waiting.calls file xid fetch hashes.now (broken_of fetch hashes.now)) (state_of state.new) a) }
-    ensures err { OnErr result (whole_of state.new ≡ whole_of state.old) }
-    ensures sound { OnOk result (IsSound state.new) }
-    ensures held { OnErr result (IsHeld state.new) }
-{
-    match shape::broken_of(&fetch, hashes) {
-        Some((got, wanted)) => Ok(state.bad_peer(alloc, BadPeer::Shape { got, wanted }, 0)),
-        None => add_piece(alloc, state, file, fetch, hashes, xid),
     }
 }
 
@@ -358,70 +296,18 @@ pub fn told_hashes(
     ensures held { OnErr result (IsHeld state.new) }
 {
     if pieces::is_of_version(fetch.version, hashes.version) {
-        told_shape(alloc, state, file, fetch, hashes, xid)
+        match shape::broken_of(&fetch, hashes) {
+            Some((got, wanted)) => Ok(state.bad_peer(alloc, BadPeer::Shape { got, wanted }, 0)),
+            None => add_piece(alloc, state, file, fetch, hashes, xid),
+        }
     } else {
         change(alloc, state, file, &fetch, xid, hashes.version, 0)
     }
 }
 
-/// Bytes don't fit: another version ends the attempt, else they are the peer's fault. An `Err`
-/// changes nothing.
-fn misfit(
-    alloc: Global,
-    state: &mut ClientState,
-    file: u64,
-    fetch: &Fetch,
-    xid: u32,
-    fault: BadPeer,
-    bytes: &Bytes,
-    attr: &Option<Attr>,
-) -> Result<ClientStep, AllocError>
-    requires held { IsHeld state.old }
-    requires there { IsThere state.old.cache file }
-    requires tries { fetch.now.tries ≤ tries_most }
-    requires xids { state.old.next + 1 + later_left fetch.now.tries < 4294967296 }
-    ensures ok { IfOk result (λ a. misfits (state_of state.old) state.old.waiting.calls file xid fetch.now fault (length bytes.now) (other_version fetch.now.version attr.now) ≡ (state_of state.new, a)) }
-    ensures done { IfOk result (λ a. a.missed ≡ false) }
-    ensures err { OnErr result (whole_of state.new ≡ whole_of state.old) }
-    ensures sound { OnOk result (IsSound state.new) }
-    ensures held { OnErr result (IsHeld state.new) }
-{
-    let count = bytes.len() as u64;
-    match faults::other_version(fetch.version, attr) {
-        Some(version) => change(alloc, state, file, fetch, xid, version, count),
-        None => Ok(state.bad_peer(alloc, fault, count)),
-    }
-}
-
-/// The bytes of a chunk fit, and are taken. An `Err` changes nothing.
+/// The bytes of a chunk have come. Where they don't fit another version ends the attempt, else they are
+/// the peer's fault. An `Err` changes nothing.
 #[tactic(auto, using(crate::proofs::Slots::bytes_kept, crate::proofs::Slots::slot_there))]
-fn keep(
-    alloc: Global,
-    state: &mut ClientState,
-    file: u64,
-    fetch: Fetch,
-    xid: u32,
-    call: ReadCall,
-    chunk: &Chunk,
-    bytes: Bytes,
-) -> Result<ClientStep, AllocError>
-    requires held { IsHeld state.old }
-    requires there { IsThere state.old.cache file }
-    requires within { IsReading fetch }
-    requires xids { HasXids state.old.next (stage.Reading fetch) }
-    requires chunk { slice_get fetch.chunks call.index ≡ Some chunk.now }
-    requires fits { length bytes ≡ chunk.now.len }
-    ensures ok { IfOk result (λ a. Comes state.old.index (entering_by (state_of state.old) (Some (file, with_bytes fetch call bytes))) (reads_on (state_of state.old) state.old.waiting.calls file xid (with_bytes fetch call bytes) (length bytes)) (state_of state.new) a) }
-    ensures err { OnErr result (whole_of state.new ≡ whole_of state.old) }
-    ensures sound { OnOk result (IsSound state.new) }
-    ensures held { OnErr result (IsHeld state.new) }
-{
-    let count = bytes.len() as u64;
-    let fetch = fetch::with_bytes(fetch, call, bytes);
-    read_on(alloc, state, file, fetch, xid, count)
-}
-
-/// The bytes of a chunk have come. An `Err` changes nothing.
 fn told_bytes(
     alloc: Global,
     state: &mut ClientState,
@@ -449,34 +335,18 @@ fn told_bytes(
         bytes,
     } = piece;
     match faults::fault_in(chunk, bytes.as_slice()) {
-        Some(fault) => misfit(alloc, state, file, &fetch, xid, fault, &bytes, &attr),
-        None => keep(alloc, state, file, fetch, xid, call, chunk, bytes),
-    }
-}
-
-/// The bytes of a chunk have come, if there is one at the place that was read. An `Err` changes
-/// nothing.
-fn told_read(
-    alloc: Global,
-    state: &mut ClientState,
-    file: u64,
-    fetch: Fetch,
-    xid: u32,
-    call: ReadCall,
-    piece: Piece,
-) -> Result<ClientStep, AllocError>
-    requires held { IsHeld state.old }
-    requires there { IsThere state.old.cache file }
-    requires within { IsReading fetch }
-    requires xids { HasXids state.old.next (stage.Reading fetch) }
-    ensures ok { IfOk result (λ a. Comes state.old.index (entering_by (state_of state.old) (with_file file (taken_at fetch call piece (slice_get fetch.chunks call.index)))) (told_chunk (state_of state.old) state.old.waiting.calls file xid fetch call piece (slice_get fetch.chunks call.index)) (state_of state.new) a) }
-    ensures err { OnErr result (whole_of state.new ≡ whole_of state.old) }
-    ensures sound { OnOk result (IsSound state.new) }
-    ensures held { OnErr result (IsHeld state.new) }
-{
-    match chunk_at(fetch.chunks.as_slice(), call.index) {
-        Some(chunk) => told_bytes(alloc, state, file, fetch, xid, call, &chunk, piece),
-        None => Ok(state.unknown(alloc, xid)),
+        Some(fault) => {
+            let count = bytes.len() as u64;
+            match faults::other_version(fetch.version, &attr) {
+                Some(version) => change(alloc, state, file, &fetch, xid, version, count),
+                None => Ok(state.bad_peer(alloc, fault, count)),
+            }
+        }
+        None => {
+            let taken = bytes.len() as u64;
+            let fetch = fetch::with_bytes(fetch, call, bytes);
+            read_on(alloc, state, file, fetch, xid, taken)
+        }
     }
 }
 
@@ -499,7 +369,10 @@ pub fn told_piece(
     ensures held { OnErr result (IsHeld state.new) }
 {
     match calls::read_at(fetch.under.as_slice(), xid) {
-        Some(call) => told_read(alloc, state, file, fetch, xid, call, piece),
+        Some(call) => match chunk_at(fetch.chunks.as_slice(), call.index) {
+            Some(chunk) => told_bytes(alloc, state, file, fetch, xid, call, &chunk, piece),
+            None => Ok(state.unknown(alloc, xid)),
+        },
         None => Ok(state.unknown(alloc, xid)),
     }
 }

@@ -6,18 +6,20 @@ use Rattle.client_state.specs.declared.step.ClientStep.{ClientStep}
 use Rattle.file_open.proofs.Comings.{comes_ok}
 use Rattle.client_state.specs.declared.task.Fetch.{Fetch}
 use Rattle.client_state.specs.declared.task.Stage.TheVariants as stage
-use Rattle.client_state.specs.View.{state_of, IsFetch, IsListing, HasXids}
+use Rattle.client_state.specs.View.{state_of, IsFetch, IsListing, IsReading, HasXids}
 use Rattle.file_open.proofs.Pieces.{goes_on, is_whole, more_xids, read_xids}
+use Rattle.file_open.proofs.Slots.{listed_fits}
 use Rattle.file_open.proofs.opening.add_piece.Goals as goal
 
-pub read_first-requires-clause-within : goal.read_first-requires-clause-within
-read_first-requires-clause-within c = subst IsFetch (sym c.in_ok-fetch.ensures) (is_whole c.args.fetch c.args.hashes.now c.requires.within c.requires.can)
+pub read_on-requires-clause-within : goal.read_on-requires-clause-within
+read_on-requires-clause-within c =
+    let all : IsFetch c.in_ok-fetch.fetch = subst IsFetch (sym c.in_ok-fetch.ensures) (is_whole c.args.fetch c.args.hashes.now c.requires.within c.requires.can) in
+    subst IsReading (sym c.in_ok-whole.ensures) (listed_fits c.in_ok-fetch.fetch all (ap (λ (f : Fetch). f.asked) c.in_ok-fetch.ensures ∙ c.requires.within.2))
 
-pub read_first-requires-clause-fresh : goal.read_first-requires-clause-fresh
-read_first-requires-clause-fresh c = ap (λ (f : Fetch). f.asked) c.in_ok-fetch.ensures ∙ c.requires.within.2
-
-pub read_first-requires-clause-xids : goal.read_first-requires-clause-xids
-read_first-requires-clause-xids c = subst (λ (f : Fetch). HasXids c.args.state.now.next (stage.Reading f)) (sym c.in_ok-fetch.ensures) (read_xids c.args.fetch c.args.hashes.now c.args.state.now.next c.requires.within c.requires.can c.requires.xids)
+pub read_on-requires-clause-xids : goal.read_on-requires-clause-xids
+read_on-requires-clause-xids c =
+    let next = c.args.state.now.next in
+    subst (λ (f : Fetch). HasXids next (stage.Reading f)) (sym c.in_ok-whole.ensures) (subst (λ (f : Fetch). HasXids next (stage.Reading f)) (sym c.in_ok-fetch.ensures) (read_xids c.args.fetch c.args.hashes.now next c.requires.within c.requires.can c.requires.xids))
 
 pub list_on-requires-clause-within : goal.list_on-requires-clause-within
 list_on-requires-clause-within c = subst IsListing (sym c.in_ok-fetch.ensures) (goes_on c.args.fetch c.args.hashes.now c.requires.within c.requires.can c.if-hashes.false)

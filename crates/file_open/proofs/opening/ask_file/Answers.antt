@@ -1,0 +1,34 @@
+use Rattle.std.proofs.Common.{◌≡◌, ◌+◌, sym, ap, ◌∙◌, ℕ, List, true, false}
+use Rattle.std.specs.Prelude.{Some, is_some}
+use Rattle.client_cache.specs.Cache.{reserved, content_of}
+use Rattle.hash_calls.specs.declared.message.Lb.TheVariants as lb
+use Rattle.wire.specs.declared.message.Body.TheVariants as body
+use Rattle.wire.specs.declared.message.Message.{Message}
+use Rattle.wire.specs.declared.message.Message.TheVariants as message
+use Rattle.file_open.specs.Opening.{lease_call, hash_call}
+use Rattle.client_state.specs.State.{State}
+use Rattle.client_state.specs.View.{state_of}
+use Rattle.client_state.specs.declared.task.Stage.TheVariants as stage
+use Rattle.file_open.proofs.Comings.{sent_one}
+use Rattle.file_open.proofs.Keeping.{asks_version, asks_hashes}
+use Rattle.file_open.proofs.opening.ask_file.Goals as goal
+
+pub returns-then-is_kept-clause-ok : goal.returns-then-is_kept-clause-ok
+returns-then-is_kept-clause-ok c =
+    let s = state_of c.args.state.now in
+    let file = c.args.file in
+    let kept : is_some (content_of s.cache file) ≡ true = sym c.is_kept.ensures ∙ c.if-is_kept.true in
+    let begun : State = record s { next = s.next + 1; task = Some (record { file = file; stage = stage.Asking s.next }); cache = reserved s.cache file } in
+    let asked : List ℕ → Message = λ h. message.Call s.next (body.Lb (lb.GetLease h)) in
+    asks_version (record s { cache = reserved s.cache file }) file (content_of s.cache file) kept
+    ∙ sent_one begun (state_of c.wait_there.new.self) c.sends_one.result (lease_call s.next file) c.lease_call-call.result 0 c.in_ok-wait_there.ensures.ok c.sends_one.ensures (c.lease_call-call.ensures ∙ ap asked c.in_ok-handle.ensures)
+
+pub returns-clause-ok : goal.returns-clause-ok
+returns-clause-ok c =
+    let s = state_of c.args.state.now in
+    let file = c.args.file in
+    let none : is_some (content_of s.cache file) ≡ false = sym c.is_kept.ensures ∙ c.if-is_kept.false in
+    let begun : State = record s { next = s.next + 1; task = Some (record { file = file; stage = stage.Hashing 1 s.next }); cache = reserved s.cache file } in
+    let asked : List ℕ → Message = λ h. message.Call s.next (body.Lb (lb.GetHash (record { handle = h; offset = 0; count = 4294967295 }))) in
+    asks_hashes (record s { cache = reserved s.cache file }) file (content_of s.cache file) none
+    ∙ sent_one begun (state_of c.wait_there-2.new.self) c.sends_one-2.result (hash_call s.next file 0) c.hash_call-call.result 0 c.in_ok-wait_there-2.ensures.ok c.sends_one-2.ensures (c.hash_call-call.ensures ∙ ap asked c.in_ok-handle.ensures)

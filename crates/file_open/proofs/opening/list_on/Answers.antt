@@ -1,0 +1,24 @@
+use Rattle.std.proofs.Common.{◌+◌, ap, ◌∙◌, ℕ, List}
+use Rattle.std.specs.Prelude.{Some}
+use Rattle.chunk_cut.specs.Places.{end_of}
+use Rattle.xdr_codec.specs.Handle.{handle_bytes}
+use Rattle.hash_calls.specs.declared.message.Lb.TheVariants as lb
+use Rattle.wire.specs.declared.message.Body.TheVariants as body
+use Rattle.wire.specs.declared.message.Message.{Message}
+use Rattle.wire.specs.declared.message.Message.TheVariants as message
+use Rattle.file_open.specs.Opening.{hash_call}
+use Rattle.client_state.specs.State.{State}
+use Rattle.client_state.specs.View.{state_of}
+use Rattle.client_state.specs.declared.task.Stage.TheVariants as stage
+use Rattle.file_open.proofs.Comings.{sent_one}
+use Rattle.file_open.proofs.opening.list_on.Goals as goal
+
+pub returns-clause-ok : goal.returns-clause-ok
+returns-clause-ok c =
+    let s = state_of c.args.state.now in
+    let f = c.args.fetch in
+    let file = c.args.file in
+    let begun : State = record s { next = s.next + 1; task = Some (record { file = file; stage = stage.Listing s.next f }) } in
+    let asked : List ℕ → ℕ → Message = λ h o. message.Call s.next (body.Lb (lb.GetHash (record { handle = h; offset = o; count = 4294967295 }))) in
+    sent_one begun (state_of c.wait.new.self) c.sends_one.result (hash_call s.next file (end_of f.chunks)) c.hash_call-call.result 0 c.in_ok-wait.ensures.ok c.sends_one.ensures
+    (c.hash_call-call.ensures ∙ (ap (λ (h : List ℕ). asked h c.end_of-offset.result) c.in_ok-handle.ensures ∙ ap (asked (handle_bytes file)) (c.end_of-offset.ensures ∙ ap end_of c.as_slice.ensures)))
