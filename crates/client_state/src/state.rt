@@ -5,7 +5,7 @@ ghost use Rattle.limits.specs.declared.TheConstants.{FILE_MOST};
 ghost use Rattle.std.specs.Prelude.{◌≡◌, ◌^◌, ◌+◌, ◌<◌, ◌≤◌, ◌++◌, [], length, map, None, Some, IfOk, OnOk, OnErr, false, true};
 ghost use Rattle.client_cache.specs.Cache.{reserved};
 ghost use Rattle.client_state.specs.State.{State, evicted, forged, index_cleared, read_pending, pending, pending_in, has_call, with_local, without_local, local_bytes};
-ghost use Rattle.client_state.specs.Ending.{bad_peer, refused, denied, drops, unawaited, unknown, cut, cut_off, joined, forgets, idle, may_ask, may_walk};
+ghost use Rattle.client_state.specs.Ending.{bad_peer, refused, denied, drops, unknown, cut, cut_off, joined, forgets, idle, may_ask, may_walk};
 ghost use Rattle.client_state.specs.View.{state_of, whole_of, IsBase, IsHeld, IsSound, IsThere, StageIsThere, HasXids, IsWithin, open_left, walk_left};
 ghost use Rattle.client_state.specs.declared.task.Stage.TheVariants as stage;
 
@@ -486,20 +486,6 @@ impl ClientState {
         parts::sends(SendList::none(alloc), counts::late_counts())
     }
 
-    /// An answer to nothing that waits for one, whether or not an operation is under way.
-    fn unawaited(&mut self, alloc: Global, xid: u32) -> ClientStep
-        requires { IsSound self.old }
-        ensures ok { unawaited (state_of self.old) self.old.task xid ≡ (state_of self.new, result) }
-        ensures done { result.missed ≡ false }
-        ensures sound { IsSound self.new }
-    {
-        if self.task.is_some() {
-            self.unknown(alloc, xid)
-        } else {
-            self.cut_off(alloc)
-        }
-    }
-
     /// An answer to no call of the operation under way: to one that is forgotten, or to none.
     pub fn take_other(&mut self, alloc: Global, xid: u32) -> ClientStep
         requires sound { IsSound self.old }
@@ -510,8 +496,10 @@ impl ClientState {
     {
         if waiting::has_call(self.forgotten(), xid) {
             self.drop_answer(alloc, xid)
+        } else if self.task.is_some() {
+            self.unknown(alloc, xid)
         } else {
-            self.unawaited(alloc, xid)
+            self.cut_off(alloc)
         }
     }
 }

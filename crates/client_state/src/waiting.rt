@@ -1,9 +1,9 @@
 //! The calls that wait for their answers: `pending` and those around it in `specs/State.antt`.
 
-ghost use Rattle.std.specs.Prelude.{◌≡◌, ◌∷◌, map, take, IfOk};
+ghost use Rattle.std.specs.Prelude.{◌≡◌, [], ◌∷◌, map, take, IfOk};
 ghost use Rattle.hash_calls.specs.declared.message.LbProc.TheVariants as lb_proc;
 ghost use Rattle.wire.specs.declared.message.Program.TheVariants as program;
-ghost use Rattle.client_state.specs.State.{read_pending, store_pending, lb_pending, nfs_pending, pending_in, has_call, without_call};
+ghost use Rattle.client_state.specs.State.{read_pending, store_pending, pending_in, has_call, without_call};
 
 use crate::task::{ReadCall, Stage, StoreCall, Way};
 use hash_calls::message::LbProc;
@@ -11,16 +11,6 @@ use lb_base::items::Items;
 use nfs3_calls::message::NfsProc;
 use std::alloc::{AllocError, Global};
 use wire::message::{Pending, Program};
-
-/// A READ, as one that waits.
-fn read_pending(call: &ReadCall) -> Pending
-    ensures { result ≡ read_pending call.now }
-{
-    Pending {
-        xid: call.xid,
-        program: Program::Nfs(NfsProc::Read),
-    }
-}
 
 /// A call for a chunk of a close, as one that waits.
 fn store_pending(call: &StoreCall) -> Pending
@@ -42,7 +32,9 @@ pub fn reads_pending(alloc: Global, under: &[ReadCall]) -> Result<Vec<Pending>, 
 {
     let mut calls = Vec::new(alloc);
     for call in under {
-        calls.push(read_pending(call))?;
+        let xid = call.xid;
+        let program = Program::Nfs(NfsProc::Read);
+        calls.push(Pending { xid, program })?;
     }
     Ok(calls)
 }
@@ -58,27 +50,12 @@ fn stores_pending(alloc: Global, under: &[StoreCall]) -> Result<Vec<Pending>, Al
     Ok(calls)
 }
 
-/// One call of LBFS that waits.
-fn lb_pending(alloc: Global, procedure: LbProc, xid: u32) -> Result<Vec<Pending>, AllocError>
-    ensures { IfOk result (λ ps. ps.items ≡ lb_pending procedure xid) }
+/// One call that waits.
+fn one_pending(alloc: Global, xid: u32, program: Program) -> Result<Vec<Pending>, AllocError>
+    ensures { IfOk result (λ ps. ps.items ≡ record { xid = xid; program = program } ∷ []) }
 {
     let mut calls = Vec::new(alloc);
-    calls.push(Pending {
-        xid,
-        program: Program::Lb(procedure),
-    })?;
-    Ok(calls)
-}
-
-/// One call of NFS that waits.
-fn nfs_pending(alloc: Global, procedure: NfsProc, xid: u32) -> Result<Vec<Pending>, AllocError>
-    ensures { IfOk result (λ ps. ps.items ≡ nfs_pending procedure xid) }
-{
-    let mut calls = Vec::new(alloc);
-    calls.push(Pending {
-        xid,
-        program: Program::Nfs(procedure),
-    })?;
+    calls.push(Pending { xid, program })?;
     Ok(calls)
 }
 
@@ -87,14 +64,14 @@ pub fn pending_in(alloc: Global, stage: &Stage) -> Result<Vec<Pending>, AllocErr
     ensures { IfOk result (λ ps. ps.items ≡ pending_in stage.now) }
 {
     match stage {
-        Stage::Asking(xid) => lb_pending(alloc, LbProc::GetLease, *xid),
-        Stage::Hashing { tries: _, xid } => lb_pending(alloc, LbProc::GetHash, *xid),
-        Stage::Listing { xid, fetch: _ } => lb_pending(alloc, LbProc::GetHash, *xid),
+        Stage::Asking(xid) => one_pending(alloc, *xid, Program::Lb(LbProc::GetLease)),
+        Stage::Hashing { tries: _, xid } => one_pending(alloc, *xid, Program::Lb(LbProc::GetHash)),
+        Stage::Listing { xid, fetch: _ } => one_pending(alloc, *xid, Program::Lb(LbProc::GetHash)),
         Stage::Reading(fetch) => reads_pending(alloc, fetch.under.as_slice()),
-        Stage::Making { xid, temp: _ } => lb_pending(alloc, LbProc::MkTmpFile, *xid),
+        Stage::Making { xid, temp: _ } => one_pending(alloc, *xid, Program::Lb(LbProc::MkTmpFile)),
         Stage::Storing(store) => stores_pending(alloc, store.under.as_slice()),
-        Stage::Committing(xid) => lb_pending(alloc, LbProc::CommitTmp, *xid),
-        Stage::Walking { xid, walk } => nfs_pending(alloc, walk.procedure(), *xid),
+        Stage::Committing(xid) => one_pending(alloc, *xid, Program::Lb(LbProc::CommitTmp)),
+        Stage::Walking { xid, walk } => { one_pending(alloc, *xid, Program::Nfs(walk.procedure())) }
     }
 }
 
@@ -124,7 +101,7 @@ pub fn anew(
     ensures { IfOk result (λ ps. ps ≡ record { xid = asked; program = program.Lb lb_proc.GetHash } ∷ without_call calls.now xid) }
 {
     let others = without_call(Items::copy_of(alloc, calls)?, xid);
-    let mut all = lb_pending(alloc, LbProc::GetHash, asked)?;
+    let mut all = one_pending(alloc, asked, Program::Lb(LbProc::GetHash))?;
     all.extend_from_slice(others.as_slice())?;
     Ok(Items::from_vec(all))
 }
