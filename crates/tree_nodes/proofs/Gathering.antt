@@ -1,25 +1,23 @@
 -- Nodes that come all at once.
-use Rattle.std.proofs.Common.{◌≡◌, ℕ, zero, suc, ◌+◌, ◌<◌, ◌≤◌, List, [], ◌∷◌, length, map, drop, Option, Some, None, Bool, true, false, ◌==◌, ◌&&◌, refl, sym, ap, ◌∙◌, subst, arith, if◌then◌else◌, nat_lt}
+use Rattle.std.proofs.Common.{◌≡◌, ℕ, suc, ◌+◌, ◌<◌, ◌≤◌, List, [], ◌∷◌, length, map, Option, Some, None, Bool, true, false, ◌==◌, ◌&&◌, refl, sym, ap, ◌∙◌, subst, arith, if◌then◌else◌, nat_lt}
 use mathlib.Core.Bool.{true≢false}
-use denote.Ref.{Bor}
-use Rattle.std.specs.List.{slice_get, find, AllByRecursion}
+use Rattle.std.specs.List.{AllByRecursion}
 use Rattle.std.specs.Map.{values_of}
 use Rattle.std.specs.BTreeMap.{insert_entry}
-use Rattle.std.specs.Ordering.{nat_cmp, is_lt}
-use Rattle.std.specs.declared.cmp.Ordering.{Ordering}
-use Rattle.std.specs.declared.cmp.Ordering.TheVariants.{Less, Equal, Greater}
+use Rattle.std.specs.Ordering.{nat_cmp}
 use Rattle.std.specs.Str.{bytes_eq}
 use Rattle.std.proofs.lemmas.Slice.Eq.{bytes_eq-Decides}
 use Rattle.std.proofs.lemmas.Bool.Decides.{nat_tests}
 use Rattle.tree_nodes.specs.declared.node.Node.{Node}
 use Rattle.tree_nodes.specs.declared.slot.Slot.{Slot}
-use Rattle.tree_nodes.specs.declared.slot.Slot.TheVariants.{Gone, Taken}
-use Rattle.tree_nodes.specs.Nodes.{place_cmp, before, named, with_id, with_node, with_nodes, Differ, AreApart, AreInOrder}
-use Rattle.tree_nodes.specs.Risen.{keyed, with_risen, risen_with, seen, ShowInOrder}
-use Rattle.tree_nodes.specs.Table.{slot_id, node_in, or_blank, node_at, shown, taken_at, AreRising, IsTaken, IsTable}
-use Rattle.tree_nodes.proofs.Fronts.{all_map, some_is}
+use Rattle.tree_nodes.specs.declared.table.Table.{Table}
+use Rattle.tree_nodes.specs.Nodes.{before, named, with_id, with_node, with_nodes, Differ, AreApart}
+use Rattle.tree_nodes.specs.Risen.{keyed, with_risen, risen_with}
+use Rattle.tree_nodes.specs.Table.{slot_id, IsTable}
+use Rattle.tree_nodes.specs.View.{nodes_of, room_of, IsSound}
+use Rattle.tree_nodes.proofs.Fronts.{all_map}
 use Rattle.tree_nodes.proofs.Order.{is_named, named_is, not_true, before_trans, before_itself}
-use Rattle.tree_nodes.proofs.Lists.{all_with, named_if, comes_after, in_order_with, with_id_with}
+use Rattle.tree_nodes.proofs.Lists.{all_with, comes_after, with_id_with}
 
 -- ---- nodes that differ
 
@@ -210,47 +208,7 @@ rising_with : (ms ns : List Node) → AreIdsRising ms → AreNew ms ns → AreId
 rising_with ms [] rising new = rising
 rising_with ms (n ∷ ns) rising new = rising_with (with_risen ms n) ns (rising_more ms n rising new.0) (new_risen ms n ns new.1)
 
--- ---- in places
-
-all_slots : (P : Slot → Type 0) (ns : List Node) → AllByRecursion (λ n. P (Taken n)) ns → AllByRecursion P (map Taken ns)
-all_slots P [] all = tt
-all_slots P (n ∷ ns) all = (all.0, all_slots P ns all.1)
-
-rising_slots : (ns : List Node) → AreIdsRising ns → AreRising (map Taken ns)
-rising_slots [] rising = tt
-rising_slots (n ∷ ns) rising = (all_slots (λ t. n.id < slot_id t) ns rising.0, rising_slots ns rising.1)
-
-taken_slots : (ns : List Node) (id : ℕ) → taken_at (map Taken ns) id ≡ with_id ns id
-taken_slots [] id = refl
-taken_slots (n ∷ ns) id = taken_if (n.id == id) (taken_slots ns id)
-  where
-    taken_if : (b : Bool) → node_in (find (λ s. slot_id s == id) (map Taken ns)) ≡ with_id ns id → node_in (if b then Some (Taken n) else find (λ s. slot_id s == id) (map Taken ns)) ≡ (if b then Some n else with_id ns id)
-    taken_if true later = refl
-    taken_if false later = later
-
-at_slots : (ns : List Node) (k : ℕ) → node_at (map Taken ns) k ≡ seen ns k
-at_slots [] k = refl
-at_slots (n ∷ ns) zero = refl
-at_slots (n ∷ ns) (suc k) = at_slots ns k
-
-shown_slots : (ns : List Node) (order : List ℕ) → shown (map Taken ns) order ≡ map (seen ns) order
-shown_slots ns [] = refl
-shown_slots ns (k ∷ ks) = let first = at_slots ns k in let rest = shown_slots ns ks in λ i. first i ∷ rest i
-
-in_slots : (ns : List Node) (k : ℕ) → k < length ns → IsTaken (map Taken ns) k
-in_slots [] k within = absurd (omega (arith, within))
-in_slots (n ∷ ns) zero within = (n, refl)
-in_slots (n ∷ ns) (suc k) within = in_slots ns k (omega (arith, within))
-
-all_in : (ns : List Node) (order : List ℕ) → AllByRecursion (λ k. k < length ns) order → AllByRecursion (IsTaken (map Taken ns)) order
-all_in ns [] all = tt
-all_in ns (k ∷ ks) all = (in_slots ns k all.0, all_in ns ks all.1)
-
--- ---- what holds of them in their order
-
-in_order : (ms ns : List Node) → AreInOrder ms → AreNew ms ns → AreInOrder (with_nodes ms ns)
-in_order ms [] sorted new = sorted
-in_order ms (n ∷ ns) sorted new = in_order (with_node ms n) ns (in_order_with ms n sorted (fresh_name ms n new.0)) (new_moved (n ∷ ms) (with_node ms n) ns (λ P all. all_with P ms n all.1 all.0) new.1)
+-- ---- what is found of them
 
 abbrev or_else : Option Node → Option Node → Option Node
 or_else None o = o
@@ -276,128 +234,63 @@ found_all ns id apart = found_with [] ns id (new_first ns apart) ∙ or_none (wi
 
 -- ---- the table
 
--- what it shows
-pub shown_of : (ns rs : List Node) (slots : List Slot) (order : List ℕ) → AreApart ns → rs ≡ risen_with [] ns → slots ≡ map Taken rs → ShowInOrder rs order → shown slots order ≡ with_nodes [] ns
-shown_of ns rs slots order apart is are in_order_are = ap (λ z. shown z order) are ∙ shown_slots rs order ∙ in_order_are.shown ∙ ap (λ z. with_nodes [] z) is ∙ same_risen ns apart
-
-pub table_of : (ns rs : List Node) (slots : List Slot) (order : List ℕ) (next : ℕ) → AreApart ns → AllByRecursion (λ n. n.id < next) ns → rs ≡ risen_with [] ns → slots ≡ map Taken rs → ShowInOrder rs order → IsTable slots order next
-table_of ns rs slots order next apart below is are in_order_are =
-    let shows : shown slots order ≡ with_nodes [] ns = shown_of ns rs slots order apart is are in_order_are in
-    let same : with_nodes [] rs ≡ with_nodes [] ns = ap (λ z. with_nodes [] z) is ∙ same_risen ns apart in
-    let far : AreApart rs = subst AreApart (sym is) (apart_risen ns apart) in
-    record {
-      below = subst (λ z. AllByRecursion (λ s. slot_id s < next) z) (sym are) (all_slots (λ s. slot_id s < next) rs (subst (λ z. AllByRecursion (λ n. n.id < next) z) (sym is) (all_risen_with (λ n. n.id < next) [] ns tt below)));
-      rising = subst AreRising (sym are) (rising_slots rs (subst AreIdsRising (sym is) (rising_with [] ns tt (new_first ns apart))));
-      taken = subst (λ z. AllByRecursion (IsTaken z) order) (sym are) (all_in rs order in_order_are.within);
-      sorted = subst AreInOrder (sym shows) (in_order [] ns tt (new_first ns apart));
-      agree = λ id. ap (λ z. with_id z id) (shows ∙ sym same) ∙ found_all rs id far ∙ sym (taken_slots rs id) ∙ ap (λ z. taken_at z id) (sym are);
-    }
-
--- ---- under their names
-
-abbrev pub Key : Type 0
-Key = ℕ × Bor (List ℕ)
-
--- an entry is under its node's name
-abbrev pub IsUnderName : List Node → Key × ℕ → Type 0
-IsUnderName nodes e = (n : Node) × (slice_get nodes e.1 ≡ Some n) × (e.0.0 ≡ n.parent) × (e.0.1.now ≡ n.name)
-
-abbrev pub seen_all : List Node → List (Key × ℕ) → List Node
-seen_all nodes es = map (λ e. seen nodes e.1) es
-
-at_place : (nodes : List Node) (k : ℕ) (n : Node) → slice_get nodes k ≡ Some n → seen nodes k ≡ n
-at_place nodes k n at = ap or_blank at
-
-within_all : (nodes : List Node) (k : ℕ) (n : Node) → slice_get nodes k ≡ Some n → k < length nodes
-within_all [] k n at = absurd cc
-within_all (m ∷ ms) zero n at = omega arith
-within_all (m ∷ ms) (suc k) n at = omega (arith, within_all ms k n at)
-
-module _ (cmp : Key → Key → Ordering) (by_name : (x y : Key) → cmp x y ≡ place_cmp x.0 x.1.now y.0 y.1.now) (nodes : List Node) (key : Key) (place : ℕ) (n : Node) (at : slice_get nodes place ≡ Some n) (in_dir : key.0 ≡ n.parent) (has_name : key.1.now ≡ n.name) where
-  order_is : (e : Key × ℕ) → IsUnderName nodes e → cmp key e.0 ≡ place_cmp n.parent n.name (seen nodes e.1).parent (seen nodes e.1).name
-  order_is e under =
-      let s = at_place nodes e.1 under.0 under.1 in
-      let dir : e.0.0 ≡ (seen nodes e.1).parent = under.2 ∙ sym (ap (λ (k : Node). k.parent) s) in
-      let name : e.0.1.now ≡ (seen nodes e.1).name = under.3 ∙ sym (ap (λ (k : Node). k.name) s) in
-      by_name key e.0 ∙ (λ i. place_cmp (in_dir i) (has_name i) (dir i) (name i))
-
-  -- one more, as the list of nodes has it
-  module _ (e : Key × ℕ) (es : List (Key × ℕ)) (under : IsUnderName nodes e) (differs : Differ (seen nodes e.1) n) where
-    first_less : place_cmp n.parent n.name (seen nodes e.1).parent (seen nodes e.1).name ≡ Less → before (seen nodes e.1) n.parent n.name ≡ false
-    first_less is = not_true (before (seen nodes e.1) n.parent n.name) (λ also. clash (seen nodes e.1) n also (ap is_lt is))
-
-    first_equal : place_cmp n.parent n.name (seen nodes e.1).parent (seen nodes e.1).name ≡ Equal → ⊥
-    first_equal is = true≢false (sym (named_if n (seen nodes e.1).parent (seen nodes e.1).name is) ∙ (turned (seen nodes e.1) n differs).1)
-
-    first_greater : place_cmp n.parent n.name (seen nodes e.1).parent (seen nodes e.1).name ≡ Greater → before (seen nodes e.1) n.parent n.name ≡ true
-    first_greater is = comes_after n (seen nodes e.1) (ap is_lt is) (turned (seen nodes e.1) n differs).1
-
-  pub named_more : (es : List (Key × ℕ)) → AllByRecursion (IsUnderName nodes) es → AllByRecursion (λ m. Differ m n) (seen_all nodes es) → seen_all nodes (insert_entry cmp es key place) ≡ with_node (seen_all nodes es) n
-  named_more [] under differ = ap (λ z. z ∷ []) (at_place nodes place n at)
-  named_more (e ∷ es) under differ = by_order (place_cmp n.parent n.name (seen nodes e.1).parent (seen nodes e.1).name) refl (named_more es under.1 differ.1)
-    where
-      by_order : (r : Ordering) → place_cmp n.parent n.name (seen nodes e.1).parent (seen nodes e.1).name ≡ r → seen_all nodes (insert_entry cmp es key place) ≡ with_node (seen_all nodes es) n → seen_all nodes (insert_entry cmp (e ∷ es) key place) ≡ with_node (seen_all nodes (e ∷ es)) n
-      by_order Less is later =
-          let c : cmp key e.0 ≡ Less = order_is e under.0 ∙ is in
-          let b = first_less e es under.0 differ.0 is in
-          rw (c, b) (ap (λ z. z ∷ seen_all nodes (e ∷ es)) (at_place nodes place n at))
-      by_order Equal is later = absurd (first_equal e es under.0 differ.0 is)
-      by_order Greater is later =
-          let c : cmp key e.0 ≡ Greater = order_is e under.0 ∙ is in
-          let b = first_greater e es under.0 differ.0 is in
-          rw (c, b) (ap (λ z. seen nodes e.1 ∷ z) later)
-
-  pub under_more : (es : List (Key × ℕ)) → AllByRecursion (IsUnderName nodes) es → AllByRecursion (λ m. Differ m n) (seen_all nodes es) → AllByRecursion (IsUnderName nodes) (insert_entry cmp es key place)
-  under_more [] under differ = ((n, at, in_dir, has_name), tt)
-  under_more (e ∷ es) under differ = by_order (place_cmp n.parent n.name (seen nodes e.1).parent (seen nodes e.1).name) refl (under_more es under.1 differ.1)
-    where
-      by_order : (r : Ordering) → place_cmp n.parent n.name (seen nodes e.1).parent (seen nodes e.1).name ≡ r → AllByRecursion (IsUnderName nodes) (insert_entry cmp es key place) → AllByRecursion (IsUnderName nodes) (insert_entry cmp (e ∷ es) key place)
-      by_order Less is later = let c : cmp key e.0 ≡ Less = order_is e under.0 ∙ is in rw c ((n, at, in_dir, has_name), under)
-      by_order Equal is later = absurd (first_equal e es under.0 differ.0 is)
-      by_order Greater is later = let c : cmp key e.0 ≡ Greater = order_is e under.0 ∙ is in rw c (under.0, later)
-
-pub values_within : (nodes : List Node) (es : List (Key × ℕ)) → AllByRecursion (IsUnderName nodes) es → AllByRecursion (λ k. k < length nodes) (values_of es)
-values_within nodes [] under = tt
-values_within nodes (e ∷ es) under = (within_all nodes e.1 under.0.0 under.0.1, values_within nodes es under.1)
-
-pub seen_values : (nodes : List Node) (es : List (Key × ℕ)) → map (seen nodes) (values_of es) ≡ seen_all nodes es
-seen_values nodes [] = refl
-seen_values nodes (e ∷ es) = ap (λ z. seen nodes e.1 ∷ z) (seen_values nodes es)
-
-pub drop_at : (nodes : List Node) (k : ℕ) (n : Node) → slice_get nodes k ≡ Some n → drop k nodes ≡ n ∷ drop (suc k) nodes
-drop_at [] k n at = absurd cc
-drop_at (m ∷ ms) zero n at = ap (λ z. z ∷ ms) (some_is m n at)
-drop_at (m ∷ ms) (suc k) n at = drop_at ms k n at
-
-pub drop_next : (nodes : List Node) (k : ℕ) (n : Node) → slice_get nodes k ≡ Some n → drop k nodes ≡ n ∷ drop (k + 1) nodes
-drop_next nodes k n at = let next : k + 1 ≡ suc k = omega arith in drop_at nodes k n at ∙ ap (λ j. n ∷ drop j nodes) (sym next)
-
-pub drop_past : (nodes : List Node) (k : ℕ) → length nodes ≤ k → drop k nodes ≡ []
-drop_past [] zero past = refl
-drop_past [] (suc k) past = refl
-drop_past (n ∷ ns) zero past = absurd (omega (arith, past))
-drop_past (n ∷ ns) (suc k) past = drop_past ns k (omega (arith, past))
-
 -- what was put in so far, and what is left
-pub record AreNamed (nodes : List Node) (es : List (Key × ℕ)) (left : List Node) : Type 0 where
-  pub under : AllByRecursion (IsUnderName nodes) es
-  pub rest : with_nodes (seen_all nodes es) left ≡ with_nodes [] nodes
-  pub new : AreNew (seen_all nodes es) left
+pub record AreFilled (nodes : List Node) (next : ℕ) (t : Table) (left : List Node) : Type 0 where
+  pub sound : IsSound t
+  pub rest : with_nodes (nodes_of t) left ≡ with_nodes [] nodes
+  pub new : AreNew (nodes_of t) left
+  pub rising : AreIdsRising left
+  pub after : AllByRecursion (λ n. t.next ≤ n.id) left
+  pub below : AllByRecursion (λ n. n.id < next) left
+  pub room : length left ≤ room_of t
+  pub last : t.next ≤ next
 
-pub none_named : (nodes : List Node) → AreApart nodes → AreNamed nodes [] nodes
-none_named nodes apart = record { under = tt; rest = refl; new = new_first nodes apart }
-
-pub one_named : (cmp : Key → Key → Ordering) → ((x y : Key) → cmp x y ≡ place_cmp x.0 x.1.now y.0 y.1.now) → (nodes : List Node) (key : Key) (place : ℕ) (n : Node) → slice_get nodes place ≡ Some n → key.0 ≡ n.parent → key.1.now ≡ n.name → (es : List (Key × ℕ)) (left : List Node) → AreNamed nodes es (n ∷ left) → AreNamed nodes (insert_entry cmp es key place) left
-one_named cmp by_name nodes key place n at in_dir has_name es left named =
-    let more = named_more cmp by_name nodes key place n at in_dir has_name es named.under named.new.0 in
+pub none_filled : (nodes : List Node) (next : ℕ) (t : Table) (left : List Node) → AreApart nodes → AllByRecursion (λ n. n.id < next) nodes → left ≡ risen_with [] nodes → IsSound t → nodes_of t ≡ [] → t.next ≡ 0 → length nodes ≤ room_of t → AreFilled nodes next t left
+none_filled nodes next t left apart below are sound none zeroth room =
+    let far : AreApart left = subst AreApart (sym are) (apart_risen nodes apart) in
+    let many : length left ≡ length nodes = ap (λ (ns : List Node). length ns) are ∙ length_risen nodes in
     record {
-      under = under_more cmp by_name nodes key place n at in_dir has_name es named.under named.new.0;
-      rest = ap (λ z. with_nodes z left) more ∙ named.rest;
-      new = subst (λ z. AreNew z left) (sym more) (new_moved (n ∷ seen_all nodes es) (with_node (seen_all nodes es) n) left (λ P all. all_with P (seen_all nodes es) n all.1 all.0) named.new.1);
+      sound = sound;
+      rest = ap (λ ns. with_nodes ns left) none ∙ ap (λ ns. with_nodes [] ns) are ∙ same_risen nodes apart;
+      new = subst (λ ns. AreNew ns left) (sym none) (new_first left far);
+      rising = subst AreIdsRising (sym are) (rising_with [] nodes tt (new_first nodes apart));
+      after = all_after left;
+      below = subst (λ ns. AllByRecursion (λ n. n.id < next) ns) (sym are) (all_risen_with (λ n. n.id < next) [] nodes tt below);
+      room = omega (arith, many, room);
+      last = omega (arith, zeroth);
+    }
+  where
+    all_after : (ns : List Node) → AllByRecursion (λ n. t.next ≤ n.id) ns
+    all_after [] = tt
+    all_after (n ∷ ns) = (omega (arith, zeroth), all_after ns)
+
+pub one_filled : (nodes : List Node) (next : ℕ) (t u : Table) (n : Node) (left : List Node) → AreFilled nodes next t (n ∷ left) → nodes_of u ≡ with_node (nodes_of t) n → IsSound u → u.next ≡ n.id + 1 → room_of t ≤ room_of u + 1 → AreFilled nodes next u left
+one_filled nodes next t u n left filled more sound after room =
+    let had = filled.room in
+    let under = filled.below.0 in
+    record {
+      sound = sound;
+      rest = ap (λ ns. with_nodes ns left) more ∙ filled.rest;
+      new = subst (λ ns. AreNew ns left) (sym more) (new_moved (n ∷ nodes_of t) (with_node (nodes_of t) n) left (λ P all. all_with P (nodes_of t) n all.1 all.0) filled.new.1);
+      rising = filled.rising.1;
+      after = all_map (λ m. n.id < m.id) (λ m. u.next ≤ m.id) (λ m less. omega (arith, less, after)) left filled.rising.0;
+      below = filled.below.1;
+      room = omega (arith, had, room);
+      last = omega (arith, under, after);
     }
 
-pub all_named : (nodes : List Node) (es : List (Key × ℕ)) → AreNamed nodes es [] → ShowInOrder nodes (values_of es)
-all_named nodes es named = record { shown = seen_values nodes es ∙ named.rest; within = values_within nodes es named.under }
+pub is_fresh : (nodes : List Node) (next : ℕ) (t : Table) (n : Node) (left : List Node) → AreFilled nodes next t (n ∷ left) → named (nodes_of t) n.parent n.name ≡ None
+is_fresh nodes next t n left filled = fresh_name (nodes_of t) n filled.new.0
+
+-- a later id may be the next too
+pub still_sound : (t : Table) (next : ℕ) → IsSound t → t.next ≤ next → IsTable t.slots.items t.order.items next
+still_sound t next sound last = record {
+  below = all_map (λ (s : Slot). slot_id s < t.next) (λ s. slot_id s < next) (λ s less. omega (arith, less, last)) t.slots.items sound.below;
+  rising = sound.rising;
+  taken = sound.taken;
+  sorted = sound.sorted;
+  agree = sound.agree;
+}
 
 -- ---- under their ids
 

@@ -10,9 +10,7 @@ ghost use Rattle.tree_nodes.specs.Nodes.{named, with_node, with_nodes, AreApart,
 use crate::content::Content;
 use crate::listed;
 use crate::node::Node;
-use crate::slots::Slots;
 use crate::table::{self, Table};
-use block_list::list::BlockList;
 use lb_base::items::Name;
 use std::alloc::{AllocError, Global};
 use std::marker::Model;
@@ -48,11 +46,7 @@ impl Nodes {
         ensures next { result.next ≡ next }
     {
         Nodes {
-            table: Table {
-                slots: Slots::new(alloc),
-                order: BlockList::new(alloc),
-                next,
-            },
+            table: Table::new(alloc, next),
         }
     }
 

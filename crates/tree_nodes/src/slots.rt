@@ -123,16 +123,6 @@ impl Slots {
         slot::put(&mut self.held, place, node)
     }
 
-    /// Adds a place with a node. The one error is want of memory.
-    pub fn push(&mut self, node: Node) -> Result<(), AllocError>
-        ensures { OnOk result (self.new.items ≡ self.old.items ++ Taken node ∷ []) }
-    {
-        self.reserve(1)?;
-        let place = self.add(node.id);
-        self.put(place, node);
-        Ok(())
-    }
-
     /// Makes room for so many places more. The one error is want of memory.
     pub fn reserve(&mut self, count: usize) -> Result<(), AllocError>
         ensures room { OnOk result (length self.old.items + count ≤ self.new.capacity) }

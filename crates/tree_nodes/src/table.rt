@@ -1,6 +1,6 @@
 //! Nodes by their ids and by their names: `specs/Nodes.antt`, and how they lie `specs/Table.antt`.
 
-ghost use Rattle.std.specs.Prelude.{◌≡◌, ℕ, ◌+◌, ◌-◌, ◌<◌, ◌^◌, ◌≤◌, Option, Some, None, IfSome, IfOk, OnOk, OnErr, IsSome, is_some, length, map, take, drop, min, IsTrue, false, ◌==◌, ◌&&◌};
+ghost use Rattle.std.specs.Prelude.{◌≡◌, [], ℕ, ◌+◌, ◌-◌, ◌<◌, ◌^◌, ◌≤◌, Option, Some, None, IfSome, IfOk, OnOk, OnErr, IsSome, is_some, length, map, take, drop, min, IsTrue, false, ◌==◌, ◌&&◌};
 ghost use Rattle.std.specs.List.{slice_get, slice_set, insert, remove, AllByRecursion};
 ghost use Rattle.std.specs.Option.{option_copied};
 ghost use Rattle.tree_nodes.specs.declared.slot.Slot.TheVariants.{Gone, Taken};
@@ -18,7 +18,7 @@ use crate::slots::Slots;
 use block_list::list::BlockList;
 use lb_base::items::Name;
 use server_rules::tree::next_once_gone;
-use std::alloc::AllocError;
+use std::alloc::{AllocError, Global};
 
 /// The place of a name in the order of the nodes, or where it would be.
 #[tactic(auto, using(crate::proofs::Finds::order_past, crate::proofs::Finds::order_stays, crate::proofs::Finds::order_end))]
@@ -198,6 +198,19 @@ fn take_out(slots: &mut Slots, order: &mut BlockList, place: usize) -> (u32, Nod
 
 impl Table {
     ghost use Rattle.tree_nodes.specs.View.{nodes_of, room_of, IsSound};
+
+    /// A table of no nodes, with room for none.
+    pub fn new(alloc: Global, next: u64) -> Table
+        ensures nodes { nodes_of result ≡ [] }
+        ensures sound { IsSound result }
+        ensures next { result.next ≡ next }
+    {
+        Table {
+            slots: Slots::new(alloc),
+            order: BlockList::new(alloc),
+            next,
+        }
+    }
 
     /// Adds a node, whose id is to be new and its name not taken. It takes no memory.
     pub fn insert(&mut self, node: Node)

@@ -13,5 +13,5 @@ pub loop-node-preserved : goal.loop-node-preserved
 loop-node-preserved c =
     let nodes = c.args.nodes.items in
     let left = into_iter_items c.next.new.self in
-    subst (λ es. AreUnderIds nodes es left) (sym c.in_ok-put_under.ensures)
+    subst (λ es. AreUnderIds nodes es left) (sym c.in_ok-insert.ensures.entries)
     (one_under nodes c.loop-node.by_ids.entries c.in-Some.node left (subst (λ z. AreUnderIds nodes c.loop-node.by_ids.entries z) c.in-Some.ensures.steps.0 c.loop-node.invariant))

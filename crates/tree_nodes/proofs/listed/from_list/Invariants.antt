@@ -1,0 +1,5 @@
+use Rattle.tree_nodes.proofs.Gathering.{AreFilled}
+use Rattle.tree_nodes.proofs.listed.from_list.Given as goal
+
+abbrev pub invariant-loop-node : goal.invariant-loop-node
+invariant-loop-node l = AreFilled l.fn.nodes.items l.next l.table l.node-iterator
