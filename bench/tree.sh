@@ -17,7 +17,7 @@ names=${1:-65000}
 rounds=${2:-5}
 how=${3:-run}
 . bench/made
-copy_for tree_bench "file_tree tree_plans nfs3_calls xdr_codec lb_base"
+copy_for tree_bench "file_tree tree_reading nfs3_calls xdr_codec lb_base"
 cat >"$work/crates/tree_bench/src/main.rt" <<'EOF'
 //! Makes files in a directory, lists it and removes them, as many as said and a quarter, and prints
 //! the microseconds of each.
@@ -29,7 +29,7 @@ use std::alloc::{AllocError, Global};
 use std::rt::Runtime;
 use std::time::Instant;
 use std::{env, io};
-use tree_plans::call::{CreateMode, Held};
+use tree_reading::call::{CreateMode, Held};
 
 /// Nothing waits.
 const NONE: Held = Held {

@@ -3,11 +3,11 @@ use Rattle.std.proofs.Common.{◌≡◌, ℕ, ◌+◌, ◌≤◌, List, Option, 
 use Rattle.xdr_codec.specs.declared.status.Status.{Status}
 use Rattle.tree_nodes.specs.declared.node.Node.{Node}
 use Rattle.tree_nodes.specs.Nodes.{named}
-use Rattle.tree_plans.specs.declared.call.Changed.{Changed}
-use Rattle.tree_plans.specs.declared.call.Planned.{Planned}
-use Rattle.tree_plans.specs.declared.call.Planned.TheVariants.{Nothing, Free, Over}
+use Rattle.tree_reading.specs.declared.call.Changed.{Changed}
+use Rattle.tree_reading.specs.declared.call.Planned.{Planned}
+use Rattle.tree_reading.specs.declared.call.Planned.TheVariants.{Nothing, Free, Over}
 use Rattle.tree_reading.specs.Tree.{Tree}
-use Rattle.tree_plans.specs.Plans.{one, made_entry, name_entry}
+use Rattle.tree_reading.specs.Plans.{one, made_entry, name_entry}
 use Rattle.file_tree.specs.Step.{created, mkdir_if, remove_if, rename_if, shifted, moved, replace_if}
 
 ok_id : (x y : Changed) → ◌≡◌ {A = Result Changed Status} (Ok x) (Ok y) → y.id ≡ x.id

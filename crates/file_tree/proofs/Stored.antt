@@ -12,7 +12,7 @@ use Rattle.tree_nodes.proofs.Order.{named_is, not_true}
 use Rattle.tree_nodes.specs.Nodes.{named, with_id, with_node, without, changed, versioned}
 use Rattle.tree_nodes.specs.declared.node.Node.{Node}
 use Rattle.tree_nodes.specs.declared.node.Body.TheVariants.{File}
-use Rattle.tree_plans.proofs.Admitted.{bind_ok, stale_ok, IsPlannedGone, remove_there, rmdir_there, rename_there}
+use Rattle.tree_reading.proofs.Admitted.{bind_ok, stale_ok, IsPlannedGone, remove_there, rmdir_there, rename_there}
 use Rattle.tree_reading.proofs.Found.{some_is, found_all}
 use Rattle.file_tree.proofs.Keeping.{self_test, kept_made, kept_removed, kept_moved, kept_moved_over, kept_replaced}
 use Rattle.file_tree.proofs.Limits.{all_map, all_filter, all_changed, apart_with, apart_without, apart_changed}
@@ -20,15 +20,15 @@ use Rattle.file_tree.proofs.States.{named_id, id_is, some_node}
 use Rattle.tree_reading.specs.Chain.{◌>>=◌}
 use Rattle.file_tree.specs.Kept.{IsKept}
 use Rattle.tree_reading.specs.Names.{spelt, undotted}
-use Rattle.tree_plans.specs.Plans.{nothing, create_mode, may_create, create_plan, may_mkdir, may_remove, remove_plan, remove_done, or_not_empty, may_rmdir, rmdir_plan, spared, spared_bytes, within_file, planned_found, rename_plan, may_replace_content, replace_plan}
+use Rattle.tree_reading.specs.Plans.{nothing, create_mode, may_create, create_plan, may_mkdir, may_remove, remove_plan, remove_done, or_not_empty, may_rmdir, rmdir_plan, spared, spared_bytes, within_file, planned_found, rename_plan, may_replace_content, replace_plan}
 use Rattle.file_tree.specs.Step.{made, new_file, new_directory, removed, placed, replaced, created, create, mkdir_if, mkdir, remove_if, remove, rmdir, shifted, rename_if, rename, replace_if}
 use Rattle.file_tree.specs.Storing.{with_given, gives_made, create_gives, mkdir_gives, remove_gives, shift_gives, rename_gives, replace_gives, AreWhole, IsStored}
 use Rattle.tree_reading.specs.Tree.{Tree, root, empty, is_directory, contents_size, node_of, directory_or, file_or, directory_of, or_no_entry, or_taken}
-use Rattle.tree_plans.specs.declared.call.Changed.{Changed}
-use Rattle.tree_plans.specs.declared.call.CreateMode.{CreateMode}
-use Rattle.tree_plans.specs.declared.call.Held.{Held}
-use Rattle.tree_plans.specs.declared.call.Planned.{Planned}
-use Rattle.tree_plans.specs.declared.call.Planned.TheVariants.{Nothing, Free, Over}
+use Rattle.tree_reading.specs.declared.call.Changed.{Changed}
+use Rattle.tree_reading.specs.declared.call.CreateMode.{CreateMode}
+use Rattle.tree_reading.specs.declared.call.Held.{Held}
+use Rattle.tree_reading.specs.declared.call.Planned.{Planned}
+use Rattle.tree_reading.specs.declared.call.Planned.TheVariants.{Nothing, Free, Over}
 
 -- ---- what the checks tell
 

@@ -1,12 +1,12 @@
 -- Worked rows: what changes make of a tree, with their entries and versions.
 use Rattle.std.specs.Prelude.{◌≡◌, [], ◌∷◌, Some, None, Ok, codes, refl}
 use Rattle.sha1.specs.Sha1.{sha1}
-use Rattle.tree_plans.specs.declared.call.CreateMode.TheVariants.{Unchecked, Guarded}
-use Rattle.tree_plans.specs.declared.entry.EntryKind.TheVariants as entry_kind
+use Rattle.tree_reading.specs.declared.call.CreateMode.TheVariants.{Unchecked, Guarded}
+use Rattle.tree_reading.specs.declared.entry.EntryKind.TheVariants as entry_kind
 use Rattle.tree_reading.specs.Tree.{root, empty}
 use Rattle.file_tree.specs.Step.{create, mkdir, remove, rmdir, rename, replace}
 use Rattle.tree_reading.specs.Rows.{file, directory, tree}
-use Rattle.tree_plans.specs.Rows.{none}
+use Rattle.tree_reading.specs.PlanRows.{none}
 
 -- a first file: the root's version is the count of changes
 row_make : create empty none 1 (codes "a") Guarded ≡ (record { nodes = root 1 ∷ file 2 1 (codes "a") 1 [] ∷ []; next = 3; changes = 1 }, Ok (record { id = 2; version = 1; first = Some (record { file = 2; version = 1; kind = entry_kind.Make; len = 0; sha1 = sha1 [] }); second = None }))

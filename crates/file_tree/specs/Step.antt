@@ -1,16 +1,16 @@
--- What the calls that change a tree make of it; what they come to, or are refused for, is in `tree_plans`.
+-- What the calls that change a tree make of it; what they come to, or are refused for, is in `tree_reading`.
 use Rattle.std.specs.Prelude.{ℕ, ◌+◌, List, [], length, Option, Some, None, Result, Ok, Err}
 use Rattle.xdr_codec.specs.declared.status.Status.{Status}
 use Rattle.tree_nodes.specs.declared.node.Node.{Node}
 use Rattle.tree_nodes.specs.declared.node.Body.TheVariants.{Directory, File}
 use Rattle.tree_nodes.specs.Nodes.{named, with_node, without, changed, versioned}
-use Rattle.tree_plans.specs.declared.call.CreateMode.{CreateMode}
-use Rattle.tree_plans.specs.declared.call.Held.{Held}
-use Rattle.tree_plans.specs.declared.call.Changed.{Changed}
-use Rattle.tree_plans.specs.declared.call.Planned.{Planned}
-use Rattle.tree_plans.specs.declared.call.Planned.TheVariants.{Nothing, Free, Over}
+use Rattle.tree_reading.specs.declared.call.CreateMode.{CreateMode}
+use Rattle.tree_reading.specs.declared.call.Held.{Held}
+use Rattle.tree_reading.specs.declared.call.Changed.{Changed}
+use Rattle.tree_reading.specs.declared.call.Planned.{Planned}
+use Rattle.tree_reading.specs.declared.call.Planned.TheVariants.{Nothing, Free, Over}
 use Rattle.tree_reading.specs.Tree.{Tree}
-use Rattle.tree_plans.specs.Plans.{one, made_entry, name_entry, commit_entry, create_plan, may_mkdir, remove_plan, rmdir_plan, rename_plan, replace_plan}
+use Rattle.tree_reading.specs.Plans.{one, made_entry, name_entry, commit_entry, create_plan, may_mkdir, remove_plan, rmdir_plan, rename_plan, replace_plan}
 
 -- ---- what each call makes of the tree
 

@@ -17,9 +17,9 @@ use Rattle.file_tree.specs.Kept.{IsKept}
 use Rattle.file_tree.specs.Step.{made, new_file, new_directory, removed, moved, replaced}
 use Rattle.tree_reading.specs.Tree.{Tree}
 use Rattle.file_tree.specs.View.{AreIdsApart}
-use Rattle.tree_plans.specs.declared.call.Changed.{Changed}
-use Rattle.tree_plans.specs.declared.call.Planned.{Planned}
-use Rattle.tree_plans.specs.declared.call.Planned.TheVariants.{Nothing, Free, Over}
+use Rattle.tree_reading.specs.declared.call.Changed.{Changed}
+use Rattle.tree_reading.specs.declared.call.Planned.{Planned}
+use Rattle.tree_reading.specs.declared.call.Planned.TheVariants.{Nothing, Free, Over}
 
 abbrev pub kind_of : Body → NodeKind
 kind_of Directory = node_kind.Directory

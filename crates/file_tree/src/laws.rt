@@ -3,11 +3,11 @@
 ghost use Rattle.std.specs.Prelude.{◌≡◌, ℕ, ◌+◌, ◌≤◌, List, [], length, None, Ok};
 ghost use Rattle.store.specs.declared.record.Kept.{Kept};
 ghost use Rattle.file_tree.specs.Storing.{with_given, create_gives, mkdir_gives, remove_gives, rename_gives, replace_gives, IsStored};
-ghost use Rattle.tree_plans.specs.declared.call.Changed.{Changed};
-ghost use Rattle.tree_plans.specs.declared.call.CreateMode.{CreateMode};
-ghost use Rattle.tree_plans.specs.declared.call.Held.{Held};
+ghost use Rattle.tree_reading.specs.declared.call.Changed.{Changed};
+ghost use Rattle.tree_reading.specs.declared.call.CreateMode.{CreateMode};
+ghost use Rattle.tree_reading.specs.declared.call.Held.{Held};
 ghost use Rattle.tree_reading.specs.Tree.{Tree, empty};
-ghost use Rattle.tree_plans.specs.Plans.{create_plan, may_mkdir, remove_plan, rmdir_plan, rename_plan, replace_plan};
+ghost use Rattle.tree_reading.specs.Plans.{create_plan, may_mkdir, remove_plan, rmdir_plan, rename_plan, replace_plan};
 ghost use Rattle.file_tree.specs.Step.{create, mkdir, remove, rmdir, rename, replace, made};
 
 /// The id that the next node gets never falls, and a node that is made gets that id and raises it: so

@@ -1,7 +1,7 @@
 //! The tree of files and directories, and what its calls make of it. The changes are defined in
 //! `specs/Step.antt`, what a tree opens with in `specs/Opening.antt`, and what a store keeps of a tree
-//! in `specs/Kept.antt`. What a call comes to, or why it is refused, `tree_plans` says, and what is read
-//! of a tree, `tree_reading`.
+//! in `specs/Kept.antt`. What is read of a tree, and what a call comes to, or why it is refused,
+//! `tree_reading` says.
 #![tactic(auto)]
 
 pub mod laws;

@@ -1,7 +1,7 @@
 //! The calls that change a tree (`specs/Step.antt`).
 
 ghost use Rattle.std.specs.Prelude.{◌≡◌, ◌+◌, ◌<◌, ◌≤◌, [], IfOk};
-ghost use Rattle.tree_plans.specs.Plans.{remove_plan, rmdir_plan, rename_plan, replace_plan, IsPlannedMove, may, may_create, may_remove, may_rmdir, may_replace_content};
+ghost use Rattle.tree_reading.specs.Plans.{remove_plan, rmdir_plan, rename_plan, replace_plan, IsPlannedMove, may, may_create, may_remove, may_rmdir, may_replace_content};
 ghost use Rattle.file_tree.specs.Step.{create, mkdir, remove, rmdir, rename, replace};
 ghost use Rattle.tree_reading.specs.Chain.{refused};
 ghost use Rattle.file_tree.specs.State.{state_of, IsState};
@@ -12,12 +12,12 @@ use lb_base::items::Name;
 use store::record::Head;
 use tree_nodes::content::Content;
 use tree_nodes::node::{Body, Node};
-use tree_plans::call::{Call, Changed, CreateMode, Held, Planned, Spot};
-use tree_plans::{answers, plans};
+use tree_reading::call::{Call, Changed, CreateMode, Held, Planned, Spot};
+use tree_reading::{answers, plans};
 use xdr_codec::status::Status;
 
 /// CREATE. It needs the place of one node, and takes no memory.
-#[tactic(auto, using(tree_plans::proofs::Admitted::create_free))]
+#[tactic(auto, using(tree_reading::proofs::Admitted::create_free))]
 pub fn create(
     tree: &mut TreeState,
     held: Held,
@@ -55,7 +55,7 @@ fn new_file(tree: &TreeState, id: u64, dir: u64, name: Name) -> Node
 }
 
 /// MKDIR. It needs the place of one node, and takes no memory.
-#[tactic(auto, using(tree_plans::proofs::Admitted::mkdir_free))]
+#[tactic(auto, using(tree_reading::proofs::Admitted::mkdir_free))]
 pub fn mkdir(tree: &mut TreeState, held: Held, dir: u64, name: Name) -> Result<Changed, Status>
     requires state { IsState tree.old }
     requires room { 0 < tree.old.nodes.room }
@@ -85,7 +85,7 @@ fn new_directory(id: u64, dir: u64, name: Name, version: u64) -> Node
 }
 
 /// REMOVE, once nothing blocks it. It takes no memory.
-#[tactic(auto, using(crate::proofs::Limits::bounds, tree_plans::proofs::Admitted::remove_there))]
+#[tactic(auto, using(crate::proofs::Limits::bounds, tree_reading::proofs::Admitted::remove_there))]
 pub fn remove(tree: &mut TreeState, held: Held, dir: u64, name: &[u8]) -> Result<Changed, Status>
     requires { IsState tree.old }
     ensures done { remove (state_of tree.old) held dir name.now ≡ (state_of tree.new, result) }
@@ -107,7 +107,7 @@ pub fn plan_remove(tree: &TreeState, held: Held, dir: u64, name: &[u8]) -> Resul
 }
 
 /// RMDIR. It takes no memory.
-#[tactic(auto, using(crate::proofs::Limits::bounds, tree_plans::proofs::Admitted::rmdir_there))]
+#[tactic(auto, using(crate::proofs::Limits::bounds, tree_reading::proofs::Admitted::rmdir_there))]
 pub fn rmdir(tree: &mut TreeState, held: Held, dir: u64, name: &[u8]) -> Result<Changed, Status>
     requires { IsState tree.old }
     ensures done { rmdir (state_of tree.old) held dir name.now ≡ (state_of tree.new, result) }
@@ -129,7 +129,7 @@ pub fn plan_rmdir(tree: &TreeState, held: Held, dir: u64, name: &[u8]) -> Result
 }
 
 /// COMMITTMP, once its content is whole and nothing blocks it. It takes no memory.
-#[tactic(auto, using(crate::proofs::Limits::bounds, tree_plans::proofs::Admitted::replace_there))]
+#[tactic(auto, using(crate::proofs::Limits::bounds, tree_reading::proofs::Admitted::replace_there))]
 pub fn replace(
     tree: &mut TreeState,
     held: Held,

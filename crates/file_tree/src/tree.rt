@@ -1,5 +1,5 @@
-//! The tree: its one public face. What is read of it is defined in `tree_reading`, what its calls come
-//! to in `tree_plans`, and what they make of it in `specs/Step.antt`.
+//! The tree: its one public face. What is read of it, and what its calls come to, is defined in
+//! `tree_reading`, and what they make of it in `specs/Step.antt`.
 
 ghost use Rattle.std.specs.Prelude.{◌≡◌, ◌+◌, ◌<◌, ◌≤◌, IfOk, IfSome, OnOk, OnErr, length};
 ghost use Rattle.std.specs.Option.{option_copied};
@@ -7,7 +7,7 @@ ghost use Rattle.tree_nodes.specs.Nodes.{with_id};
 ghost use Rattle.file_tree.specs.Opening.{can_open, opens};
 ghost use Rattle.tree_reading.specs.Tree.{empty, content_of, contents_size, file_most};
 ghost use Rattle.tree_reading.specs.Reading.{lookup, attr, version, content, chunks, read, list, stands_for, Answers};
-ghost use Rattle.tree_plans.specs.Plans.{may, create_plan, may_mkdir, remove_plan, rmdir_plan, rename_plan, replace_plan};
+ghost use Rattle.tree_reading.specs.Plans.{may, create_plan, may_mkdir, remove_plan, rmdir_plan, rename_plan, replace_plan};
 ghost use Rattle.file_tree.specs.Step.{create, mkdir, remove, rmdir, rename, replace};
 ghost use Rattle.tree_reading.specs.View.{lent_list, tree_of};
 ghost use Rattle.file_tree.specs.View.{IsWithinLimits};
@@ -24,9 +24,9 @@ use store::record::Head;
 use tree_nodes::content::Content;
 use tree_nodes::node::{Body, Node};
 use tree_nodes::nodes::Nodes;
-use tree_plans::call::{Call, Changed, CreateMode, Held, Planned};
-use tree_plans::plans;
+use tree_reading::call::{Call, Changed, CreateMode, Held, Planned};
 use tree_reading::error::TreeErr;
+use tree_reading::plans;
 use tree_reading::reading::{self, Looked, Standing};
 use xdr_codec::attr::Attr;
 use xdr_codec::status::Status;

@@ -15,7 +15,7 @@ use Rattle.wire.specs.declared.message.Body.TheVariants as body
 use Rattle.wire.specs.declared.message.Message.TheVariants as message
 use Rattle.tree_reading.specs.Tree.{Tree, node_of}
 use Rattle.tree_reading.specs.Reading.{attr, attr_of}
-use Rattle.tree_plans.specs.declared.call.Changed.{Changed}
+use Rattle.tree_reading.specs.declared.call.Changed.{Changed}
 use Rattle.tree_reading.proofs.Found.{id_bounded}
 use Rattle.file_tree.proofs.Limits.{bounds}
 use Rattle.tree_calls.specs.Changing.{known, before, before_of, both_sides, no_side, made_of, created, made_directory, removed_directory, removed, renamed, refused_rename, renames, said}
@@ -30,8 +30,8 @@ use Rattle.server_law.proofs.Trees.{nodes_of, IsBounded}
 use Rattle.path_calls.specs.declared.walk.Goal.{Goal}
 use Rattle.path_calls.specs.declared.walk.Goal.TheVariants as goal
 use Rattle.file_tree.specs.Step.{create, mkdir, rmdir, remove, rename}
-use Rattle.tree_plans.specs.declared.call.CreateMode.TheVariants as mode
-use Rattle.tree_plans.specs.declared.call.Held.{Held}
+use Rattle.tree_reading.specs.declared.call.CreateMode.TheVariants as mode
+use Rattle.tree_reading.specs.declared.call.Held.{Held}
 use Rattle.kept_promise.proofs.Makings.{made_by}
 use Rattle.kept_promise.proofs.NamesSpelled.{node_fits, stale_is}
 use Rattle.kept_promise.proofs.Departures.{comes_by}

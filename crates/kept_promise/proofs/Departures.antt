@@ -14,14 +14,14 @@ use Rattle.tree_nodes.specs.declared.node.Body.{Body}
 use Rattle.tree_nodes.specs.declared.node.Body.TheVariants.{File as Plain}
 use Rattle.tree_nodes.specs.Nodes.{with_id, named}
 use Rattle.tree_reading.specs.Chain.{◌>>=◌}
-use Rattle.tree_plans.specs.Plans.{one, move_done, gone_entry, name_entry}
+use Rattle.tree_reading.specs.Plans.{one, move_done, gone_entry, name_entry}
 use Rattle.file_tree.specs.Step.{removed, moved}
 use Rattle.file_tree.proofs.States.{named_id}
 use Rattle.tree_reading.specs.Tree.{Tree, is_directory, or_stale, directory_of, directory_or}
-use Rattle.tree_plans.specs.declared.call.Changed.{Changed}
-use Rattle.tree_plans.specs.declared.call.Held.{Held}
-use Rattle.tree_plans.specs.declared.entry.Entry.{Entry}
-use Rattle.tree_plans.specs.declared.entry.EntryKind.TheVariants as kind
+use Rattle.tree_reading.specs.declared.call.Changed.{Changed}
+use Rattle.tree_reading.specs.declared.call.Held.{Held}
+use Rattle.tree_reading.specs.declared.entry.Entry.{Entry}
+use Rattle.tree_reading.specs.declared.entry.EntryKind.TheVariants as kind
 use Rattle.tree_calls.specs.Telling.{id_of}
 use Rattle.tree_calls.specs.Changing.{said}
 use Rattle.tree_calls.specs.Waiting.{removing, asks_remove, removes_in, renaming, asks_rename, renames_in, some, settles, file_of, entries_of, spot_of}

@@ -13,14 +13,14 @@ use Rattle.tree_nodes.specs.Nodes.{with_id, named}
 use Rattle.tree_reading.specs.Chain.{◌>>=◌}
 use Rattle.tree_reading.specs.Reading.{stands_for, standing_of, version}
 use Rattle.tree_reading.specs.Tree.{Tree, is_directory}
-use Rattle.tree_plans.specs.Plans.{one, nothing, move_done, gone_entry, name_entry, remove_plan, is_same, rename_plan}
+use Rattle.tree_reading.specs.Plans.{one, nothing, move_done, gone_entry, name_entry, remove_plan, is_same, rename_plan}
 use Rattle.file_tree.specs.Step.{remove_if, remove, removed, moved, rename, rename_if}
-use Rattle.tree_plans.specs.declared.call.Changed.{Changed}
-use Rattle.tree_plans.specs.declared.call.Held.{Held}
-use Rattle.tree_plans.specs.declared.call.Planned.TheVariants as plan
+use Rattle.tree_reading.specs.declared.call.Changed.{Changed}
+use Rattle.tree_reading.specs.declared.call.Held.{Held}
+use Rattle.tree_reading.specs.declared.call.Planned.TheVariants as plan
 use Rattle.tree_reading.specs.declared.reading.Standing.{Standing}
-use Rattle.tree_plans.specs.declared.entry.Entry.{Entry}
-use Rattle.tree_plans.specs.declared.entry.EntryKind.TheVariants as kind
+use Rattle.tree_reading.specs.declared.entry.Entry.{Entry}
+use Rattle.tree_reading.specs.declared.entry.EntryKind.TheVariants as kind
 use Rattle.file_tree.proofs.States.{named_id}
 use Rattle.tree_calls.specs.declared.asked.Asked.{Asked}
 use Rattle.tree_calls.specs.declared.asked.Asked.TheVariants as asked

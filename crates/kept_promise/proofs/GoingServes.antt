@@ -8,9 +8,9 @@ use Rattle.wire.specs.declared.message.Message.TheVariants as message
 use Rattle.wire.specs.declared.message.Program.TheVariants as program
 use Rattle.tree_nodes.specs.Nodes.{with_id}
 use Rattle.tree_reading.specs.Tree.{Tree, contents_size}
-use Rattle.tree_plans.specs.declared.call.Changed.{Changed as TreeChange}
-use Rattle.tree_plans.specs.declared.call.Held.{Held}
-use Rattle.tree_plans.specs.declared.entry.Entry.{Entry as TreeEntry}
+use Rattle.tree_reading.specs.declared.call.Changed.{Changed as TreeChange}
+use Rattle.tree_reading.specs.declared.call.Held.{Held}
+use Rattle.tree_reading.specs.declared.entry.Entry.{Entry as TreeEntry}
 use Rattle.tree_calls.specs.Changing.{said}
 use Rattle.tree_calls.specs.Waiting.{file_of, entries_of}
 use Rattle.tree_calls.specs.declared.asked.Asked.{Asked}

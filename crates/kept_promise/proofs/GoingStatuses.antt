@@ -8,14 +8,14 @@ use Rattle.tree_nodes.specs.Nodes.{named, names}
 use Rattle.tree_reading.specs.Chain.{◌>>=◌}
 use Rattle.tree_reading.specs.Names.{spelt, undotted}
 use Rattle.tree_reading.specs.Reading.{stands_for, version}
-use Rattle.tree_plans.specs.Plans.{remove_done, may_remove, remove_plan, Target, Target.itself, or_within, may_replace, rename_over, is_same, rename_found, planned, rename_plan, spared, is_node}
+use Rattle.tree_reading.specs.Plans.{remove_done, may_remove, remove_plan, Target, Target.itself, or_within, may_replace, rename_over, is_same, rename_found, planned, rename_plan, spared, is_node}
 use Rattle.file_tree.specs.Step.{remove_if, remove, rename_if, rename}
 use Rattle.tree_reading.specs.Tree.{Tree, is_directory, is_within, node_of, directory_of, directory_or, file_or, or_no_entry}
-use Rattle.tree_plans.specs.declared.call.Changed.{Changed}
-use Rattle.tree_plans.specs.declared.call.Held.{Held}
-use Rattle.tree_plans.specs.declared.call.Planned.{Planned}
-use Rattle.tree_plans.specs.declared.call.Planned.TheVariants as plan
-use Rattle.tree_plans.specs.declared.call.Spot.{Spot}
+use Rattle.tree_reading.specs.declared.call.Changed.{Changed}
+use Rattle.tree_reading.specs.declared.call.Held.{Held}
+use Rattle.tree_reading.specs.declared.call.Planned.{Planned}
+use Rattle.tree_reading.specs.declared.call.Planned.TheVariants as plan
+use Rattle.tree_reading.specs.declared.call.Spot.{Spot}
 use Rattle.tree_reading.specs.declared.reading.Standing.{Standing}
 use Rattle.tree_calls.specs.declared.asked.Removing.{Removing}
 use Rattle.tree_calls.specs.declared.asked.Renaming.{Renaming}

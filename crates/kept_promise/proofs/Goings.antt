@@ -11,13 +11,13 @@ use Rattle.tree_nodes.specs.Nodes.{with_id, named, names, without, versioned}
 use Rattle.tree_nodes.proofs.Lists.{with_id_with, with_id_without}
 use Rattle.tree_reading.specs.Chain.{◌>>=◌}
 use Rattle.tree_reading.specs.Tree.{Tree, is_directory}
-use Rattle.tree_plans.specs.Plans.{Target, Target.itself, Target.over, spared, last_version, gone_entry, one, nothing, move_done, remove_done, remove_plan, or_within, may_replace, rename_over, is_same, planned as planned_as, planned_found, rename_plan}
+use Rattle.tree_reading.specs.Plans.{Target, Target.itself, Target.over, spared, last_version, gone_entry, one, nothing, move_done, remove_done, remove_plan, or_within, may_replace, rename_over, is_same, planned as planned_as, planned_found, rename_plan}
 use Rattle.file_tree.specs.Step.{remove_if, remove, removed, placed, moved_at, moved, shifted, rename_if, rename, create, mkdir, rmdir}
-use Rattle.tree_plans.specs.declared.call.Changed.{Changed}
-use Rattle.tree_plans.specs.declared.call.CreateMode.TheVariants as mode
-use Rattle.tree_plans.specs.declared.call.Held.{Held}
-use Rattle.tree_plans.specs.declared.call.Planned.{Planned}
-use Rattle.tree_plans.specs.declared.call.Planned.TheVariants as plan
+use Rattle.tree_reading.specs.declared.call.Changed.{Changed}
+use Rattle.tree_reading.specs.declared.call.CreateMode.TheVariants as mode
+use Rattle.tree_reading.specs.declared.call.Held.{Held}
+use Rattle.tree_reading.specs.declared.call.Planned.{Planned}
+use Rattle.tree_reading.specs.declared.call.Planned.TheVariants as plan
 use Rattle.tree_calls.specs.Waiting.{asks_remove, asks_rename, remove_again, rename_again, spot_of}
 use Rattle.path_calls.specs.declared.walk.Goal.{Goal}
 use Rattle.path_calls.specs.declared.walk.Goal.TheVariants as goal

@@ -5,7 +5,7 @@ use Rattle.register_model.specs.declared.op.Outcome.{Outcome}
 use Rattle.register_model.specs.declared.op.Outcome.TheVariants as told
 use Rattle.register_model.specs.declared.op.Word.TheVariants as words
 use Rattle.trace_replay.specs.Book.{first_version}
-use Rattle.tree_plans.specs.declared.entry.EntryKind.{EntryKind}
+use Rattle.tree_reading.specs.declared.entry.EntryKind.{EntryKind}
 use Rattle.register_model.specs.Register.{IsFit}
 use Rattle.trace_replay.specs.Faithful.{IsKind, HasJournal, left_by as left_of}
 use Rattle.trace_ends.specs.Core.{is_of_file}

@@ -14,9 +14,9 @@ use Rattle.trace_replay.specs.declared.opening.TheConstants.{ROOT}
 use Rattle.xdr_codec.specs.declared.status.Status.{Status}
 use Rattle.tree_reading.specs.Tree.{Tree}
 use Rattle.file_tree.specs.Step.{create, mkdir, remove, rmdir, rename}
-use Rattle.tree_plans.specs.declared.call.Changed.{Changed}
-use Rattle.tree_plans.specs.declared.call.CreateMode.TheVariants as mode
-use Rattle.tree_plans.specs.declared.call.Held.{Held}
+use Rattle.tree_reading.specs.declared.call.Changed.{Changed}
+use Rattle.tree_reading.specs.declared.call.CreateMode.TheVariants as mode
+use Rattle.tree_reading.specs.declared.call.Held.{Held}
 use Rattle.nfs3_calls.specs.declared.message.Nfs.{Nfs}
 use Rattle.nfs3_calls.specs.declared.message.Nfs.TheVariants as nfs
 use Rattle.wire.specs.declared.message.Body.TheVariants as body

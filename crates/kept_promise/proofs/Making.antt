@@ -1,7 +1,7 @@
 -- A commit that waits is made once it is the first, where its file is there: it has its room.
 use Rattle.std.proofs.Common.{◌≡◌, ℕ, ◌+◌, List, [], ◌∷◌, ◌++◌, length, Some, ap, ◌∙◌, arith}
 use Rattle.chunk_places.specs.Places.{indexed}
-use Rattle.tree_plans.specs.Plans.{commit_entry}
+use Rattle.tree_reading.specs.Plans.{commit_entry}
 use Rattle.file_tree.specs.Step.{replaced}
 use Rattle.hash_calls.specs.declared.message.Lb.TheVariants as lb
 use Rattle.wire.specs.declared.message.Body.TheVariants as body

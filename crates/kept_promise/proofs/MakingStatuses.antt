@@ -9,11 +9,11 @@ use Rattle.tree_nodes.specs.Nodes.{named, names}
 use Rattle.tree_reading.specs.Chain.{◌>>=◌}
 use Rattle.tree_reading.specs.Names.{is_dot_dot, is_misspelt, spelt, undotted}
 use Rattle.tree_reading.specs.Tree.{Tree, is_directory, directory_of, directory_or, or_no_entry, or_taken, changes_most}
-use Rattle.tree_plans.specs.Plans.{spared, nothing, create_found, may_create, create_plan, may_mkdir, or_not_empty, remove_done, may_rmdir, rmdir_plan}
+use Rattle.tree_reading.specs.Plans.{spared, nothing, create_found, may_create, create_plan, may_mkdir, or_not_empty, remove_done, may_rmdir, rmdir_plan}
 use Rattle.file_tree.specs.Step.{created, create, mkdir_if, mkdir, remove_if, rmdir}
-use Rattle.tree_plans.specs.declared.call.Changed.{Changed}
-use Rattle.tree_plans.specs.declared.call.CreateMode.TheVariants as mode
-use Rattle.tree_plans.specs.declared.call.Held.{Held}
+use Rattle.tree_reading.specs.declared.call.Changed.{Changed}
+use Rattle.tree_reading.specs.declared.call.CreateMode.TheVariants as mode
+use Rattle.tree_reading.specs.declared.call.Held.{Held}
 use Rattle.trace_replay.specs.Complete.{IsNameRefused}
 use Rattle.kept_promise.proofs.Common.{Contains, Contains-append_left, Contains-push}
 use Rattle.kept_promise.proofs.Checks.{FailsBy, done, fails, chain, directory_fails, spelt_fails}

@@ -8,9 +8,9 @@ use Rattle.tree_nodes.specs.Nodes.{with_id, with_node, without, versioned}
 use Rattle.tree_nodes.proofs.Lists.{with_id_with, with_id_without, with_id_changed}
 use Rattle.tree_reading.specs.Tree.{Tree, is_directory}
 use Rattle.file_tree.specs.Step.{made, removed, new_file, new_directory}
-use Rattle.tree_plans.specs.declared.call.Changed.{Changed}
-use Rattle.tree_plans.specs.declared.call.CreateMode.TheVariants as mode
-use Rattle.tree_plans.specs.declared.call.Held.{Held}
+use Rattle.tree_reading.specs.declared.call.Changed.{Changed}
+use Rattle.tree_reading.specs.declared.call.CreateMode.TheVariants as mode
+use Rattle.tree_reading.specs.declared.call.Held.{Held}
 use Rattle.file_tree.proofs.States.{named_id}
 use Rattle.path_calls.specs.declared.walk.Goal.{Goal}
 use Rattle.path_calls.specs.declared.walk.Goal.TheVariants as goal
@@ -23,8 +23,8 @@ use Rattle.kept_promise.proofs.TreeBounds.{Stays, stays_same, create_stays, mkdi
 use Rattle.kept_promise.proofs.Makings.{step_by, AfterAt, EntryAt, MadeSo, refuses, enters, made_walk}
 use Rattle.kept_promise.proofs.PathNames.{is_building}
 use Rattle.path_calls.specs.declared.walk.Walk.{Walk}
-use Rattle.tree_plans.specs.declared.entry.Entry.{Entry as TreeEntry}
-use Rattle.tree_plans.specs.declared.entry.EntryKind.TheVariants as kind
+use Rattle.tree_reading.specs.declared.entry.Entry.{Entry as TreeEntry}
+use Rattle.tree_reading.specs.declared.entry.EntryKind.TheVariants as kind
 use Rattle.trace_replay.specs.Naming.{entry_file}
 use Rattle.trace_ends.specs.Core.{is_of_file}
 use Rattle.server_law.proofs.TreeCalls.{ok_is}

@@ -17,13 +17,13 @@ use Rattle.tree_nodes.specs.Nodes.{named}
 use Rattle.tree_reading.specs.Chain.{◌>>=◌}
 use Rattle.tree_reading.specs.Names.{spelt, undotted}
 use Rattle.tree_reading.specs.Tree.{Tree, is_directory, directory_of, directory_or, or_no_entry}
-use Rattle.tree_plans.specs.Plans.{create_plan, create_mode, create_found, may_create, may_mkdir, rmdir_plan, may_rmdir, or_not_empty, remove_done, gone_entry, made_entry, name_entry, nothing, one, spared}
+use Rattle.tree_reading.specs.Plans.{create_plan, create_mode, create_found, may_create, may_mkdir, rmdir_plan, may_rmdir, or_not_empty, remove_done, gone_entry, made_entry, name_entry, nothing, one, spared}
 use Rattle.file_tree.specs.Step.{create, created as create_made, mkdir, mkdir_if, remove, rename, rmdir, remove_if, removed, made, new_file, new_directory}
-use Rattle.tree_plans.specs.declared.call.Changed.{Changed}
-use Rattle.tree_plans.specs.declared.call.CreateMode.TheVariants as mode
-use Rattle.tree_plans.specs.declared.call.Held.{Held}
-use Rattle.tree_plans.specs.declared.entry.Entry.{Entry}
-use Rattle.tree_plans.specs.declared.entry.EntryKind.TheVariants as kind
+use Rattle.tree_reading.specs.declared.call.Changed.{Changed}
+use Rattle.tree_reading.specs.declared.call.CreateMode.TheVariants as mode
+use Rattle.tree_reading.specs.declared.call.Held.{Held}
+use Rattle.tree_reading.specs.declared.entry.Entry.{Entry}
+use Rattle.tree_reading.specs.declared.entry.EntryKind.TheVariants as kind
 use Rattle.tree_calls.specs.Telling.{id_of, or_bad_handle}
 use Rattle.tree_calls.specs.Changing.{before, both_sides, no_side, said, with_done, made_of, created, creates, made_directory, mkdirs, removed_directory, rmdirs}
 use Rattle.tree_calls.specs.Waiting.{creates_in, mkdirs_in, rmdirs_in}

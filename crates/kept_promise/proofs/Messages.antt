@@ -19,7 +19,7 @@ use Rattle.kept_promise.proofs.Makings.{step_by}
 use Rattle.kept_promise.proofs.Goings.{RefusedAs}
 use Rattle.tree_calls.specs.declared.asked.Asked.{Asked}
 use Rattle.tree_calls.specs.declared.asked.Asked.TheVariants as asked
-use Rattle.tree_plans.specs.declared.call.Changed.{Changed as TreeChange}
+use Rattle.tree_reading.specs.declared.call.Changed.{Changed as TreeChange}
 use Rattle.path_calls.specs.Told.{walk_told}
 use Rattle.path_calls.specs.declared.answers.Ended.TheVariants as walk_end
 use Rattle.path_calls.specs.declared.answers.Told.TheVariants as leading

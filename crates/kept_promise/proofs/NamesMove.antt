@@ -7,10 +7,10 @@ use Rattle.wire.specs.declared.message.Message.TheVariants as message
 use Rattle.tree_nodes.specs.declared.node.Node.{Node}
 use Rattle.tree_nodes.specs.declared.node.Body.TheVariants.{File as Plain}
 use Rattle.tree_nodes.specs.Nodes.{names, changed}
-use Rattle.tree_plans.specs.declared.call.Changed.{Changed}
-use Rattle.tree_plans.specs.declared.call.Held.{Held}
+use Rattle.tree_reading.specs.declared.call.Changed.{Changed}
+use Rattle.tree_reading.specs.declared.call.Held.{Held}
 use Rattle.file_tree.specs.Step.{replace_if}
-use Rattle.tree_plans.specs.Plans.{replace_plan}
+use Rattle.tree_reading.specs.Plans.{replace_plan}
 use Rattle.tree_calls.specs.Waiting.{commits, file_of, settles as tree_settles}
 use Rattle.tree_calls.specs.Changing.{said}
 use Rattle.tree_calls.specs.declared.asked.Asked.{Asked}

@@ -6,7 +6,7 @@ use Rattle.client_state.specs.declared.task.Stage.TheVariants as stage
 use Rattle.register_model.specs.declared.op.Outcome.{Outcome}
 use Rattle.register_model.specs.declared.op.Outcome.TheVariants as told
 use Rattle.register_model.specs.declared.op.Word.TheVariants as words
-use Rattle.tree_plans.specs.declared.entry.EntryKind.{EntryKind}
+use Rattle.tree_reading.specs.declared.entry.EntryKind.{EntryKind}
 use Rattle.register_model.specs.Register.{succeeded, IsFit}
 use Rattle.trace_replay.specs.Causes.{HasNoRoom, IsGone, Within}
 use Rattle.trace_replay.specs.Faithful.{IsKind, left_by, HasJournal}

@@ -14,11 +14,11 @@ use Rattle.tree_nodes.proofs.Lists.{with_id_without}
 use Rattle.tree_reading.specs.Chain.{◌>>=◌}
 use Rattle.tree_reading.specs.Names.{is_misspelt, spelt, undotted}
 use Rattle.file_tree.specs.Opening.{may_open, can_open, counted_at, with_change, opened, opens}
-use Rattle.tree_plans.specs.Plans.{rename_plan}
+use Rattle.tree_reading.specs.Plans.{rename_plan}
 use Rattle.file_tree.specs.Step.{removed, placed, moved_at, moved, shifted, rename_if, rename, replaced}
-use Rattle.tree_plans.specs.declared.call.Held.{Held}
-use Rattle.tree_plans.specs.declared.call.Planned.{Planned}
-use Rattle.tree_plans.specs.declared.call.Planned.TheVariants as planned
+use Rattle.tree_reading.specs.declared.call.Held.{Held}
+use Rattle.tree_reading.specs.declared.call.Planned.{Planned}
+use Rattle.tree_reading.specs.declared.call.Planned.TheVariants as planned
 use Rattle.tree_reading.specs.Tree.{Tree, is_directory, directory_of, or_taken, root as root_of}
 use Rattle.file_tree.proofs.Limits.{all_map, all_with, all_filter}
 use Rattle.server_law.proofs.Trees.{IsGiven, refill, below_next, some_is}

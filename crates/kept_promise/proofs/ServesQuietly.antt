@@ -1,9 +1,9 @@
 -- A call is taken at the server: clients are as they were, nothing goes up, and operations are as they were, but for one that made a file.
 use Rattle.std.proofs.Common.{◌⊎◌, inl, inr, ◌≡◌, ℕ, ◌+◌, ◌≤◌, List, [], ◌∷◌, ◌++◌, length, replicate, zero, suc, append-nil, Option, Some, None, Bool, true, false, Result, Ok, refl, sym, ap, ◌∙◌, subst, arith}
 use Rattle.tree_reading.specs.Tree.{Tree}
-use Rattle.tree_plans.specs.Plans.{made_entry}
-use Rattle.tree_plans.specs.declared.entry.Entry.{Entry as TreeEntry}
-use Rattle.tree_plans.specs.declared.entry.EntryKind.TheVariants as kind
+use Rattle.tree_reading.specs.Plans.{made_entry}
+use Rattle.tree_reading.specs.declared.entry.Entry.{Entry as TreeEntry}
+use Rattle.tree_reading.specs.declared.entry.EntryKind.TheVariants as kind
 use Rattle.tree_calls.specs.declared.asked.Done.{Done as Finished}
 use Rattle.path_calls.specs.declared.walk.Goal.{Goal}
 use Rattle.path_calls.specs.declared.walk.Walk.{Walk}

@@ -5,8 +5,8 @@ use Rattle.xdr_codec.specs.declared.status.Status.TheVariants as status
 use Rattle.wire.specs.declared.message.Body.TheVariants as body
 use Rattle.wire.specs.declared.message.Message.TheVariants as message
 use Rattle.tree_reading.specs.Tree.{Tree}
-use Rattle.tree_plans.specs.declared.entry.Entry.{Entry as TreeEntry}
-use Rattle.tree_plans.specs.declared.entry.EntryKind.TheVariants as kind
+use Rattle.tree_reading.specs.declared.entry.Entry.{Entry as TreeEntry}
+use Rattle.tree_reading.specs.declared.entry.EntryKind.TheVariants as kind
 use Rattle.tree_calls.specs.Changing.{said}
 use Rattle.tree_calls.specs.Waiting.{file_of, settles as tree_settles}
 use Rattle.tree_calls.specs.declared.asked.Asked.{Asked}

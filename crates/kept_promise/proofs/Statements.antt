@@ -7,7 +7,7 @@ use Rattle.path_calls.specs.declared.walk.Walk.{Walk}
 use Rattle.server_law.proofs.Trees.{IsBounded}
 use Rattle.wire.specs.declared.message.Body.TheVariants as body
 use Rattle.wire.specs.declared.message.Message.TheVariants as message
-use Rattle.tree_plans.specs.declared.call.Held.{Held}
+use Rattle.tree_reading.specs.declared.call.Held.{Held}
 use Rattle.kept_promise.proofs.PathNames.{IsWalkSmall, is_building, is_going}
 use Rattle.tree_calls.specs.Waiting.{settles}
 use Rattle.tree_calls.specs.declared.asked.Asked.{Asked}

@@ -10,14 +10,14 @@ use Rattle.tree_nodes.specs.Nodes.{with_id, with_node, without, versioned, named
 use Rattle.tree_nodes.proofs.Lists.{with_id_without}
 use Rattle.tree_reading.specs.Chain.{◌>>=◌}
 use Rattle.tree_reading.specs.Names.{spelt, undotted}
-use Rattle.tree_plans.specs.declared.call.Changed.{Changed}
-use Rattle.tree_plans.specs.declared.call.CreateMode.{CreateMode}
-use Rattle.tree_plans.specs.declared.call.CreateMode.TheVariants as mode
-use Rattle.tree_plans.specs.declared.call.Held.{Held}
-use Rattle.tree_plans.specs.declared.call.Planned.{Planned}
-use Rattle.tree_plans.specs.declared.call.Planned.TheVariants as planned
+use Rattle.tree_reading.specs.declared.call.Changed.{Changed}
+use Rattle.tree_reading.specs.declared.call.CreateMode.{CreateMode}
+use Rattle.tree_reading.specs.declared.call.CreateMode.TheVariants as mode
+use Rattle.tree_reading.specs.declared.call.Held.{Held}
+use Rattle.tree_reading.specs.declared.call.Planned.{Planned}
+use Rattle.tree_reading.specs.declared.call.Planned.TheVariants as planned
 use Rattle.tree_reading.specs.Tree.{Tree, content_of, contents_size, node_of, directory_of, directory_or, file_or, or_no_entry, or_taken, changes_most}
-use Rattle.tree_plans.specs.Plans.{spared, nothing, create_found, create_mode, may_create, create_plan, may_mkdir, or_not_empty, may_remove, may_rmdir, remove_done, remove_plan, rmdir_plan, Target, itself, over, or_within, may_replace, is_same, rename_over, planned as planned_as, planned_found, rename_plan}
+use Rattle.tree_reading.specs.Plans.{spared, nothing, create_found, create_mode, may_create, create_plan, may_mkdir, or_not_empty, may_remove, may_rmdir, remove_done, remove_plan, rmdir_plan, Target, itself, over, or_within, may_replace, is_same, rename_over, planned as planned_as, planned_found, rename_plan}
 use Rattle.file_tree.specs.Step.{made, removed, placed, moved_at, moved, create, created as create_made, new_file, new_directory, mkdir, mkdir_if, remove_if, remove, rmdir, shifted, rename_if, rename}
 use Rattle.file_tree.proofs.Limits.{counted, limits_with, limits_without, limits_versioned, limits_moved, size_with, size_same, size_without}
 use Rattle.file_tree.proofs.States.{named_id}

@@ -9,11 +9,11 @@ use Rattle.tree_nodes.specs.Nodes.{named}
 use Rattle.tree_reading.specs.Chain.{◌>>=◌}
 use Rattle.tree_reading.specs.Names.{spelt, undotted}
 use Rattle.tree_reading.specs.Reading.{standing_of}
-use Rattle.tree_plans.specs.declared.call.Changed.{Changed}
-use Rattle.tree_plans.specs.declared.call.Held.{Held}
-use Rattle.tree_plans.specs.declared.call.Spot.{Spot}
+use Rattle.tree_reading.specs.declared.call.Changed.{Changed}
+use Rattle.tree_reading.specs.declared.call.Held.{Held}
+use Rattle.tree_reading.specs.declared.call.Spot.{Spot}
 use Rattle.tree_reading.specs.Tree.{Tree, is_directory, file_or, directory_of, or_no_entry}
-use Rattle.tree_plans.specs.Plans.{spared, may_remove, remove_done, remove_plan, is_node}
+use Rattle.tree_reading.specs.Plans.{spared, may_remove, remove_done, remove_plan, is_node}
 use Rattle.tree_calls.specs.Waiting.{still}
 use Rattle.server_law.proofs.TreeCalls.{bind_ok, ok_is}
 use Rattle.kept_promise.proofs.TreeTold.{entry_is}

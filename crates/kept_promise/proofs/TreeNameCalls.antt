@@ -6,15 +6,15 @@ use Rattle.nfs3_calls.specs.declared.message.Nfs.{Nfs}
 use Rattle.nfs3_calls.specs.declared.message.Nfs.TheVariants as nfs
 use Rattle.tree_nodes.specs.declared.node.Node.{Node}
 use Rattle.tree_nodes.specs.Nodes.{named}
-use Rattle.tree_plans.specs.declared.call.Changed.{Changed}
-use Rattle.tree_plans.specs.declared.call.CreateMode.{CreateMode}
-use Rattle.tree_plans.specs.declared.call.Held.{Held}
-use Rattle.tree_plans.specs.declared.call.Planned.{Planned}
-use Rattle.tree_plans.specs.declared.call.Planned.TheVariants as planned
+use Rattle.tree_reading.specs.declared.call.Changed.{Changed}
+use Rattle.tree_reading.specs.declared.call.CreateMode.{CreateMode}
+use Rattle.tree_reading.specs.declared.call.Held.{Held}
+use Rattle.tree_reading.specs.declared.call.Planned.{Planned}
+use Rattle.tree_reading.specs.declared.call.Planned.TheVariants as planned
 use Rattle.tree_reading.specs.Tree.{Tree}
-use Rattle.tree_plans.specs.Plans.{create_plan, may_mkdir, remove_done, remove_plan, rmdir_plan, rename_plan, replace_plan}
+use Rattle.tree_reading.specs.Plans.{create_plan, may_mkdir, remove_done, remove_plan, rmdir_plan, rename_plan, replace_plan}
 use Rattle.file_tree.specs.Step.{create, created as create_made, new_file, new_directory, mkdir, mkdir_if, remove_if, remove, rmdir, shifted, rename_if, rename, replace_if, replaced, removed}
-use Rattle.tree_plans.proofs.Admitted.{remove_there, rmdir_there, rename_there}
+use Rattle.tree_reading.proofs.Admitted.{remove_there, rmdir_there, rename_there}
 use Rattle.tree_reading.proofs.Found.{found_all}
 use Rattle.tree_calls.specs.declared.asked.Asked.{Asked}
 use Rattle.tree_calls.specs.declared.asked.Asked.TheVariants as asked

@@ -6,9 +6,9 @@ use Rattle.tree_nodes.specs.declared.node.Node.{Node}
 use Rattle.tree_nodes.specs.Nodes.{with_id}
 use Rattle.tree_reading.specs.Chain.{◌>>=◌}
 use Rattle.tree_reading.specs.Tree.{Tree, or_stale, file_or, contents_size}
-use Rattle.tree_plans.specs.Plans.{within_file, spared, spared_bytes}
+use Rattle.tree_reading.specs.Plans.{within_file, spared, spared_bytes}
 use Rattle.file_tree.specs.Step.{replace_if}
-use Rattle.tree_plans.specs.declared.call.Held.{Held}
+use Rattle.tree_reading.specs.declared.call.Held.{Held}
 use Rattle.tree_calls.specs.declared.asked.Committing.{Committing}
 use Rattle.tree_calls.specs.Waiting.{commits, with_committed}
 use Rattle.server_core.specs.State as server

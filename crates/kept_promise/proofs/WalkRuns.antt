@@ -35,9 +35,9 @@ use Rattle.xdr_codec.specs.declared.answer.Answer.TheVariants.{Done, Failed}
 use Rattle.nfs3_calls.specs.declared.message.Nfs.TheVariants as nfs
 use Rattle.tree_reading.specs.Tree.{Tree}
 use Rattle.file_tree.specs.Step.{create, mkdir, remove, rmdir, rename}
-use Rattle.tree_plans.specs.declared.call.Changed.{Changed}
-use Rattle.tree_plans.specs.declared.call.CreateMode.TheVariants as mode
-use Rattle.tree_plans.specs.declared.call.Held.{Held}
+use Rattle.tree_reading.specs.declared.call.Changed.{Changed}
+use Rattle.tree_reading.specs.declared.call.CreateMode.TheVariants as mode
+use Rattle.tree_reading.specs.declared.call.Held.{Held}
 use Rattle.tree_calls.specs.Telling.{told as told_by}
 use Rattle.path_calls.specs.Walk.{next_call, call_at, goal_call, place, create_call, make_dir_call, rename_call}
 use Rattle.server_core.specs.Closing.{entries_by}

@@ -18,12 +18,12 @@ use Rattle.tree_nodes.specs.declared.node.Body.TheVariants.{Directory, File as C
 use Rattle.tree_nodes.specs.Nodes.{with_id}
 use Rattle.tree_reading.specs.Chain.{◌>>=◌}
 use Rattle.tree_reading.specs.Reading.{piece_of}
-use Rattle.tree_plans.specs.Plans.{create_plan, may_mkdir, rmdir_plan}
+use Rattle.tree_reading.specs.Plans.{create_plan, may_mkdir, rmdir_plan}
 use Rattle.file_tree.specs.Step.{created, mkdir_if, remove_if}
 use Rattle.tree_reading.specs.Tree.{Tree, or_stale, file_or}
-use Rattle.tree_plans.specs.declared.call.Changed.{Changed}
-use Rattle.tree_plans.specs.declared.call.Held.{Held}
-use Rattle.tree_plans.specs.declared.entry.Entry.{Entry as TreeEntry}
+use Rattle.tree_reading.specs.declared.call.Changed.{Changed}
+use Rattle.tree_reading.specs.declared.call.Held.{Held}
+use Rattle.tree_reading.specs.declared.entry.Entry.{Entry as TreeEntry}
 use Rattle.tree_calls.specs.Telling.{id_of, or_bad_handle, answer_of, piece, told}
 use Rattle.tree_calls.specs.Changing.{before, with_done, mode_of, created as created_answer, made_directory, removed_directory}
 use Rattle.stored_tree.specs.Stores.{stored}

@@ -14,11 +14,11 @@ use Rattle.tree_nodes.specs.declared.node.Body.TheVariants.{File as Content}
 use Rattle.tree_nodes.specs.Nodes.{with_id}
 use Rattle.tree_nodes.proofs.Lists.{with_id_changed}
 use Rattle.tree_reading.specs.Chain.{◌>>=◌}
-use Rattle.tree_plans.specs.Plans.{replace_plan, spared, spared_bytes, within_file}
+use Rattle.tree_reading.specs.Plans.{replace_plan, spared, spared_bytes, within_file}
 use Rattle.file_tree.specs.Step.{replaced, replace_if}
 use Rattle.tree_reading.specs.Tree.{Tree, contents_size, or_stale, file_or}
-use Rattle.tree_plans.specs.declared.call.Changed.{Changed}
-use Rattle.tree_plans.specs.declared.call.Held.{Held}
+use Rattle.tree_reading.specs.declared.call.Changed.{Changed}
+use Rattle.tree_reading.specs.declared.call.Held.{Held}
 use Rattle.stored_tree.specs.Stores.{stored}
 use Rattle.tree_calls.specs.Calling.{IsCalled}
 use Rattle.tree_calls.specs.Waiting.{with_committed, commits_under}

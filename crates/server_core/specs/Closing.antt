@@ -30,7 +30,7 @@ use Rattle.chunk_calls.specs.Answers.{Node, directory, file, node_of}
 use Rattle.chunk_places.specs.Places.{indexed}
 use Rattle.server_core.specs.State.{State, Change, held, entries_held, bytes_held}
 use Rattle.tree_reading.specs.Tree.{Tree}
-use Rattle.tree_plans.specs.declared.entry.Entry.{Entry as TreeEntry}
+use Rattle.tree_reading.specs.declared.entry.Entry.{Entry as TreeEntry}
 use Rattle.tree_calls.specs.Waiting.{commits_under as tree_commits_under, settles_under as tree_settles_under}
 use Rattle.tree_calls.specs.declared.asked.Committing.{Committing}
 use Rattle.tree_calls.specs.declared.asked.Done.{Done as Outcome}

@@ -21,8 +21,8 @@ use Rattle.wire.specs.declared.message.Message.TheVariants as message
 use Rattle.tree_nodes.specs.declared.node.Node.{Node}
 use Rattle.tree_nodes.specs.declared.node.Body.TheVariants.{File as Content}
 use Rattle.tree_reading.specs.Tree.{root}
-use Rattle.tree_plans.specs.declared.entry.EntryKind.{EntryKind}
-use Rattle.tree_plans.specs.declared.entry.EntryKind.TheVariants as kind
+use Rattle.tree_reading.specs.declared.entry.EntryKind.{EntryKind}
+use Rattle.tree_reading.specs.declared.entry.EntryKind.TheVariants as kind
 use Rattle.server_steps.specs.declared.event.Event.{Event}
 use Rattle.server_steps.specs.declared.event.Event.TheVariants as event
 use Rattle.server_steps.specs.declared.event.Sent.{Sent}

@@ -19,7 +19,7 @@ use Rattle.server_steps.specs.declared.event.Event.TheVariants as event
 use Rattle.server_steps.specs.declared.event.ServerStep.{ServerStep}
 use Rattle.server_rules.specs.declared.told.Told.TheVariants as told
 use Rattle.tree_nodes.specs.declared.node.Body.TheVariants.{File as Content}
-use Rattle.tree_plans.specs.declared.entry.EntryKind.TheVariants as entry
+use Rattle.tree_reading.specs.declared.entry.EntryKind.TheVariants as entry
 use Rattle.tree_reading.specs.Tree.{root}
 use Rattle.chunk_calls.specs.Answers.{attr_of, hashes_of}
 use Rattle.server_steps.specs.Steps.{sends, to}

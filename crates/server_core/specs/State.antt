@@ -2,7 +2,7 @@
 use Rattle.std.specs.Prelude.{ℕ, ◌+◌, List, [], ◌∷◌, length}
 use Rattle.tree_nodes.specs.declared.node.Body.TheVariants.{File as Content}
 use Rattle.tree_reading.specs.Tree.{Tree, contents_size, empty as root_alone}
-use Rattle.tree_plans.specs.declared.call.Held.{Held}
+use Rattle.tree_reading.specs.declared.call.Held.{Held}
 use Rattle.tree_calls.specs.Waiting.{entries_of}
 pub use Rattle.server_core.specs.declared.change.Change.{Change}
 use Rattle.server_core.specs.declared.change.Wanted.{Wanted}

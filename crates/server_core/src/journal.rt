@@ -1,7 +1,7 @@
 //! The journal: the changes that were made, in order. `entry_by` in `specs/Closing.antt` says what an
 //! entry tells.
 
-use tree_plans::entry::EntryKind;
+use tree_reading::entry::EntryKind;
 use xdr_codec::digest::Digest;
 
 /// A change that was made.

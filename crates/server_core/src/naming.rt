@@ -23,7 +23,7 @@ use std::alloc::{AllocError, Global};
 use store::store::Store;
 use tree_calls::asked::{Done, Outcome};
 use tree_calls::{calls, entering};
-use tree_plans::call::Held;
+use tree_reading::call::Held;
 use wire::message::{Body, RpcRefusal};
 
 impl ServerState {

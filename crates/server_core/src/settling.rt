@@ -28,8 +28,8 @@ use std::alloc::Global;
 use store::store::Store;
 use tree_calls::asked::{Asked, Committing, Done};
 use tree_calls::settling;
-use tree_plans::call::Held;
-use tree_plans::entry::Entry as TreeEntry;
+use tree_reading::call::Held;
+use tree_reading::entry::Entry as TreeEntry;
 use wire::message::Body;
 use xdr_codec::answer::Answer;
 

@@ -6,7 +6,7 @@ ghost use Rattle.server_core.specs.Closing.{has_waiting};
 ghost use Rattle.server_core.specs.State.{entries_wanted, size_wanted, waiting_size, held};
 
 use crate::change::{Change, Wanted};
-use tree_plans::call::Held;
+use tree_reading::call::Held;
 
 /// Whether a change of the session waits.
 pub fn has_waiting(waiting: &Vec<Change>, session: u32) -> bool

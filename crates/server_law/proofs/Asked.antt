@@ -3,7 +3,7 @@ use Rattle.std.proofs.Common.{Bool, true, false, Ok, Err, Result, ◌==◌, if�
 use Rattle.xdr_codec.specs.declared.status.Status.{Status}
 use Rattle.xdr_codec.specs.declared.status.Status.TheVariants as status
 use Rattle.tree_reading.specs.Tree.{Tree}
-use Rattle.tree_plans.specs.declared.call.Changed.{Changed}
+use Rattle.tree_reading.specs.declared.call.Changed.{Changed}
 use Rattle.stored_tree.specs.Stores.{stored}
 
 -- what holds of the step, and where IO is told and the tree stays, holds however the store does

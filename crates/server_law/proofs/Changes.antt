@@ -9,14 +9,14 @@ use Rattle.tree_nodes.specs.Nodes.{named}
 use Rattle.tree_reading.specs.Chain.{◌>>=◌}
 use Rattle.tree_reading.specs.Names.{spelt, undotted}
 use Rattle.tree_reading.specs.Tree.{Tree, node_of, directory_or, or_no_entry}
-use Rattle.tree_plans.specs.Plans.{Target, itself, over, nothing, move_done, may_create, create_plan, may_mkdir, remove_plan, rmdir_plan, is_same, or_within, rename_over, rename_found, planned, planned_found, rename_plan, replace_plan, spared, may_replace}
+use Rattle.tree_reading.specs.Plans.{Target, itself, over, nothing, move_done, may_create, create_plan, may_mkdir, remove_plan, rmdir_plan, is_same, or_within, rename_over, rename_found, planned, planned_found, rename_plan, replace_plan, spared, may_replace}
 use Rattle.file_tree.specs.Step.{created, create, mkdir_if, mkdir, remove_if, remove, rmdir, shifted, moved, rename_if, rename, replace_if, replace, removed}
-use Rattle.tree_plans.specs.declared.call.Changed.{Changed}
-use Rattle.tree_plans.specs.declared.call.CreateMode.{CreateMode}
-use Rattle.tree_plans.specs.declared.call.Held.{Held}
-use Rattle.tree_plans.specs.declared.call.Planned.{Planned}
-use Rattle.tree_plans.specs.declared.call.Planned.TheVariants as planned_as
-use Rattle.tree_plans.proofs.Admitted.{IsPlannedGone, remove_there, rmdir_there, rename_there}
+use Rattle.tree_reading.specs.declared.call.Changed.{Changed}
+use Rattle.tree_reading.specs.declared.call.CreateMode.{CreateMode}
+use Rattle.tree_reading.specs.declared.call.Held.{Held}
+use Rattle.tree_reading.specs.declared.call.Planned.{Planned}
+use Rattle.tree_reading.specs.declared.call.Planned.TheVariants as planned_as
+use Rattle.tree_reading.proofs.Admitted.{IsPlannedGone, remove_there, rmdir_there, rename_there}
 use Rattle.file_tree.proofs.States.{named_id}
 use Rattle.server_law.proofs.Facts.{IsTelling, tells_none, tells_file, tells_directory, tells_removed, tells_replaced, tells_moved, tells_over}
 use Rattle.server_law.proofs.TreeCalls.{bind_ok, ok_is, create_in, mkdir_in, remove_in, rmdir_in, rename_in, replace_in, no_file_in, HasDirectory}

@@ -8,9 +8,9 @@ use Rattle.tree_nodes.specs.declared.node.Body.TheVariants.{Directory, File as P
 use Rattle.tree_nodes.specs.Nodes.{with_id, without}
 use Rattle.tree_nodes.proofs.Lists.{with_id_without}
 use Rattle.tree_reading.specs.Tree.{Tree, is_directory}
-use Rattle.tree_plans.specs.Plans.{made_entry, name_entry, commit_entry, gone_entry}
+use Rattle.tree_reading.specs.Plans.{made_entry, name_entry, commit_entry, gone_entry}
 use Rattle.file_tree.specs.Step.{made, removed, moved, replaced, new_file, new_directory}
-use Rattle.tree_plans.specs.declared.entry.Entry.{Entry as TreeEntry}
+use Rattle.tree_reading.specs.declared.entry.Entry.{Entry as TreeEntry}
 use Rattle.server_core.specs.declared.journal.Entry.{Entry}
 use Rattle.server_core.specs.Closing.{entry_by, entries_by}
 use Rattle.chunk_calls.specs.Files.{File, file_of_body, file_of_node, file_at}

@@ -18,7 +18,7 @@ use Rattle.wire.specs.declared.message.Message.TheVariants as message
 use Rattle.temp_files.specs.Pieces.{size_most}
 use Rattle.temp_files.specs.Temps.{Temp, temp_at, room_fault, piece_fault, without_temp, assembled}
 use Rattle.tree_reading.specs.Tree.{Tree}
-use Rattle.tree_plans.specs.declared.entry.Entry.{Entry as TreeEntry}
+use Rattle.tree_reading.specs.declared.entry.Entry.{Entry as TreeEntry}
 use Rattle.tree_calls.specs.declared.asked.Outcome.{Outcome}
 use Rattle.tree_calls.specs.declared.asked.Outcome.TheVariants.{Answered, Waits}
 use Rattle.tree_calls.specs.Waiting.{calls_under, commits_under as tree_commits_under, settles_under as tree_settles_under}

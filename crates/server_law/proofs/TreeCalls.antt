@@ -12,15 +12,15 @@ use Rattle.tree_nodes.specs.declared.node.Body.TheVariants.{Directory, File as P
 use Rattle.tree_nodes.specs.Nodes.{with_id, named}
 use Rattle.tree_reading.specs.Chain.{◌>>=◌}
 use Rattle.tree_reading.specs.Names.{spelt, undotted}
-use Rattle.tree_plans.specs.declared.call.Changed.{Changed}
-use Rattle.tree_plans.specs.declared.call.CreateMode.{CreateMode}
-use Rattle.tree_plans.specs.declared.call.Held.{Held}
-use Rattle.tree_plans.specs.declared.call.Planned.{Planned}
-use Rattle.tree_plans.specs.declared.call.Planned.TheVariants as planned
+use Rattle.tree_reading.specs.declared.call.Changed.{Changed}
+use Rattle.tree_reading.specs.declared.call.CreateMode.{CreateMode}
+use Rattle.tree_reading.specs.declared.call.Held.{Held}
+use Rattle.tree_reading.specs.declared.call.Planned.{Planned}
+use Rattle.tree_reading.specs.declared.call.Planned.TheVariants as planned
 use Rattle.tree_reading.specs.Tree.{Tree, is_directory, contents_size, node_of, or_stale, directory_or, directory_of, file_or, or_no_entry, or_taken, changes_most, file_most, tree_most}
-use Rattle.tree_plans.specs.Plans.{spared, may_create, create_plan, create_mode, nothing, may_mkdir, may_remove, remove_done, remove_plan, may_rmdir, rmdir_plan, or_not_empty, rename_plan, planned_found, within_file, spared_bytes, may_replace_content, replace_plan, commit_entry}
+use Rattle.tree_reading.specs.Plans.{spared, may_create, create_plan, create_mode, nothing, may_mkdir, may_remove, remove_done, remove_plan, may_rmdir, rmdir_plan, or_not_empty, rename_plan, planned_found, within_file, spared_bytes, may_replace_content, replace_plan, commit_entry}
 use Rattle.file_tree.specs.Step.{replaced, create, created as create_made, new_file, new_directory, mkdir, mkdir_if, remove_if, remove, rmdir, shifted, rename_if, rename, replace_if, replace}
-use Rattle.tree_plans.proofs.Admitted.{rename_there}
+use Rattle.tree_reading.proofs.Admitted.{rename_there}
 use Rattle.file_tree.proofs.States.{named_id}
 use Rattle.nfs3_calls.specs.declared.message.Nfs.{Nfs}
 use Rattle.nfs3_calls.specs.declared.message.Nfs.TheVariants as nfs

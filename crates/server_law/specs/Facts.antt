@@ -6,8 +6,8 @@ use Rattle.sha1.specs.Sha1.{sha1}
 use Rattle.tree_nodes.specs.declared.node.Node.{Node}
 use Rattle.tree_reading.specs.Tree.{Tree}
 use Rattle.file_tree.specs.View.{AreIdsApart}
-use Rattle.tree_plans.specs.declared.entry.EntryKind.{EntryKind}
-use Rattle.tree_plans.specs.declared.entry.EntryKind.TheVariants as kind
+use Rattle.tree_reading.specs.declared.entry.EntryKind.{EntryKind}
+use Rattle.tree_reading.specs.declared.entry.EntryKind.TheVariants as kind
 use Rattle.server_core.specs.declared.journal.Entry.{Entry}
 use Rattle.server_core.specs.State.{State}
 use Rattle.chunk_calls.specs.Files.{File, file_at}

@@ -4,8 +4,8 @@ use Rattle.xdr_codec.specs.declared.status.Status.TheVariants.{Exist, Io, NoEnt}
 use Rattle.tree_nodes.specs.declared.node.Body.TheVariants.{Directory, File}
 use Rattle.file_tree.specs.Step.{create, mkdir, remove, rename, replace}
 use Rattle.tree_reading.specs.Tree.{Tree, root}
-use Rattle.tree_plans.specs.declared.call.CreateMode.TheVariants.{Unchecked, Guarded}
-use Rattle.tree_plans.specs.declared.call.Held.{Held}
+use Rattle.tree_reading.specs.declared.call.CreateMode.TheVariants.{Unchecked, Guarded}
+use Rattle.tree_reading.specs.declared.call.Held.{Held}
 use Rattle.stored_tree.specs.Stores.{stored}
 
 -- a file "a" and an empty directory "d"

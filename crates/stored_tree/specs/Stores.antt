@@ -9,7 +9,7 @@ use Rattle.tree_nodes.specs.declared.node.Node.{Node}
 use Rattle.file_tree.specs.Storing.{kind_of, IsStored}
 use Rattle.tree_reading.specs.Tree.{Tree}
 pub use Rattle.server_rules.specs.Asking.{IsFault}
-use Rattle.tree_plans.specs.declared.call.Changed.{Changed}
+use Rattle.tree_reading.specs.declared.call.Changed.{Changed}
 
 -- ---- where the store fails, nothing is done, and IO is told; of a step that counts no change no store is asked
 

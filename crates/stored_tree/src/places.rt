@@ -3,7 +3,7 @@
 ghost use Rattle.std.specs.Prelude.{◌≡◌, ◌+◌, IfOk};
 
 use std::alloc::AllocError;
-use tree_plans::call::Held;
+use tree_reading::call::Held;
 
 /// How many places a store needs for all changes that wait, one an entry, and for so many more. The
 /// one error is want of memory, as which a number beyond 32 bits counts too.

@@ -4,9 +4,9 @@
 
 ghost use Rattle.std.specs.Prelude.{◌≡◌, ◌+◌, ◌<◌, ◌≤◌, Ok, None};
 ghost use Rattle.tree_nodes.specs.Nodes.{named};
-ghost use Rattle.tree_plans.specs.Plans.{create_plan, may_mkdir, rename_plan};
+ghost use Rattle.tree_reading.specs.Plans.{create_plan, may_mkdir, rename_plan};
 ghost use Rattle.file_tree.specs.Step.{create, mkdir, remove, rmdir, rename, replace};
-ghost use Rattle.tree_plans.specs.declared.call.Planned.TheVariants.{Free, Over};
+ghost use Rattle.tree_reading.specs.declared.call.Planned.TheVariants.{Free, Over};
 ghost use Rattle.stored_tree.specs.Stores.{IsStep, Keeps, kind_if, kind_found, id_found};
 
 use crate::pair::NamePair;
@@ -17,7 +17,7 @@ use shared_bytes::SharedBytes;
 use store::record::{Change, ContentRecord, NodeKind, NodeRecord};
 use store::store::Store;
 use tree_nodes::content::Content;
-use tree_plans::call::{Changed, CreateMode, Held, Planned};
+use tree_reading::call::{Changed, CreateMode, Held, Planned};
 use xdr_codec::status::Status;
 
 // CREATE of a file that is to be made.

@@ -8,8 +8,8 @@ use Rattle.wire.specs.declared.fault.WireFault.{WireFault}
 use Rattle.wire.specs.declared.message.Side.TheVariants as side
 use Rattle.wire.specs.declared.message.Waiting.{Waiting}
 use Rattle.command_text.specs.declared.command.Command.{Command}
-use Rattle.tree_plans.specs.declared.entry.EntryKind.{EntryKind}
-use Rattle.tree_plans.specs.declared.entry.EntryKind.TheVariants as kind
+use Rattle.tree_reading.specs.declared.entry.EntryKind.{EntryKind}
+use Rattle.tree_reading.specs.declared.entry.EntryKind.TheVariants as kind
 use Rattle.server_core.specs.State as server
 use Rattle.server_core.specs.Step.{server_step, forges, clears_index}
 use Rattle.server_steps.specs.declared.event.Event.TheVariants as event

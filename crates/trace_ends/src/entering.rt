@@ -8,7 +8,7 @@ ghost use Rattle.trace_ends.specs.Core.{is_of_file, newest_entries, changed_file
 
 use server_core::journal::Entry;
 use std::alloc::AllocError;
-use tree_plans::entry::EntryKind;
+use tree_reading::entry::EntryKind;
 
 /// Whether an entry is about a file's content, and not about a name.
 fn is_of_file(kind: EntryKind) -> bool

@@ -15,8 +15,8 @@ use Rattle.transfer_rules.specs.Limits.{calls_most}
 use Rattle.server_core.specs.declared.change.Change.{Change}
 use Rattle.server_core.specs.declared.change.Wanted.TheVariants as wanted
 use Rattle.server_core.specs.declared.journal.Entry.{Entry}
-use Rattle.tree_plans.specs.declared.entry.EntryKind.{EntryKind}
-use Rattle.tree_plans.specs.declared.entry.EntryKind.TheVariants as kind
+use Rattle.tree_reading.specs.declared.entry.EntryKind.{EntryKind}
+use Rattle.tree_reading.specs.declared.entry.EntryKind.TheVariants as kind
 use Rattle.xdr_codec.specs.declared.status.Status.{Status}
 use Rattle.register_model.specs.Register.{changes, value_from}
 use Rattle.register_model.specs.declared.op.Word.{Word}

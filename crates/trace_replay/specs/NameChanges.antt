@@ -9,8 +9,8 @@ use Rattle.tree_nodes.specs.declared.node.Node.{Node}
 use Rattle.tree_nodes.specs.Nodes.{names}
 use Rattle.tree_reading.specs.Tree.{Tree}
 use Rattle.file_tree.specs.Step.{create, mkdir, remove, rmdir, rename}
-use Rattle.tree_plans.specs.declared.call.CreateMode.TheVariants as mode
-use Rattle.tree_plans.specs.declared.call.Held.{Held}
+use Rattle.tree_reading.specs.declared.call.CreateMode.TheVariants as mode
+use Rattle.tree_reading.specs.declared.call.Held.{Held}
 use Rattle.path_calls.specs.Walk.{place, create_call, make_dir_call, rename_call}
 use Rattle.register_model.specs.declared.op.Op.{Op}
 use Rattle.trace_ends.specs.Core.{Event.Serves, server_waiting, happens}

@@ -18,11 +18,11 @@ use Rattle.tree_nodes.specs.Nodes.{with_id, named, names}
 use Rattle.tree_reading.specs.Tree.{Tree, directory_of}
 use Rattle.tree_reading.specs.Reading.{attr_of, stands_for}
 use Rattle.file_tree.specs.Step.{create, mkdir, remove, rmdir, rename}
-use Rattle.tree_plans.specs.declared.call.Changed.{Changed}
-use Rattle.tree_plans.specs.declared.call.CreateMode.TheVariants as mode
-use Rattle.tree_plans.specs.declared.call.Held.{Held}
+use Rattle.tree_reading.specs.declared.call.Changed.{Changed}
+use Rattle.tree_reading.specs.declared.call.CreateMode.TheVariants as mode
+use Rattle.tree_reading.specs.declared.call.Held.{Held}
 use Rattle.tree_reading.specs.declared.reading.Standing.{Standing}
-use Rattle.tree_plans.specs.declared.entry.Entry.{Entry}
+use Rattle.tree_reading.specs.declared.entry.Entry.{Entry}
 use Rattle.path_calls.specs.Walk.{pages_most, place, create_call, make_dir_call, rename_call}
 use Rattle.server_core.specs.Closing.{entries_by}
 use Rattle.register_model.specs.declared.op.Op.{Op}

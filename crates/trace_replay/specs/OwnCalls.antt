@@ -4,7 +4,7 @@ use Rattle.wire.specs.Parse.{parse_of}
 use Rattle.wire.specs.declared.message.Body.{Body}
 use Rattle.wire.specs.declared.message.Message.TheVariants as message
 use Rattle.client_state.specs.State.{pending, has_call}
-use Rattle.tree_plans.specs.declared.call.Held.{Held}
+use Rattle.tree_reading.specs.declared.call.Held.{Held}
 use Rattle.server_core.specs.State.{held}
 use Rattle.server_core.specs.declared.change.Change.{Change}
 use Rattle.trace_sessions.specs.Session.{Seat}

@@ -13,12 +13,12 @@ use Rattle.nfs3_calls.specs.declared.message.Nfs.TheVariants as nfs
 use Rattle.store.specs.declared.record.Kept.{Kept}
 use Rattle.file_tree.specs.Storing.{IsStored}
 use Rattle.tree_reading.specs.Tree.{Tree}
-use Rattle.tree_plans.specs.Plans.{create_plan, may_mkdir, rmdir_plan}
+use Rattle.tree_reading.specs.Plans.{create_plan, may_mkdir, rmdir_plan}
 use Rattle.file_tree.specs.Step.{create, mkdir, rmdir, remove, rename, replace}
-use Rattle.tree_plans.specs.declared.call.Changed.{Changed}
-use Rattle.tree_plans.specs.declared.call.CreateMode.{CreateMode}
-use Rattle.tree_plans.specs.declared.call.Held.{Held}
-use Rattle.tree_plans.specs.declared.call.Spot.{Spot}
+use Rattle.tree_reading.specs.declared.call.Changed.{Changed}
+use Rattle.tree_reading.specs.declared.call.CreateMode.{CreateMode}
+use Rattle.tree_reading.specs.declared.call.Held.{Held}
+use Rattle.tree_reading.specs.declared.call.Spot.{Spot}
 use Rattle.stored_tree.specs.Stores.{stored, IsFault, IsStep, Keeps}
 use Rattle.tree_calls.specs.Calling.{IsCalled, places_of_call}
 use Rattle.tree_calls.specs.declared.asked.Committing.{Committing}

@@ -16,10 +16,10 @@ use Rattle.tree_nodes.specs.declared.node.Node.{Node}
 use Rattle.tree_reading.specs.Reading.{attr}
 use Rattle.file_tree.specs.Step.{create, mkdir, rmdir, rename}
 use Rattle.tree_reading.specs.Tree.{Tree}
-use Rattle.tree_plans.specs.declared.call.Changed.{Changed}
-use Rattle.tree_plans.specs.declared.call.CreateMode.{CreateMode}
-use Rattle.tree_plans.specs.declared.call.CreateMode.TheVariants as mode
-use Rattle.tree_plans.specs.declared.call.Held.{Held}
+use Rattle.tree_reading.specs.declared.call.Changed.{Changed}
+use Rattle.tree_reading.specs.declared.call.CreateMode.{CreateMode}
+use Rattle.tree_reading.specs.declared.call.CreateMode.TheVariants as mode
+use Rattle.tree_reading.specs.declared.call.Held.{Held}
 use Rattle.stored_tree.specs.Stores.{stored}
 use Rattle.tree_calls.specs.declared.asked.Done.{Done}
 

@@ -20,10 +20,10 @@ use Rattle.tree_nodes.specs.declared.node.Node.{Node}
 use Rattle.tree_nodes.specs.declared.node.Body.TheVariants.{Directory, File}
 use Rattle.tree_reading.specs.Tree.{Tree, root, empty}
 use Rattle.file_tree.specs.Step.{create, rename, remove, replace}
-use Rattle.tree_plans.specs.declared.call.CreateMode.TheVariants as mode
-use Rattle.tree_plans.specs.declared.call.Held.{Held}
-use Rattle.tree_plans.specs.declared.call.Spot.{Spot}
-use Rattle.tree_plans.specs.declared.entry.EntryKind.TheVariants as line
+use Rattle.tree_reading.specs.declared.call.CreateMode.TheVariants as mode
+use Rattle.tree_reading.specs.declared.call.Held.{Held}
+use Rattle.tree_reading.specs.declared.call.Spot.{Spot}
+use Rattle.tree_reading.specs.declared.entry.EntryKind.TheVariants as line
 use Rattle.tree_calls.specs.declared.asked.Asked.{Asked}
 use Rattle.tree_calls.specs.declared.asked.Asked.TheVariants as asked
 use Rattle.tree_calls.specs.declared.asked.Outcome.{Outcome}

@@ -9,14 +9,14 @@ use Rattle.nfs3_calls.specs.declared.message.Nfs.TheVariants as nfs
 use Rattle.tree_nodes.specs.declared.node.Node.{Node}
 use Rattle.tree_reading.specs.Chain.{◌>>=◌}
 use Rattle.tree_reading.specs.Reading.{stands_for, version}
-use Rattle.tree_plans.specs.Plans.{create_plan, may_mkdir, remove_plan, rmdir_plan, rename_plan, is_node}
+use Rattle.tree_reading.specs.Plans.{create_plan, may_mkdir, remove_plan, rmdir_plan, rename_plan, is_node}
 use Rattle.file_tree.specs.Step.{remove, replace}
 use Rattle.tree_reading.specs.Tree.{Tree}
-use Rattle.tree_plans.specs.declared.call.Changed.{Changed}
-use Rattle.tree_plans.specs.declared.call.Held.{Held}
-use Rattle.tree_plans.specs.declared.call.Planned.{Planned}
-use Rattle.tree_plans.specs.declared.call.Planned.TheVariants as planned
-use Rattle.tree_plans.specs.declared.call.Spot.{Spot}
+use Rattle.tree_reading.specs.declared.call.Changed.{Changed}
+use Rattle.tree_reading.specs.declared.call.Held.{Held}
+use Rattle.tree_reading.specs.declared.call.Planned.{Planned}
+use Rattle.tree_reading.specs.declared.call.Planned.TheVariants as planned
+use Rattle.tree_reading.specs.declared.call.Spot.{Spot}
 use Rattle.tree_reading.specs.declared.reading.Standing.{Standing}
 use Rattle.stored_tree.specs.Stores.{stored}
 use Rattle.tree_calls.specs.declared.asked.Asked.{Asked}

@@ -9,8 +9,8 @@ use nfs3_calls::message::Nfs;
 use std::alloc::{AllocError, Global};
 use std::marker::Model;
 use stored_tree::pair::NamePair;
-use tree_plans::call::Spot;
-use tree_plans::entry::Entry;
+use tree_reading::call::Spot;
+use tree_reading::entry::Entry;
 use xdr_codec::answer::Answer;
 
 /// What a call was answered, and the entries of the journal that it made, in their order.
@@ -43,7 +43,7 @@ impl Drop for NewSpot {
 }
 
 impl Model for NewSpot {
-    ghost use Rattle.tree_plans.specs.declared.call.Spot.{Spot};
+    ghost use Rattle.tree_reading.specs.declared.call.Spot.{Spot};
 
     ghost Value = { Spot };
 

@@ -19,7 +19,7 @@ use nfs3_calls::message::Nfs;
 use std::alloc::{AllocError, Global};
 use store::store::Store;
 use stored_tree::pair::NamePair;
-use tree_plans::call::{Changed, Held, Planned};
+use tree_reading::call::{Changed, Held, Planned};
 use tree_reading::reading::Standing;
 use xdr_codec::answer::Answer;
 use xdr_codec::status::Status;

@@ -1,7 +1,7 @@
 //! Any call of NFS (`calls` in `specs/Waiting.antt`).
 
 ghost use Rattle.std.specs.Prelude.{◌≡◌, ◌+◌, ◌≤◌, Bool, false, IfOk, OnErr};
-ghost use Rattle.tree_plans.specs.declared.call.Held.{Held};
+ghost use Rattle.tree_reading.specs.declared.call.Held.{Held};
 ghost use Rattle.stored_tree.specs.Stores.{Keeps};
 ghost use Rattle.tree_calls.specs.Calling.{IsCalled, places_of, places_of_call};
 ghost use Rattle.tree_calls.specs.Telling.{id_of, told, TakesTold};
@@ -19,7 +19,7 @@ use nfs3_calls::message::Nfs;
 use nfs3_calls::place::{Place, Rename};
 use std::alloc::{AllocError, Global};
 use store::store::Store;
-use tree_plans::call::Held;
+use tree_reading::call::Held;
 
 #[tactic(auto, using(crate::proofs::Steps::create_misnamed, crate::proofs::Steps::kept_same))]
 fn create<S: Store>(

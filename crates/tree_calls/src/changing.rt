@@ -5,7 +5,7 @@ ghost use Rattle.std.specs.Prelude.{◌≡◌, ◌+◌, ◌<◌, ◌≤◌, Some
 ghost use Rattle.xdr_codec.specs.Handle.{handle_bytes};
 ghost use Rattle.xdr_codec.specs.declared.answer.Answer.TheVariants as answer;
 ghost use Rattle.nfs3_calls.specs.declared.message.Nfs.TheVariants as nfs;
-ghost use Rattle.tree_plans.specs.Plans.{create_plan, may_mkdir, rmdir_plan};
+ghost use Rattle.tree_reading.specs.Plans.{create_plan, may_mkdir, rmdir_plan};
 ghost use Rattle.stored_tree.specs.Stores.{Keeps};
 ghost use Rattle.tree_calls.specs.Calling.{IsCalled};
 ghost use Rattle.tree_calls.specs.Changing.{before, no_side, said, made_of, created, made_directory, mode_of, removed_directory, refused_rename, renamed, creates_under, mkdirs_under, rmdirs_under, renames_under};
@@ -22,7 +22,7 @@ use std::alloc::{AllocError, Global};
 use store::store::Store;
 use stored_tree::pair::NamePair;
 use stored_tree::steps;
-use tree_plans::call::{Changed, CreateMode, Held};
+use tree_reading::call::{Changed, CreateMode, Held};
 use xdr_codec::answer::Answer;
 use xdr_codec::handle::Handle;
 use xdr_codec::status::Status;

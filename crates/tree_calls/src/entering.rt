@@ -12,7 +12,7 @@ use file_tree::tree::Tree;
 use nfs3_calls::making::{NewDir, NewFile};
 use nfs3_calls::message::Nfs;
 use nfs3_calls::place::{Place, Rename};
-use tree_plans::call::Held;
+use tree_reading::call::Held;
 
 fn create_enters(tree: &Tree, held: Held, new: &NewFile) -> bool
     ensures { result ≡ enters tree.now.tree held false (nfs.Create new.now) }

@@ -6,7 +6,7 @@ ghost use Rattle.tree_calls.specs.Waiting.{spot_of};
 
 use lb_base::items::Name;
 use std::alloc::{AllocError, Global};
-use tree_plans::call::Spot;
+use tree_reading::call::Spot;
 use xdr_codec::handle::Handle;
 use xdr_codec::status::Status;
 

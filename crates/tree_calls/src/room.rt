@@ -5,7 +5,7 @@ ghost use Rattle.std.specs.Prelude.{◌≡◌, ◌+◌, ◌≤◌, OnOk};
 use std::alloc::AllocError;
 use store::store::Store;
 use stored_tree::places::places;
-use tree_plans::call::Held;
+use tree_reading::call::Held;
 
 /// Takes so many places in the store, beside one for each entry of the changes that wait. The one error
 /// is want of memory; no record changes.

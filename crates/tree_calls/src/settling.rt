@@ -19,8 +19,8 @@ use shared_bytes::SharedBytes;
 use store::store::Store;
 use stored_tree::steps;
 use tree_nodes::content::Content;
-use tree_plans::call::{Changed, Held, Spot};
-use tree_plans::checks::is_node;
+use tree_reading::call::{Changed, Held, Spot};
+use tree_reading::checks::is_node;
 use xdr_codec::answer::Answer;
 use xdr_codec::status::Status;
 

@@ -8,7 +8,7 @@ use crate::asked::Done;
 use file_tree::tree::Tree;
 use nfs3_calls::change::{Before, Wcc};
 use nfs3_calls::message::Nfs;
-use tree_plans::call::Changed;
+use tree_reading::call::Changed;
 use xdr_codec::attr::Attr;
 
 fn before_of(attr: Attr) -> Before

@@ -1,5 +1,5 @@
 use Rattle.std.proofs.Common.{length}
-use Rattle.tree_plans.specs.Plans.{create_plan, may_mkdir, remove_plan, rmdir_plan, rename_plan, replace_plan}
+use Rattle.tree_reading.specs.Plans.{create_plan, may_mkdir, remove_plan, rmdir_plan, rename_plan, replace_plan}
 use Rattle.file_tree.proofs.Ids.{rises_created, made_created, made_mkdir, same_removed, same_renamed, same_replaced}
 use Rattle.file_tree.proofs.laws.ids_come_once.Goals as goal
 

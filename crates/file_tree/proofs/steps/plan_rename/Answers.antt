@@ -1,11 +1,11 @@
 use Rattle.std.proofs.Common.{◌≡◌, Result, Ok, Err, IfOk, List, ℕ, sym}
 use Rattle.xdr_codec.specs.declared.status.Status.{Status}
-use Rattle.tree_plans.specs.declared.call.Held.{Held}
-use Rattle.tree_plans.specs.declared.call.Planned.{Planned}
+use Rattle.tree_reading.specs.declared.call.Held.{Held}
+use Rattle.tree_reading.specs.declared.call.Planned.{Planned}
 use Rattle.tree_reading.specs.Tree.{Tree}
-use Rattle.tree_plans.specs.Plans.{rename_plan, IsPlannedMove}
+use Rattle.tree_reading.specs.Plans.{rename_plan, IsPlannedMove}
 use Rattle.file_tree.specs.State.{state_of}
-use Rattle.tree_plans.proofs.Admitted.{rename_there}
+use Rattle.tree_reading.proofs.Admitted.{rename_there}
 use Rattle.file_tree.proofs.Limits.{bounds}
 use Rattle.file_tree.proofs.steps.plan_rename.Goals as goal
 

@@ -3,7 +3,7 @@ use Rattle.temp_files.specs.Temps.{Temps, temp_at, whole_of}
 use Rattle.temp_files.proofs.Entries.{some_same}
 use Rattle.server_core.specs.Asking.{admits}
 use Rattle.server_core.specs.Closing.{is_full}
-use Rattle.tree_plans.specs.declared.call.Held.{Held}
+use Rattle.tree_reading.specs.declared.call.Held.{Held}
 use Rattle.server_core.specs.State.{State, Change, entries_held}
 use Rattle.server_core.specs.View.{state_of}
 use Rattle.server_core.specs.declared.change.Wanted.TheVariants as wanted

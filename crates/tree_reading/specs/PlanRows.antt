@@ -2,12 +2,12 @@
 use Rattle.std.specs.Prelude.{◌≡◌, ℕ, List, [], ◌∷◌, map, Result, Ok, Err, codes, refl}
 use Rattle.xdr_codec.specs.declared.status.Status.{Status}
 use Rattle.xdr_codec.specs.declared.status.Status.TheVariants.{NoEnt, Acces, Exist, NotDir, IsDir, Inval, FBig, NoSpc, NameTooLong, NotEmpty, Stale, NotSupp}
-use Rattle.tree_plans.specs.declared.call.CreateMode.TheVariants.{Unchecked, Guarded, Exclusive}
-use Rattle.tree_plans.specs.declared.call.Held.{Held}
-use Rattle.tree_plans.specs.declared.call.Spot.{Spot}
-use Rattle.tree_plans.specs.declared.call.Call.{Call}
-use Rattle.tree_plans.specs.declared.call.Call.TheVariants.{Create, MkDir, Remove, RmDir, Rename, Replace}
-use Rattle.tree_plans.specs.Plans.{may}
+use Rattle.tree_reading.specs.declared.call.CreateMode.TheVariants.{Unchecked, Guarded, Exclusive}
+use Rattle.tree_reading.specs.declared.call.Held.{Held}
+use Rattle.tree_reading.specs.declared.call.Spot.{Spot}
+use Rattle.tree_reading.specs.declared.call.Call.{Call}
+use Rattle.tree_reading.specs.declared.call.Call.TheVariants.{Create, MkDir, Remove, RmDir, Rename, Replace}
+use Rattle.tree_reading.specs.Plans.{may}
 use Rattle.tree_reading.specs.Rows.{tree, long, longest, slashed, zeroed, dot, dot_dot}
 
 -- nothing waits

@@ -4,16 +4,16 @@
 ghost use Rattle.std.specs.Prelude.{◌≡◌, ◌+◌, ◌-◌, ◌<◌, ◌≤◌, ◌^◌, ◌==◌, IfOk, IfSome};
 ghost use Rattle.std.specs.Option.{option_copied};
 ghost use Rattle.tree_reading.specs.Tree.{contents_size, node_of};
-ghost use Rattle.tree_plans.specs.Plans.{create_found, may_create, may_mkdir, may_remove, may_rmdir, planned_over, planned_found, rename_plan, may_replace_content, create_plan, remove_plan, rmdir_plan, replace_plan, is_same};
-ghost use Rattle.tree_plans.specs.declared.call.CreateMode.TheVariants.{Guarded, Unchecked};
+ghost use Rattle.tree_reading.specs.Plans.{create_found, may_create, may_mkdir, may_remove, may_rmdir, planned_over, planned_found, rename_plan, may_replace_content, create_plan, remove_plan, rmdir_plan, replace_plan, is_same};
+ghost use Rattle.tree_reading.specs.declared.call.CreateMode.TheVariants.{Guarded, Unchecked};
 ghost use Rattle.tree_reading.specs.View.{lent, lent_option, tree_of, AreBounded, IsNodeBounded};
 
 use crate::call::{Changed, CreateMode, Held, Planned};
+use crate::finding::{self, at_name_within, counted_within, named_within};
+use crate::names::{spelt, undotted};
 use crate::{answers, checks};
 use tree_nodes::node::Node;
 use tree_nodes::nodes::Nodes;
-use tree_reading::finding::{self, at_name_within, counted_within, named_within};
-use tree_reading::names::{spelt, undotted};
 use xdr_codec::status::Status;
 
 // What CREATE finds where no name may be taken: nothing.
@@ -101,7 +101,7 @@ pub fn may_remove<'a>(
 }
 
 /// The directory that RMDIR removes.
-#[tactic(auto, using(tree_reading::proofs::Found::id_fits))]
+#[tactic(auto, using(crate::proofs::Found::id_fits))]
 pub fn may_rmdir<'a>(
     nodes: &'a Nodes,
     changes: u64,
@@ -212,7 +212,7 @@ pub fn replace(
 }
 
 // What RENAME comes to where the names stand for different nodes.
-#[tactic(auto, using(tree_reading::proofs::Found::id_fits))]
+#[tactic(auto, using(crate::proofs::Found::id_fits))]
 fn rename_over(
     nodes: &Nodes,
     changes: u64,

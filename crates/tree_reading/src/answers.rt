@@ -1,7 +1,7 @@
 //! What a change came to, and the entries that it makes (`specs/Plans.antt`).
 
 ghost use Rattle.std.specs.Prelude.{◌≡◌, ◌+◌, ◌<◌, ◌^◌, Some, None};
-ghost use Rattle.tree_plans.specs.Plans.{made_entry, name_entry, commit_entry, gone_entry, last_version, one, nothing, remove_done, move_done};
+ghost use Rattle.tree_reading.specs.Plans.{made_entry, name_entry, commit_entry, gone_entry, last_version, one, nothing, remove_done, move_done};
 
 use crate::call::Changed;
 use crate::entry::{Entry, EntryKind};

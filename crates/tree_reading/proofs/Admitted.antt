@@ -6,16 +6,16 @@ use Rattle.xdr_codec.specs.declared.status.Status.{Status}
 use Rattle.xdr_codec.specs.declared.status.Status.TheVariants as status
 use Rattle.tree_nodes.specs.declared.node.Node.{Node}
 use Rattle.tree_nodes.specs.Nodes.{named, with_id}
-use Rattle.tree_plans.specs.declared.call.CreateMode.{CreateMode}
-use Rattle.tree_plans.specs.declared.call.CreateMode.TheVariants as mode
-use Rattle.tree_plans.specs.declared.call.Held.{Held}
-use Rattle.tree_plans.specs.declared.call.Changed.{Changed}
-use Rattle.tree_plans.specs.declared.call.Planned.{Planned}
+use Rattle.tree_reading.specs.declared.call.CreateMode.{CreateMode}
+use Rattle.tree_reading.specs.declared.call.CreateMode.TheVariants as mode
+use Rattle.tree_reading.specs.declared.call.Held.{Held}
+use Rattle.tree_reading.specs.declared.call.Changed.{Changed}
+use Rattle.tree_reading.specs.declared.call.Planned.{Planned}
 use Rattle.tree_reading.proofs.Found.{some_is, ok_is, entry_is}
 use Rattle.tree_reading.specs.Chain.{◌>>=◌}
 use Rattle.tree_reading.specs.Names.{spelt, undotted}
 use Rattle.tree_reading.specs.Tree.{Tree, is_directory, contents_size, node_of, or_stale, directory_or, file_or, directory_of, or_no_entry, or_taken, changes_most, file_most, tree_most}
-use Rattle.tree_plans.specs.Plans.{spared, spared_bytes, within_file, create_found, create_mode, may_create, create_plan, nothing, may_mkdir, may_remove, remove_plan, remove_done, or_not_empty, may_rmdir, rmdir_plan, Target, itself, over, or_within, may_replace, rename_over, is_same, planned_found, rename_plan, planned, may_replace_content, replace_plan, IsPlannedMove}
+use Rattle.tree_reading.specs.Plans.{spared, spared_bytes, within_file, create_found, create_mode, may_create, create_plan, nothing, may_mkdir, may_remove, remove_plan, remove_done, or_not_empty, may_rmdir, rmdir_plan, Target, itself, over, or_within, may_replace, rename_over, is_same, planned_found, rename_plan, planned, may_replace_content, replace_plan, IsPlannedMove}
 
 pub bind_ok : {A B : Type 0} (r : Result A Status) (f : A → Result B Status) (y : B) → (r >>= f) ≡ Ok y → (x : A) × (r ≡ Ok x) × (f x ≡ Ok y)
 bind_ok (Ok x) f y e = (x, refl, e)

@@ -9,16 +9,16 @@ use Rattle.tree_nodes.specs.declared.node.Node.{Node}
 use Rattle.tree_nodes.specs.declared.node.Body.{Body}
 use Rattle.tree_nodes.specs.declared.node.Body.TheVariants.{Directory, File}
 use Rattle.tree_nodes.specs.Nodes.{named, names}
-use Rattle.tree_plans.specs.declared.entry.Entry.{Entry}
-use Rattle.tree_plans.specs.declared.entry.EntryKind.TheVariants as kind
-use Rattle.tree_plans.specs.declared.call.CreateMode.{CreateMode}
-use Rattle.tree_plans.specs.declared.call.CreateMode.TheVariants as mode
-use Rattle.tree_plans.specs.declared.call.Held.{Held}
-use Rattle.tree_plans.specs.declared.call.Call.{Call}
-use Rattle.tree_plans.specs.declared.call.Call.TheVariants as call
-use Rattle.tree_plans.specs.declared.call.Changed.{Changed}
-use Rattle.tree_plans.specs.declared.call.Planned.{Planned}
-use Rattle.tree_plans.specs.declared.call.Planned.TheVariants.{Nothing, Free, Over}
+use Rattle.tree_reading.specs.declared.entry.Entry.{Entry}
+use Rattle.tree_reading.specs.declared.entry.EntryKind.TheVariants as kind
+use Rattle.tree_reading.specs.declared.call.CreateMode.{CreateMode}
+use Rattle.tree_reading.specs.declared.call.CreateMode.TheVariants as mode
+use Rattle.tree_reading.specs.declared.call.Held.{Held}
+use Rattle.tree_reading.specs.declared.call.Call.{Call}
+use Rattle.tree_reading.specs.declared.call.Call.TheVariants as call
+use Rattle.tree_reading.specs.declared.call.Changed.{Changed}
+use Rattle.tree_reading.specs.declared.call.Planned.{Planned}
+use Rattle.tree_reading.specs.declared.call.Planned.TheVariants.{Nothing, Free, Over}
 use Rattle.tree_reading.specs.declared.reading.Standing.{Standing}
 use Rattle.tree_reading.specs.Names.{spelt, undotted}
 use Rattle.tree_reading.specs.Tree.{changes_most, file_most, tree_most, Tree, is_directory, contents_size, node_of, directory_or, file_or, directory_of, or_no_entry, or_taken, is_within}

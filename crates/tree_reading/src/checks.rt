@@ -2,15 +2,15 @@
 
 ghost use Rattle.std.specs.Prelude.{◌≡◌, ◌-◌, ◌<◌, ◌^◌, ◌==◌, length};
 ghost use Rattle.tree_nodes.specs.Nodes.{names};
-ghost use Rattle.tree_plans.specs.Plans.{spared, spared_bytes, within_file, or_not_empty, or_within, may_replace, is_node};
+ghost use Rattle.tree_reading.specs.Plans.{spared, spared_bytes, within_file, or_not_empty, or_within, may_replace, is_node};
 
 use crate::call::Held;
+use crate::finding::{is_directory, is_within};
+use crate::reading::Standing;
 use limits::{FILE_MOST, TREE_MOST};
 use server_rules::tree::{are_too_many, is_still};
 use tree_nodes::node::Node;
 use tree_nodes::nodes::Nodes;
-use tree_reading::finding::{is_directory, is_within};
-use tree_reading::reading::Standing;
 use xdr_codec::status::Status;
 
 /// Whether so many changes more may be made.
