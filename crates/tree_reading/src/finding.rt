@@ -2,7 +2,7 @@
 //! directory is below which (`specs/Tree.antt`). None of this takes memory. What is said to be within
 //! the bounds of a tree (`AreBounded`, `specs/View.antt`) fits into the fields of an answer.
 
-ghost use Rattle.std.specs.Prelude.{◌≡◌, ◌<◌, ◌^◌, Some, IfOk, IfSome};
+ghost use Rattle.std.specs.Prelude.{◌≡◌, Some, IfOk};
 ghost use Rattle.std.specs.Option.{option_copied};
 ghost use Rattle.tree_nodes.specs.Nodes.{named, with_id};
 ghost use Rattle.tree_reading.specs.Tree.{node_of, directory_or, file_or, directory_of, or_no_entry, or_taken, is_directory, is_within};
@@ -65,23 +65,15 @@ pub fn directory_of(nodes: &Nodes, id: u64) -> Result<&Node, Status>
     directory_or(node, Status::NotDir)
 }
 
-// The node, or no entry.
-fn or_no_entry(node: Option<&Node>) -> Result<&Node, Status>
-    ensures exact { lent result ≡ or_no_entry (option_copied node.entry) }
-    ensures same { IfOk result (λ n. option_copied node.entry ≡ Some n.now) }
-{
-    match node {
-        Some(node) => Ok(node),
-        None => Err(Status::NoEnt),
-    }
-}
-
 /// The node of a name.
 pub fn found<'a>(nodes: &'a Nodes, dir: u64, name: &[u8]) -> Result<&'a Node, Status>
     ensures exact { lent result ≡ or_no_entry (named nodes.now.nodes dir name.now) }
     ensures there { IfOk result (λ n. named nodes.now.nodes dir name.now ≡ Some n.now) }
 {
-    or_no_entry(nodes.named(dir, name))
+    match nodes.named(dir, name) {
+        Some(node) => Ok(node),
+        None => Err(Status::NoEnt),
+    }
 }
 
 /// Refuses a name that is taken.
@@ -147,28 +139,4 @@ pub fn named_within<'a>(
 {
     let _changes = changes;
     found(nodes, dir, name)
-}
-
-/// The node of a name, whose version is one that a tree may have.
-pub fn counted_within<'a>(
-    nodes: &'a Nodes,
-    changes: u64,
-    dir: u64,
-    name: &[u8],
-) -> Result<&'a Node, Status>
-    requires { AreBounded nodes.now changes }
-    ensures exact { lent result ≡ or_no_entry (named nodes.now.nodes dir name.now) }
-    ensures counted { IfOk result (λ n. n.now.version < 2 ^ 32) }
-{
-    named_within(nodes, changes, dir, name)
-}
-
-/// The node of a name, if there is one, which is within the bounds of a tree.
-pub fn at_name_within<'a>(nodes: &'a Nodes, changes: u64, dir: u64, name: &[u8]) -> Option<&'a Node>
-    requires { AreBounded nodes.now changes }
-    ensures exact { option_copied result ≡ named nodes.now.nodes dir name.now }
-    ensures bounded { IfSome result (λ m. IsNodeBounded nodes.now.next changes m.now) }
-{
-    let _changes = changes;
-    nodes.named(dir, name)
 }

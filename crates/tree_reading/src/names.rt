@@ -11,7 +11,12 @@ use xdr_codec::status::Status;
 fn has_wrong(name: &[u8]) -> bool
     ensures { result ≡ list_any (λ b. (b == 47) || (b == 0)) name.now }
 {
-    name.iter().any(|&byte| byte == b'/' || byte == 0)
+    for byte in name {
+        if *byte == b'/' || *byte == 0 {
+            return true;
+        }
+    }
+    false
 }
 
 // Whether a name has no byte, or a wrong one.

@@ -9,7 +9,7 @@ ghost use Rattle.tree_reading.specs.declared.call.CreateMode.TheVariants.{Guarde
 ghost use Rattle.tree_reading.specs.View.{lent, lent_option, tree_of, AreBounded, IsNodeBounded};
 
 use crate::call::{Changed, CreateMode, Held, Planned};
-use crate::finding::{self, at_name_within, counted_within, named_within};
+use crate::finding::{self, named_within};
 use crate::names::{spelt, undotted};
 use crate::{answers, checks};
 use tree_nodes::node::Node;
@@ -34,10 +34,7 @@ fn found_unchecked(found: Option<&Node>, changes: u64, held: Held) -> Result<Opt
             checks::spared(changes, held, 1)?;
             Ok(None)
         }
-        Some(node) => {
-            let file = finding::file_or(node, Status::Exist)?;
-            Ok(Some(file))
-        }
+        Some(node) => Ok(Some(finding::file_or(node, Status::Exist)?)),
     }
 }
 
@@ -270,6 +267,7 @@ fn rename_found(
 }
 
 /// What RENAME comes to.
+#[tactic(auto, using(crate::proofs::Found::version_fits))]
 pub fn rename(
     nodes: &Nodes,
     changes: u64,
@@ -290,13 +288,6 @@ pub fn rename(
     undotted(name, Status::Inval, Status::Inval)?;
     spelt(to_name)?;
     undotted(to_name, Status::Inval, Status::Inval)?;
-    let node = counted_within(nodes, changes, dir, name)?;
-    rename_found(
-        nodes,
-        changes,
-        held,
-        node,
-        to,
-        at_name_within(nodes, changes, to, to_name),
-    )
+    let node = named_within(nodes, changes, dir, name)?;
+    rename_found(nodes, changes, held, node, to, nodes.named(to, to_name))
 }

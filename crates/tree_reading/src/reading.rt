@@ -5,7 +5,7 @@ ghost use Rattle.std.specs.Option.{option_copied};
 ghost use Rattle.tree_nodes.specs.Nodes.{with_id};
 ghost use Rattle.tree_reading.specs.Tree.{content_of, node_of, file_most};
 ghost use Rattle.tree_reading.specs.View.{lent, lent_list, AreBounded, IsNodeBounded};
-ghost use Rattle.tree_reading.specs.Reading.{time_of, file_attr, directory_attr, attr_of, attr, above, looked, lookup, piece_bytes, piece_of, read, content, chunks_in, chunks, version, standing_of, stands_for, Answers};
+ghost use Rattle.tree_reading.specs.Reading.{time_of, file_attr, attr_of, attr, above, looked, lookup, piece_bytes, piece_of, read, content, chunks_in, chunks, version, standing_of, stands_for, Answers};
 
 use crate::error::TreeErr;
 use crate::finding::{self, directory_within, known};
@@ -50,42 +50,20 @@ fn time_of(version: u64) -> Time
     }
 }
 
-fn file_attr(id: u64, version: u64, size: u64) -> Attr
+// The attributes of a node of this kind, of so many bytes or entries.
+fn attr_with(kind: Kind, mode: u32, nlink: u32, id: u64, version: u64, size: u64) -> Attr
     requires { version < 2 ^ 32 }
-    ensures { result ≡ file_attr id version size }
+    ensures { result ≡ record (file_attr id version size) { kind = kind; mode = mode; nlink = nlink } }
 {
     let time = time_of(version);
     Attr {
-        kind: Kind::File,
-        mode: 0o644,
-        nlink: 1,
+        kind,
+        mode,
+        nlink,
         uid: 0,
         gid: 0,
         size,
         used: size,
-        rdev_major: 0,
-        rdev_minor: 0,
-        fsid: 0x4C42_4653,
-        fileid: id,
-        atime: time,
-        mtime: time,
-        ctime: time,
-    }
-}
-
-fn directory_attr(id: u64, version: u64, entries: u64) -> Attr
-    requires { version < 2 ^ 32 }
-    ensures { result ≡ directory_attr id version entries }
-{
-    let time = time_of(version);
-    Attr {
-        kind: Kind::Directory,
-        mode: 0o755,
-        nlink: 2,
-        uid: 0,
-        gid: 0,
-        size: entries,
-        used: entries,
         rdev_major: 0,
         rdev_minor: 0,
         fsid: 0x4C42_4653,
@@ -105,9 +83,13 @@ pub fn attr_of(nodes: &Nodes, node: &Node) -> Attr
     match &node.body {
         Body::Directory => {
             let (start, end) = nodes.places(node.id);
-            directory_attr(node.id, node.version, (end - start) as u64)
+            let entries = (end - start) as u64;
+            attr_with(Kind::Directory, 0o755, 2, node.id, node.version, entries)
         }
-        Body::File(content) => file_attr(node.id, node.version, content.len() as u64),
+        Body::File(content) => {
+            let size = content.len() as u64;
+            attr_with(Kind::File, 0o644, 1, node.id, node.version, size)
+        }
     }
 }
 
@@ -262,10 +244,8 @@ pub fn at_name(nodes: &Nodes, dir: u64, name: &[u8]) -> Option<Standing>
 pub fn content(alloc: Global, nodes: &Nodes, id: u64) -> Result<Bytes, TreeErr>
     ensures { Answers (content nodes.now.nodes id) result }
 {
-    let node = finding::node_of(nodes, id)?;
-    let file = finding::file_or(node, Status::IsDir)?;
-    let bytes = Bytes::copy_of(alloc, bytes_of(file))?;
-    Ok(bytes)
+    let bytes = file_bytes(nodes, id)?;
+    Ok(Bytes::copy_of(alloc, bytes)?)
 }
 
 // The directory above one: the root's is the root.
