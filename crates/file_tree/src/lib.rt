@@ -6,7 +6,6 @@
 
 pub mod laws;
 pub mod opening;
-pub mod reads;
 pub mod state;
 pub mod steps;
 pub mod tree;

@@ -13,7 +13,7 @@ ghost use Rattle.tree_reading.specs.View.{lent_list, tree_of};
 ghost use Rattle.file_tree.specs.View.{IsWithinLimits};
 
 use crate::state::{self, TreeState};
-use crate::{opening, reads, steps};
+use crate::{opening, steps};
 use chunk_cut::chunk::Chunk;
 use lb_base::items::{Bytes, Name};
 use nfs3_calls::call::Piece;
@@ -26,8 +26,8 @@ use tree_nodes::node::{Body, Node};
 use tree_nodes::nodes::Nodes;
 use tree_reading::call::{Call, Changed, CreateMode, Held, Planned};
 use tree_reading::error::TreeErr;
-use tree_reading::plans;
 use tree_reading::reading::{self, Looked, Standing};
+use tree_reading::{answers, listing, plans};
 use xdr_codec::attr::Attr;
 use xdr_codec::status::Status;
 
@@ -110,17 +110,25 @@ impl Tree {
     }
 
     /// What a store's head says once a node was made. It takes no memory.
+    #[tactic(auto, using(crate::proofs::Limits::bounds))]
     pub fn head_made(&self) -> Head
         ensures { result ≡ record { next = self.now.tree.next + 1; changes = self.now.tree.changes + 1 } }
     {
-        steps::head_made(&self.state)
+        Head {
+            next: self.state.nodes.next() + 1,
+            changes: self.state.changes + 1,
+        }
     }
 
     /// What a store's head says once so many changes more were made. It takes no memory.
+    #[tactic(auto, using(crate::proofs::Limits::bounds))]
     pub fn head_changed(&self, count: u8) -> Head
         ensures { result ≡ record { next = self.now.tree.next; changes = self.now.tree.changes + count } }
     {
-        steps::head_changed(&self.state, count)
+        Head {
+            next: self.state.nodes.next(),
+            changes: self.state.changes + u64::from(count),
+        }
     }
 
     /// How many bytes all contents have. It takes no memory.
@@ -131,6 +139,7 @@ impl Tree {
     }
 
     /// CREATE. It needs the place of one node, and takes no memory.
+    #[tactic(auto, using(tree_reading::proofs::Admitted::create_free))]
     pub fn create(
         &mut self,
         dir: u64,
@@ -142,32 +151,62 @@ impl Tree {
         ensures done { create self.old.tree held dir name mode ≡ (self.new.tree, result) }
         ensures room { self.old.room ≤ self.new.room + 1 }
     {
-        steps::create(&mut self.state, held, dir, name, mode)
+        let state = &mut self.state;
+        let plan = plans::create(
+            &state.nodes,
+            state.changes,
+            held,
+            dir,
+            name.as_slice(),
+            mode,
+        )?;
+        if let Some(done) = plan {
+            return Ok(done);
+        }
+        let id = state.nodes.next();
+        let node = steps::new_file(state, id, dir, name);
+        state.make(node);
+        Ok(answers::one(id, 1, answers::made_entry(id)))
     }
 
     /// MKDIR. It needs the place of one node, and takes no memory.
+    #[tactic(auto, using(tree_reading::proofs::Admitted::mkdir_free))]
     pub fn mkdir(&mut self, dir: u64, name: Name, held: Held) -> Result<Changed, Status>
         requires { 0 < self.old.room }
         ensures done { mkdir self.old.tree held dir name ≡ (self.new.tree, result) }
         ensures room { self.old.room ≤ self.new.room + 1 }
     {
-        steps::mkdir(&mut self.state, held, dir, name)
+        let state = &mut self.state;
+        plans::may_mkdir(&state.nodes, state.changes, held, dir, name.as_slice())?;
+        let id = state.nodes.next();
+        let version = state.changes + 1;
+        let node = steps::new_directory(id, dir, name, version);
+        state.make(node);
+        Ok(answers::one(id, version, answers::name_entry(id)))
     }
 
     /// REMOVE, once nothing blocks it. It takes no memory.
+    #[tactic(auto, using(crate::proofs::Limits::bounds, tree_reading::proofs::Admitted::remove_there))]
     pub fn remove(&mut self, dir: u64, name: &[u8], held: Held) -> Result<Changed, Status>
         ensures done { remove self.old.tree held dir name.now ≡ (self.new.tree, result) }
         ensures room { self.old.room ≤ self.new.room }
     {
-        steps::remove(&mut self.state, held, dir, name)
+        let state = &mut self.state;
+        let done = plans::remove(&state.nodes, state.changes, held, dir, name)?;
+        state.take_away(dir, name);
+        Ok(done)
     }
 
     /// RMDIR. It takes no memory.
+    #[tactic(auto, using(crate::proofs::Limits::bounds, tree_reading::proofs::Admitted::rmdir_there))]
     pub fn rmdir(&mut self, dir: u64, name: &[u8], held: Held) -> Result<Changed, Status>
         ensures done { rmdir self.old.tree held dir name.now ≡ (self.new.tree, result) }
         ensures room { self.old.room ≤ self.new.room }
     {
-        steps::rmdir(&mut self.state, held, dir, name)
+        let state = &mut self.state;
+        let done = plans::rmdir(&state.nodes, state.changes, held, dir, name)?;
+        state.take_away(dir, name);
+        Ok(done)
     }
 
     /// RENAME, once nothing blocks it. It takes no memory.
@@ -186,11 +225,17 @@ impl Tree {
     }
 
     /// COMMITTMP, once its content is whole and nothing blocks it. It takes no memory.
+    #[tactic(auto, using(crate::proofs::Limits::bounds, tree_reading::proofs::Admitted::replace_there))]
     pub fn replace(&mut self, id: u64, content: Content, held: Held) -> Result<Changed, Status>
         ensures done { replace self.old.tree held id content ≡ (self.new.tree, result) }
         ensures room { self.old.room ≤ self.new.room }
     {
-        steps::replace(&mut self.state, held, id, content)
+        let state = &mut self.state;
+        let len = content.len() as u64;
+        let version = plans::replace(&state.nodes, state.changes, state.bytes, held, id, len)?;
+        let entry = answers::commit_entry(id, version, &content);
+        state.refill(id, version, content);
+        Ok(answers::one(id, version, entry))
     }
 
     /// Why such a call would be refused, up to want of space. It changes nothing and takes no
@@ -223,25 +268,29 @@ impl Tree {
     }
 
     /// What REMOVE comes to. It changes nothing and takes no memory.
+    #[tactic(auto, using(crate::proofs::Limits::bounds))]
     pub fn plan_remove(&self, dir: u64, name: &[u8], held: Held) -> Result<Changed, Status>
         ensures { result ≡ remove_plan self.now.tree held dir name.now }
     {
-        steps::plan_remove(&self.state, held, dir, name)
+        plans::remove(&self.state.nodes, self.state.changes, held, dir, name)
     }
 
     /// What RMDIR comes to. It changes nothing and takes no memory.
+    #[tactic(auto, using(crate::proofs::Limits::bounds))]
     pub fn plan_rmdir(&self, dir: u64, name: &[u8], held: Held) -> Result<Changed, Status>
         ensures { result ≡ rmdir_plan self.now.tree held dir name.now }
     {
-        steps::plan_rmdir(&self.state, held, dir, name)
+        plans::rmdir(&self.state.nodes, self.state.changes, held, dir, name)
     }
 
     /// The version that a file comes to by a content of so many bytes. It changes nothing and takes no
     /// memory.
+    #[tactic(auto, using(crate::proofs::Limits::bounds))]
     pub fn plan_replace(&self, id: u64, len: u64, held: Held) -> Result<u64, Status>
         ensures { result ≡ replace_plan self.now.tree held id len }
     {
-        steps::plan_replace(&self.state, held, id, len)
+        let state = &self.state;
+        plans::replace(&state.nodes, state.changes, state.bytes, held, id, len)
     }
 
     /// What RENAME comes to. It changes nothing and takes no memory.
@@ -267,17 +316,19 @@ impl Tree {
 
     /// LOOKUP: the id of what a name stands for, its attributes and the directory's. It takes no
     /// memory.
+    #[tactic(auto, using(crate::proofs::Limits::bounds))]
     pub fn lookup(&self, dir: u64, name: &[u8]) -> Result<Looked, Status>
         ensures { result ≡ lookup self.now.tree.nodes dir name.now }
     {
-        reads::lookup(&self.state, dir, name)
+        reading::lookup(&self.state.nodes, self.state.changes, dir, name)
     }
 
     /// The attributes of a file or directory. It takes no memory.
+    #[tactic(auto, using(crate::proofs::Limits::bounds))]
     pub fn attr(&self, id: u64) -> Result<Attr, Status>
         ensures { result ≡ attr self.now.tree.nodes id }
     {
-        reads::attr(&self.state, id)
+        reading::attr(&self.state.nodes, self.state.changes, id)
     }
 
     /// The version of a file or directory. It takes no memory.
@@ -288,11 +339,12 @@ impl Tree {
     }
 
     /// The node of an id, if there is one. It takes no memory.
+    #[tactic(auto, using(crate::proofs::Limits::bounds))]
     pub fn node(&self, id: u64) -> Option<&Node>
         ensures node { option_copied result ≡ with_id self.now.tree.nodes id }
         ensures short { IfSome result (λ n. length (content_of n.now.body) ≤ file_most) }
     {
-        reads::node(&self.state, id)
+        reading::node(&self.state.nodes, self.state.changes, id)
     }
 
     /// The bytes of a file. It takes no memory.
@@ -317,16 +369,28 @@ impl Tree {
     }
 
     /// READ: a copy of the bytes of a file from an offset on, at most `count` and at most 65,536.
+    #[tactic(auto, using(crate::proofs::Limits::bounds))]
     pub fn read(&self, id: u64, offset: u64, count: u32) -> Result<Piece, TreeErr>
         ensures { Answers (read self.now.tree.nodes id offset count) result }
     {
-        reads::read(&self.state, id, offset, count)
+        let state = &self.state;
+        reading::read(state.alloc, &state.nodes, state.changes, id, offset, count)
     }
 
     /// READDIR: copies of the entries behind a cookie, in an answer of at most `count` bytes.
+    #[tactic(auto, using(crate::proofs::Limits::bounds))]
     pub fn list(&self, dir: u64, cookie: u64, verifier: u64, count: u32) -> Result<Listing, TreeErr>
         ensures { Answers (list self.now.tree.nodes dir cookie verifier count) result }
     {
-        reads::list(&self.state, dir, cookie, verifier, count)
+        let state = &self.state;
+        listing::list(
+            state.alloc,
+            &state.nodes,
+            state.changes,
+            dir,
+            cookie,
+            verifier,
+            count,
+        )
     }
 }
