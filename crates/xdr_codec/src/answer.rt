@@ -7,6 +7,7 @@ ghost use Rattle.xdr_codec.specs.Answers.{outcome_form, outcome_of, outcome_numb
 
 use crate::fault::{Fault, ReadError};
 use crate::item::Item;
+use crate::read_as;
 use crate::reader::Reader;
 use crate::status::{Status, from_number, number};
 use crate::writer::Writer;
@@ -63,8 +64,11 @@ impl<T: Item, F: Item> Item for Answer<T, F> {
 
     fn read(alloc: Global, reader: &mut Reader) -> Result<Answer<T, F>, ReadError> {
         match read_outcome(reader)? {
-            None => Ok(Answer::Done(T::read(alloc, reader)?)),
-            Some(status) => Ok(Answer::Failed(status, F::read(alloc, reader)?)),
+            None => read_as!(Answer::Done, T::read(alloc, reader)),
+            Some(status) => match F::read(alloc, reader) {
+                Ok(body) => Ok(Answer::Failed(status, body)),
+                Err(why) => Err(why),
+            },
         }
     }
 

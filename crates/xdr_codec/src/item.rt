@@ -10,6 +10,7 @@ ghost use Rattle.xdr_codec.specs.Repeat.{repeated, counted};
 ghost use Rattle.xdr_codec.specs.Chain.{chained, link_spell};
 
 use crate::fault::{Fault, ReadError};
+use crate::read_as;
 use crate::reader::Reader;
 use crate::writer::Writer;
 use lb_base::items::Items;
@@ -33,6 +34,18 @@ pub trait Item: Sized + Drop {
     fn write(&self, writer: &mut Writer) -> Result<(), AllocError>
         ensures spelled { OnOk result (writer.new ≡ writer.old ++ form.spell self.now) }
         ensures fits { OnOk result (short self.now → form.Fits self.now) };
+}
+
+/// What was read as this variant of a larger type, or why nothing was. (Written with `?`, it would
+/// be two calls more in each arm of a `match`, and as many ways out.)
+#[macro_export]
+macro_rules! read_as {
+    ($variant:path, $read:expr) => {
+        match $read {
+            Ok(item) => Ok($variant(item)),
+            Err(why) => Err(why),
+        }
+    };
 }
 
 /// Reads one item from the front of a record, as `Item::read` does; after an `Err`, want of memory
@@ -145,7 +158,7 @@ impl<T: Item> Item for Option<T> {
 
     fn read(alloc: Global, reader: &mut Reader) -> Result<Option<T>, ReadError> {
         if reader.bool()? {
-            Ok(Some(T::read(alloc, reader)?))
+            read_as!(Some, T::read(alloc, reader))
         } else {
             Ok(None)
         }
@@ -174,18 +187,6 @@ fn read_many<T: Item>(alloc: Global, count: u32, reader: &mut Reader) -> Result<
     Ok(Items::from_vec(items))
 }
 
-/// The number, and so many items.
-fn read_number_and<T: Item>(
-    alloc: Global,
-    max: u32,
-    reader: &mut Reader,
-) -> Result<Items<T>, ReadError>
-    ensures { Gives result reader.new ((counted max T.form).read reader.old) }
-{
-    let count = reader.count(max)?;
-    read_many(alloc, count, reader)
-}
-
 /// Items behind their number, which is at most `max`, else `TooLong` (RFC 4506, section 4.13). After
 /// an `Err` the reader is where it was.
 pub fn read_counted<T: Item>(
@@ -197,7 +198,8 @@ pub fn read_counted<T: Item>(
     ensures stays { OnErr result (reader.new ≡ reader.old) }
 {
     let start = reader.here();
-    let read = read_number_and(alloc, max, reader);
+    let count = reader.count(max)?;
+    let read = read_many(alloc, count, reader);
     if read.is_err() {
         *reader = start;
     }
@@ -251,17 +253,6 @@ fn write_link<T: Item>(writer: &mut Writer, item: &T) -> Result<(), AllocError>
     item.write(writer)
 }
 
-/// Links up to the false; want of memory leaves a part of them.
-fn write_links<T: Item>(writer: &mut Writer, items: &[T]) -> Result<(), AllocError>
-    ensures spelled { OnOk result (writer.new ≡ writer.old ++ (chained T.form).spell items.now) }
-    ensures fits { OnOk result (All T.short items.now → All T.form.Fits items.now) }
-{
-    for item in items {
-        write_link(writer, item)?;
-    }
-    writer.bool(false)
-}
-
 /// Items, each behind a true, and a false (RFC 4506, section 4.19). After an `Err`, which says that
 /// memory ran out, the writer holds what it held.
 pub fn write_chain<T: Item>(writer: &mut Writer, items: &[T]) -> Result<(), AllocError>
@@ -270,29 +261,24 @@ pub fn write_chain<T: Item>(writer: &mut Writer, items: &[T]) -> Result<(), Allo
     ensures stays { OnErr result (writer.new ≡ writer.old) }
 {
     let mut part = writer.part();
-    write_links(&mut part, items)?;
+    for item in items {
+        write_link(&mut part, item)?;
+    }
+    part.bool(false)?;
     writer.append(part)
-}
-
-/// The number, and the items; want of memory leaves a part of them.
-#[tactic(auto, unfolding(crate::specs::Xdr::count_form, crate::specs::Xdr::u32_form))]
-fn write_number_and<T: Item>(writer: &mut Writer, items: &[T]) -> Result<(), AllocError>
-    ensures spelled { (max : ℕ) → OnOk result (writer.new ≡ writer.old ++ (counted max T.form).spell items.now) }
-    ensures fits { OnOk result ((max : ℕ) → length items.now ≤ max → max < 2 ^ 32 → All T.short items.now → (counted max T.form).Fits items.now) }
-{
-    writer.u32((items.len() % 0x1_0000_0000) as u32)?;
-    write_many(writer, items)
 }
 
 /// Items behind their number (RFC 4506, section 4.13). They are to be fewer than 2 ^ 32, as those of
 /// any message that fits are. After an `Err`, which says that memory ran out, the writer holds what
 /// it held.
+#[tactic(auto, unfolding(crate::specs::Xdr::count_form, crate::specs::Xdr::u32_form))]
 pub fn write_counted<T: Item>(writer: &mut Writer, items: &[T]) -> Result<(), AllocError>
     ensures spelled { (max : ℕ) → OnOk result (writer.new ≡ writer.old ++ (counted max T.form).spell items.now) }
     ensures fits { OnOk result ((max : ℕ) → length items.now ≤ max → max < 2 ^ 32 → All T.short items.now → (counted max T.form).Fits items.now) }
     ensures stays { OnErr result (writer.new ≡ writer.old) }
 {
     let mut part = writer.part();
-    write_number_and(&mut part, items)?;
+    part.u32((items.len() % 0x1_0000_0000) as u32)?;
+    write_many(&mut part, items)?;
     writer.append(part)
 }

@@ -99,23 +99,6 @@ fn all_args<M: ProgramBody>(
     at_end(body, rest)
 }
 
-fn kept_args<M: ProgramBody>(
-    alloc: Global,
-    procedure: M::Procedure,
-    rest: &mut Reader,
-) -> Result<M, ReadError>
-    ensures exact { GivesAll result (whole_at rest.old.at (M.args_form procedure) rest.old.rest) }
-    ensures ends { IfOk result (λ m. (M.args_form procedure).read rest.old ≡ Ok (m, rest.new)) }
-    ensures stays { OnErr result (rest.new ≡ rest.old) }
-{
-    let start = rest.here();
-    let read = all_args(alloc, procedure, rest);
-    if read.is_err() {
-        *rest = start;
-    }
-    read
-}
-
 /// The arguments of a procedure, which fill what is left of a record. After an `Err`, want of memory
 /// too, the reader is where it was.
 pub fn read_args<M: ProgramBody>(
@@ -133,7 +116,12 @@ pub fn read_args<M: ProgramBody>(
     ensures ends { IfOk result (λ m. (M.args_form procedure).read rest.old ≡ Ok (m, rest.new)) }
     ensures stays { OnErr result (rest.new ≡ rest.old) }
 {
-    kept_args(alloc, procedure, rest)
+    let start = rest.here();
+    let read = all_args(alloc, procedure, rest);
+    if read.is_err() {
+        *rest = start;
+    }
+    read
 }
 
 fn all_results<M: ProgramBody>(
@@ -147,24 +135,6 @@ fn all_results<M: ProgramBody>(
 {
     let body = M::read_results_in(alloc, procedure, rest)?;
     at_end(body, rest)
-}
-
-fn kept_results<M: ProgramBody>(
-    alloc: Global,
-    procedure: M::Procedure,
-    rest: &mut Reader,
-) -> Result<M, ReadError>
-    ensures exact { GivesAll result (whole_at rest.old.at (M.results_form procedure) rest.old.rest) }
-    ensures ends { IfOk result (λ m. (M.results_form procedure).read rest.old ≡ Ok (m, rest.new)) }
-    ensures stays { OnErr result (rest.new ≡ rest.old) }
-    ensures calm { IsErrOf result ReadError.Memory → M.MayWant procedure }
-{
-    let start = rest.here();
-    let read = all_results(alloc, procedure, rest);
-    if read.is_err() {
-        *rest = start;
-    }
-    read
 }
 
 /// What a procedure gave, which fills what is left of a record. After an `Err`, want of memory too,
@@ -186,7 +156,12 @@ pub fn read_results<M: ProgramBody>(
     // Where results hold nothing that is copied, no memory is wanting.
     ensures calm { IsErrOf result ReadError.Memory → M.MayWant procedure }
 {
-    kept_results(alloc, procedure, rest)
+    let start = rest.here();
+    let read = all_results(alloc, procedure, rest);
+    if read.is_err() {
+        *rest = start;
+    }
+    read
 }
 
 /// The one spelling. The one error is want of memory; then nothing is left of what was written.

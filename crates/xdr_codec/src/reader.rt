@@ -208,28 +208,20 @@ impl<'a> Reader<'a> {
     /// else `BadFill` (RFC 4506, section 4.10); `Short` where fewer are left. The bytes are copied:
     /// `Memory` where there is none for them. After an `Err`, `Memory` too, the reader is where it
     /// was, before the number.
+    #[tactic(auto, unfolding(crate::specs::Xdr::opaque_read))]
     pub fn opaque(&mut self, alloc: Global, max: u32) -> Result<Bytes, ReadError>
         ensures gives { Gives result self.new ((opaque_form max).read self.old) }
         ensures stays { OnErr result (self.new ≡ self.old) }
         ensures short { IfOk result (λ bytes. length bytes ≤ max) }
     {
         let (rest, at) = (self.rest, self.at);
-        let read = self.counted_bytes(alloc, max);
+        let len = self.count(max)?;
+        let read = self.bytes(alloc, at, len as usize);
         if read.is_err() {
             self.rest = rest;
             self.at = at;
         }
         read
-    }
-
-    #[tactic(auto, unfolding(crate::specs::Xdr::opaque_read))]
-    fn counted_bytes(&mut self, alloc: Global, max: u32) -> Result<Bytes, ReadError>
-        ensures gives { Gives result self.new ((opaque_form max).read self.old) }
-        ensures short { IfOk result (λ bytes. length bytes ≤ max) }
-    {
-        let at = self.at;
-        let len = self.count(max)?;
-        self.bytes(alloc, at, len as usize)
     }
 
     /// Bytes and their fill, as a part of the item that begins at `at`.

@@ -72,8 +72,7 @@ impl Writer {
             self.out = out;
             return Ok(());
         }
-        self.out.extend_from_slice(&out)?;
-        Ok(())
+        self.out.extend_from_slice(&out)
     }
 
     /// The bytes that were written. Takes no memory.
@@ -91,8 +90,7 @@ impl Writer {
         ensures fits { u32_form.Fits value }
         ensures stays { OnErr result (self.new ≡ self.old) }
     {
-        self.out.extend_from_slice(&value.to_be_bytes())?;
-        Ok(())
+        self.out.extend_from_slice(&value.to_be_bytes())
     }
 
     /// A number below 2 ^ 64: eight bytes, the highest first (RFC 4506, section 4.5).
@@ -102,8 +100,7 @@ impl Writer {
         ensures fits { u64_form.Fits value }
         ensures stays { OnErr result (self.new ≡ self.old) }
     {
-        self.out.extend_from_slice(&value.to_be_bytes())?;
-        Ok(())
+        self.out.extend_from_slice(&value.to_be_bytes())
     }
 
     /// A truth value: the number 0 or 1 (RFC 4506, section 4.4).
@@ -158,7 +155,6 @@ impl Writer {
         self.out.reserve(front.len() + bytes.len() + fill.len())?;
         self.out.extend_from_slice(front)?;
         self.out.extend_from_slice(bytes)?;
-        self.out.extend_from_slice(fill)?;
-        Ok(())
+        self.out.extend_from_slice(fill)
     }
 }
