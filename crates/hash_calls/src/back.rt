@@ -9,6 +9,7 @@ use xdr_codec::fault::ReadError;
 use xdr_codec::handle::Handle;
 use xdr_codec::item::Item;
 use xdr_codec::program::ProgramBody;
+use xdr_codec::read_as;
 use xdr_codec::reader::Reader;
 use xdr_codec::writer::Writer;
 
@@ -52,7 +53,7 @@ impl ProgramBody for Back {
     ) -> Result<Back, ReadError> {
         match procedure {
             BackProc::Null => Ok(Back::Null),
-            BackProc::Recall => Ok(Back::Recall(Handle::read(alloc, reader)?)),
+            BackProc::Recall => read_as!(Back::Recall, Handle::read(alloc, reader)),
         }
     }
 

@@ -201,9 +201,7 @@ impl Item for Hashes {
     }
 
     fn write(&self, writer: &mut Writer) -> Result<(), AllocError> {
-        writer.u64(self.version)?;
-        writer.u32(self.term)?;
-        writer.u64(self.size)?;
+        (self.version, (self.term, self.size)).write(writer)?;
         write_counted(writer, self.pairs.as_slice())?;
         writer.bool(self.eof)
     }
@@ -245,8 +243,7 @@ impl Item for TempPiece {
     }
 
     fn write(&self, writer: &mut Writer) -> Result<(), AllocError> {
-        writer.u32(self.fd)?;
-        writer.u64(self.offset)?;
+        (self.fd, self.offset).write(writer)?;
         writer.opaque(self.bytes.as_slice())
     }
 }

@@ -11,6 +11,7 @@ use xdr_codec::fault::ReadError;
 use xdr_codec::handle::Handle;
 use xdr_codec::item::Item;
 use xdr_codec::program::ProgramBody;
+use xdr_codec::read_as;
 use xdr_codec::reader::Reader;
 use xdr_codec::writer::Writer;
 
@@ -54,12 +55,12 @@ impl ProgramBody for Lb {
     ) -> Result<Lb, ReadError> {
         match procedure {
             LbProc::Null => Ok(Lb::Null),
-            LbProc::GetLease => Ok(Lb::GetLease(Handle::read(alloc, reader)?)),
-            LbProc::GetHash => Ok(Lb::GetHash(HashRange::read(alloc, reader)?)),
-            LbProc::MkTmpFile => Ok(Lb::MkTmpFile(NewTemp::read(alloc, reader)?)),
-            LbProc::TmpWrite => Ok(Lb::TmpWrite(TempPiece::read(alloc, reader)?)),
-            LbProc::CondWrite => Ok(Lb::CondWrite(CondPiece::read(alloc, reader)?)),
-            LbProc::CommitTmp => Ok(Lb::CommitTmp(Commit::read(alloc, reader)?)),
+            LbProc::GetLease => read_as!(Lb::GetLease, Handle::read(alloc, reader)),
+            LbProc::GetHash => read_as!(Lb::GetHash, HashRange::read(alloc, reader)),
+            LbProc::MkTmpFile => read_as!(Lb::MkTmpFile, NewTemp::read(alloc, reader)),
+            LbProc::TmpWrite => read_as!(Lb::TmpWrite, TempPiece::read(alloc, reader)),
+            LbProc::CondWrite => read_as!(Lb::CondWrite, CondPiece::read(alloc, reader)),
+            LbProc::CommitTmp => read_as!(Lb::CommitTmp, Commit::read(alloc, reader)),
         }
     }
 
@@ -70,12 +71,12 @@ impl ProgramBody for Lb {
     ) -> Result<Lb, ReadError> {
         match procedure {
             LbProc::Null => Ok(Lb::NullAnswer),
-            LbProc::GetLease => Ok(Lb::GetLeaseAnswer(Answer::read(alloc, reader)?)),
-            LbProc::GetHash => Ok(Lb::GetHashAnswer(Answer::read(alloc, reader)?)),
-            LbProc::MkTmpFile => Ok(Lb::MkTmpFileAnswer(Answer::read(alloc, reader)?)),
-            LbProc::TmpWrite => Ok(Lb::TmpWriteAnswer(Answer::read(alloc, reader)?)),
-            LbProc::CondWrite => Ok(Lb::CondWriteAnswer(Answer::read(alloc, reader)?)),
-            LbProc::CommitTmp => Ok(Lb::CommitTmpAnswer(Answer::read(alloc, reader)?)),
+            LbProc::GetLease => read_as!(Lb::GetLeaseAnswer, Answer::read(alloc, reader)),
+            LbProc::GetHash => read_as!(Lb::GetHashAnswer, Answer::read(alloc, reader)),
+            LbProc::MkTmpFile => read_as!(Lb::MkTmpFileAnswer, Answer::read(alloc, reader)),
+            LbProc::TmpWrite => read_as!(Lb::TmpWriteAnswer, Answer::read(alloc, reader)),
+            LbProc::CondWrite => read_as!(Lb::CondWriteAnswer, Answer::read(alloc, reader)),
+            LbProc::CommitTmp => read_as!(Lb::CommitTmpAnswer, Answer::read(alloc, reader)),
         }
     }
 

@@ -98,13 +98,9 @@ pub enum Lb {
 impl Drop for Lb {
     fn drop(self) {
         match self {
-            Lb::Null | Lb::NullAnswer => (),
-            Lb::GetLease(handle) => drop(handle),
-            Lb::GetHash(range) => drop(range),
-            Lb::MkTmpFile(temp) => drop(temp),
+            Lb::Null | Lb::NullAnswer | Lb::GetLease(_) | Lb::GetHash(_) => (),
+            Lb::MkTmpFile(_) | Lb::CondWrite(_) | Lb::CommitTmp(_) => (),
             Lb::TmpWrite(piece) => drop(piece),
-            Lb::CondWrite(piece) => drop(piece),
-            Lb::CommitTmp(commit) => drop(commit),
             Lb::GetLeaseAnswer(answer) => drop(answer),
             Lb::GetHashAnswer(answer) => drop(answer),
             Lb::MkTmpFileAnswer(answer) | Lb::TmpWriteAnswer(answer) => drop(answer),
@@ -165,6 +161,7 @@ impl BackProc {
 }
 
 /// The arguments of a call of the callback program, or what it gave.
+#[derive(Clone, Copy, Drop)]
 pub enum Back {
     /// NULL has no arguments.
     Null,
@@ -174,16 +171,6 @@ pub enum Back {
     Recall(Handle),
     /// RECALL gives nothing, and no status.
     RecallAnswer,
-}
-
-// By hand, as that of `Lb`.
-impl Drop for Back {
-    fn drop(self) {
-        match self {
-            Back::Recall(handle) => drop(handle),
-            Back::Null | Back::NullAnswer | Back::RecallAnswer => (),
-        }
-    }
 }
 
 impl Back {
