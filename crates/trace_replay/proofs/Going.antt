@@ -12,7 +12,7 @@ use Rattle.trace_replay.specs.declared.turn.Turn.{Turn}
 use Rattle.trace_replay.specs.World.{World}
 use Rattle.trace_replay.specs.Run.{refused, in_header, ended}
 use Rattle.trace_replay.specs.Timed.{Timed, Times, timed_start, timed_by, timed_turn, accepted_from, accepted}
-use Rattle.trace_replay.specs.Lines.{applied_from, ended_at, AreApplied, ComesTo}
+use Rattle.trace_replay.specs.Lines.{applied_from, ended_at, ComesTo}
 
 -- a trace is accepted where all its lines are taken and it may end there
 pub accepted_at_end : (v : Timed) (n : ℕ) (ls : List (List ℕ)) → accepted_from v n ls ≡ ended_at (applied_from v n ls)
@@ -33,10 +33,6 @@ runs_through input first new next start ran last = at_end input first (Ok (new, 
 
 pub stops_short : (input : List ℕ) (first new : Timed) (next : ℕ) (e : TraceErr) → first ≡ timed_start → applied_from first 1 (lines_of input) ≡ Ok (new, next) → in_header new.world.stage ≡ true → e ≡ errors.Refused (refused next Grammar) → ComesTo (Err e) (accepted input)
 stops_short input first new next e start ran wanted is = subst (λ (x : TraceErr). ComesTo (Err x) (accepted input)) (sym is) (at_end input first (Ok (new, next)) start ran ∙ ap (ended new.world next) wanted)
-
-pub stops_at : (input : List ℕ) (first new : Timed) (e : TraceErr) → first ≡ timed_start → AreApplied (Err e) (applied_from first 1 (lines_of input)) new → ComesTo (Err e) (accepted input)
-stops_at input first new errors.Memory start ran = tt
-stops_at input first new (errors.Refused r) start ran = at_end input first (Err r) start ran
 
 abbrev these : Timed × ℕ → Result (Timed × ℕ) Refused
 these p = Ok p
