@@ -86,8 +86,8 @@ fn run_plain<S: Source, K: Sink, D, F, N: Network, C, R>(
     (status, out, None)
 }
 
-/// Does what the words ask for, as `run` says.
-fn run_asked<
+/// Does what was asked for, as `run` says, for those who have no words.
+pub fn run_asked<
     H: Threads + Wait + Sync,
     S: Source + Drop,
     K: Sink + Drop,

@@ -42,6 +42,16 @@ impl Out {
         }
     }
 
+    /// Adds an item to others. One for which memory is wanting is let go by a call, so that the compiler
+    /// doesn't do it part by part.
+    pub fn push<T: Drop>(&mut self, all: &mut Vec<T>, item: T) {
+        let pushed = all.push(item);
+        if pushed.is_err() {
+            self.is_short = true;
+        }
+        drop(pushed)
+    }
+
     /// A text as it is.
     pub fn text(&mut self, text: &str) {
         let done = self.text.push_str(text);

@@ -3,13 +3,21 @@
 //! compared with the file `stdout`.
 #![tactic(auto)]
 
+mod end;
+mod line;
 mod lists;
+mod outside;
+mod port;
+mod runs;
+mod screen;
+mod sessions;
 mod sinks;
 mod sources;
 mod streams;
+mod trial;
+mod words;
 
 use row_text::out::Out;
-use run_trials::runs;
 use std::alloc::{AllocError, Global};
 use std::io::Print;
 use std::sync::Wait;
@@ -23,10 +31,8 @@ enum Kind {
     Calls,
     /// The parts of traces.
     Traces,
-    /// The program over an outside in memory.
+    /// The program over an outside in memory, and a server alone.
     Runs,
-    /// A server alone.
-    Sessions,
 }
 
 /// The files of rows.
@@ -49,7 +55,7 @@ const FILES: [(Kind, &str); 19] = [
     (Kind::Traces, "cuts"),
     (Kind::Traces, "histories"),
     (Kind::Runs, "runs"),
-    (Kind::Sessions, "sessions"),
+    (Kind::Runs, "sessions"),
 ];
 
 /// What comes of the trials without a row.
@@ -89,8 +95,7 @@ fn text_of<R: Threads + Wait + Sync + Send + Copy + Drop>(
     match kind {
         Kind::Calls => rows::files::put_rows(alloc, file, text, &mut out),
         Kind::Traces => rows_trace::files::put_rows(alloc, file, text, &mut out),
-        Kind::Runs => runs::put_runs(rt, alloc, records, text, &mut out),
-        Kind::Sessions => runs::put_sessions(rt, alloc, records, text, &mut out),
+        Kind::Runs => runs::put_rows(rt, alloc, records, file, text, &mut out),
     }
     out.done()
 }

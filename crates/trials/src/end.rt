@@ -1,15 +1,19 @@
 //! One run of the program over an outside in memory, and what is printed of it. Every trial goes by
 //! `run_end`, so that the program is proved for one type of outside, at one call.
 
-use crate::outside::{files, store, words};
+ghost use Rattle.program_words.specs.Words.{IsFew, command_in};
+
+use crate::outside::{files, store};
 use crate::port::{Port, PortLink, PortNet};
 use crate::screen::{Screen, Typist};
 use crate::trial::Trial;
+use crate::words::asked_of;
 use lbfs_run::outside::Outside;
-use lbfs_run::run::run;
+use lbfs_run::run::run_asked;
 use links::clock::FixedClock;
 use links::mem_files::MemFiles;
 use links::rest::NoRest;
+use program_words::asked::Asked;
 use row_text::out::Out;
 use std::alloc::Global;
 use std::sync::atomic::AtomicU64;
@@ -32,10 +36,12 @@ type Whole<'a, R> = Outside<
 fn run_whole<'a, R: Threads + Wait + Sync + Send + Copy + Drop>(
     rt: &R,
     alloc: Global,
-    words: &[String],
+    asked: Option<Asked>,
     whole: Whole<'a, R>,
-) -> (u8, Whole<'a, R>, Option<PortLink<R>>) {
-    run(rt, alloc, words, whole)
+) -> (u8, Whole<'a, R>, Option<PortLink<R>>)
+    requires { IsFew (command_in asked) }
+{
+    run_asked(rt, alloc, asked, whole)
 }
 
 /// Numbers, one behind the other.
@@ -99,7 +105,7 @@ fn put_run<'a, R: Threads + Wait + Sync + Send + Copy + Drop>(
     answers: &'a AtomicU64,
     out: &mut Out,
 ) {
-    let words = words(alloc, trial, out);
+    let asked = asked_of(alloc, trial.words, out);
     let whole = Outside {
         source: Typist::new(alloc, trial, input, answers),
         sink: Screen::new(alloc, trial, answers),
@@ -109,7 +115,7 @@ fn put_run<'a, R: Threads + Wait + Sync + Send + Copy + Drop>(
         clock: FixedClock::at(0),
         rest: NoRest,
     };
-    let (status, whole, unpaired) = run_whole(rt, alloc, words.as_slice(), whole);
+    let (status, whole, unpaired) = run_whole(rt, alloc, asked, whole);
     put_end(trial, status, &whole, &unpaired, out);
     drop(whole);
     drop(unpaired)

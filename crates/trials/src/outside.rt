@@ -15,27 +15,6 @@ use store::record::{ContentRecord, Head, Kept, NodeKind, NodeRecord};
 /// The size of the largest file.
 const FILE_MOST: usize = 67_108_864;
 
-/// The words.
-pub fn words(alloc: Global, trial: &Trial<'_>, out: &mut Out) -> Vec<String> {
-    let mut all = Vec::new(alloc);
-    for word in trial.words.split_whitespace() {
-        match String::from_str(alloc, word) {
-            Ok(word) => push(&mut all, word, out),
-            Err(_) => out.lack(),
-        }
-    }
-    all
-}
-
-/// Adds an item.
-fn push<T: Drop>(all: &mut Vec<T>, item: T, out: &mut Out) {
-    let pushed = all.push(item);
-    if pushed.is_err() {
-        out.lack();
-    }
-    drop(pushed)
-}
-
 /// The calls that fail: the one of this number, if there is one.
 fn failing(alloc: Global, call: Option<u64>, out: &mut Out) -> Items<u64> {
     match call {
@@ -60,21 +39,24 @@ fn zeros(alloc: Global) -> Result<SharedBytes, AllocError> {
     Ok(SharedBytes::new(alloc, Items::from_vec(bytes))?)
 }
 
-/// The records of 16 files of the root, each of which has these bytes.
-fn put_files(alloc: Global, bytes: &SharedBytes, records: &mut Vec<Kept>, out: &mut Out) {
+/// The records of 16 files of the root, each of which has so many.
+fn put_files(alloc: Global, records: &mut Vec<Kept>, out: &mut Out) {
+    let Ok(zeros) = zeros(alloc) else {
+        return out.lack();
+    };
     for at in 0..16u8 {
         let id = u64::from(at) + 2;
-        push(records, node(alloc, id, 1, b'a' + at, out), out);
-        match bytes.share() {
-            Ok(bytes) => push(
-                records,
-                Kept::Content(ContentRecord {
+        let node = node(alloc, id, 1, b'a' + at, out);
+        out.push(records, node);
+        match zeros.share() {
+            Ok(bytes) => {
+                let content = ContentRecord {
                     id,
                     version: 1,
                     bytes,
-                }),
-                out,
-            ),
+                };
+                out.push(records, Kept::Content(content))
+            }
             Err(_) => out.lack(),
         }
     }
@@ -85,16 +67,14 @@ fn put_files(alloc: Global, bytes: &SharedBytes, records: &mut Vec<Kept>, out: &
 fn records(alloc: Global, trial: &Trial<'_>, out: &mut Out) -> Vec<Kept> {
     let mut records = Vec::new(alloc);
     if let Some(next) = trial.setting("head") {
-        push(&mut records, Kept::Head(Head { next, changes: 1 }), out);
+        out.push(&mut records, Kept::Head(Head { next, changes: 1 }));
     }
     if let Some(parent) = trial.setting("parent") {
-        push(&mut records, node(alloc, 2, parent, b'a', out), out);
+        let node = node(alloc, 2, parent, b'a', out);
+        out.push(&mut records, node);
     }
     if trial.setting("full").is_some() {
-        match zeros(alloc) {
-            Ok(bytes) => put_files(alloc, &bytes, &mut records, out),
-            Err(_) => out.lack(),
-        }
+        put_files(alloc, &mut records, out);
     }
     records
 }

@@ -1,6 +1,7 @@
 //! A row of `data/runs`, and the bytes that it names.
 
 use row_text::out::Out;
+use row_text::text;
 use std::alloc::Global;
 
 /// A run of the program, and what it is tried on. `data/runs` says how each part is written.
@@ -24,18 +25,13 @@ pub fn split(text: &str, mark: char) -> (&str, &str) {
     (front.trim(), behind.trim())
 }
 
-/// The number that a word is; 0 where it is none.
-pub fn number_of(word: &str) -> u64 {
-    word.parse::<u64>().unwrap_or(0)
-}
-
 impl<'x> Trial<'x> {
     /// The number of the setting `KEY=NUMBER`, if it is there.
     pub fn setting(&self, key: &str) -> Option<u64> {
         for word in self.settings.split_whitespace() {
             let (name, number) = split(word, '=');
             if name == key {
-                return Some(number_of(number));
+                return Some(text::number(number));
             }
         }
         None

@@ -33,14 +33,6 @@ fn name_of(end: End) -> &'static str {
     }
 }
 
-/// The session that stands, if one does.
-fn session_of(went: Went) -> Option<u32> {
-    match went {
-        Went::Open { session } => Some(session),
-        _ => None,
-    }
-}
-
 /// Why no session stands.
 fn put_refused(went: Went, out: &mut Out) {
     out.text(match went {
@@ -148,8 +140,9 @@ fn put_session<R: Threads + Wait + Sync + Send + Copy + Drop>(
 fn put_connections<R: Wait + Copy + Drop>(rt: &R, shared: &PortShared<R>, out: &mut Out) {
     let mut told = 0u64;
     for next in 1..65u32 {
-        if session_of(shared.event(rt, Event::Connect)) == Some(next) {
-            told = told.wrapping_add(1);
+        match shared.event(rt, Event::Connect) {
+            Went::Open { session } if session == next => told = told.wrapping_add(1),
+            _ => (),
         }
     }
     out.number(told);

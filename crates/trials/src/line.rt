@@ -1,21 +1,22 @@
 //! Lines in memory between two ends: what is on its way on each, and when the dialler's side of one ends.
 
-use crate::trial::{Trial, bytes_of, number_of, split};
+use crate::trial::{Trial, bytes_of, split};
 use row_text::out::Out;
+use row_text::text::number;
 use std::alloc::Global;
 
 /// No record can begin with these.
 const NOISE: [u8; 4] = [255, 255, 255, 255];
 
 /// Who holds a link.
-#[derive(Clone, Copy, PartialEq, Eq)]
+#[derive(Clone, Copy)]
 pub enum Side {
     Dialler,
     Listener,
 }
 
 /// How a line ends, once its dialler has given so often.
-#[derive(Clone, Copy, PartialEq, Eq)]
+#[derive(Clone, Copy)]
 enum Ending {
     /// It stays.
     Stays,
@@ -43,11 +44,6 @@ impl Ending {
             _ => Ending::Stays,
         }
     }
-
-    /// Whether its dialler takes nothing.
-    fn is_deaf(self) -> bool {
-        self == Ending::Deaf || self == Ending::Leaves
-    }
 }
 
 /// What came of giving.
@@ -60,8 +56,21 @@ pub enum Given {
     Waits,
 }
 
+/// What an end waits for.
+#[derive(Clone, Copy)]
+pub enum Until {
+    /// Somebody has something to say to a dialler that takes nothing.
+    Speaker,
+    /// The line is shut.
+    Shut,
+    /// Something came to a side, or can't come any more.
+    News {
+        side: Side,
+        is_silent: bool,
+    },
+}
+
 /// What is on its way on a line.
-#[derive(Drop)]
 pub struct Line {
     ending: Ending,
     /// How often its dialler can give something before its end comes.
@@ -77,6 +86,24 @@ pub struct Line {
     up: Vec<u8>,
     /// To the dialler.
     down: Vec<u8>,
+}
+
+/// Written by hand, so that it is proved once.
+impl Drop for Line {
+    fn drop(self) {
+        let Line {
+            ending: _,
+            gives: _,
+            twins: _,
+            piece: _,
+            speaks: _,
+            is_shut: _,
+            up,
+            down,
+        } = self;
+        drop(up);
+        drop(down)
+    }
 }
 
 /// The bytes at the front go into the front of `into`, so many at most; it answers how many.
@@ -108,9 +135,9 @@ impl Line {
         let (piece, sends) = split(rest, '/');
         Line {
             ending: Ending::of(ending),
-            gives: number_of(gives),
-            twins: number_of(twins),
-            piece: number_of(piece) as usize,
+            gives: number(gives),
+            twins: number(twins),
+            piece: number(piece) as usize,
             speaks: false,
             is_shut: false,
             up: bytes_of(alloc, records, sends, out),
@@ -131,35 +158,20 @@ impl Line {
         }
     }
 
-    /// What is on its way to an end goes into the front of `into`; it answers how many bytes.
-    fn take(&mut self, side: Side, into: &mut [u8]) -> usize {
-        match side {
-            Side::Dialler => take_front(&mut self.down, self.piece, into),
-            Side::Listener => take_front(&mut self.up, self.piece, into),
-        }
-    }
-
-    /// Whether the line's end has come, as its dialler gives something.
-    fn ends(&mut self) -> bool {
-        if self.ending == Ending::Stays {
-            return false;
-        }
+    /// Its dialler gives these bytes, by which its end may come.
+    fn give_up(&mut self, from: &[u8]) -> Given {
         if self.gives > 0 {
             self.gives -= 1;
-            return false;
+            return put_behind(&mut self.up, from);
         }
-        true
-    }
-
-    /// The line's end has come.
-    fn end(&mut self) -> Given {
         match self.ending {
             Ending::Cut => {
                 self.is_shut = true;
                 Given::Taken
             }
             Ending::Noise => put_behind(&mut self.down, &NOISE),
-            _ => Given::Failed,
+            Ending::Stuck => Given::Failed,
+            _ => put_behind(&mut self.up, from),
         }
     }
 
@@ -168,24 +180,14 @@ impl Line {
         if self.is_shut {
             return Given::Failed;
         }
-        if self.ending.is_deaf() {
-            self.speaks = true;
-            return Given::Waits;
+        match (self.ending, side) {
+            (Ending::Deaf | Ending::Leaves, _) => {
+                self.speaks = true;
+                Given::Waits
+            }
+            (_, Side::Dialler) => self.give_up(from),
+            (_, Side::Listener) => put_behind(&mut self.down, from),
         }
-        match side {
-            Side::Listener => put_behind(&mut self.down, from),
-            Side::Dialler if self.ends() => self.end(),
-            Side::Dialler => put_behind(&mut self.up, from),
-        }
-    }
-
-    /// Whether there is one twin more.
-    fn pairs(&mut self) -> bool {
-        if self.twins == 0 {
-            return false;
-        }
-        self.twins -= 1;
-        true
     }
 }
 
@@ -193,29 +195,32 @@ impl Line {
 pub fn lines_of(alloc: Global, trial: &Trial<'_>, out: &mut Out) -> Vec<Line> {
     let mut lines = Vec::new(alloc);
     for word in trial.links.split_whitespace() {
-        let pushed = lines.push(Line::of(alloc, trial.records, word, out));
-        if pushed.is_err() {
-            out.lack();
-        }
-        drop(pushed);
+        let line = Line::of(alloc, trial.records, word, out);
+        out.push(&mut lines, line);
     }
     lines
 }
 
-/// Whether an end of the line at this place waits for what may come yet. On a line that isn't there
-/// nothing comes.
-pub fn is_quiet_at(lines: &[Line], at: usize, side: Side, is_silent: bool) -> bool {
-    match lines.get(at) {
-        Some(line) => line.is_quiet(side, is_silent),
-        None => false,
+/// Whether it is still to be waited. On a line that isn't there nothing comes.
+pub fn is_early(lines: &[Line], at: usize, until: Until) -> bool {
+    let Some(line) = lines.get(at) else {
+        return false;
+    };
+    match until {
+        Until::Speaker => !line.speaks,
+        Until::Shut => !line.is_shut,
+        Until::News { side, is_silent } => line.is_quiet(side, is_silent),
     }
 }
 
 /// What is on its way to an end goes into the front of `into`; it answers how many bytes.
 pub fn take_at(lines: &mut [Line], at: usize, side: Side, into: &mut [u8]) -> usize {
-    match lines.get_mut(at) {
-        Some(line) => line.take(side, into),
-        None => 0,
+    let Some(line) = lines.get_mut(at) else {
+        return 0;
+    };
+    match side {
+        Side::Dialler => take_front(&mut line.down, line.piece, into),
+        Side::Listener => take_front(&mut line.up, line.piece, into),
     }
 }
 
@@ -229,10 +234,14 @@ pub fn give_at(lines: &mut [Line], at: usize, side: Side, from: &[u8]) -> Given 
 
 /// Whether there is one twin more.
 pub fn pairs_at(lines: &mut [Line], at: usize) -> bool {
-    match lines.get_mut(at) {
-        Some(line) => line.pairs(),
-        None => true,
+    let Some(line) = lines.get_mut(at) else {
+        return true;
+    };
+    if line.twins == 0 {
+        return false;
     }
+    line.twins -= 1;
+    true
 }
 
 /// Ends a line both ways.
@@ -246,22 +255,6 @@ pub fn shut_at(lines: &mut [Line], at: usize) {
 pub fn shut_all(lines: &mut [Line]) {
     for line in lines.iter_mut() {
         line.is_shut = true;
-    }
-}
-
-/// Whether somebody has something to say to a dialler that takes nothing.
-pub fn speaks_at(lines: &[Line], at: usize) -> bool {
-    match lines.get(at) {
-        Some(line) => line.speaks,
-        None => true,
-    }
-}
-
-/// Whether a line is shut.
-pub fn is_shut_at(lines: &[Line], at: usize) -> bool {
-    match lines.get(at) {
-        Some(line) => line.is_shut,
-        None => true,
     }
 }
 

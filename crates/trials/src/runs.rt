@@ -6,7 +6,7 @@ use crate::sessions;
 use crate::trial::{Trial, split};
 use row_text::out::Out;
 use row_text::text::is_remark;
-use std::alloc::{AllocError, Global};
+use std::alloc::Global;
 use std::sync::{Arc, Wait};
 use std::thread;
 use std::thread::Threads;
@@ -45,16 +45,6 @@ fn put_both<R: Threads + Wait + Sync + Send + Copy + Drop>(
     out.join(&served)
 }
 
-/// The port of a trial.
-fn port_of(
-    alloc: Global,
-    trial: &Trial<'_>,
-    is_silent: bool,
-    out: &mut Out,
-) -> Result<Arc<Port>, AllocError> {
-    Ok(Arc::new(alloc, Port::new(alloc, trial, is_silent, out))?)
-}
-
 /// `TITLE | WORDS | SETTINGS | LINES | INPUT`, with the words and the settings of a server behind a
 /// `&`: what comes of a run, or of both ends.
 fn put_run<R: Threads + Wait + Sync + Send + Copy + Drop>(
@@ -63,7 +53,7 @@ fn put_run<R: Threads + Wait + Sync + Send + Copy + Drop>(
     records: &str,
     row: &str,
     out: &mut Out,
-) -> Result<(), AllocError> {
+) {
     let (title, rest) = split(row, '|');
     let (words, rest) = split(rest, '|');
     let (settings, rest) = split(rest, '|');
@@ -77,20 +67,18 @@ fn put_run<R: Threads + Wait + Sync + Send + Copy + Drop>(
         input,
         records,
     };
-    out.text(title);
-    let port = port_of(alloc, &one, other.is_empty(), out)?;
-    if other.is_empty() {
-        put_alone(rt, alloc, &port, &one, out);
-        return Ok(());
-    }
     let two = Trial {
         words: other,
         settings: its,
         input: "",
         ..one
     };
-    put_both(rt, alloc, &port, &one, &two, out);
-    Ok(())
+    out.text(title);
+    match Port::new(alloc, &one, other.is_empty(), out) {
+        Ok(port) if other.is_empty() => put_alone(rt, alloc, &port, &one, out),
+        Ok(port) => put_both(rt, alloc, &port, &one, &two, out),
+        Err(_) => out.lack(),
+    }
 }
 
 /// `TITLE | KIND | LINE`: what comes of a session.
@@ -100,7 +88,7 @@ fn put_session<R: Threads + Wait + Sync + Send + Copy + Drop>(
     records: &str,
     row: &str,
     out: &mut Out,
-) -> Result<(), AllocError> {
+) {
     let (title, rest) = split(row, '|');
     let (kind, links) = split(rest, '|');
     let trial = Trial {
@@ -110,41 +98,32 @@ fn put_session<R: Threads + Wait + Sync + Send + Copy + Drop>(
         input: "",
         records,
     };
-    let port = port_of(alloc, &trial, true, out)?;
     out.text(title);
     out.text(":");
-    sessions::put(rt, alloc, &port, kind, out);
-    Ok(())
-}
-
-/// What comes of each run.
-pub fn put_runs<R: Threads + Wait + Sync + Send + Copy + Drop>(
-    rt: &R,
-    alloc: Global,
-    records: &str,
-    rows: &str,
-    out: &mut Out,
-) {
-    for row in rows.lines() {
-        if !is_remark(row) {
-            let done = put_run(rt, alloc, records, row, out);
-            out.note(done)
-        }
+    match Port::new(alloc, &trial, true, out) {
+        Ok(port) => sessions::put(rt, alloc, &port, kind, out),
+        Err(_) => out.lack(),
     }
 }
 
-/// What comes of each session.
-pub fn put_sessions<R: Threads + Wait + Sync + Send + Copy + Drop>(
+/// What comes of each row of a file, `runs` or `sessions`.
+pub fn put_rows<R: Threads + Wait + Sync + Send + Copy + Drop>(
     rt: &R,
     alloc: Global,
     records: &str,
+    file: &str,
     rows: &str,
     out: &mut Out,
 ) {
+    let is_run = file == "runs";
     for row in rows.lines() {
-        if !is_remark(row) {
-            let done = put_session(rt, alloc, records, row, out);
-            out.note(done)
+        if is_remark(row) {
+            continue;
+        }
+        if is_run {
+            put_run(rt, alloc, records, row, out)
+        } else {
+            put_session(rt, alloc, records, row, out)
         }
     }
 }

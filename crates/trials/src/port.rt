@@ -5,8 +5,8 @@ ghost use Rattle.std.specs.Prelude.{◌≡◌, ◌≤◌, None, OnErr, IsErr};
 ghost use Rattle.lb_base.specs.Causes.{Rose};
 
 use crate::line::{
-    Given, Line, Side, give_at, is_quiet_at, is_shut_at, lines_of, pairs_at, put_lines, shut_all,
-    shut_at, speaks_at, take_at,
+    Given, Line, Side, Until, give_at, is_early, lines_of, pairs_at, put_lines, shut_all, shut_at,
+    take_at,
 };
 use crate::trial::Trial;
 use lb_base::faults::one_more;
@@ -17,36 +17,6 @@ use links::network::Network;
 use row_text::out::Out;
 use std::alloc::{AllocError, Global};
 use std::sync::{Arc, Condvar, Mutex, MutexGuard, Wait};
-
-/// What an end waits for.
-#[derive(Clone, Copy)]
-enum Until {
-    /// Somebody has something to say on the first line, to a dialler that takes nothing.
-    Speaker,
-    /// A line is shut.
-    Shut {
-        at: usize,
-    },
-    /// Something came to a side of a line, or can't come any more.
-    News {
-        at: usize,
-        side: Side,
-        is_silent: bool,
-    },
-}
-
-/// Whether it is still to be waited.
-fn is_early(lines: &[Line], until: Until) -> bool {
-    match until {
-        Until::Speaker => !speaks_at(lines, 0),
-        Until::Shut { at } => !is_shut_at(lines, at),
-        Until::News {
-            at,
-            side,
-            is_silent,
-        } => is_quiet_at(lines, at, side, is_silent),
-    }
-}
 
 /// A port with its lines, which are there from the beginning, under a lock.
 #[derive(Drop)]
@@ -60,12 +30,18 @@ pub struct Port {
 
 impl Port {
     /// The port of a trial, of which nobody has taken anything yet.
-    pub fn new(alloc: Global, trial: &Trial<'_>, is_silent: bool, out: &mut Out) -> Port {
-        Port {
+    pub fn new(
+        alloc: Global,
+        trial: &Trial<'_>,
+        is_silent: bool,
+        out: &mut Out,
+    ) -> Result<Arc<Port>, AllocError> {
+        let port = Port {
             lines: Mutex::new(lines_of(alloc, trial, out)),
             news: Condvar::new(),
             is_silent,
-        }
+        };
+        Ok(Arc::new(alloc, port)?)
     }
 
     /// Ends all lines both ways.
@@ -76,16 +52,17 @@ impl Port {
         self.news.notify_all();
     }
 
-    /// Waits, and holds the lines then. All waiting is done here, by one closure.
-    fn held<R: Wait>(&self, rt: &R, until: Until) -> MutexGuard<'_, Vec<Line>> {
+    /// Waits for the line at this place, and holds all of them then. All waiting is done here, by one
+    /// closure.
+    fn held<R: Wait>(&self, rt: &R, at: usize, until: Until) -> MutexGuard<'_, Vec<Line>> {
         let lines = self.lines.lock(rt);
         self.news
-            .wait_while(rt, lines, |lines| is_early(lines, until))
+            .wait_while(rt, lines, |lines| is_early(lines, at, until))
     }
 
     /// Waits until somebody has something to say on the first line, to a dialler that takes nothing.
     pub fn await_speaker<R: Wait>(&self, rt: &R) {
-        drop(self.held(rt, Until::Speaker))
+        drop(self.held(rt, 0, Until::Speaker))
     }
 
     /// Whether each line is shut, and what its listener gave.
@@ -134,11 +111,10 @@ impl<R: Wait + Copy> Link for PortLink<R> {
 
     fn take(&mut self, into: &mut [u8]) -> Result<usize, Failed> {
         let until = Until::News {
-            at: self.at,
             side: self.side,
             is_silent: self.port.is_silent,
         };
-        let mut lines = self.port.held(&self.rt, until);
+        let mut lines = self.port.held(&self.rt, self.at, until);
         let count = take_at(&mut lines, self.at, self.side, into);
         Ok(count.min(into.len()))
     }
@@ -152,7 +128,7 @@ impl<R: Wait + Copy> Link for PortLink<R> {
             Given::Taken => return Ok(from.len()),
             Given::Memory => return Err(GiveErr::Memory),
             Given::Failed => {}
-            Given::Waits => drop(self.port.held(&self.rt, Until::Shut { at: self.at })),
+            Given::Waits => drop(self.port.held(&self.rt, self.at, Until::Shut)),
         }
         self.faults = one_more(self.faults);
         Err(GiveErr::Failed)
@@ -166,9 +142,11 @@ impl<R: Wait + Copy> Link for PortLink<R> {
     }
 
     fn twin(&mut self) -> Result<PortLink<R>, Failed> {
-        let is_tried = self.port.is_silent || self.side == Side::Dialler;
-        let pairs = !is_tried || pairs_at(&mut self.port.lines.lock(&self.rt), self.at);
-        if pairs {
+        let is_tried = match self.side {
+            Side::Dialler => true,
+            Side::Listener => self.port.is_silent,
+        };
+        if !is_tried || pairs_at(&mut self.port.lines.lock(&self.rt), self.at) {
             if let Ok(twin) = PortLink::new(self.rt, &self.port, self.side, self.at) {
                 return Ok(twin);
             }

@@ -1,0 +1,64 @@
+//! What a row's words ask for. They are read plainly here, and not by the program's own reader, so that
+//! the trials reach nothing of `clap`.
+
+ghost use Rattle.program_words.specs.Words.{IsFew, command_in};
+
+use crate::trial::split;
+use limits::SESSIONS_EVER_MOST;
+use program_words::asked::{
+    Asked, Command, InputCommand, MountOptions, PORT_MOST, Place, ServeOptions, View,
+};
+use row_text::out::Out;
+use row_text::text::number;
+use std::alloc::Global;
+
+/// The word behind an option; none where the option isn't there.
+fn behind<'x>(words: &'x str, option: &str) -> &'x str {
+    let mut is_next = false;
+    for word in words.split_whitespace() {
+        if is_next {
+            return word;
+        }
+        is_next = word == option;
+    }
+    ""
+}
+
+/// The options of `serve`.
+fn serve_of(alloc: Global, words: &str, port: u16, out: &mut Out) -> Option<Asked>
+    ensures { IsFew (command_in result) }
+{
+    let term = number(behind(words, "--term"));
+    let sessions = number(behind(words, "--sessions")).min(SESSIONS_EVER_MOST) as u32;
+    match Place::copy_of(alloc, behind(words, "--store")) {
+        Ok(store) => Some(Asked::Serve(ServeOptions {
+            port,
+            term,
+            sessions,
+            store,
+        })),
+        Err(_) => {
+            out.lack();
+            None
+        }
+    }
+}
+
+/// What a row's words ask for; nothing where they are no command.
+pub fn asked_of(alloc: Global, words: &str, out: &mut Out) -> Option<Asked>
+    ensures { IsFew (command_in result) }
+{
+    let (command, options) = split(words, ' ');
+    let port = number(behind(options, "--port")).min(PORT_MOST) as u16;
+    match command {
+        "replay" => Some(Asked::Command(Command::OfInput(InputCommand::Replay(View::History)))),
+        "cut" => Some(Asked::Command(Command::OfInput(InputCommand::Cut))),
+        "show" => Some(Asked::Command(Command::OfInput(InputCommand::Show))),
+        "serve" => serve_of(alloc, options, port, out),
+        "mount" => {
+            let drift = number(behind(options, "--drift"));
+            Some(Asked::Mount(MountOptions { port, drift }))
+        }
+        _ => None,
+    }
+}
