@@ -1,6 +1,6 @@
 //! Cuts of contents, whole and in pieces.
 
-ghost use Rattle.std.specs.Prelude.{◌≡◌, ◌+◌, ◌^◌, ◌<◌, length, OnOk};
+ghost use Rattle.std.specs.Prelude.{◌+◌, ◌^◌, ◌<◌, ◌≤◌, length};
 ghost use Rattle.chunk_cut.specs.Cutting.{fed};
 
 use crate::contents::bytes_of;
@@ -8,7 +8,7 @@ use chunk_cut::chunk::Chunk;
 use chunk_cut::cutter::Cutter;
 use chunk_cut::{cut, digest};
 use row_text::out::Out;
-use std::alloc::{AllocError, Global};
+use std::alloc::Global;
 
 /// The chunks, each with its digest.
 fn put_chunks(chunks: &[Chunk], out: &mut Out) {
@@ -22,17 +22,14 @@ fn put_chunks(chunks: &[Chunk], out: &mut Out) {
 }
 
 /// Feeds a piece, and adds the chunks that end in it.
-fn feed(
-    alloc: Global,
-    cutter: &mut Cutter,
-    chunks: &mut Vec<Chunk>,
-    piece: &[u8],
-) -> Result<(), AllocError>
+fn feed(alloc: Global, cutter: &mut Cutter, chunks: &mut Vec<Chunk>, piece: &[u8], out: &mut Out)
     requires { fed cutter.old + length piece.now < 2 ^ 64 }
-    ensures { OnOk result (fed cutter.new ≡ fed cutter.old + length piece.now) }
+    ensures { fed cutter.new ≤ fed cutter.old + length piece.now }
 {
-    let more = cutter.feed(alloc, piece)?;
-    chunks.extend_from_slice(more.as_slice())
+    match cutter.feed(alloc, piece) {
+        Ok(more) => out.note(chunks.extend_from_slice(more.as_slice())),
+        Err(_) => out.lack(),
+    }
 }
 
 /// Whether the content has these chunks where it comes in three pieces, of which the second has
@@ -43,19 +40,20 @@ fn is_cut_so(
     place: usize,
     middle: usize,
     wanted: &[Chunk],
-) -> Result<bool, AllocError> {
+    out: &mut Out,
+) -> bool {
     let (front, rest) = content.split_at(place.min(content.len()));
     let (second, third) = rest.split_at(middle.min(rest.len()));
     let mut cutter = Cutter::new();
     let mut chunks = Vec::new(alloc);
-    feed(alloc, &mut cutter, &mut chunks, front)?;
-    feed(alloc, &mut cutter, &mut chunks, second)?;
-    feed(alloc, &mut cutter, &mut chunks, third)?;
+    feed(alloc, &mut cutter, &mut chunks, front, out);
+    feed(alloc, &mut cutter, &mut chunks, second, out);
+    feed(alloc, &mut cutter, &mut chunks, third, out);
     let is_all = cutter.fed() == content.len() as u64;
     if let Some(last) = cutter.finish() {
-        chunks.push(last)?;
+        out.push(&mut chunks, last);
     }
-    Ok(is_all && chunks.as_slice() == wanted)
+    is_all && chunks.as_slice() == wanted
 }
 
 /// How many ways to cut the content into pieces about these places give its chunks.
@@ -63,9 +61,8 @@ fn put_pieces(alloc: Global, content: &[u8], wanted: &[Chunk], first: usize, out
     let mut alike = 0u64;
     for place in first..content.len() + 1 {
         for middle in 0..2usize {
-            match is_cut_so(alloc, content, place, middle, wanted) {
-                Ok(is_alike) => alike = alike.saturating_add(u64::from(is_alike)),
-                Err(_) => out.lack(),
+            if is_cut_so(alloc, content, place, middle, wanted, out) {
+                alike = alike.saturating_add(1);
             }
         }
     }

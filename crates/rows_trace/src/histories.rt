@@ -115,16 +115,6 @@ fn read_op(alloc: Global, line: &str, out: &mut Out) -> Op {
     op(word_of(word), number(file), times, outcome, value)
 }
 
-/// Adds an operation. One for which memory is wanting is let go by a call, since the compiler would do
-/// it variant by variant.
-pub fn push_op(ops: &mut Vec<Op>, op: Op, out: &mut Out) {
-    let pushed = ops.push(op);
-    if pushed.is_err() {
-        out.lack();
-    }
-    drop(pushed)
-}
-
 /// `FILE CONTENT`: a file that is there at first.
 fn read_file(alloc: Global, line: &str, out: &mut Out) -> Opening {
     let (file, content) = first(line);
@@ -136,13 +126,12 @@ fn read_file(alloc: Global, line: &str, out: &mut Out) -> Opening {
 
 /// The files that these lines give.
 pub fn files_of(alloc: Global, lines: &[&str], out: &mut Out) -> Items<Opening> {
-    let mut files = Items::new(alloc);
+    let mut files = Vec::new(alloc);
     for line in lines {
-        if files.push(read_file(alloc, line, out)).is_err() {
-            out.lack();
-        }
+        let file = read_file(alloc, line, out);
+        out.push(&mut files, file);
     }
-    files
+    Items::from_vec(files)
 }
 
 /// The operations of the rows, with this line in place of that of the operation with this number,
@@ -152,7 +141,7 @@ fn ops_of(alloc: Global, lines: &[&str], number: usize, instead: &str, out: &mut
     for (place, line) in lines.iter().enumerate() {
         let is_other = place.wrapping_add(1) == number;
         let op = read_op(alloc, if is_other { instead } else { line }, out);
-        push_op(&mut ops, op, out);
+        out.push(&mut ops, op);
     }
     Items::from_vec(ops)
 }
@@ -212,25 +201,14 @@ fn put_text(out: &mut Out, text: &Result<Bytes, AllocError>) {
     }
 }
 
-/// What comes of a row that prints something.
+/// What comes of a row that prints something of the history.
 fn put(alloc: Global, rows: &Rows, kind: &str, row: &str, out: &mut Out) {
     match kind {
-        "file" | "op" | "anew" => (),
         "with" => put_variant(alloc, rows, row, out),
         "texts" => put_texts(alloc, rows, row, out),
         "rounds" => random::put_rounds(alloc, rows.files.as_slice(), row, out),
         "random" => random::put_random(alloc, rows.files.as_slice(), row, out),
         _ => out.text("no row"),
-    }
-}
-
-/// Adds a row of the history, or drops its operations.
-fn take<'a>(alloc: Global, rows: &mut Rows<'a>, kind: &str, row: &'a str, out: &mut Out) {
-    match kind {
-        "file" => out.note(rows.files.extend_from_slice(&[row])),
-        "op" => out.note(rows.ops.extend_from_slice(&[row])),
-        "anew" => rows.ops = Vec::new(alloc),
-        _ => (),
     }
 }
 
@@ -247,7 +225,11 @@ impl<'a> Rows<'a> {
     /// a variant of it, and the others say what they print.
     pub fn put_row(&mut self, alloc: Global, line: &'a str, out: &mut Out) {
         let (kind, row) = first(line);
-        take(alloc, self, kind, row, out);
-        put(alloc, self, kind, row, out)
+        match kind {
+            "file" => out.note(self.files.extend_from_slice(&[row])),
+            "op" => out.note(self.ops.extend_from_slice(&[row])),
+            "anew" => self.ops.clear(),
+            _ => put(alloc, self, kind, row, out),
+        }
     }
 }

@@ -2,7 +2,7 @@
 
 ghost use Rattle.std.specs.Prelude.{◌<◌};
 
-use crate::histories::{Times, files_of, op, push_op, value, verdicts};
+use crate::histories::{Times, files_of, op, value, verdicts};
 use lb_base::items::{Bytes, Items};
 use register_model::history::History;
 use register_model::op::{Op, Outcome, Word};
@@ -36,9 +36,9 @@ fn rounds(alloc: Global, count: u64, last: &[u8], out: &mut Out) -> Items<Op> {
         let step = round.wrapping_mul(2);
         let got = if round == count { last } else { b"b" };
         let close = at_step(alloc, Word::Close, step.wrapping_sub(1), b"b", out);
-        push_op(&mut ops, close, out);
+        out.push(&mut ops, close);
         let open = at_step(alloc, Word::Open, step, got, out);
-        push_op(&mut ops, open, out);
+        out.push(&mut ops, open);
     }
     Items::from_vec(ops)
 }
@@ -116,7 +116,7 @@ fn some_ops(alloc: Global, state: &mut u64, out: &mut Out) -> Items<Op> {
     let mut ops = Vec::new(alloc);
     for _ in 0..next(state, 4).wrapping_add(1) {
         let op = some_op(alloc, state, out);
-        push_op(&mut ops, op, out);
+        out.push(&mut ops, op);
     }
     Items::from_vec(ops)
 }

@@ -53,53 +53,36 @@ pub struct Series {
     whose: Whose,
 }
 
-/// The clock of a client, `CLIENT:AT`.
-fn client_of(word: &str) -> Whose {
-    let (client, at) = split(word, ':');
-    Whose::Client {
-        client: number(client),
-        at: Going::read(at),
-    }
-}
-
-/// Both clocks, `SERVER:CLIENT:AT`.
-fn both_of(word: &str) -> Whose {
-    let (server, rest) = split(word, ':');
-    let (client, at) = split(rest, ':');
-    Whose::Both {
-        server: Going::read(server),
-        client: number(client),
-        at: Going::read(at),
-    }
-}
-
-/// Whose clocks a word of this kind reads.
-fn whose_of(kind: &str, word: &str) -> Option<Whose> {
-    match kind {
-        "server" => Some(Whose::Server(Going::read(word))),
-        "client" => Some(client_of(word)),
-        "both" => Some(both_of(word)),
-        _ => None,
-    }
-}
-
-/// So many readings of the clocks that the word says.
-fn series_of(count: u64, word: &str) -> Option<Series> {
+/// Whose clocks a word reads.
+fn whose_of(word: &str) -> Option<Whose> {
     let (kind, rest) = split(word, ':');
-    match whose_of(kind, rest) {
-        Some(whose) => Some(Series { count, whose }),
-        None => None,
+    let (one, rest) = split(rest, ':');
+    let (two, three) = split(rest, ':');
+    match kind {
+        "server" => Some(Whose::Server(Going::read(one))),
+        "client" => Some(Whose::Client {
+            client: number(one),
+            at: Going::read(two),
+        }),
+        "both" => Some(Whose::Both {
+            server: Going::read(one),
+            client: number(two),
+            at: Going::read(three),
+        }),
+        _ => None,
     }
 }
 
 impl Series {
     /// The readings that a word stands for.
     pub fn read(word: &str) -> Option<Series> {
-        let (count, each) = split(word, '*');
-        if each.is_empty() {
-            series_of(1, word)
-        } else {
-            series_of(number(count), each)
+        let (count, each) = match word.split_once('*') {
+            Some((count, each)) => (number(count), each),
+            None => (1, word),
+        };
+        match whose_of(each) {
+            Some(whose) => Some(Series { count, whose }),
+            None => None,
         }
     }
 
