@@ -1,7 +1,7 @@
 //! The program `lbfs`: a run over the standard streams, a folder, the files of the folder that it runs
 //! in, TCP on this host and the host's clock. What it reads, writes and ends with is promised by `run`
-//! of the crate `lbfs_run`; that the words, the outside and the status are handed on no contract says,
-//! and the examples test it.
+//! of the crate `lbfs_run`, which `status_of` there calls; that the words, the outside and the status are
+//! handed on no contract says, and the examples test it.
 #![tactic(auto)]
 
 use exit_status::status::Status;
@@ -11,16 +11,16 @@ use host::tcp::TcpNetwork;
 use host::time::{HostClock, HostRest};
 use lb_base::streams::{StreamSink, StreamSource};
 use lbfs_run::outside::Outside;
-use lbfs_run::run::run;
+use lbfs_run::run::status_of;
 use std::io::ErrorKind;
 use std::process::ExitCode;
 use std::{env, io, process};
 
-/// The words behind the program's name. Where one is no text there are none, and so no command
+/// The program's name and the words behind it. Where one is no text there are none, and so no command
 /// either.
 fn given_words(rt: &HostRuntime) -> io::Result<Vec<String>> {
     match env::args(rt) {
-        Ok(words) => Ok(words.skip(1).collect(rt.alloc())?),
+        Ok(words) => Ok(words.collect(rt.alloc())?),
         Err(error) if error.kind() == ErrorKind::InvalidData => Ok(Vec::new(rt.alloc())),
         Err(error) => Err(error),
     }
@@ -40,6 +40,6 @@ fn main(rt: HostRuntime) -> ExitCode {
         clock: HostClock::new(rt),
         rest: HostRest::new(rt),
     };
-    let (status, _outside, _unpaired) = run(&rt, rt.alloc(), &words, outside);
-    ExitCode::from(status)
+    let behind = words.len().min(1);
+    ExitCode::from(status_of(&rt, rt.alloc(), &words[behind..], outside))
 }

@@ -209,3 +209,29 @@ where
         Err(_) => (Status::Memory.code(), out, None),
     }
 }
+
+/// The same where nobody looks at the outside any more. It is let go here, for all types at once; a
+/// program that does it is proved for each of its own.
+pub fn status_of<
+    H: Threads + Wait + Sync,
+    S: Source + Drop,
+    K: Sink + Drop,
+    D: Store + Drop + Send,
+    F: Files + Drop + Send,
+    N: Network + Drop,
+    C: Clock + Sync + Drop,
+    R: Rest + Sync + Drop,
+>(
+    rt: &H,
+    alloc: Global,
+    words: &[String],
+    out: Outside<S, K, D, F, N, C, R>,
+) -> u8
+where
+    N::L: Drop + Send,
+{
+    let (status, out, unpaired) = run(rt, alloc, words, out);
+    drop(unpaired);
+    drop(out);
+    status
+}
