@@ -36,8 +36,14 @@ fn mark_of(place: usize, op: &Op) -> Option<Mark>
     if !op.word.changes() {
         return None;
     }
-    let file = op.file;
-    op.point.map(|point| Mark { file, point, place })
+    match op.point {
+        Some(point) => Some(Mark {
+            file: op.file,
+            point,
+            place,
+        }),
+        None => None,
+    }
 }
 
 /// The marks of all operations.
