@@ -73,7 +73,7 @@ fn run_plain<S: Source, K: Sink, D, F, N: Network, C, R>(
         clock,
         rest,
     } = out;
-    let status = plain_run::run::run(alloc, command, &mut source, &mut sink);
+    let status = plain_run::plain::run(alloc, command, &mut source, &mut sink);
     let out = Outside {
         source,
         sink,

@@ -1,2 +1,13 @@
-pub mod Seeded
+pub mod Accepted
+pub mod Blocks
+pub mod Clean
 pub mod Headline
+pub mod Opening
+pub mod Parts
+pub mod Seats
+pub mod Seeded
+pub mod Short
+pub mod Spelled
+pub mod Steps
+pub mod Ticks
+pub mod Words

@@ -1,2 +1,3 @@
-pub mod Output
 pub mod Ends
+pub mod Output
+pub mod Taken

@@ -7,5 +7,7 @@
 #![tactic(auto)]
 
 mod chunk_lines;
+pub mod law;
 pub mod output;
-pub mod run;
+pub mod replayed;
+pub mod plain;

@@ -9,7 +9,7 @@ ghost use Rattle.exit_status.specs.declared.status.Status.TheVariants as status;
 
 use crate::chunk_lines::cut_text;
 use exit_status::status::Status;
-use generated_traces::replayed::replayed;
+use crate::replayed::replayed;
 use lb_base::items::{Bytes, Items};
 use program_words::asked::{InputCommand, SeedCommand, View};
 use record_show::show::shown;

@@ -21,7 +21,7 @@ use Rattle.trace_text.specs.Fields.{reading_of}
 use Rattle.trace_text.specs.declared.line.Line.{Line}
 use Rattle.trace_text.specs.declared.line.Line.TheVariants as line
 use Rattle.trace_generator.specs.Lines.{file_line, join_line, do_line, pass_line, settle_line, on_file, write_command}
-use Rattle.generated_traces.proofs.Words.{IsDigit, digits_in, word_then, word_last, word_with, one_part, one_part_with, before_colon, after_colon}
+use Rattle.plain_run.proofs.Words.{IsDigit, digits_in, word_then, word_last, word_with, one_part, one_part_with, before_colon, after_colon}
 
 -- ---- pieces, one behind the other
 

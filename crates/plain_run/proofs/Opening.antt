@@ -34,9 +34,9 @@ use Rattle.trace_replay.specs.Run.{line_most, file_most, tree_most, sessions_mos
 use Rattle.trace_replay.specs.Timed.{Timed, Times, read_by, times_with, timing_of, owners_of, timed_start, timed_turn}
 use Rattle.trace_replay.proofs.Going.{applied_then}
 use Rattle.trace_generator.specs.Lines.{header, file_line, join_line, opening_lines}
-use Rattle.generated_traces.proofs.Spelled.{root_spot, file_said}
-use Rattle.generated_traces.proofs.Ticks.{Ticks, ticks_first, both_later, both_read}
-use Rattle.generated_traces.proofs.Steps.{there_at, Goes, Stands, Leads, no_lines, line_first, taken}
+use Rattle.plain_run.proofs.Spelled.{root_spot, file_said}
+use Rattle.plain_run.proofs.Ticks.{Ticks, ticks_first, both_later, both_read}
+use Rattle.plain_run.proofs.Steps.{there_at, Goes, Stands, Leads, no_lines, line_first, taken}
 
 -- ---- the header
 

@@ -3,8 +3,8 @@ use Rattle.std.proofs.Common.{◌≡◌, ℕ, zero, suc, ◌+◌, ◌*◌, ◌/�
 use Rattle.std.specs.List.{list_any, AllByRecursion}
 use Rattle.std.specs.Fmt.{digits}
 use Rattle.trace_generator.specs.Lines.{choice, client_of, file_of, offset_of, time_of, file_line, join_line, do_line, pass_line, settle_line, on_file, write_command, open_lines, change_lines, abandon_lines, rest_lines, block_lines, opening_lines, generated_lines}
-use Rattle.generated_traces.proofs.Words.{fed_then, fed_last}
-use Rattle.generated_traces.proofs.Spelled.{pass_pieces, do_pieces, write_pieces, file_pieces}
+use Rattle.plain_run.proofs.Words.{fed_then, fed_last}
+use Rattle.plain_run.proofs.Spelled.{pass_pieces, do_pieces, write_pieces, file_pieces}
 
 abbrev feeds : List ℕ → Bool
 feeds line = list_any (λ b. b == 10) line

@@ -5,8 +5,8 @@ use Rattle.command_text.specs.declared.content.Part.TheVariants.{Bytes}
 use Rattle.trace_replay.specs.Run.{line_most}
 use Rattle.trace_replay.specs.Timed.{Timed}
 use Rattle.trace_generator.specs.Lines.{choice, client_of, file_of, offset_of, time_of, do_line, pass_line, settle_line, on_file, write_command, all_lines, change_lines, abandon_lines, rest_lines, chosen_lines, block_lines}
-use Rattle.generated_traces.proofs.Spelled.{pass_said, settle_said, open_said, write_said, close_said, abandon_said}
-use Rattle.generated_traces.proofs.Steps.{Stands, Leads, no_lines, IsClient, does_then, passes_then, settles_then}
+use Rattle.plain_run.proofs.Spelled.{pass_said, settle_said, open_said, write_said, close_said, abandon_said}
+use Rattle.plain_run.proofs.Steps.{Stands, Leads, no_lines, IsClient, does_then, passes_then, settles_then}
 
 -- the numbers of a block are within the grammar, and its lines within the limit
 record AreIn (client file offset block time n : ℕ) : Type 0 where

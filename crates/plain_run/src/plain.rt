@@ -15,11 +15,11 @@ ghost use Rattle.exit_status.specs.Statuses.{code_of};
 ghost use Rattle.program_words.specs.Words.{IsFew, reads};
 ghost use Rattle.plain_run.specs.Output.{output_for, most_bytes, IsWhole};
 ghost use Rattle.plain_run.specs.Ends.{IsAnswered, IsAnsweredFrom, IsBegun, IsBegunFrom, IsBroken, IsBrokenFrom, IsRun};
-ghost use Rattle.plain_run.specs.declared.run.Unread.TheVariants as unread;
+ghost use Rattle.plain_run.specs.declared.plain.Unread.TheVariants as unread;
 
 use crate::output::{Output, input_output, refused, seed_output};
 use exit_status::status::Status;
-use generated_traces::law::generated_traces_are_accepted;
+use crate::law::generated_traces_are_accepted;
 use kept_promise::law::promise_is_kept;
 use lb_base::sink::{GiveErr, Sink, give_all};
 use lb_base::source::{ReadError, Source, read_all};

@@ -1,6 +1,6 @@
 use Rattle.std.proofs.Common.{inl, inr}
 use Rattle.plain_run.proofs.Headline.{replayed, generated, unrefused, unrefused_read}
-use Rattle.plain_run.proofs.run.run.Goals as goal
+use Rattle.plain_run.proofs.plain.run.Goals as goal
 
 pub returns-clause-replayed : goal.returns-clause-replayed
 returns-clause-replayed g c = λ view asks zero trace told.

@@ -11,10 +11,10 @@ use Rattle.trace_replay.specs.Timed.{Timed, timed_start, accepted_from, accepted
 use Rattle.trace_replay.specs.Lines.{ended_at}
 use Rattle.trace_replay.proofs.Going.{accepted_at_end}
 use Rattle.trace_generator.specs.Lines.{choice, client_of, file_of, offset_of, time_of, change_lines, abandon_lines, opening_lines, block_lines, generated_lines, generated_text, text_of}
-use Rattle.generated_traces.proofs.Steps.{Stands, Leads, lines_then}
-use Rattle.generated_traces.proofs.Blocks.{block_leads}
-use Rattle.generated_traces.proofs.Opening.{opening_leads}
-use Rattle.generated_traces.proofs.Clean.{generated_are}
+use Rattle.plain_run.proofs.Steps.{Stands, Leads, lines_then}
+use Rattle.plain_run.proofs.Blocks.{block_leads}
+use Rattle.plain_run.proofs.Opening.{opening_leads}
+use Rattle.plain_run.proofs.Clean.{generated_are}
 
 -- ---- how many lines there are
 

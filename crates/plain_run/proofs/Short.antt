@@ -5,8 +5,8 @@ use Rattle.std.proofs.lemmas.List.{length-append}
 use Rattle.std.proofs.lemmas.Fmt.{length-decimal-le}
 use Rattle.limits.specs.declared.TheConstants.{INPUT_MOST}
 use Rattle.trace_generator.specs.Lines.{choice, client_of, file_of, offset_of, time_of, file_line, join_line, do_line, pass_line, settle_line, on_file, write_command, change_lines, abandon_lines, block_lines, opening_lines, generated_lines, generated_text, text_of}
-use Rattle.generated_traces.proofs.Spelled.{pass_pieces, do_pieces, write_pieces, file_text, file_pieces}
-use Rattle.generated_traces.proofs.Accepted.{lines_count}
+use Rattle.plain_run.proofs.Spelled.{pass_pieces, do_pieces, write_pieces, file_text, file_pieces}
+use Rattle.plain_run.proofs.Accepted.{lines_count}
 
 -- ---- how long pieces are
 

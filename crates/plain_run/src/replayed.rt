@@ -6,7 +6,7 @@ ghost use Rattle.trace_replay.specs.Timed.{Timed, accepted};
 ghost use Rattle.trace_replay.specs.Lines.{applied_from};
 ghost use Rattle.trace_generator.specs.Lines.{opening_lines, block_lines, generated_text, text_of};
 ghost use Rattle.trace_generator.specs.declared.TheConstants.{BLOCKS_MOST};
-ghost use Rattle.generated_traces.specs.Taken.{AreTaken};
+ghost use Rattle.plain_run.specs.Taken.{AreTaken};
 
 use std::alloc::{AllocError, Global};
 use trace_generator::BLOCKS_MOST;

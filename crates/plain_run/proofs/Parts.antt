@@ -12,11 +12,11 @@ use Rattle.trace_replay.specs.Timed.{Timed, timed_start, accepted_from, accepted
 use Rattle.trace_replay.specs.Lines.{applied_from, ended_at}
 use Rattle.trace_replay.proofs.Going.{accepted_at_end, applied_then, applied_number}
 use Rattle.trace_generator.specs.Lines.{opening_lines, block_lines, generated_lines, generated_text, text_of}
-use Rattle.generated_traces.specs.Taken.{AreTaken}
-use Rattle.generated_traces.proofs.Steps.{Leads, there_at}
-use Rattle.generated_traces.proofs.Opening.{opening_leads}
-use Rattle.generated_traces.proofs.Clean.{opening_is, block_is}
-use Rattle.generated_traces.proofs.Accepted.{lines_count, lines_again_of, generated_leads}
+use Rattle.plain_run.specs.Taken.{AreTaken}
+use Rattle.plain_run.proofs.Steps.{Leads, there_at}
+use Rattle.plain_run.proofs.Opening.{opening_leads}
+use Rattle.plain_run.proofs.Clean.{opening_is, block_is}
+use Rattle.plain_run.proofs.Accepted.{lines_count, lines_again_of, generated_leads}
 
 -- ---- the lines of a part's text
 

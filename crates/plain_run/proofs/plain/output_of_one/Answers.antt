@@ -1,7 +1,7 @@
 use Rattle.std.proofs.Common.{Some, ap, subst}
 use Rattle.program_words.specs.Words.{IsFew}
 use Rattle.plain_run.proofs.Seeded.{of_seed}
-use Rattle.plain_run.proofs.run.output_of_one.Goals as goal
+use Rattle.plain_run.proofs.plain.output_of_one.Goals as goal
 
 pub seed_output-requires : goal.seed_output-requires
 seed_output-requires g c = subst IsFew (ap Some c.in-OfSeed.is) c.requires

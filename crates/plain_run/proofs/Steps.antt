@@ -27,8 +27,8 @@ use Rattle.trace_replay.specs.Timed.{Timed, Times, timing_of, pass_timing, owner
 use Rattle.trace_replay.specs.Lines.{applied_from}
 use Rattle.trace_replay.proofs.Going.{applied_then}
 use Rattle.kept_promise.proofs.Owners.{turned_to}
-use Rattle.generated_traces.proofs.Ticks.{Ticks, server_later, server_read, client_later, client_read, both_later, both_read}
-use Rattle.generated_traces.proofs.Seats.{does_count, passes_count}
+use Rattle.plain_run.proofs.Ticks.{Ticks, server_later, server_read, client_later, client_read, both_later, both_read}
+use Rattle.plain_run.proofs.Seats.{does_count, passes_count}
 
 -- ---- a line
 
