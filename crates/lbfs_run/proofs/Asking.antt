@@ -12,8 +12,8 @@ use Rattle.program_words.specs.declared.asked.Asked.TheVariants as ask
 use Rattle.program_words.specs.declared.asked.ServeOptions.{ServeOptions}
 use Rattle.program_words.specs.declared.asked.MountOptions.{MountOptions}
 use Rattle.program_words.specs.Words.{command_in, is_alone}
-use Rattle.plain_run.specs.Ends.{IsAnswered, IsAnsweredFrom, IsBegun, IsBegunFrom, IsBroken, IsBrokenFrom}
-use Rattle.plain_run.specs.Output.{output_for}
+use Rattle.lbfs_run.specs.PlainEnds.{IsAnswered, IsAnsweredFrom, IsBegun, IsBegunFrom, IsBroken, IsBrokenFrom}
+use Rattle.lbfs_run.specs.Output.{output_for}
 use Rattle.lbfs_run.specs.Ends.{takes_input}
 use Rattle.lbfs_run.specs.Mounting.{MountEnds}
 use Rattle.lbfs_run.specs.Serving.{ServeEnds}

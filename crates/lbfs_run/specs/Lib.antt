@@ -1,4 +1,7 @@
-pub mod Telling
-pub mod Serving
-pub mod Mounting
 pub mod Ends
+pub mod Mounting
+pub mod Output
+pub mod PlainEnds
+pub mod Serving
+pub mod Taken
+pub mod Telling

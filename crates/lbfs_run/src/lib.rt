@@ -4,11 +4,16 @@
 //! are told to.
 //!
 //! What each status says stands in the clauses of `run::run`: of `replay`, `gen`, `cut` and `show` by the
-//! definitions of `plain_run`, of `serve` by `specs/Serving.antt`, of `mount` by `specs/Mounting.antt`.
+//! definitions of `plain`, of `serve` by `specs/Serving.antt`, of `mount` by `specs/Mounting.antt`.
 #![tactic(auto)]
 
+mod chunk_lines;
+mod law;
 mod mounting;
+mod output;
 pub mod outside;
+mod plain;
+mod replayed;
 pub mod run;
 mod serving;
 mod telling;

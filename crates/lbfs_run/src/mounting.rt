@@ -19,7 +19,7 @@ use lbfs_mount::mount_err::MountErr;
 use links::clock::Clock;
 use links::files::Files;
 use links::network::Network;
-use plain_run::output::{Output, refused};
+use crate::output::{Output, refused};
 use program_words::asked::MountOptions;
 use std::alloc::{AllocError, Global};
 use std::sync::Wait;

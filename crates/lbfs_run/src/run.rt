@@ -1,5 +1,5 @@
 //! A run of the program over its outside. What words ask for states `asked_of` of `program_words`; what
-//! `replay`, `gen`, `cut` and `show` come to, `plain_run`; the rest stands in `specs/`.
+//! `replay`, `gen`, `cut` and `show` come to, `plain`; the rest stands in `specs/`.
 
 ghost use Rattle.std.specs.Prelude.{◌≡◌, ℕ, ◌≤◌, ◌⊎◌, List, [], ◌∷◌, Option, Some, true, false, map, string_bytes, codes};
 ghost use Rattle.lb_base.specs.Causes.{Rose};
@@ -14,7 +14,7 @@ ghost use Rattle.program_words.specs.declared.asked.Command.TheVariants.{OfInput
 ghost use Rattle.program_words.specs.declared.asked.ServeOptions.{ServeOptions};
 ghost use Rattle.program_words.specs.declared.asked.MountOptions.{MountOptions};
 ghost use Rattle.program_words.specs.declared.asked.Asked.TheVariants as ask;
-ghost use Rattle.plain_run.specs.Ends.{IsAnswered, IsAnsweredFrom, IsBegun, IsBegunFrom, IsBroken, IsBrokenFrom, IsReplayed, IsRun};
+ghost use Rattle.lbfs_run.specs.PlainEnds.{IsAnswered, IsAnsweredFrom, IsBegun, IsBegunFrom, IsBroken, IsBrokenFrom, IsReplayed, IsRun};
 ghost use Rattle.lbfs_mount.specs.Mounts.{IsFaulty};
 ghost use Rattle.lbfs_run.specs.Ends.{StoreFails, takes_input};
 ghost use Rattle.lbfs_run.specs.Mounting.{MountEnds};
@@ -73,7 +73,7 @@ fn run_plain<S: Source, K: Sink, D, F, N: Network, C, R>(
         clock,
         rest,
     } = out;
-    let status = plain_run::plain::run(alloc, command, &mut source, &mut sink);
+    let status = crate::plain::run(alloc, command, &mut source, &mut sink);
     let out = Outside {
         source,
         sink,

@@ -17,7 +17,7 @@ use lbfs_server::serve::{ServeErr, Served, serve};
 use links::clock::Clock;
 use links::network::Network;
 use links::rest::Rest;
-use plain_run::output::Output;
+use crate::output::Output;
 use program_words::asked::ServeOptions;
 use std::alloc::{AllocError, Global};
 use std::fmt::Write;

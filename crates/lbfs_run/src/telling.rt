@@ -7,7 +7,7 @@ ghost use Rattle.lbfs_run.specs.Telling.{Tells};
 
 use exit_status::status::Status;
 use lb_base::sink::{GiveErr, Sink, give_all};
-use plain_run::output::Output;
+use crate::output::Output;
 
 /// Writes the output, and answers its status, or that of what went wrong.
 pub(crate) fn tell<K: Sink>(output: &Output, sink: &mut K) -> u8

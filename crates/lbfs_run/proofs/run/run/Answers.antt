@@ -4,7 +4,7 @@ use Rattle.lbfs_server.specs.declared.serve.ServeErr.TheVariants as serve_errors
 use Rattle.program_words.specs.declared.asked.View.TheVariants.{History}
 use Rattle.program_words.specs.Rows.{replay_alone}
 use Rattle.program_words.specs.Words.{asked_of, command_in, command_of, is_alone}
-use Rattle.plain_run.specs.Output.{output_for}
+use Rattle.lbfs_run.specs.Output.{output_for}
 use Rattle.lbfs_run.specs.Ends.{takes_input}
 use Rattle.lbfs_run.proofs.Asking.{answered_by, taken_by, broken_by, broken_off_by, starved_by, starved_off_by, stays, front, nothing, nothing_written, no, none, no_end}
 use Rattle.lbfs_run.proofs.run.run.Goals as goal

@@ -1,5 +1,0 @@
-use Rattle.plain_run.proofs.Parts.{Ran}
-use Rattle.plain_run.proofs.replayed.replayed.Given as goal
-
-abbrev pub invariant-loop-block : goal.invariant-loop-block
-invariant-loop-block l = Ran l.seed l.block l.world l.next
