@@ -15,7 +15,7 @@ use std::alloc::Global;
 
 /// A command of a client. Offsets, sizes and counts are in bytes; they and the ids are any numbers
 /// of 64 bits. Whether the file is open and what then comes of it is the client's business.
-#[derive(Debug, Drop)]
+#[derive(Drop)]
 pub enum Command {
     /// `open #ID`: opens the file with this id. (`open PATH` is a command on names.)
     Open(u64),

@@ -9,7 +9,6 @@ use std::alloc::{AllocError, Global};
 
 /// A part of a content. It takes no memory but for bytes that stand in the trace. Where the parts
 /// of a line were read, their counts are 1 to 2^64 - 1, and none has no bytes.
-#[derive(Debug)]
 pub enum Part {
     /// `t:TEXT` or `x:HEX`: these bytes.
     Bytes(Bytes),

@@ -17,7 +17,7 @@ use std::alloc::Global;
 pub type Path = Items<Name>;
 
 /// A name in the directory that a path leads to.
-#[derive(Debug, Drop)]
+#[derive(Drop)]
 pub struct Spot {
     /// The directory's path.
     pub dirs: Path,
@@ -25,7 +25,7 @@ pub struct Spot {
 }
 
 /// A command on names.
-#[derive(Debug, Drop)]
+#[derive(Drop)]
 pub enum PathCommand {
     /// `open PATH`: opens the file of this name.
     Find(Spot),

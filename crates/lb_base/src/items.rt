@@ -7,7 +7,6 @@ use std::marker::Model;
 
 /// A list that grows at its end. Contracts see it as the list of its items, so that it may stand
 /// in a field or a variant of what they compare.
-#[derive(Debug)]
 pub struct Items<T> {
     held: Vec<T>,
 }

@@ -110,6 +110,20 @@ impl Out {
         }
     }
 
+    /// A name, and numbers behind theirs, as `Debug` has them of a struct.
+    pub fn fields(&mut self, name: &str, fields: &[(&str, u64)]) {
+        self.text(name);
+        let mut before = " { ";
+        for (field, number) in fields.iter() {
+            self.text(before);
+            self.text(field);
+            self.text(":");
+            self.number(*number);
+            before = ", ";
+        }
+        self.text(" }")
+    }
+
     /// The text, where it is whole.
     pub fn done(self) -> Result<String, AllocError> {
         let Out { text, is_short } = self;

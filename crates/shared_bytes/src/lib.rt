@@ -14,7 +14,6 @@ use std::sync::Arc;
 
 /// One owner of some bytes, which never change. Contracts see their list. They are let go with their
 /// last owner.
-#[derive(Debug)]
 pub struct SharedBytes {
     held: Option<Arc<Bytes>>,
 }

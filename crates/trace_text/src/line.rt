@@ -14,7 +14,7 @@ use command_text::path::Spot;
 use std::alloc::Global;
 
 /// How many bytes of a queue are delivered.
-#[derive(Clone, Copy, Debug)]
+#[derive(Clone, Copy)]
 pub enum Amount {
     /// `all`: those that are queued at that moment.
     All,
@@ -23,7 +23,7 @@ pub enum Amount {
 }
 
 /// Whose index a line is about.
-#[derive(Clone, Copy, Debug)]
+#[derive(Clone, Copy)]
 pub enum Who {
     /// `server`.
     Server,
@@ -34,7 +34,7 @@ pub enum Who {
 /// A line of a trace. Terms, drifts and readings are in milliseconds. A reading is 0 to 2^63 - 1:
 /// `at` is one of the client's clock, `server` one of the server's. Clients, sessions and rounds are
 /// any numbers of 64 bits: whether there is such a client or session is the business of the world.
-#[derive(Debug, Drop)]
+#[derive(Drop)]
 pub enum Line {
     /// `lbfs-trace 1`: the first line.
     Version,
