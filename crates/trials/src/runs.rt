@@ -74,10 +74,13 @@ fn put_run<R: Threads + Wait + Sync + Send + Copy + Drop>(
         ..one
     };
     out.text(title);
-    match Port::new(alloc, &one, other.is_empty(), out) {
-        Ok(port) if other.is_empty() => put_alone(rt, alloc, &port, &one, out),
-        Ok(port) => put_both(rt, alloc, &port, &one, &two, out),
-        Err(_) => out.lack(),
+    let Ok(port) = Port::new(alloc, &one, other.is_empty(), out) else {
+        return out.lack();
+    };
+    if other.is_empty() {
+        put_alone(rt, alloc, &port, &one, out)
+    } else {
+        put_both(rt, alloc, &port, &one, &two, out)
     }
 }
 
