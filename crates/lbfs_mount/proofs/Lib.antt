@@ -1,2 +1,4 @@
+pub mod Coming
+pub mod Lines
 mod Progress
 mod Telling

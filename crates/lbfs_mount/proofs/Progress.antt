@@ -17,8 +17,8 @@ use Rattle.mount_text.specs.declared.answer.Answer.TheVariants as answer
 use Rattle.mount_text.specs.declared.line.MountLine.{MountLine}
 use Rattle.lbfs_mount.specs.declared.mount_err.MountErr.{MountErr}
 use Rattle.lbfs_mount.specs.declared.mount_err.MountErr.TheVariants as errors
-use Rattle.script_lines.specs.Script.{Coming, nothing_yet, coming, MayFollow, Takes, Gives}
-use Rattle.script_lines.proofs.Coming.{apart, consumes_more}
+use Rattle.lbfs_mount.specs.Script.{Coming, nothing_yet, coming, MayFollow, Takes, Gives}
+use Rattle.lbfs_mount.proofs.Coming.{apart, consumes_more}
 use Rattle.lbfs_mount.specs.Mounts.{IsAnswer, TellsIf, is_skip, IsDone, Tells, TellsLine, Writes, WritesPart, Outside, Unjoined, Untold, WriteEnds, AnswerEnds, TextFails, TextEnds, Fails, Ends, written_as, read_end}
 
 -- ---- known bytes

@@ -1,3 +1,5 @@
 pub mod Mounts
-pub mod Turns
 mod Rows
+pub mod Script
+pub mod ScriptRows
+pub mod Turns

@@ -13,5 +13,7 @@ mod hearing;
 pub mod mount;
 pub mod mount_err;
 mod running;
+pub mod script;
 mod shared;
+mod splitting;
 mod turns;

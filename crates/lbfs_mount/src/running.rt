@@ -16,7 +16,7 @@ use lb_base::source::{ReadError, Source};
 use links::clock::Clock;
 use links::network::Network;
 use mount_text::line::MountLine;
-use script_lines::script::Script;
+use crate::script::Script;
 use std::sync::Wait;
 use std::thread::{Scope, Threads};
 

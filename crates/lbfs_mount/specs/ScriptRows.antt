@@ -1,6 +1,6 @@
 -- A worked row: lines that come at once.
 use Rattle.std.specs.Prelude.{◌≡◌, [], ◌∷◌, refl, codes, false}
-use Rattle.script_lines.specs.Script.{nothing_yet, coming}
+use Rattle.lbfs_mount.specs.Script.{nothing_yet, coming}
 
 -- two lines, an empty one, and one that lacks its end
 lines_row : coming nothing_yet (codes "make a\nopen a\n\nclose") ≡ codes "make a" ∷ codes "open a" ∷ [] ∷ codes "close" ∷ []

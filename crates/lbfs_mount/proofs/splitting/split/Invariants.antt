@@ -1,7 +1,7 @@
 use Rattle.std.proofs.Common.{◌≡◌, ℕ, List, ◌++◌, false, length}
 use Rattle.command_text.specs.Parts.{lines_of}
-use Rattle.script_lines.specs.Script.{has_feed}
-use Rattle.script_lines.proofs.splitting.split.Given as goal
+use Rattle.lbfs_mount.specs.Script.{has_feed}
+use Rattle.lbfs_mount.proofs.splitting.split.Given as goal
 
 abbrev pub invariant-lines : goal.invariant-lines
 invariant-lines l = record {

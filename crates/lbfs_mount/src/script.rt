@@ -5,7 +5,7 @@ ghost use Rattle.std.specs.Io.KnownBytes.{Consumes, IsAtEnd};
 ghost use Rattle.lb_base.specs.Causes.{Rose};
 ghost use Rattle.lb_base.specs.declared.source.ReadError.TheVariants as errors;
 ghost use Rattle.limits.specs.declared.TheConstants.{INPUT_MOST};
-ghost use Rattle.script_lines.specs.Script.{Coming, nothing_yet, coming, Takes, Gives, has_feed};
+ghost use Rattle.lbfs_mount.specs.Script.{Coming, nothing_yet, coming, Takes, Gives, has_feed};
 
 use crate::splitting::{end_input, split};
 use lb_base::items::Bytes;
@@ -36,7 +36,7 @@ pub struct Script {
 impl Model for Script {
     ghost use Rattle.std.specs.Prelude.{◌≡◌, ◌<◌, ◌≤◌, [], length, true, false};
     ghost use Rattle.limits.specs.declared.TheConstants.{INPUT_MOST};
-    ghost use Rattle.script_lines.specs.Script.{Coming, has_feed};
+    ghost use Rattle.lbfs_mount.specs.Script.{Coming, has_feed};
 
     ghost Value = { Coming };
 

@@ -1,7 +1,7 @@
 use Rattle.std.proofs.Common.{◌≡◌, ℕ, ◌≤◌, List, true, false}
 use Rattle.std.specs.Io.KnownBytes.{Consumes, IsAtEnd}
-use Rattle.script_lines.specs.Script.{Takes}
-use Rattle.script_lines.proofs.script.Script.next.Given as goal
+use Rattle.lbfs_mount.specs.Script.{Takes}
+use Rattle.lbfs_mount.proofs.script.Script.next.Given as goal
 
 abbrev pub invariant-loop-round : goal.invariant-loop-round
 invariant-loop-round g l = record {

@@ -1,6 +1,6 @@
 use Rattle.std.proofs.Common.{rules, ◌≡◌, ℕ, List, [], ◌∷◌, ◌++◌, ◌<◌, length, refl, sym, ap, ◌∙◌, arith, subst}
-use Rattle.script_lines.proofs.Lines.{ends_in, ends_empty}
-use Rattle.script_lines.proofs.splitting.end_input.Goals as goal
+use Rattle.lbfs_mount.proofs.Lines.{ends_in, ends_empty}
+use Rattle.lbfs_mount.proofs.splitting.end_input.Goals as goal
 
 pub returns-clause-ok : goal.returns-clause-ok
 returns-clause-ok c =

@@ -2,7 +2,7 @@
 
 ghost use Rattle.std.specs.Prelude.{◌≡◌, ℕ, List, [], ◌∷◌, ◌++◌, false, OnOk};
 ghost use Rattle.command_text.specs.Parts.{lines_of};
-ghost use Rattle.script_lines.specs.Script.{has_feed};
+ghost use Rattle.lbfs_mount.specs.Script.{has_feed};
 
 use command_text::parts::cut;
 use lb_base::items::{Bytes, Items};

@@ -3,7 +3,7 @@ use Rattle.std.proofs.Common.{◌≡◌, ℕ, suc, ◌+◌, ◌<◌, ◌≤◌, 
 use Rattle.std.specs.Bool.{if◌then◌else◌}
 use Rattle.std.specs.List.{position_or_len, before_first, after_first, onto_first, list_any}
 use Rattle.command_text.specs.Parts.{lines_of}
-use Rattle.script_lines.specs.Script.{has_feed}
+use Rattle.lbfs_mount.specs.Script.{has_feed}
 
 -- what stands before a line without a feed stands in its first line
 before_by : (b : Bool) (x : ℕ) (rest : List ℕ) (found : Bool) (whole : List (List ℕ)) (line : List ℕ) (lines : List (List ℕ)) → (b || found) ≡ false → (found ≡ false → whole ≡ (rest ++ line) ∷ lines) → cond b ([] ∷ whole) (onto_first x whole) ≡ ((x ∷ rest) ++ line) ∷ lines

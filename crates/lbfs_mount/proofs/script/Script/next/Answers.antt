@@ -1,9 +1,9 @@
 use Rattle.std.proofs.Common.{rules, ◌≡◌, List, ℕ, [], ◌∷◌, ◌++◌, true, false, refl, ap, sym, ◌∙◌, subst, arith, Err, length-append}
 use Rattle.std.specs.Option.{option_to_list}
 use Rattle.std.proofs.lemmas.Result.{err_from_is_err_and}
-use Rattle.script_lines.specs.Script.{Coming, Takes, Gives}
-use Rattle.script_lines.proofs.Coming.{takes_none, takes_more, gives_first, consumes_more, error_is, apart}
-use Rattle.script_lines.proofs.script.Script.next.Goals as goal
+use Rattle.lbfs_mount.specs.Script.{Coming, Takes, Gives}
+use Rattle.lbfs_mount.proofs.Coming.{takes_none, takes_more, gives_first, consumes_more, error_is, apart}
+use Rattle.lbfs_mount.proofs.script.Script.next.Goals as goal
 
 pub loop-round-init : goal.loop-round-init
 loop-round-init g c = record { took = ([], search rules, takes_none _); ended = search rules; still = λ ended. (refl, refl); later = search rules }

@@ -1,8 +1,8 @@
 use Rattle.std.proofs.Common.{◌≡◌, List, ℕ, [], ◌∷◌, ◌++◌, rules, refl, sym, ap, ◌∙◌, ◌==◌}
 use Rattle.std.specs.List.{after_first}
 use Rattle.command_text.specs.Parts.{lines_of}
-use Rattle.script_lines.proofs.Lines.{first_line, split_line, split_rest, none_found, kept_either}
-use Rattle.script_lines.proofs.splitting.split.Goals as goal
+use Rattle.lbfs_mount.proofs.Lines.{first_line, split_line, split_rest, none_found, kept_either}
+use Rattle.lbfs_mount.proofs.splitting.split.Goals as goal
 
 pub lines-init : goal.lines-init
 lines-init c = record { same = λ more. refl; none = c.requires }
