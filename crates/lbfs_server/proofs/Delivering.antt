@@ -1,7 +1,7 @@
 -- Messages that are delivered, and sessions that are hung for want of memory.
 use Rattle.std.specs.Prelude.{◌≡◌, ℕ, List, [], ◌∷◌, ◌++◌, Bool, true, false, IsTrue, Option, Some, None}
 use Rattle.std.proofs.Common.{refl, sym, ap, ◌∙◌, subst}
-use Rattle.outboxes.specs.Boxes.{KeepsOthers}
+use Rattle.lbfs_server.specs.Boxes.{KeepsOthers}
 use Rattle.store.specs.declared.record.Kept.{Kept}
 use Rattle.send_list.specs.Sent.{sent_list}
 use Rattle.server_steps.specs.declared.event.Event.{Event}

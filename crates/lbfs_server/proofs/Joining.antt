@@ -2,8 +2,8 @@
 use Rattle.std.specs.Prelude.{◌≡◌, ◌⊎◌, ℕ, ◌+◌, [], ◌∷◌, Bool, true, false, List, Option}
 use Rattle.std.proofs.Common.{inl, inr, refl, sym, ap, ◌∙◌, subst}
 use Rattle.slab.specs.Slab.{Slab}
-use Rattle.outboxes.specs.declared.boxes.Outbox.{Outbox}
-use Rattle.outboxes.specs.Boxes.{Holds, KeepsOthers}
+use Rattle.lbfs_server.specs.declared.boxes.Outbox.{Outbox}
+use Rattle.lbfs_server.specs.Boxes.{Holds, KeepsOthers}
 use Rattle.wire.specs.declared.message.Message.{Message}
 use Rattle.server_steps.specs.declared.event.Event.TheVariants as event
 use Rattle.server_steps.specs.declared.event.ServerStep.{ServerStep}

@@ -4,6 +4,7 @@ pub mod Hanging
 pub mod Hearing
 pub mod Joining
 pub mod Keeping
+pub mod Keys
 pub mod Quiet
 pub mod Serving
 pub mod Telling

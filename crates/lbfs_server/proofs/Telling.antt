@@ -4,8 +4,8 @@ use Rattle.std.proofs.Common.{refl, sym, ap, ◌∙◌, subst, arith, append_ass
 use Rattle.std.proofs.lemmas.Bool.Decides.{nat_tests}
 use Rattle.std.proofs.lemmas.List.{append-nil}
 use Rattle.slab.specs.Slab.{Slab, get}
-use Rattle.outboxes.specs.declared.boxes.Outbox.{Outbox}
-use Rattle.outboxes.specs.Boxes.{Holds, Lacks, KeepsOthers}
+use Rattle.lbfs_server.specs.declared.boxes.Outbox.{Outbox}
+use Rattle.lbfs_server.specs.Boxes.{Holds, Lacks, KeepsOthers}
 use Rattle.wire.specs.declared.message.Message.{Message}
 use Rattle.server_steps.specs.declared.event.Sent.{Sent}
 use Rattle.lbfs_server.specs.Held.{messages_to, Adds, Spares, AllLack, AllOwed}

@@ -1,8 +1,8 @@
 -- What the threads of a server share, and what an event makes of it.
 use Rattle.std.specs.Prelude.{◌≡◌, ◌⊎◌, ℕ, List, [], ◌∷◌, ◌++◌, Bool, true, false, ◌==◌, if◌then◌else◌, Result, Ok, Err, Option}
 use Rattle.slab.specs.Slab.{Slab}
-use Rattle.outboxes.specs.declared.boxes.Outbox.{Outbox}
-use Rattle.outboxes.specs.Boxes.{Holds, Lacks, KeepsOthers}
+use Rattle.lbfs_server.specs.declared.boxes.Outbox.{Outbox}
+use Rattle.lbfs_server.specs.Boxes.{Holds, Lacks, KeepsOthers}
 use Rattle.wire.specs.declared.fault.WireErr.{WireErr}
 use Rattle.wire.specs.declared.fault.WireErr.TheVariants as errors
 use Rattle.wire.specs.declared.fault.WireFault.{WireFault}

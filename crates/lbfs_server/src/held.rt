@@ -2,7 +2,7 @@
 //! `specs/Held.antt` states what an event makes of it.
 
 ghost use Rattle.std.specs.Prelude.{◌≡◌, ℕ, ◌<◌, ◌≤◌, ◌^◌, ◌↔◌, List, [], ◌∷◌, length, IsTrue, Result, false};
-ghost use Rattle.outboxes.specs.Boxes.{AllEmpty, Holds, Lacks, KeepsOthers};
+ghost use Rattle.lbfs_server.specs.Boxes.{AllEmpty, Holds, Lacks, KeepsOthers};
 ghost use Rattle.server_core.specs.Closing.{has_waiting};
 ghost use Rattle.server_core.specs.State.{entries_held};
 ghost use Rattle.server_core.specs.Step.{IsTimed};
@@ -17,7 +17,7 @@ use crate::kept::KeptServer;
 use crate::turns::Turns;
 use hash_calls::call::Commit;
 use lb_base::items::Items;
-use outboxes::outboxes::Outboxes;
+use crate::outboxes::Outboxes;
 use send_list::SendList;
 use server_core::server::Server;
 use server_rules::told::Told;

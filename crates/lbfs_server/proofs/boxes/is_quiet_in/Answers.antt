@@ -1,6 +1,6 @@
 use Rattle.std.proofs.Common.{◌∙◌, ap, sym, Some, []}
-use Rattle.outboxes.proofs.Keys.{holds_is, lacks_unholds}
-use Rattle.outboxes.proofs.boxes.is_quiet_in.Goals as goal
+use Rattle.lbfs_server.proofs.Keys.{holds_is, lacks_unholds}
+use Rattle.lbfs_server.proofs.boxes.is_quiet_in.Goals as goal
 
 pub returns-in-Some : goal.returns-in-Some
 returns-in-Some g c =

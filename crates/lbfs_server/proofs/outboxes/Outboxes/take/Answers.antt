@@ -1,6 +1,6 @@
 use Rattle.std.proofs.Common.{sym, subst}
-use Rattle.outboxes.specs.Boxes.{Holds, Lacks}
-use Rattle.outboxes.proofs.outboxes.Outboxes.take.Goals as goal
+use Rattle.lbfs_server.specs.Boxes.{Holds, Lacks}
+use Rattle.lbfs_server.proofs.outboxes.Outboxes.take.Goals as goal
 
 pub returns-clause-taken : goal.returns-clause-taken
 returns-clause-taken g c = λ messages held. c.take_in.ensures.taken messages (subst (λ b. Holds b c.args.session messages) (sym c.self.view_is) held)

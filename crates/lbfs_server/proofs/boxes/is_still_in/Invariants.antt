@@ -1,7 +1,7 @@
 use Rattle.std.proofs.Common.{◌≡◌, ℕ, [], Some, Contains}
 use Rattle.slab.specs.Slab.{get}
-use Rattle.outboxes.specs.declared.boxes.Outbox.{Outbox}
-use Rattle.outboxes.proofs.boxes.is_still_in.Given as goal
+use Rattle.lbfs_server.specs.declared.boxes.Outbox.{Outbox}
+use Rattle.lbfs_server.proofs.boxes.is_still_in.Given as goal
 
 -- a box that isn't empty is among those that are left, and each that is left is a box of the slab
 abbrev pub invariant-loop-key : goal.invariant-loop-key

@@ -3,8 +3,8 @@
 
 ghost use Rattle.std.specs.Prelude.{◌≡◌, ◌≢◌, ℕ, List, [], ◌∷◌, ◌++◌, Some, None, IfSome, IfNone, OnOk, OnErr, IsTrue, ◌↔◌};
 ghost use Rattle.slab.specs.Slab.{Slab, get};
-ghost use Rattle.outboxes.specs.Boxes.{AllEmpty, Holds, Lacks, IsUnique, KeepsOthers};
-ghost use Rattle.outboxes.specs.declared.boxes.Outbox.{Outbox};
+ghost use Rattle.lbfs_server.specs.Boxes.{AllEmpty, Holds, Lacks, IsUnique, KeepsOthers};
+ghost use Rattle.lbfs_server.specs.declared.boxes.Outbox.{Outbox};
 
 use lb_base::items::Items;
 use server_rules::sessions::is_of;

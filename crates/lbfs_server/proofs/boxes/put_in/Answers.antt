@@ -1,6 +1,6 @@
 use Rattle.std.proofs.Common.{refl}
-use Rattle.outboxes.proofs.Keys.{PutAt, put_others, put_unique, put_there, put_kept, keeps_same, lacks_unholds}
-use Rattle.outboxes.proofs.boxes.put_in.Goals as goal
+use Rattle.lbfs_server.proofs.Keys.{PutAt, put_others, put_unique, put_there, put_kept, keeps_same, lacks_unholds}
+use Rattle.lbfs_server.proofs.boxes.put_in.Goals as goal
 
 pub returns-in-Some : goal.returns-in-Some
 returns-in-Some g c =

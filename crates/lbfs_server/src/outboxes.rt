@@ -1,7 +1,7 @@
 //! The outboxes of all sessions. `specs/Boxes.antt` states what they hold.
 
 ghost use Rattle.std.specs.Prelude.{◌≡◌, ℕ, List, [], ◌∷◌, ◌++◌, OnOk, OnErr, IsTrue, false, ◌↔◌};
-ghost use Rattle.outboxes.specs.Boxes.{AllEmpty, Holds, Lacks, KeepsOthers};
+ghost use Rattle.lbfs_server.specs.Boxes.{AllEmpty, Holds, Lacks, KeepsOthers};
 
 use crate::boxes::{Outbox, close_in, is_quiet_in, is_still_in, key_of, open_in, put_in, take_in};
 use lb_base::items::Items;
@@ -26,8 +26,8 @@ impl<T: Drop> Drop for Outboxes<T> {
 
 impl<T> Model for Outboxes<T> {
     ghost use Rattle.slab.specs.Slab.{Slab};
-    ghost use Rattle.outboxes.specs.Boxes.{IsUnique};
-    ghost use Rattle.outboxes.specs.declared.boxes.Outbox.{Outbox};
+    ghost use Rattle.lbfs_server.specs.Boxes.{IsUnique};
+    ghost use Rattle.lbfs_server.specs.declared.boxes.Outbox.{Outbox};
 
     ghost Value = { Slab (Outbox T) };
 

@@ -1,6 +1,6 @@
 use Rattle.std.proofs.Common.{◌∙◌, sym, refl, []}
-use Rattle.outboxes.proofs.Keys.{Changed, changed_is, changed_others, changed_unique, keeps_same, lacks_unholds}
-use Rattle.outboxes.proofs.boxes.take_in.Goals as goal
+use Rattle.lbfs_server.proofs.Keys.{Changed, changed_is, changed_others, changed_unique, keeps_same, lacks_unholds}
+use Rattle.lbfs_server.proofs.boxes.take_in.Goals as goal
 
 pub returns-in-Some : goal.returns-in-Some
 returns-in-Some g c =

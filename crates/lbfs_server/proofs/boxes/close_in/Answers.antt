@@ -1,5 +1,5 @@
-use Rattle.outboxes.proofs.Keys.{GoneAt, gone_lacks, gone_others, gone_unique, keeps_same}
-use Rattle.outboxes.proofs.boxes.close_in.Goals as goal
+use Rattle.lbfs_server.proofs.Keys.{GoneAt, gone_lacks, gone_others, gone_unique, keeps_same}
+use Rattle.lbfs_server.proofs.boxes.close_in.Goals as goal
 
 pub returns-in-Some : goal.returns-in-Some
 returns-in-Some g c =

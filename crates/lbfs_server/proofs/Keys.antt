@@ -3,8 +3,8 @@ use Rattle.std.specs.Prelude.{◌≡◌, ◌≢◌, ℕ, List, [], ◌∷◌, �
 use Rattle.std.proofs.Common.{refl, sym, ap, ◌∙◌, subst, arith}
 use Rattle.std.proofs.lemmas.Bool.Decides.{nat_tests}
 use Rattle.slab.specs.Slab.{Slab, get}
-use Rattle.outboxes.specs.declared.boxes.Outbox.{Outbox}
-use Rattle.outboxes.specs.Boxes.{Holds, Lacks, IsUnique, KeepsOthers}
+use Rattle.lbfs_server.specs.declared.boxes.Outbox.{Outbox}
+use Rattle.lbfs_server.specs.Boxes.{Holds, Lacks, IsUnique, KeepsOthers}
 
 pub alike : (a b : ℕ) → (a == b) ≡ true → a ≡ b
 alike a b e = grind (arith, nat_tests, e)

@@ -1,8 +1,8 @@
 use Rattle.std.proofs.Common.{◌≡◌, ap, subst, refl, sym, inl, inr, ◌∙◌, Some, arith}
 use Rattle.slab.specs.Slab.{get}
 use Rattle.slab.proofs.SlabLemmas.{Contains-cons, Contains-cons_cases, Contains-entries}
-use Rattle.outboxes.proofs.Keys.{apart, alike}
-use Rattle.outboxes.proofs.boxes.key_of.Goals as goal
+use Rattle.lbfs_server.proofs.Keys.{apart, alike}
+use Rattle.lbfs_server.proofs.boxes.key_of.Goals as goal
 
 pub loop-key-init : goal.loop-key-init
 loop-key-init g c =

@@ -1,7 +1,7 @@
 use Rattle.std.proofs.Common.{◌∙◌, ap, Some, []}
-use Rattle.outboxes.specs.Boxes.{Holds, Lacks}
-use Rattle.outboxes.proofs.Keys.{OpenAt, open_others, open_unique, full_unique, full_lacks, full_others, no_ok, on_err}
-use Rattle.outboxes.proofs.boxes.open_new.Goals as goal
+use Rattle.lbfs_server.specs.Boxes.{Holds, Lacks}
+use Rattle.lbfs_server.proofs.Keys.{OpenAt, open_others, open_unique, full_unique, full_lacks, full_others, no_ok, on_err}
+use Rattle.lbfs_server.proofs.boxes.open_new.Goals as goal
 
 pub returns : goal.returns
 returns g c =

@@ -1,7 +1,7 @@
 -- The boxes of messages that sessions have.
 use Rattle.std.specs.Prelude.{◌≡◌, ℕ, List, [], Some}
 use Rattle.slab.specs.Slab.{Slab, get}
-use Rattle.outboxes.specs.declared.boxes.Outbox.{Outbox}
+use Rattle.lbfs_server.specs.declared.boxes.Outbox.{Outbox}
 
 module _ {T : Type 0} where
   -- the session has a box with these messages

@@ -1,7 +1,7 @@
 use Rattle.std.proofs.Common.{ap, refl, sym, inl, inr, true, false, ◌≡◌, ◌∙◌, arith}
 use Rattle.slab.proofs.SlabLemmas.{Contains-cons, Contains-cons_cases, Contains-entries}
-use Rattle.outboxes.proofs.Keys.{is_empty_unless}
-use Rattle.outboxes.proofs.boxes.is_still_in.Goals as goal
+use Rattle.lbfs_server.proofs.Keys.{is_empty_unless}
+use Rattle.lbfs_server.proofs.boxes.is_still_in.Goals as goal
 
 pub loop-key-init : goal.loop-key-init
 loop-key-init g c =
