@@ -14,7 +14,7 @@ cd "$(dirname "$0")/.."
 
 rounds=${1:-9}
 . bench/made
-copy_for lease_bench "lease_table reserved_map"
+copy_for lease_bench "lease_table"
 words_of lease_bench
 cat >"$work/crates/lease_bench/src/main.rt" <<'EOF'
 //! Grants leases in tables of several sizes, and prints the microseconds of a thousand of each kind.

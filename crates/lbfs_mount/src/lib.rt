@@ -2,8 +2,8 @@
 //!
 //! `desk` has what the threads share: the client, and the link on which its messages go. `shared` has
 //! it under a lock; each turn is one call of `Desk`, by the trait of `turns`. `hearing` is the thread
-//! of a connection, which takes its records; `connecting` dials one; `running` goes through the script.
-//! `mount` has them all.
+//! of a connection, which takes its records; `connecting` dials one; `running` goes through the script,
+//! whose lines `script` gives as they come. `mount` has them all.
 #![tactic(auto)]
 
 pub mod answer_line;

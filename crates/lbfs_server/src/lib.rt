@@ -1,4 +1,5 @@
-//! The server on its connections: what its threads share, and what each of them does.
+//! The server on its connections: what its threads share, and what each of them does. `outboxes` has
+//! the messages to each session that its thread didn't take yet.
 #![tactic(auto)]
 
 pub mod boxes;

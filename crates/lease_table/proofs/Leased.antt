@@ -10,7 +10,7 @@ use Rattle.std.specs.Ordering.{nat_cmp, ordering_then, is_le, is_lt}
 use Rattle.std.specs.declared.ops.Bound.TheVariants.{Included}
 use Rattle.std.proofs.lemmas.Bool.Decides.{nat_tests}
 use Rattle.std.proofs.lemmas.List.Elements.{All-head, All-tail}
-use Rattle.reserved_map.proofs.Entries.{same_key}
+use Rattle.lease_table.proofs.Entries.{same_key}
 use Rattle.lease_rules.specs.declared.lease.Held.{Held}
 use Rattle.lease_rules.specs.declared.lease.Lease.{Lease}
 use Rattle.lease_table.specs.Leases.{is_on, is_recall, remembers, blocks, is_wanted_back, is_blocked, others, lease_at, lease_of, with_lease, grant, mark, marked, without_lease, without_recalled, without_ended}

@@ -12,9 +12,9 @@ use Rattle.std.proofs.lemmas.List.Elements.{All-nil}
 use Rattle.std.proofs.lemmas.List.Sums.{sum_by-cons}
 use Rattle.std.proofs.lemmas.Map.Entries.{sum_by-insert_entry, sum_by-remove_entry}
 use Rattle.std.proofs.lemmas.Map.Views.{All-keys-insert_entry, All-map-remove_entry}
-use Rattle.reserved_map.specs.Reserved.{at}
-use Rattle.reserved_map.proofs.Entries.{at_inserted, at_removed, sorted_inserted, sorted_removed, same_entries}
-use Rattle.reserved_map.proofs.Merged.{length_inserted}
+use Rattle.lease_table.specs.Reserved.{at}
+use Rattle.lease_table.proofs.Entries.{at_inserted, at_removed, sorted_inserted, sorted_removed, same_entries}
+use Rattle.lease_table.proofs.Merged.{length_inserted}
 use Rattle.lease_rules.specs.declared.lease.Held.{Held}
 use Rattle.lease_table.specs.Leases.{is_recall}
 use Rattle.lease_table.specs.Kept.{by_two, by_three, Entries, Keys, held_at, is_listed, is_recalled, is_ending, marks, FitsKey, AreKept, unlisted, listed}

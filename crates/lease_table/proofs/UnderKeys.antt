@@ -18,7 +18,7 @@ use Rattle.std.proofs.lemmas.List.Elements.{All-cons}
 use Rattle.std.proofs.lemmas.List.Kept.{AllPairs-cons}
 use Rattle.std.proofs.lemmas.Map.Keys.{sorted_head, sorted_tail}
 use Rattle.std.proofs.lemmas.Map.Lookups.{exact_unsigned}
-use Rattle.reserved_map.specs.Reserved.{IsExact}
+use Rattle.lease_table.specs.Reserved.{IsExact}
 use Rattle.lease_rules.specs.declared.lease.Held.{Held}
 use Rattle.lease_rules.specs.declared.lease.Lease.{Lease}
 use Rattle.lease_table.specs.Leases.{is_on, is_before, is_behind, lease_at, with_lease, without_lease}

@@ -6,7 +6,7 @@ use Rattle.std.specs.List.Sorted.{IsStrictlySortedBy}
 use Rattle.std.specs.Map.{keys_of, values_of, remove_entry}
 use Rattle.std.specs.Ordering.{nat_cmp, ordering_then}
 use Rattle.std.specs.declared.cmp.Ordering.{Ordering}
-use Rattle.reserved_map.specs.Reserved.{at}
+use Rattle.lease_table.specs.Reserved.{at}
 use Rattle.lease_rules.specs.declared.lease.Held.{Held}
 use Rattle.lease_rules.specs.declared.lease.Lease.{Lease}
 use Rattle.lease_rules.specs.Leases.{is_recall}

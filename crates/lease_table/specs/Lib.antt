@@ -1,7 +1,9 @@
-pub mod Leases
-pub mod Order
-pub mod Kept
-pub mod Machine
 pub mod Claims
+pub mod Kept
+pub mod Leases
+pub mod Machine
+pub mod MapRows
+pub mod Order
+pub mod Reserved
 pub mod Rows
 pub mod Runs

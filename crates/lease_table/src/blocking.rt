@@ -12,7 +12,7 @@ ghost use Rattle.lease_table.specs.Kept.{FitsKey, by_two, lease_from, leases_of}
 use crate::keyed::Keyed;
 use lb_base::items::Items;
 use lease_rules::lease::{Held, blocks, is_wanted_back};
-use reserved_map::range::is_within;
+use crate::range::is_within;
 use std::alloc::{AllocError, Global};
 use std::collections::btree_map::Range;
 

@@ -7,7 +7,7 @@ use crate::keyed::{Ends, Keyed, Recalls};
 use crate::{blocking, changes};
 use lb_base::items::Items;
 use lease_rules::lease::end_of;
-use reserved_map::map::ReservedMap;
+use crate::map::ReservedMap;
 use std::alloc::{AllocError, Global};
 use std::marker::Model;
 

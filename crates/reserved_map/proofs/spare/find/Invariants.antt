@@ -1,6 +1,0 @@
-use Rattle.std.proofs.Common.{◌≡◌, drop}
-use Rattle.reserved_map.specs.Reserved.{at}
-use Rattle.reserved_map.proofs.spare.find.Given as goal
-
-abbrev pub invariant-loop-entry : goal.invariant-loop-entry
-invariant-loop-entry g l = at g.K.Ord.cmp (drop l.entry-index l.spare) l.key ≡ at g.K.Ord.cmp l.fn.spare l.fn.key
