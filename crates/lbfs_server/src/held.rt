@@ -31,7 +31,7 @@ use wire::message::{Message, Side, Waiting};
 use wire::parse::parse;
 
 /// What came of an event.
-#[derive(Clone, Copy, Debug)]
+#[derive(Clone, Copy)]
 pub enum Went {
     /// It was done, and this session stands: the one that was made or that sent a message, or whose
     /// change was settled.
