@@ -1,4 +1,5 @@
 pub mod Coming
 pub mod Lines
 mod Progress
+mod Skipping
 mod Telling

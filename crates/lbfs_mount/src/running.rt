@@ -3,7 +3,7 @@
 
 ghost use Rattle.std.specs.Prelude.{◌≡◌, ℕ, ◌≤◌, IfErr};
 ghost use Rattle.mount_text.specs.Lines.{line_of};
-ghost use Rattle.lbfs_mount.specs.Mounts.{AnswerEnds, Ends, IsFaulty, TextEnds, Unjoined, WriteEnds, is_skip, read_end, written_as};
+ghost use Rattle.lbfs_mount.specs.Mounts.{AnswerEnds, Ends, IsFaulty, TextEnds, Unjoined, WriteEnds, read_end, written_as};
 
 use crate::answer_line::AnswerLine;
 use crate::connecting::{Dialler, connect};
@@ -15,17 +15,10 @@ use lb_base::sink::{GiveErr, Sink, give_all};
 use lb_base::source::{ReadError, Source};
 use links::clock::Clock;
 use links::network::Network;
-use mount_text::line::MountLine;
+use mount_text::line::{MountLine, is_skipped};
 use crate::script::Script;
 use std::sync::Wait;
 use std::thread::{Scope, Threads};
-
-/// Whether a line says nothing.
-fn is_skip(line: &MountLine) -> bool
-    ensures { result ≡ is_skip line.now }
-{
-    matches!(line, MountLine::Skipped)
-}
 
 /// What came of writing.
 fn written_as(given: Result<(), GiveErr>) -> Result<(), MountErr>
@@ -144,14 +137,12 @@ where
     ensures ends { TextEnds (IsFaulty N.L.faults dialler.new.unpaired) (line_of text.now) number (K.held sink.old) (K.held sink.new) (K.faults sink.old) (K.faults sink.new) (N.faults dialler.old.net) (N.faults dialler.new.net) result }
     ensures later { (N.faults dialler.old.net ≤ N.faults dialler.new.net) × (K.faults sink.old ≤ K.faults sink.new) }
 {
+    // Asked of the text, since a line that was read would have to be let go.
+    if is_skipped(text) {
+        return Ok(());
+    }
     match MountLine::read(shared.alloc(), text) {
-        Ok(line) => {
-            if is_skip(&line) {
-                drop(line);
-                return Ok(());
-            }
-            tell_line(scope, rt, shared, dialler, clock, sink, line)
-        }
+        Ok(line) => tell_line(scope, rt, shared, dialler, clock, sink, line),
         Err(LineErr::BadLine) => Err(MountErr::BadLine { number }),
         Err(LineErr::Memory) => Err(MountErr::Memory),
     }

@@ -112,8 +112,8 @@ fn read_kind(alloc: Global, kind: &[u8], words: &mut Words) -> Result<MountLine,
     }
 }
 
-/// Whether a line is empty or begins with `#`.
-fn is_skipped(line: &[u8]) -> bool
+/// Whether a line is empty or begins with `#`. It says nothing then.
+pub fn is_skipped(line: &[u8]) -> bool
     ensures { result ≡ is_skipped line.now }
 {
     line.is_empty() || line.starts_with(b"#")
