@@ -28,7 +28,6 @@ pub(crate) struct Dialler<N, L> {
 }
 
 /// A connection, whose records aren't taken yet.
-#[derive(Drop)]
 struct Dialled<L> {
     /// Where messages go.
     link: L,

@@ -33,27 +33,12 @@ pub(crate) struct Desk<F: Files, L> {
     starved: bool,
 }
 
-/// Whether a line asks for a connection where none is joined.
-fn wants_link(line: &MountLine, linked: bool) -> bool {
-    match line {
-        MountLine::Join => !linked,
-        _ => false,
-    }
-}
-
 /// The link is shut, where there is one.
 fn close<L: Link + Drop>(link: &mut Option<L>) {
     if let Some(link) = link {
         link.shut();
     }
     *link = None;
-}
-
-/// The link is shut where the client is done with it.
-fn close_unless<L: Link + Drop>(linked: bool, link: &mut Option<L>) {
-    if !linked {
-        close(link);
-    }
 }
 
 /// Messages go out, where there are any and a connection is joined.
@@ -115,23 +100,17 @@ impl<F: Files + Drop, L: Link + Drop> Desk<F, L> {
         ensures { self.new.starved ≡ false → IsOk said × Sends self.old.mounted now self.new.mounted }
     {
         match said {
-            Ok(said) => self.say(alloc, said, now),
+            Ok(said) => {
+                let Said { send, line } = said;
+                keep(&mut self.line, line);
+                let sent = send_on(alloc, &mut self.link, &send);
+                drop(send);
+                match sent {
+                    Ok(()) => {}
+                    Err(end) => self.lose(alloc, end, now),
+                }
+            }
             Err(_want) => self.starved = true,
-        }
-    }
-
-    /// What the client says is sent, and its line kept.
-    fn say(&mut self, alloc: Global, said: Said, now: u64)
-        requires { IsTold said.line }
-        ensures { self.new.starved ≡ false → Sends self.old.mounted now self.new.mounted }
-    {
-        let Said { send, line } = said;
-        keep(&mut self.line, line);
-        let sent = send_on(alloc, &mut self.link, &send);
-        drop(send);
-        match sent {
-            Ok(()) => {}
-            Err(end) => self.lose(alloc, end, now),
         }
     }
 
@@ -176,7 +155,7 @@ impl<F: Files + Drop, L: Link + Drop> Turns for Desk<F, L> {
     fn run(&mut self, alloc: Global, line: MountLine, now: u64) -> bool
         ensures { self.new.starved ≡ false → Turns (λ m said. Runs self.old.mounted line now m said) now self.new.mounted }
     {
-        let wants = wants_link(&line, self.mounted.linked());
+        let wants = matches!(line, MountLine::Join) && !self.mounted.linked();
         let said = self.mounted.line(alloc, line, now);
         self.settle(alloc, said, now);
         wants
@@ -205,7 +184,9 @@ impl<F: Files + Drop, L: Link + Drop> Turns for Desk<F, L> {
         }
         let said = self.mounted.got(alloc, record, now);
         self.settle(alloc, said, now);
-        close_unless(self.mounted.linked(), &mut self.link);
+        if !self.mounted.linked() {
+            close(&mut self.link);
+        }
         self.is_open(connection)
     }
 

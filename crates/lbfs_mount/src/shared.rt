@@ -10,7 +10,6 @@ use std::alloc::{AllocError, Global};
 use std::sync::{Condvar, Mutex, Wait};
 
 /// What the threads of a mount share, and by what the script is woken that waits for a line.
-#[derive(Drop)]
 pub(crate) struct Shared<D> {
     desk: Mutex<D>,
     /// A line ended, or memory ran out.
