@@ -12,11 +12,12 @@ use Rattle.server_core.specs.State.{State}
 use Rattle.server_core.specs.Step.{connect, has_room, Misses, nothing, lacks}
 use Rattle.store.specs.declared.record.Kept.{Kept}
 use Rattle.lbfs_server.specs.Kept.{Steps, StoreKeeps}
-use Rattle.lbfs_server.proofs.Keeping.{store_more, steps_later}
+use Rattle.lbfs_server.proofs.Keeping.{store_more, store_same, steps_later}
+use Rattle.lbfs_server.proofs.Telling.{keeps_more}
 use Rattle.lbfs_server.specs.declared.held.Held.{Held}
 use Rattle.lbfs_server.specs.declared.held.Went.{Went}
 use Rattle.lbfs_server.specs.declared.held.Went.TheVariants as went
-use Rattle.lbfs_server.specs.Held.{Welcomed, Joined, IsOfMaking}
+use Rattle.lbfs_server.specs.Held.{Welcomed, Joined, Left, IsOfMaking, hung}
 
 missed_told : (s new : State) (step : ServerStep) → Misses s event.Connect new step → step.told ≡ told.Memory
 missed_told s new step (nothing may left said) = ap (λ t. t.told) said
@@ -61,6 +62,30 @@ keeps_all : (boxes : Slab (Outbox Message)) (session : ℕ) → KeepsOthers boxe
 keeps_all boxes session = record { there = λ other messages differ holds. holds; back = λ other messages differ holds. holds }
 
 module _ {S : Type 0} (records : S → Option (List Kept)) (faults : S → ℕ) where
+  -- a session that was made is given an empty box
+  pub welcomed : (old : Held S) (session : ℕ) (new : Held S) → new.kept ≡ old.kept → Holds new.boxes session [] → KeepsOthers old.boxes new.boxes session → Welcomed records faults old session (went.Open session) new
+  welcomed old session new same empty others = record {
+    lost = [];
+    hangs = ap (λ k. k.server) same;
+    opened = λ k is. (cc, refl, empty);
+    others = others;
+    known = inl refl;
+    own = inl refl;
+    store = subst (λ k. StoreKeeps records faults old.kept k) (sym same) (store_same records faults old.kept);
+  }
+
+  -- or memory was wanting for the box, and it was hung
+  pub unwelcomed : (old between : Held S) (session : ℕ) (new : Held S) → between.kept ≡ old.kept → KeepsOthers old.boxes between.boxes session → Left records faults between session new → Welcomed records faults old session went.Memory new
+  unwelcomed old between session new same keeps left = record {
+    lost = session ∷ [];
+    hangs = left.hangs ∙ ap (λ k. hung k.server (session ∷ [])) same;
+    opened = λ k is. absurd (cc);
+    others = keeps_more old.boxes between.boxes new.boxes session keeps left.others;
+    known = inr refl;
+    own = inr refl;
+    store = subst (λ k. StoreKeeps records faults k new.kept) same left.store;
+  }
+
   pub joined : (old between : Held S) (session : ℕ) (said : Went) (new : Held S) (step : ServerStep) → Steps (faults old.kept.store) (faults between.kept.store) old.kept.server event.Connect between.kept.server step → StoreKeeps records faults old.kept between.kept → step.told ≡ told.Session session → between.boxes ≡ old.boxes → Welcomed records faults between session said new → Joined records faults old said new
   joined old between session said new step steps kept made same w = record {
     step = step;

@@ -10,7 +10,7 @@ ghost use Rattle.server_steps.specs.declared.event.Event.TheVariants as event;
 ghost use Rattle.wire.specs.Parse.{parse_of, IsParsed};
 ghost use Rattle.wire.specs.declared.fault.WireFault.{WireFault};
 ghost use Rattle.wire.specs.declared.message.Message.{Message};
-ghost use Rattle.lbfs_server.specs.Held.{After, Delivered, HeardOrLeft, Joined, Left, Stands, Took, Unheard, Unread, Welcomed, server_waits, settled_as};
+ghost use Rattle.lbfs_server.specs.Held.{After, Delivered, HeardOrLeft, Joined, Left, Stands, Took, Unread, server_waits, settled_as};
 ghost use Rattle.lbfs_server.specs.declared.held.Went.TheVariants as went;
 
 use crate::kept::KeptServer;
@@ -71,21 +71,16 @@ fn both(one: bool, other: bool) -> bool
     one && other
 }
 
-/// The server has asked its clients for nothing, so no answer may come.
-fn server_waits(alloc: Global) -> Waiting
-    ensures { result ≡ server_waits }
-{
-    Waiting {
-        side: Side::Server,
-        calls: Items::new(alloc),
-    }
-}
-
-/// The message that a record to a server is, or why it is none.
+/// The message that a record to a server is, or why it is none. The server has asked its clients for
+/// nothing, so no answer may come.
 pub fn read_record(alloc: Global, bytes: &[u8]) -> Result<Message, WireErr>
     ensures { IsParsed result (parse_of server_waits bytes.now) }
 {
-    parse(alloc, bytes, &server_waits(alloc))
+    let waiting = Waiting {
+        side: Side::Server,
+        calls: Items::new(alloc),
+    };
+    parse(alloc, bytes, &waiting)
 }
 
 /// What came of a change that was to be made.
@@ -172,20 +167,8 @@ impl<S: Store + Drop> Held<S> {
         }
     }
 
-    /// Gives a session that was made an empty box. Where memory is wanting it is hung.
-    fn welcome(&mut self, alloc: Global, session: u32) -> Went
-        ensures { Welcomed S.records S.faults self.old session result self.new }
-    {
-        match self.boxes.open(session) {
-            Ok(()) => Went::Open { session },
-            Err(_) => {
-                self.hang(alloc, session);
-                Went::Memory
-            }
-        }
-    }
-
-    /// A connection is made.
+    /// A connection is made. A session that was made is given an empty box; where memory is wanting for
+    /// it, it is hung.
     fn connect(&mut self, alloc: Global) -> Went
         ensures { Joined S.records S.faults self.old result self.new }
     {
@@ -193,7 +176,13 @@ impl<S: Store + Drop> Held<S> {
         let told = step.told;
         drop(step);
         match told {
-            Told::Session(session) => self.welcome(alloc, session),
+            Told::Session(session) => match self.boxes.open(session) {
+                Ok(()) => Went::Open { session },
+                Err(_) => {
+                    self.hang(alloc, session);
+                    Went::Memory
+                }
+            },
             Told::Full => Went::Full,
             Told::Nothing | Told::Memory | Told::Settled { .. } | Told::NotReady => Went::Memory,
         }
@@ -241,25 +230,18 @@ impl<S: Store + Drop> Held<S> {
         }
     }
 
-    /// A record came that is no message.
-    fn unheard(&mut self, alloc: Global, session: u32, fault: WireFault) -> Went
-        ensures { Unheard S.records S.faults self.old session fault result self.new }
-    {
-        match fault {
-            WireFault::UnknownXid { .. } => self.standing(session),
-            WireFault::NotRpc { .. } | WireFault::Garbage { .. } => {
-                self.hang(alloc, session);
-                Went::Closed
-            }
-        }
-    }
-
     /// A record came of which no message was read.
     fn unread(&mut self, alloc: Global, session: u32, error: WireErr) -> Went
         ensures { Unread S.records S.faults self.old session error result self.new }
     {
         match error {
-            WireErr::Fault(fault) => self.unheard(alloc, session, fault),
+            WireErr::Fault(fault) => match fault {
+                WireFault::UnknownXid { .. } => self.standing(session),
+                WireFault::NotRpc { .. } | WireFault::Garbage { .. } => {
+                    self.hang(alloc, session);
+                    Went::Closed
+                }
+            },
             WireErr::Memory => {
                 self.hang(alloc, session);
                 Went::Memory

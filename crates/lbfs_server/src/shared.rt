@@ -61,11 +61,6 @@ pub struct Outgoing {
     pub stands: bool,
 }
 
-/// Whether a session went in a turn.
-fn is_of_leaving(went: Went) -> bool {
-    matches!(went, Went::Closed | Went::Memory)
-}
-
 /// Lets a session's link go, where there is one. A session's link is kept once (`keep_link`), and its
 /// number is no later session's, so there is no second one.
 fn remove_link<L: Drop>(links: &mut Vec<SessionLink<L>>, session: u32) {
@@ -78,14 +73,17 @@ fn remove_link<L: Drop>(links: &mut Vec<SessionLink<L>>, session: u32) {
     }
 }
 
-/// The COMMITTMP that a message is, if it is one.
-fn commit_in(message: &Message) -> Option<&Commit> {
-    match message {
-        Message::Call(_, body) => match body {
-            Body::Lb(Lb::CommitTmp(commit)) => Some(commit),
+/// The COMMITTMP that a record is, if it is one.
+fn commit_in(read: &Result<Message, WireErr>) -> Option<&Commit> {
+    match read {
+        Ok(message) => match message {
+            Message::Call(_, body) => match body {
+                Body::Lb(Lb::CommitTmp(commit)) => Some(commit),
+                _ => None,
+            },
             _ => None,
         },
-        _ => None,
+        Err(_) => None,
     }
 }
 
@@ -136,31 +134,21 @@ impl<H: Turns + Drop, G: Gate + Drop, L: Link + Drop> Shared<H, G, L> {
         went
     }
 
-    /// The content that a COMMITTMP of a session comes to, cut and hashed while others take their turns;
-    /// none where its temporary file has no such content, or memory is wanting.
-    fn content_of<W: Wait>(&self, rt: &W, session: u32, commit: &Commit) -> Option<Content> {
-        let mut held = self.held.lock(rt);
-        let bytes = held.share_temp(session, commit);
-        drop(held);
-        match Content::new(self.alloc, bytes?) {
-            Ok(content) => Some(content),
-            Err(_) => None,
-        }
-    }
-
-    /// What is made of a record before its turn: the content of its COMMITTMP. The turn comes to the same
-    /// without it.
+    /// What is made of a record before its turn: the content that its COMMITTMP comes to, cut and hashed
+    /// while others take their turns; none where its temporary file has no such content, or memory is
+    /// wanting. The turn comes to the same without it.
     fn ahead<W: Wait>(
         &self,
         rt: &W,
         session: u32,
         read: &Result<Message, WireErr>,
     ) -> Option<Content> {
-        match read {
-            Ok(message) => {
-                let commit = commit_in(message)?;
-                self.content_of(rt, session, commit)
-            }
+        let commit = commit_in(read)?;
+        let mut held = self.held.lock(rt);
+        let bytes = held.share_temp(session, commit);
+        drop(held);
+        match Content::new(self.alloc, bytes?) {
+            Ok(content) => Some(content),
             Err(_) => None,
         }
     }
@@ -219,7 +207,7 @@ impl<H: Turns + Drop, G: Gate + Drop, L: Link + Drop> Shared<H, G, L> {
     /// Where memory was wanting, another thread's session may have been hung: its link is shut, so
     /// that its threads come back that wait there.
     fn wake<W: Wait>(&self, rt: &W, went: Went, says: bool) {
-        if says || is_of_leaving(went) {
+        if says || matches!(went, Went::Closed | Went::Memory) {
             self.said.notify_all();
         }
         if matches!(went, Went::Memory) {
