@@ -76,7 +76,7 @@ pub enum Reading {
 }
 
 /// Why a reading was not taken: the server's, or a client's at an event, which is then not noted.
-#[derive(Clone, Copy, Drop)]
+#[derive(Clone, Copy, Debug, Drop)]
 pub enum NoteErr {
     /// It breaks the rule: the server's reading fell, the client's did, or the server's clock went on
     /// too far.

@@ -10,7 +10,7 @@ use rpc_record::refusal::MarkError;
 use std::alloc::AllocError;
 
 /// Why no more records come, or messages go.
-#[derive(Clone, Copy, Drop)]
+#[derive(Clone, Copy, Debug, Drop)]
 pub enum End {
     /// The input ended.
     InputEnd,
