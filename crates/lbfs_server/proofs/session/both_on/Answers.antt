@@ -1,16 +1,31 @@
 use Rattle.std.specs.Prelude.{Err}
-use Rattle.std.proofs.Common.{rules, ap, sym, subst}
-use Rattle.lbfs_server.proofs.Giving.{Taken, taken_more, taken_spoilt}
+use Rattle.std.proofs.Common.{sym, ap, subst, arith}
+use Rattle.lbfs_server.proofs.Giving.{Taken, taken_none, taken_more, taken_spoilt}
 use Rattle.lbfs_server.proofs.session.both_on.Goals as goal
+
+pub loop-turn-init : goal.loop-turn-init
+loop-turn-init g c = record {
+  taken = subst (λ k. Taken (g.L.Link.left c.args.link.now) (g.L.Link.left c.args.link.now) k) (sym c.in-Ok.ensures) (taken_none (g.L.Link.left c.args.link.now));
+  later = omega arith;
+}
 
 pub loop-turn-preserved : goal.loop-turn-preserved
 loop-turn-preserved g c =
     let given = c.in-Ok-next.ensures.given in record {
       taken = subst (λ z. Taken (g.L.Link.left c.args.link.now) z c.next-in-loop-turn.new.self) (sym c.give_out.ensures.come) (taken_more (g.L.Link.left c.args.link.now) (g.L.Link.left c.loop-turn.link) (g.L.Link.left c.next-in-loop-turn.new.link) c.loop-turn.inbox c.next-in-loop-turn.new.self given.0 _ c.loop-turn.invariant.taken given.1 given.2);
-      later = search rules;
+      later = omega (arith, c.loop-turn.invariant.later, c.in-Ok-next.ensures.later, c.give_out.ensures.later);
     }
 
 pub returns-in-Err-next-clause-spoilt : goal.returns-in-Err-next-clause-spoilt
 returns-in-Err-next-clause-spoilt g c = λ is.
     let spoilt = c.in-Err-next.ensures.spoilt (ap Err is) in
     taken_spoilt (g.L.Link.left c.args.link.now) (g.L.Link.left c.loop-turn.link) (g.L.Link.left c.next-in-loop-turn.new.link) c.loop-turn.inbox c.next-in-loop-turn.new.self spoilt.0 c.loop-turn.invariant.taken spoilt.1 spoilt.2 spoilt.4
+
+pub returns-in-Err-next-clause-ended : goal.returns-in-Err-next-clause-ended
+returns-in-Err-next-clause-ended g c = λ is. (c.in-Err-next.ensures.ended (ap Err is)).3
+
+pub returns-in-Err-next-clause-failed : goal.returns-in-Err-next-clause-failed
+returns-in-Err-next-clause-failed g c = λ is. let rose = (c.in-Err-next.ensures.failed (ap Err is)).3 in omega (arith, rose, c.loop-turn.invariant.later)
+
+pub returns-in-Err-next-clause-later : goal.returns-in-Err-next-clause-later
+returns-in-Err-next-clause-later g c = omega (arith, c.loop-turn.invariant.later, c.in-Err-next.ensures.later)
