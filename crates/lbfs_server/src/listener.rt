@@ -17,7 +17,7 @@ use links::network::Network;
 use links::rest::Rest;
 use record_ends::end::End;
 use server_steps::event::Event;
-use std::sync::atomic::{AtomicBool, Ordering};
+use std::sync::atomic::{AtomicUsize, Ordering};
 use std::sync::{Mutex, Wait};
 use std::thread;
 use std::thread::{Scope, Threads};
@@ -73,16 +73,17 @@ fn serve_session<
     end
 }
 
-/// Lets changes be made that wait for a moment, until all sessions were served.
+/// Lets changes be made that wait for a moment, until nothing is served any more: the listener is
+/// counted, and each session.
 fn tick<R: Wait, H: Turns + Drop, G: Gate + Drop, L: Link + Drop, C: Clock, T: Rest>(
     rt: &R,
     shared: &Shared<H, G, L>,
     clock: &C,
     rest: &T,
-    done: &AtomicBool,
+    serving: &AtomicUsize,
 ) {
     for _turn in rt.forever() {
-        if done.load(Ordering::SeqCst) {
+        if serving.load(Ordering::SeqCst) == 0 {
             return;
         }
         shared.event(rt, Event::Settle { now: clock.now() });
@@ -106,11 +107,16 @@ fn begin<
     shared: &'e Shared<H, G, L>,
     link: L,
     clock: &'e C,
+    serving: &'e AtomicUsize,
 ) -> bool {
     let mut link = link;
     match shared.event(rt, Event::Connect) {
         Went::Open { session } => {
-            let serve = move || serve_session(rt, shared, session, link, clock);
+            serving.fetch_add(1, Ordering::SeqCst);
+            let serve = move || {
+                serve_session(rt, shared, session, link, clock);
+                serving.fetch_sub(1, Ordering::SeqCst);
+            };
             if let Err(refused) = scope.spawn(serve) {
                 (refused.value)();
             }
@@ -138,6 +144,7 @@ fn begin_next<
     shared: &'e Shared<H, G, N::L>,
     net: &mut N,
     clock: &'e C,
+    serving: &'e AtomicUsize,
 ) -> Result<(), Failed>
 where
     N::L: Drop + Send + 's,
@@ -147,7 +154,7 @@ where
 {
     for _turn in rt.forever() {
         let link = net.accept()?;
-        if begin(scope, rt, shared, link, clock) {
+        if begin(scope, rt, shared, link, clock, serving) {
             return Ok(());
         }
     }
@@ -169,6 +176,7 @@ fn accept_all<
     shared: &'e Shared<H, G, N::L>,
     net: &mut N,
     clock: &'e C,
+    serving: &'e AtomicUsize,
     sessions: u32,
 ) -> Result<(), Failed>
 where
@@ -178,46 +186,9 @@ where
     ensures cause { OnErr result (Rose (N.faults net.old) (N.faults net.new)) }
 {
     for _at in 0..sessions {
-        begin_next(scope, rt, shared, net, clock)?;
+        begin_next(scope, rt, shared, net, clock, serving)?;
     }
     Ok(())
-}
-
-/// Serves as many sessions as are asked for, each in threads of its own, and returns once they have
-/// ended.
-fn serve_all<
-    'x,
-    R: Threads + Wait + Sync,
-    H: Turns + Drop + Send,
-    G: Gate + Drop + Sync,
-    N: Network + Drop,
-    C: Clock + Sync,
->(
-    rt: &'x R,
-    shared: &'x Shared<H, G, N::L>,
-    net: N,
-    clock: &'x C,
-    sessions: u32,
-) -> (Result<(), Failed>, N)
-where
-    N::L: Drop + Send,
-    ensures counted { OnOk result.0 (CountsMore (N.accepted net) sessions (N.accepted result.1)) }
-    ensures later { N.faults net ≤ N.faults result.1 }
-    ensures cause { OnErr result.0 (Rose (N.faults net) (N.faults result.1)) }
-{
-    thread::scope(
-        thread::scope_env(),
-        rt,
-        move |scope| -> (Result<(), Failed>, N)
-            ensures counted { OnOk result.0 (CountsMore (N.accepted net) sessions (N.accepted result.1)) }
-            ensures later { N.faults net ≤ N.faults result.1 }
-            ensures cause { OnErr result.0 (Rose (N.faults net) (N.faults result.1)) }
-        {
-            let mut net = net;
-            let served = accept_all(scope, rt, shared, &mut net, clock, sessions);
-            (served, net)
-        },
-    )
 }
 
 /// Listens at a port and serves as many sessions as are asked for, each in threads of its own; it
@@ -253,8 +224,8 @@ where
     if let Err(failed) = net.listen(port) {
         return (Err(failed), net);
     }
-    let done = AtomicBool::new(false);
-    let stop = &done;
+    let counted = AtomicUsize::new(1);
+    let serving = &counted;
     thread::scope(
         thread::scope_env(),
         rt,
@@ -263,11 +234,12 @@ where
             ensures later { N.faults net ≤ N.faults result.1 }
             ensures cause { OnErr result.0 (Rose (N.faults net) (N.faults result.1)) }
         {
-            let ticks = scope.spawn(move || tick(rt, shared, clock, rest, stop));
+            let ticks = scope.spawn(move || tick(rt, shared, clock, rest, serving));
             drop(ticks);
-            let served = serve_all(rt, shared, net, clock, sessions);
-            stop.store(true, Ordering::SeqCst);
-            served
+            let mut net = net;
+            let served = accept_all(scope, rt, shared, &mut net, clock, serving, sessions);
+            serving.fetch_sub(1, Ordering::SeqCst);
+            (served, net)
         },
     )
 }
