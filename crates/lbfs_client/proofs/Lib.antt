@@ -1,4 +1,5 @@
-pub mod Sayings
 pub mod Leadings
+pub mod Letters
 pub mod Runnings
+pub mod Sayings
 pub mod Worked

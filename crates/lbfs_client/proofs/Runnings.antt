@@ -7,8 +7,8 @@ use Rattle.wire.specs.declared.message.Message.{Message}
 use Rattle.client_state.specs.State.{State}
 use Rattle.client_state.specs.declared.step.Ended.{Ended}
 use Rattle.client_state.specs.declared.step.Outcome.TheVariants as outcome
-use Rattle.mount_text.specs.Lines.{opening}
-use Rattle.mount_text.specs.declared.line.Place.{Place}
+use Rattle.lbfs_client.specs.Lines.{opening}
+use Rattle.lbfs_client.specs.declared.line.Place.{Place}
 use Rattle.lbfs_client.specs.Client.{Goes}
 use Rattle.lbfs_client.specs.Host.{Host, HasRead}
 use Rattle.lbfs_client.specs.Mounting.{Mount, Leads, Commands, Begins, PutsRead, PutLine, GetLine, Wants, JoinLine}

@@ -5,7 +5,7 @@ use Rattle.lb_base.specs.declared.sink.GiveErr.{GiveErr}
 use Rattle.wire.specs.declared.message.Message.{Message}
 use Rattle.client_state.specs.State.{State, local_bytes}
 use Rattle.client_state.specs.declared.step.Outcome.{Outcome}
-use Rattle.mount_text.specs.declared.answer.Answer.{Answer}
+use Rattle.lbfs_client.specs.declared.answer.Answer.{Answer}
 use Rattle.lbfs_client.specs.Host.{Host, HasWritten}
 use Rattle.lbfs_client.specs.Walks.{says, answer_of, is_closed, Abandons, ClosedIf, Closed, kept_answer, Keeps}
 use Rattle.lbfs_client.specs.declared.said.Said.{Said}

@@ -12,9 +12,9 @@ use Rattle.client_state.specs.State.{State, start, local_bytes}
 use Rattle.client_state.specs.declared.step.Outcome.TheVariants as outcome
 use Rattle.file_close.specs.Closing.{make_call}
 use Rattle.open_close.specs.Step.{command_step}
-use Rattle.mount_text.specs.declared.answer.Answer.TheVariants as answer
-use Rattle.mount_text.specs.declared.line.MountLine.TheVariants as line
-use Rattle.mount_text.specs.declared.line.Place.TheVariants as place
+use Rattle.lbfs_client.specs.declared.answer.Answer.TheVariants as answer
+use Rattle.lbfs_client.specs.declared.line.MountLine.TheVariants as line
+use Rattle.lbfs_client.specs.declared.line.Place.TheVariants as place
 use Rattle.lbfs_client.specs.Client.{Takes, Goes}
 use Rattle.lbfs_client.specs.Host.{Host}
 use Rattle.lbfs_client.specs.Mounting.{Mount, Runs, PutsRead, Stops, joined_step}

@@ -1,4 +1,7 @@
+pub mod Answers
 pub mod Client
 pub mod Host
-pub mod Walks
+pub mod Lines
 pub mod Mounting
+pub mod TextRows
+pub mod Walks

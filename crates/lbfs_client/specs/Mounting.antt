@@ -16,12 +16,12 @@ use Rattle.client_state.specs.declared.step.ClientStep.{ClientStep}
 use Rattle.client_state.specs.declared.step.Ended.{Ended}
 use Rattle.client_state.specs.declared.step.Outcome.{Outcome}
 use Rattle.client_state.specs.declared.step.Outcome.TheVariants as outcome
-use Rattle.mount_text.specs.Lines.{opening}
-use Rattle.mount_text.specs.declared.answer.Answer.{Answer}
-use Rattle.mount_text.specs.declared.answer.Answer.TheVariants as answer
-use Rattle.mount_text.specs.declared.line.MountLine.{MountLine}
-use Rattle.mount_text.specs.declared.line.MountLine.TheVariants as line
-use Rattle.mount_text.specs.declared.line.Place.{Place}
+use Rattle.lbfs_client.specs.Lines.{opening}
+use Rattle.lbfs_client.specs.declared.answer.Answer.{Answer}
+use Rattle.lbfs_client.specs.declared.answer.Answer.TheVariants as answer
+use Rattle.lbfs_client.specs.declared.line.MountLine.{MountLine}
+use Rattle.lbfs_client.specs.declared.line.MountLine.TheVariants as line
+use Rattle.lbfs_client.specs.declared.line.Place.{Place}
 use Rattle.lbfs_client.specs.Client.{Takes, Hears, Goes}
 use Rattle.lbfs_client.specs.Host.{Host, HasRead}
 use Rattle.lbfs_client.specs.Walks.{says, answer_of, answer_to, Opened, Closed, Fetched}

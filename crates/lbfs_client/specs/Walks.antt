@@ -10,9 +10,9 @@ use Rattle.client_state.specs.State.{State, local_bytes}
 use Rattle.client_state.specs.declared.step.Ended.{Ended}
 use Rattle.client_state.specs.declared.step.Outcome.{Outcome}
 use Rattle.client_state.specs.declared.step.Outcome.TheVariants as outcome
-use Rattle.mount_text.specs.Answers.{answer_line}
-use Rattle.mount_text.specs.declared.answer.Answer.{Answer}
-use Rattle.mount_text.specs.declared.answer.Answer.TheVariants as answer
+use Rattle.lbfs_client.specs.Answers.{answer_line}
+use Rattle.lbfs_client.specs.declared.answer.Answer.{Answer}
+use Rattle.lbfs_client.specs.declared.answer.Answer.TheVariants as answer
 use Rattle.told_outcome.specs.Told.{told_of}
 use Rattle.lbfs_client.specs.Client.{Goes}
 use Rattle.lbfs_client.specs.Host.{Host, HasWritten}

@@ -3,11 +3,15 @@
 //! `mounted` has the client with the files of the host, and the four things that may happen to it: a
 //! line, a record that came, the end of the link, and a connection that is joined. What each comes to
 //! is `specs/Mounting.antt`; `specs/Walks.antt` says what `put` and `get` do, one operation after the
-//! other.
+//! other. `line` has the lines of a script, whose grammar is `specs/Lines.antt`, and `answer` what is
+//! written for each (`specs/Answers.antt`).
 #![tactic(auto)]
 
+pub mod answer;
 mod commanding;
 mod fetching;
+pub mod line;
+pub mod local;
 pub mod mounted;
 mod running;
 pub mod said;

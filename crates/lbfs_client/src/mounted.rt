@@ -10,7 +10,7 @@ use crate::said::Said;
 use crate::walk::Walk;
 use crate::walking::{receive, stop};
 use links::files::Files;
-use mount_text::line::MountLine;
+use crate::line::MountLine;
 use open_close::client::Client;
 use record_ends::end::End;
 use std::alloc::{AllocError, Global};

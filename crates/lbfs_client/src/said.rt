@@ -5,7 +5,7 @@ ghost use Rattle.lbfs_client.specs.Walks.{says, answer_of, answer_to};
 
 use client_state::step::{Ended, Outcome};
 use lb_base::items::{Bytes, Items};
-use mount_text::answer::Answer;
+use crate::answer::Answer;
 use std::alloc::{AllocError, Global};
 use told_outcome::told_of;
 use wire::message::Message;

@@ -10,7 +10,7 @@ use client_state::step::{Ended, Outcome};
 use command_text::command::Command;
 use command_text::content::Content;
 use lb_base::items::Items;
-use mount_text::answer::Answer;
+use crate::answer::Answer;
 use open_close::client::Client;
 use std::alloc::{AllocError, Global};
 use wire::message::Message;

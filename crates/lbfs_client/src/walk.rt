@@ -2,7 +2,7 @@
 //! `specs/Mounting.antt` say what comes of it.
 
 use command_text::content::Content;
-use mount_text::local::LocalName;
+use crate::local::LocalName;
 
 /// What the line under way has left to do, once the operation under way has ended.
 #[derive(Drop)]

@@ -5,10 +5,10 @@ use Rattle.command_text.specs.Commands.{command_of}
 use Rattle.command_text.specs.Fields.{◌>>=◌}
 use Rattle.command_text.specs.Parts.{words_of}
 use Rattle.command_text.specs.declared.command.Command.{Command}
-use Rattle.mount_text.specs.Lines.{local_of, place_of, put_of, get_of, join_of, plain_of, said_by, is_skipped, line_of}
-use Rattle.mount_text.specs.declared.line.MountLine.{MountLine}
-use Rattle.mount_text.specs.declared.line.MountLine.TheVariants as line
-use Rattle.mount_text.specs.declared.line.Place.{Place}
+use Rattle.lbfs_client.specs.Lines.{local_of, place_of, put_of, get_of, join_of, plain_of, said_by, is_skipped, line_of}
+use Rattle.lbfs_client.specs.declared.line.MountLine.{MountLine}
+use Rattle.lbfs_client.specs.declared.line.MountLine.TheVariants as line
+use Rattle.lbfs_client.specs.declared.line.Place.{Place}
 use Rattle.lbfs_mount.specs.Mounts.{is_skip}
 
 pub says_nothing : (text : List ℕ) → is_skipped text ≡ true → line_of text ≡ Some line.Skipped

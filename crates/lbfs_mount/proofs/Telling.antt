@@ -14,10 +14,10 @@ use Rattle.client_state.specs.declared.step.Ended.{Ended}
 use Rattle.client_state.specs.declared.step.Outcome.{Outcome}
 use Rattle.client_state.specs.declared.step.Outcome.TheVariants as outcome
 use Rattle.command_text.specs.declared.content.Part.{Part}
-use Rattle.mount_text.specs.declared.answer.Answer.{Answer}
-use Rattle.mount_text.specs.declared.line.MountLine.{MountLine}
-use Rattle.mount_text.specs.declared.line.MountLine.TheVariants as line
-use Rattle.mount_text.specs.declared.line.Place.{Place}
+use Rattle.lbfs_client.specs.declared.answer.Answer.{Answer}
+use Rattle.lbfs_client.specs.declared.line.MountLine.{MountLine}
+use Rattle.lbfs_client.specs.declared.line.MountLine.TheVariants as line
+use Rattle.lbfs_client.specs.declared.line.Place.{Place}
 use Rattle.lbfs_client.specs.Host.{Host}
 use Rattle.lbfs_client.specs.Mounting.{Mount, Walks, Leads, Begins, PutsRead, PutLine, GetLine, Wants, JoinLine, Runs, Hearing, Receives, Loses, Stops, is_joining, joined_if, joined_step, unread_answer}
 use Rattle.lbfs_client.specs.Walks.{says, answer_of, answer_to, is_closed, opened_file, ClosedIf, Closes, PutsIf, KeepsIf, kept_answer}

@@ -9,11 +9,11 @@ use Rattle.lb_base.specs.declared.source.ReadError.{ReadError}
 use Rattle.lb_base.specs.declared.source.ReadError.TheVariants as read
 use Rattle.limits.specs.declared.TheConstants.{INPUT_MOST}
 use Rattle.command_text.specs.Parts.{lines_of}
-use Rattle.mount_text.specs.Answers.{answer_line}
-use Rattle.mount_text.specs.Lines.{line_of}
-use Rattle.mount_text.specs.declared.answer.Answer.{Answer}
-use Rattle.mount_text.specs.declared.line.MountLine.{MountLine}
-use Rattle.mount_text.specs.declared.line.MountLine.TheVariants as line
+use Rattle.lbfs_client.specs.Answers.{answer_line}
+use Rattle.lbfs_client.specs.Lines.{line_of}
+use Rattle.lbfs_client.specs.declared.answer.Answer.{Answer}
+use Rattle.lbfs_client.specs.declared.line.MountLine.{MountLine}
+use Rattle.lbfs_client.specs.declared.line.MountLine.TheVariants as line
 use Rattle.lbfs_mount.specs.declared.mount_err.MountErr.{MountErr}
 use Rattle.lbfs_mount.specs.declared.mount_err.MountErr.TheVariants as errors
 

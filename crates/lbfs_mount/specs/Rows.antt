@@ -1,6 +1,6 @@
 -- Worked rows: what is written for three lines, of which one is skipped.
 use Rattle.std.specs.Prelude.{[], ◌∷◌, refl, codes}
-use Rattle.mount_text.specs.declared.answer.Answer.TheVariants as answer
+use Rattle.lbfs_client.specs.declared.answer.Answer.TheVariants as answer
 use Rattle.lbfs_mount.specs.Mounts.{Tells}
 
 told_row : Tells (codes "put h a" ∷ codes "# a file" ∷ codes "get a k" ∷ []) (codes "LocalFault\nLocalFault\n")

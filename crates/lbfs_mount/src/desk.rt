@@ -12,7 +12,7 @@ use lbfs_client::mounted::Mounted;
 use lbfs_client::said::Said;
 use links::files::Files;
 use links::link::Link;
-use mount_text::line::MountLine;
+use lbfs_client::line::MountLine;
 use record_ends::end::End;
 use record_ends::outgoing::put_out;
 use std::alloc::{AllocError, Global};

@@ -2,7 +2,7 @@
 //! is read. `specs/Mounts.antt` says what is written for them.
 
 ghost use Rattle.std.specs.Prelude.{◌≡◌, ℕ, ◌≤◌, IfErr};
-ghost use Rattle.mount_text.specs.Lines.{line_of};
+ghost use Rattle.lbfs_client.specs.Lines.{line_of};
 ghost use Rattle.lbfs_mount.specs.Mounts.{AnswerEnds, Ends, IsFaulty, TextEnds, Unjoined, WriteEnds, read_end, written_as};
 
 use crate::answer_line::AnswerLine;
@@ -15,7 +15,7 @@ use lb_base::sink::{GiveErr, Sink, give_all};
 use lb_base::source::{ReadError, Source};
 use links::clock::Clock;
 use links::network::Network;
-use mount_text::line::{MountLine, is_skipped};
+use lbfs_client::line::{MountLine, is_skipped};
 use crate::script::Script;
 use std::sync::Wait;
 use std::thread::{Scope, Threads};

@@ -4,7 +4,7 @@
 
 use crate::answer_line::AnswerLine;
 use crate::turns::Turns;
-use mount_text::line::MountLine;
+use lbfs_client::line::MountLine;
 use record_ends::end::End;
 use std::alloc::{AllocError, Global};
 use std::sync::{Condvar, Mutex, Wait};

@@ -3,7 +3,7 @@
 //! client consists of.
 
 use crate::answer_line::AnswerLine;
-use mount_text::line::MountLine;
+use lbfs_client::line::MountLine;
 use record_ends::end::End;
 use std::alloc::{AllocError, Global};
 

@@ -1,8 +1,8 @@
 use Rattle.std.proofs.Common.{refl, sym, ◌∙◌, subst}
 use Rattle.command_text.specs.Reading.{Fails}
 use Rattle.command_text.specs.declared.line_err.LineErr.{LineErr}
-use Rattle.mount_text.specs.Lines.{line_of}
-use Rattle.mount_text.specs.declared.line.MountLine.TheVariants as line
+use Rattle.lbfs_client.specs.Lines.{line_of}
+use Rattle.lbfs_client.specs.declared.line.MountLine.TheVariants as line
 use Rattle.lbfs_mount.specs.Mounts.{IsFaulty}
 use Rattle.lbfs_mount.proofs.Progress.{bad_ends, skipped_ends, starved_ends, text_ends}
 use Rattle.lbfs_mount.proofs.Skipping.{says_nothing, says_something}

@@ -7,12 +7,12 @@ use Rattle.command_text.specs.declared.content.Part.TheVariants.{Bytes}
 use Rattle.command_text.specs.declared.path.PathCommand.TheVariants.{Find, List as Lists, Make, RemoveDir}
 use Rattle.command_text.specs.declared.path.Spot.{Spot}
 use Rattle.register_model.specs.declared.op.Outcome.TheVariants as outcome
-use Rattle.mount_text.specs.declared.answer.Answer.TheVariants as answer
-use Rattle.mount_text.specs.declared.line.MountLine.{MountLine}
-use Rattle.mount_text.specs.declared.line.MountLine.TheVariants.{Plain, Put, Get, Join, Skipped}
-use Rattle.mount_text.specs.declared.line.Place.TheVariants.{File, Named as Path}
-use Rattle.mount_text.specs.Answers.{answer_line}
-use Rattle.mount_text.specs.Lines.{line_of, local_of, opening}
+use Rattle.lbfs_client.specs.declared.answer.Answer.TheVariants as answer
+use Rattle.lbfs_client.specs.declared.line.MountLine.{MountLine}
+use Rattle.lbfs_client.specs.declared.line.MountLine.TheVariants.{Plain, Put, Get, Join, Skipped}
+use Rattle.lbfs_client.specs.declared.line.Place.TheVariants.{File, Named as Path}
+use Rattle.lbfs_client.specs.Answers.{answer_line}
+use Rattle.lbfs_client.specs.Lines.{line_of, local_of, opening}
 
 abbrev a_at_root : Spot
 a_at_root = record { dirs = []; name = codes "a" }

@@ -2,7 +2,7 @@
 
 ghost use Rattle.std.specs.Prelude.{◌≡◌, [], ◌∷◌, MatchOption};
 ghost use Rattle.command_text.specs.Reading.{Gives};
-ghost use Rattle.mount_text.specs.Lines.{place_of, AreNotTwo, put_of, get_of, join_of, line_from, is_skipped, line_of, opening};
+ghost use Rattle.lbfs_client.specs.Lines.{place_of, AreNotTwo, put_of, get_of, join_of, line_from, is_skipped, line_of, opening};
 
 use crate::local::LocalName;
 use command_text::command::Command;

@@ -1,8 +1,8 @@
 -- What is written for a line.
 use Rattle.std.specs.Prelude.{ℕ, List, ◌++◌, codes}
 use Rattle.register_model.specs.Text.{outcome_text}
-use Rattle.mount_text.specs.declared.answer.Answer.{Answer}
-use Rattle.mount_text.specs.declared.answer.Answer.TheVariants as answer
+use Rattle.lbfs_client.specs.declared.answer.Answer.{Answer}
+use Rattle.lbfs_client.specs.declared.answer.Answer.TheVariants as answer
 
 -- how an operation ended, in the words of a history, or that a file of the host failed
 abbrev pub answer_text : Answer → List ℕ

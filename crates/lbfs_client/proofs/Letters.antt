@@ -6,7 +6,7 @@ use Rattle.std.proofs.lemmas.Bool.Decides.{nat_tests}
 use Rattle.std.proofs.lemmas.Str.{IsUtf8-from_ascii}
 use Rattle.limits.specs.declared.TheConstants.{NAME_MOST}
 use Rattle.command_text.specs.Fields.{is_letter, is_text}
-use Rattle.mount_text.specs.Lines.{is_local}
+use Rattle.lbfs_client.specs.Lines.{is_local}
 
 both : (a b : Bool) → (a && b) ≡ true → (a ≡ true) × (b ≡ true)
 both true true h = (refl, refl)

@@ -1,7 +1,7 @@
 //! What is written for a line of a script: `answer_line` of `specs/Answers.antt`.
 
 ghost use Rattle.std.specs.Prelude.{◌≡◌, ◌++◌, IfOk, OnOk, string_bytes};
-ghost use Rattle.mount_text.specs.Answers.{answer_text, answer_line};
+ghost use Rattle.lbfs_client.specs.Answers.{answer_text, answer_line};
 
 use lb_base::items::{Bytes, Items};
 use register_model::op::Outcome;

@@ -8,10 +8,10 @@ use Rattle.command_text.specs.declared.path.PathCommand.TheVariants.{Find}
 use Rattle.command_text.specs.Fields.{◌>>=◌, is_text, id_of}
 use Rattle.command_text.specs.Parts.{words_of}
 use Rattle.command_text.specs.Paths.{spot_of}
-use Rattle.mount_text.specs.declared.line.Place.{Place}
-use Rattle.mount_text.specs.declared.line.Place.TheVariants as place
-use Rattle.mount_text.specs.declared.line.MountLine.{MountLine}
-use Rattle.mount_text.specs.declared.line.MountLine.TheVariants as line
+use Rattle.lbfs_client.specs.declared.line.Place.{Place}
+use Rattle.lbfs_client.specs.declared.line.Place.TheVariants as place
+use Rattle.lbfs_client.specs.declared.line.MountLine.{MountLine}
+use Rattle.lbfs_client.specs.declared.line.MountLine.TheVariants as line
 
 -- the name of a file of the host: letters of names, at least one, and so many at most
 abbrev pub is_local : List ℕ → Bool

@@ -2,7 +2,7 @@
 
 ghost use Rattle.std.specs.Prelude.{◌≡◌, true, IfOk, string_bytes};
 ghost use Rattle.command_text.specs.Reading.{Gives};
-ghost use Rattle.mount_text.specs.Lines.{is_local, local_of};
+ghost use Rattle.lbfs_client.specs.Lines.{is_local, local_of};
 
 use command_text::fields;
 use command_text::line_err::LineErr;
