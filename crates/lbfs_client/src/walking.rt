@@ -49,25 +49,7 @@ fn walk_with<F: Files>(
     }
 }
 
-/// An operation of the client has ended so, and the line under way goes on.
-fn walk_on<F: Files>(
-    alloc: Global,
-    files: &mut F,
-    client: &mut Client,
-    walk: &mut Option<Walk>,
-    outcome: &Outcome,
-    now: u64,
-    send: Items<Message>,
-) -> Result<Said, AllocError>
-    ensures { IfOk result (λ said. Walks (record { host = record { files = F.files files.old; faults = F.faults files.old }; client = client.old; walk = walk.old }) walk.old outcome.now now send (record { host = record { files = F.files files.new; faults = F.faults files.new }; client = client.new; walk = walk.new }) said) }
-{
-    match walk.take() {
-        None => says_end(alloc, send, outcome),
-        Some(held) => walk_with(alloc, files, client, walk, held, outcome, now, send),
-    }
-}
-
-/// An operation of the client has ended, or none has.
+/// An operation of the client has ended, and the line under way goes on, or none has.
 pub(crate) fn lead<F: Files>(
     alloc: Global,
     files: &mut F,
@@ -81,7 +63,19 @@ pub(crate) fn lead<F: Files>(
 {
     match ended {
         None => Ok(sends(send)),
-        Some(ended) => walk_on(alloc, files, client, walk, &ended.outcome, now, send),
+        Some(ended) => match walk.take() {
+            None => says_end(alloc, send, &ended.outcome),
+            Some(held) => walk_with(
+                alloc,
+                files,
+                client,
+                walk,
+                held,
+                &ended.outcome,
+                now,
+                send,
+            ),
+        },
     }
 }
 
