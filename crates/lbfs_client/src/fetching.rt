@@ -6,15 +6,15 @@ ghost use Rattle.client_state.specs.State.{local_bytes};
 ghost use Rattle.lbfs_client.specs.Host.{Host, HasRead, HasWritten};
 ghost use Rattle.lbfs_client.specs.Walks.{kept_answer, Keeps, Fetched};
 
+use crate::answer::Answer;
 use crate::commanding::opened_file;
+use crate::local::LocalName;
 use crate::said::{Said, answer_of, says_end};
 use crate::storing::abandon;
 use client_state::step::Outcome;
 use lb_base::items::{Bytes, Items};
 use lb_base::sink::GiveErr;
 use links::files::{Files, FilesErr};
-use crate::answer::Answer;
-use crate::local::LocalName;
 use open_close::client::Client;
 use register_model::op::Outcome as Told;
 use std::alloc::{AllocError, Global};

@@ -5,12 +5,12 @@ ghost use Rattle.std.specs.Prelude.{◌≡◌, IfOk, IfErr, None};
 ghost use Rattle.client_state.specs.State.{start};
 ghost use Rattle.lbfs_client.specs.Mounting.{Runs, Receives, Stops, joined_step};
 
+use crate::line::MountLine;
 use crate::running::{joined, run};
 use crate::said::Said;
 use crate::walk::Walk;
 use crate::walking::{receive, stop};
 use links::files::Files;
-use crate::line::MountLine;
 use open_close::client::Client;
 use record_ends::end::End;
 use std::alloc::{AllocError, Global};

@@ -3,9 +3,9 @@
 ghost use Rattle.std.specs.Prelude.{◌≡◌, IfOk, Some, None};
 ghost use Rattle.lbfs_client.specs.Walks.{says, answer_of, answer_to};
 
+use crate::answer::Answer;
 use client_state::step::{Ended, Outcome};
 use lb_base::items::{Bytes, Items};
-use crate::answer::Answer;
 use std::alloc::{AllocError, Global};
 use told_outcome::told_of;
 use wire::message::Message;

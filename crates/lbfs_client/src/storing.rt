@@ -3,6 +3,7 @@
 ghost use Rattle.std.specs.Prelude.{◌≡◌, IfOk, None};
 ghost use Rattle.lbfs_client.specs.Walks.{Stores, Abandons, Closed, Closes, Puts, Opened};
 
+use crate::answer::Answer;
 use crate::commanding::{go, has_done, is_closed, opened_file};
 use crate::said::{Said, answer_of, says, says_end, sends};
 use crate::walk::Walk;
@@ -10,7 +11,6 @@ use client_state::step::{Ended, Outcome};
 use command_text::command::Command;
 use command_text::content::Content;
 use lb_base::items::Items;
-use crate::answer::Answer;
 use open_close::client::Client;
 use std::alloc::{AllocError, Global};
 use wire::message::Message;

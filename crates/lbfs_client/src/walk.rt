@@ -1,8 +1,8 @@
 //! What a line that takes several operations of the client has left to do. `specs/Walks.antt` and
 //! `specs/Mounting.antt` say what comes of it.
 
-use command_text::content::Content;
 use crate::local::LocalName;
+use command_text::content::Content;
 
 /// What the line under way has left to do, once the operation under way has ended.
 #[derive(Drop)]

@@ -65,16 +65,7 @@ pub(crate) fn lead<F: Files>(
         None => Ok(sends(send)),
         Some(ended) => match walk.take() {
             None => says_end(alloc, send, &ended.outcome),
-            Some(held) => walk_with(
-                alloc,
-                files,
-                client,
-                walk,
-                held,
-                &ended.outcome,
-                now,
-                send,
-            ),
+            Some(held) => walk_with(alloc, files, client, walk, held, &ended.outcome, now, send),
         },
     }
 }

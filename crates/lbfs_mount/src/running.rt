@@ -8,15 +8,15 @@ ghost use Rattle.lbfs_mount.specs.Mounts.{AnswerEnds, Ends, IsFaulty, TextEnds, 
 use crate::answer_line::AnswerLine;
 use crate::connecting::{Dialler, connect};
 use crate::mount_err::MountErr;
+use crate::script::Script;
 use crate::shared::Shared;
 use crate::turns::Turns;
 use command_text::line_err::LineErr;
 use lb_base::sink::{GiveErr, Sink, give_all};
 use lb_base::source::{ReadError, Source};
+use lbfs_client::line::{MountLine, is_skipped};
 use links::clock::Clock;
 use links::network::Network;
-use lbfs_client::line::{MountLine, is_skipped};
-use crate::script::Script;
 use std::sync::Wait;
 use std::thread::{Scope, Threads};
 

@@ -14,10 +14,10 @@ ghost use Rattle.lbfs_server.specs.Held.{After, Delivered, HeardOrLeft, Joined, 
 ghost use Rattle.lbfs_server.specs.declared.held.Went.TheVariants as went;
 
 use crate::kept::KeptServer;
+use crate::outboxes::Outboxes;
 use crate::turns::Turns;
 use hash_calls::call::Commit;
 use lb_base::items::Items;
-use crate::outboxes::Outboxes;
 use send_list::SendList;
 use server_core::server::Server;
 use server_rules::told::Told;

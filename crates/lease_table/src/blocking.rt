@@ -10,9 +10,9 @@ ghost use Rattle.lease_table.specs.Leases.{is_blocked, others, blocks};
 ghost use Rattle.lease_table.specs.Kept.{FitsKey, by_two, lease_from, leases_of};
 
 use crate::keyed::Keyed;
+use crate::range::is_within;
 use lb_base::items::Items;
 use lease_rules::lease::{Held, blocks, is_wanted_back};
-use crate::range::is_within;
 use std::alloc::{AllocError, Global};
 use std::collections::btree_map::Range;
 

@@ -5,8 +5,8 @@ ghost use Rattle.std.specs.BTreeMap.{insert_entry, is_at};
 ghost use Rattle.std.specs.Map.{remove_entry};
 ghost use Rattle.lease_table.specs.Kept.{by_three, is_listed, listed, unlisted};
 
-use lease_rules::lease::{Held, first_recall, last_recall};
 use crate::map::ReservedMap;
+use lease_rules::lease::{Held, first_recall, last_recall};
 
 /// Leases by file, and by session within a file.
 pub type Keyed = ReservedMap<(u64, u32), Held>;

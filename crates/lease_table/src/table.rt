@@ -4,10 +4,10 @@ ghost use Rattle.std.specs.Prelude.{◌≡◌, ◌+◌, ◌<◌, ◌≤◌, ◌^
 ghost use Rattle.lease_table.specs.Leases.{grant, without_lease, marked, without_recalled, without_ended, is_blocked, others, lease_at};
 
 use crate::keyed::{Ends, Keyed, Recalls};
+use crate::map::ReservedMap;
 use crate::{blocking, changes};
 use lb_base::items::Items;
 use lease_rules::lease::end_of;
-use crate::map::ReservedMap;
 use std::alloc::{AllocError, Global};
 use std::marker::Model;
 
