@@ -3,4 +3,5 @@ pub mod Keeping
 pub mod Limits
 pub mod Openings
 pub mod States
+pub mod Stepping
 pub mod Stored

@@ -3,5 +3,7 @@ pub mod Opening
 pub mod Rows
 pub mod State
 pub mod Step
+pub mod StoreRows
+pub mod Stores
 pub mod Storing
 pub mod View

@@ -4,7 +4,7 @@ use Rattle.std.proofs.Common.{refl, sym, ap, ◌∙◌, subst, arith}
 use Rattle.lb_base.specs.Causes.{Rose}
 use Rattle.store.specs.declared.record.Kept.{Kept}
 use Rattle.tree_reading.specs.Tree.{Tree}
-use Rattle.stored_tree.specs.Stores.{Keeps, IsLeft, IsFault}
+use Rattle.file_tree.specs.Stores.{Keeps, IsLeft, IsFault}
 use Rattle.server_steps.specs.declared.event.Event.{Event}
 use Rattle.server_steps.specs.declared.event.ServerStep.{ServerStep}
 use Rattle.server_core.specs.Served.{IsServed}

@@ -1,7 +1,7 @@
 -- A server and the store that keeps its tree.
 use Rattle.std.specs.Prelude.{◌≡◌, ℕ, ◌≤◌, List, Option, true, false}
 use Rattle.store.specs.declared.record.Kept.{Kept}
-use Rattle.stored_tree.specs.Stores.{Keeps}
+use Rattle.file_tree.specs.Stores.{Keeps}
 use Rattle.server_steps.specs.declared.event.Event.{Event}
 use Rattle.server_steps.specs.declared.event.ServerStep.{ServerStep}
 use Rattle.server_core.specs.Served.{IsServed}

@@ -26,7 +26,7 @@ use Rattle.tree_reading.specs.declared.call.Held.{Held}
 use Rattle.tree_reading.specs.declared.entry.Entry.{Entry as TreeEntry}
 use Rattle.tree_calls.specs.Telling.{id_of, or_bad_handle, answer_of, piece, told}
 use Rattle.tree_calls.specs.Changing.{before, with_done, mode_of, created as created_answer, made_directory, removed_directory}
-use Rattle.stored_tree.specs.Stores.{stored}
+use Rattle.file_tree.specs.Stores.{stored}
 use Rattle.tree_calls.specs.Calling.{IsCalled}
 use Rattle.tree_calls.specs.Waiting.{calls_under, enters, asks_remove, asks_rename, removes_in, removing, renames_in_under, renaming_under, told_outcome, creates_in_under, mkdirs_in_under, rmdirs_in_under}
 use Rattle.tree_calls.specs.declared.asked.Done.{Done}

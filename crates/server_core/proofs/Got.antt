@@ -19,7 +19,7 @@ use Rattle.file_tree.specs.Step.{replaced, replace_if}
 use Rattle.tree_reading.specs.Tree.{Tree, contents_size, or_stale, file_or}
 use Rattle.tree_reading.specs.declared.call.Changed.{Changed}
 use Rattle.tree_reading.specs.declared.call.Held.{Held}
-use Rattle.stored_tree.specs.Stores.{stored}
+use Rattle.file_tree.specs.Stores.{stored}
 use Rattle.tree_calls.specs.Calling.{IsCalled}
 use Rattle.tree_calls.specs.Waiting.{with_committed, commits_under}
 use Rattle.tree_calls.specs.declared.asked.Committing.{Committing}

@@ -16,7 +16,7 @@ use Rattle.tree_reading.specs.Tree.{Tree}
 use Rattle.file_tree.specs.Step.{replace}
 use Rattle.tree_reading.specs.declared.call.Changed.{Changed}
 use Rattle.tree_reading.specs.declared.call.Held.{Held}
-use Rattle.stored_tree.specs.Stores.{stored}
+use Rattle.file_tree.specs.Stores.{stored}
 use Rattle.tree_calls.specs.Calling.{IsCalled}
 use Rattle.tree_calls.specs.Waiting.{with_committed, commits as tree_commits, commits_under as tree_commits_under, settles_under as tree_settles_under}
 use Rattle.tree_calls.specs.declared.asked.Asked.{Asked}

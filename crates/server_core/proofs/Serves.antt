@@ -1,6 +1,6 @@
 -- What is known of an event, or of a part of one, with its store.
 use Rattle.std.proofs.Common.{◌≡◌, refl, sym, subst, ℕ, List, Option, Some, None, Bool, true, false, arith}
-use Rattle.stored_tree.specs.Stores.{IsFault, Keeps}
+use Rattle.file_tree.specs.Stores.{IsFault, Keeps}
 use Rattle.store.specs.declared.record.Kept.{Kept}
 use Rattle.tree_reading.specs.Tree.{Tree}
 use Rattle.server_steps.specs.declared.event.ServerStep.{ServerStep}

@@ -1,6 +1,6 @@
 -- What is known of an event that a store was given to.
 use Rattle.std.specs.Prelude.{◌≡◌, ℕ, Bool}
-use Rattle.stored_tree.specs.Stores.{IsFault}
+use Rattle.file_tree.specs.Stores.{IsFault}
 use Rattle.server_steps.specs.declared.event.ServerStep.{ServerStep}
 use Rattle.server_core.specs.State.{State}
 

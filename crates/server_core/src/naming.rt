@@ -8,7 +8,7 @@ ghost use Rattle.server_core.specs.Served.{IsServed};
 ghost use Rattle.server_core.specs.State.{entries_held};
 ghost use Rattle.server_core.specs.Step.{called_under, does, asks, TakesMemory};
 ghost use Rattle.server_core.specs.View.{state_of, IsBounded, HasRoom, RoomFor};
-ghost use Rattle.stored_tree.specs.Stores.{Keeps};
+ghost use Rattle.file_tree.specs.Stores.{Keeps};
 ghost use Rattle.tree_calls.specs.Calling.{places_of_call};
 ghost use Rattle.tree_calls.specs.Waiting.{enters};
 

@@ -5,7 +5,7 @@ ghost use Rattle.server_core.specs.Closing.{has_waiting};
 ghost use Rattle.server_core.specs.Served.{IsServed};
 ghost use Rattle.server_core.specs.State.{empty, entries_held};
 ghost use Rattle.server_core.specs.Step.{server_step, server_step_under, with_tree, opens_with, forges, clears_index, IsTimed, Misses};
-ghost use Rattle.stored_tree.specs.Stores.{Keeps};
+ghost use Rattle.file_tree.specs.Stores.{Keeps};
 ghost use Rattle.file_tree.specs.Opening.{can_open};
 ghost use Rattle.temp_files.specs.Temps.{temp_at, whole_of};
 ghost use Rattle.tree_reading.specs.Reading.{stands_for};

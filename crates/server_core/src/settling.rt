@@ -1,7 +1,7 @@
 //! How a change that waits is made. `settles` in `specs/Closing.antt` says it.
 
 ghost use Rattle.std.specs.Prelude.{◌≡◌, ℕ, ◌+◌, ◌≤◌, ◌∷◌, ◌++◌, [], length, false, true, vec_capacity};
-ghost use Rattle.stored_tree.specs.Stores.{Keeps};
+ghost use Rattle.file_tree.specs.Stores.{Keeps};
 ghost use Rattle.tree_calls.specs.Calling.{IsCalled};
 ghost use Rattle.tree_calls.specs.Waiting.{commits_under, entries_of};
 ghost use Rattle.server_core.specs.Closing.{settles, settles_under, makes_change, makes_change_under, index_with, entered_by, one_if, entries_by, count_of};

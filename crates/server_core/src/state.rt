@@ -10,7 +10,7 @@ ghost use Rattle.wire.specs.declared.message.RpcRefusal.TheVariants as refusal;
 ghost use Rattle.server_core.specs.Closing.{at};
 ghost use Rattle.server_steps.specs.Steps.{sends, to, told_if};
 ghost use Rattle.chunk_calls.specs.Calling.{commits};
-ghost use Rattle.stored_tree.specs.Stores.{Keeps};
+ghost use Rattle.file_tree.specs.Stores.{Keeps};
 ghost use Rattle.server_core.specs.Served.{IsServed};
 ghost use Rattle.server_core.specs.State.{entries_held};
 ghost use Rattle.server_core.specs.Step.{server_step_under, called, called_under, got_if_under, stands, connect, has_room, opens_with, chunks_called, IsTimed, missed_call, TakesMemory, Lacks, MissesCall, Misses};

@@ -4,7 +4,7 @@ use Rattle.xdr_codec.specs.declared.status.Status.{Status}
 use Rattle.xdr_codec.specs.declared.status.Status.TheVariants as status
 use Rattle.tree_reading.specs.Tree.{Tree}
 use Rattle.tree_reading.specs.declared.call.Changed.{Changed}
-use Rattle.stored_tree.specs.Stores.{stored}
+use Rattle.file_tree.specs.Stores.{stored}
 
 -- what holds of the step, and where IO is told and the tree stays, holds however the store does
 pub asked_holds : (P : Tree × Result Changed Status → Type 0) (fault : Bool) (t : Tree) (p : Tree × Result Changed Status) → P p → P (t, Err status.Io) → P (stored fault t p)

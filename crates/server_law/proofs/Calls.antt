@@ -17,7 +17,7 @@ use Rattle.tree_calls.specs.declared.asked.Done.{Done}
 use Rattle.tree_calls.specs.declared.asked.Outcome.{Outcome}
 use Rattle.tree_calls.specs.declared.asked.Outcome.TheVariants.{Answered, Waits}
 use Rattle.tree_calls.specs.Telling.{id_of, told}
-use Rattle.stored_tree.specs.Stores.{stored}
+use Rattle.file_tree.specs.Stores.{stored}
 use Rattle.tree_calls.specs.Changing.{before, mode_of, created, made_directory, removed_directory, removed, renamed, with_done, renames_under}
 use Rattle.tree_calls.specs.Waiting.{told_outcome, commits_under, with_committed, settles_under, removes_if_under, renames_if_under, remove_again, rename_again, calls_under, creates_in_under, mkdirs_in_under, rmdirs_in_under, removes_in, removing, asks_remove, renaming_under, asks_rename, renames_in_under}
 use Rattle.server_law.proofs.Asked.{asked_holds}

@@ -19,7 +19,7 @@ use Rattle.tree_reading.specs.declared.call.Changed.{Changed}
 use Rattle.tree_reading.specs.declared.call.CreateMode.{CreateMode}
 use Rattle.tree_reading.specs.declared.call.Held.{Held}
 use Rattle.tree_reading.specs.declared.call.Spot.{Spot}
-use Rattle.stored_tree.specs.Stores.{stored, IsFault, IsStep, Keeps}
+use Rattle.file_tree.specs.Stores.{stored, IsFault, IsStep, Keeps}
 use Rattle.tree_calls.specs.Calling.{IsCalled, places_of_call}
 use Rattle.tree_calls.specs.declared.asked.Committing.{Committing}
 use Rattle.tree_calls.specs.declared.asked.Done.{Done}

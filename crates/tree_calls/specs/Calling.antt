@@ -1,7 +1,7 @@
 -- What is known of a call that a store was given to.
 use Rattle.std.specs.Prelude.{◌≡◌, ℕ, Option, Some, None, Bool}
 use Rattle.tree_reading.specs.Tree.{Tree}
-use Rattle.stored_tree.specs.Stores.{IsFault}
+use Rattle.file_tree.specs.Stores.{IsFault}
 use Rattle.tree_calls.specs.declared.asked.Outcome.{Outcome}
 use Rattle.tree_calls.specs.declared.asked.Outcome.TheVariants.{Answered, Waits}
 use Rattle.tree_calls.specs.Waiting.{entries_of}

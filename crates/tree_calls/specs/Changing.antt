@@ -20,7 +20,7 @@ use Rattle.tree_reading.specs.declared.call.Changed.{Changed}
 use Rattle.tree_reading.specs.declared.call.CreateMode.{CreateMode}
 use Rattle.tree_reading.specs.declared.call.CreateMode.TheVariants as mode
 use Rattle.tree_reading.specs.declared.call.Held.{Held}
-use Rattle.stored_tree.specs.Stores.{stored}
+use Rattle.file_tree.specs.Stores.{stored}
 use Rattle.tree_calls.specs.declared.asked.Done.{Done}
 
 -- ---- a directory before and after (RFC 1813, section 2.6: wcc_data)

@@ -18,7 +18,7 @@ use Rattle.tree_reading.specs.declared.call.Planned.{Planned}
 use Rattle.tree_reading.specs.declared.call.Planned.TheVariants as planned
 use Rattle.tree_reading.specs.declared.call.Spot.{Spot}
 use Rattle.tree_reading.specs.declared.reading.Standing.{Standing}
-use Rattle.stored_tree.specs.Stores.{stored}
+use Rattle.file_tree.specs.Stores.{stored}
 use Rattle.tree_calls.specs.declared.asked.Asked.{Asked}
 use Rattle.tree_calls.specs.declared.asked.Asked.TheVariants as asked
 use Rattle.tree_calls.specs.declared.asked.Committing.{Committing}

@@ -3,12 +3,12 @@
 ghost use Rattle.std.specs.Prelude.{◌≡◌, IfOk};
 ghost use Rattle.tree_calls.specs.Waiting.{file_of, entries_of, spot_of};
 
+use file_tree::pair::NamePair;
 use hash_calls::call::Committed;
 use lb_base::items::Name;
 use nfs3_calls::message::Nfs;
 use std::alloc::{AllocError, Global};
 use std::marker::Model;
-use stored_tree::pair::NamePair;
 use tree_reading::call::Spot;
 use tree_reading::entry::Entry;
 use xdr_codec::answer::Answer;

@@ -2,7 +2,7 @@
 
 ghost use Rattle.std.specs.Prelude.{◌≡◌, ◌+◌, ◌≤◌, Bool, false, IfOk, OnErr};
 ghost use Rattle.tree_reading.specs.declared.call.Held.{Held};
-ghost use Rattle.stored_tree.specs.Stores.{Keeps};
+ghost use Rattle.file_tree.specs.Stores.{Keeps};
 ghost use Rattle.tree_calls.specs.Calling.{IsCalled, places_of, places_of_call};
 ghost use Rattle.tree_calls.specs.Telling.{id_of, told, TakesTold};
 ghost use Rattle.tree_calls.specs.Waiting.{creates_in_under, mkdirs_in_under, rmdirs_in_under, removes_in, renames_in_under, told_outcome, changes, calls_under, Takes};

@@ -6,13 +6,15 @@ ghost use Rattle.xdr_codec.specs.Handle.{handle_bytes};
 ghost use Rattle.xdr_codec.specs.declared.answer.Answer.TheVariants as answer;
 ghost use Rattle.nfs3_calls.specs.declared.message.Nfs.TheVariants as nfs;
 ghost use Rattle.tree_reading.specs.Plans.{create_plan, may_mkdir, rmdir_plan};
-ghost use Rattle.stored_tree.specs.Stores.{Keeps};
+ghost use Rattle.file_tree.specs.Stores.{Keeps};
 ghost use Rattle.tree_calls.specs.Calling.{IsCalled};
 ghost use Rattle.tree_calls.specs.Changing.{before, no_side, said, made_of, created, made_directory, mode_of, removed_directory, refused_rename, renamed, creates_under, mkdirs_under, rmdirs_under, renames_under};
 
 use crate::asked::Done;
 use crate::room;
 use crate::sides::{before, both_sides, did, known, no_side, said};
+use file_tree::pair::NamePair;
+use file_tree::stored_steps;
 use file_tree::tree::Tree;
 use lb_base::items::Name;
 use nfs3_calls::change::{Before, Moved};
@@ -20,8 +22,6 @@ use nfs3_calls::making::{HowMade, Made};
 use nfs3_calls::message::Nfs;
 use std::alloc::{AllocError, Global};
 use store::store::Store;
-use stored_tree::pair::NamePair;
-use stored_tree::steps;
 use tree_reading::call::{Changed, CreateMode, Held};
 use xdr_codec::answer::Answer;
 use xdr_codec::handle::Handle;
@@ -133,7 +133,7 @@ fn make_file<S: Store>(
 {
     let (handle, name) = prepared(alloc, tree, store, held, name)?;
     let before = before(tree, dir);
-    let outcome = steps::create(tree, store, dir, name, mode, held);
+    let outcome = stored_steps::create(tree, store, dir, name, mode, held);
     Ok(created(tree, before, dir, handle, outcome))
 }
 
@@ -210,7 +210,7 @@ fn make_directory<S: Store>(
 {
     let (handle, name) = prepared(alloc, tree, store, held, name)?;
     let before = before(tree, dir);
-    let outcome = steps::mkdir(tree, store, dir, name, held);
+    let outcome = stored_steps::mkdir(tree, store, dir, name, held);
     Ok(made_directory(tree, before, dir, handle, outcome))
 }
 
@@ -278,7 +278,7 @@ fn remove_directory<S: Store>(
     ensures later { S.faults store.old ≤ S.faults store.new }
 {
     let before = before(tree, dir);
-    let outcome = steps::rmdir(tree, store, dir, name, held);
+    let outcome = stored_steps::rmdir(tree, store, dir, name, held);
     removed_directory(tree, before, dir, outcome)
 }
 
@@ -358,6 +358,6 @@ pub fn rename<S: Store>(
     ensures later { S.faults store.old ≤ S.faults store.new }
 {
     let sides = (before(tree, dir), before(tree, to));
-    let outcome = steps::rename(tree, store, dir, name, to, to_name, held);
+    let outcome = stored_steps::rename(tree, store, dir, name, to, to_name, held);
     renamed(tree, sides, dir, to, outcome)
 }

@@ -2,9 +2,9 @@
 
 ghost use Rattle.std.specs.Prelude.{◌≡◌, ◌+◌, ◌≤◌, OnOk};
 
+use file_tree::places::places;
 use std::alloc::AllocError;
 use store::store::Store;
-use stored_tree::places::places;
 use tree_reading::call::Held;
 
 /// Takes so many places in the store, beside one for each entry of the changes that wait. The one error

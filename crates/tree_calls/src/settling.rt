@@ -2,7 +2,7 @@
 //! this takes memory.
 
 ghost use Rattle.std.specs.Prelude.{◌≡◌, ◌+◌, ◌≤◌, Ok};
-ghost use Rattle.stored_tree.specs.Stores.{Keeps};
+ghost use Rattle.file_tree.specs.Stores.{Keeps};
 ghost use Rattle.tree_calls.specs.Calling.{IsCalled};
 ghost use Rattle.tree_calls.specs.Changing.{before, removed};
 ghost use Rattle.tree_calls.specs.Waiting.{still, remove_again, rename_again, removes_if_under, renames_if_under, settles_under, committed, commits_under, spot_of, entries_of};
@@ -11,13 +11,13 @@ use crate::asked::{Asked, Committing, Done, Removing, Renaming};
 use crate::asking::refuse_remove;
 use crate::changing;
 use crate::sides::{before, both_sides, did};
+use file_tree::stored_steps;
 use file_tree::tree::Tree;
 use hash_calls::call::Committed;
 use nfs3_calls::change::Before;
 use nfs3_calls::message::Nfs;
 use shared_bytes::SharedBytes;
 use store::store::Store;
-use stored_tree::steps;
 use tree_nodes::content::Content;
 use tree_reading::call::{Changed, Held, Spot};
 use tree_reading::checks::is_node;
@@ -75,7 +75,7 @@ fn remove<S: Store>(tree: &mut Tree, store: &mut S, spot: &Spot, held: Held) -> 
     ensures later { S.faults store.old ≤ S.faults store.new }
 {
     let before = before(tree, spot.dir);
-    let outcome = steps::remove(tree, store, spot.dir, spot.name.as_slice(), held);
+    let outcome = stored_steps::remove(tree, store, spot.dir, spot.name.as_slice(), held);
     removed(tree, before, spot.dir, outcome)
 }
 
@@ -171,6 +171,6 @@ pub fn commit<S: Store>(
     ensures spare { held.entries ≤ S.spare store.new }
     ensures later { S.faults store.old ≤ S.faults store.new }
 {
-    let outcome = steps::replace(tree, store, file, content, copy, held);
+    let outcome = stored_steps::replace(tree, store, file, content, copy, held);
     committed(term, outcome)
 }

@@ -28,7 +28,7 @@ use Rattle.tree_reading.specs.declared.call.CreateMode.{CreateMode}
 use Rattle.tree_reading.specs.declared.call.Held.{Held}
 use Rattle.tree_reading.specs.declared.call.Planned.{Planned}
 use Rattle.tree_reading.specs.declared.call.Planned.TheVariants.{Nothing, Free, Over}
-use Rattle.stored_tree.specs.Stores.{stored, IsFault, IsStep, Keeps, kind_if, kind_found, id_found}
+use Rattle.file_tree.specs.Stores.{stored, IsFault, IsStep, Keeps, kind_if, kind_found, id_found}
 
 abbrev Step : Type 0
 Step = Tree × Result Changed Status

@@ -2,8 +2,8 @@ use Rattle.std.proofs.Common.{ℕ, List, Some, sym, ap, ◌∙◌}
 use Rattle.store.specs.declared.record.Change.TheVariants as change
 use Rattle.store.specs.declared.record.NodeKind.TheVariants as node_kind
 use Rattle.file_tree.specs.Step.{create}
-use Rattle.stored_tree.proofs.Stepping.{created_kept}
-use Rattle.stored_tree.proofs.steps.make_file.Goals as goal
+use Rattle.file_tree.proofs.Stepping.{created_kept}
+use Rattle.file_tree.proofs.stored_steps.make_file.Goals as goal
 
 pub returns-clause-keeps : goal.returns-clause-keeps
 returns-clause-keeps g c = created_kept c.args.tree.now.tree c.args.held c.args.dir c.args.name c.args.mode _ _ c.ask.result c.head_made-head.result _ _ c.create.new.self.tree c.create.result c.if-ask.false c.ask.ensures.records c.requires.plan c.head_made-head.ensures

@@ -7,10 +7,10 @@ ghost use Rattle.tree_nodes.specs.Nodes.{named};
 ghost use Rattle.tree_reading.specs.Plans.{create_plan, may_mkdir, rename_plan};
 ghost use Rattle.file_tree.specs.Step.{create, mkdir, remove, rmdir, rename, replace};
 ghost use Rattle.tree_reading.specs.declared.call.Planned.TheVariants.{Free, Over};
-ghost use Rattle.stored_tree.specs.Stores.{IsStep, Keeps, kind_if, kind_found, id_found};
+ghost use Rattle.file_tree.specs.Stores.{IsStep, Keeps, kind_if, kind_found, id_found};
 
 use crate::pair::NamePair;
-use file_tree::tree::Tree;
+use crate::tree::Tree;
 use lb_base::items::Name;
 use server_rules::asking::ask;
 use shared_bytes::SharedBytes;

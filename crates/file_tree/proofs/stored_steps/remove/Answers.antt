@@ -1,6 +1,6 @@
 use Rattle.std.proofs.Common.{refl, sym}
-use Rattle.stored_tree.proofs.Stepping.{remove_kept}
-use Rattle.stored_tree.proofs.steps.remove.Goals as goal
+use Rattle.file_tree.proofs.Stepping.{remove_kept}
+use Rattle.file_tree.proofs.stored_steps.remove.Goals as goal
 
 pub returns-else-ask-clause-keeps : goal.returns-else-ask-clause-keeps
 returns-else-ask-clause-keeps g c = remove_kept c.args.tree.now.tree c.args.held c.args.dir c.args.name.now _ _ c.ask.result c.in-Ok.gone c.head_changed-head.result c.in-Ok.gone.id c.remove.new.self.tree c.remove.result c.if-ask.false c.ask.ensures.records (sym c.in-Ok.ensures) c.head_changed-head.ensures refl c.remove.ensures.done

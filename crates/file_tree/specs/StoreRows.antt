@@ -6,7 +6,7 @@ use Rattle.file_tree.specs.Step.{create, mkdir, remove, rename, replace}
 use Rattle.tree_reading.specs.Tree.{Tree, root}
 use Rattle.tree_reading.specs.declared.call.CreateMode.TheVariants.{Unchecked, Guarded}
 use Rattle.tree_reading.specs.declared.call.Held.{Held}
-use Rattle.stored_tree.specs.Stores.{stored}
+use Rattle.file_tree.specs.Stores.{stored}
 
 -- a file "a" and an empty directory "d"
 abbrev tree : Tree
