@@ -1,7 +1,7 @@
 //! The command line as `clap` is told it: `lbfs` of `specs/Line.antt`.
 
 ghost use Rattle.std.specs.Prelude.{◌≡◌, IfOk, true, false};
-ghost use Rattle.clap.specs.Words.{app_of, rule_of, with_rule, with_subcommand};
+ghost use Rattle.clap.specs.Words.{App, Rule, app_of, rule_of, with_rule, with_subcommand};
 ghost use Rattle.program_words.specs.Line.{optional, required, flag, placed, replay, gen, serve, mount, lbfs, named, with_commands};
 
 use clap::{Arg, ArgAction, Command};
@@ -43,58 +43,68 @@ fn placed<'a>(alloc: Global, name: &'a str) -> Arg<'a>
 }
 
 /// A command with one argument more.
-fn with<'a>(command: Command<'a>, arg: Arg<'a>) -> Result<Command<'a>, AllocError>
+fn with<'a>(
+    command: Result<Command<'a>, AllocError>,
+    arg: Arg<'a>,
+) -> Result<Command<'a>, AllocError>
     requires { arg.global ≡ false }
-    ensures { IfOk result (λ c. app_of c ≡ with_rule (app_of command.entry) (rule_of arg.entry)) }
+    ensures { (a : App) (r : Rule) → rule_of arg.entry ≡ r → IfOk command.entry (λ c. app_of c ≡ a)
+        → IfOk result (λ c. app_of c ≡ with_rule a r) }
 {
-    command.arg(arg)
+    match command {
+        Ok(command) => command.arg(arg),
+        Err(error) => Err(error),
+    }
 }
 
 /// `replay` and its options.
 fn replay_line<'a>(alloc: Global) -> Result<Command<'a>, AllocError>
     ensures { IfOk result (λ c. app_of c ≡ replay) }
 {
-    let command = with(Command::new(alloc, "replay"), flag(alloc, "summary"))?;
-    let command = with(command, optional(alloc, "seed"))?;
-    let command = with(command, optional(alloc, "blocks"))?;
-    Ok(command)
+    let command = with(Ok(Command::new(alloc, "replay")), flag(alloc, "summary"));
+    let command = with(command, optional(alloc, "seed"));
+    with(command, optional(alloc, "blocks"))
 }
 
 /// `gen` and its words.
 fn gen_line<'a>(alloc: Global) -> Result<Command<'a>, AllocError>
     ensures { IfOk result (λ c. app_of c ≡ gen) }
 {
-    let command = with(Command::new(alloc, "gen"), placed(alloc, "seed"))?;
-    let command = with(command, placed(alloc, "blocks"))?;
-    Ok(command)
+    let command = with(Ok(Command::new(alloc, "gen")), placed(alloc, "seed"));
+    with(command, placed(alloc, "blocks"))
 }
 
 /// `serve` and its options.
 fn serve_line<'a>(alloc: Global) -> Result<Command<'a>, AllocError>
     ensures { IfOk result (λ c. app_of c ≡ serve) }
 {
-    let command = with(Command::new(alloc, "serve"), required(alloc, "port"))?;
-    let command = with(command, required(alloc, "term"))?;
-    let command = with(command, required(alloc, "sessions"))?;
-    let command = with(command, required(alloc, "store"))?;
-    Ok(command)
+    let command = with(Ok(Command::new(alloc, "serve")), required(alloc, "port"));
+    let command = with(command, required(alloc, "term"));
+    let command = with(command, required(alloc, "sessions"));
+    with(command, required(alloc, "store"))
 }
 
 /// `mount` and its options.
 fn mount_line<'a>(alloc: Global) -> Result<Command<'a>, AllocError>
     ensures { IfOk result (λ c. app_of c ≡ mount) }
 {
-    let command = with(Command::new(alloc, "mount"), required(alloc, "port"))?;
-    let command = with(command, required(alloc, "drift"))?;
-    Ok(command)
+    let command = with(Ok(Command::new(alloc, "mount")), required(alloc, "port"));
+    with(command, required(alloc, "drift"))
 }
 
 /// A command with a command more below it.
-fn below<'a>(above: Command<'a>, command: Command<'a>) -> Result<Command<'a>, AllocError>
-    requires { (app_of command).top.is_plain ≡ true }
-    ensures { IfOk result (λ c. app_of c ≡ with_subcommand (app_of above.entry) (app_of command.entry).top) }
+fn below<'a>(
+    above: Result<Command<'a>, AllocError>,
+    command: Result<Command<'a>, AllocError>,
+) -> Result<Command<'a>, AllocError>
+    ensures { (a b : App) → b.top.is_plain ≡ true → IfOk above.entry (λ c. app_of c ≡ a)
+        → IfOk command.entry (λ c. app_of c ≡ b)
+        → IfOk result (λ c. app_of c ≡ with_subcommand a b.top) }
 {
-    above.subcommand(command)
+    match (above, command) {
+        (Ok(above), Ok(command)) => above.subcommand(command),
+        _ => Err(AllocError),
+    }
 }
 
 /// The program, with no command yet.
@@ -110,13 +120,12 @@ fn named<'a>(alloc: Global) -> Command<'a>
 fn with_commands<'a>(alloc: Global, named: Command<'a>) -> Result<Command<'a>, AllocError>
     ensures { IfOk result (λ c. app_of c ≡ with_commands (app_of named.entry)) }
 {
-    let all = below(named, replay_line(alloc)?)?;
-    let all = below(all, gen_line(alloc)?)?;
-    let all = below(all, Command::new(alloc, "cut"))?;
-    let all = below(all, Command::new(alloc, "show"))?;
-    let all = below(all, serve_line(alloc)?)?;
-    let all = below(all, mount_line(alloc)?)?;
-    Ok(all)
+    let all = below(Ok(named), replay_line(alloc));
+    let all = below(all, gen_line(alloc));
+    let all = below(all, Ok(Command::new(alloc, "cut")));
+    let all = below(all, Ok(Command::new(alloc, "show")));
+    let all = below(all, serve_line(alloc));
+    below(all, mount_line(alloc))
 }
 
 /// All commands of the program. The one error is want of memory.
