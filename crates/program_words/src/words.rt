@@ -5,7 +5,7 @@ ghost use Rattle.std.specs.Option.{option_map};
 ghost use Rattle.limits.specs.declared.TheConstants.{SESSIONS_EVER_MOST};
 ghost use Rattle.program_words.specs.declared.asked.TheConstants.{PORT_MOST};
 ghost use Rattle.clap.specs.Words.{first_of, found_of, rows_of, subcommand_rows_of};
-ghost use Rattle.program_words.specs.Words.{given, if_given, is_set, view_of, replay_with, replay_of, gen_of, serve_with, serve_of, mount_of, named_of, entered_of, asked_of, command_in, IsFew};
+ghost use Rattle.program_words.specs.Words.{given, if_given, is_set, view_of, replay_with, replay_of, gen_of, serve_of, mount_of, named_of, entered_of, asked_of, command_in, IsFew};
 
 use crate::asked::{
     Asked, Command, InputCommand, MountOptions, PORT_MOST, Place, SEED_MOST, SeedCommand,
@@ -99,13 +99,17 @@ fn replay_of(matches: &ArgMatches) -> Option<Asked>
 fn gen_of(matches: &ArgMatches) -> Option<Asked>
     ensures { result ≡ gen_of (rows_of (found_of matches.now)) }
 {
-    let seed = given(0, SEED_MOST, "seed", matches)?;
-    let blocks = given(1, BLOCKS_MOST, "blocks", matches)?;
-    Some(Asked::Command(Command::OfSeed {
-        seed,
-        blocks,
-        command: SeedCommand::Write,
-    }))
+    match (
+        given(0, SEED_MOST, "seed", matches),
+        given(1, BLOCKS_MOST, "blocks", matches),
+    ) {
+        (Some(seed), Some(blocks)) => Some(Asked::Command(Command::OfSeed {
+            seed,
+            blocks,
+            command: SeedCommand::Write,
+        })),
+        _ => None,
+    }
 }
 
 /// The port that was given.
@@ -124,28 +128,25 @@ fn sessions_of(matches: &ArgMatches) -> Option<u32>
     Some(sessions as u32)
 }
 
-/// The options of `serve`, for this store.
-fn serve_with(matches: &ArgMatches, store: Place) -> Option<Asked>
-    ensures { result ≡ serve_with (rows_of (found_of matches.now)) store }
-{
-    let port = port_of(matches)?;
-    let term = given(1, TERM_MOST, "term", matches)?;
-    let sessions = sessions_of(matches)?;
-    Some(Asked::Serve(ServeOptions {
-        port,
-        term,
-        sessions,
-        store,
-    }))
-}
-
-/// The options of `serve`.
+/// The options of `serve`. The store's place is copied last, when no option is at fault.
 fn serve_of(alloc: Global, matches: &ArgMatches) -> Result<Option<Asked>, AllocError>
     ensures { IfOk result (λ asked. asked ≡ serve_of (rows_of (found_of matches.now))) }
 {
-    match first("store", matches) {
-        Some(path) => Ok(serve_with(matches, Place::copy_of(alloc, path)?)),
-        None => Ok(None),
+    match (
+        first("store", matches),
+        port_of(matches),
+        given(1, TERM_MOST, "term", matches),
+        sessions_of(matches),
+    ) {
+        (Some(path), Some(port), Some(term), Some(sessions)) => {
+            Ok(Some(Asked::Serve(ServeOptions {
+                port,
+                term,
+                sessions,
+                store: Place::copy_of(alloc, path)?,
+            })))
+        }
+        _ => Ok(None),
     }
 }
 
@@ -153,9 +154,10 @@ fn serve_of(alloc: Global, matches: &ArgMatches) -> Result<Option<Asked>, AllocE
 fn mount_of(matches: &ArgMatches) -> Option<Asked>
     ensures { result ≡ mount_of (rows_of (found_of matches.now)) }
 {
-    let port = port_of(matches)?;
-    let drift = given(0, DRIFT_MOST, "drift", matches)?;
-    Some(Asked::Mount(MountOptions { port, drift }))
+    match (port_of(matches), given(0, DRIFT_MOST, "drift", matches)) {
+        (Some(port), Some(drift)) => Some(Asked::Mount(MountOptions { port, drift })),
+        _ => None,
+    }
 }
 
 /// What the command of this name asks for.
