@@ -3,6 +3,8 @@ use Rattle.std.specs.Prelude.{ℕ, List, [], ◌∷◌, Option, Some, None, code
 use Rattle.command_text.specs.declared.command.Command.{Command}
 use Rattle.command_text.specs.declared.command.Command.TheVariants.{Open, Write, Trunc, Read, Close, Abandon, Named}
 use Rattle.command_text.specs.declared.content.Part.{Part}
+use Rattle.command_text.specs.declared.naming.Deed.{Deed}
+use Rattle.command_text.specs.declared.naming.Deed.TheVariants as deeds
 use Rattle.command_text.specs.declared.path.PathCommand.{PathCommand}
 use Rattle.command_text.specs.declared.path.PathCommand.TheVariants.{Find, Look, LookRoot, List as Lists, Make, MakeDir, Remove, RemoveDir, Rename}
 use Rattle.command_text.specs.declared.path.Spot.{Spot}
@@ -82,6 +84,13 @@ one_spot words = None
 -- a command on one name
 abbrev pub spot_command : (Spot → PathCommand) → List (List ℕ) → Option Command
 spot_command k words = one_spot words >>= λ s. Some (Named (k s))
+
+-- which command does this with a name
+abbrev pub command_on : Deed → Spot → PathCommand
+command_on deeds.Make = Make
+command_on deeds.MakeDir = MakeDir
+command_on deeds.Remove = Remove
+command_on deeds.RemoveDir = RemoveDir
 
 -- rename PATH PATH
 abbrev pub rename_of : List (List ℕ) → Option Command

@@ -9,7 +9,7 @@ use crate::content::Content;
 use crate::line_err::LineErr;
 use crate::parts::Words;
 use crate::path::PathCommand;
-use crate::words::{one, three, two};
+use crate::words::{is, one, three, two};
 use crate::{fields, naming, pieces};
 use std::alloc::Global;
 
@@ -122,17 +122,17 @@ impl Command {
     pub fn read(alloc: Global, word: &[u8], words: &mut Words) -> Result<Command, LineErr>
         ensures { Gives result (command_of word.now words.old) }
     {
-        if word == b"open".as_slice() {
+        if is(word, b"open") {
             naming::open(alloc, words)
-        } else if word == b"write".as_slice() {
+        } else if is(word, b"write") {
             write(alloc, words)
-        } else if word == b"trunc".as_slice() {
+        } else if is(word, b"trunc") {
             trunc(words).ok_or(LineErr::BadLine)
-        } else if word == b"read".as_slice() {
+        } else if is(word, b"read") {
             read(words).ok_or(LineErr::BadLine)
-        } else if word == b"close".as_slice() {
+        } else if is(word, b"close") {
             close(words).ok_or(LineErr::BadLine)
-        } else if word == b"abandon".as_slice() {
+        } else if is(word, b"abandon") {
             abandon(words).ok_or(LineErr::BadLine)
         } else {
             naming::command(alloc, word, words)

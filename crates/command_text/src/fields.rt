@@ -5,6 +5,8 @@ ghost use Rattle.std.specs.List.{list_all};
 ghost use Rattle.std.specs.Char.{is_ascii_digit};
 ghost use Rattle.command_text.specs.Fields.{has_leading_zero, is_decimal, value_from, value_of, number_of, number_within, is_letter, is_text, is_name, id_of};
 
+use crate::words::is;
+
 /// The longest name, in bytes.
 const LONGEST_NAME: usize = limits::NAME_MOST;
 
@@ -103,10 +105,7 @@ pub fn is_text(text: &[u8]) -> bool
 pub fn is_name(word: &[u8]) -> bool
     ensures { result ≡ is_name word.now }
 {
-    is_text(word)
-        && word.len() <= LONGEST_NAME
-        && word != b".".as_slice()
-        && word != b"..".as_slice()
+    is_text(word) && word.len() <= LONGEST_NAME && !is(word, b".") && !is(word, b"..")
 }
 
 /// The id of a file.

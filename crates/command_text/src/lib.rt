@@ -15,4 +15,4 @@ mod naming;
 pub mod parts;
 pub mod path;
 pub mod pieces;
-mod words;
+pub mod words;

@@ -1,16 +1,15 @@
 //! Commands on names, and `open`, as `specs/Commands.antt` has their words.
 
 ghost use Rattle.std.specs.Prelude.{◌≡◌};
-ghost use Rattle.command_text.specs.Commands.{find_of, open_of, spot_command, rename_of, list_of, look_of, one_spot, path_command_of};
-ghost use Rattle.command_text.specs.declared.path.PathCommand.TheVariants.{Make, MakeDir, Remove, RemoveDir};
+ghost use Rattle.command_text.specs.Commands.{find_of, open_of, spot_command, command_on, rename_of, list_of, look_of, path_command_of};
 ghost use Rattle.command_text.specs.Reading.{Gives};
 
 use crate::command::Command;
 use crate::fields;
 use crate::line_err::LineErr;
 use crate::parts::Words;
-use crate::path::{self, PathCommand, Spot};
-use crate::words::{one, two};
+use crate::path::{self, PathCommand};
+use crate::words::{is, one, two};
 use std::alloc::Global;
 
 /// `open PATH`.
@@ -33,14 +32,29 @@ pub fn open(alloc: Global, words: &mut Words) -> Result<Command, LineErr>
     }
 }
 
-/// The one name that a command is about.
-fn one_spot(alloc: Global, words: &mut Words) -> Result<Spot, LineErr>
-    ensures { Gives result (one_spot words.old) }
+/// What a command does with the one name that it is about.
+#[derive(Clone, Copy, Drop)]
+enum Deed {
+    Make,
+    MakeDir,
+    Remove,
+    RemoveDir,
+}
+
+/// A command on one name.
+fn on_spot(alloc: Global, deed: Deed, words: &mut Words) -> Result<Command, LineErr>
+    ensures { Gives result (spot_command (command_on deed) words.old) }
 {
     let Some(word) = one(words) else {
         return Err(LineErr::BadLine);
     };
-    path::read_spot(alloc, word)
+    let spot = path::read_spot(alloc, word)?;
+    Ok(Command::Named(match deed {
+        Deed::Make => PathCommand::Make(spot),
+        Deed::MakeDir => PathCommand::MakeDir(spot),
+        Deed::Remove => PathCommand::Remove(spot),
+        Deed::RemoveDir => PathCommand::RemoveDir(spot),
+    }))
 }
 
 /// `rename PATH PATH`.
@@ -72,7 +86,7 @@ fn look(alloc: Global, words: &mut Words) -> Result<Command, LineErr>
     let Some(word) = one(words) else {
         return Err(LineErr::BadLine);
     };
-    if word == b"/".as_slice() {
+    if is(word, b"/") {
         return Ok(Command::Named(PathCommand::LookRoot));
     }
     Ok(Command::Named(PathCommand::Look(path::read_spot(alloc, word)?)))
@@ -82,19 +96,19 @@ fn look(alloc: Global, words: &mut Words) -> Result<Command, LineErr>
 pub fn command(alloc: Global, word: &[u8], words: &mut Words) -> Result<Command, LineErr>
     ensures { Gives result (path_command_of word.now words.old) }
 {
-    if word == b"make".as_slice() {
-        Ok(Command::Named(PathCommand::Make(one_spot(alloc, words)?)))
-    } else if word == b"mkdir".as_slice() {
-        Ok(Command::Named(PathCommand::MakeDir(one_spot(alloc, words)?)))
-    } else if word == b"remove".as_slice() {
-        Ok(Command::Named(PathCommand::Remove(one_spot(alloc, words)?)))
-    } else if word == b"rmdir".as_slice() {
-        Ok(Command::Named(PathCommand::RemoveDir(one_spot(alloc, words)?)))
-    } else if word == b"rename".as_slice() {
+    if is(word, b"make") {
+        on_spot(alloc, Deed::Make, words)
+    } else if is(word, b"mkdir") {
+        on_spot(alloc, Deed::MakeDir, words)
+    } else if is(word, b"remove") {
+        on_spot(alloc, Deed::Remove, words)
+    } else if is(word, b"rmdir") {
+        on_spot(alloc, Deed::RemoveDir, words)
+    } else if is(word, b"rename") {
         rename(alloc, words)
-    } else if word == b"list".as_slice() {
+    } else if is(word, b"list") {
         list(alloc, words)
-    } else if word == b"look".as_slice() {
+    } else if is(word, b"look") {
         look(alloc, words)
     } else {
         Err(LineErr::BadLine)

@@ -9,6 +9,7 @@ ghost use Rattle.command_text.specs.Reading.{Gives};
 use crate::fields;
 use crate::line_err::LineErr;
 use crate::parts::first_part;
+use crate::words::is;
 use lb_base::items::{Items, Name};
 use limits::PATH_NAMES_MOST;
 use std::alloc::Global;
@@ -109,7 +110,7 @@ pub fn read_spot(alloc: Global, word: &[u8]) -> Result<Spot, LineErr>
 pub fn read_path(alloc: Global, word: &[u8]) -> Result<Path, LineErr>
     ensures { Gives result (path_of word.now) }
 {
-    if word == b"/".as_slice() {
+    if is(word, b"/") {
         Ok(Items::new(alloc))
     } else {
         names(alloc, word)

@@ -10,6 +10,7 @@ use crate::content::{Content, Part};
 use crate::fields;
 use crate::line_err::LineErr;
 use crate::parts::{cut, first_part};
+use crate::words::is;
 use hex::FromHexError;
 use lb_base::items::{Bytes, Items};
 use std::alloc::Global;
@@ -123,7 +124,7 @@ fn parts(alloc: Global, word: &[u8]) -> Result<Content, LineErr>
 pub fn content(alloc: Global, word: &[u8]) -> Result<Content, LineErr>
     ensures { Gives result (content_of word.now) }
 {
-    if word == b"-".as_slice() {
+    if is(word, b"-") {
         Ok(Items::new(alloc))
     } else {
         parts(alloc, word)
