@@ -10,6 +10,7 @@ use limits::AUTH_MOST;
 use std::alloc::{AllocError, Global};
 use xdr_codec::fault::{Fault, ReadError};
 use xdr_codec::item::Item;
+use xdr_codec::read_as;
 use xdr_codec::reader::Reader;
 use xdr_codec::writer::Writer;
 
@@ -224,9 +225,7 @@ impl Item for CallHead {
     }
 
     fn write(&self, writer: &mut Writer) -> Result<(), AllocError> {
-        writer.u32(self.program)?;
-        writer.u32(self.version)?;
-        writer.u32(self.procedure)?;
+        (self.program, (self.version, self.procedure)).write(writer)?;
         self.cred.write(writer)?;
         self.verf.write(writer)
     }
@@ -263,7 +262,7 @@ impl Item for Accept {
         match reader.u32()? {
             0 => Ok(Accept::Success),
             1 => Ok(Accept::ProgUnavail),
-            2 => Ok(Accept::ProgMismatch(Versions::read(alloc, reader)?)),
+            2 => read_as!(Accept::ProgMismatch, Versions::read(alloc, reader)),
             3 => Ok(Accept::ProcUnavail),
             4 => Ok(Accept::GarbageArgs),
             5 => Ok(Accept::SystemErr),
@@ -275,10 +274,7 @@ impl Item for Accept {
         match self {
             Accept::Success => writer.u32(0),
             Accept::ProgUnavail => writer.u32(1),
-            Accept::ProgMismatch(versions) => {
-                writer.u32(2)?;
-                versions.write(writer)
-            }
+            Accept::ProgMismatch(versions) => (2u32, *versions).write(writer),
             Accept::ProcUnavail => writer.u32(3),
             Accept::GarbageArgs => writer.u32(4),
             Accept::SystemErr => writer.u32(5),
@@ -297,22 +293,16 @@ impl Item for Denial {
     fn read(alloc: Global, reader: &mut Reader) -> Result<Denial, ReadError> {
         let at = reader.at();
         match reader.u32()? {
-            0 => Ok(Denial::RpcMismatch(Versions::read(alloc, reader)?)),
-            1 => Ok(Denial::AuthError(reader.u32()?)),
+            0 => read_as!(Denial::RpcMismatch, Versions::read(alloc, reader)),
+            1 => read_as!(Denial::AuthError, reader.u32()),
             value => Err(ReadError::Fault(Fault::BadValue { at, value })),
         }
     }
 
     fn write(&self, writer: &mut Writer) -> Result<(), AllocError> {
         match self {
-            Denial::RpcMismatch(versions) => {
-                writer.u32(0)?;
-                versions.write(writer)
-            }
-            Denial::AuthError(why) => {
-                writer.u32(1)?;
-                writer.u32(*why)
-            }
+            Denial::RpcMismatch(versions) => (0u32, *versions).write(writer),
+            Denial::AuthError(why) => (1u32, *why).write(writer),
         }
     }
 }
@@ -342,7 +332,7 @@ impl Item for ReplyHead {
                 let accept = Accept::read(alloc, reader)?;
                 Ok(ReplyHead::Accepted(verf, accept))
             }
-            1 => Ok(ReplyHead::Denied(Denial::read(alloc, reader)?)),
+            1 => read_as!(ReplyHead::Denied, Denial::read(alloc, reader)),
             value => Err(ReadError::Fault(Fault::BadValue { at, value })),
         }
     }
@@ -353,10 +343,7 @@ impl Item for ReplyHead {
                 writer.u32(0)?;
                 write_accepted(writer, verf, accept)
             }
-            ReplyHead::Denied(denial) => {
-                writer.u32(1)?;
-                denial.write(writer)
-            }
+            ReplyHead::Denied(denial) => (1u32, *denial).write(writer),
         }
     }
 }

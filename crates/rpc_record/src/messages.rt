@@ -100,9 +100,7 @@ fn write_call(call: &Call, writer: &mut Writer) -> Result<(), AllocError>
     ensures spelled { OnOk result (writer.new ≡ writer.old ++ call_spell call.now) }
     ensures fits { OnOk result (length call.now.head.cred.body ≤ AUTH_MOST → length call.now.head.verf.body ≤ AUTH_MOST → CallFits call.now) }
 {
-    writer.u32(call.xid)?;
-    writer.u32(CALL)?;
-    writer.u32(call.rpcvers)?;
+    (call.xid, (CALL, call.rpcvers)).write(writer)?;
     call.head.write(writer)
 }
 
@@ -111,8 +109,7 @@ fn write_reply(reply: &Reply, writer: &mut Writer) -> Result<(), AllocError>
     ensures spelled { OnOk result (writer.new ≡ writer.old ++ reply_spell reply.now) }
     ensures fits { OnOk result (short_reply reply.now.head → ReplyFits reply.now) }
 {
-    writer.u32(reply.xid)?;
-    writer.u32(REPLY)?;
+    (reply.xid, REPLY).write(writer)?;
     reply.head.write(writer)
 }
 
