@@ -134,9 +134,7 @@ impl Item for Piece {
     }
 
     fn write(&self, writer: &mut Writer) -> Result<(), AllocError> {
-        self.attr.write(writer)?;
-        writer.u32(self.count)?;
-        writer.bool(self.eof)?;
+        (self.attr, (self.count, self.eof)).write(writer)?;
         writer.opaque(self.bytes.as_slice())
     }
 }

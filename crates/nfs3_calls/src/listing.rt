@@ -124,8 +124,7 @@ impl Item for Listing {
     }
 
     fn write(&self, writer: &mut Writer) -> Result<(), AllocError> {
-        self.attr.write(writer)?;
-        writer.u64(self.verifier)?;
+        (self.attr, self.verifier).write(writer)?;
         write_chain(writer, self.entries.as_slice())?;
         writer.bool(self.eof)
     }

@@ -10,6 +10,7 @@ use xdr_codec::attr::{Attr, Time};
 use xdr_codec::fault::{Fault, ReadError};
 use xdr_codec::handle::Handle;
 use xdr_codec::item::Item;
+use xdr_codec::read_as;
 use xdr_codec::reader::Reader;
 use xdr_codec::writer::Writer;
 
@@ -98,7 +99,7 @@ impl Item for SetTime {
         match reader.u32()? {
             0 => Ok(SetTime::Keep),
             1 => Ok(SetTime::Server),
-            2 => Ok(SetTime::Client(Time::read(alloc, reader)?)),
+            2 => read_as!(SetTime::Client, Time::read(alloc, reader)),
             value => Err(ReadError::Fault(Fault::BadValue { at, value })),
         }
     }
@@ -107,10 +108,7 @@ impl Item for SetTime {
         match self {
             SetTime::Keep => writer.u32(0),
             SetTime::Server => writer.u32(1),
-            SetTime::Client(time) => {
-                writer.u32(2)?;
-                time.write(writer)
-            }
+            SetTime::Client(time) => (2u32, *time).write(writer),
         }
     }
 }
@@ -152,27 +150,18 @@ impl Item for HowMade {
     fn read(alloc: Global, reader: &mut Reader) -> Result<HowMade, ReadError> {
         let at = reader.at();
         match reader.u32()? {
-            0 => Ok(HowMade::Unchecked(SetAttr::read(alloc, reader)?)),
-            1 => Ok(HowMade::Guarded(SetAttr::read(alloc, reader)?)),
-            2 => Ok(HowMade::Exclusive(reader.u64()?)),
+            0 => read_as!(HowMade::Unchecked, SetAttr::read(alloc, reader)),
+            1 => read_as!(HowMade::Guarded, SetAttr::read(alloc, reader)),
+            2 => read_as!(HowMade::Exclusive, reader.u64()),
             value => Err(ReadError::Fault(Fault::BadValue { at, value })),
         }
     }
 
     fn write(&self, writer: &mut Writer) -> Result<(), AllocError> {
         match self {
-            HowMade::Unchecked(attr) => {
-                writer.u32(0)?;
-                attr.write(writer)
-            }
-            HowMade::Guarded(attr) => {
-                writer.u32(1)?;
-                attr.write(writer)
-            }
-            HowMade::Exclusive(verifier) => {
-                writer.u32(2)?;
-                writer.u64(*verifier)
-            }
+            HowMade::Unchecked(attr) => (0u32, *attr).write(writer),
+            HowMade::Guarded(attr) => (1u32, *attr).write(writer),
+            HowMade::Exclusive(verifier) => (2u32, *verifier).write(writer),
         }
     }
 }

@@ -142,15 +142,12 @@ pub enum Nfs {
 impl Drop for Nfs {
     fn drop(self) {
         match self {
-            Nfs::Null | Nfs::NullAnswer => (),
-            Nfs::GetAttr(handle) | Nfs::FsInfo(handle) => drop(handle),
+            Nfs::Null | Nfs::NullAnswer | Nfs::GetAttr(_) | Nfs::FsInfo(_) => (),
+            Nfs::Access(_) | Nfs::Read(_) | Nfs::ReadDir(_) => (),
             Nfs::Lookup(place) | Nfs::Remove(place) | Nfs::RmDir(place) => drop(place),
-            Nfs::Access(access) => drop(access),
-            Nfs::Read(range) => drop(range),
             Nfs::Create(file) => drop(file),
             Nfs::MkDir(dir) => drop(dir),
             Nfs::Rename(rename) => drop(rename),
-            Nfs::ReadDir(range) => drop(range),
             Nfs::ReadAnswer(answer) => drop(answer),
             Nfs::CreateAnswer(answer) | Nfs::MkDirAnswer(answer) => drop(answer),
             Nfs::ReadDirAnswer(answer) => drop(answer),

@@ -14,6 +14,7 @@ use xdr_codec::fault::ReadError;
 use xdr_codec::handle::Handle;
 use xdr_codec::item::Item;
 use xdr_codec::program::ProgramBody;
+use xdr_codec::read_as;
 use xdr_codec::reader::Reader;
 use xdr_codec::writer::Writer;
 
@@ -57,17 +58,17 @@ impl ProgramBody for Nfs {
     ) -> Result<Nfs, ReadError> {
         match procedure {
             NfsProc::Null => Ok(Nfs::Null),
-            NfsProc::GetAttr => Ok(Nfs::GetAttr(Handle::read(alloc, reader)?)),
-            NfsProc::Lookup => Ok(Nfs::Lookup(Place::read(alloc, reader)?)),
-            NfsProc::Access => Ok(Nfs::Access(Access::read(alloc, reader)?)),
-            NfsProc::Read => Ok(Nfs::Read(Range::read(alloc, reader)?)),
-            NfsProc::Create => Ok(Nfs::Create(NewFile::read(alloc, reader)?)),
-            NfsProc::MkDir => Ok(Nfs::MkDir(NewDir::read(alloc, reader)?)),
-            NfsProc::Remove => Ok(Nfs::Remove(Place::read(alloc, reader)?)),
-            NfsProc::RmDir => Ok(Nfs::RmDir(Place::read(alloc, reader)?)),
-            NfsProc::Rename => Ok(Nfs::Rename(Rename::read(alloc, reader)?)),
-            NfsProc::ReadDir => Ok(Nfs::ReadDir(ListRange::read(alloc, reader)?)),
-            NfsProc::FsInfo => Ok(Nfs::FsInfo(Handle::read(alloc, reader)?)),
+            NfsProc::GetAttr => read_as!(Nfs::GetAttr, Handle::read(alloc, reader)),
+            NfsProc::Lookup => read_as!(Nfs::Lookup, Place::read(alloc, reader)),
+            NfsProc::Access => read_as!(Nfs::Access, Access::read(alloc, reader)),
+            NfsProc::Read => read_as!(Nfs::Read, Range::read(alloc, reader)),
+            NfsProc::Create => read_as!(Nfs::Create, NewFile::read(alloc, reader)),
+            NfsProc::MkDir => read_as!(Nfs::MkDir, NewDir::read(alloc, reader)),
+            NfsProc::Remove => read_as!(Nfs::Remove, Place::read(alloc, reader)),
+            NfsProc::RmDir => read_as!(Nfs::RmDir, Place::read(alloc, reader)),
+            NfsProc::Rename => read_as!(Nfs::Rename, Rename::read(alloc, reader)),
+            NfsProc::ReadDir => read_as!(Nfs::ReadDir, ListRange::read(alloc, reader)),
+            NfsProc::FsInfo => read_as!(Nfs::FsInfo, Handle::read(alloc, reader)),
         }
     }
 
@@ -78,17 +79,17 @@ impl ProgramBody for Nfs {
     ) -> Result<Nfs, ReadError> {
         match procedure {
             NfsProc::Null => Ok(Nfs::NullAnswer),
-            NfsProc::GetAttr => Ok(Nfs::GetAttrAnswer(Answer::read(alloc, reader)?)),
-            NfsProc::Lookup => Ok(Nfs::LookupAnswer(Answer::read(alloc, reader)?)),
-            NfsProc::Access => Ok(Nfs::AccessAnswer(Answer::read(alloc, reader)?)),
-            NfsProc::Read => Ok(Nfs::ReadAnswer(Answer::read(alloc, reader)?)),
-            NfsProc::Create => Ok(Nfs::CreateAnswer(Answer::read(alloc, reader)?)),
-            NfsProc::MkDir => Ok(Nfs::MkDirAnswer(Answer::read(alloc, reader)?)),
-            NfsProc::Remove => Ok(Nfs::RemoveAnswer(Answer::read(alloc, reader)?)),
-            NfsProc::RmDir => Ok(Nfs::RmDirAnswer(Answer::read(alloc, reader)?)),
-            NfsProc::Rename => Ok(Nfs::RenameAnswer(Answer::read(alloc, reader)?)),
-            NfsProc::ReadDir => Ok(Nfs::ReadDirAnswer(Answer::read(alloc, reader)?)),
-            NfsProc::FsInfo => Ok(Nfs::FsInfoAnswer(Answer::read(alloc, reader)?)),
+            NfsProc::GetAttr => read_as!(Nfs::GetAttrAnswer, Answer::read(alloc, reader)),
+            NfsProc::Lookup => read_as!(Nfs::LookupAnswer, Answer::read(alloc, reader)),
+            NfsProc::Access => read_as!(Nfs::AccessAnswer, Answer::read(alloc, reader)),
+            NfsProc::Read => read_as!(Nfs::ReadAnswer, Answer::read(alloc, reader)),
+            NfsProc::Create => read_as!(Nfs::CreateAnswer, Answer::read(alloc, reader)),
+            NfsProc::MkDir => read_as!(Nfs::MkDirAnswer, Answer::read(alloc, reader)),
+            NfsProc::Remove => read_as!(Nfs::RemoveAnswer, Answer::read(alloc, reader)),
+            NfsProc::RmDir => read_as!(Nfs::RmDirAnswer, Answer::read(alloc, reader)),
+            NfsProc::Rename => read_as!(Nfs::RenameAnswer, Answer::read(alloc, reader)),
+            NfsProc::ReadDir => read_as!(Nfs::ReadDirAnswer, Answer::read(alloc, reader)),
+            NfsProc::FsInfo => read_as!(Nfs::FsInfoAnswer, Answer::read(alloc, reader)),
         }
     }
 
