@@ -125,7 +125,7 @@ impl Drop for Body {
         match self {
             Body::Nfs(message) => drop(message),
             Body::Lb(message) => drop(message),
-            Body::Back(message) => drop(message),
+            Body::Back(_) => (),
         }
     }
 }

@@ -18,6 +18,7 @@ use std::alloc::Global;
 use xdr_codec::fault::ReadError;
 use xdr_codec::item::Item;
 use xdr_codec::program::{read_args, read_results};
+use xdr_codec::read_as;
 use xdr_codec::reader::Reader;
 
 /// The message that a record is, where these calls may come and these answers are waited for.
@@ -144,9 +145,9 @@ fn read_call(alloc: Global, program: Program, reader: &mut Reader) -> Result<Bod
     ensures { GivesAll result (whole_at reader.old.at (args_of program) reader.old.rest) }
 {
     match program {
-        Program::Nfs(procedure) => Ok(Body::Nfs(read_args(alloc, procedure, reader)?)),
-        Program::Lb(procedure) => Ok(Body::Lb(read_args(alloc, procedure, reader)?)),
-        Program::Back(procedure) => Ok(Body::Back(read_args(alloc, procedure, reader)?)),
+        Program::Nfs(procedure) => read_as!(Body::Nfs, read_args(alloc, procedure, reader)),
+        Program::Lb(procedure) => read_as!(Body::Lb, read_args(alloc, procedure, reader)),
+        Program::Back(procedure) => read_as!(Body::Back, read_args(alloc, procedure, reader)),
     }
 }
 
@@ -154,9 +155,9 @@ fn read_result(alloc: Global, program: Program, reader: &mut Reader) -> Result<B
     ensures { GivesAll result (whole_at reader.old.at (result_of program) reader.old.rest) }
 {
     match program {
-        Program::Nfs(procedure) => Ok(Body::Nfs(read_results(alloc, procedure, reader)?)),
-        Program::Lb(procedure) => Ok(Body::Lb(read_results(alloc, procedure, reader)?)),
-        Program::Back(procedure) => Ok(Body::Back(read_results(alloc, procedure, reader)?)),
+        Program::Nfs(procedure) => read_as!(Body::Nfs, read_results(alloc, procedure, reader)),
+        Program::Lb(procedure) => read_as!(Body::Lb, read_results(alloc, procedure, reader)),
+        Program::Back(procedure) => read_as!(Body::Back, read_results(alloc, procedure, reader)),
     }
 }
 
