@@ -32,7 +32,7 @@ use Rattle.wire.specs.declared.message.Message.TheVariants as message
 use Rattle.wire.specs.declared.message.Body.TheVariants as body
 use Rattle.wire.specs.declared.message.Program.TheVariants as program
 use Rattle.kept_promise.proofs.WalkReplies.{walk_reply, reply_told, reply_its, called_walk}
-use Rattle.server_steps.specs.declared.event.Sent.{Sent}
+use Rattle.server_core.specs.declared.event.Sent.{Sent}
 use Rattle.kept_promise.proofs.Rights.{WasThere}
 use Rattle.kept_promise.proofs.Gone.{IsStill, IsNone, still_or_none, close_gone}
 use Rattle.kept_promise.proofs.OrderSteps.{up_untold}

@@ -4,7 +4,7 @@ use Rattle.xdr_codec.specs.declared.status.Status.TheVariants as status
 use Rattle.hash_calls.specs.declared.message.Lb.TheVariants as lb
 use Rattle.server_core.specs.State as server
 use Rattle.server_core.specs.Closing.{answers, changes_most, tree_most}
-use Rattle.server_steps.specs.Steps.{sends}
+use Rattle.server_core.specs.Steps.{sends}
 use Rattle.temp_files.specs.Pieces.{joined}
 use Rattle.client_state.specs.State as client
 use Rattle.client_state.specs.declared.task.Stage.TheVariants as stage

@@ -67,7 +67,7 @@ pub use Rattle.server_core.specs.Closing.{is_full, makes_change, at, makes, make
 pub use Rattle.chunk_calls.specs.Writing.{cond_fault, bytes_known, bytes_found}
 pub use Rattle.server_core.specs.Step.{server_step, stands, connect, has_room, got_if, called}
 pub use Rattle.server_core.specs.declared.change.Change.{Change}
-pub use Rattle.server_steps.specs.declared.event.ServerStep.{ServerStep}
+pub use Rattle.server_core.specs.declared.event.ServerStep.{ServerStep}
 pub use Rattle.server_core.specs.declared.change.Wanted.{Wanted}
 pub use Rattle.chunk_calls.specs.Files.{File}
 pub use Rattle.server_core.specs.declared.journal.Entry.{Entry}

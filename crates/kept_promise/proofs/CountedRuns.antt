@@ -2,7 +2,7 @@
 use Rattle.std.proofs.Common.{inl, inr, ◌≡◌, ℕ, ◌+◌, List, [], ◌∷◌, ◌++◌, Option, Some, None, Result, Ok, Err, Bool, true, false, refl, sym, ap, ◌∙◌, subst, arith}
 use Rattle.std.proofs.lemmas.List.{flat_map_more}
 use Rattle.server_core.specs.State as server
-use Rattle.server_steps.specs.declared.event.Event.TheVariants as event
+use Rattle.server_core.specs.declared.event.Event.TheVariants as event
 use Rattle.server_rules.specs.declared.told.Told.{Told}
 use Rattle.server_rules.specs.declared.told.Told.TheVariants as told
 use Rattle.client_state.specs.State as client

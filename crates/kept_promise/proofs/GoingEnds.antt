@@ -28,8 +28,8 @@ use Rattle.server_core.specs.Closing as closing
 use Rattle.server_core.specs.Closing.{entered_by, entries_by, entry_by as written_by, count_of}
 use Rattle.server_core.specs.declared.change.Wanted.{Wanted}
 use Rattle.server_core.specs.declared.change.Wanted.TheVariants as wanted
-use Rattle.server_steps.specs.declared.event.Sent.{Sent}
-use Rattle.server_steps.specs.declared.event.ServerStep.{ServerStep}
+use Rattle.server_core.specs.declared.event.Sent.{Sent}
+use Rattle.server_core.specs.declared.event.ServerStep.{ServerStep}
 use Rattle.client_state.specs.declared.task.Stage.TheVariants as stage
 use Rattle.register_model.specs.Register.{IsFit}
 use Rattle.register_model.specs.declared.op.Outcome.TheVariants as told

@@ -14,7 +14,7 @@ use Rattle.server_core.specs.State as server
 use Rattle.server_core.specs.Closing.{count_of, entries_by}
 use Rattle.server_core.specs.Step.{asks_tree}
 use Rattle.server_core.specs.declared.change.Wanted.TheVariants as wanted
-use Rattle.server_steps.specs.declared.event.ServerStep.{ServerStep}
+use Rattle.server_core.specs.declared.event.ServerStep.{ServerStep}
 use Rattle.server_core.specs.declared.journal.Entry.{Entry}
 use Rattle.trace_ends.specs.Core.{newest_entries, server_got, changed_file}
 use Rattle.trace_ops.specs.Ops.{pointed_at}

@@ -3,7 +3,7 @@ use Rattle.std.proofs.Common.{inl, inr, ◌≡◌, ℕ, zero, suc, ◌+◌, ◌�
 use Rattle.server_core.specs.State as server
 use Rattle.chunk_calls.specs.Files as the_files
 use Rattle.server_core.specs.Step.{hangs, hangs_if}
-use Rattle.server_steps.specs.declared.event.Event.TheVariants as event
+use Rattle.server_core.specs.declared.event.Event.TheVariants as event
 use Rattle.client_state.specs.State as client
 use Rattle.trace_ends.specs.Core.{hangs_if as core_hangs_if, hangs as core_hangs}
 use Rattle.kept_promise.proofs.Common.{slice_get, not, cond, ◌==◌, filter, list_any, stands, server_step, Change, Op, Core, Seat, Session, quiet, numbered, with_numbered, Book, Ask, Queue, version_at}

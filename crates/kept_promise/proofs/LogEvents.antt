@@ -11,7 +11,7 @@ use Rattle.path_calls.specs.declared.walk.Walk.{Walk}
 use Rattle.open_close.specs.Walking.{asks_next, outcome_of, is_look, seen_in}
 use Rattle.client_state.specs.Ending.{forgets as forgets_of}
 use Rattle.server_core.specs.State as server
-use Rattle.server_steps.specs.declared.event.Event.TheVariants as event
+use Rattle.server_core.specs.declared.event.Event.TheVariants as event
 use Rattle.server_rules.specs.declared.told.Told.{Told as Announced}
 use Rattle.server_rules.specs.declared.told.Told.TheVariants as announced
 use Rattle.file_close.specs.Closing.{make_call}

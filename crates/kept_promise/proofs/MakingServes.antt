@@ -25,7 +25,7 @@ use Rattle.path_calls.specs.declared.walk.Goal.TheVariants as goal
 use Rattle.path_calls.specs.declared.walk.Walk.{Walk}
 use Rattle.server_core.specs.State as server
 use Rattle.chunk_calls.specs.Files as the_files
-use Rattle.server_steps.specs.declared.event.Sent.{Sent}
+use Rattle.server_core.specs.declared.event.Sent.{Sent}
 use Rattle.client_state.specs.State as client
 use Rattle.server_core.specs.Closing.{entries_by, entry_by as written_by}
 use Rattle.client_state.specs.declared.task.Stage.TheVariants as stage

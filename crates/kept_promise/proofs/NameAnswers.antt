@@ -10,12 +10,12 @@ use Rattle.chunk_index.specs.Index.{key_of as digest_key, place_of}
 use Rattle.server_core.specs.State as server
 use Rattle.temp_files.specs.Pieces.{overlaps}
 use Rattle.server_core.specs.Closing.{answers, looked_up, settles as server_settles}
-use Rattle.server_steps.specs.Steps.{sends}
+use Rattle.server_core.specs.Steps.{sends}
 use Rattle.chunk_calls.specs.Writing.{cond_most}
-use Rattle.server_steps.specs.declared.event.Sent.{Sent}
+use Rattle.server_core.specs.declared.event.Sent.{Sent}
 use Rattle.server_rules.specs.declared.told.Told.{Told as Announced}
 use Rattle.server_rules.specs.declared.told.Told.TheVariants as announced
-use Rattle.server_steps.specs.declared.event.Event.TheVariants as event
+use Rattle.server_core.specs.declared.event.Event.TheVariants as event
 use Rattle.trace_replay.specs.Saving.{name_call, name_told, name_answer}
 use Rattle.kept_promise.proofs.Common.{nat_lt, if◌then◌else◌, ◌==◌, ◌||◌, list_any, Contains, Contains-push_cases, Contains-append_cases, Answer, Done, Failed, Status, Body, Message, WireFault, parse_of, Temp, size_most, temp_at, room_fault, piece_fault, assembled, without_temp, Node, directory, file, node_of, File, Change, server_step, called, got_if, stands, at, makes, makes_unless, makes_change, names, names_unless, names_bytes, bytes_known, cond_fault, writes_unless, commits, commits_to, commits_whole, has_waiting, is_full, Core, Seat, Session, Event, Event.Joins, Event.Does, Event.Serves, Event.Hears, Event.Settles, Event.Cuts, Event.Hangs, CoreStep, numbered, server_waiting, is_newest, serves_if, serves, does, joins_as, joins, hears, hears_at, hears_if, cuts_if, cuts, hangs_if, hangs, happens, Wanted, Tree}
 use Rattle.kept_promise.proofs.Lists.{nothing_there}

@@ -2,7 +2,7 @@
 use Rattle.std.proofs.Common.{◌⊎◌, inl, inr, ◌≡◌, ℕ, ◌+◌, List, [], ◌∷◌, ◌++◌, length, Option, Some, None, Ok, Bool, true, false, refl, sym, ap, ◌∙◌, subst}
 use Rattle.path_calls.specs.declared.walk.Walk.{Walk}
 use Rattle.server_core.specs.State as server
-use Rattle.server_steps.specs.declared.event.Event.TheVariants as event
+use Rattle.server_core.specs.declared.event.Event.TheVariants as event
 use Rattle.server_rules.specs.declared.told.Told.{Told as Announced}
 use Rattle.server_rules.specs.declared.told.Told.TheVariants as announced
 use Rattle.client_state.specs.State as client

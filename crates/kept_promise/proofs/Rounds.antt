@@ -3,7 +3,7 @@ use Rattle.std.proofs.Common.{◌≡◌, ℕ, zero, suc, List, [], ◌∷◌, �
 use Rattle.trace_ends.specs.Core.{Loss.Made}
 use Rattle.trace_sessions.specs.Queue.{is_none}
 use Rattle.trace_replay.specs.Delivery.{down_all}
-use Rattle.server_steps.specs.declared.event.Sent.{Sent}
+use Rattle.server_core.specs.declared.event.Sent.{Sent}
 use Rattle.kept_promise.proofs.Common.{◌&&◌, slice_get, take_all, Fed, Refusal, Unread, Parts, nothing_read, fed, Message, Session, Event, Event.Serves, Event.Hears, CoreStep, Loss, Loss.Nothing, Loss.Down_of, Loss.Up_of, numbered, happens, World, Wire, new_wire, up_put, down_lost, up_lost, lost_by, routed, happened, all_happened, up_some, down_some, is_still_at, is_still, up_length, down_length, up_all, round, passes, rounds}
 use Rattle.kept_promise.proofs.Places.{at_place, becomes, there_is}
 use Rattle.kept_promise.proofs.Deliveries.{all_become, set_up, set_down, downs, downs_in, ups, ups_in, down_is, up_is, wired, up_events_of, down_events_of, up_none, down_none, end_twice}

@@ -10,13 +10,13 @@ use Rattle.wire.specs.declared.message.Body.TheVariants as body
 use Rattle.wire.specs.declared.message.Message.{Message}
 use Rattle.wire.specs.declared.message.Message.TheVariants as message
 use Rattle.server_core.specs.State as server
-use Rattle.server_steps.specs.declared.event.Event.TheVariants as event
-use Rattle.server_steps.specs.declared.event.ServerStep.{ServerStep}
+use Rattle.server_core.specs.declared.event.Event.TheVariants as event
+use Rattle.server_core.specs.declared.event.ServerStep.{ServerStep}
 use Rattle.server_core.specs.declared.journal.Entry.{Entry}
 use Rattle.server_core.specs.declared.change.Wanted.TheVariants as wanted
 use Rattle.chunk_calls.specs.Answers.{Node, directory, file, node_of}
 use Rattle.server_core.specs.Closing.{answers, looked_up as index_found}
-use Rattle.server_steps.specs.Steps.{sends}
+use Rattle.server_core.specs.Steps.{sends}
 use Rattle.temp_files.specs.Temps.{without_temp}
 use Rattle.trace_ends.specs.Core.{newest_entries, server_got, changed_file}
 use Rattle.trace_ops.specs.Ops.{pointed_at}

@@ -2,7 +2,7 @@
 use Rattle.std.proofs.Common.{◌≡◌, ℕ, ◌+◌, List, [], ◌∷◌, ◌++◌, Option, Some, None, Bool, true, false, refl, sym, ap, ◌∙◌, arith, Result, Ok, Err}
 use Rattle.trace_replay.specs.Trail.{AreCounted, steps_by, step_if, is_heard, can_hang}
 use Rattle.server_core.specs.State as server
-use Rattle.server_steps.specs.declared.event.Event.TheVariants as event
+use Rattle.server_core.specs.declared.event.Event.TheVariants as event
 use Rattle.server_rules.specs.declared.told.Told.{Told}
 use Rattle.server_rules.specs.declared.told.Told.TheVariants as told
 use Rattle.kept_promise.proofs.Common.{Opening, Core, Seat, Session, Event, Event.Joins, Event.Does, Event.Serves, Event.Hears, Event.Settles, Event.Cuts, Event.Hangs, numbered, joins, joins_as, does, serves, serves_if, hears, hears_at, hears_if, is_newest, cuts, cuts_if, hangs, hangs_if, server_waiting, happens, Moment, moments, owner_in, Queue, World, run, parse_of, WireFault, Message, not, server_step}

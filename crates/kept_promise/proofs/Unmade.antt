@@ -15,7 +15,7 @@ use Rattle.server_core.specs.State as server
 use Rattle.chunk_calls.specs.Files as the_files
 use Rattle.server_core.specs.Closing as closing
 use Rattle.server_core.specs.declared.change.Wanted.TheVariants as wanted
-use Rattle.server_steps.specs.declared.event.ServerStep.{ServerStep}
+use Rattle.server_core.specs.declared.event.ServerStep.{ServerStep}
 use Rattle.server_rules.specs.declared.told.Told.TheVariants as announced
 use Rattle.client_state.specs.State as client
 use Rattle.client_state.specs.declared.task.Stage.TheVariants as stage

@@ -5,7 +5,7 @@ use Rattle.wire.specs.declared.message.Message.TheVariants as message
 use Rattle.server_core.specs.Closing.{at as at_reading}
 use Rattle.server_core.specs.State as server
 use Rattle.server_core.specs.declared.change.Wanted.TheVariants as wanted
-use Rattle.server_steps.specs.declared.event.Event.TheVariants as event
+use Rattle.server_core.specs.declared.event.Event.TheVariants as event
 use Rattle.server_rules.specs.declared.told.Told.{Told as Announced}
 use Rattle.server_rules.specs.declared.told.Told.TheVariants as announced
 use Rattle.client_state.specs.State as client

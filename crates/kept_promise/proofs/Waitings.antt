@@ -3,7 +3,7 @@ use Rattle.std.proofs.Common.{inl, inr, ◌≡◌, ℕ, ◌+◌, ◌<◌, ◌≤
 use Rattle.tree_reading.specs.Tree.{contents_size}
 use Rattle.server_core.specs.State as server
 use Rattle.chunk_calls.specs.Files as the_files
-use Rattle.server_steps.specs.Steps.{sends}
+use Rattle.server_core.specs.Steps.{sends}
 use Rattle.client_state.specs.State as client
 use Rattle.kept_promise.proofs.Common.{slice_get, cond, ◌==◌, at, Temp, Change, TakenCall, Core, Session, numbered, with_numbered, hashed_of, Book, Call, Call.Lease, Call.Hash, Call.Read, Call.Make, Call.Name, Call.Send, Call.Walks, Call.Commit, Ask, Queue}
 use Rattle.kept_promise.proofs.Lists.{some_is, nothing_there, same_or_not, of_appended, count_more, false_and_true}

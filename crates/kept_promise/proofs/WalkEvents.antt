@@ -8,7 +8,7 @@ use Rattle.trace_replay.specs.declared.opening.TheConstants.{ROOT}
 use Rattle.trace_replay.specs.Causes.{HasNeither}
 use Rattle.trace_replay.specs.Naming.{Leads, all_names}
 use Rattle.command_text.specs.declared.path.PathCommand.TheVariants as path
-use Rattle.server_steps.specs.declared.event.Event.TheVariants as event
+use Rattle.server_core.specs.declared.event.Event.TheVariants as event
 use Rattle.client_state.specs.State as client
 use Rattle.wire.specs.declared.message.Body.TheVariants as body
 use Rattle.wire.specs.declared.message.Message.TheVariants as message

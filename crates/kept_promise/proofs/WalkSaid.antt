@@ -8,7 +8,7 @@ use Rattle.register_model.specs.declared.op.Outcome.{Outcome as History}
 use Rattle.wire.specs.declared.message.Message.TheVariants as message
 use Rattle.path_calls.specs.Walk.{begun}
 use Rattle.path_calls.specs.declared.walk.Walk.{Walk}
-use Rattle.server_steps.specs.declared.event.Event.TheVariants as event
+use Rattle.server_core.specs.declared.event.Event.TheVariants as event
 use Rattle.server_rules.specs.declared.told.Told.{Told as Announced}
 use Rattle.server_rules.specs.declared.told.Told.TheVariants as announced
 use Rattle.server_core.specs.State as server

@@ -4,9 +4,9 @@ use Rattle.std.proofs.Common.{refl, sym, ap, ◌∙◌, subst}
 use Rattle.lbfs_server.specs.Boxes.{KeepsOthers}
 use Rattle.store.specs.declared.record.Kept.{Kept}
 use Rattle.send_list.specs.Sent.{sent_list}
-use Rattle.server_steps.specs.declared.event.Event.{Event}
-use Rattle.server_steps.specs.declared.event.Sent.{Sent}
-use Rattle.server_steps.specs.declared.event.ServerStep.{ServerStep}
+use Rattle.server_core.specs.declared.event.Event.{Event}
+use Rattle.server_core.specs.declared.event.Sent.{Sent}
+use Rattle.server_core.specs.declared.event.ServerStep.{ServerStep}
 use Rattle.lbfs_server.specs.declared.held.Held.{Held}
 use Rattle.lbfs_server.specs.declared.held.Went.{Went}
 use Rattle.lbfs_server.specs.declared.held.Went.TheVariants as went

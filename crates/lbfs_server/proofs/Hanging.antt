@@ -1,8 +1,8 @@
 -- Sessions that are hung.
 use Rattle.std.specs.Prelude.{◌≡◌, ℕ, List, [], ◌∷◌, ◌++◌, true, false}
 use Rattle.std.proofs.Common.{refl, sym, ap, Bool}
-use Rattle.server_steps.specs.declared.event.Event.TheVariants as event
-use Rattle.server_steps.specs.declared.event.ServerStep.{ServerStep}
+use Rattle.server_core.specs.declared.event.Event.TheVariants as event
+use Rattle.server_core.specs.declared.event.ServerStep.{ServerStep}
 use Rattle.server_core.specs.State.{State}
 use Rattle.server_core.specs.Step.{hangs_if, stands, Misses, nothing, lacks}
 use Rattle.lbfs_server.specs.Held.{hung}

@@ -7,7 +7,7 @@ use Rattle.wire.specs.declared.fault.WireErr.TheVariants as errors
 use Rattle.wire.specs.declared.fault.WireFault.{WireFault}
 use Rattle.wire.specs.declared.fault.WireFault.TheVariants.{NotRpc, Garbage}
 use Rattle.wire.specs.declared.message.Message.{Message}
-use Rattle.server_steps.specs.declared.event.Event.TheVariants as event
+use Rattle.server_core.specs.declared.event.Event.TheVariants as event
 use Rattle.store.specs.declared.record.Kept.{Kept}
 use Rattle.lbfs_server.specs.declared.held.Held.{Held}
 use Rattle.lbfs_server.specs.declared.held.Went.{Went}

@@ -5,8 +5,8 @@ use Rattle.slab.specs.Slab.{Slab}
 use Rattle.lbfs_server.specs.declared.boxes.Outbox.{Outbox}
 use Rattle.lbfs_server.specs.Boxes.{Holds, KeepsOthers}
 use Rattle.wire.specs.declared.message.Message.{Message}
-use Rattle.server_steps.specs.declared.event.Event.TheVariants as event
-use Rattle.server_steps.specs.declared.event.ServerStep.{ServerStep}
+use Rattle.server_core.specs.declared.event.Event.TheVariants as event
+use Rattle.server_core.specs.declared.event.ServerStep.{ServerStep}
 use Rattle.server_rules.specs.declared.told.Told.TheVariants as told
 use Rattle.server_core.specs.State.{State}
 use Rattle.server_core.specs.Step.{connect, has_room, Misses, nothing, lacks}

@@ -7,7 +7,7 @@ use Rattle.slab.specs.Slab.{Slab, get}
 use Rattle.lbfs_server.specs.declared.boxes.Outbox.{Outbox}
 use Rattle.lbfs_server.specs.Boxes.{Holds, Lacks, KeepsOthers}
 use Rattle.wire.specs.declared.message.Message.{Message}
-use Rattle.server_steps.specs.declared.event.Sent.{Sent}
+use Rattle.server_core.specs.declared.event.Sent.{Sent}
 use Rattle.lbfs_server.specs.Held.{messages_to, Adds, Spares, AllLack, AllOwed}
 
 abbrev Boxes : Type 0

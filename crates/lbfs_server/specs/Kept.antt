@@ -2,8 +2,8 @@
 use Rattle.std.specs.Prelude.{◌≡◌, ℕ, ◌≤◌, List, Option, true, false}
 use Rattle.store.specs.declared.record.Kept.{Kept}
 use Rattle.file_tree.specs.Stores.{Keeps}
-use Rattle.server_steps.specs.declared.event.Event.{Event}
-use Rattle.server_steps.specs.declared.event.ServerStep.{ServerStep}
+use Rattle.server_core.specs.declared.event.Event.{Event}
+use Rattle.server_core.specs.declared.event.ServerStep.{ServerStep}
 use Rattle.server_core.specs.Served.{IsServed}
 use Rattle.server_core.specs.State.{State}
 use Rattle.server_core.specs.Step.{server_step_under, Misses}

@@ -4,7 +4,7 @@ use Rattle.std.proofs.Common.{refl}
 use Rattle.wire.specs.declared.message.Message.{Message}
 use Rattle.wire.specs.declared.message.Message.TheVariants as message
 use Rattle.wire.specs.declared.message.RpcRefusal.TheVariants as refusal
-use Rattle.server_steps.specs.declared.event.Sent.{Sent}
+use Rattle.server_core.specs.declared.event.Sent.{Sent}
 use Rattle.server_rules.specs.declared.told.Told.TheVariants as told
 use Rattle.lbfs_server.specs.declared.held.Went.TheVariants as went
 use Rattle.lbfs_server.specs.Held.{messages_to, settled_as}

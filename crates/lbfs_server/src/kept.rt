@@ -7,8 +7,8 @@ ghost use Rattle.server_core.specs.Step.{IsTimed};
 ghost use Rattle.lbfs_server.specs.Kept.{Steps, StoreKeeps};
 
 use hash_calls::call::Commit;
+use server_core::event::{Event, ServerStep};
 use server_core::server::Server;
-use server_steps::event::{Event, ServerStep};
 use shared_bytes::SharedBytes;
 use std::alloc::Global;
 use std::marker::Model;

@@ -16,7 +16,7 @@ use links::link::Link;
 use links::network::Network;
 use links::rest::Rest;
 use record_ends::end::End;
-use server_steps::event::Event;
+use server_core::event::Event;
 use std::sync::atomic::{AtomicUsize, Ordering};
 use std::sync::{Mutex, Wait};
 use std::thread;

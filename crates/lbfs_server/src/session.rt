@@ -15,7 +15,7 @@ use links::link::Link;
 use record_ends::end::End;
 use record_ends::inbox::Inbox;
 use record_ends::outgoing::put_out;
-use server_steps::event::Event;
+use server_core::event::Event;
 use std::alloc::Global;
 use std::sync::{Mutex, Wait};
 

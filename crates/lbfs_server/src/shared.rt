@@ -11,7 +11,7 @@ use crate::turns::Turns;
 use hash_calls::call::Commit;
 use hash_calls::message::Lb;
 use links::link::Link;
-use server_steps::event::Event;
+use server_core::event::Event;
 use std::alloc::Global;
 use std::sync::{Condvar, Mutex, Wait};
 use tree_nodes::content::Content;

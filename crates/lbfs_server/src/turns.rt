@@ -6,7 +6,7 @@ ghost use Rattle.server_core.specs.Step.{IsTimed};
 
 use crate::held::Went;
 use hash_calls::call::Commit;
-use server_steps::event::Event;
+use server_core::event::Event;
 use shared_bytes::SharedBytes;
 use std::alloc::Global;
 use tree_nodes::content::Content;

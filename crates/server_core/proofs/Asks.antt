@@ -32,13 +32,13 @@ use Rattle.tree_calls.specs.Waiting.{calls_under, enters, asks_remove, asks_rena
 use Rattle.tree_calls.specs.declared.asked.Done.{Done}
 use Rattle.tree_calls.specs.declared.asked.Outcome.{Outcome}
 use Rattle.tree_calls.specs.declared.asked.Outcome.TheVariants.{Answered, Waits}
-use Rattle.server_steps.specs.declared.event.ServerStep.{ServerStep}
+use Rattle.server_core.specs.declared.event.ServerStep.{ServerStep}
 use Rattle.server_core.specs.declared.journal.Entry.{Entry}
 use Rattle.server_core.specs.declared.state.ServerState.{ServerState}
 use Rattle.chunk_calls.specs.Answers.{node_with, node_found, node_named, node_of}
 use Rattle.server_core.specs.Answers.{read_answer}
 use Rattle.server_core.specs.Closing.{has_waiting, count_of, one_if}
-use Rattle.server_steps.specs.Steps.{to}
+use Rattle.server_core.specs.Steps.{to}
 use Rattle.server_core.specs.State.{State, held}
 use Rattle.server_core.specs.Served.{IsServed}
 use Rattle.server_core.specs.Step.{called_under, asks, asks_tree}

@@ -10,11 +10,11 @@ use Rattle.wire.specs.declared.message.Body.TheVariants as body
 use Rattle.wire.specs.declared.message.Message.TheVariants as message
 use Rattle.temp_files.specs.Pieces.{size_most}
 use Rattle.temp_files.specs.Temps.{Temp, Temps, temp_at, without_temp, assembled, whole_of}
-use Rattle.server_steps.specs.declared.event.ServerStep.{ServerStep}
+use Rattle.server_core.specs.declared.event.ServerStep.{ServerStep}
 use Rattle.chunk_calls.specs.Answers.{Node, directory, file, node_of, target_in}
 use Rattle.server_core.specs.Asking.{commit_target, admits}
 use Rattle.server_core.specs.Closing.{answers, has_waiting, is_full, commits_whole, commits_to, commits}
-use Rattle.server_steps.specs.Steps.{sends, to}
+use Rattle.server_core.specs.Steps.{sends, to}
 use Rattle.server_core.specs.State.{State, Change, size_wanted, waiting_size}
 use Rattle.server_core.specs.declared.change.Wanted.TheVariants as wanted
 use Rattle.temp_files.proofs.Joins.{joined_size}

@@ -15,9 +15,9 @@ use Rattle.chunk_calls.specs.Answers.{Node, directory, file, node_of, target_in}
 use Rattle.chunk_calls.specs.Calling.{Called, calls, commits, Takes, index_left, chunks_entered, LeavesPlaces}
 use Rattle.chunk_calls.specs.Entering.{IsLacking}
 use Rattle.chunk_calls.specs.Writing.{made, made_unless, wrote_unless, named_unless, named_bytes, cond_fault, bytes_known}
-use Rattle.server_steps.specs.declared.event.ServerStep.{ServerStep}
+use Rattle.server_core.specs.declared.event.ServerStep.{ServerStep}
 use Rattle.server_core.specs.Closing.{makes, makes_unless, writes_unless, names_unless, names_bytes}
-use Rattle.server_steps.specs.Steps.{to, told_if}
+use Rattle.server_core.specs.Steps.{to, told_if}
 use Rattle.server_core.specs.State.{State}
 use Rattle.server_core.specs.Step.{called, chunks_called, missed_call, TakesMemory, Lacks}
 

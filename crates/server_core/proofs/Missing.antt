@@ -9,9 +9,9 @@ use Rattle.wire.specs.declared.message.Body.{Body}
 use Rattle.wire.specs.declared.message.Body.TheVariants as body
 use Rattle.wire.specs.declared.message.Message.{Message}
 use Rattle.wire.specs.declared.message.Message.TheVariants as message
-use Rattle.server_steps.specs.declared.event.Event.{Event}
-use Rattle.server_steps.specs.declared.event.Event.TheVariants as event
-use Rattle.server_steps.specs.declared.event.ServerStep.{ServerStep}
+use Rattle.server_core.specs.declared.event.Event.{Event}
+use Rattle.server_core.specs.declared.event.Event.TheVariants as event
+use Rattle.server_core.specs.declared.event.ServerStep.{ServerStep}
 use Rattle.tree_reading.specs.Tree.{Tree}
 use Rattle.file_tree.specs.Step.{replace}
 use Rattle.tree_reading.specs.declared.call.Changed.{Changed}

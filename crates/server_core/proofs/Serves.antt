@@ -3,7 +3,7 @@ use Rattle.std.proofs.Common.{◌≡◌, refl, sym, subst, ℕ, List, Option, So
 use Rattle.file_tree.specs.Stores.{IsFault, Keeps}
 use Rattle.store.specs.declared.record.Kept.{Kept}
 use Rattle.tree_reading.specs.Tree.{Tree}
-use Rattle.server_steps.specs.declared.event.ServerStep.{ServerStep}
+use Rattle.server_core.specs.declared.event.ServerStep.{ServerStep}
 use Rattle.server_core.specs.Served.{IsServed}
 use Rattle.server_core.specs.State.{State}
 

@@ -20,8 +20,8 @@ use Rattle.wire.specs.declared.message.Message.TheVariants as message
 use Rattle.temp_files.specs.Pieces.{size_most}
 use Rattle.temp_files.specs.Temps.{Temp, with_temp, without_temp, empty_temp, room_fault, piece_fault, with_piece, assembled}
 use Rattle.chunk_calls.specs.Writing.{done_unless, cond_fault, bytes_known}
-use Rattle.server_steps.specs.declared.event.ServerStep.{ServerStep}
-use Rattle.server_steps.specs.Steps.{sends, to}
+use Rattle.server_core.specs.declared.event.ServerStep.{ServerStep}
+use Rattle.server_core.specs.Steps.{sends, to}
 use Rattle.server_rules.specs.declared.told.Told.TheVariants as told
 use Rattle.server_core.specs.declared.change.Wanted.{Wanted}
 use Rattle.server_core.specs.declared.change.Wanted.TheVariants as wanted

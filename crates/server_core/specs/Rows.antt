@@ -14,15 +14,15 @@ use Rattle.hash_calls.specs.declared.message.Lb.TheVariants as lb
 use Rattle.nfs3_calls.specs.declared.message.Nfs.TheVariants as nfs
 use Rattle.wire.specs.declared.message.Body.TheVariants as body
 use Rattle.wire.specs.declared.message.Message.TheVariants as message
-use Rattle.server_steps.specs.declared.event.Event.{Event}
-use Rattle.server_steps.specs.declared.event.Event.TheVariants as event
-use Rattle.server_steps.specs.declared.event.ServerStep.{ServerStep}
+use Rattle.server_core.specs.declared.event.Event.{Event}
+use Rattle.server_core.specs.declared.event.Event.TheVariants as event
+use Rattle.server_core.specs.declared.event.ServerStep.{ServerStep}
 use Rattle.server_rules.specs.declared.told.Told.TheVariants as told
 use Rattle.tree_nodes.specs.declared.node.Body.TheVariants.{File as Content}
 use Rattle.tree_reading.specs.declared.entry.EntryKind.TheVariants as entry
 use Rattle.tree_reading.specs.Tree.{root}
 use Rattle.chunk_calls.specs.Answers.{attr_of, hashes_of}
-use Rattle.server_steps.specs.Steps.{sends, to}
+use Rattle.server_core.specs.Steps.{sends, to}
 use Rattle.server_core.specs.State.{State, empty}
 use Rattle.chunk_calls.specs.Files.{File}
 use Rattle.server_core.specs.Step.{server_step, server_step_under, opens_with}

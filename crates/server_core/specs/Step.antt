@@ -20,9 +20,9 @@ use Rattle.chunk_index.specs.Index.{Indexed, key_of, place_of, put, cleared}
 use Rattle.chunk_index.specs.declared.place.Place.{Place}
 use Rattle.temp_files.specs.Temps.{temp_at, without_session, room_fault, piece_fault}
 use Rattle.chunk_calls.specs.Entering.{with_told, IsLacking}
-use Rattle.server_steps.specs.declared.event.Event.{Event}
-use Rattle.server_steps.specs.declared.event.Event.TheVariants as event
-use Rattle.server_steps.specs.declared.event.ServerStep.{ServerStep}
+use Rattle.server_core.specs.declared.event.Event.{Event}
+use Rattle.server_core.specs.declared.event.Event.TheVariants as event
+use Rattle.server_core.specs.declared.event.ServerStep.{ServerStep}
 use Rattle.server_rules.specs.declared.told.Told.TheVariants as told
 use Rattle.server_core.specs.declared.change.Wanted.{Wanted}
 use Rattle.server_core.specs.declared.change.Wanted.TheVariants as wanted
@@ -38,7 +38,7 @@ use Rattle.chunk_calls.specs.Answers.{Node, file, node_of, lease_answer, hash_an
 use Rattle.server_core.specs.Answers.{read_answer}
 use Rattle.server_core.specs.Asking.{CanWait}
 use Rattle.server_core.specs.Closing.{at, has_waiting, entries_by, count_of, makes, writes, names, looked_up, commits, settles_under}
-use Rattle.server_steps.specs.Steps.{sends, to}
+use Rattle.server_core.specs.Steps.{sends, to}
 use Rattle.chunk_calls.specs.Writing.{cond_fault, bytes_known}
 
 -- ---- a message

@@ -6,10 +6,10 @@ ghost use Rattle.server_core.specs.Step.{stands, hangs, hangs_if};
 ghost use Rattle.server_core.specs.View.{state_of, IsBounded};
 
 use crate::change::Change;
+use crate::event::ServerStep;
 use crate::state::{ServerState, stands};
+use crate::steps;
 use server_rules::sessions::stays;
-use server_steps::event::ServerStep;
-use server_steps::steps;
 use std::alloc::Global;
 
 /// The session no longer stands.

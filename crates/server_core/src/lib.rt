@@ -6,11 +6,13 @@
 
 pub mod change;
 mod closing;
+pub mod event;
 mod hanging;
 pub mod journal;
 mod naming;
 pub mod server;
 mod settling;
 mod state;
+pub mod steps;
 mod unkept;
 mod waiting;

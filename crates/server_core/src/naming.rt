@@ -13,12 +13,12 @@ ghost use Rattle.tree_calls.specs.Calling.{places_of_call};
 ghost use Rattle.tree_calls.specs.Waiting.{enters};
 
 use crate::change::{Change, Wanted};
+use crate::event::ServerStep;
 use crate::settling::enter_both;
 use crate::state::ServerState;
+use crate::steps::{answer, nothing, refuse};
 use crate::waiting::{has_waiting, held};
 use nfs3_calls::message::Nfs;
-use server_steps::event::ServerStep;
-use server_steps::steps::{answer, nothing, refuse};
 use std::alloc::{AllocError, Global};
 use store::store::Store;
 use tree_calls::asked::{Done, Outcome};

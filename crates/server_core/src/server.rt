@@ -10,6 +10,7 @@ ghost use Rattle.file_tree.specs.Opening.{can_open};
 ghost use Rattle.temp_files.specs.Temps.{temp_at, whole_of};
 ghost use Rattle.tree_reading.specs.Reading.{stands_for};
 
+use crate::event::{Event, ServerStep};
 use crate::journal::Entry;
 use crate::state::ServerState;
 use crate::unkept::NoStore;
@@ -18,7 +19,6 @@ use chunk_index::place::Place;
 use file_tree::tree::Tree;
 use hash_calls::call::Commit;
 use lb_base::items::Name;
-use server_steps::event::{Event, ServerStep};
 use shared_bytes::SharedBytes;
 use std::alloc::{AllocError, Global};
 use std::marker::Model;

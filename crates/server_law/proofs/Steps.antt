@@ -24,12 +24,12 @@ use Rattle.tree_calls.specs.declared.asked.Outcome.TheVariants.{Answered, Waits}
 use Rattle.tree_calls.specs.Waiting.{calls_under, commits_under as tree_commits_under, settles_under as tree_settles_under}
 use Rattle.server_core.specs.declared.change.Wanted.{Wanted}
 use Rattle.server_core.specs.declared.change.Wanted.TheVariants as wanted
-use Rattle.server_steps.specs.declared.event.Event.{Event}
-use Rattle.server_steps.specs.declared.event.Event.TheVariants as event
+use Rattle.server_core.specs.declared.event.Event.{Event}
+use Rattle.server_core.specs.declared.event.Event.TheVariants as event
 use Rattle.server_core.specs.declared.journal.Entry.{Entry}
 use Rattle.chunk_calls.specs.Answers.{Node, directory, file, node_of}
 use Rattle.server_core.specs.Closing.{answers, at, entries_by, has_waiting, is_full, makes, makes_unless, writes, writes_unless, names, names_unless, names_bytes, looked_up, commits, commits_to, commits_whole, makes_change_under, settles_under}
-use Rattle.server_steps.specs.Steps.{sends}
+use Rattle.server_core.specs.Steps.{sends}
 use Rattle.chunk_calls.specs.Writing.{cond_fault}
 use Rattle.server_core.specs.declared.change.Change.{Change}
 use Rattle.server_core.specs.State.{State, held}

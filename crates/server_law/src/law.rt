@@ -2,7 +2,7 @@
 
 ghost use Rattle.std.specs.Prelude.{◌≡◌, ℕ, [], List, Bool};
 ghost use Rattle.tree_reading.specs.Tree.{Tree};
-ghost use Rattle.server_steps.specs.declared.event.Event.{Event};
+ghost use Rattle.server_core.specs.declared.event.Event.{Event};
 ghost use Rattle.server_core.specs.State.{State};
 ghost use Rattle.server_core.specs.Step.{server_step_under};
 ghost use Rattle.server_law.specs.Facts.{Holds, IsGiven};

@@ -12,8 +12,8 @@ use Rattle.tree_reading.specs.declared.entry.EntryKind.{EntryKind}
 use Rattle.tree_reading.specs.declared.entry.EntryKind.TheVariants as kind
 use Rattle.server_core.specs.State as server
 use Rattle.server_core.specs.Step.{server_step, forges, clears_index}
-use Rattle.server_steps.specs.declared.event.Event.TheVariants as event
-use Rattle.server_steps.specs.declared.event.Sent.{Sent}
+use Rattle.server_core.specs.declared.event.Event.TheVariants as event
+use Rattle.server_core.specs.declared.event.Sent.{Sent}
 use Rattle.server_rules.specs.declared.told.Told.{Told}
 use Rattle.server_core.specs.declared.journal.Entry.{Entry}
 use Rattle.server_rules.specs.declared.told.Told.TheVariants as told

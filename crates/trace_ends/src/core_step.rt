@@ -3,12 +3,12 @@
 
 ghost use Rattle.std.specs.Prelude.{◌≡◌, [], None};
 ghost use Rattle.client_state.specs.declared.step.ClientStep.{ClientStep as Acts};
-ghost use Rattle.server_steps.specs.declared.event.ServerStep.{ServerStep as Served};
+ghost use Rattle.server_core.specs.declared.event.ServerStep.{ServerStep as Served};
 ghost use Rattle.trace_ends.specs.declared.core_step.Loss.TheVariants as losses;
 
 use client_state::step::ClientStep;
 use send_list::SendList;
-use server_steps::event::{Sent, ServerStep};
+use server_core::event::{Sent, ServerStep};
 use std::alloc::Global;
 use wire::message::Message;
 

@@ -3,15 +3,15 @@
 
 ghost use Rattle.std.specs.Prelude.{◌≡◌, ◌+◌, ◌<◌, length, slice_get, IfOk, OnOk};
 ghost use Rattle.server_core.specs.Step.{server_step};
-ghost use Rattle.server_steps.specs.declared.event.Event.TheVariants as event;
+ghost use Rattle.server_core.specs.declared.event.Event.TheVariants as event;
 ghost use Rattle.trace_ends.specs.Core.{loss_down, cut_session, cuts, happens, Event.Cuts, Event.Hangs};
 ghost use Rattle.trace_sessions.specs.Session.{session_of};
 ghost use Rattle.trace_ends.specs.View.{core_of, loss_of, core_step_of};
 
 use crate::core_step::{CoreStep, Loss};
 use crate::world_core::{Core, count_on};
+use server_core::event::{Event, let_go_step};
 use server_core::server::Server;
-use server_steps::event::{Event, let_go_step};
 use session_rules::numbers::place_of;
 use session_rules::running::running_at;
 use session_rules::session::Session;

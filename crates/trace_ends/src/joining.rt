@@ -2,16 +2,16 @@
 
 ghost use Rattle.std.specs.Prelude.{◌≡◌, IfOk, OnOk};
 ghost use Rattle.server_core.specs.Step.{server_step};
-ghost use Rattle.server_steps.specs.declared.event.Event.TheVariants as event;
+ghost use Rattle.server_core.specs.declared.event.Event.TheVariants as event;
 ghost use Rattle.server_rules.specs.declared.told.Told.TheVariants as told;
 ghost use Rattle.trace_ends.specs.Core.{happens, Event.Joins};
 ghost use Rattle.trace_ends.specs.View.{core_of, core_step_of};
 
 use crate::core_step::{CoreStep, Loss};
 use crate::world_core::{Core, count_on};
+use server_core::event::{Event, let_go_step};
 use server_core::server::Server;
 use server_rules::told::Told;
-use server_steps::event::{Event, let_go_step};
 use session_rules::numbers::place_of;
 use session_rules::session::Session;
 use std::alloc::{AllocError, Global};

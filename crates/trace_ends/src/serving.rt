@@ -10,7 +10,7 @@ use crate::core_step::CoreStep;
 use crate::entering::{changed_by, enter};
 use crate::world_core::{Core, count_on};
 use lb_base::items::Items;
-use server_steps::event::{Event, let_go, let_go_step};
+use server_core::event::{Event, let_go, let_go_step};
 use session_rules::numbers::place_of;
 use session_rules::pointing::point_at;
 use std::alloc::{AllocError, Global};

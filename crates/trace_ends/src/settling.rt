@@ -8,8 +8,8 @@ ghost use Rattle.trace_ends.specs.View.{core_of, core_step_of};
 use crate::core_step::CoreStep;
 use crate::entering::{changed_by, enter};
 use crate::world_core::{Core, count_on};
+use server_core::event::{Event, let_go_step};
 use server_rules::told::Told;
-use server_steps::event::{Event, let_go_step};
 use session_rules::pointing::settle_session;
 use std::alloc::{AllocError, Global};
 

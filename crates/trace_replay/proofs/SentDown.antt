@@ -1,6 +1,6 @@
 -- What the server sends is put on its way as a message of its session.
 use Rattle.std.proofs.Common.{◌≡◌, List, Option, Some, None, refl}
-use Rattle.server_steps.specs.declared.event.Sent.{Sent}
+use Rattle.server_core.specs.declared.event.Sent.{Sent}
 use Rattle.trace_sessions.specs.Session.{Session}
 use Rattle.trace_sessions.specs.Wires.{Wire, message_put_in}
 use Rattle.trace_replay.specs.World.{down_put_in}

@@ -2,7 +2,7 @@
 use Rattle.std.specs.Prelude.{ℕ, List, [], ◌∷◌, ◌++◌, Option, Some, None}
 use Rattle.rpc_record.specs.Records.{nothing_read}
 use Rattle.server_core.specs.State as server
-use Rattle.server_steps.specs.declared.event.Sent.{Sent}
+use Rattle.server_core.specs.declared.event.Sent.{Sent}
 use Rattle.register_model.specs.Register.{History}
 use Rattle.register_model.specs.declared.op.Opening.{Opening}
 use Rattle.trace_ends.specs.declared.adjusting.Adjustment.{Adjustment}

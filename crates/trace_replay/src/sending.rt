@@ -6,7 +6,7 @@ ghost use Rattle.trace_sessions.specs.Numbers.{numbered};
 ghost use Rattle.trace_replay.specs.World.{down_put_in, down_put};
 
 use send_list::SendList;
-use server_steps::event::Sent;
+use server_core::event::Sent;
 use session_rules::session::Session;
 use session_rules::wire::Wire;
 use std::alloc::{AllocError, Global};

@@ -6,8 +6,8 @@ use Rattle.wire.specs.declared.message.Message.{Message}
 use Rattle.wire.specs.declared.message.Message.TheVariants as message
 use Rattle.wire.specs.declared.message.RpcRefusal.TheVariants as refusal
 use Rattle.server_rules.specs.declared.told.Told.TheVariants as told
-use Rattle.server_steps.specs.declared.event.Sent.{Sent}
-use Rattle.server_steps.specs.declared.event.ServerStep.{ServerStep}
+use Rattle.server_core.specs.declared.event.Sent.{Sent}
+use Rattle.server_core.specs.declared.event.ServerStep.{ServerStep}
 
 -- these messages are sent, and nothing else is told
 abbrev pub sends : List Sent → ServerStep

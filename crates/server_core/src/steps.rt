@@ -2,7 +2,7 @@
 
 ghost use Rattle.std.specs.Prelude.{◌≡◌, [], ◌∷◌, true, false};
 ghost use Rattle.server_rules.specs.declared.told.Told.TheVariants as told;
-ghost use Rattle.server_steps.specs.Steps.{sends, to, told_if};
+ghost use Rattle.server_core.specs.Steps.{sends, to, told_if};
 ghost use Rattle.wire.specs.declared.message.Message.TheVariants as message;
 ghost use Rattle.wire.specs.declared.message.RpcRefusal.TheVariants as refusal;
 

@@ -1,4 +1,4 @@
-//! What happens to a server, and what it does then. `specs/Step.antt` of `server_core` says what it does.
+//! What happens to a server, and what it does then. `specs/Step.antt` says what it does.
 
 ghost use Rattle.std.specs.Prelude.{◌≡◌, []};
 
