@@ -7,6 +7,7 @@ pub mod Keeping
 pub mod Leased
 pub mod Listed
 pub mod Lists
+pub mod Looking
 pub mod Merged
 pub mod Messages
 pub mod Ordered

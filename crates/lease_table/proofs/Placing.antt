@@ -104,7 +104,7 @@ module _ {K V : Type 0} (R : K → K → Ordering) (total : IsTotalOrder R) (exa
 
 -- ---- the next of them
 
-next : {X : Type 0} (xs : List X) (i : ℕ) (d : X) → i < length xs → drop i xs ≡ slice_index_or xs i d ∷ drop (suc i) xs
+pub next : {X : Type 0} (xs : List X) (i : ℕ) (d : X) → i < length xs → drop i xs ≡ slice_index_or xs i d ∷ drop (suc i) xs
 next [] i d lt = absurd (omega arith)
 next (x ∷ xs) zero d lt = refl
 next (x ∷ xs) (suc i) d lt = next xs i d (omega arith)

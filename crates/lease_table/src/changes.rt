@@ -96,36 +96,6 @@ fn replace(
     leases.put((file, session), held);
 }
 
-/// Puts in a lease, where the session has none on the file, if there is room or room is made. The
-/// one error is want of memory.
-fn add_if_room(
-    leases: &mut Keyed,
-    recalls: &mut Recalls,
-    ends: &mut Ends,
-    session: u32,
-    file: u64,
-    held: Held,
-) -> Result<(), AllocError>
-    requires kept { AreKept leases.old.entries recalls.old.entries ends.old.entries }
-    requires new { held_at leases.old.entries session file ≡ None }
-    ensures ok { OnOk result (leases.new.entries ≡ insert_entry by_two leases.old.entries (file, session) held) }
-    ensures err { OnErr result (leases.new.entries ≡ leases.old.entries) }
-    ensures kept { AreKept leases.new.entries recalls.new.entries ends.new.entries }
-    ensures recalls_room { length leases.old.entries ≤ recalls.old.places → length leases.new.entries ≤ recalls.new.places }
-    ensures ends_room { length leases.old.entries ≤ ends.old.places → length leases.new.entries ≤ ends.new.places }
-    ensures len { length leases.new.entries ≤ length leases.old.entries + 1 }
-    ensures taken { leases.new.taken ≤ leases.old.taken + 1 }
-    ensures err_taken { OnErr result (leases.new.taken ≡ leases.old.taken) }
-    ensures places { leases.old.places ≤ leases.new.places }
-    ensures recalls_places { recalls.old.places ≤ recalls.new.places }
-    ensures ends_places { ends.old.places ≤ ends.new.places }
-    ensures sure { leases.old.taken < leases.old.places → length leases.old.entries < recalls.old.places → length leases.old.entries < ends.old.places → IsOk result }
-{
-    reserve(leases, recalls, ends, 1)?;
-    add(leases, recalls, ends, session, file, held);
-    Ok(())
-}
-
 /// Grants a lease, where there is room or room is made. The one error is want of memory.
 pub fn grant(
     leases: &mut Keyed,
@@ -163,7 +133,13 @@ pub fn grant(
             replace(leases, recalls, ends, session, file, old, held);
             Ok(())
         }
-        None => add_if_room(leases, recalls, ends, session, file, held),
+        None => match reserve(leases, recalls, ends, 1) {
+            Ok(()) => {
+                add(leases, recalls, ends, session, file, held);
+                Ok(())
+            }
+            Err(want) => Err(want),
+        },
     }
 }
 

@@ -121,6 +121,11 @@ where
     ensures { IfOk result (λ entries. entries.items ≡ entries_between K.cmp (Included first) (Included last) (all_of K.cmp map.now.entries spare.now.items)) }
 {
     let mut entries = held(alloc, map, first, last)?;
-    add_spared(&mut entries, spare, &first, &last)?;
-    Ok(entries)
+    match add_spared(&mut entries, spare, &first, &last) {
+        Ok(()) => Ok(entries),
+        Err(want) => {
+            drop(entries);
+            Err(want)
+        }
+    }
 }

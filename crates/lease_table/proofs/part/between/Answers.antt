@@ -12,7 +12,7 @@ add_spared-requires-clause-apart g c =
     part_apart g.K.Ord.cmp g.met.K.Ord.total c.requires.whole.exact c.args.map.now.entries c.args.spare.now.items c.requires.whole.sorted (range_contains g.K.Ord.cmp (Included c.args.first) (Included c.args.last)) _ c.in_ok-entries.ensures _ c.deref.ensures.value
     c.requires.whole.apart
 
-pub returns : goal.returns
-returns g c =
+pub returns-in-Ok : goal.returns-in-Ok
+returns-in-Ok g c =
     part_all g.K.Ord.cmp g.met.K.Ord.total c.requires.whole.exact c.args.map.now.entries c.args.spare.now.items c.requires.whole.sorted (range_contains g.K.Ord.cmp (Included c.args.first) (Included c.args.last)) _ c.in_ok-entries.ensures _ _ c.deref.ensures.value
-    c.in_ok-add_spared.ensures
+    c.in-Ok.ensures
