@@ -20,7 +20,7 @@ use Rattle.kept_promise.proofs.Locally.{Idles, other_client, other_file, its_own
 use Rattle.kept_promise.proofs.Deeds.{also_there, FromServer, IsOnNames, IsDeed, local_of, HasLocals, HasDeeds, Moved, moved_same, AllMoved, all_same, StaysBy, stays_same, stays_by, stays_named, AllStay, all_stay, deeds_moved, busy_behind}
 use Rattle.kept_promise.proofs.WalkLeaves.{IsNeither as IsNone, EndsNeither}
 use Rattle.kept_promise.proofs.Found.{op_found}
-use Rattle.trace_ops.specs.Ops.{file_with}
+use Rattle.trace_ends.specs.Ops.{file_with}
 
 -- ---- one operation of a list becomes another
 
@@ -492,12 +492,12 @@ by_place ds k c seat t acts h a (Some p) (Some x) e f m words =
         → StepLeaves ds k (slice_set k.ops p (op_after o t taken (k.steps + 1) acts)) (with_numbered k.seats c (record seat { client = t; place = place_after (Some p) acts.ended }))
     walks o at mine running under taken names opened None is none =
         let r : Op = record o { file = file_with o.file acts.found; traffic = counted o.traffic acts.counts } in
-        let r_is : op_after o t taken (k.steps + 1) acts ≡ r = ap (λ (z : Option Ended). Rattle.trace_ops.specs.Ops.op_ended r t taken (k.steps + 1) z) is in
+        let r_is : op_after o t taken (k.steps + 1) acts ≡ r = ap (λ (z : Option Ended). Rattle.trace_ends.specs.Ops.op_ended r t taken (k.steps + 1) z) is in
         subst (λ (z : Op). StepLeaves ds k (slice_set k.ops p z) (with_numbered k.seats c (record seat { client = t; place = place_after (Some p) acts.ended }))) (sym r_is)
         (walks_on ds k c p seat t acts (place_after (Some p) acts.ended) o r h a at (record { client = refl; word = refl; begin = refl; value = λ w. refl; ended = λ n b. nothing_there n (sym under ∙ b); ends = λ n. inl n }) names running running opened)
     walks o at mine running under taken names opened (Some e) is none =
         let q : Op = record o { file = file_with o.file acts.found; traffic = counted o.traffic acts.counts } in
-        let r_is : op_after o t taken (k.steps + 1) acts ≡ ended_op q t taken (k.steps + 1) e = ap (λ (z : Option Ended). Rattle.trace_ops.specs.Ops.op_ended q t taken (k.steps + 1) z) is in
+        let r_is : op_after o t taken (k.steps + 1) acts ≡ ended_op q t taken (k.steps + 1) e = ap (λ (z : Option Ended). Rattle.trace_ends.specs.Ops.op_ended q t taken (k.steps + 1) z) is in
         subst (λ (z : Op). StepLeaves ds k (slice_set k.ops p z) (with_numbered k.seats c (record seat { client = t; place = place_after (Some p) acts.ended }))) (sym r_is)
         (walk_ends ds k c p seat t acts (place_after (Some p) acts.ended) o q taken e h a at mine running under (record { client = refl; word = refl; begin = refl; value = λ w. refl; ended = λ n b. nothing_there n (sym under ∙ b); ends = λ n. inl n }) refl names opened none)
 
@@ -505,12 +505,12 @@ by_place ds k c seat t acts h a (Some p) (Some x) e f m words =
         → StepLeaves ds k (slice_set k.ops p (op_after o t taken (k.steps + 1) acts)) (with_numbered k.seats c (record seat { client = t; place = place_after (Some p) acts.ended }))
     by found o at mine running under taken None is leaves word =
         let r : Op = record o { traffic = counted o.traffic acts.counts } in
-        let r_is : op_after o t taken (k.steps + 1) acts ≡ r = op_found o t taken (k.steps + 1) acts found ∙ ap (λ (z : Option Ended). Rattle.trace_ops.specs.Ops.op_ended r t taken (k.steps + 1) z) is in
+        let r_is : op_after o t taken (k.steps + 1) acts ≡ r = op_found o t taken (k.steps + 1) acts found ∙ ap (λ (z : Option Ended). Rattle.trace_ends.specs.Ops.op_ended r t taken (k.steps + 1) z) is in
         subst (λ (z : Op). StepLeaves ds k (slice_set k.ops p z) (with_numbered k.seats c (record seat { client = t; place = place_after (Some p) acts.ended }))) (sym r_is)
         (goes_on ds k c p seat t acts (place_after (Some p) acts.ended) o r h a at (record { client = refl; word = refl; begin = refl; value = λ w. refl; ended = λ n b. (b, refl, refl, λ w. (refl, refl)); ends = λ n. inl n }) refl refl refl (subst (Leaves seat.client.opened t.opened o.file) is leaves))
     by found o at mine running under taken (Some e) is leaves word =
         let q : Op = record o { traffic = counted o.traffic acts.counts } in
-        let r_is : op_after o t taken (k.steps + 1) acts ≡ ended_op q t taken (k.steps + 1) e = op_found o t taken (k.steps + 1) acts found ∙ ap (λ (z : Option Ended). Rattle.trace_ops.specs.Ops.op_ended q t taken (k.steps + 1) z) is in
+        let r_is : op_after o t taken (k.steps + 1) acts ≡ ended_op q t taken (k.steps + 1) e = op_found o t taken (k.steps + 1) acts found ∙ ap (λ (z : Option Ended). Rattle.trace_ends.specs.Ops.op_ended q t taken (k.steps + 1) z) is in
         subst (λ (z : Op). StepLeaves ds k (slice_set k.ops p z) (with_numbered k.seats c (record seat { client = t; place = place_after (Some p) acts.ended }))) (sym r_is)
         (one_ends ds k c p seat t acts (place_after (Some p) acts.ended) o taken e h a at mine running under (subst (Leaves seat.client.opened t.opened o.file) is leaves) (subst (λ (z : Op). HasWord z.word z.outcome) r_is word) (counted o.traffic acts.counts))
 by_place ds k c seat t acts h a None (Some x) e f (inl m) words = nothing_there x (sym m.1 ∙ f)

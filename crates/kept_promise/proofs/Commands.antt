@@ -11,7 +11,7 @@ use Rattle.path_calls.specs.declared.walk.Goal.TheVariants as goal
 use Rattle.path_calls.specs.declared.walk.Walk.{Walk}
 use Rattle.client_state.specs.Ending.{may_walk}
 use Rattle.open_close.specs.Walking.{asks_next, walks, walks_if}
-use Rattle.trace_ops.specs.Commands.{path_word}
+use Rattle.trace_ends.specs.Commands.{path_word}
 use Rattle.client_state.specs.declared.step.Outcome.TheVariants as outcome
 use Rattle.client_state.specs.declared.task.Stage.TheVariants as stage
 use Rattle.client_state.proofs.Edits.{written_length, truncated_length}
@@ -178,7 +178,7 @@ begun_right more c w file value step remote now = record {
 
 -- it begins: the queue, the session and the seat are as its step leaves them
 leads_begins : (book : Book) (k : Core) (qs : List Queue) (c : ℕ) (seat : Seat) (w : Word) (file : ℕ) (value : List ℕ) (cache : Entries) (temp : ℕ) (s : Stage) (a : Ask) (acts : ClientStep) → (g : Idle book k qs c seat) → (l : Linked book k qs c seat)
-    → acts.send ≡ ask_message a ∷ [] → acts.ended ≡ None → acts.found ≡ None → Rattle.trace_ops.specs.Ops.counted (record { cond = 0; tmp = 0; read = 0; «data» = 0 }) acts.counts ≡ record { cond = 0; tmp = 0; read = 0; «data» = 0 }
+    → acts.send ≡ ask_message a ∷ [] → acts.ended ≡ None → acts.found ≡ None → Rattle.trace_ends.specs.Ops.counted (record { cond = 0; tmp = 0; read = 0; «data» = 0 }) acts.counts ≡ record { cond = 0; tmp = 0; read = 0; «data» = 0 }
     → ((closing : Option ℕ) → closing ≡ closing_with l.session.closing (length book.ops) w None → Starts book (record k { sessions = with_numbered k.sessions l.number (cleared l.session) }) qs c l.number (cleared l.session) l.queue seat (begun c w file value (k.steps + 1)) cache temp file s a closing value)
     → Answers book k qs c seat w file value (begun_client seat.client cache temp file s, acts)
 leads_begins book k qs c seat w file value cache temp s a acts g l send ended none counts starts =
@@ -213,7 +213,7 @@ leads_begins book k qs c seat w file value cache temp s a acts g l send ended no
       kept = shape more acts.ended ended op_is place one;
     }
   where
-    op_same : (u : Option ℕ) (e : Option Rattle.client_state.specs.declared.step.Ended.Ended) → u ≡ None → e ≡ None → Rattle.trace_ops.specs.Ops.op_ended (record (begun c w file value (k.steps + 1)) { file = Rattle.trace_ops.specs.Ops.file_with file u; traffic = Rattle.trace_ops.specs.Ops.counted (record { cond = 0; tmp = 0; read = 0; «data» = 0 }) acts.counts }) (begun_client seat.client cache temp file s) [] (k.steps + 1) e ≡ begun c w file value (k.steps + 1)
+    op_same : (u : Option ℕ) (e : Option Rattle.client_state.specs.declared.step.Ended.Ended) → u ≡ None → e ≡ None → Rattle.trace_ends.specs.Ops.op_ended (record (begun c w file value (k.steps + 1)) { file = Rattle.trace_ends.specs.Ops.file_with file u; traffic = Rattle.trace_ends.specs.Ops.counted (record { cond = 0; tmp = 0; read = 0; «data» = 0 }) acts.counts }) (begun_client seat.client cache temp file s) [] (k.steps + 1) e ≡ begun c w file value (k.steps + 1)
     op_same None None q e = ap (λ t. record (begun c w file value (k.steps + 1)) { traffic = t }) counts
     op_same None (Some e) q is = absurd cc
     op_same (Some i) e q is = absurd cc
@@ -511,7 +511,7 @@ idle_does book k qs c now seat (command.Read file offset count) fits g = local_o
 idle_does book k qs c now seat (command.Close file) fits g = closed_new book k qs c seat file g
 idle_does book k qs c now seat (command.Named n) fits g = subst (λ (l : List ℕ). Answers book k qs c seat (path_word n) 0 l (walks seat.client n seat.client.task)) (sym (no_value n (walks seat.client n seat.client.task).1.ended)) (walked_new book k qs c seat n fits g)
   where
-    no_value : (n : PathCommand) (e : Option Rattle.client_state.specs.declared.step.Ended.Ended) → Rattle.trace_ops.specs.Commands.value_at_begin seat.client (path_word n) 0 e ≡ []
+    no_value : (n : PathCommand) (e : Option Rattle.client_state.specs.declared.step.Ended.Ended) → Rattle.trace_ends.specs.Commands.value_at_begin seat.client (path_word n) 0 e ≡ []
     no_value (path.Find s) e = refl
     no_value (path.Look s) e = refl
     no_value path.LookRoot e = refl

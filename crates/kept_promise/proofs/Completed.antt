@@ -1,7 +1,7 @@
 -- An operation has ended where the newest session of its client is left alone: else one of its calls would be on its way, or a change wait.
 use Rattle.std.proofs.Common.{◌≡◌, ℕ, zero, suc, ◌<◌, ◌≤◌, List, [], ◌∷◌, ◌++◌, length, Option, Some, None, Bool, true, false, refl, sym, ap, ◌∙◌, subst, arith, append-nil, map, IsSome}
 use Rattle.client_state.specs.State as client
-use Rattle.trace_sessions.specs.Queue.{is_none}
+use Rattle.trace_ends.specs.Queue.{is_none}
 use Rattle.trace_replay.specs.Complete.{IsAlone, IsLeftAlone}
 use Rattle.kept_promise.proofs.Common.{slice_get, All, Unread, Came, split, fed, stream, Fed, stream_comes, Refusal, message_spell, Pending, Change, Stage, Task, Op, Seat, Session, numbered, World, Wire, is_still_at, Moment, book_of, Queue, ask_message, told_message}
 use Rattle.kept_promise.proofs.Lists.{some_is, nothing_there, both_true}

@@ -7,7 +7,7 @@ use Rattle.server_rules.specs.declared.told.Told.{Told}
 use Rattle.server_rules.specs.declared.told.Told.TheVariants as told
 use Rattle.client_state.specs.State as client
 use Rattle.client_state.specs.declared.step.Outcome.TheVariants as outcome
-use Rattle.trace_sessions.specs.Session.{taken_of as session_taken}
+use Rattle.trace_ends.specs.Session.{taken_of as session_taken}
 use Rattle.trace_ends.specs.Core.{newest_entries, changed_file}
 use Rattle.trace_replay.specs.Trail.{taken_in, taken_of}
 use Rattle.kept_promise.proofs.Common.{slice_get, Command, parse_of, Message, WireFault, server_step, no_counts, command_step, got_step, ended_by, cut, BadPeer, ClientStep, Ended, Outcome, Task, Op, Opening, TakenCall, no_traffic, counted, op_after, ended_op, told_of, Core, Seat, Session, Event, Event.Joins, Event.Does, Event.Serves, Event.Hears, Event.Settles, Event.Cuts, Event.Hangs, CoreStep, numbered, server_waiting, serves_if, serves, session_of, ops_after, ops_with, does, joins_as, joins, settled_ops, settled_by, settles, cuts_if, cuts, hangs_if, hangs, happens, Moment, all_said, owner_in, client_of, sent_in, sent_of, wanted_by, taken_if, taken_from, taken_by, Book, Queue, pointed_at, Traffic, both}
@@ -21,7 +21,7 @@ use Rattle.kept_promise.proofs.Counted.{AreCounted, counted_quiet, counted_point
 use Rattle.kept_promise.proofs.Actors.{acts_alone, Heard, heard_at, newest_is}
 use Rattle.kept_promise.proofs.CommandOps.{made_by, made_later, made_silent}
 use Rattle.kept_promise.proofs.PathNames.{IsSmall}
-use Rattle.trace_ops.specs.Ops.{file_with}
+use Rattle.trace_ends.specs.Ops.{file_with}
 use Rattle.path_calls.specs.declared.walk.Walk.{Walk}
 use Rattle.path_calls.specs.Walk.{next_call, begun as walk_begun}
 use Rattle.wire.specs.declared.message.Body.TheVariants as body

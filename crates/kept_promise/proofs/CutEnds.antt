@@ -11,7 +11,7 @@ use Rattle.kept_promise.proofs.RunsCarried.{book_at, moment, Step, Carried}
 use Rattle.kept_promise.proofs.Deeds.{also_there, Moved, AllMoved}
 use Rattle.kept_promise.proofs.Doing.{without_end}
 use Rattle.kept_promise.proofs.Following.{IsFollowed, OpsAfter, goes, followed_first, followed_adjusted}
-use Rattle.trace_ops.specs.Ops.{file_with}
+use Rattle.trace_ends.specs.Ops.{file_with}
 use Rattle.kept_promise.proofs.Fits.{FitLaws}
 
 -- ---- what is carried
@@ -45,7 +45,7 @@ ends_by_cut opening all k qs c seat kept here b linked i o r at mine under is =
     lost = record { outcome = outcome.Lost; rests_on = 0 }
 
     lost_so : (taken : List TakenCall) (e : Option Ended) → e ≡ Some lost → (let z = op_ended (record o { file = file_with o.file (cut seat.client).1.found; traffic = counted o.traffic (cut seat.client).1.counts }) (cut seat.client).0 taken (k.steps + 1) e in (z.end ≡ Some (k.steps + 1)) × (z.outcome ≡ told.Lost))
-    lost_so taken (Some x) e = (refl, ap (λ (y : Ended). Rattle.trace_ops.specs.Ops.told_of y.outcome) (some_is x lost e))
+    lost_so taken (Some x) e = (refl, ap (λ (y : Ended). Rattle.trace_ends.specs.Ops.told_of y.outcome) (some_is x lost e))
     lost_so taken None e = nothing_there lost e
 
     by : (b : Bool) → seat.client.linked ≡ b → seat.place ≡ Some i → (t : Task) → seat.client.task ≡ Some t → slice_get (cuts_if k c seat b).core.ops i ≡ Some r → (r.end ≡ Some (k.steps + 1)) × (r.outcome ≡ told.Lost)

@@ -304,7 +304,7 @@ goes_cuts past opening all k qs after c seat kept h here true e left =
     let r = cut seat.client in
     let a = acts_by opening all (deeds_of past) k qs c seat r.0 r.1 kept here (λ f. (refl, ended_idle seat.client.task _ f)) (λ x p f g. inl (cut_finds seat.client, λ file is. ended_busy seat.client.opened file seat.client.task x f)) (ops_words opening (cuts_if k c seat true).core all after left) in
     let f = acted_follows (deeds_of past) k c seat r.0 r.1 h.deeds a in
-    let now : Seat = record seat { client = r.0; place = Rattle.trace_ops.specs.Ops.place_after seat.place r.1.ended } in
+    let now : Seat = record seat { client = r.0; place = Rattle.trace_ends.specs.Ops.place_after seat.place r.1.ended } in
     goes_by past k (Cuts c) (cuts_if k c seat true).core h refl f.moved f.deeds (ways_acted (deeds_of past) k.seats c seat r.0 r.1 h.ways here (occupied seat (kept.seats c seat here).matched) (λ t u e known at. nothing_there u at)) (omega arith) (cuts_off past c k.seats seat now h.joined here refl)
     (λ z x is. elim (same_or_not z c) [
       | inl own ↦ let n = h.next c seat here in let m = ap (λ (y : Seat). y.client.next) (some_is x now (sym is ∙ ap (numbered (with_numbered k.seats c now)) own ∙ (around_with k.seats c seat now here).there)) in omega (arith, n, m)
@@ -354,7 +354,7 @@ heard_by past opening all k qs after n now c bytes seat kept h here owner is_by 
     let r = got_step seat.client m now in
     let a = acts_by opening all (deeds_of past) k qs c seat r.0 r.1 kept here (λ f. let i = step_idle seat.client m now f in (i.1, i.2)) (λ x p f g. busy m x p f g (stage_case x.stage)) (ops_words opening (hears_by k c now seat bytes).core all after left) in
     let f = acted_follows (deeds_of past) k c seat r.0 r.1 h.deeds a in
-    let then : Seat = record seat { client = r.0; place = Rattle.trace_ops.specs.Ops.place_after seat.place r.1.ended } in
+    let then : Seat = record seat { client = r.0; place = Rattle.trace_ends.specs.Ops.place_after seat.place r.1.ended } in
     let around = around_with k.seats c seat then here in
     goes_by past k (Hears n now bytes) (hears_by k c now seat bytes).core h refl f.moved f.deeds (ways_acted (deeds_of past) k.seats c seat r.0 r.1 h.ways here (occupied seat (kept.seats c seat here).matched) (λ t u e known at. got_file seat.client m now t e known u at)) (omega arith)
     (λ z x is. elim (same_or_not z c) [

@@ -35,10 +35,10 @@ use Rattle.register_model.specs.Register.{IsFit}
 use Rattle.register_model.specs.declared.op.Outcome.TheVariants as told
 use Rattle.register_model.specs.declared.op.Word.TheVariants as words
 use Rattle.trace_ends.specs.Core.{newest_entries, settles, settled_by, changed_file, is_of_file}
-use Rattle.trace_sessions.specs.Session.{settled_ops}
+use Rattle.trace_ends.specs.Session.{settled_ops}
 use Rattle.trace_replay.specs.Faithful.{IsKind, left_by as left_of}
 use Rattle.trace_replay.specs.Naming.{entry_file, refusal_of}
-use Rattle.trace_ops.specs.Ops.{pointed_at, pointed}
+use Rattle.trace_ends.specs.Ops.{pointed_at, pointed}
 use Rattle.server_law.proofs.Trees.{IsBounded, given}
 use Rattle.kept_promise.proofs.Common.{slice_get, slice_set, cond, option_map, unwrap_or, value_from, Contains, Contains-push, MessageFits, at, Change, Entry, Op, Word, Core, Seat, Session, Event.Settles, CoreStep, numbered, with_numbered, happens, unless, quiet, Book, value_at, version_at, Reply.Walked, NameReply, name_answer, Told, Queue, told_message}
 use Rattle.kept_promise.proofs.Lists.{some_is, nothing_there, at_replaced, of_replaced}

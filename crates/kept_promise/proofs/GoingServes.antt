@@ -31,7 +31,7 @@ use Rattle.client_state.specs.State as client
 use Rattle.client_state.specs.declared.task.Stage.TheVariants as stage
 use Rattle.trace_replay.specs.Naming.{entry_file, refusal_of}
 use Rattle.trace_ends.specs.Core.{changed_file, is_of_file}
-use Rattle.trace_ops.specs.Ops.{pointed_at}
+use Rattle.trace_ends.specs.Ops.{pointed_at}
 use Rattle.server_law.proofs.Trees.{IsBounded}
 use Rattle.server_law.proofs.TreeCalls.{entries_more, sizes_more}
 use Rattle.kept_promise.proofs.Common.{slice_get, cond, option_map, Contains, Contains-push, message_spell, MessageFits, stands, not, has_waiting, at, Entry, File, Op, TakenCall, Core, Session, Event.Serves, CoreStep, with_numbered, happens, serves, serves_if, quiet, Book, Call.Walks, Reply.Walked, NameReply, name_answer, Ask, Queue, ask_message, told_message}

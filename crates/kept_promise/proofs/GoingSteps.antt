@@ -17,7 +17,7 @@ use Rattle.server_core.specs.declared.change.Wanted.TheVariants as wanted
 use Rattle.server_core.specs.declared.event.ServerStep.{ServerStep}
 use Rattle.server_core.specs.declared.journal.Entry.{Entry}
 use Rattle.trace_ends.specs.Core.{newest_entries, server_got, changed_file}
-use Rattle.trace_ops.specs.Ops.{pointed_at}
+use Rattle.trace_ends.specs.Ops.{pointed_at}
 use Rattle.kept_promise.proofs.Common.{Op, Change, at, has_waiting, got_if, stands, Core, Session, CoreStep, with_numbered, quiet}
 use Rattle.kept_promise.proofs.PathNames.{IsWalkSmall, is_going}
 use Rattle.kept_promise.proofs.Departures.{comes_by, called_going}

@@ -7,7 +7,7 @@ use Rattle.client_cache.specs.Cache.{content_of}
 use Rattle.file_open.specs.Caching.{content_in}
 use Rattle.client_state.specs.State as client
 use Rattle.register_model.specs.declared.op.Word.TheVariants as words
-use Rattle.trace_sessions.specs.Session.{taken_of as session_taken}
+use Rattle.trace_ends.specs.Session.{taken_of as session_taken}
 use Rattle.trace_replay.specs.Saving.{lease_told, EndsBy, UsesKept, TellsLease}
 use Rattle.kept_promise.proofs.Common.{Contains, Contains-push_cases, no_counts, slice_get, option_map, unwrap_or, Done, Message, Pending, got_step, took, uses_kept, idle, hash_call, ClientStep, Local, Stage, Op, Opening, TakenCall, op_after, counted, no_traffic, Core, Seat, Event, Event.Joins, Event.Does, Event.Serves, Event.Hears, Event.Settles, Event.Cuts, Event.Hangs, numbered, session_of, happens, Moment, step_of, client_of, owner_in, taken_by, is_in, local_at_itself, hashed_of, deals_of, Book, Queue, told_message}
 use Rattle.kept_promise.proofs.Lists.{some_is, nothing_there, of_appended, of_replaced, true_and_false}

@@ -8,7 +8,7 @@ use Rattle.register_model.specs.declared.op.Outcome.TheVariants as told
 use Rattle.register_model.specs.declared.op.Word.TheVariants as words
 use Rattle.trace_replay.specs.Causes.{NamedCause, IsPathRefused}
 use Rattle.trace_replay.specs.Complete.{EndsNamed}
-use Rattle.trace_ops.specs.Commands.{path_word, word_of}
+use Rattle.trace_ends.specs.Commands.{path_word, word_of}
 use Rattle.trace_replay.specs.Trail.{step_of}
 use Rattle.trace_replay.specs.declared.opening.TheConstants.{ROOT}
 use Rattle.xdr_codec.specs.declared.status.Status.{Status}

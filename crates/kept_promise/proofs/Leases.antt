@@ -10,7 +10,7 @@ use Rattle.client_state.specs.declared.task.Stage.TheVariants as stage
 use Rattle.client_state.specs.declared.task.Way.TheVariants as way
 use Rattle.register_model.specs.declared.op.Outcome.TheVariants as told
 use Rattle.trace_replay.specs.OwnCalls.{WaitsFor, TakesCall}
-use Rattle.trace_sessions.specs.Session.{taken_of as session_taken}
+use Rattle.trace_ends.specs.Session.{taken_of as session_taken}
 use Rattle.trace_replay.specs.Saving.{lease_told, LeasedAt, TellsLease}
 use Rattle.trace_replay.specs.Book.{first_version}
 use Rattle.kept_promise.proofs.Common.{◌==◌, Contains, Contains-push_cases, Way, answered, slice_get, Answer, Done, Body, Message, Pending, got_step, took, took_if, told_stored, told_way, idle, ClientStep, Ended, Stage, Store, StoreCall, Task, store_at, Op, Opening, TakenCall, op_after, Core, Seat, Event, Event.Joins, Event.Does, Event.Serves, Event.Hears, Event.Settles, Event.Cuts, Event.Hangs, CoreStep, numbered, session_of, acted, happens, Moment, step_of, client_of, owner_in, wanted_if, taken_by, is_in, Book, version_at, changed_before, content_of, filter, Queue, Reply, Reply.Versioned, told_message, reply_body}

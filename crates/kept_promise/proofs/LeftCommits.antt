@@ -276,7 +276,7 @@ leaves_plain k qs mid t were same none less = record { were = were; count = ap (
 leaves_joins : (k : Core) (qs mid : List Queue) (c : ℕ) → mid ≡ qs → Leaves k qs mid (joins k c (numbered k.seats c))
 leaves_joins k qs mid c same = by (numbered k.seats c)
   where
-    new_apart : (n m : ℕ) (y : Session) → ((n ≡ suc (length k.sessions)) × (y ≡ Rattle.trace_sessions.specs.Session.new_session m)) ⊎ (numbered k.sessions n ≡ Some y) → y.cut ≡ true → SessionWas k n y
+    new_apart : (n m : ℕ) (y : Session) → ((n ≡ suc (length k.sessions)) × (y ≡ Rattle.trace_ends.specs.Session.new_session m)) ⊎ (numbered k.sessions n ≡ Some y) → y.cut ≡ true → SessionWas k n y
     new_apart n m y (inr was) gone = (y, was, refl)
     new_apart n m y (inl new) gone = absurd (not_true (sym (ap (λ (z : Session). z.cut) new.1) ∙ gone))
       where
@@ -284,7 +284,7 @@ leaves_joins k qs mid c same = by (numbered k.seats c)
         not_true e = absurd cc
 
     by_room : (seat : Seat) (b : Bool) → (let r = connect k.server b in Leaves k qs mid (joins_as k c seat r.0 r.1.told))
-    by_room seat true = leaves_plain k qs mid _ (λ n y at gone. new_apart n c y (of_more k.sessions n (Rattle.trace_sessions.specs.Session.new_session c) y at) gone) same refl (λ n. omega arith)
+    by_room seat true = leaves_plain k qs mid _ (λ n y at gone. new_apart n c y (of_more k.sessions n (Rattle.trace_ends.specs.Session.new_session c) y at) gone) same refl (λ n. omega arith)
     by_room seat false = leaves_plain k qs mid _ (were_same k) same refl (λ n. omega arith)
 
     by : (o : Option Seat) → Leaves k qs mid (joins k c o)

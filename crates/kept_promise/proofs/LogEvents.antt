@@ -23,7 +23,7 @@ use Rattle.client_state.specs.declared.task.Stage.TheVariants as stage
 use Rattle.register_model.specs.declared.op.Outcome.{Outcome as History}
 use Rattle.register_model.specs.declared.op.Outcome.TheVariants as told
 use Rattle.register_model.specs.declared.op.Word.TheVariants as words
-use Rattle.trace_sessions.specs.Session.{taken_of as session_taken}
+use Rattle.trace_ends.specs.Session.{taken_of as session_taken}
 use Rattle.trace_replay.specs.Trail.{given_in, given_by_message}
 use Rattle.kept_promise.proofs.Common.{Deal.Sent, Deal.Took, slice_get, slice_set, Command, parse_of, WireFault, Body, Message, Pending, server_step, lease_call, hash_call, asks_kept, asks_temp, command_step, got_step, got_message, bad_peer, idle, took, took_if, drops, joined, ended_by, ClientStep, Ended, Outcome, Fetch, Stage, Task, Op, Opening, Word, TakenCall, word_of, file_of, value_at_begin, begun, has_point, point_if, counted, op_after, told_of, value_of, place_after, place_with, Core, Seat, Session, Event, Event.Joins, Event.Does, Event.Serves, Event.Hears, Event.Settles, Event.Cuts, Event.Hangs, CoreStep, numbered, with_numbered, server_waiting, serves_if, serves, session_of, ops_after, ops_with, acted, does, joins_as, joins, settles, cuts_if, cuts, hangs_if, hangs, happens, Moment, owner_in, wanted_if, wanted_by, taken_by, given_by, is_in, Deal, deals_with, deals_in, deals_of, Book, Queue, reply_body, told_message}
 use Rattle.kept_promise.proofs.Lists.{some_is, nothing_there, at_end, at_replaced, of_appended, within, of_replaced}
@@ -48,7 +48,7 @@ use Rattle.kept_promise.proofs.Logs.{IsSilent, Going, Ending, HaveLogs, logs_kep
 use Rattle.kept_promise.proofs.Found.{file_after, took_finds, command_finds}
 use Rattle.kept_promise.proofs.ServesQuietly.{serves_quiet}
 use Rattle.kept_promise.proofs.PathNames.{IsSmall}
-use Rattle.trace_ops.specs.Ops.{file_with}
+use Rattle.trace_ends.specs.Ops.{file_with}
 
 -- ---- what is asked
 

@@ -52,9 +52,9 @@ acted_points more ops (Some l) c taken step acts rights = by (slice_get ops l) r
   where
     closed : (o : Op) (p : ℕ) → o.word ≡ words.Close → o.point ≡ Some p → (e : Option Ended) → (let r = op_after o c taken step (record acts { ended = e }) in (r.client ≡ o.client) × (r.word ≡ words.Close) × (r.point ≡ Some p))
     closed o p word point None = (refl, word, point)
-    closed o p word point (Some e) = (refl, word, ap (λ w. Rattle.trace_ops.specs.Ops.point_if (has_point w e.outcome) taken e.rests_on o.point) word ∙ point)
+    closed o p word point (Some e) = (refl, word, ap (λ w. Rattle.trace_ends.specs.Ops.point_if (has_point w e.outcome) taken e.rests_on o.point) word ∙ point)
 
-    by : (q : Option Op) → slice_get ops l ≡ q → ((j : ℕ) (r : Op) → slice_get (Rattle.trace_ops.specs.Ops.ops_after ops l q c taken step acts) j ≡ Some r → IsRight more r) → KeepsPoints ops (Rattle.trace_ops.specs.Ops.ops_after ops l q c taken step acts)
+    by : (q : Option Op) → slice_get ops l ≡ q → ((j : ℕ) (r : Op) → slice_get (Rattle.trace_ends.specs.Ops.ops_after ops l q c taken step acts) j ≡ Some r → IsRight more r) → KeepsPoints ops (Rattle.trace_ends.specs.Ops.ops_after ops l q c taken step acts)
     by None e rights = same_points ops
     by (Some q) e rights = λ j p o at word point. elim (same_or_not j l) [
       | inr apart ↦ (o, else_at ops l j (op_after q c taken step acts) apart ∙ at, refl, word, point, refl)
@@ -241,9 +241,9 @@ made_settling all past rest opening k qs now mid after s h = by (settling (book_
         let made_op : slice_get (slice_set k.ops pending.place op) pending.place ≡ Some op = at_replaced k.ops pending.place op pending.op pending.there in
         let ops_are : (left_by k (made_change (at_reading (record k.server { waiting = cs }) now) c (content_wanted c.what) f)).ops ≡ slice_set k.ops pending.place op =
         ap (λ (z : Option ℕ). Rattle.trace_ends.specs.Core.settled_by k z (announced.Settled c.session c.xid)) (newest_one k.server.journal (entry_of c (content_wanted c.what) f))
-        ∙ ap (Rattle.trace_sessions.specs.Session.settled_ops k.ops (k.steps + 1) (Some c.file)) home.1
-        ∙ ap (λ l. Rattle.trace_ops.specs.Ops.pointed_at k.ops l (k.steps + 1) (Some c.file)) pending.known
-        ∙ ap (Rattle.trace_ops.specs.Ops.pointed k.ops pending.place c.file (k.steps + 1)) pending.there in
+        ∙ ap (Rattle.trace_ends.specs.Session.settled_ops k.ops (k.steps + 1) (Some c.file)) home.1
+        ∙ ap (λ l. Rattle.trace_ends.specs.Ops.pointed_at k.ops l (k.steps + 1) (Some c.file)) pending.known
+        ∙ ap (Rattle.trace_ends.specs.Ops.pointed k.ops pending.place c.file (k.steps + 1)) pending.there in
         let points : KeepsPoints k.ops (left_by k (made_change (at_reading (record k.server { waiting = cs }) now) c (content_wanted c.what) f)).ops = subst (KeepsPoints k.ops) (sym ops_are) (pointed_points k.ops pending.place c.file (k.steps + 1) pending.op pending.there pending.unmade.1) in
         let old_entry : (i p : ℕ) (d : Entry) → slice_get k.entries i ≡ Some p → slice_get (k.server.journal ++ entry_of c (content_wanted c.what) f ∷ []) i ≡ Some d → slice_get k.server.journal i ≡ Some d = λ i p d had is. elim (of_appended k.server.journal (entry_of c (content_wanted c.what) f) i d is) [ inr was ↦ was | inl last ↦ let x = last.0 in let y = within k.entries i p had in absurd (omega (arith, x, y, count)) ] in
         record {

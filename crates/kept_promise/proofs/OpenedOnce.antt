@@ -5,7 +5,7 @@ use Rattle.client_state.specs.State as client
 use Rattle.client_state.specs.declared.task.Stage.TheVariants as stage
 use Rattle.register_model.specs.declared.op.Outcome.TheVariants as told
 use Rattle.register_model.specs.declared.op.Word.TheVariants as words
-use Rattle.trace_sessions.specs.Session.{taken_of as session_taken}
+use Rattle.trace_ends.specs.Session.{taken_of as session_taken}
 use Rattle.trace_replay.specs.Faithful.{OpenedBy}
 use Rattle.trace_replay.specs.Traffic.{attempts_in, no_attempt}
 use Rattle.trace_replay.specs.Trail.{given_by_message}

@@ -16,7 +16,7 @@ use Rattle.open_close.specs.Walking.{outcome_of, walks, walks_if}
 use Rattle.register_model.specs.declared.op.Outcome.{Outcome as Told}
 use Rattle.register_model.specs.declared.op.Outcome.TheVariants as told
 use Rattle.trace_replay.specs.Faithful.{FindsOpen}
-use Rattle.trace_ops.specs.Ops.{file_with}
+use Rattle.trace_ends.specs.Ops.{file_with}
 use Rattle.kept_promise.proofs.Common.{slice_get, option_map, is_some, Body, Message, Pending, RpcRefusal, WireFault, Command, command_step, idle, took, drops, took_if, denied, denied_if, got_message, got_fault, got_step, ClientStep, Ended, Outcome, Local, Stage, Task, TakenCall, Op, Seat, numbered, with_numbered, place_with, place_after, op_after, op_ended, ops_with, counted, told_of, Deed, can_ask, is_busy, after_one, local_from, local_before, own_answer}
 use Rattle.kept_promise.proofs.Lists.{some_is, nothing_there, same_or_not, of_appended, within}
 use Rattle.kept_promise.proofs.Messages.{Job, job, job_of}
@@ -137,11 +137,11 @@ opens_moved step ds ops rs seats h moved fresh i d r at is =
     by w.0 w.1 (moved.each i w.0 r w.1 is) (h.each i d w.0 at w.1) (is_busy ops w.0) refl (h.each i d w.0 at w.1).came
   where
     by : (o : Op) → slice_get ops i ≡ Some o → Moved step o r → IsDeed ds ops i d o → (b : Bool) → is_busy ops o ≡ b
-        → Came d o (local_before ds ops i d.client (Rattle.trace_ops.specs.Commands.file_of d.command)) (own_answer (is_busy ops o) (can_ask d.joined d.calls) d.command (local_before ds ops i d.client (Rattle.trace_ops.specs.Commands.file_of d.command)))
+        → Came d o (local_before ds ops i d.client (Rattle.trace_ends.specs.Commands.file_of d.command)) (own_answer (is_busy ops o) (can_ask d.joined d.calls) d.command (local_before ds ops i d.client (Rattle.trace_ends.specs.Commands.file_of d.command)))
         → FindsBy d.command r.outcome (local_before ds rs i d.client r.file)
     by o there m deed false e came = subst (λ (l : Option (List ℕ)). FindsBy d.command r.outcome l) (sym (local_before_same step ds ops rs i d o r.file h.rising h.each moved at there e)) (fresh i d r at is)
     by o there m deed true e came =
-        let busy : Came d o (local_before ds ops i d.client (Rattle.trace_ops.specs.Commands.file_of d.command)) (Some told.Busy) = subst (λ (b : Bool). Came d o (local_before ds ops i d.client (Rattle.trace_ops.specs.Commands.file_of d.command)) (own_answer b (can_ask d.joined d.calls) d.command (local_before ds ops i d.client (Rattle.trace_ops.specs.Commands.file_of d.command)))) e came in
+        let busy : Came d o (local_before ds ops i d.client (Rattle.trace_ends.specs.Commands.file_of d.command)) (Some told.Busy) = subst (λ (b : Bool). Came d o (local_before ds ops i d.client (Rattle.trace_ends.specs.Commands.file_of d.command)) (own_answer b (can_ask d.joined d.calls) d.command (local_before ds ops i d.client (Rattle.trace_ends.specs.Commands.file_of d.command)))) e came in
         let same : r.outcome ≡ told.Busy = (m.ended o.begin busy.1).1 ∙ busy.0 in
         subst (λ (u : Told). FindsBy d.command u (local_before ds rs i d.client r.file)) (sym same) (finds_busy d.command (local_before ds rs i d.client r.file))
 

@@ -11,8 +11,8 @@ use Rattle.client_state.specs.declared.task.Stage.TheVariants as stage
 use Rattle.register_model.specs.declared.op.Outcome.{Outcome as Told}
 use Rattle.register_model.specs.declared.op.Outcome.TheVariants as told
 use Rattle.trace_replay.specs.Faithful.{FindsOpen}
-use Rattle.trace_ops.specs.Ops.{file_with, begun as op_begun}
-use Rattle.trace_sessions.specs.Session.{taken_of as session_taken}
+use Rattle.trace_ends.specs.Ops.{file_with, begun as op_begun}
+use Rattle.trace_ends.specs.Session.{taken_of as session_taken}
 use Rattle.kept_promise.proofs.Common.{slice_get, server_step, Command, ClientStep, Ended, ended_by, cut, joined, command_step, got_step, told_message, Task, Op, Opening, TakenCall, told_of, word_of, file_of, value_at_begin, session_of, Core, Seat, CoreStep, Event, Event.Joins, Event.Does, Event.Serves, Event.Hears, Event.Settles, Event.Cuts, Event.Hangs, numbered, with_numbered, joins, joins_as, does, cuts, cuts_if, happens, Moment, Deed, deed_by, deeds_of, joined_from, calls_from, Queue, is_untold}
 use Rattle.kept_promise.proofs.Lists.{some_is, nothing_there, same_or_not, of_replaced}
 use Rattle.kept_promise.proofs.Actors.{Heard, heard_at, heard_acts}

@@ -1,7 +1,7 @@
 -- A run carries that whatever a client sends or takes is for an operation that it has under way.
 use Rattle.std.proofs.Common.{◌⊎◌, inl, inr, ◌≡◌, ℕ, ◌+◌, ◌≤◌, List, [], ◌∷◌, ◌++◌, length, Option, Some, None, Bool, true, false, Ok, refl, sym, ap, ◌∙◌, subst, arith}
 use Rattle.client_state.specs.State as client
-use Rattle.trace_sessions.specs.Session.{taken_of as session_taken}
+use Rattle.trace_ends.specs.Session.{taken_of as session_taken}
 use Rattle.trace_replay.specs.Traffic.{IsFor}
 use Rattle.file_open.specs.Looking.{reading}
 use Rattle.trace_replay.specs.Trail.{given_in, given_by_message}

@@ -13,7 +13,7 @@ use Rattle.command_text.specs.declared.command.Command.TheVariants as command
 use Rattle.command_text.specs.declared.path.PathCommand.{PathCommand}
 use Rattle.command_text.specs.declared.path.PathCommand.TheVariants as path
 use Rattle.command_text.specs.declared.path.Spot.{Spot}
-use Rattle.trace_ops.specs.Commands.{file_of}
+use Rattle.trace_ends.specs.Commands.{file_of}
 use Rattle.path_calls.specs.declared.walk.Goal.{Goal}
 use Rattle.path_calls.specs.declared.walk.Goal.TheVariants as goal
 use Rattle.path_calls.specs.declared.walk.Walk.{Walk}

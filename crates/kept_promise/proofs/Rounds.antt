@@ -1,7 +1,7 @@
 -- Rounds of deliveries: where nothing is on its way a round does nothing, so that K rounds are K times the two deliveries.
 use Rattle.std.proofs.Common.{◌≡◌, ℕ, zero, suc, List, [], ◌∷◌, ◌++◌, Option, Some, None, take, drop, refl, sym, ap, subst, ◌∙◌, arith, append-nil, Bool, true, false, map}
 use Rattle.trace_ends.specs.Core.{Loss.Made}
-use Rattle.trace_sessions.specs.Queue.{is_none}
+use Rattle.trace_ends.specs.Queue.{is_none}
 use Rattle.trace_replay.specs.Delivery.{down_all}
 use Rattle.server_core.specs.declared.event.Sent.{Sent}
 use Rattle.kept_promise.proofs.Common.{◌&&◌, slice_get, take_all, Fed, Refusal, Unread, Parts, nothing_read, fed, Message, Session, Event, Event.Serves, Event.Hears, CoreStep, Loss, Loss.Nothing, Loss.Down_of, Loss.Up_of, numbered, happens, World, Wire, new_wire, up_put, down_lost, up_lost, lost_by, routed, happened, all_happened, up_some, down_some, is_still_at, is_still, up_length, down_length, up_all, round, passes, rounds}

@@ -19,7 +19,7 @@ use Rattle.server_core.specs.Closing.{answers, looked_up as index_found}
 use Rattle.server_core.specs.Steps.{sends}
 use Rattle.temp_files.specs.Temps.{without_temp}
 use Rattle.trace_ends.specs.Core.{newest_entries, server_got, changed_file}
-use Rattle.trace_ops.specs.Ops.{pointed_at}
+use Rattle.trace_ends.specs.Ops.{pointed_at}
 use Rattle.kept_promise.proofs.Common.{size_most, room_fault, piece_fault, temp_at, Temp, assembled, nat_lt, Op, File, at, is_full, has_waiting, cond_fault, bytes_known, makes, makes_unless, writes_unless, names_unless, names_bytes, commits, commits_to, commits_whole, server_step, stands, got_if, called, Core, Session, CoreStep, with_numbered, quiet, taken_with}
 use Rattle.server_core.specs.Closing.{entries_by, count_of}
 use Rattle.tree_reading.specs.declared.entry.Entry.{Entry as TreeEntry}

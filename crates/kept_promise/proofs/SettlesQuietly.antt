@@ -19,7 +19,7 @@ use Rattle.server_core.specs.Closing as closing
 use Rattle.server_core.specs.declared.change.Wanted.TheVariants as wanted
 use Rattle.trace_replay.specs.Faithful.{change_refusal}
 use Rattle.trace_ends.specs.Core.{newest_entries, changed_file, is_of_file}
-use Rattle.trace_ops.specs.Ops.{pointed, pointed_at}
+use Rattle.trace_ends.specs.Ops.{pointed, pointed_at}
 use Rattle.kept_promise.proofs.Common.{slice_get, slice_set, cond, option_map, find, Contains, Contains-push, Message, name_answer, told_message, Change, Wanted, File, Entry, Op, Core, Session, CoreStep, quiet, numbered, settles, settled_ops, Book, Queue}
 use Rattle.kept_promise.proofs.Lists.{some_is, nothing_there}
 use Rattle.kept_promise.proofs.Rights.{WasThere, IsUnmade, gets_file}

@@ -14,7 +14,7 @@ use Rattle.client_state.specs.State as client
 use Rattle.client_state.specs.declared.task.Stage.TheVariants as stage
 use Rattle.register_model.specs.declared.op.Outcome.{Outcome as History}
 use Rattle.register_model.specs.declared.op.Word.TheVariants as words
-use Rattle.trace_sessions.specs.Session.{taken_of as session_taken}
+use Rattle.trace_ends.specs.Session.{taken_of as session_taken}
 use Rattle.trace_replay.specs.Trail.{taken_of}
 use Rattle.trace_replay.specs.Traffic.{traffic_of, commit_number, commits_in as commits_said, IsFetchCall}
 use Rattle.kept_promise.proofs.Common.{slice_get, Change, cut, ClientStep, Ended, Outcome, Op, Opening, Word, TakenCall, has_point, point_if, op_after, Core, Seat, Session, Event, numbered, session_of, ops_with, happens, Moment, sent_in, sent_of, SentCommit, Book, Message, Call, Call.Commit, Ask, Queue, Contains-append_left, Said, Deal, Deal.Took, Deal.Found, Deal.Sent, deals_of, stored_traffic, cond, Call.Walks, Wanted}

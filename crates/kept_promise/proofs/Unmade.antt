@@ -85,7 +85,7 @@ unmade_settles k now c cs content waits what none =
     with_parts : List Entry → List Op → List ℕ → CoreStep
     with_parts journal ops entries = record (quiet (record k { steps = k.steps + 1; server = record before { journal = journal }; ops = ops; entries = entries })) { down = record { session = c.session; message = told_message (unmade_told c) } ∷ [] }
 
-    same : (o : Option Session) → Rattle.trace_sessions.specs.Session.settled_ops k.ops (k.steps + 1) None o ≡ k.ops
+    same : (o : Option Session) → Rattle.trace_ends.specs.Session.settled_ops k.ops (k.steps + 1) None o ≡ k.ops
     same None = refl
     same (Some x) = pointed_none k.ops x.closing (k.steps + 1)
 

@@ -5,7 +5,7 @@ use Rattle.client_state.specs.declared.task.Stage.TheVariants as stage
 use Rattle.register_model.specs.declared.op.Outcome.TheVariants as told
 use Rattle.register_model.specs.declared.op.Word.TheVariants as words
 use Rattle.trace_replay.specs.Book.{first_version}
-use Rattle.trace_sessions.specs.Session.{taken_of as session_taken}
+use Rattle.trace_ends.specs.Session.{taken_of as session_taken}
 use Rattle.trace_replay.specs.Faithful.{Carries, TellsVersion}
 use Rattle.kept_promise.proofs.Common.{◌==◌, ◌&&◌, nat_lt, slice_get, slice_set, filter, cond, Contains, option_map_or, ClientStep, Ended, Outcome, Stage, changes, changed_before, Op, Word, TakenCall, has_point, point_if, op_after, taken_at, Seat, Session, numbered, with_numbered, session_of, Said, is_of, content_of, Opening}
 use Rattle.kept_promise.proofs.Lists.{some_is, nothing_there, of_replaced}

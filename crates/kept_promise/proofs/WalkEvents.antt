@@ -22,12 +22,12 @@ use Rattle.path_calls.specs.declared.walk.Walk.{Walk}
 use Rattle.client_cache.specs.Cache.{content_of, reserved}
 use Rattle.client_cache.specs.declared.kept.Content.{Content}
 use Rattle.path_calls.specs.Walk.{begun}
-use Rattle.trace_ops.specs.Ops.{begun as op_begun}
+use Rattle.trace_ends.specs.Ops.{begun as op_begun}
 use Rattle.client_state.specs.Ending.{may_walk}
 use Rattle.open_close.specs.Walking.{walks, walks_if, is_its, is_look, told_walk, walked}
-use Rattle.trace_sessions.specs.Session.{taken_of as session_taken}
+use Rattle.trace_ends.specs.Session.{taken_of as session_taken}
 use Rattle.trace_replay.specs.Trail.{AreCounted, steps_by}
-use Rattle.trace_ops.specs.Commands.{path_word}
+use Rattle.trace_ends.specs.Commands.{path_word}
 use Rattle.kept_promise.proofs.Common.{slice_get, Contains, Contains-push_cases, Command, ClientStep, Ended, ended_by, command_step, Pending, Stage, Task, Op, Opening, TakenCall, op_after, ops_with, place_after, Core, Seat, CoreStep, Event, Event.Joins, Event.Does, Event.Serves, Event.Hears, Event.Settles, Event.Cuts, Event.Hangs, numbered, joins, does, cuts, cuts_if, acted, session_of, server_step, happens, Moment, step_of, Deed, deeds_of, Book, Queue, taken_by, got_step, told_message, Body, took, took_if, got_message, has_call, pending, idle, drops, reply_body, ◌==◌, ◌||◌, Contains-append_cases, Reply, Reply.Walked, Reply.Bytes, Reply.Versioned, Reply.Hashed, Reply.Made, Reply.Named, Reply.Stored, Reply.Changed, name_answer, Message, wanted_if, Contains-push, file_of, joined_from, calls_from, place_with, nat_lt, if◌then◌else◌, Local, Part, content_length, content_bytes, on_local, edits, truncates, reads, abandons, too_big, writes, done_with, closes, asks_temp, opens, opens_if, asks_file, asks_kept, is_open, may_ask, local_most, written_size, written, truncated, ends, word_of, value_at_begin, Word, point_if, has_point, told_of, Outcome}
 use Rattle.kept_promise.proofs.Actors.{job_place, job_task, Heard, heard_at, heard_acts, heard_takes}
 use Rattle.kept_promise.proofs.Lists.{some_is, nothing_there, of_appended, kept_appended, count_more, within, at_end}

@@ -18,7 +18,7 @@ use Rattle.file_open.specs.Fetching.{asks_kept}
 use Rattle.open_close.specs.Walking.{walks, walks_if}
 use Rattle.register_model.specs.Register.{changes}
 use Rattle.register_model.specs.declared.op.Word.TheVariants as words
-use Rattle.trace_ops.specs.Ops.{file_with, has_point, point_if}
+use Rattle.trace_ends.specs.Ops.{file_with, has_point, point_if}
 use Rattle.trace_replay.specs.Traffic.{AreOwn}
 use Rattle.trace_replay.specs.Walking.{Part, Part.asks, Part.waits, IsUnfound, HasWalkFile, HasFoundFile}
 use Rattle.kept_promise.proofs.Common.{Body, Pending, Command, command_step, took, Ended, Stage, Task, Word, Op, TakenCall, op_after, Deal, Deal.Sent, Deal.Took, ClientStep, file_of, is_some}

@@ -22,7 +22,7 @@ use Rattle.client_state.specs.declared.step.BadPeer.{BadPeer}
 use Rattle.register_model.specs.declared.op.Outcome.{Outcome as History}
 use Rattle.register_model.specs.declared.op.Outcome.TheVariants as told
 use Rattle.register_model.specs.declared.op.Word.TheVariants as words
-use Rattle.trace_ops.specs.Ops.{file_with}
+use Rattle.trace_ends.specs.Ops.{file_with}
 use Rattle.trace_replay.specs.Traffic.{AreOwn, IsOwnCall}
 use Rattle.trace_replay.specs.Walking.{Part, Part.asks, Part.waits, IsWalk}
 use Rattle.kept_promise.proofs.Common.{Body, Message, Pending, Command, command_step, commit_call, names_all, took, ClientStep, Ended, Stage, Task, Word, told_of, Deal, Deal.Sent, Deal.Took, Deal.Found}

@@ -11,7 +11,7 @@ use Rattle.path_calls.specs.declared.walk.Goal.{Goal}
 use Rattle.path_calls.specs.declared.walk.Goal.TheVariants as goal
 use Rattle.path_calls.specs.declared.walk.Walk.{Walk}
 use Rattle.open_close.specs.Walking.{is_its}
-use Rattle.trace_ops.specs.Ops.{no_traffic}
+use Rattle.trace_ends.specs.Ops.{no_traffic}
 use Rattle.kept_promise.proofs.Common.{◌==◌, sent_traffic, taken_traffic}
 
 -- its call is no READ

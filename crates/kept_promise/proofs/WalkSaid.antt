@@ -20,8 +20,8 @@ use Rattle.client_state.specs.declared.task.Stage.TheVariants as stage
 use Rattle.open_close.specs.Walking.{walks, walks_if}
 use Rattle.register_model.specs.declared.op.Outcome.TheVariants as told
 use Rattle.register_model.specs.declared.op.Word.TheVariants as words
-use Rattle.trace_sessions.specs.Session.{taken_of as session_taken}
-use Rattle.trace_ops.specs.Ops.{begun as op_begun, file_with}
+use Rattle.trace_ends.specs.Session.{taken_of as session_taken}
+use Rattle.trace_ends.specs.Ops.{begun as op_begun, file_with}
 use Rattle.trace_replay.specs.Trail.{given_in, given_by_message}
 use Rattle.file_open.specs.Looking.{reading_by, with_file, reading_if, reading}
 use Rattle.trace_replay.specs.Walking.{Part, Part.asks, IsWalk, AreCalls, HasWalkFile, HasFoundFile}

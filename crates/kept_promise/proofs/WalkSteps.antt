@@ -28,7 +28,7 @@ use Rattle.register_model.specs.declared.op.Word.TheVariants as words
 use Rattle.trace_replay.specs.Causes.{Within}
 use Rattle.trace_replay.specs.Naming.{tree_at, entry_file}
 use Rattle.trace_replay.specs.OwnCalls.{held_at}
-use Rattle.trace_ops.specs.Ops.{op_ended, file_with, told_of, taken_at, value_of}
+use Rattle.trace_ends.specs.Ops.{op_ended, file_with, told_of, taken_at, value_of}
 use Rattle.kept_promise.proofs.Common.{cond, ask_message, place_after, TakenCall, Contains, Moment, numbered, slice_get, slice_set, changes, is_running, has_point, point_if, counted, no_counts, op_after, ClientStep, Stage, Op, Word, Traffic, Core, Session, Book, Call.Walks, Call.Hash, Call.Lease, Reply.Walked, NameReply, name_answer, Ask, Told, Queue, idle, took, acted, not, Pending, Program, reply_program, is_untold, nat_lt, nat_tests}
 use Rattle.kept_promise.proofs.Keys.{times}
 use Rattle.kept_promise.proofs.Lists.{some_is, nothing_there, false_and_true}

@@ -12,7 +12,7 @@ use Rattle.client_state.specs.State as client
 use Rattle.client_state.specs.declared.task.Stage.TheVariants as stage
 use Rattle.register_model.specs.declared.op.Outcome.TheVariants as told
 use Rattle.register_model.specs.declared.op.Word.TheVariants as words
-use Rattle.trace_ops.specs.Commands.{path_word}
+use Rattle.trace_ends.specs.Commands.{path_word}
 use Rattle.kept_promise.proofs.Common.{slice_get, slice_set, Contains-push_cases, Command, ClientStep, Ended, joined, Stage, Task, Op, Opening, TakenCall, op_after, ops_with, ops_after, Core, Seat, Event, Event.Joins, Event.Does, Event.Serves, Event.Hears, Event.Settles, Event.Cuts, Event.Hangs, numbered, with_numbered, joins_as, happens, Moment, Deed, deeds_of, deed_by, Queue, idle, ends, word_of, is_untold}
 use Rattle.kept_promise.proofs.Actors.{job_place}
 use Rattle.kept_promise.proofs.Lists.{set_count, some_is, nothing_there, kept_appended, at_replaced, same_or_not, set_else, true_and_false}

@@ -4,9 +4,9 @@ use Rattle.rpc_record.specs.Records.{Unread, Begun, record_of}
 use Rattle.wire.specs.Message.{MessageFits, message_spell}
 use Rattle.wire.specs.declared.message.Message.{Message}
 use Rattle.trace_ends.specs.Core.{Event.Serves, Event.Hears}
-use Rattle.trace_sessions.specs.Numbers.{numbered}
+use Rattle.trace_ends.specs.Numbers.{numbered}
 use Rattle.trace_replay.specs.World.{World}
-use Rattle.trace_sessions.specs.Wires.{Wire, bytes_of}
+use Rattle.trace_ends.specs.Wires.{Wire, bytes_of}
 use Rattle.trace_replay.specs.Delivery.{all_happened, up_some, down_some}
 use Rattle.kept_promise.specs.Whole.{up_with, down_with}
 

@@ -28,7 +28,7 @@ use Rattle.path_calls.specs.Walk.{next_call}
 use Rattle.path_calls.specs.declared.walk.Walk.{Walk}
 use Rattle.file_open.specs.Opening.{lease_call, hash_call, read_call}
 use Rattle.file_close.specs.Closing.{make_call, cond_call, commit_call}
-use Rattle.trace_sessions.specs.Wires.{Wire, bytes_of}
+use Rattle.trace_ends.specs.Wires.{Wire, bytes_of}
 
 -- ---- calls and answers
 

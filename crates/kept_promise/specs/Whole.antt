@@ -7,10 +7,10 @@ use Rattle.wire.specs.declared.message.Message.{Message}
 use Rattle.client_state.specs.State.{waiting_of}
 use Rattle.open_close.specs.Step.{got_step}
 use Rattle.trace_ends.specs.Core.{Core, CoreStep, server_waiting, server_got, acted}
-use Rattle.trace_sessions.specs.Session.{Seat, Session}
-use Rattle.trace_sessions.specs.Numbers.{numbered, with_numbered}
+use Rattle.trace_ends.specs.Session.{Seat, Session}
+use Rattle.trace_ends.specs.Numbers.{numbered, with_numbered}
 use Rattle.trace_replay.specs.World.{World, routed}
-use Rattle.trace_sessions.specs.Wires.{Wire, bytes_of}
+use Rattle.trace_ends.specs.Wires.{Wire, bytes_of}
 use Rattle.trace_replay.specs.Delivery.{up_some, down_some}
 
 -- what an end has of a record, and what is on its way to it, are together the bytes of this message, and some of them are still on their way

@@ -27,8 +27,8 @@ use Rattle.trace_replay.specs.declared.stage.Stage.TheVariants as stage
 use Rattle.trace_replay.specs.declared.turn.Turn.{Turn}
 use Rattle.trace_replay.specs.declared.turn.Turn.TheVariants as turn
 use Rattle.trace_ends.specs.Core.{Core, Event.Joins, joins, joins_as, happens}
-use Rattle.trace_sessions.specs.Session.{Seat, Session, new_seat, new_session}
-use Rattle.trace_sessions.specs.Numbers.{numbered, with_numbered}
+use Rattle.trace_ends.specs.Session.{Seat, Session, new_seat, new_session}
+use Rattle.trace_ends.specs.Numbers.{numbered, with_numbered}
 use Rattle.trace_replay.specs.World.{World, start}
 use Rattle.trace_replay.specs.Run.{line_most, file_most, tree_most, sessions_most, place_for, sized, file_asks, joins_if, joins_within, event_asks, asks_at, asks, at_events, with_clients, turned}
 use Rattle.trace_replay.specs.Timed.{Timed, Times, read_by, times_with, timing_of, owners_of, timed_start, timed_turn}

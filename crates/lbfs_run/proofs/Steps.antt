@@ -19,8 +19,8 @@ use Rattle.trace_replay.specs.declared.timing.Timing.{Timing}
 use Rattle.trace_replay.specs.declared.timing.Timing.TheVariants as timing
 use Rattle.trace_replay.specs.declared.turn.Turn.{Turn}
 use Rattle.trace_replay.specs.declared.turn.Turn.TheVariants as turn
-use Rattle.trace_sessions.specs.Session.{Session}
-use Rattle.trace_sessions.specs.Numbers.{numbered}
+use Rattle.trace_ends.specs.Session.{Session}
+use Rattle.trace_ends.specs.Numbers.{numbered}
 use Rattle.trace_replay.specs.World.{World}
 use Rattle.trace_replay.specs.Run.{line_most, is_there, asks_if, asks_at, asks, asks_within, at_events, turned, refused}
 use Rattle.trace_replay.specs.Timed.{Timed, Times, timing_of, pass_timing, owners_of, read_by, times_with, with_times, times_if, timed_by, timed_turn}

@@ -1,4 +1,4 @@
-//! Calls that the server took. `taken_at` in `specs/Ops.antt` of `trace_ops` says what an operation has of them.
+//! Calls that the server took. `taken_at` in `specs/Ops.antt` of `trace_ends` says what an operation has of them.
 
 /// A call that the server took, and the step at which it did.
 #[derive(Clone, Copy)]

@@ -17,14 +17,14 @@ use Rattle.client_state.specs.declared.step.ClientStep.{ClientStep}
 use Rattle.client_state.specs.declared.step.Ended.{Ended}
 use Rattle.register_model.specs.declared.op.Op.{Op}
 use Rattle.register_model.specs.declared.op.Word.TheVariants as word
-use Rattle.trace_ops.specs.Commands.{path_word, word_of, file_of, value_at_begin}
+use Rattle.trace_ends.specs.Commands.{path_word, word_of, file_of, value_at_begin}
 use Rattle.trace_ends.specs.Core.{Core, CoreStep, Loss.Nothing, commanded_sessions, does}
-use Rattle.trace_sessions.specs.Session.{Seat, Session, session_of}
-use Rattle.trace_sessions.specs.Numbers.{with_numbered}
+use Rattle.trace_ends.specs.Session.{Seat, Session, session_of}
+use Rattle.trace_ends.specs.Numbers.{with_numbered}
 use Rattle.trace_ends.specs.View.{loss_of}
 use Rattle.trace_ends.specs.declared.core_step.Loss.TheVariants as lost
 use Rattle.trace_ends.specs.declared.core_step.CoreStep.{CoreStep as Left}
-use Rattle.trace_ops.specs.Ops.{begun, op_after, place_with}
+use Rattle.trace_ends.specs.Ops.{begun, op_after, place_with}
 
 abbrev pub as_core_step : Core → Left → CoreStep
 as_core_step k t = record { core = k; loss = loss_of t.loss; session = t.session; up = t.up; down = t.down }

@@ -1,1 +1,2 @@
 mod Commanded
+mod Ways

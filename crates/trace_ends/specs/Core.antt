@@ -26,10 +26,10 @@ use Rattle.register_model.specs.declared.op.Word.{Word}
 use Rattle.trace_text.specs.declared.line.Who.TheVariants as who
 use Rattle.trace_ends.specs.declared.adjusting.Adjustment.{Adjustment}
 use Rattle.trace_ends.specs.declared.adjusting.Adjustment.TheVariants as adjustment
-use Rattle.trace_ops.specs.Commands.{word_of, file_of, value_at_begin}
-use Rattle.trace_ops.specs.Ops.{begun, op_after, place_after, place_with, pointed_at, ops_with}
-use Rattle.trace_sessions.specs.Session.{Seat, Session, commanded_session, is_newest, new_session, session_of, settled_ops, taken_of, taken_with}
-use Rattle.trace_sessions.specs.Numbers.{numbered, with_numbered}
+use Rattle.trace_ends.specs.Commands.{word_of, file_of, value_at_begin}
+use Rattle.trace_ends.specs.Ops.{begun, op_after, place_after, place_with, pointed_at, ops_with}
+use Rattle.trace_ends.specs.Session.{Seat, Session, commanded_session, is_newest, new_session, session_of, settled_ops, taken_of, taken_with}
+use Rattle.trace_ends.specs.Numbers.{numbered, with_numbered}
 
 -- ---- the core
 

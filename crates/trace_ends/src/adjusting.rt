@@ -3,7 +3,7 @@
 
 ghost use Rattle.std.specs.Prelude.{◌≡◌, OnOk};
 ghost use Rattle.client_state.specs.State.{forged, index_cleared, evicted};
-ghost use Rattle.trace_sessions.specs.Numbers.{numbered};
+ghost use Rattle.trace_ends.specs.Numbers.{numbered};
 ghost use Rattle.trace_ends.specs.Core.{with_client, adjusted};
 ghost use Rattle.trace_ends.specs.View.{core_of};
 

@@ -1,13 +1,16 @@
 //! A command of a client. `does` in `specs/Core.antt` says what it makes of the two ends.
 
 ghost use Rattle.std.specs.Prelude.{◌≡◌, ◌+◌, ◌<◌, ◌++◌, ◌∷◌, [], length, slice_get, IfOk, OnOk};
-ghost use Rattle.trace_ops.specs.Commands.{word_of, file_of, value_at_begin};
+ghost use Rattle.trace_ends.specs.Commands.{word_of, file_of, value_at_begin};
 ghost use Rattle.trace_ends.specs.Core.{does, commanded_sessions, happens, Event.Does};
-ghost use Rattle.trace_sessions.specs.Session.{session_of};
-ghost use Rattle.trace_ops.specs.Ops.{begun, op_after};
+ghost use Rattle.trace_ends.specs.Session.{session_of};
+ghost use Rattle.trace_ends.specs.Ops.{begun, op_after};
 ghost use Rattle.trace_ends.specs.View.{core_of, core_step_of};
 
+use crate::commands::{file_of, value_at_begin, word_of};
 use crate::core_step::{CoreStep, Loss};
+use crate::ops;
+use crate::session::{commanded, short_number};
 use crate::world_core::{Core, count_on};
 use client_state::step::ClientStep;
 use command_text::command::Command;
@@ -18,9 +21,6 @@ use session_rules::running::Runs;
 use session_rules::session::Session;
 use shared_bytes::SharedBytes;
 use std::alloc::{AllocError, Global};
-use trace_ops::commands::{file_of, value_at_begin, word_of};
-use trace_ops::ops;
-use trace_sessions::session::{commanded, short_number};
 
 /// What a command leaves of its client's newest session.
 fn command_session(

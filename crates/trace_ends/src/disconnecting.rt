@@ -5,10 +5,12 @@ ghost use Rattle.std.specs.Prelude.{◌≡◌, ◌+◌, ◌<◌, length, slice_g
 ghost use Rattle.server_core.specs.Step.{server_step};
 ghost use Rattle.server_core.specs.declared.event.Event.TheVariants as event;
 ghost use Rattle.trace_ends.specs.Core.{loss_down, cut_session, cuts, happens, Event.Cuts, Event.Hangs};
-ghost use Rattle.trace_sessions.specs.Session.{session_of};
+ghost use Rattle.trace_ends.specs.Session.{session_of};
 ghost use Rattle.trace_ends.specs.View.{core_of, loss_of, core_step_of};
 
 use crate::core_step::{CoreStep, Loss};
+use crate::ops::note_with;
+use crate::session::{short_number, taken_of};
 use crate::world_core::{Core, count_on};
 use server_core::event::{Event, let_go_step};
 use server_core::server::Server;
@@ -16,8 +18,6 @@ use session_rules::numbers::place_of;
 use session_rules::running::running_at;
 use session_rules::session::Session;
 use std::alloc::{AllocError, Global};
-use trace_ops::ops::note_with;
-use trace_sessions::session::{short_number, taken_of};
 
 /// What is dropped where a client loses its newest session: what is on its way down.
 fn loss_down(session: Option<u32>) -> Loss

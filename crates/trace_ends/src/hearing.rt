@@ -2,16 +2,16 @@
 
 ghost use Rattle.std.specs.Prelude.{◌≡◌, ◌+◌, ◌<◌, length, slice_get, IfOk};
 ghost use Rattle.trace_ends.specs.Core.{hears_at, happens, Event.Hears};
-ghost use Rattle.trace_sessions.specs.Numbers.{numbered};
+ghost use Rattle.trace_ends.specs.Numbers.{numbered};
 ghost use Rattle.trace_ends.specs.View.{core_of, core_step_of};
 
 use crate::core_step::{CoreStep, Loss};
+use crate::ops::note_with;
+use crate::session::{is_newest, taken_of};
 use crate::world_core::{Core, count_on};
 use session_rules::numbers::place_of;
 use session_rules::running::Runs;
 use std::alloc::{AllocError, Global};
-use trace_ops::ops::note_with;
-use trace_sessions::session::{is_newest, taken_of};
 
 /// The client at this place hears a record of this session, unless it has left it.
 fn hears_at(

@@ -2,20 +2,20 @@
 
 ghost use Rattle.std.specs.Prelude.{◌≡◌, ◌+◌, ◌<◌, ◌^◌, ◌++◌, length, replicate, slice_get, slice_set, IfOk, IfSome, OnOk};
 ghost use Rattle.trace_ends.specs.Core.{changed_file, newest_entries, server_waiting, server_got, serves, happens, Event.Serves};
-ghost use Rattle.trace_ops.specs.Ops.{pointed_at};
-ghost use Rattle.trace_sessions.specs.Session.{taken_with};
+ghost use Rattle.trace_ends.specs.Ops.{pointed_at};
+ghost use Rattle.trace_ends.specs.Session.{taken_with};
 ghost use Rattle.trace_ends.specs.View.{core_of, core_step_of};
 
 use crate::core_step::CoreStep;
 use crate::entering::{changed_by, enter};
+use crate::parsing::parse_record;
+use crate::session::{remember, short_number};
 use crate::world_core::{Core, count_on};
 use lb_base::items::Items;
 use server_core::event::{Event, let_go, let_go_step};
 use session_rules::numbers::place_of;
 use session_rules::pointing::point_at;
 use std::alloc::{AllocError, Global};
-use trace_sessions::parsing::parse_record;
-use trace_sessions::session::{remember, short_number};
 use wire::message::{Message, Side, Waiting};
 
 /// The server asks for nothing, so nothing waits there.

@@ -4,15 +4,15 @@
 ghost use Rattle.std.specs.Prelude.{◌≡◌, ◌+◌, [], ◌++◌, replicate, IfOk, OnOk};
 ghost use Rattle.server_core.specs.State.{empty};
 ghost use Rattle.server_core.specs.Step.{opens_with};
-ghost use Rattle.trace_sessions.specs.Session.{new_seat};
+ghost use Rattle.trace_ends.specs.Session.{new_seat};
 ghost use Rattle.trace_ends.specs.View.{core_of};
 
+use crate::seat::Seat;
 use lb_base::items::{Items, Name};
 use register_model::op::Op;
 use server_core::server::Server;
 use session_rules::session::Session;
 use std::alloc::{AllocError, Global};
-use trace_sessions::seat::Seat;
 use tree_nodes::node::Body;
 
 /// The server, the clients, and what the history tells of them, without the bytes between them.

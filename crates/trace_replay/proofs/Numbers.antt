@@ -2,8 +2,8 @@
 use Rattle.std.proofs.Common.{◌≡◌, ℕ, zero, suc, ◌+◌, ◌<◌, List, Some, arith, refl, ap, ◌∙◌, length, slice_index_or, slice_set}
 use Rattle.std.specs.Prelude.{slice_get, map, option_map}
 use Rattle.std.proofs.lemmas.Option.{slice_get-map, slice_get_read}
-use Rattle.trace_sessions.specs.Session.{Session}
-use Rattle.trace_sessions.specs.Numbers.{numbered, with_numbered}
+use Rattle.trace_ends.specs.Session.{Session}
+use Rattle.trace_ends.specs.Numbers.{numbered, with_numbered}
 
 pub at_number : {A : Type 0} (xs : List A) (place number : ℕ) → number ≡ place + 1 → numbered xs number ≡ slice_get xs place
 at_number xs place zero e = absurd (omega (arith, e))

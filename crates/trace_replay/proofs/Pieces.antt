@@ -5,11 +5,11 @@ use Rattle.std.proofs.lemmas.Option.{slice_get_read}
 use Rattle.rpc_record.specs.Records.{fed}
 use Rattle.trace_text.specs.declared.line.Amount.{Amount}
 use Rattle.trace_ends.specs.Core.{Event, Event.Serves, Event.Hears}
-use Rattle.trace_sessions.specs.Numbers.{numbered, with_numbered}
+use Rattle.trace_ends.specs.Numbers.{numbered, with_numbered}
 use Rattle.trace_replay.specs.World.{World}
-use Rattle.trace_sessions.specs.Wires.{Wire}
+use Rattle.trace_ends.specs.Wires.{Wire}
 use Rattle.trace_replay.specs.Delivery.{all_happened, up_at, up_some, up_length, down_at, down_some, down_length}
-use Rattle.trace_sessions.specs.Queue.{count_of}
+use Rattle.trace_ends.specs.Queue.{count_of}
 use Rattle.trace_replay.proofs.Numbers.{at_number, set_number}
 
 wire_at : (wires : List Wire) (place number : ℕ) (q : Wire) → number ≡ place + 1 → place < length wires → q ≡ slice_index_or wires place q → numbered wires number ≡ Some q

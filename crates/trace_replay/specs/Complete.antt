@@ -8,10 +8,10 @@ use Rattle.server_core.specs.declared.change.Change.{Change}
 use Rattle.register_model.specs.declared.op.Op.{Op}
 use Rattle.register_model.specs.declared.op.Outcome.{Outcome}
 use Rattle.register_model.specs.declared.op.Outcome.TheVariants as told
-use Rattle.trace_ops.specs.Commands.{file_of}
-use Rattle.trace_sessions.specs.Session.{Seat, Session}
+use Rattle.trace_ends.specs.Commands.{file_of}
+use Rattle.trace_ends.specs.Session.{Seat, Session}
 use Rattle.trace_ends.specs.Core.{Event.Cuts}
-use Rattle.trace_sessions.specs.Numbers.{numbered}
+use Rattle.trace_ends.specs.Numbers.{numbered}
 use Rattle.trace_replay.specs.World.{World}
 use Rattle.trace_replay.specs.Delivery.{is_still}
 use Rattle.trace_replay.specs.Trail.{Deed, Moment, deeds_of, step_of}

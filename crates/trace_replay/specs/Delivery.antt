@@ -2,9 +2,9 @@
 use Rattle.std.specs.Prelude.{ℕ, zero, suc, List, [], ◌∷◌, map, Option, Some, None, Bool, true, false, length, take, drop}
 use Rattle.rpc_record.specs.Records.{fed}
 use Rattle.trace_ends.specs.Core.{Event, Event.Serves, Event.Hears}
-use Rattle.trace_sessions.specs.Numbers.{numbered, with_numbered}
+use Rattle.trace_ends.specs.Numbers.{numbered, with_numbered}
 use Rattle.trace_replay.specs.World.{World, happened}
-use Rattle.trace_sessions.specs.Wires.{Wire, is_still_at}
+use Rattle.trace_ends.specs.Wires.{Wire, is_still_at}
 
 -- one event after the other
 abbrev pub all_happened : World → List Event → World

@@ -24,14 +24,14 @@ use Rattle.register_model.specs.declared.op.Op.{Op}
 use Rattle.register_model.specs.declared.op.Outcome.{Outcome}
 use Rattle.register_model.specs.declared.op.Outcome.TheVariants as told
 use Rattle.register_model.specs.declared.op.Word.TheVariants as word
-use Rattle.trace_ops.specs.Ops.{no_traffic}
+use Rattle.trace_ends.specs.Ops.{no_traffic}
 use Rattle.trace_ends.specs.Core.{is_of_file, Event.Settles, Event.Cuts, happens}
 use Rattle.trace_replay.specs.Naming.{failed_by, refusal_of}
 use Rattle.trace_replay.specs.NameChanges.{NamesChangeBy}
 use Rattle.trace_replay.specs.Walking.{AreCalls, HasFoundFile}
-use Rattle.trace_ops.specs.Commands.{word_of, file_of}
-use Rattle.trace_sessions.specs.Session.{Session}
-use Rattle.trace_sessions.specs.Numbers.{numbered}
+use Rattle.trace_ends.specs.Commands.{word_of, file_of}
+use Rattle.trace_ends.specs.Session.{Session}
+use Rattle.trace_ends.specs.Numbers.{numbered}
 use Rattle.trace_replay.specs.Trail.{Deed, Moment, Said, AreCounted, told_of, events_of, deeds_of, told_in, openings_of, commands_of, step_of, sent_of, taken_of}
 use Rattle.trace_replay.specs.Traffic.{is_of, attempts_of, traffic_of, stored_traffic, CountsOwn, SentCommit, AttemptsEnd, AttemptsMet, deals_of, IsFor, NamesChunks}
 use Rattle.trace_replay.specs.Fetches.{EachReaches, GotBy, last_fetch, read_traffic}

@@ -10,7 +10,7 @@ use Rattle.wire.specs.declared.message.Message.TheVariants as message
 use Rattle.file_open.specs.Shape.{with_pairs}
 use Rattle.register_model.specs.declared.op.Op.{Op}
 use Rattle.register_model.specs.declared.op.Traffic.{Traffic}
-use Rattle.trace_ops.specs.Ops.{no_traffic}
+use Rattle.trace_ends.specs.Ops.{no_traffic}
 use Rattle.trace_replay.specs.Trail.{place_of}
 use Rattle.trace_replay.specs.Traffic.{Deal, Deal.Took, Deal.Found, Deal.Sent, begins, attempts_in}
 

@@ -3,7 +3,7 @@ use Rattle.std.specs.Prelude.{◌≡◌, ℕ, ◌+◌, List, [], ◌∷◌, ◌+
 use Rattle.wire.specs.declared.message.Message.{Message}
 use Rattle.wire.specs.declared.message.Message.TheVariants as message
 use Rattle.trace_ends.specs.Core.{CoreStep, happens}
-use Rattle.trace_sessions.specs.Session.{is_newest}
+use Rattle.trace_ends.specs.Session.{is_newest}
 use Rattle.trace_replay.specs.Trail.{Moment}
 
 -- of the calls among messages

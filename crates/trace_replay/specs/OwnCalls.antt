@@ -7,9 +7,9 @@ use Rattle.client_state.specs.State.{pending, has_call}
 use Rattle.tree_reading.specs.declared.call.Held.{Held}
 use Rattle.server_core.specs.State.{held}
 use Rattle.server_core.specs.declared.change.Change.{Change}
-use Rattle.trace_sessions.specs.Session.{Seat}
+use Rattle.trace_ends.specs.Session.{Seat}
 use Rattle.trace_ends.specs.Core.{Event, Event.Serves, Event.Settles, server_waiting}
-use Rattle.trace_sessions.specs.Numbers.{numbered}
+use Rattle.trace_ends.specs.Numbers.{numbered}
 use Rattle.trace_replay.specs.Trail.{Moment, step_of}
 use Rattle.trace_replay.specs.Book.{Book}
 

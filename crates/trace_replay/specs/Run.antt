@@ -28,11 +28,11 @@ use Rattle.trace_ends.specs.declared.adjusting.Adjustment.TheVariants as adjustm
 use Rattle.trace_replay.specs.declared.turn.Turn.{Turn}
 use Rattle.trace_replay.specs.declared.turn.Turn.TheVariants as turn
 use Rattle.trace_ends.specs.Core.{Core, Event.Joins, Event.Does, Event.Settles, Event.Cuts, Event.Hangs}
-use Rattle.trace_sessions.specs.Session.{Seat, new_seat}
-use Rattle.trace_sessions.specs.Numbers.{numbered}
+use Rattle.trace_ends.specs.Session.{Seat, new_seat}
+use Rattle.trace_ends.specs.Numbers.{numbered}
 use Rattle.trace_replay.specs.World.{World, start, happened, adjusts}
 use Rattle.trace_replay.specs.Delivery.{up_some, down_some, up_length, down_length, passes}
-use Rattle.trace_sessions.specs.Queue.{count_of}
+use Rattle.trace_ends.specs.Queue.{count_of}
 
 -- ---- limits
 

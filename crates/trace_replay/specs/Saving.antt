@@ -23,10 +23,10 @@ use Rattle.file_open.specs.Opening.{lease_call, hash_call}
 use Rattle.register_model.specs.declared.op.Op.{Op}
 use Rattle.register_model.specs.declared.op.Outcome.TheVariants as told
 use Rattle.register_model.specs.declared.op.Word.TheVariants as word
-use Rattle.trace_ops.specs.Ops.{no_traffic}
-use Rattle.trace_sessions.specs.Session.{Seat}
+use Rattle.trace_ends.specs.Ops.{no_traffic}
+use Rattle.trace_ends.specs.Session.{Seat}
 use Rattle.trace_ends.specs.Core.{Event.Does, Event.Serves, Event.Hears, server_waiting, happens}
-use Rattle.trace_sessions.specs.Numbers.{numbered}
+use Rattle.trace_ends.specs.Numbers.{numbered}
 use Rattle.trace_replay.specs.Trail.{Moment, step_of, client_of, taken_by}
 use Rattle.trace_replay.specs.Traffic.{is_in}
 use Rattle.trace_replay.specs.Book.{Book, version_at}

@@ -16,7 +16,7 @@ use Rattle.trace_replay.specs.declared.fault.Refused.{Refused}
 use Rattle.trace_replay.specs.declared.timing.Timing.{Timing}
 use Rattle.trace_replay.specs.declared.timing.Timing.TheVariants as timing
 use Rattle.trace_replay.specs.declared.turn.Turn.{Turn}
-use Rattle.trace_sessions.specs.Numbers.{numbered}
+use Rattle.trace_ends.specs.Numbers.{numbered}
 use Rattle.trace_replay.specs.World.{World, start}
 use Rattle.trace_replay.specs.Run.{asked, turned, refused, in_header, ended}
 

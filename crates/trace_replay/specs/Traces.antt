@@ -25,11 +25,11 @@ use Rattle.tree_calls.specs.declared.asked.Asked.TheVariants as asked
 use Rattle.trace_replay.specs.declared.fault.Refused.{Refused}
 use Rattle.trace_replay.specs.declared.fault.TraceErr.{TraceErr}
 use Rattle.trace_replay.specs.declared.fault.TraceErr.TheVariants as errors
-use Rattle.trace_sessions.specs.Session.{Seat, Session}
-use Rattle.trace_sessions.specs.Numbers.{numbered}
+use Rattle.trace_ends.specs.Session.{Seat, Session}
+use Rattle.trace_ends.specs.Numbers.{numbered}
 use Rattle.trace_ends.specs.Core.{server_waiting}
 use Rattle.trace_replay.specs.World.{World, history_of}
-use Rattle.trace_sessions.specs.Wires.{Wire, bytes_of}
+use Rattle.trace_ends.specs.Wires.{Wire, bytes_of}
 use Rattle.trace_replay.specs.Trail.{moments, hashed}
 use Rattle.trace_replay.specs.Traffic.{deals_of, stored_traffic}
 use Rattle.trace_replay.specs.Book.{Book, AreApart, HadContent, Or, book_of, value_at, version_at}

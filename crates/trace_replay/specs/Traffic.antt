@@ -18,7 +18,7 @@ use Rattle.register_model.specs.declared.op.Outcome.TheVariants as told
 use Rattle.register_model.specs.declared.op.Traffic.{Traffic}
 use Rattle.register_model.specs.declared.op.Word.{Word}
 use Rattle.register_model.specs.declared.op.Word.TheVariants as word
-use Rattle.trace_ops.specs.Ops.{no_traffic}
+use Rattle.trace_ends.specs.Ops.{no_traffic}
 use Rattle.trace_ends.specs.Core.{happens}
 use Rattle.trace_replay.specs.Trail.{Moment, Said, step_of, client_of, taken_by, given_by}
 

@@ -24,13 +24,13 @@ use Rattle.register_model.specs.declared.op.Opening.{Opening}
 use Rattle.trace_replay.specs.declared.turn.Turn.{Turn}
 use Rattle.trace_replay.specs.declared.turn.Turn.TheVariants as turn
 use Rattle.trace_ends.specs.Core.{Core, Event, Event.Joins, Event.Does, Event.Serves, Event.Hears, Event.Settles, Event.Cuts, Event.Hangs, server_waiting, happens}
-use Rattle.trace_sessions.specs.Session.{Seat, Session, is_newest}
-use Rattle.trace_sessions.specs.Numbers.{numbered}
+use Rattle.trace_ends.specs.Session.{Seat, Session, is_newest}
+use Rattle.trace_ends.specs.Numbers.{numbered}
 use Rattle.trace_replay.specs.World.{World, start, happened}
-use Rattle.trace_sessions.specs.Wires.{Wire}
+use Rattle.trace_ends.specs.Wires.{Wire}
 use Rattle.trace_replay.specs.Delivery.{up_taken, up_events, down_taken, down_events, up_length, down_length, up_all, round, is_still}
 use Rattle.trace_replay.specs.Run.{asked_by, turned, at_events}
-use Rattle.trace_sessions.specs.Queue.{count_of}
+use Rattle.trace_ends.specs.Queue.{count_of}
 
 -- an event, and what the two ends were before it
 pub record Moment : Type 0 where

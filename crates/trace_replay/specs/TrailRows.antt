@@ -18,9 +18,9 @@ use Rattle.client_state.specs.State as client
 use Rattle.server_core.specs.State as server
 use Rattle.register_model.specs.declared.op.Op.{Op}
 use Rattle.register_model.specs.declared.op.Word.TheVariants as word
-use Rattle.trace_ops.specs.Ops.{begun}
+use Rattle.trace_ends.specs.Ops.{begun}
 use Rattle.trace_ends.specs.Core.{Core, happens, Event.Joins, Event.Does, Event.Settles, Event.Cuts, Event.Hangs}
-use Rattle.trace_sessions.specs.Session.{new_seat}
+use Rattle.trace_ends.specs.Session.{new_seat}
 use Rattle.trace_replay.specs.Trail.{Deed, Said, moments, deeds_of, commands_of, events_of, AreCounted}
 use Rattle.trace_replay.specs.Traffic.{Deal, Deal.Took, Deal.Found, Deal.Sent, attempts_of}
 use Rattle.trace_replay.specs.Fetches.{fetches_in, no_fetch, chosen, ReachesFirst, EachReaches}

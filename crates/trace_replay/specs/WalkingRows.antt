@@ -11,7 +11,7 @@ use Rattle.path_calls.specs.Walk.{begun, create_call}
 use Rattle.register_model.specs.declared.op.Op.{Op}
 use Rattle.register_model.specs.declared.op.Outcome.TheVariants as outcome
 use Rattle.register_model.specs.declared.op.Word.TheVariants as word
-use Rattle.trace_ops.specs.Ops.{no_traffic}
+use Rattle.trace_ends.specs.Ops.{no_traffic}
 use Rattle.trace_replay.specs.Traffic.{Deal, Deal.Sent, Deal.Took}
 use Rattle.trace_replay.specs.Walking.{Part, Part.asks, IsWalk, IsUnfound, HasWalkFile}
 

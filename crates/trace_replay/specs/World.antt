@@ -9,9 +9,9 @@ use Rattle.trace_ends.specs.declared.adjusting.Adjustment.{Adjustment}
 use Rattle.trace_replay.specs.declared.stage.Stage.{Stage}
 use Rattle.trace_replay.specs.declared.stage.Stage.TheVariants as stage
 use Rattle.trace_ends.specs.Core.{Core, CoreStep, Event, Loss, Loss.Nothing, Loss.Made, Loss.Down_of, Loss.Up_of, happens, adjusted}
-use Rattle.trace_sessions.specs.Session.{Session}
-use Rattle.trace_sessions.specs.Numbers.{numbered, with_numbered}
-use Rattle.trace_sessions.specs.Wires.{Wire, bytes_of, new_wire, unless, up_put}
+use Rattle.trace_ends.specs.Session.{Session}
+use Rattle.trace_ends.specs.Numbers.{numbered, with_numbered}
+use Rattle.trace_ends.specs.Wires.{Wire, bytes_of, new_wire, unless, up_put}
 
 pub record World : Type 0 where
   -- which lines may come next

@@ -2,10 +2,10 @@
 //! `specs/Delivery.antt` says what a delivery, a round and a pass make of a world.
 
 ghost use Rattle.std.specs.Prelude.{◌≡◌, ◌<◌, ◌^◌, map, OnOk};
-ghost use Rattle.trace_sessions.specs.Numbers.{numbered};
+ghost use Rattle.trace_ends.specs.Numbers.{numbered};
 ghost use Rattle.trace_ends.specs.Core.{Event.Serves, Event.Hears};
 ghost use Rattle.trace_replay.specs.Delivery.{all_happened, up_some, down_some, up_all, down_all, up_length, down_length, is_still, round, passes};
-ghost use Rattle.trace_sessions.specs.Queue.{count_of};
+ghost use Rattle.trace_ends.specs.Queue.{count_of};
 ghost use Rattle.trace_replay.specs.WorldView.{world_of};
 
 use crate::state::WorldState;

@@ -2,7 +2,7 @@
 //! goes.
 
 ghost use Rattle.std.specs.Prelude.{◌≡◌, OnOk};
-ghost use Rattle.trace_sessions.specs.Numbers.{numbered};
+ghost use Rattle.trace_ends.specs.Numbers.{numbered};
 ghost use Rattle.trace_replay.specs.World.{down_put_in, down_put};
 
 use send_list::SendList;
@@ -10,7 +10,7 @@ use server_core::event::Sent;
 use session_rules::session::Session;
 use session_rules::wire::Wire;
 use std::alloc::{AllocError, Global};
-use trace_sessions::sending;
+use trace_ends::sending;
 
 /// Puts a message of the server on its way down its session, unless the client saw it lost.
 #[tactic(auto, using(crate::proofs::SentDown::message_in))]

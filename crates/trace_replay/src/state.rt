@@ -17,8 +17,8 @@ use session_rules::wire::Wire;
 use std::alloc::{AllocError, Global};
 use trace_ends::adjusting::{Adjustment, adjust};
 use trace_ends::core_step::CoreStep;
+use trace_ends::sending::up_put;
 use trace_ends::world_core::Core;
-use trace_sessions::sending::up_put;
 
 /// A world's fields.
 pub struct WorldState {

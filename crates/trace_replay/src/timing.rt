@@ -1,7 +1,7 @@
 //! The clocks of a trace. `specs/Timed.antt` says what a line says of them.
 
 ghost use Rattle.std.specs.Prelude.{◌≡◌, map};
-ghost use Rattle.trace_sessions.specs.Numbers.{numbered};
+ghost use Rattle.trace_ends.specs.Numbers.{numbered};
 ghost use Rattle.trace_replay.specs.Timed.{no_times, down_timing, pass_timing, timing_of, times_with, IsTaken};
 ghost use Rattle.trace_replay.specs.WorldView.{times_of};
 ghost use Rattle.trace_replay.specs.declared.timing.Timing.TheVariants as timing;

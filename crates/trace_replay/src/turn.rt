@@ -2,7 +2,7 @@
 
 ghost use Rattle.std.specs.Prelude.{◌≡◌, true, false, nat_lt, nat_le, IfOk, Some};
 ghost use Rattle.trace_text.specs.Reading.{IsTimely};
-ghost use Rattle.trace_sessions.specs.Numbers.{numbered};
+ghost use Rattle.trace_ends.specs.Numbers.{numbered};
 ghost use Rattle.trace_replay.specs.World.{World};
 ghost use Rattle.trace_replay.specs.Run.{is_there, has_index, asks_if, place_for, file_asks, directory_asks, joins_within, joins_if, adjust_asks, event_asks, asks_at, asks, asks_within, asked, in_header};
 ghost use Rattle.trace_replay.specs.Turns.{IsTurnBounded, is_do, stage_after};
@@ -22,8 +22,8 @@ use lb_base::items::Name;
 use limits::{FILE_MOST, LINES_MOST, SESSIONS_MOST, TREE_MOST};
 use session_rules::numbers::place_of;
 use trace_ends::adjusting::Adjustment;
+use trace_ends::seat::Seat;
 use trace_ends::world_core::Core;
-use trace_sessions::seat::Seat;
 use trace_text::line::{Amount, Line, Who};
 use trace_text::refusal::{Limit, LineFault};
 

@@ -3,7 +3,7 @@
 
 ghost use Rattle.std.specs.Prelude.{◌≡◌, OnOk};
 ghost use Rattle.trace_replay.specs.World.{down_lost, up_lost, lost_by};
-ghost use Rattle.trace_sessions.specs.Numbers.{numbered};
+ghost use Rattle.trace_ends.specs.Numbers.{numbered};
 ghost use Rattle.trace_ends.specs.View.{loss_of};
 
 use session_rules::numbers::place_of;

@@ -1,7 +1,7 @@
 use Rattle.std.proofs.Common.{ℕ, ◌≡◌, ◌∙◌, refl, sym, ap, rules, length}
 use Rattle.std.specs.Prelude.{slice_set}
 use Rattle.std.proofs.lemmas.Option.{slice_get_read, same_Some}
-use Rattle.trace_sessions.specs.Session.{Seat}
+use Rattle.trace_ends.specs.Session.{Seat}
 use Rattle.trace_ends.specs.View.{core_of}
 use Rattle.trace_ends.proofs.Commanded.{does_is, left_is}
 use Rattle.trace_ends.proofs.commanding.does_at.Goals as goal

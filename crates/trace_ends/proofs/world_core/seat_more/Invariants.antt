@@ -1,5 +1,5 @@
 use Rattle.std.proofs.Common.{◌≡◌, ◌++◌, replicate}
-use Rattle.trace_sessions.specs.Session.{new_seat}
+use Rattle.trace_ends.specs.Session.{new_seat}
 use Rattle.trace_ends.proofs.world_core.seat_more.Given as goal
 
 abbrev pub invariant-loop-i : goal.invariant-loop-i

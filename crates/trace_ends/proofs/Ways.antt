@@ -6,8 +6,8 @@ use Rattle.std.proofs.lemmas.Option.{same_Some, none-some, slice_get_past}
 use Rattle.wire.specs.declared.message.Message.{Message}
 use Rattle.session_rules.specs.Session.{Session}
 use Rattle.session_rules.specs.Ways.{own_way, way_up, way_down}
-use Rattle.trace_sessions.specs.Numbers.{numbered}
-use Rattle.trace_sessions.specs.Wires.{Wire, unless, bytes_of, up_put_in, message_put_in}
+use Rattle.trace_ends.specs.Numbers.{numbered}
+use Rattle.trace_ends.specs.Wires.{Wire, unless, bytes_of, up_put_in, message_put_in}
 
 -- an element put back where it stands changes nothing
 put_back : {A : Type 0} (xs : List A) (i : ℕ) (x : A) → slice_get xs i ≡ Some x → slice_set xs i x ≡ xs

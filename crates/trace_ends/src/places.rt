@@ -1,7 +1,7 @@
 //! The place of the operation under way of a client. `specs/Ops.antt` says where it is.
 
 ghost use Rattle.std.specs.Prelude.{◌≡◌};
-ghost use Rattle.trace_ops.specs.Ops.{place_after, place_with, closing_with};
+ghost use Rattle.trace_ends.specs.Ops.{place_after, place_with, closing_with};
 
 use client_state::step::Ended;
 use register_model::op::Word;

@@ -6,10 +6,11 @@ ghost use Rattle.wire.specs.Parse.{parse_of};
 ghost use Rattle.client_state.specs.State.{waiting_of, forged, index_cleared, evicted};
 ghost use Rattle.open_close.specs.Step.{command_step, got_step};
 ghost use Rattle.client_state.specs.Ending.{joined, cut};
-ghost use Rattle.trace_sessions.specs.Session.{new_seat};
-ghost use Rattle.trace_ops.specs.Ops.{place_after, place_with};
+ghost use Rattle.trace_ends.specs.Session.{new_seat};
+ghost use Rattle.trace_ends.specs.Ops.{place_after, place_with};
 
 use crate::parsing::parse_record;
+use crate::places::{place_after, place_with};
 use chunk_index::place::Place;
 use client_state::step::ClientStep;
 use command_text::command::Command;
@@ -17,7 +18,6 @@ use open_close::client::Client;
 use session_rules::running::Runs;
 use std::alloc::{AllocError, Global};
 use std::marker::Model;
-use trace_ops::places::{place_after, place_with};
 
 /// A client, which may have joined or not.
 pub struct Seat {
@@ -42,7 +42,7 @@ impl Drop for Seat {
 }
 
 impl Model for Seat {
-    ghost use Rattle.trace_sessions.specs.Session.{Seat as CoreSeat};
+    ghost use Rattle.trace_ends.specs.Session.{Seat as CoreSeat};
 
     ghost Value = { CoreSeat };
 

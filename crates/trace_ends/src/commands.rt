@@ -3,7 +3,7 @@
 
 ghost use Rattle.std.specs.Prelude.{◌≡◌, IfOk};
 ghost use Rattle.client_state.specs.State.{local_bytes};
-ghost use Rattle.trace_ops.specs.Commands.{path_word, word_of, file_of, value_at_begin};
+ghost use Rattle.trace_ends.specs.Commands.{path_word, word_of, file_of, value_at_begin};
 
 use client_state::step::Ended;
 use command_text::command::Command;

@@ -4,7 +4,7 @@
 ghost use Rattle.std.specs.Prelude.{◌≡◌, ◌++◌, [], ◌∷◌, IfOk, OnOk};
 ghost use Rattle.rpc_record.specs.Records.{marked};
 ghost use Rattle.wire.specs.Message.{message_spell};
-ghost use Rattle.trace_sessions.specs.Wires.{bytes_of};
+ghost use Rattle.trace_ends.specs.Wires.{bytes_of};
 
 use lb_base::items::Bytes;
 use send_list::SendList;

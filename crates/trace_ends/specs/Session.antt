@@ -6,8 +6,8 @@ use Rattle.client_state.specs.State as client
 use Rattle.client_state.specs.declared.step.ClientStep.{ClientStep}
 use Rattle.register_model.specs.declared.op.Word.{Word}
 use Rattle.session_rules.specs.declared.taken_call.TakenCall.{TakenCall}
-use Rattle.trace_ops.specs.Ops.{taken_on, closing_with}
-use Rattle.trace_sessions.specs.Numbers.{numbered}
+use Rattle.trace_ends.specs.Ops.{taken_on, closing_with}
+use Rattle.trace_ends.specs.Numbers.{numbered}
 pub use Rattle.session_rules.specs.Session.{Session, new_session}
 pub use Rattle.session_rules.specs.Points.{settled_ops}
 

@@ -3,7 +3,7 @@
 
 ghost use Rattle.std.specs.Prelude.{◌≡◌, ◌==◌, find, slice_get, IfOk, OnOk};
 ghost use Rattle.std.specs.Option.{option_copied};
-ghost use Rattle.trace_ops.specs.Ops.{ops_after, ops_with, has_point, taken_at, point_if, value_of, counted, ended_op, file_with, op_after, begun};
+ghost use Rattle.trace_ends.specs.Ops.{ops_after, ops_with, has_point, taken_at, point_if, value_of, counted, ended_op, file_with, op_after, begun};
 
 use crate::commands::local_bytes;
 use client_state::step;

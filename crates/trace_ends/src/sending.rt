@@ -1,8 +1,8 @@
 //! What is sent on a session put on its way. `specs/Wires.antt` says where it goes.
 
 ghost use Rattle.std.specs.Prelude.{◌≡◌, OnOk};
-ghost use Rattle.trace_sessions.specs.Numbers.{numbered};
-ghost use Rattle.trace_sessions.specs.Wires.{up_put_in, up_put, message_put_in};
+ghost use Rattle.trace_ends.specs.Numbers.{numbered};
+ghost use Rattle.trace_ends.specs.Wires.{up_put_in, up_put, message_put_in};
 
 use crate::outbox::{put_each, put_one};
 use send_list::SendList;

@@ -3,8 +3,8 @@ use Rattle.std.specs.Prelude.{ℕ, List, [], ◌∷◌, ◌++◌, map, Option, S
 use Rattle.rpc_record.specs.Records.{stream}
 use Rattle.wire.specs.Message.{message_spell}
 use Rattle.wire.specs.declared.message.Message.{Message}
-use Rattle.trace_sessions.specs.Numbers.{numbered, with_numbered}
-use Rattle.trace_sessions.specs.Session.{Session}
+use Rattle.trace_ends.specs.Numbers.{numbered, with_numbered}
+use Rattle.trace_ends.specs.Session.{Session}
 pub use Rattle.session_rules.specs.Wires.{Wire, new_wire, is_still_at}
 
 -- the bytes of messages, each a record of one fragment

@@ -2,15 +2,15 @@
 //! what a command and a call that is taken leave of it.
 
 ghost use Rattle.std.specs.Prelude.{◌≡◌, OnOk, IfOk};
-ghost use Rattle.trace_sessions.specs.Session.{is_newest, taken_with, taken_of, session_of, commanded_session};
+ghost use Rattle.trace_ends.specs.Session.{is_newest, taken_with, taken_of, session_of, commanded_session};
 
+use crate::places::closing_with;
 use client_state::step::ClientStep;
 use register_model::op::Word;
 use session_rules::numbers::place_of;
 use session_rules::session::Session;
 use session_rules::taken_call::TakenCall;
 use std::alloc::AllocError;
-use trace_ops::places::closing_with;
 use wire::message::Message;
 
 /// What a command of its client leaves of a session, where it is that one's newest.

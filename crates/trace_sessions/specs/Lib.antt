@@ -1,4 +1,0 @@
-pub mod Numbers
-pub mod Session
-pub mod Queue
-pub mod Wires
