@@ -26,6 +26,8 @@ use Rattle.register_model.specs.declared.op.Word.{Word}
 use Rattle.trace_text.specs.declared.line.Who.TheVariants as who
 use Rattle.trace_ends.specs.declared.adjusting.Adjustment.{Adjustment}
 use Rattle.trace_ends.specs.declared.adjusting.Adjustment.TheVariants as adjustment
+use Rattle.trace_ends.specs.declared.adjusting.Change.{Change}
+use Rattle.trace_ends.specs.declared.adjusting.Change.TheVariants as changing
 use Rattle.trace_ends.specs.Commands.{word_of, file_of, value_at_begin}
 use Rattle.trace_ends.specs.Ops.{begun, op_after, place_after, place_with, pointed_at, ops_with}
 use Rattle.trace_ends.specs.Session.{Seat, Session, commanded_session, is_newest, new_session, session_of, settled_ops, taken_of, taken_with}
@@ -264,6 +266,12 @@ happens k (Cuts number) = cuts k number (numbered k.seats number)
 happens k (Hangs number) = hangs k number (numbered k.sessions number)
 
 -- ---- an index or a cache alone
+
+-- what a change of its index or its cache makes of a client
+abbrev pub client_changed : Change → client.State → client.State
+client_changed (changing.Forge key place) = λ s. client.forged s key place
+client_changed changing.Clear = client.index_cleared
+client_changed (changing.Evict file) = λ s. client.evicted s file
 
 -- a client, if there is one of this number, is changed so
 abbrev pub with_client : Core → (number : ℕ) → (client.State → client.State) → Option Seat → Core

@@ -2,9 +2,8 @@
 //! that makes of the two ends: no step, and nothing is sent.
 
 ghost use Rattle.std.specs.Prelude.{◌≡◌, OnOk};
-ghost use Rattle.client_state.specs.State.{forged, index_cleared, evicted};
 ghost use Rattle.trace_ends.specs.Numbers.{numbered};
-ghost use Rattle.trace_ends.specs.Core.{with_client, adjusted};
+ghost use Rattle.trace_ends.specs.Core.{with_client, client_changed, adjusted};
 ghost use Rattle.trace_ends.specs.View.{core_of};
 
 use crate::world_core::Core;
@@ -24,33 +23,24 @@ pub enum Adjustment {
     Evict { client: u64, file: u64 },
 }
 
-/// A client, if there is one of this number, gets this place for the key in its index.
-fn forge_client(core: &mut Core, client: u64, key: u64, place: Place) -> Result<(), AllocError>
-    ensures { OnOk result (core_of core.new ≡ with_client (core_of core.old) client (λ s. forged s key place) (numbered core.old.seats.items client)) }
+/// A change of one client's index or cache alone.
+#[derive(Clone, Copy)]
+pub enum Change {
+    /// The index gets this place for the key.
+    Forge { key: u64, place: Place },
+    /// The index has no place any more.
+    Clear,
+    /// The client drops the content that it keeps of this file.
+    Evict(u64),
+}
+
+/// A client, if there is one of this number, has its index or cache changed so.
+fn change_client(core: &mut Core, client: u64, change: Change) -> Result<(), AllocError>
+    ensures { OnOk result (core_of core.new ≡ with_client (core_of core.old) client (client_changed change) (numbered core.old.seats.items client)) }
 {
     match place_of(core.seats.len(), client) {
-        Some(at) => core.seats[at].forge(key, place),
+        Some(at) => core.seats[at].changes(change),
         None => Ok(()),
-    }
-}
-
-/// A client, if there is one of this number, has no place in its index any more.
-fn clear_client(core: &mut Core, client: u64)
-    ensures { core_of core.new ≡ with_client (core_of core.old) client index_cleared (numbered core.old.seats.items client) }
-{
-    match place_of(core.seats.len(), client) {
-        Some(at) => core.seats[at].clear_index(),
-        None => (),
-    }
-}
-
-/// A client, if there is one of this number, drops the content that it keeps of this file.
-fn evict_client(core: &mut Core, client: u64, file: u64)
-    ensures { core_of core.new ≡ with_client (core_of core.old) client (λ s. evicted s file) (numbered core.old.seats.items client) }
-{
-    match place_of(core.seats.len(), client) {
-        Some(at) => core.seats[at].evict(file),
-        None => (),
     }
 }
 
@@ -61,18 +51,15 @@ pub fn adjust(core: &mut Core, adjustment: Adjustment) -> Result<(), AllocError>
     match adjustment {
         Adjustment::Forge { who, key, place } => match who {
             Who::Server => core.server.forge(key, place),
-            Who::Client(client) => forge_client(core, client, key, place),
+            Who::Client(client) => change_client(core, client, Change::Forge { key, place }),
         },
-        Adjustment::Clear(who) => {
-            match who {
-                Who::Server => core.server.clear_index(),
-                Who::Client(client) => clear_client(core, client),
+        Adjustment::Clear(who) => match who {
+            Who::Server => {
+                core.server.clear_index();
+                Ok(())
             }
-            Ok(())
-        }
-        Adjustment::Evict { client, file } => {
-            evict_client(core, client, file);
-            Ok(())
-        }
+            Who::Client(client) => change_client(core, client, Change::Clear),
+        },
+        Adjustment::Evict { client, file } => change_client(core, client, Change::Evict(file)),
     }
 }

@@ -62,20 +62,12 @@ fn begin(
     Ok(())
 }
 
-/// The number of the client at this place. No trace has 2^32 clients, so there it is want of memory.
-fn client_number(place: usize) -> Result<u32, AllocError>
-    ensures { IfOk result (λ number. number ≡ place + 1) }
-{
-    let before = short_number(place as u64)?;
-    before.checked_add(1).ok_or(AllocError)
-}
-
-/// The number of the next step, and that of the client at this place.
-fn step_and_number(steps: u64, place: usize) -> Result<(u64, u32), AllocError>
-    ensures { IfOk result (λ both. both ≡ (steps + 1, place + 1)) }
+/// The number of the next step, and this client's number in 32 bits.
+fn step_and_number(steps: u64, client: u64) -> Result<(u64, u32), AllocError>
+    ensures { IfOk result (λ both. both ≡ (steps + 1, client)) }
 {
     let step = count_on(steps, 1)?;
-    let number = client_number(place)?;
+    let number = short_number(client)?;
     Ok((step, number))
 }
 
@@ -98,7 +90,7 @@ fn does_at(
     requires { place < length core.old.seats.items }
     ensures { IfOk result (λ t. core_step_of core.new t ≡ does (core_of core.old) (place + 1) now command (slice_get core.old.seats.items place)) }
 {
-    let (step, number) = match step_and_number(core.steps, place) {
+    let (step, number) = match step_and_number(core.steps, place as u64 + 1) {
         Ok(both) => both,
         Err(error) => {
             drop(command);

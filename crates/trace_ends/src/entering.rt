@@ -2,8 +2,7 @@
 //! changed, and the step of each entry. `changed_file` and `newest_entries` in `specs/Core.antt` say
 //! which they are.
 
-ghost use Rattle.std.specs.Prelude.{◌≡◌, ◌++◌, drop, find, replicate, OnOk};
-ghost use Rattle.std.specs.Option.{option_copied};
+ghost use Rattle.std.specs.Prelude.{◌≡◌, ◌++◌, drop, replicate, OnOk};
 ghost use Rattle.trace_ends.specs.Core.{is_of_file, newest_entries, changed_file};
 
 use server_core::journal::Entry;
@@ -17,11 +16,16 @@ fn is_of_file(kind: EntryKind) -> bool
     !matches!(kind, EntryKind::Name)
 }
 
-/// The first entry that is about a file's content.
-fn first_of_file(entries: &[Entry]) -> Option<&Entry>
-    ensures { option_copied result ≡ find (λ e. is_of_file e.kind) entries.now }
+/// The file of the first entry that is about a file's content.
+fn changed_file(entries: &[Entry]) -> Option<u64>
+    ensures { result ≡ changed_file entries.now }
 {
-    entries.iter().find(|e| is_of_file(e.kind))
+    for entry in entries {
+        if is_of_file(entry.kind) {
+            return Some(entry.file);
+        }
+    }
+    None
 }
 
 /// The entries from a place on.
@@ -46,7 +50,7 @@ fn newest_entries(entries: &[Entry], made: u32) -> &[Entry]
 pub fn changed_by(entries: &[Entry], made: u32) -> Option<u64>
     ensures { result ≡ changed_file (newest_entries entries.now made) }
 {
-    first_of_file(newest_entries(entries, made)).map(|e| e.file)
+    changed_file(newest_entries(entries, made))
 }
 
 /// Adds the step of each change that was made.

@@ -1,8 +1,7 @@
 //! The operations of a history, as the steps of their clients make them. `specs/Ops.antt` says what
 //! becomes of them.
 
-ghost use Rattle.std.specs.Prelude.{◌≡◌, ◌==◌, find, slice_get, IfOk, OnOk};
-ghost use Rattle.std.specs.Option.{option_copied};
+ghost use Rattle.std.specs.Prelude.{◌≡◌, slice_get, IfOk, OnOk};
 ghost use Rattle.trace_ends.specs.Ops.{ops_after, ops_with, has_point, taken_at, point_if, value_of, counted, ended_op, file_with, op_after, begun};
 
 use crate::commands::local_bytes;
@@ -30,18 +29,16 @@ fn has_point(word: Word, outcome: &step::Outcome) -> bool
     }
 }
 
-/// The call with this xid.
-fn find_taken(taken: &[TakenCall], xid: u32) -> Option<&TakenCall>
-    ensures { option_copied result ≡ find (λ t. t.xid == xid) taken.now }
-{
-    taken.iter().find(|t| t.xid == xid)
-}
-
 /// The step at which the call was taken that an outcome rests on.
 fn taken_at(taken: &[TakenCall], xid: u32) -> Option<u64>
     ensures { result ≡ taken_at taken.now xid }
 {
-    find_taken(taken, xid).map(|t| t.step)
+    for call in taken {
+        if call.xid == xid {
+            return Some(call.step);
+        }
+    }
+    None
 }
 
 /// The point that an operation has by its end; that of a change is the step at which it was

@@ -3,15 +3,16 @@
 
 ghost use Rattle.std.specs.Prelude.{◌≡◌, Some, IfOk, OnOk};
 ghost use Rattle.wire.specs.Parse.{parse_of};
-ghost use Rattle.client_state.specs.State.{waiting_of, forged, index_cleared, evicted};
+ghost use Rattle.client_state.specs.State.{waiting_of};
 ghost use Rattle.open_close.specs.Step.{command_step, got_step};
 ghost use Rattle.client_state.specs.Ending.{joined, cut};
+ghost use Rattle.trace_ends.specs.Core.{client_changed};
 ghost use Rattle.trace_ends.specs.Session.{new_seat};
 ghost use Rattle.trace_ends.specs.Ops.{place_after, place_with};
 
+use crate::adjusting::Change;
 use crate::parsing::parse_record;
 use crate::places::{place_after, place_with};
-use chunk_index::place::Place;
 use client_state::step::ClientStep;
 use command_text::command::Command;
 use open_close::client::Client;
@@ -134,25 +135,21 @@ impl Seat {
         Ok(acts)
     }
 
-    /// The client's index gets this place for the key. The one error is want of memory.
-    pub fn forge(&mut self, key: u64, place: Place) -> Result<(), AllocError>
-        ensures { OnOk result (self.new ≡ record self.old { client = forged self.old.client key place }) }
+    /// The client's index or cache is changed so, and nothing else. The one error is want of memory.
+    pub fn changes(&mut self, change: Change) -> Result<(), AllocError>
+        ensures { OnOk result (self.new ≡ record self.old { client = client_changed change self.old.client }) }
     {
-        self.client.forge(key, place)
-    }
-
-    /// The client's index has no place any more.
-    pub fn clear_index(&mut self)
-        ensures { self.new ≡ record self.old { client = index_cleared self.old.client } }
-    {
-        self.client.clear_index();
-    }
-
-    /// The client drops the content that it keeps of this file.
-    pub fn evict(&mut self, file: u64)
-        ensures { self.new ≡ record self.old { client = evicted self.old.client file } }
-    {
-        self.client.evict(file);
+        match change {
+            Change::Forge { key, place } => self.client.forge(key, place),
+            Change::Clear => {
+                self.client.clear_index();
+                Ok(())
+            }
+            Change::Evict(file) => {
+                self.client.evict(file);
+                Ok(())
+            }
+        }
     }
 
     /// The client sees its connection lost.
