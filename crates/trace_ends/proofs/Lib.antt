@@ -1,2 +1,3 @@
 mod Commanded
+mod Served
 mod Ways

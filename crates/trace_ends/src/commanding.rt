@@ -99,14 +99,13 @@ fn does_at(
     };
     let op = begun_by(number, step, &command);
     let word = op.word;
-    let seat = &core.seats[place];
+    let own = core.ops.len();
+    let seat = &mut core.seats[place];
     let session = seat.session();
     let running = seat.place();
-    let own = core.ops.len();
-    let acts = core.seats[place].does(alloc, command, now, own)?;
+    let acts = seat.does(alloc, command, now, own)?;
     command_session(&mut core.sessions, session, running, own, word, &acts);
-    let client = core.seats[place].client();
-    let done = begin(alloc, &mut core.ops, op, client, step, &acts);
+    let done = begin(alloc, &mut core.ops, op, seat.client(), step, &acts);
     core.steps = step;
     match done {
         Ok(()) => Ok(CoreStep::acted(alloc, Loss::Nothing, session, acts)),

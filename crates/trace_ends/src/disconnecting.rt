@@ -54,12 +54,20 @@ fn cuts_at(alloc: Global, core: &mut Core, place: usize) -> Result<CoreStep, All
     if !core.seats[place].linked() {
         return Ok(CoreStep::quiet(alloc));
     }
-    let session = core.seats[place].session();
     let running = running_at(&core.seats, place);
-    let acts = core.seats[place].cuts(alloc);
+    let seat = &mut core.seats[place];
+    let session = seat.session();
+    let acts = seat.cuts(alloc);
     let taken = taken_of(&core.sessions, session);
-    let client = core.seats[place].client();
-    note_with(alloc, &mut core.ops, running, client, taken, step, &acts)?;
+    note_with(
+        alloc,
+        &mut core.ops,
+        running,
+        seat.client(),
+        taken,
+        step,
+        &acts,
+    )?;
     cut_session(&mut core.sessions, session);
     Ok(CoreStep::acted(alloc, loss_down(session), session, acts))
 }

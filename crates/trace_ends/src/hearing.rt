@@ -25,16 +25,25 @@ fn hears_at(
     requires { place < length core.old.seats.items }
     ensures { IfOk result (λ t. core_step_of core.new t ≡ hears_at (core_of core.old) number (place + 1) now bytes.now (slice_get core.old.seats.items place)) }
 {
-    let session = core.seats[place].session();
-    let running = core.seats[place].place();
+    let seat = &core.seats[place];
+    let session = seat.session();
+    let running = seat.place();
     if !is_newest(session, number) {
         return Ok(CoreStep::quiet(alloc));
     }
     let step = count_on(core.steps, 1)?;
-    let acts = core.seats[place].hears(alloc, bytes, now)?;
+    let seat = &mut core.seats[place];
+    let acts = seat.hears(alloc, bytes, now)?;
     let taken = taken_of(&core.sessions, session);
-    let client = core.seats[place].client();
-    note_with(alloc, &mut core.ops, running, client, taken, step, &acts)?;
+    note_with(
+        alloc,
+        &mut core.ops,
+        running,
+        seat.client(),
+        taken,
+        step,
+        &acts,
+    )?;
     core.steps = step;
     Ok(CoreStep::acted(alloc, Loss::Nothing, session, acts))
 }
