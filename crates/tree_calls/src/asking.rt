@@ -7,16 +7,18 @@ ghost use Rattle.nfs3_calls.specs.declared.message.Nfs.TheVariants as nfs;
 ghost use Rattle.file_tree.specs.Stores.{Keeps};
 ghost use Rattle.tree_calls.specs.Calling.{IsCalled, places_of};
 ghost use Rattle.tree_calls.specs.Changing.{no_side, said};
-ghost use Rattle.tree_calls.specs.Waiting.{busy_first, remove_comes, is_over_file, over_comes, rename_comes, removing, asks_remove, renaming_under, asks_rename, spot_of};
+ghost use Rattle.tree_calls.specs.Telling.{id_of};
+ghost use Rattle.tree_calls.specs.Waiting.{removes_in, Takes, busy_first, remove_comes, is_over_file, over_comes, rename_comes, asks_remove, renaming_under, asks_rename, spot_of};
 
 use crate::asked::{Asked, Done, NewSpot, Outcome, Removing, Renaming};
-use crate::naming::spot_of;
+use crate::naming::{id_of, spot_of};
 use crate::sides::{no_side, said};
 use crate::{changing, room};
 use file_tree::pair::NamePair;
 use file_tree::tree::Tree;
 use lb_base::items::Name;
 use nfs3_calls::message::Nfs;
+use nfs3_calls::place::Place;
 use std::alloc::{AllocError, Global};
 use store::store::Store;
 use tree_reading::call::{Changed, Held, Planned};
@@ -119,28 +121,31 @@ pub fn asks_remove(
     remove_comes(busy, tree.plan_remove(dir, name, held))
 }
 
-/// REMOVE in a directory. The one error is want of memory, where the call waits.
+/// REMOVE. The one error is want of memory, where the call waits.
 pub fn remove<S: Store>(
     alloc: Global,
     tree: &Tree,
     store: &mut S,
     held: Held,
     busy: bool,
-    dir: u64,
-    name: &Name,
+    place: &Place,
 ) -> Result<Outcome, AllocError>
-    ensures ok { IfOk result (λ o. o ≡ removing dir name.now (asks_remove tree.now.tree held busy dir name.now)) }
-    ensures takes { OnErr result (IsOk (asks_remove tree.now.tree held busy dir name.now)) }
+    ensures ok { IfOk result (λ o. o ≡ removes_in tree.now.tree held busy place.now.name (id_of place.now.dir)) }
+    ensures takes { OnErr result (Takes tree.now.tree held busy (nfs.Remove place.now)) }
     ensures records { S.records store.new ≡ S.records store.old }
     ensures spare { held.entries ≤ S.spare store.old → held.entries ≤ S.spare store.new }
     ensures place { IfOk result (λ o. held.entries ≤ S.spare store.old → held.entries + places_of o ≤ S.spare store.new) }
     ensures later { S.faults store.old ≤ S.faults store.new }
 {
-    match asks_remove(tree, held, busy, dir, name.as_slice()) {
+    let dir = match id_of(&place.dir) {
+        Ok(dir) => dir,
+        Err(status) => return Ok(Outcome::Answered(refuse_remove(status))),
+    };
+    match asks_remove(tree, held, busy, dir, place.name.as_slice()) {
         Err(status) => Ok(Outcome::Answered(refuse_remove(status))),
         Ok(file) => {
             room::reserve(store, held, 1)?;
-            let spot = spot_of(alloc, dir, name)?;
+            let spot = spot_of(alloc, dir, &place.name)?;
             Ok(Outcome::Waits(Asked::Remove(Removing { spot, file })))
         }
     }
@@ -215,16 +220,18 @@ pub fn rename<S: Store>(
         to,
         to_name.as_slice(),
     );
-    match comes {
-        Err(status) => Ok(Outcome::Answered(changing::refuse_rename(status))),
-        Ok(None) => {
-            room::reserve(store, held, 2)?;
+    let plan = match comes {
+        Ok(plan) => plan,
+        Err(status) => return Ok(Outcome::Answered(changing::refuse_rename(status))),
+    };
+    room::reserve(store, held, 2)?;
+    match plan {
+        None => {
             let to_name = NamePair::copy_of(alloc, to_name)?;
             let done = changing::rename(tree, store, held, dir, name.as_slice(), to, to_name);
             Ok(Outcome::Answered(done))
         }
-        Ok(Some((node, file))) => {
-            room::reserve(store, held, 2)?;
+        Some((node, file)) => {
             let waits = renaming_of(alloc, dir, name, to, to_name, node, file)?;
             Ok(Outcome::Waits(Asked::Rename(waits)))
         }

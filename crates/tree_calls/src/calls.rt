@@ -5,105 +5,19 @@ ghost use Rattle.tree_reading.specs.declared.call.Held.{Held};
 ghost use Rattle.file_tree.specs.Stores.{Keeps};
 ghost use Rattle.tree_calls.specs.Calling.{IsCalled, places_of, places_of_call};
 ghost use Rattle.tree_calls.specs.Telling.{id_of, told, TakesTold};
-ghost use Rattle.tree_calls.specs.Waiting.{creates_in_under, mkdirs_in_under, rmdirs_in_under, removes_in, renames_in_under, told_outcome, changes, calls_under, Takes};
+ghost use Rattle.tree_calls.specs.Waiting.{renames_in_under, told_outcome, changes, calls_under, Takes};
 ghost use Rattle.nfs3_calls.specs.declared.message.Nfs.TheVariants as nfs;
 
-use crate::asked::{Done, Outcome};
-use crate::asking::{self, refuse_remove};
+use crate::asked::Outcome;
 use crate::naming::id_of;
 use crate::sides::said;
-use crate::{changing, telling};
+use crate::{asking, changing, telling};
 use file_tree::tree::Tree;
-use nfs3_calls::making::{NewDir, NewFile};
 use nfs3_calls::message::Nfs;
-use nfs3_calls::place::{Place, Rename};
+use nfs3_calls::place::Rename;
 use std::alloc::{AllocError, Global};
 use store::store::Store;
 use tree_reading::call::Held;
-
-#[tactic(auto, using(crate::proofs::Steps::create_misnamed, crate::proofs::Steps::kept_same))]
-fn create<S: Store>(
-    alloc: Global,
-    tree: &mut Tree,
-    store: &mut S,
-    held: Held,
-    new: &NewFile,
-) -> Result<Done, AllocError>
-    ensures ok { IfOk result (λ o. IsCalled (S.faults store.old) (S.faults store.new) (λ fault. creates_in_under tree.old.tree held fault new.now (id_of new.now.place.dir)) (tree.new.tree, o)) }
-    ensures err { OnErr result (tree.new.tree ≡ tree.old.tree) }
-    ensures takes { OnErr result (Takes tree.old.tree held false (nfs.Create new.now)) }
-    ensures keeps { Keeps (S.records store.old) tree.old.tree (S.records store.new) tree.new.tree }
-    ensures spare { held.entries ≤ S.spare store.old → held.entries ≤ S.spare store.new }
-    ensures later { S.faults store.old ≤ S.faults store.new }
-{
-    let mode = changing::mode_of(&new.how);
-    match id_of(&new.place.dir) {
-        Ok(dir) => changing::create(alloc, tree, store, held, dir, &new.place.name, mode),
-        Err(status) => Ok(changing::refuse_create(status)),
-    }
-}
-
-#[tactic(auto, using(crate::proofs::Steps::mkdir_misnamed, crate::proofs::Steps::kept_same))]
-fn mkdir<S: Store>(
-    alloc: Global,
-    tree: &mut Tree,
-    store: &mut S,
-    held: Held,
-    new: &NewDir,
-) -> Result<Done, AllocError>
-    ensures ok { IfOk result (λ o. IsCalled (S.faults store.old) (S.faults store.new) (λ fault. mkdirs_in_under tree.old.tree held fault new.now.place.name (id_of new.now.place.dir)) (tree.new.tree, o)) }
-    ensures err { OnErr result (tree.new.tree ≡ tree.old.tree) }
-    ensures takes { OnErr result (Takes tree.old.tree held false (nfs.MkDir new.now)) }
-    ensures keeps { Keeps (S.records store.old) tree.old.tree (S.records store.new) tree.new.tree }
-    ensures spare { held.entries ≤ S.spare store.old → held.entries ≤ S.spare store.new }
-    ensures later { S.faults store.old ≤ S.faults store.new }
-{
-    match id_of(&new.place.dir) {
-        Ok(dir) => changing::mkdir(alloc, tree, store, held, dir, &new.place.name),
-        Err(status) => Ok(changing::refuse_mkdir(status)),
-    }
-}
-
-#[tactic(auto, using(crate::proofs::Steps::rmdir_misnamed, crate::proofs::Steps::kept_same))]
-fn rmdir<S: Store>(
-    tree: &mut Tree,
-    store: &mut S,
-    held: Held,
-    place: &Place,
-) -> Result<Done, AllocError>
-    ensures ok { IfOk result (λ o. IsCalled (S.faults store.old) (S.faults store.new) (λ fault. rmdirs_in_under tree.old.tree held fault place.now.name (id_of place.now.dir)) (tree.new.tree, o)) }
-    ensures err { OnErr result (tree.new.tree ≡ tree.old.tree) }
-    ensures takes { OnErr result (Takes tree.old.tree held false (nfs.RmDir place.now)) }
-    ensures keeps { Keeps (S.records store.old) tree.old.tree (S.records store.new) tree.new.tree }
-    ensures spare { held.entries ≤ S.spare store.old → held.entries ≤ S.spare store.new }
-    ensures later { S.faults store.old ≤ S.faults store.new }
-{
-    match id_of(&place.dir) {
-        Ok(dir) => changing::rmdir(tree, store, held, dir, place.name.as_slice()),
-        Err(status) => Ok(changing::refuse_rmdir(status)),
-    }
-}
-
-fn remove<S: Store>(
-    alloc: Global,
-    tree: &Tree,
-    store: &mut S,
-    held: Held,
-    busy: bool,
-    place: &Place,
-) -> Result<Outcome, AllocError>
-    ensures ok { IfOk result (λ o. o ≡ removes_in tree.now.tree held busy place.now.name (id_of place.now.dir)) }
-    ensures takes { OnErr result (Takes tree.now.tree held busy (nfs.Remove place.now)) }
-    ensures records { S.records store.new ≡ S.records store.old }
-    ensures spare { held.entries ≤ S.spare store.old → held.entries ≤ S.spare store.new }
-    ensures place { IfOk result (λ o. held.entries ≤ S.spare store.old → held.entries + places_of o ≤ S.spare store.new) }
-    ensures later { S.faults store.old ≤ S.faults store.new }
-{
-    match id_of(&place.dir) {
-        Ok(dir) => asking::remove(alloc, tree, store, held, busy, dir, &place.name),
-        Err(status) => Ok(Outcome::Answered(refuse_remove(status))),
-    }
-}
 
 #[tactic(auto, using(crate::proofs::Steps::rename_misnamed, crate::proofs::Steps::rename_to_misnamed, crate::proofs::Steps::kept_same))]
 fn rename<S: Store>(
@@ -186,26 +100,26 @@ pub fn call<S: Store>(
     ensures place { IfOk result (λ o. held.entries ≤ S.spare store.old → held.entries + places_of_call o ≤ S.spare store.new) }
 {
     match call {
-        Nfs::Create(new) => {
-            let done = create(alloc, tree, store, held, new)?;
-            Ok(Some(Outcome::Answered(done)))
-        }
-        Nfs::MkDir(new) => {
-            let done = mkdir(alloc, tree, store, held, new)?;
-            Ok(Some(Outcome::Answered(done)))
-        }
-        Nfs::Remove(place) => {
-            let outcome = remove(alloc, tree, store, held, busy, place)?;
-            Ok(Some(outcome))
-        }
-        Nfs::RmDir(place) => {
-            let done = rmdir(tree, store, held, place)?;
-            Ok(Some(Outcome::Answered(done)))
-        }
-        Nfs::Rename(names) => {
-            let outcome = rename(alloc, tree, store, held, busy, names)?;
-            Ok(Some(outcome))
-        }
+        Nfs::Create(new) => match changing::create(alloc, tree, store, held, new) {
+            Ok(done) => Ok(Some(Outcome::Answered(done))),
+            Err(why) => Err(why),
+        },
+        Nfs::MkDir(new) => match changing::mkdir(alloc, tree, store, held, new) {
+            Ok(done) => Ok(Some(Outcome::Answered(done))),
+            Err(why) => Err(why),
+        },
+        Nfs::Remove(place) => match asking::remove(alloc, tree, store, held, busy, place) {
+            Ok(outcome) => Ok(Some(outcome)),
+            Err(why) => Err(why),
+        },
+        Nfs::RmDir(place) => match changing::rmdir(tree, store, held, place) {
+            Ok(done) => Ok(Some(Outcome::Answered(done))),
+            Err(why) => Err(why),
+        },
+        Nfs::Rename(names) => match rename(alloc, tree, store, held, busy, names) {
+            Ok(outcome) => Ok(Some(outcome)),
+            Err(why) => Err(why),
+        },
         _ => unchanging(alloc, tree, call),
     }
 }

@@ -1,16 +1,19 @@
 //! The calls that change the tree at once: CREATE, MKDIR, RMDIR, and RENAME that is not over a file
 //! (`specs/Changing.antt`).
 
-ghost use Rattle.std.specs.Prelude.{◌≡◌, ◌+◌, ◌<◌, ◌≤◌, Some, None, Ok, IfOk, OnOk, OnErr, IsOk};
+ghost use Rattle.std.specs.Prelude.{◌≡◌, ◌+◌, ◌<◌, ◌≤◌, false, Some, None, Ok, IfOk, OnOk, OnErr, IsOk};
 ghost use Rattle.xdr_codec.specs.Handle.{handle_bytes};
 ghost use Rattle.xdr_codec.specs.declared.answer.Answer.TheVariants as answer;
 ghost use Rattle.nfs3_calls.specs.declared.message.Nfs.TheVariants as nfs;
 ghost use Rattle.tree_reading.specs.Plans.{create_plan, may_mkdir, rmdir_plan};
 ghost use Rattle.file_tree.specs.Stores.{Keeps};
 ghost use Rattle.tree_calls.specs.Calling.{IsCalled};
+ghost use Rattle.tree_calls.specs.Telling.{id_of};
+ghost use Rattle.tree_calls.specs.Waiting.{creates_in_under, mkdirs_in_under, rmdirs_in_under, Takes};
 ghost use Rattle.tree_calls.specs.Changing.{before, no_side, said, made_of, created, made_directory, mode_of, removed_directory, refused_rename, renamed, creates_under, mkdirs_under, rmdirs_under, renames_under};
 
 use crate::asked::Done;
+use crate::naming::id_of;
 use crate::room;
 use crate::sides::{before, both_sides, did, known, no_side, said};
 use file_tree::pair::NamePair;
@@ -18,8 +21,9 @@ use file_tree::stored_steps;
 use file_tree::tree::Tree;
 use lb_base::items::Name;
 use nfs3_calls::change::{Before, Moved};
-use nfs3_calls::making::{HowMade, Made};
+use nfs3_calls::making::{HowMade, Made, NewDir, NewFile};
 use nfs3_calls::message::Nfs;
+use nfs3_calls::place::Place;
 use std::alloc::{AllocError, Global};
 use store::store::Store;
 use tree_reading::call::{Changed, CreateMode, Held};
@@ -137,25 +141,29 @@ fn make_file<S: Store>(
     Ok(created(tree, before, dir, handle, outcome))
 }
 
-/// CREATE in a directory. The one error is want of memory, where the call is not refused, and the
+/// CREATE. The one error is want of memory, where the call is not refused, and the
 /// tree is then as it was.
-#[tactic(auto, using(crate::proofs::Steps::create_refused, crate::proofs::Steps::create_there, crate::proofs::Steps::kept_same))]
+#[tactic(auto, using(crate::proofs::Steps::create_misnamed, crate::proofs::Steps::create_refused, crate::proofs::Steps::create_there, crate::proofs::Steps::kept_same))]
 pub fn create<S: Store>(
     alloc: Global,
     tree: &mut Tree,
     store: &mut S,
     held: Held,
-    dir: u64,
-    name: &Name,
-    mode: CreateMode,
+    new: &NewFile,
 ) -> Result<Done, AllocError>
-    ensures ok { IfOk result (λ o. IsCalled (S.faults store.old) (S.faults store.new) (λ fault. creates_under tree.old.tree held fault dir name.now mode) (tree.new.tree, o)) }
+    ensures ok { IfOk result (λ o. IsCalled (S.faults store.old) (S.faults store.new) (λ fault. creates_in_under tree.old.tree held fault new.now (id_of new.now.place.dir)) (tree.new.tree, o)) }
     ensures err { OnErr result (tree.new.tree ≡ tree.old.tree) }
+    ensures takes { OnErr result (Takes tree.old.tree held false (nfs.Create new.now)) }
     ensures keeps { Keeps (S.records store.old) tree.old.tree (S.records store.new) tree.new.tree }
     ensures spare { held.entries ≤ S.spare store.old → held.entries ≤ S.spare store.new }
     ensures later { S.faults store.old ≤ S.faults store.new }
-    ensures takes { OnErr result (IsOk (create_plan tree.old.tree held dir name.now mode)) }
 {
+    let dir = match id_of(&new.place.dir) {
+        Ok(dir) => dir,
+        Err(status) => return Ok(refuse_create(status)),
+    };
+    let name = &new.place.name;
+    let mode = mode_of(&new.how);
     match tree.plan_create(dir, name.as_slice(), mode, held) {
         Ok(Some(there)) => find_file(alloc, tree, dir, there),
         Ok(None) => make_file(alloc, tree, store, held, dir, name, mode),
@@ -214,24 +222,28 @@ fn make_directory<S: Store>(
     Ok(made_directory(tree, before, dir, handle, outcome))
 }
 
-/// MKDIR in a directory. The one error is want of memory, where the call is not refused, and the
+/// MKDIR. The one error is want of memory, where the call is not refused, and the
 /// tree is then as it was.
-#[tactic(auto, using(crate::proofs::Steps::mkdir_refused, crate::proofs::Steps::kept_same))]
+#[tactic(auto, using(crate::proofs::Steps::mkdir_misnamed, crate::proofs::Steps::mkdir_refused, crate::proofs::Steps::kept_same))]
 pub fn mkdir<S: Store>(
     alloc: Global,
     tree: &mut Tree,
     store: &mut S,
     held: Held,
-    dir: u64,
-    name: &Name,
+    new: &NewDir,
 ) -> Result<Done, AllocError>
-    ensures ok { IfOk result (λ o. IsCalled (S.faults store.old) (S.faults store.new) (λ fault. mkdirs_under tree.old.tree held fault dir name.now) (tree.new.tree, o)) }
+    ensures ok { IfOk result (λ o. IsCalled (S.faults store.old) (S.faults store.new) (λ fault. mkdirs_in_under tree.old.tree held fault new.now.place.name (id_of new.now.place.dir)) (tree.new.tree, o)) }
     ensures err { OnErr result (tree.new.tree ≡ tree.old.tree) }
+    ensures takes { OnErr result (Takes tree.old.tree held false (nfs.MkDir new.now)) }
     ensures keeps { Keeps (S.records store.old) tree.old.tree (S.records store.new) tree.new.tree }
     ensures spare { held.entries ≤ S.spare store.old → held.entries ≤ S.spare store.new }
     ensures later { S.faults store.old ≤ S.faults store.new }
-    ensures takes { OnErr result (IsOk (may_mkdir tree.old.tree held dir name.now)) }
 {
+    let dir = match id_of(&new.place.dir) {
+        Ok(dir) => dir,
+        Err(status) => return Ok(refuse_mkdir(status)),
+    };
+    let name = &new.place.name;
     match tree.plan_mkdir(dir, name.as_slice(), held) {
         Ok(()) => make_directory(alloc, tree, store, held, dir, name),
         Err(status) => Ok(refuse_mkdir(status)),
@@ -282,23 +294,27 @@ fn remove_directory<S: Store>(
     removed_directory(tree, before, dir, outcome)
 }
 
-/// RMDIR in a directory. The one error is want of memory for the store's place, where the call is
+/// RMDIR. The one error is want of memory for the store's place, where the call is
 /// not refused, and the tree is then as it was.
-#[tactic(auto, using(crate::proofs::Steps::rmdir_refused, crate::proofs::Steps::called_ready, crate::proofs::Steps::kept_ready, crate::proofs::Steps::kept_same))]
+#[tactic(auto, using(crate::proofs::Steps::rmdir_misnamed, crate::proofs::Steps::rmdir_refused, crate::proofs::Steps::called_ready, crate::proofs::Steps::kept_ready, crate::proofs::Steps::kept_same))]
 pub fn rmdir<S: Store>(
     tree: &mut Tree,
     store: &mut S,
     held: Held,
-    dir: u64,
-    name: &[u8],
+    place: &Place,
 ) -> Result<Done, AllocError>
-    ensures ok { IfOk result (λ o. IsCalled (S.faults store.old) (S.faults store.new) (λ fault. rmdirs_under tree.old.tree held fault dir name.now) (tree.new.tree, o)) }
+    ensures ok { IfOk result (λ o. IsCalled (S.faults store.old) (S.faults store.new) (λ fault. rmdirs_in_under tree.old.tree held fault place.now.name (id_of place.now.dir)) (tree.new.tree, o)) }
     ensures err { OnErr result (tree.new.tree ≡ tree.old.tree) }
+    ensures takes { OnErr result (Takes tree.old.tree held false (nfs.RmDir place.now)) }
     ensures keeps { Keeps (S.records store.old) tree.old.tree (S.records store.new) tree.new.tree }
     ensures spare { held.entries ≤ S.spare store.old → held.entries ≤ S.spare store.new }
     ensures later { S.faults store.old ≤ S.faults store.new }
-    ensures takes { OnErr result (IsOk (rmdir_plan tree.old.tree held dir name.now)) }
 {
+    let dir = match id_of(&place.dir) {
+        Ok(dir) => dir,
+        Err(status) => return Ok(refuse_rmdir(status)),
+    };
+    let name = place.name.as_slice();
     match tree.plan_rmdir(dir, name, held) {
         Ok(_) => {
             room::reserve(store, held, 1)?;
