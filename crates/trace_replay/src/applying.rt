@@ -10,43 +10,25 @@ use crate::opening::OpeningFile;
 use crate::state::{Event, WorldState};
 use crate::turn::{Turn, stage_after};
 use command_text::content::{Content, build};
-use lb_base::items::{Bytes, Name};
+use lb_base::items::Name;
 use shared_bytes::SharedBytes;
 use std::alloc::{AllocError, Global};
 use tree_nodes::content::Content as Whole;
 use tree_nodes::node::Body;
 
-/// A size with so many bytes more. No tree comes to 2^64 bytes, so there it is want of memory.
-fn size_with(size: u64, content: &Bytes) -> Result<u64, AllocError>
-    ensures { IfOk result (λ n. n ≡ size + length content.now) }
+/// The size with a content more, and that content for the server. No tree comes to 2^64 bytes, so there
+/// it is want of memory.
+fn size_and_content(alloc: Global, size: u64, content: &Content) -> Result<(u64, Whole), AllocError>
+    ensures { IfOk result (λ made. made ≡ (size + length (content_bytes content.now), content_bytes content.now)) }
 {
-    size.checked_add(content.len() as u64).ok_or(AllocError)
+    let bytes = build(alloc, content)?;
+    let size = size.checked_add(bytes.len() as u64).ok_or(AllocError)?;
+    let whole = Whole::new(alloc, SharedBytes::new(alloc, bytes)?)?;
+    Ok((size, whole))
 }
 
 impl WorldState {
-    /// A file gets the tree's next id, and version 1. Its content is here as bytes, for
-    /// the server, and in parts.
-    fn with_file(
-        &mut self,
-        alloc: Global,
-        dir: u64,
-        name: Name,
-        bytes: Bytes,
-        content: Content,
-    ) -> Result<(), AllocError>
-        requires { bytes ≡ content_bytes content }
-        ensures { OnOk result (world_of self.new ≡ with_file (world_of self.old) dir name (content_bytes content)) }
-    {
-        let size = size_with(self.size, &bytes)?;
-        let id = self.core.server.next_id();
-        let whole = Whole::new(alloc, SharedBytes::new(alloc, bytes)?)?;
-        self.core.open(dir, name, Body::File(whole))?;
-        self.opening.push(OpeningFile::new(id, content))?;
-        self.size = size;
-        Ok(())
-    }
-
-    /// A file of this name and content.
+    /// A file of this name and content gets the tree's next id, and version 1.
     fn builds(
         &mut self,
         alloc: Global,
@@ -56,8 +38,12 @@ impl WorldState {
     ) -> Result<(), AllocError>
         ensures { OnOk result (world_of self.new ≡ with_file (world_of self.old) dir name (content_bytes content)) }
     {
-        let bytes = build(alloc, &content)?;
-        self.with_file(alloc, dir, name, bytes, content)
+        let (size, whole) = size_and_content(alloc, self.size, &content)?;
+        let id = self.core.server.next_id();
+        self.core.open(dir, name, Body::File(whole))?;
+        self.opening.push(OpeningFile::new(id, content))?;
+        self.size = size;
+        Ok(())
     }
 
     /// What a line in place asks for.

@@ -3,47 +3,31 @@
 
 ghost use Rattle.std.specs.Prelude.{◌≡◌, ◌<◌, ◌^◌, map, OnOk};
 ghost use Rattle.trace_ends.specs.Numbers.{numbered};
-ghost use Rattle.trace_ends.specs.Core.{Event.Serves, Event.Hears};
 ghost use Rattle.trace_replay.specs.Delivery.{all_happened, up_some, down_some, up_all, down_all, up_length, down_length, is_still, round, passes};
 ghost use Rattle.trace_ends.specs.Queue.{count_of};
-ghost use Rattle.trace_replay.specs.WorldView.{world_of};
+ghost use Rattle.trace_replay.specs.WorldView.{taken_at, world_of, IsEndBounded};
 
-use crate::state::WorldState;
+use crate::state::{End, WorldState};
 use rpc_record::record::Record;
 use session_rules::numbers::place_of;
 use std::alloc::{AllocError, Global};
 use trace_text::line::Amount;
 
 impl WorldState {
-    /// The server takes records of a session, in order, at a reading of its clock.
-    fn serves_all(
+    /// An end takes records of a session, in order, at a reading of its clock.
+    fn takes_all(
         &mut self,
         alloc: Global,
+        end: End,
         session: u64,
         now: u64,
         records: &[Record],
     ) -> Result<(), AllocError>
-        requires { now < 2 ^ 63 }
-        ensures { OnOk result (world_of self.new ≡ all_happened (world_of self.old) (map (Serves session now) records.now)) }
+        requires { IsEndBounded end now }
+        ensures { OnOk result (world_of self.new ≡ all_happened (world_of self.old) (map (taken_at end session now) records.now)) }
     {
         for bytes in records {
-            self.serves(alloc, session, now, bytes.as_slice())?;
-        }
-        Ok(())
-    }
-
-    /// A session's client takes records, in order, at a reading of its clock.
-    fn hears_all(
-        &mut self,
-        alloc: Global,
-        session: u64,
-        now: u64,
-        records: &[Record],
-    ) -> Result<(), AllocError>
-        ensures { OnOk result (world_of self.new ≡ all_happened (world_of self.old) (map (Hears session now) records.now)) }
-    {
-        for bytes in records {
-            self.hears(alloc, session, now, bytes.as_slice())?;
+            self.takes(alloc, end, session, now, bytes.as_slice())?;
         }
         Ok(())
     }
@@ -63,7 +47,7 @@ impl WorldState {
             return Ok(());
         };
         let records = self.wires[place].take_up(alloc, amount)?;
-        self.serves_all(alloc, session, now, records.as_slice())
+        self.takes_all(alloc, End::Server, session, now, records.as_slice())
     }
 
     /// Bytes that are on their way down a session reach its client, at a reading of that one's clock.
@@ -80,7 +64,7 @@ impl WorldState {
             return Ok(());
         };
         let records = self.wires[place].take_down(alloc, amount)?;
-        self.hears_all(alloc, session, now, records.as_slice())
+        self.takes_all(alloc, End::Client, session, now, records.as_slice())
     }
 
     /// Whether nothing is on its way on a session.

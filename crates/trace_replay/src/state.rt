@@ -1,11 +1,11 @@
 //! The world's fields, and events in it: a step of the ends, and what it sends put on its way.
 //! `specs/World.antt` says what an event makes of a world.
 
-ghost use Rattle.std.specs.Prelude.{◌≡◌, ◌<◌, ◌^◌, IfOk, OnOk};
-ghost use Rattle.trace_ends.specs.Core.{happens, Event.Serves, Event.Hears};
+ghost use Rattle.std.specs.Prelude.{◌≡◌, IfOk, OnOk};
+ghost use Rattle.trace_ends.specs.Core.{happens};
 ghost use Rattle.trace_replay.specs.World.{start, routed, happened, adjusts, history_of};
 ghost use Rattle.trace_ends.specs.View.{core_of, core_step_of};
-ghost use Rattle.trace_replay.specs.WorldView.{event_of, world_of, IsEventBounded};
+ghost use Rattle.trace_replay.specs.WorldView.{event_of, taken_at, world_of, IsEventBounded, IsEndBounded};
 
 use crate::opening::{OpeningFile, build_all};
 use crate::sending::down_put;
@@ -82,6 +82,33 @@ fn step_of(alloc: Global, core: &mut Core, event: Event) -> Result<CoreStep, All
     }
 }
 
+/// An end that takes records.
+#[derive(Clone, Copy)]
+pub enum End {
+    /// The server.
+    Server,
+    /// The client of the record's session.
+    Client,
+}
+
+/// The step of an end in which it takes a record of a session, at a reading of its clock.
+fn taken_by(
+    alloc: Global,
+    core: &mut Core,
+    end: End,
+    session: u64,
+    now: u64,
+    bytes: &[u8],
+) -> Result<CoreStep, AllocError>
+    requires { IsEndBounded end now }
+    ensures { IfOk result (λ t. core_step_of core.new t ≡ happens (core_of core.old) (taken_at end session now bytes.now)) }
+{
+    match end {
+        End::Server => core.serves(alloc, session, now, bytes),
+        End::Client => core.hears(alloc, session, now, bytes),
+    }
+}
+
 impl WorldState {
     /// The world before the first line. The one error is want of memory.
     pub fn new(alloc: Global) -> Result<WorldState, AllocError>
@@ -134,32 +161,19 @@ impl WorldState {
         self.routes(alloc, &step)
     }
 
-    /// The server takes a record of a session, at a reading of its clock.
-    pub fn serves(
+    /// An end takes a record of a session, at a reading of its clock.
+    pub fn takes(
         &mut self,
         alloc: Global,
+        end: End,
         session: u64,
         now: u64,
         bytes: &[u8],
     ) -> Result<(), AllocError>
-        requires { now < 2 ^ 63 }
-        ensures { OnOk result (world_of self.new ≡ happened (world_of self.old) (Serves session now bytes.now)) }
+        requires { IsEndBounded end now }
+        ensures { OnOk result (world_of self.new ≡ happened (world_of self.old) (taken_at end session now bytes.now)) }
     {
-        let step = self.core.serves(alloc, session, now, bytes)?;
-        self.routes(alloc, &step)
-    }
-
-    /// A session's client takes a record, at a reading of its clock.
-    pub fn hears(
-        &mut self,
-        alloc: Global,
-        session: u64,
-        now: u64,
-        bytes: &[u8],
-    ) -> Result<(), AllocError>
-        ensures { OnOk result (world_of self.new ≡ happened (world_of self.old) (Hears session now bytes.now)) }
-    {
-        let step = self.core.hears(alloc, session, now, bytes)?;
+        let step = taken_by(alloc, &mut self.core, end, session, now, bytes)?;
         self.routes(alloc, &step)
     }
 

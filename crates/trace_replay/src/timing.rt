@@ -4,8 +4,6 @@ ghost use Rattle.std.specs.Prelude.{◌≡◌, map};
 ghost use Rattle.trace_ends.specs.Numbers.{numbered};
 ghost use Rattle.trace_replay.specs.Timed.{no_times, down_timing, pass_timing, timing_of, times_with, IsTaken};
 ghost use Rattle.trace_replay.specs.WorldView.{times_of};
-ghost use Rattle.trace_replay.specs.declared.timing.Timing.TheVariants as timing;
-ghost use Rattle.clock_rule.specs.declared.rule.Reading.TheVariants as reads;
 
 use clock_rule::clocks::Clocks;
 use clock_rule::rule::{NoteErr, Reading};
@@ -35,20 +33,6 @@ pub struct Times {
     pub clocks: Clocks,
 }
 
-/// An event of a client.
-fn of_client(client: u64, at: u64) -> Timing
-    ensures { result ≡ timing.Reads (reads.Client client at) }
-{
-    Timing::Reads(Reading::Client { client, at })
-}
-
-/// An event of a client, at which the server's clock is read first.
-fn both(server: u64, client: u64, at: u64) -> Timing
-    ensures { result ≡ timing.Reads (reads.Both server client at) }
-{
-    Timing::Reads(Reading::Both { server, client, at })
-}
-
 /// The owner of a session, if such a session was ever made.
 #[tactic(auto, using(crate::proofs::Numbers::owner_at))]
 fn owner_of(sessions: &Vec<Session>, number: u64) -> Option<u64>
@@ -64,7 +48,7 @@ fn down_timing(at: u64, owner: Option<u64>) -> Timing
 {
     match owner {
         None => Timing::Nothing,
-        Some(owner) => of_client(owner, at),
+        Some(client) => Timing::Reads(Reading::Client { client, at }),
     }
 }
 
@@ -74,7 +58,7 @@ fn pass_timing(server: u64, at: u64, owner: Option<u64>) -> Timing
 {
     match owner {
         None => Timing::Nothing,
-        Some(owner) => both(server, owner, at),
+        Some(client) => Timing::Reads(Reading::Both { server, client, at }),
     }
 }
 
@@ -86,9 +70,18 @@ pub fn timing_of(sessions: &Vec<Session>, line: &Line) -> Timing
     match line {
         Line::Term(term) => Timing::Term(*term),
         Line::Drift(drift) => Timing::Drift(*drift),
-        Line::Join { client, at, server } => both(*server, *client, *at),
-        Line::Do { client, at, .. } => of_client(*client, *at),
-        Line::Up { server, .. } => Timing::Reads(Reading::Server(*server)),
+        Line::Join { client, at, server } => Timing::Reads(Reading::Both {
+            server: *server,
+            client: *client,
+            at: *at,
+        }),
+        Line::Do { client, at, .. } | Line::Cut { client, at } => Timing::Reads(Reading::Client {
+            client: *client,
+            at: *at,
+        }),
+        Line::Up { server, .. } | Line::Settle { server } | Line::Hang { server, .. } => {
+            Timing::Reads(Reading::Server(*server))
+        }
         Line::Down { session, at, .. } => down_timing(*at, owner_of(sessions, *session)),
         Line::Pass {
             session,
@@ -96,9 +89,6 @@ pub fn timing_of(sessions: &Vec<Session>, line: &Line) -> Timing
             at,
             ..
         } => pass_timing(*server, *at, owner_of(sessions, *session)),
-        Line::Settle { server } => Timing::Reads(Reading::Server(*server)),
-        Line::Cut { client, at } => of_client(*client, *at),
-        Line::Hang { server, .. } => Timing::Reads(Reading::Server(*server)),
         Line::Skipped | Line::Version | Line::Clients(_) => Timing::Nothing,
         Line::Dir(_) | Line::File { .. } => Timing::Nothing,
         Line::Forge { .. } | Line::Clear(_) | Line::Evict { .. } => Timing::Nothing,

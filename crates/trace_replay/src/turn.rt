@@ -4,7 +4,7 @@ ghost use Rattle.std.specs.Prelude.{◌≡◌, true, false, nat_lt, nat_le, IfOk
 ghost use Rattle.trace_text.specs.Reading.{IsTimely};
 ghost use Rattle.trace_ends.specs.Numbers.{numbered};
 ghost use Rattle.trace_replay.specs.World.{World};
-ghost use Rattle.trace_replay.specs.Run.{is_there, has_index, asks_if, place_for, file_asks, directory_asks, joins_within, joins_if, adjust_asks, event_asks, asks_at, asks, asks_within, asked, in_header};
+ghost use Rattle.trace_replay.specs.Run.{is_there, has_index, asks_if, place_for, file_asks, directory_asks, joins_if, adjust_asks, event_asks, asks_at, asks, asks_within, asked, in_header};
 ghost use Rattle.trace_replay.specs.Turns.{IsTurnBounded, is_do, stage_after};
 ghost use Rattle.trace_ends.specs.View.{core_of};
 ghost use Rattle.trace_replay.specs.WorldView.{world_of};
@@ -170,18 +170,7 @@ fn directory_asks(core: &Core, spot: Spot) -> Result<Turn, LineFault>
     }
 }
 
-/// A client joins where a further session can stand.
-fn joins_within(has_room: bool, client: u64) -> Result<Turn, LineFault>
-    ensures { result ≡ joins_within has_room client }
-{
-    if has_room {
-        Ok(Turn::Join(client))
-    } else {
-        Err(LineFault::Limit(Limit::Sessions))
-    }
-}
-
-/// A client that is there and isn't joined joins, where so many sessions stand.
+/// A client that is there and isn't joined joins, where so many sessions stand and a further one can.
 fn joins_if(standing: usize, client: u64, seats: &Vec<Seat>) -> Result<Turn, LineFault>
     ensures { result ≡ joins_if standing client (numbered seats.now.items client) }
 {
@@ -191,7 +180,11 @@ fn joins_if(standing: usize, client: u64, seats: &Vec<Seat>) -> Result<Turn, Lin
     if seats[place].linked() {
         return Err(LineFault::Grammar);
     }
-    joins_within(standing < SESSIONS_MOST, client)
+    if standing < SESSIONS_MOST {
+        Ok(Turn::Join(client))
+    } else {
+        Err(LineFault::Limit(Limit::Sessions))
+    }
 }
 
 /// Whether there is such a client.
@@ -199,13 +192,6 @@ fn has_client(core: &Core, client: u64) -> bool
     ensures { result ≡ is_there (numbered (core_of core.now).seats client) }
 {
     place_of(core.seats.len(), client).is_some()
-}
-
-/// Whether such a session was ever made.
-fn has_session(core: &Core, session: u64) -> bool
-    ensures { result ≡ is_there (numbered (core_of core.now).sessions session) }
-{
-    place_of(core.sessions.len(), session).is_some()
 }
 
 /// What a client that is there asks for.
@@ -219,7 +205,8 @@ fn by_client(core: &Core, client: u64, turn: Turn) -> Result<Turn, LineFault>
 fn of_session(core: &Core, session: u64, turn: Turn) -> Result<Turn, LineFault>
     ensures { result ≡ asks_if (is_there (numbered (core_of core.now).sessions session)) turn }
 {
-    asks_if(has_session(core, session), turn)
+    let is_made = place_of(core.sessions.len(), session).is_some();
+    asks_if(is_made, turn)
 }
 
 /// Whether there is such an index: the server's, or that of a client who is there.
