@@ -10,21 +10,6 @@ use Rattle.trace_text.specs.declared.line.Line.TheVariants.{Version, Term, Drift
 use Rattle.trace_text.specs.Fields.{reading_of, amount_of, who_of, key_of}
 use Rattle.command_text.specs.Parts.{words_of}
 
--- there are fewer words than two, or more
-abbrev pub AreNotTwo : List (List ℕ) → Type 0
-AreNotTwo [] = Unit {0}
-AreNotTwo (word ∷ []) = Unit {0}
-AreNotTwo (first ∷ second ∷ []) = ⊥
-AreNotTwo (first ∷ second ∷ third ∷ words) = Unit {0}
-
--- there are fewer words than three, or more
-abbrev pub AreNotThree : List (List ℕ) → Type 0
-AreNotThree [] = Unit {0}
-AreNotThree (word ∷ []) = Unit {0}
-AreNotThree (first ∷ second ∷ []) = Unit {0}
-AreNotThree (first ∷ second ∷ third ∷ []) = ⊥
-AreNotThree (first ∷ second ∷ third ∷ fourth ∷ words) = Unit {0}
-
 -- lbfs-trace 1
 abbrev pub version_of : List (List ℕ) → Option Line
 version_of (version ∷ []) = if bytes_eq version (codes "1") then Some Version else None

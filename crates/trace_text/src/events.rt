@@ -7,11 +7,11 @@ ghost use Rattle.trace_text.specs.Grammar.{join_of, do_with, do_of, up_of, down_
 
 use crate::fields;
 use crate::line::Line;
-use crate::words::{one, three, two};
 use command_text::command::Command;
 use command_text::fields::number;
 use command_text::line_err::LineErr;
 use command_text::parts::Words;
+use command_text::words::{is, one, three, two};
 use std::alloc::Global;
 
 /// `join C c s`.
@@ -189,25 +189,25 @@ pub(crate) fn event(kind: &[u8], words: &mut Words) -> Option<Line>
     requires { bytes_eq kind.now (codes "do") ≡ false }
     ensures { result ≡ event_from kind.now words.old }
 {
-    if kind == b"join".as_slice() {
+    if is(kind, b"join") {
         join(words)
-    } else if kind == b"up".as_slice() {
+    } else if is(kind, b"up") {
         up(words)
-    } else if kind == b"down".as_slice() {
+    } else if is(kind, b"down") {
         down(words)
-    } else if kind == b"pass".as_slice() {
+    } else if is(kind, b"pass") {
         pass(words)
-    } else if kind == b"settle".as_slice() {
+    } else if is(kind, b"settle") {
         settle(words)
-    } else if kind == b"cut".as_slice() {
+    } else if is(kind, b"cut") {
         cut(words)
-    } else if kind == b"hang".as_slice() {
+    } else if is(kind, b"hang") {
         hang(words)
-    } else if kind == b"forge".as_slice() {
+    } else if is(kind, b"forge") {
         forge(words)
-    } else if kind == b"clear".as_slice() {
+    } else if is(kind, b"clear") {
         clear(words)
-    } else if kind == b"evict".as_slice() {
+    } else if is(kind, b"evict") {
         evict(words)
     } else {
         None

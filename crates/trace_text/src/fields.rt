@@ -7,6 +7,7 @@ ghost use Rattle.trace_text.specs.Fields.{reading_of, amount_of, who_of, digit_o
 
 use crate::line::{Amount, Who};
 use command_text::fields::{number, number_within};
+use command_text::words::is;
 
 /// The last reading of a clock, in milliseconds.
 const LAST_READING: u64 = limits::READING_MOST;
@@ -22,7 +23,7 @@ pub(crate) fn reading(word: &[u8]) -> Option<u64>
 pub(crate) fn amount(word: &[u8]) -> Option<Amount>
     ensures { result ≡ amount_of word.now }
 {
-    if word == b"all".as_slice() {
+    if is(word, b"all") {
         Some(Amount::All)
     } else {
         Some(Amount::Bytes(number(word)?))
@@ -33,7 +34,7 @@ pub(crate) fn amount(word: &[u8]) -> Option<Amount>
 pub(crate) fn who(word: &[u8]) -> Option<Who>
     ensures { result ≡ who_of word.now }
 {
-    if word == b"server".as_slice() {
+    if is(word, b"server") {
         Some(Who::Server)
     } else {
         Some(Who::Client(number(word)?))

@@ -7,9 +7,9 @@ ghost use Rattle.trace_text.specs.Grammar.{version_of, term_of, drift_of, client
 
 use crate::events::{command_line, event};
 use crate::line::Line;
-use crate::words::{one, two};
 use command_text::line_err::LineErr;
 use command_text::parts::Words;
+use command_text::words::{is, one, two};
 use command_text::{fields, path, pieces};
 use limits::{CLIENTS_MOST, DRIFT_MOST, TERM_MOST};
 use std::alloc::Global;
@@ -19,7 +19,7 @@ fn version(words: &mut Words) -> Option<Line>
     ensures { result ≡ version_of words.old }
 {
     let version = one(words)?;
-    if version == b"1".as_slice() {
+    if is(version, b"1") {
         Some(Line::Version)
     } else {
         None
@@ -79,13 +79,13 @@ fn read_small(kind: &[u8], words: &mut Words) -> Option<Line>
     requires command { bytes_eq kind.now (codes "do") ≡ false }
     ensures { result ≡ line_from kind.now words.old }
 {
-    if kind == b"lbfs-trace".as_slice() {
+    if is(kind, b"lbfs-trace") {
         version(words)
-    } else if kind == b"term".as_slice() {
+    } else if is(kind, b"term") {
         term(words)
-    } else if kind == b"drift".as_slice() {
+    } else if is(kind, b"drift") {
         drift(words)
-    } else if kind == b"clients".as_slice() {
+    } else if is(kind, b"clients") {
         clients(words)
     } else {
         event(kind, words)
@@ -96,11 +96,11 @@ fn read_small(kind: &[u8], words: &mut Words) -> Option<Line>
 pub(crate) fn read_kind(alloc: Global, kind: &[u8], words: &mut Words) -> Result<Line, LineErr>
     ensures { Gives result (line_from kind.now words.old) }
 {
-    if kind == b"dir".as_slice() {
+    if is(kind, b"dir") {
         dir(alloc, words)
-    } else if kind == b"file".as_slice() {
+    } else if is(kind, b"file") {
         file(alloc, words)
-    } else if kind == b"do".as_slice() {
+    } else if is(kind, b"do") {
         command_line(alloc, words)
     } else {
         read_small(kind, words).ok_or(LineErr::BadLine)

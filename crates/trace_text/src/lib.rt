@@ -8,4 +8,3 @@ mod fields;
 mod kinds;
 pub mod line;
 pub mod refusal;
-mod words;

@@ -133,7 +133,9 @@ fn said_by(alloc: Global, line: &[u8]) -> Result<Line, LineErr>
         return Ok(Line::Skipped);
     }
     let mut words = Words::new(line);
-    let kind = words.next().ok_or(LineErr::BadLine)?;
+    let Some(kind) = words.next() else {
+        return Err(LineErr::BadLine);
+    };
     read_kind(alloc, kind, &mut words)
 }
 
