@@ -8,6 +8,7 @@ ghost use Rattle.lbfs_mount.specs.declared.mount_err.MountErr.TheVariants as err
 ghost use Rattle.lbfs_run.specs.Mounting.{MountEnds, mount_output};
 ghost use Rattle.lbfs_run.specs.Telling.{Tells};
 
+use crate::output::{Output, refused};
 use crate::outside::Outside;
 use crate::telling::tell;
 use exit_status::status::Status;
@@ -19,7 +20,6 @@ use lbfs_mount::mount_err::MountErr;
 use links::clock::Clock;
 use links::files::Files;
 use links::network::Network;
-use crate::output::{Output, refused};
 use program_words::asked::MountOptions;
 use std::alloc::{AllocError, Global};
 use std::sync::Wait;

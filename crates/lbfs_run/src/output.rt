@@ -8,8 +8,8 @@ ghost use Rattle.trace_generator.specs.declared.TheConstants.{BLOCKS_MOST};
 ghost use Rattle.exit_status.specs.declared.status.Status.TheVariants as status;
 
 use crate::chunk_lines::cut_text;
-use exit_status::status::Status;
 use crate::replayed::replayed;
+use exit_status::status::Status;
 use lb_base::items::{Bytes, Items};
 use program_words::asked::{InputCommand, SeedCommand, View};
 use record_show::show::shown;

@@ -17,9 +17,9 @@ ghost use Rattle.lbfs_run.specs.Output.{output_for, most_bytes, IsWhole};
 ghost use Rattle.lbfs_run.specs.PlainEnds.{IsAnswered, IsAnsweredFrom, IsBegun, IsBegunFrom, IsBroken, IsBrokenFrom, IsRun};
 ghost use Rattle.lbfs_run.specs.declared.plain.Unread.TheVariants as unread;
 
+use crate::law::generated_traces_are_accepted;
 use crate::output::{Output, input_output, refused, seed_output};
 use exit_status::status::Status;
-use crate::law::generated_traces_are_accepted;
 use kept_promise::law::promise_is_kept;
 use lb_base::sink::{GiveErr, Sink, give_all};
 use lb_base::source::{ReadError, Source, read_all};

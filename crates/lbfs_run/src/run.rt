@@ -221,12 +221,7 @@ pub fn status_of<
     N: Network + Drop,
     C: Clock + Sync + Drop,
     R: Rest + Sync + Drop,
->(
-    rt: &H,
-    alloc: Global,
-    words: &[String],
-    out: Outside<S, K, D, F, N, C, R>,
-) -> u8
+>(rt: &H, alloc: Global, words: &[String], out: Outside<S, K, D, F, N, C, R>) -> u8
 where
     N::L: Drop + Send,
 {

@@ -7,6 +7,7 @@ ghost use Rattle.lbfs_run.specs.Ends.{StoreFails};
 ghost use Rattle.lbfs_run.specs.Serving.{ServeEnds, record_text, serve_output, served_text};
 ghost use Rattle.lbfs_run.specs.Telling.{Tells};
 
+use crate::output::Output;
 use crate::outside::Outside;
 use crate::telling::tell;
 use exit_status::status::Status;
@@ -17,7 +18,6 @@ use lbfs_server::serve::{ServeErr, Served, serve};
 use links::clock::Clock;
 use links::network::Network;
 use links::rest::Rest;
-use crate::output::Output;
 use program_words::asked::ServeOptions;
 use std::alloc::{AllocError, Global};
 use std::fmt::Write;

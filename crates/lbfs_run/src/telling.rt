@@ -5,9 +5,9 @@ ghost use Rattle.lb_base.specs.Causes.{Rose};
 ghost use Rattle.exit_status.specs.Statuses.{code_of};
 ghost use Rattle.lbfs_run.specs.Telling.{Tells};
 
+use crate::output::Output;
 use exit_status::status::Status;
 use lb_base::sink::{GiveErr, Sink, give_all};
-use crate::output::Output;
 
 /// Writes the output, and answers its status, or that of what went wrong.
 pub(crate) fn tell<K: Sink>(output: &Output, sink: &mut K) -> u8

@@ -64,10 +64,7 @@ pub enum Until {
     /// The line is shut.
     Shut,
     /// Something came to a side, or can't come any more.
-    News {
-        side: Side,
-        is_silent: bool,
-    },
+    News { side: Side, is_silent: bool },
 }
 
 /// What is on its way on a line.
