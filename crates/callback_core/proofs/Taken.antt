@@ -11,7 +11,7 @@ use Rattle.std.proofs.lemmas.List.Sums.{sum_by-append, sum_by-remove}
 use Rattle.lease_table.proofs.Lists.{filter_all, pairs_head, pairs_tail, some_is}
 use Rattle.lease_rules.specs.declared.change.Change.{Change}
 use Rattle.callback_core.specs.Waits.{change_of, has_wait, without, without_made, entries_of, bytes_of, AreOthers, AreBounded}
-use Rattle.hang_rules.specs.Places.{place_in, without_place}
+use Rattle.lease_rules.specs.Places.{place_in, without_place}
 
 module _ {X : Type 0} where
   there : (xs : List X) (i : ℕ) → i < length xs → (x : X) × (slice_get xs i ≡ Some x)

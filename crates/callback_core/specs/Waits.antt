@@ -6,7 +6,7 @@ use Rattle.std.specs.List.{list_any}
 use Rattle.lease_rules.specs.declared.lease.Lease.{Lease}
 use Rattle.lease_table.specs.Leases.{is_blocked, others}
 pub use Rattle.lease_rules.specs.Changes.{asker_of, asker, is_about, meets, waits_behind}
-pub use Rattle.hang_rules.specs.Places.{places_of}
+pub use Rattle.lease_rules.specs.Places.{places_of}
 use Rattle.lease_rules.specs.declared.change.Change.{Change}
 use Rattle.lease_rules.specs.declared.change.Recall.{Recall}
 use Rattle.lease_rules.specs.declared.change.AskErr.{AskErr}

@@ -3,7 +3,7 @@
 ghost use Rattle.std.specs.Prelude.{◌≡◌, ◌<◌, None, Some, not, take, length, slice_get, slice_index_or, IfSome, Option};
 ghost use Rattle.std.specs.List.{list_any};
 ghost use Rattle.callback_core.specs.Waits.{is_free, ready, change_of, has_wait, waits_on};
-ghost use Rattle.hang_rules.specs.Places.{place_in};
+ghost use Rattle.lease_rules.specs.Places.{place_in};
 
 use lease_rules::change::{Change, waits_behind};
 use lease_table::table::Leases;

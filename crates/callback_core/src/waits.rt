@@ -6,9 +6,9 @@ ghost use Rattle.lease_table.specs.Leases.{grant, without_lease, marked, without
 ghost use Rattle.callback_core.specs.Waits.{recalls_due, ready, change_of, has_wait, waits_on, without, without_made, places_of, entries_of, bytes_of, IsAnswered};
 
 use crate::{asking, ready, sizes};
-use hang_rules::leaving::{hang, take_out};
 use lb_base::items::Items;
 use lease_rules::change::{AskErr, Change, Recall};
+use lease_rules::leaving::{KeepsLeases, hang, take_out};
 use lease_table::table::Leases;
 use std::alloc::{AllocError, Global};
 use std::marker::Model;

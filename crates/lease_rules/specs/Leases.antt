@@ -1,6 +1,6 @@
 -- The rules on a single lease (Gray and Cheriton, SOSP 1989). Who has a lease on a file is asked before the file is
 -- changed, until the lease ends.
-use Rattle.std.specs.Prelude.{ℕ, Option, Some, None, Bool, true, false, not, ◌&&◌, ◌||◌, ◌==◌, nat_lt}
+use Rattle.std.specs.Prelude.{ℕ, List, filter, Option, Some, None, Bool, true, false, not, ◌&&◌, ◌||◌, ◌==◌, nat_lt}
 use Rattle.lease_rules.specs.declared.lease.Held.{Held}
 use Rattle.lease_rules.specs.declared.lease.Lease.{Lease}
 
@@ -39,6 +39,12 @@ is_recall (Some y) x = y == x
 -- the session was asked for it by the RECALL with this xid
 abbrev pub remembers : Lease → (session xid : ℕ) → Bool
 remembers l session xid = l.session == session && is_recall l.recall xid
+
+-- ---- many of them
+
+-- those that have not ended
+abbrev pub without_ended : List Lease → (now : ℕ) → List Lease
+without_ended leases now = filter (λ l. nat_lt now l.ends) leases
 
 -- ---- how they are kept
 

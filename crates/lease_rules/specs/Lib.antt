@@ -1,2 +1,3 @@
 pub mod Leases
 pub mod Changes
+pub mod Places

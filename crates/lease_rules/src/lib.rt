@@ -6,3 +6,4 @@
 
 pub mod change;
 pub mod lease;
+pub mod leaving;

@@ -3,7 +3,7 @@
 use Rattle.std.specs.Prelude.{ℕ, List, ◌∷◌, ◌++◌, Option, Some, None, Bool, true, false, not, ◌&&◌, ◌||◌, ◌==◌, nat_lt, find, filter, map}
 use Rattle.std.specs.List.{list_any}
 use Rattle.lease_rules.specs.declared.lease.Lease.{Lease}
-pub use Rattle.lease_rules.specs.Leases.{is_on, is_before, is_behind, is_others, blocks, is_none, is_wanted_back, is_recall, remembers}
+pub use Rattle.lease_rules.specs.Leases.{is_on, is_before, is_behind, is_others, blocks, is_none, is_wanted_back, is_recall, remembers, without_ended}
 
 -- the leases by file, and by session within a file; and how many more have their place already
 pub record Table : Type 0 where
@@ -42,9 +42,6 @@ marked leases session file xid = mark leases xid (lease_at leases session file)
 -- a lease is given up by the answer to the RECALL that it remembers, and by no other
 abbrev pub without_recalled : List Lease → (session xid : ℕ) → List Lease
 without_recalled leases session xid = filter (λ l. not (remembers l session xid)) leases
-
-abbrev pub without_ended : List Lease → (now : ℕ) → List Lease
-without_ended leases now = filter (λ l. nat_lt now l.ends) leases
 
 -- a lease blocks a change of the file that the session asked for
 abbrev pub is_blocked : List Lease → (session file now : ℕ) → Bool

@@ -8,6 +8,7 @@ use crate::map::ReservedMap;
 use crate::{blocking, changes};
 use lb_base::items::Items;
 use lease_rules::lease::end_of;
+use lease_rules::leaving::KeepsLeases;
 use std::alloc::{AllocError, Global};
 use std::marker::Model;
 
@@ -165,10 +166,16 @@ impl Leases {
     {
         blocking::blocked(&self.leases, file, session, now)
     }
+}
+
+impl KeepsLeases for Leases {
+    ghost leases = { λ t. t.leases };
+
+    ghost room = { λ t. t.room };
 
     /// Forgets the leases that have ended at this reading of the server's clock. It takes no
     /// memory.
-    pub fn forget_ended(&mut self, now: u64)
+    fn forget_ended(&mut self, now: u64)
         ensures leases { self.new.leases ≡ without_ended self.old.leases now }
         ensures room { self.old.room ≤ self.new.room }
     {

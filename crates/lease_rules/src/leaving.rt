@@ -1,10 +1,27 @@
-//! What goes with a change that leaves, and what stays (`specs/Places.antt`).
+//! How a change that waits leaves: it is made, or the connection of its session is lost
+//! (`specs/Places.antt`). The leases are lent to the second, which may not touch them.
 
-ghost use Rattle.std.specs.Prelude.{◌≡◌, ◌+◌, ◌<◌, IfSome, length, vec_len, vec_capacity};
-ghost use Rattle.hang_rules.specs.Places.{place_in, without_place, places_of};
+ghost use Rattle.std.specs.Prelude.{◌≡◌, ◌+◌, ◌<◌, ◌≤◌, ℕ, List, IfSome, length, vec_len, vec_capacity};
+ghost use Rattle.lease_rules.specs.Leases.{without_ended};
+ghost use Rattle.lease_rules.specs.Places.{place_in, without_place, places_of};
+ghost use Rattle.lease_rules.specs.declared.lease.Lease.{Lease};
 
-use lease_rules::change::Change;
-use lease_table::table::Leases;
+use crate::change::Change;
+
+/// Who keeps leases.
+pub trait KeepsLeases {
+    /// The leases.
+    ghost leases: { Self → List Lease };
+
+    /// How many more there is room for.
+    ghost room: { Self → ℕ };
+
+    /// Forgets the leases that have ended at this reading of the server's clock. It takes no
+    /// memory.
+    fn forget_ended(&mut self, now: u64)
+        ensures leases { leases self.new ≡ without_ended (leases self.old) now }
+        ensures room { room self.old ≤ room self.new };
+}
 
 /// Takes out the change at a place, if there is one.
 pub fn take_out<P>(waits: &mut Vec<Change<P>>, at: Option<usize>) -> Option<Change<P>>
@@ -22,8 +39,8 @@ pub fn take_out<P>(waits: &mut Vec<Change<P>>, at: Option<usize>) -> Option<Chan
 
 /// The connection of a session is lost whose change waits at this place, if it has one. The change
 /// goes. The session's leases stay: its client may go by each until it ends.
-pub fn hang<P>(
-    leases: &mut Leases,
+pub fn hang<L: KeepsLeases, P>(
+    leases: &mut L,
     waits: &mut Vec<Change<P>>,
     at: Option<usize>,
 ) -> Option<Change<P>>
@@ -32,8 +49,8 @@ pub fn hang<P>(
     ensures rest { waits.new.items ≡ without_place waits.old.items at }
     ensures len { vec_len waits.new + places_of result ≡ vec_len waits.old }
     ensures capacity { vec_capacity waits.new ≡ vec_capacity waits.old }
-    ensures leases { leases.new.leases ≡ leases.old.leases }
-    ensures room { leases.new.room ≡ leases.old.room }
+    ensures leases { L.leases leases.new ≡ L.leases leases.old }
+    ensures room { L.room leases.new ≡ L.room leases.old }
 {
     let _leases = leases;
     take_out(waits, at)
