@@ -10,6 +10,7 @@ use client_state::step::{ClientStep, Ended};
 use open_close::client::Client;
 use register_model::op::{Op, Outcome, Traffic, Word};
 use session_rules::taken_call::TakenCall;
+use session_rules::telling::tell;
 use shared_bytes::SharedBytes;
 use std::alloc::{AllocError, Global};
 use told_outcome::told_of;
@@ -123,7 +124,8 @@ fn end(
 ) -> Result<(), AllocError>
     ensures { OnOk result (op.new ≡ ended_op op.old client.now taken.now step ended.now) }
 {
-    op.outcome = told_of(alloc, &ended.outcome)?;
+    let told = told_of(alloc, &ended.outcome)?;
+    tell(&mut op.outcome, told);
     put_value(&mut op.value, client, &ended.outcome)?;
     op.end = Some(step);
     op.point = point_of(op.word, op.point, ended, taken);
