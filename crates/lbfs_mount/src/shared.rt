@@ -34,7 +34,11 @@ impl<D: Turns + Drop> Shared<D> {
 
     /// What was shared, once no thread does any more.
     pub(crate) fn into_desk(self) -> D {
-        let Shared { desk, news, .. } = self;
+        let Shared {
+            desk,
+            news,
+            alloc: _,
+        } = self;
         drop(news);
         desk.into_inner()
     }
