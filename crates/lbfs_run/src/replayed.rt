@@ -62,7 +62,6 @@ fn run_block(
 
 /// The world that a generated trace of so many blocks comes to. Its text is made block by block, and
 /// never held whole. The one error is want of memory.
-#[tactic(auto, using(crate::proofs::Parts::next_small, crate::proofs::Parts::block_taken, crate::proofs::Parts::block_ran, crate::proofs::Parts::ran_accepted))]
 pub fn replayed(alloc: Global, seed: u64, blocks: u64) -> Result<World, AllocError>
     requires { blocks ≤ BLOCKS_MOST }
     ensures { IfOk result (λ v. accepted (generated_text seed blocks) ≡ Ok v.world) }
