@@ -183,13 +183,19 @@ impl Client {
     pub fn shared_local(&self, file: u64) -> Option<&SharedBytes>
         ensures { option_copied result ≡ option_map (λ l. l.bytes) (local_at self.now.opened file) }
     {
-        parts::find_local(&self.state.opened, file).map(|l| &l.bytes)
+        match parts::find_local(&self.state.opened, file) {
+            Some(local) => Some(&local.bytes),
+            None => None,
+        }
     }
 
     /// The local content of an open file; none where it isn't open. It takes no memory.
     pub fn local(&self, file: u64) -> Option<&[u8]>
         ensures { option_copied result ≡ option_map (λ l. l.bytes) (local_at self.now.opened file) }
     {
-        parts::find_local(&self.state.opened, file).map(|l| l.bytes.as_slice())
+        match self.shared_local(file) {
+            Some(bytes) => Some(bytes.as_slice()),
+            None => None,
+        }
     }
 }
