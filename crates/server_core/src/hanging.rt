@@ -2,7 +2,7 @@
 
 ghost use Rattle.std.specs.Prelude.{◌≡◌, ◌==◌, ◌≤◌, filter, not, false};
 ghost use Rattle.server_core.specs.State.{entries_held};
-ghost use Rattle.server_core.specs.Step.{stands, hangs, hangs_if};
+ghost use Rattle.server_core.specs.Step.{stands, hangs_if};
 ghost use Rattle.server_core.specs.View.{state_of, IsBounded};
 
 use crate::change::Change;
@@ -27,7 +27,8 @@ fn withdraw(waiting: &mut Vec<Change>, session: u32)
 }
 
 impl ServerState {
-    /// A session's connection is lost. It takes no memory.
+    /// A session's connection is lost: it goes, and with it its temporary files, and its change that
+    /// waits. It takes no memory.
     pub fn hang(&mut self, alloc: Global, session: u32) -> ServerStep
         requires { IsBounded self.old }
         ensures exact { hangs_if (state_of self.old) (stands (state_of self.old) session) session ≡ (state_of self.new, result) }
@@ -36,22 +37,12 @@ impl ServerState {
         ensures tree { self.new.tree ≡ self.old.tree }
         ensures fewer { entries_held self.new.waiting.items ≤ entries_held self.old.waiting.items }
     {
-        if stands(&self.sessions, session) {
-            self.let_go(session);
+        if !stands(&self.sessions, session) {
+            return steps::nothing(alloc);
         }
-        steps::nothing(alloc)
-    }
-
-    /// A session goes, and with it its temporary files, and its change that waits.
-    fn let_go(&mut self, session: u32)
-        requires { IsBounded self.old }
-        ensures exact { state_of self.new ≡ hangs (state_of self.old) session }
-        ensures bounded { IsBounded self.new }
-        ensures tree { self.new.tree ≡ self.old.tree }
-        ensures fewer { entries_held self.new.waiting.items ≤ entries_held self.old.waiting.items }
-    {
         withdraw(&mut self.waiting, session);
         self.temps.drop_session(session);
         leave(&mut self.sessions, session);
+        steps::nothing(alloc)
     }
 }

@@ -1,12 +1,11 @@
 //! The calls of NFS: what they come to over the tree, and in the journal. `asks` in `specs/Step.antt`
 //! says it.
 
-ghost use Rattle.std.specs.Prelude.{◌≡◌, ◌≤◌, ◌+◌, length, vec_capacity, IfOk, OnOk, OnErr, false, true};
+ghost use Rattle.std.specs.Prelude.{◌≡◌, ◌≤◌, ◌+◌, IfOk, OnOk, OnErr, false, true};
 ghost use Rattle.wire.specs.declared.message.Body.TheVariants as body;
-ghost use Rattle.server_core.specs.Closing.{count_of};
 ghost use Rattle.server_core.specs.Served.{IsServed};
 ghost use Rattle.server_core.specs.State.{entries_held};
-ghost use Rattle.server_core.specs.Step.{called_under, does, asks, TakesMemory};
+ghost use Rattle.server_core.specs.Step.{called_under, asks, TakesMemory};
 ghost use Rattle.server_core.specs.View.{state_of, IsBounded, HasRoom, RoomFor};
 ghost use Rattle.file_tree.specs.Stores.{Keeps};
 ghost use Rattle.tree_calls.specs.Calling.{places_of_call};
@@ -89,7 +88,17 @@ impl ServerState {
     {
         match outcome {
             None => refuse(alloc, session, xid, RpcRefusal::ProcUnavail),
-            Some(Outcome::Answered(done)) => self.take_done(alloc, session, xid, done),
+            Some(Outcome::Answered(done)) => {
+                let Done {
+                    answer: told,
+                    first,
+                    second,
+                } = done;
+                let entries = enter_both(&mut self.journal, session, first, second);
+                let mut step = answer(alloc, session, xid, Body::Nfs(told));
+                step.entries = entries;
+                step
+            }
             Some(Outcome::Waits(asked)) => {
                 let file = asked.file();
                 let what = Wanted::Asked(asked);
@@ -102,26 +111,5 @@ impl ServerState {
                 nothing(alloc)
             }
         }
-    }
-
-    /// A call of NFS that is answered.
-    fn take_done(&mut self, alloc: Global, session: u32, xid: u32, done: Done) -> ServerStep
-        requires bounded { IsBounded self.old }
-        requires room { length self.old.journal.items + (length self.old.waiting.items + length self.old.waiting.items) + count_of done.first done.second ≤ vec_capacity self.old.journal }
-        ensures exact { does (state_of self.old) session xid done ≡ (state_of self.new, result) }
-        ensures done { result.missed ≡ false }
-        ensures bounded { IsBounded self.new }
-        ensures tree { self.new.tree ≡ self.old.tree }
-        ensures waiting { self.new.waiting.items ≡ self.old.waiting.items }
-    {
-        let Done {
-            answer: told,
-            first,
-            second,
-        } = done;
-        let entries = enter_both(&mut self.journal, session, first, second);
-        let mut step = answer(alloc, session, xid, Body::Nfs(told));
-        step.entries = entries;
-        step
     }
 }

@@ -19,7 +19,7 @@ ghost use Rattle.server_core.specs.declared.event.Event.TheVariants as event;
 ghost use Rattle.server_rules.specs.declared.told.Told.TheVariants as told;
 
 use crate::change::Change;
-use crate::event::{self, Event, ServerStep};
+use crate::event::{Event, ServerStep};
 use crate::journal::Entry;
 use crate::steps::{self, refuse};
 use chunk_calls::calls::{self, Outcome};
@@ -98,7 +98,7 @@ impl ServerState {
                 now,
             } => {
                 let step = self.got(alloc, store, session, &mut message, now);
-                event::let_go(message);
+                drop(message);
                 step
             }
             Event::Settle { now } => self.settle(alloc, store, now),
