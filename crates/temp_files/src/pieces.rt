@@ -61,26 +61,6 @@ fn is_met(pieces: &Placed, start: u64, end: u64) -> bool
     }
 }
 
-/// Why a piece of so many bytes can't be put at this place. It takes no memory.
-fn range_fault(pieces: &Pieces, offset: u64, count: u64) -> Result<(), TempErr>
-    ensures told { Tells result (range_fault pieces.now offset count) }
-    ensures sure { ¬ IsErrOf result refusal.Memory }
-{
-    if count == 0 {
-        return Err(TempErr::Inval);
-    }
-    let Some(end) = offset.checked_add(count) else {
-        return Err(TempErr::Inval);
-    };
-    if end > SIZE_MOST {
-        return Err(TempErr::FBig);
-    }
-    if pieces.is_met(offset, end) {
-        return Err(TempErr::Inval);
-    }
-    Ok(())
-}
-
 /// Whether the pieces cover the places from `front` to the size once each and nothing beyond. It
 /// takes no memory.
 fn cover(front: u64, pieces: &Placed, size: u64) -> bool
@@ -125,7 +105,19 @@ impl Pieces {
         ensures told { Tells result (range_fault self.now offset count) }
         ensures sure { ¬ IsErrOf result refusal.Memory }
     {
-        range_fault(self, offset, count)
+        if count == 0 {
+            return Err(TempErr::Inval);
+        }
+        let Some(end) = offset.checked_add(count) else {
+            return Err(TempErr::Inval);
+        };
+        if end > SIZE_MOST {
+            return Err(TempErr::FBig);
+        }
+        if self.is_met(offset, end) {
+            return Err(TempErr::Inval);
+        }
+        Ok(())
     }
 
     /// Puts a piece at a place where it may be. The one error is want of memory, and all then stays

@@ -309,8 +309,7 @@ impl Temps {
         ensures ended { OnOk result (self.new ≡ without_temp self.old session fd) }
         ensures err { OnErr result (self.new ≡ self.old) }
     {
-        let whole = take(self.alloc, &mut self.files, session, fd, size)?;
-        Ok(whole)
+        take(self.alloc, &mut self.files, session, fd, size)
     }
 
     /// An owner of the whole content of a temporary file, where its pieces cover 0 to the size once
