@@ -6,7 +6,7 @@ ghost use Rattle.client_state.specs.Ending.{is_open};
 ghost use Rattle.client_state.specs.View.{state_of, whole_of, IsHeld, IsSound, HasXids};
 ghost use Rattle.client_state.specs.declared.task.Stage.TheVariants as stage;
 ghost use Rattle.open_close.specs.Step.{took};
-ghost use Rattle.open_close.specs.Walking.{asks_next, walks, finds_if, outcome_of, is_look, seen_in, walked, is_its, told_walk, HasXidsFor, MayMissWalk};
+ghost use Rattle.open_close.specs.Walking.{asks_next, walks, finds_if, outcome_of, is_look, seen_in, walked, HasXidsFor, MayMissWalk};
 ghost use Rattle.path_calls.specs.declared.answers.Told.TheVariants as told;
 
 use client_state::parts;
@@ -15,7 +15,6 @@ use client_state::step::{BadPeer, ClientStep, Outcome};
 use client_state::task::Stage;
 use command_text::path::PathCommand;
 use file_open::opening;
-use nfs3_calls::message::Nfs;
 use path_calls::answers::{Ended, Told};
 use path_calls::walk::{Goal, Walk};
 use std::alloc::{AllocError, Global};
@@ -180,33 +179,9 @@ fn walked(
     }
 }
 
-/// An answer of NFS: to the walk's call, or to another procedure. An `Err` changes nothing.
+/// An answer while a walk's call is under way: to that call, or to another procedure. An `Err` changes
+/// nothing.
 #[tactic(auto, using(crate::proofs::Walks::told_xids))]
-fn told_walk(
-    alloc: Global,
-    state: &mut ClientState,
-    walk: Walk,
-    xid: u32,
-    answer: &Nfs,
-) -> Result<ClientStep, AllocError>
-    requires held { IsHeld state.old }
-    requires xids { HasXids state.old.next (stage.Walking 0 walk) }
-    ensures ok { IfOk result (λ a. told_walk (state_of state.old) state.old.waiting.calls xid walk answer.now (is_its walk answer.now) ≡ (state_of state.new, a)) }
-    ensures done { IfOk result (λ a. a.missed ≡ false) }
-    ensures err { OnErr result (whole_of state.new ≡ whole_of state.old) }
-    ensures sound { OnOk result (IsSound state.new) }
-    ensures held { OnErr result (IsHeld state.new) }
-{
-    if answer.procedure().number() != walk.procedure().number() {
-        drop(walk);
-        return Ok(state.unknown(alloc, xid));
-    }
-    let looks = is_look(&walk.goal);
-    let told = walk.told(alloc, answer)?;
-    walked(alloc, state, xid, looks, told)
-}
-
-/// An answer while a walk's call is under way. An `Err` changes nothing.
 pub fn took_walk(
     alloc: Global,
     state: &mut ClientState,
@@ -224,7 +199,15 @@ pub fn took_walk(
     ensures held { OnErr result (IsHeld state.new) }
 {
     match body {
-        Body::Nfs(answer) => told_walk(alloc, state, walk, xid, answer),
+        Body::Nfs(answer) => {
+            if answer.procedure().number() != walk.procedure().number() {
+                drop(walk);
+                return Ok(state.unknown(alloc, xid));
+            }
+            let looks = is_look(&walk.goal);
+            let told = walk.told(alloc, answer)?;
+            walked(alloc, state, xid, looks, told)
+        }
         _ => {
             drop(walk);
             Ok(state.unknown(alloc, xid))

@@ -2,7 +2,7 @@ use Rattle.std.proofs.Common.{sym, subst}
 use Rattle.path_calls.specs.declared.answers.Told.{Told}
 use Rattle.open_close.specs.Walking.{HasXidsFor}
 use Rattle.open_close.proofs.Walks.{told_xids}
-use Rattle.open_close.proofs.walking.told_walk.Goals as goal
+use Rattle.open_close.proofs.walking.took_walk.Goals as goal
 
 pub walked-requires-clause-xids : goal.walked-requires-clause-xids
-walked-requires-clause-xids c = subst (λ (t : Told). HasXidsFor c.args.state.now.next t) (sym c.in_ok-told.ensures) (told_xids c.args.state.now.next c.args.walk c.args.answer.now c.requires.xids)
+walked-requires-clause-xids c = subst (λ (t : Told). HasXidsFor c.args.state.now.next t) (sym c.in_ok-told-in-Nfs.ensures) (told_xids c.args.state.now.next c.args.walk c.in-Nfs.answer c.requires.xids)
