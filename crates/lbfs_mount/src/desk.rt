@@ -41,6 +41,13 @@ fn close<L: Link + Drop>(link: &mut Option<L>) {
     *link = None;
 }
 
+/// The link is shut where the client is done with it.
+fn close_unless<L: Link + Drop>(linked: bool, link: &mut Option<L>) {
+    if !linked {
+        close(link);
+    }
+}
+
 /// Messages go out, where there are any and a connection is joined.
 fn send_on<L: Link>(alloc: Global, link: &mut Option<L>, send: &Items<Message>) -> Result<(), End> {
     match link {
@@ -184,9 +191,7 @@ impl<F: Files + Drop, L: Link + Drop> Turns for Desk<F, L> {
         }
         let said = self.mounted.got(alloc, record, now);
         self.settle(alloc, said, now);
-        if !self.mounted.linked() {
-            close(&mut self.link);
-        }
+        close_unless(self.mounted.linked(), &mut self.link);
         self.is_open(connection)
     }
 
