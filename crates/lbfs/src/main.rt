@@ -40,6 +40,7 @@ fn main(rt: HostRuntime) -> ExitCode {
         clock: HostClock::new(rt),
         rest: HostRest::new(rt),
     };
+    let words = words.as_slice();
     let behind = words.len().min(1);
     ExitCode::from(status_of(&rt, rt.alloc(), &words[behind..], outside))
 }
