@@ -1,8 +1,11 @@
 //! Arguments and results of LBFS and of the callback program as they are printed.
 
 use crate::values::Put;
-use hash_calls::call::{Committed, Hashes, Leased};
+use hash_calls::call::{
+    Commit, Committed, CondPiece, HashRange, Hashes, Leased, NewTemp, Pair, TempPiece,
+};
 use hash_calls::message::{Back, Lb};
+use lb_base::items::Items;
 use row_text::out::Out;
 
 impl Put for Leased {
@@ -13,17 +16,63 @@ impl Put for Leased {
     }
 }
 
+impl Put for HashRange {
+    fn put(&self, out: &mut Out) {
+        self.handle.put(out);
+        self.offset.put(out);
+        self.count.put(out)
+    }
+}
+
+impl Put for Items<Pair> {
+    fn put(&self, out: &mut Out) {
+        out.number(self.len() as u64);
+        for pair in self.as_slice() {
+            pair.digest.put(out);
+            pair.size.put(out);
+        }
+    }
+}
+
 impl Put for Hashes {
     fn put(&self, out: &mut Out) {
         self.version.put(out);
         self.term.put(out);
         self.size.put(out);
-        out.number(self.pairs.len() as u64);
-        for pair in self.pairs.as_slice() {
-            pair.digest.put(out);
-            pair.size.put(out);
-        }
+        self.pairs.put(out);
         self.eof.put(out)
+    }
+}
+
+impl Put for NewTemp {
+    fn put(&self, out: &mut Out) {
+        self.fd.put(out);
+        self.handle.put(out)
+    }
+}
+
+impl Put for TempPiece {
+    fn put(&self, out: &mut Out) {
+        self.fd.put(out);
+        self.offset.put(out);
+        self.bytes.put(out)
+    }
+}
+
+impl Put for CondPiece {
+    fn put(&self, out: &mut Out) {
+        self.fd.put(out);
+        self.offset.put(out);
+        self.count.put(out);
+        self.digest.put(out)
+    }
+}
+
+impl Put for Commit {
+    fn put(&self, out: &mut Out) {
+        self.fd.put(out);
+        self.handle.put(out);
+        self.size.put(out)
     }
 }
 
@@ -40,35 +89,15 @@ impl Put for Lb {
             Lb::Null | Lb::NullAnswer => (),
             Lb::GetLease(handle) => handle.put(out),
             Lb::GetLeaseAnswer(answer) => answer.put(out),
-            Lb::GetHash(range) => {
-                range.handle.put(out);
-                range.offset.put(out);
-                range.count.put(out)
-            }
+            Lb::GetHash(range) => range.put(out),
             Lb::GetHashAnswer(answer) => answer.put(out),
-            Lb::MkTmpFile(temp) => {
-                temp.fd.put(out);
-                temp.handle.put(out)
-            }
+            Lb::MkTmpFile(temp) => temp.put(out),
             Lb::MkTmpFileAnswer(answer) => answer.put(out),
-            Lb::TmpWrite(piece) => {
-                piece.fd.put(out);
-                piece.offset.put(out);
-                piece.bytes.put(out)
-            }
+            Lb::TmpWrite(piece) => piece.put(out),
             Lb::TmpWriteAnswer(answer) => answer.put(out),
-            Lb::CondWrite(piece) => {
-                piece.fd.put(out);
-                piece.offset.put(out);
-                piece.count.put(out);
-                piece.digest.put(out)
-            }
+            Lb::CondWrite(piece) => piece.put(out),
             Lb::CondWriteAnswer(answer) => answer.put(out),
-            Lb::CommitTmp(commit) => {
-                commit.fd.put(out);
-                commit.handle.put(out);
-                commit.size.put(out)
-            }
+            Lb::CommitTmp(commit) => commit.put(out),
             Lb::CommitTmpAnswer(answer) => answer.put(out),
         }
     }

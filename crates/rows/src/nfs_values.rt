@@ -1,13 +1,14 @@
 //! Arguments and results of NFS version 3 as they are printed.
 
 use crate::values::{Put, put_numbers};
-use nfs3_calls::call::{Granted, Piece};
+use lb_base::items::Items;
+use nfs3_calls::call::{Access, Granted, Piece, Range};
 use nfs3_calls::change::{Before, Moved, Wcc};
 use nfs3_calls::fs_info::{FsInfo, Sizes};
-use nfs3_calls::listing::Listing;
-use nfs3_calls::making::{HowMade, Made, SetAttr, SetTime};
+use nfs3_calls::listing::{Entry, ListRange, Listing};
+use nfs3_calls::making::{HowMade, Made, NewDir, NewFile, SetAttr, SetTime};
 use nfs3_calls::message::Nfs;
-use nfs3_calls::place::{Found, Place};
+use nfs3_calls::place::{Found, Place, Rename};
 use row_text::out::Out;
 
 impl Put for Place {
@@ -25,10 +26,32 @@ impl Put for Found {
     }
 }
 
+impl Put for Rename {
+    fn put(&self, out: &mut Out) {
+        self.from.put(out);
+        self.to.put(out)
+    }
+}
+
+impl Put for Access {
+    fn put(&self, out: &mut Out) {
+        self.handle.put(out);
+        self.bits.put(out)
+    }
+}
+
 impl Put for Granted {
     fn put(&self, out: &mut Out) {
         self.attr.put(out);
         self.bits.put(out)
+    }
+}
+
+impl Put for Range {
+    fn put(&self, out: &mut Out) {
+        self.handle.put(out);
+        self.offset.put(out);
+        self.count.put(out)
     }
 }
 
@@ -106,6 +129,20 @@ impl Put for HowMade {
     }
 }
 
+impl Put for NewFile {
+    fn put(&self, out: &mut Out) {
+        self.place.put(out);
+        self.how.put(out)
+    }
+}
+
+impl Put for NewDir {
+    fn put(&self, out: &mut Out) {
+        self.place.put(out);
+        self.attr.put(out)
+    }
+}
+
 impl Put for Made {
     fn put(&self, out: &mut Out) {
         self.handle.put(out);
@@ -114,17 +151,32 @@ impl Put for Made {
     }
 }
 
-impl Put for Listing {
+impl Put for ListRange {
     fn put(&self, out: &mut Out) {
-        self.attr.put(out);
+        self.dir.put(out);
+        self.cookie.put(out);
         self.verifier.put(out);
-        for entry in self.entries.as_slice() {
+        self.count.put(out)
+    }
+}
+
+impl Put for Items<Entry> {
+    fn put(&self, out: &mut Out) {
+        for entry in self.as_slice() {
             out.text(" true");
             entry.fileid.put(out);
             entry.name.put(out);
             entry.cookie.put(out);
         }
-        out.text(" false");
+        out.text(" false")
+    }
+}
+
+impl Put for Listing {
+    fn put(&self, out: &mut Out) {
+        self.attr.put(out);
+        self.verifier.put(out);
+        self.entries.put(out);
         self.eof.put(out)
     }
 }
@@ -162,42 +214,21 @@ impl Put for Nfs {
             Nfs::GetAttrAnswer(answer) => answer.put(out),
             Nfs::Lookup(place) => place.put(out),
             Nfs::LookupAnswer(answer) => answer.put(out),
-            Nfs::Access(access) => {
-                access.handle.put(out);
-                access.bits.put(out)
-            }
+            Nfs::Access(access) => access.put(out),
             Nfs::AccessAnswer(answer) => answer.put(out),
-            Nfs::Read(range) => {
-                range.handle.put(out);
-                range.offset.put(out);
-                range.count.put(out)
-            }
+            Nfs::Read(range) => range.put(out),
             Nfs::ReadAnswer(answer) => answer.put(out),
-            Nfs::Create(file) => {
-                file.place.put(out);
-                file.how.put(out)
-            }
+            Nfs::Create(file) => file.put(out),
             Nfs::CreateAnswer(answer) => answer.put(out),
-            Nfs::MkDir(dir) => {
-                dir.place.put(out);
-                dir.attr.put(out)
-            }
+            Nfs::MkDir(dir) => dir.put(out),
             Nfs::MkDirAnswer(answer) => answer.put(out),
             Nfs::Remove(place) => place.put(out),
             Nfs::RemoveAnswer(answer) => answer.put(out),
             Nfs::RmDir(place) => place.put(out),
             Nfs::RmDirAnswer(answer) => answer.put(out),
-            Nfs::Rename(rename) => {
-                rename.from.put(out);
-                rename.to.put(out)
-            }
+            Nfs::Rename(rename) => rename.put(out),
             Nfs::RenameAnswer(answer) => answer.put(out),
-            Nfs::ReadDir(range) => {
-                range.dir.put(out);
-                range.cookie.put(out);
-                range.verifier.put(out);
-                range.count.put(out)
-            }
+            Nfs::ReadDir(range) => range.put(out),
             Nfs::ReadDirAnswer(answer) => answer.put(out),
             Nfs::FsInfo(handle) => handle.put(out),
             Nfs::FsInfoAnswer(answer) => answer.put(out),

@@ -6,13 +6,37 @@ use row_text::out::Out;
 use row_text::text::split;
 use wire::message::Program;
 
+/// The procedure of NFS that has the number.
+fn of_nfs(number: u32) -> Option<Program> {
+    match NfsProc::of_number(number) {
+        Some(found) => Some(Program::Nfs(found)),
+        None => None,
+    }
+}
+
+/// The procedure of LBFS that has the number.
+fn of_lbfs(number: u32) -> Option<Program> {
+    match LbProc::of_number(number) {
+        Some(found) => Some(Program::Lb(found)),
+        None => None,
+    }
+}
+
+/// The procedure of the callback program that has the number.
+fn of_back(number: u32) -> Option<Program> {
+    match BackProc::of_number(number) {
+        Some(found) => Some(Program::Back(found)),
+        None => None,
+    }
+}
+
 /// The procedure of the program, `nfs`, `lbfs` or `back`, that has the number.
 pub fn of_number(program: &str, number: &str) -> Option<Program> {
     let number = number.parse::<u32>().unwrap_or(99);
     match program {
-        "nfs" => Some(Program::Nfs(NfsProc::of_number(number)?)),
-        "lbfs" => Some(Program::Lb(LbProc::of_number(number)?)),
-        _ => Some(Program::Back(BackProc::of_number(number)?)),
+        "nfs" => of_nfs(number),
+        "lbfs" => of_lbfs(number),
+        _ => of_back(number),
     }
 }
 

@@ -2,7 +2,7 @@
 
 use crate::bytes::{number_of, put_same, read_bytes};
 use crate::procedures::of_number;
-use crate::values::{Put, put_name, put_numbers};
+use crate::values::{Put, put_name};
 use lb_base::items::Items;
 use row_text::out::Out;
 use row_text::text::split;
@@ -11,6 +11,19 @@ use wire::fault::WireErr;
 use wire::message::{Body, Message, Pending, RpcRefusal, Side, Waiting};
 use wire::parse::parse;
 use wire::spell::spell;
+
+impl Put for Body {
+    fn put(&self, out: &mut Out) {
+        let program = self.program();
+        out.number(u64::from(program.number()));
+        out.number(u64::from(program.procedure()));
+        match self {
+            Body::Nfs(message) => message.put(out),
+            Body::Lb(message) => message.put(out),
+            Body::Back(message) => message.put(out),
+        }
+    }
+}
 
 /// A call that waits, as `XID=PROGRAM.NUMBER` says.
 fn pending(word: &str) -> Option<Pending> {
@@ -27,13 +40,15 @@ fn pending(word: &str) -> Option<Pending> {
 
 /// The calls that wait, as `SIDE XID=PROGRAM.NUMBER ..` says.
 fn calls_of(alloc: Global, front: &str, out: &mut Out) -> Items<Pending> {
-    let mut calls = Vec::new(alloc);
+    let mut calls = Items::new(alloc);
     for word in front.split_whitespace() {
         if let Some(call) = pending(word) {
-            out.push(&mut calls, call);
+            if calls.push(call).is_err() {
+                out.lack();
+            }
         }
     }
-    Items::from_vec(calls)
+    calls
 }
 
 /// The side that reads.
@@ -57,29 +72,8 @@ fn put_versions(out: &mut Out, name: &str, low: u32, high: u32) {
     out.text(" }")
 }
 
-/// What a message says, behind its name and number.
-fn put_body(out: &mut Out, name: &str, xid: u32, body: &Body) {
-    let program = body.program();
-    out.text(name);
-    put_numbers(
-        out,
-        &[
-            u64::from(xid),
-            u64::from(program.number()),
-            u64::from(program.procedure()),
-        ],
-    );
-    match body {
-        Body::Nfs(message) => message.put(out),
-        Body::Lb(message) => message.put(out),
-        Body::Back(message) => message.put(out),
-    }
-}
-
-/// Why a call is refused, by its name and what it tells, behind the message's name and number.
-fn put_refusal(out: &mut Out, name: &str, xid: u32, why: &RpcRefusal) {
-    out.text(name);
-    out.number(u64::from(xid));
+/// Why a call is refused, by its name and what it tells.
+fn put_refusal(out: &mut Out, why: &RpcRefusal) {
     match why {
         RpcRefusal::ProgUnavail => out.text(" ProgUnavail"),
         RpcRefusal::ProgMismatch { low, high } => put_versions(out, " ProgMismatch", *low, *high),
@@ -97,10 +91,26 @@ fn put_refusal(out: &mut Out, name: &str, xid: u32, why: &RpcRefusal) {
 
 fn put_message(out: &mut Out, message: &Message) {
     match message {
-        Message::Call(xid, body) => put_body(out, " Call", *xid, body),
-        Message::Answer(xid, body) => put_body(out, " Answer", *xid, body),
-        Message::Refuse(xid, why) => put_refusal(out, " Refuse", *xid, why),
-        Message::Unfit(xid, why) => put_refusal(out, " Unfit", *xid, why),
+        Message::Call(xid, body) => {
+            out.text(" Call");
+            out.number(u64::from(*xid));
+            body.put(out)
+        }
+        Message::Answer(xid, body) => {
+            out.text(" Answer");
+            out.number(u64::from(*xid));
+            body.put(out)
+        }
+        Message::Refuse(xid, why) => {
+            out.text(" Refuse");
+            out.number(u64::from(*xid));
+            put_refusal(out, why)
+        }
+        Message::Unfit(xid, why) => {
+            out.text(" Unfit");
+            out.number(u64::from(*xid));
+            put_refusal(out, why)
+        }
     }
 }
 
