@@ -55,6 +55,17 @@ fn seen(file: u64, kind: Kind, version: u64, len: u64) -> Outcome
     }
 }
 
+/// A close that stored what it had.
+fn closed(alloc: Global, version: u64, len: u64, sha1: &[u8]) -> Result<Outcome, AllocError>
+    ensures { IfOk result (λ o. o ≡ told.Closed version len sha1.now) }
+{
+    Ok(Outcome::Closed {
+        version,
+        len,
+        sha1: Bytes::copy_of(alloc, sha1)?,
+    })
+}
+
 /// An outcome as it is told. The one error is want of memory.
 pub fn told_of(alloc: Global, outcome: &step::Outcome) -> Result<Outcome, AllocError>
     ensures { IfOk result (λ o. o ≡ told_of outcome.now) }
@@ -73,11 +84,7 @@ pub fn told_of(alloc: Global, outcome: &step::Outcome) -> Result<Outcome, AllocE
             len,
             sha1,
             ..
-        } => Outcome::Closed {
-            version: *version,
-            len: *len,
-            sha1: Bytes::copy_of(alloc, sha1)?,
-        },
+        } => closed(alloc, *version, *len, sha1)?,
         step::Outcome::Done => Outcome::Done,
         step::Outcome::Names(names) => Outcome::Names(copied_names(alloc, names.as_slice())?),
         step::Outcome::Seen {

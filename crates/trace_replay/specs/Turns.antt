@@ -22,6 +22,12 @@ abbrev pub is_do : Line → Bool
 is_do (line.Do c r command) = true
 is_do l = false
 
+-- whether a line has bytes of one way delivered
+abbrev pub is_delivery : Line → Bool
+is_delivery (line.Up session amount server) = true
+is_delivery (line.Down session amount r) = true
+is_delivery l = false
+
 -- which lines may come after a turn: once an event came, events alone
 abbrev pub stage_after : Stage → Turn → Stage
 stage_after s turn.Skip = s

@@ -5,7 +5,7 @@ ghost use Rattle.trace_text.specs.Reading.{IsTimely};
 ghost use Rattle.trace_ends.specs.Numbers.{numbered};
 ghost use Rattle.trace_replay.specs.World.{World};
 ghost use Rattle.trace_replay.specs.Run.{is_there, has_index, asks_if, place_for, file_asks, directory_asks, joins_if, adjust_asks, event_asks, asks_at, asks, asks_within, asked, in_header};
-ghost use Rattle.trace_replay.specs.Turns.{IsTurnBounded, is_do, stage_after};
+ghost use Rattle.trace_replay.specs.Turns.{IsTurnBounded, is_delivery, is_do, stage_after};
 ghost use Rattle.trace_ends.specs.View.{core_of};
 ghost use Rattle.trace_replay.specs.WorldView.{world_of};
 ghost use Rattle.trace_replay.specs.declared.stage.Stage.TheVariants as stage;
@@ -256,9 +256,9 @@ fn adjust_asks(core: &Core, line: &Line) -> Result<Turn, LineFault>
     }
 }
 
-/// What an event asks for that is no command.
-fn plain_asks(core: &Core, line: &Line) -> Result<Turn, LineFault>
-    requires { is_do line.now ≡ false }
+/// What a line asks for that has bytes of one way delivered.
+fn delivery_asks(core: &Core, line: &Line) -> Result<Turn, LineFault>
+    requires { is_delivery line.now ≡ true }
     ensures { result ≡ event_asks (core_of core.now) line.now }
 {
     match line {
@@ -294,6 +294,17 @@ fn plain_asks(core: &Core, line: &Line) -> Result<Turn, LineFault>
                 },
             )
         }
+        _ => Err(LineFault::Grammar),
+    }
+}
+
+/// What an event asks for that is no command.
+fn plain_asks(core: &Core, line: &Line) -> Result<Turn, LineFault>
+    requires { is_do line.now ≡ false }
+    ensures { result ≡ event_asks (core_of core.now) line.now }
+{
+    match line {
+        Line::Up { .. } | Line::Down { .. } => delivery_asks(core, line),
         Line::Pass {
             session,
             rounds,
