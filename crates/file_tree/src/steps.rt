@@ -1,4 +1,5 @@
-//! The calls that change a tree (`specs/Step.antt`).
+//! Nodes as calls make them, what a rename moves, and whether a call may be made
+//! (`specs/Step.antt`). The other calls are methods of `Tree`.
 
 ghost use Rattle.std.specs.Prelude.{◌≡◌, ◌≤◌, [], IfOk};
 ghost use Rattle.tree_reading.specs.Plans.{rename_plan, IsPlannedMove, may};

@@ -1,5 +1,5 @@
 //! A run of a command over any source and any sink. What it comes to is `output_for` of
-//! `specs/Output.antt`; what each status says is in `specs/Ends.antt`.
+//! `specs/Output.antt`; what each status says is in `specs/PlainEnds.antt`.
 
 ghost use Rattle.std.specs.Prelude.{◌≡◌, ℕ, ◌<◌, ◌≤◌, ◌⊎◌, List, length, IfOk, OnOk, OnErr, IsErrOf, Option, Some, None, true, false};
 ghost use Rattle.std.specs.Io.KnownBytes.{Consumes, IsAtEnd};

@@ -42,7 +42,7 @@ fn placed<'a>(alloc: Global, name: &'a str) -> Arg<'a>
     Arg::new(alloc, name).required(true).action(ArgAction::Set)
 }
 
-/// A command with one argument more.
+/// A command with one argument more; where there is none, its error is handed on.
 fn with<'a>(
     command: Result<Command<'a>, AllocError>,
     arg: Arg<'a>,
@@ -92,7 +92,7 @@ fn mount_line<'a>(alloc: Global) -> Result<Command<'a>, AllocError>
     with(command, required(alloc, "drift"))
 }
 
-/// A command with a command more below it.
+/// A command with a command more below it; the error of either is handed on.
 fn below<'a>(
     above: Result<Command<'a>, AllocError>,
     command: Result<Command<'a>, AllocError>,

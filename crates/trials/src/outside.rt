@@ -39,7 +39,7 @@ fn zeros(alloc: Global) -> Result<SharedBytes, AllocError> {
     Ok(SharedBytes::new(alloc, Items::from_vec(bytes))?)
 }
 
-/// The records of 16 files of the root, each of which has so many.
+/// The records of 16 files of the root, each of which has as many zeros as a file may.
 fn put_files(alloc: Global, records: &mut Vec<Kept>, out: &mut Out) {
     let Ok(zeros) = zeros(alloc) else {
         return out.lack();
