@@ -20,6 +20,7 @@ use Rattle.kept_promise.proofs.Common.{nat_tests, ◌==◌, nat_lt, is_some, opt
 use Rattle.kept_promise.proofs.Does.{own_ended}
 use Rattle.kept_promise.proofs.StepCases.{some_call}
 use Rattle.kept_promise.proofs.Deeds.{local_of}
+use Rattle.kept_promise.proofs.Locally.{leaves_all}
 use Rattle.kept_promise.proofs.PathNames.{IsSmall, HasNames}
 
 -- ---- what is said
@@ -240,15 +241,5 @@ busy_by s (command.Close file) t now e = ap (λ z. on_local s z (client.local_at
 busy_by s (command.Abandon file) t now e = ap (λ z. on_local s z (client.local_at s.opened file) (abandons s file)) e
 busy_by s (command.Named k) t now e = ap (walks s k) e
 
-busy_leaves : (d : Command) (v : List ℕ) (l : Option (List ℕ)) → leaves d told.Busy v l ≡ l
-busy_leaves (command.Open file) v l = refl
-busy_leaves (command.Write file offset content) v l = refl
-busy_leaves (command.Trunc file size) v l = refl
-busy_leaves (command.Read file offset count) v l = refl
-busy_leaves (command.Close file) v l = refl
-busy_leaves (command.Abandon file) v l = refl
-busy_leaves (command.Named (path.Find t)) v l = refl
-busy_leaves (command.Named t) v l = refl
-
 pub busy_answers : (s : client.State) (d : Command) (t : Task) (now : ℕ) → IsSmall d → s.task ≡ Some t → (let r = command_step s d now in Stays s r.0 × AnswersBy s d r (Some told.Busy))
-busy_answers s d t now small e = subst (λ (r : client.State × ClientStep). Stays s r.0 × AnswersBy s d r (Some told.Busy)) (sym (busy_by s d t now e)) (stays s, so s d outcome.Busy told.Busy refl (λ v. refl) (busy_leaves d))
+busy_answers s d t now small e = subst (λ (r : client.State × ClientStep). Stays s r.0 × AnswersBy s d r (Some told.Busy)) (sym (busy_by s d t now e)) (stays s, so s d outcome.Busy told.Busy refl (λ v. refl) (λ v l. leaves_all d told.Busy v l tt))

@@ -1,5 +1,5 @@
 -- What commands leave of a client's local contents, and which of them find it busy, as operations go on and end.
-use Rattle.std.proofs.Common.{◌⊎◌, inl, inr, ◌≡◌, ℕ, zero, suc, ◌<◌, List, [], ◌∷◌, ◌++◌, length, Option, Some, Bool, true, false, refl, sym, ap, ◌∙◌, arith, eq-eqb, ne_eqb, take}
+use Rattle.std.proofs.Common.{◌⊎◌, inl, inr, ◌≡◌, ℕ, zero, suc, ◌<◌, List, [], ◌∷◌, ◌++◌, length, Option, Some, Bool, true, false, refl, sym, ap, ◌∙◌, subst, arith, eq-eqb, ne_eqb, take}
 use Rattle.register_model.specs.declared.op.Outcome.{Outcome}
 use Rattle.register_model.specs.declared.op.Outcome.TheVariants as told
 use Rattle.command_text.specs.declared.command.Command.TheVariants as command
@@ -117,45 +117,36 @@ leaves_alike c f d o r g a b l =
     ∙ ap (λ (z : Outcome). if (d.client == c && o.file == f) then leaves d.command z r.value l else l) a
     ∙ ap (λ (z : List ℕ). if (d.client == c && o.file == f) then leaves d.command o.outcome z l else l) b
 
--- an operation that is not done leaves all as it was
-pub leaves_none : (k : Command) (u : Outcome) (v : List ℕ) (l : Option (List ℕ)) → (u ≡ told.Running) ⊎ (u ≡ told.Busy) → leaves k u v l ≡ l
-leaves_none k u v l (inl e) = ap (λ (z : Outcome). leaves k z v l) e ∙ running k
-  where
-    running : (k : Command) → leaves k told.Running v l ≡ l
-    running (command.Open f) = refl
-    running (command.Write f offset content) = refl
-    running (command.Trunc f size) = refl
-    running (command.Read f offset count) = refl
-    running (command.Close f) = refl
-    running (command.Abandon f) = refl
-    running (command.Named (path.Find t)) = refl
-    running (command.Named t) = refl
-leaves_none k u v l (inr e) = ap (λ (z : Outcome). leaves k z v l) e ∙ busy k
-  where
-    busy : (k : Command) → leaves k told.Busy v l ≡ l
-    busy (command.Open f) = refl
-    busy (command.Write f offset content) = refl
-    busy (command.Trunc f size) = refl
-    busy (command.Read f offset count) = refl
-    busy (command.Close f) = refl
-    busy (command.Abandon f) = refl
-    busy (command.Named (path.Find t)) = refl
-    busy (command.Named t) = refl
+-- nothing was got, changed or let go
+abbrev pub LeavesAll : Outcome → Type 0
+LeavesAll (told.Opened n d) = ⊥
+LeavesAll (told.Closed v n d) = ⊥
+LeavesAll told.Done = ⊥
+LeavesAll u = Unit {0}
 
--- nor is anything by one whose client was told nothing
+-- so all stays as it was
+pub leaves_all : (k : Command) (u : Outcome) (v : List ℕ) (l : Option (List ℕ)) → LeavesAll u → leaves k u v l ≡ l
+leaves_all k (told.Opened n d) v l h = absurd h
+leaves_all k (told.Closed w n d) v l h = absurd h
+leaves_all k told.Done v l h = absurd h
+leaves_all (command.Open f) u v l h = refl
+leaves_all (command.Write f offset content) u v l h = refl
+leaves_all (command.Trunc f size) u v l h = refl
+leaves_all (command.Read f offset count) u v l h = refl
+leaves_all (command.Close f) u v l h = refl
+leaves_all (command.Abandon f) u v l h = refl
+leaves_all (command.Named (path.Find t)) u v l h = refl
+leaves_all (command.Named t) u v l h = refl
+
+-- by an operation that is not done
+pub leaves_none : (k : Command) (u : Outcome) (v : List ℕ) (l : Option (List ℕ)) → (u ≡ told.Running) ⊎ (u ≡ told.Busy) → leaves k u v l ≡ l
+leaves_none k u v l (inl e) = leaves_all k u v l (subst LeavesAll (sym e) tt)
+leaves_none k u v l (inr e) = leaves_all k u v l (subst LeavesAll (sym e) tt)
+
+-- and by one whose client was told nothing
 pub leaves_untold : (k : Command) (u : Outcome) (v : List ℕ) (l : Option (List ℕ)) → is_untold u ≡ true → leaves k u v l ≡ l
-leaves_untold k told.Running v l e = leaves_none k told.Running v l (inl refl)
-leaves_untold k told.Lost v l e = lost k
-  where
-    lost : (k : Command) → leaves k told.Lost v l ≡ l
-    lost (command.Open f) = refl
-    lost (command.Write f offset content) = refl
-    lost (command.Trunc f size) = refl
-    lost (command.Read f offset count) = refl
-    lost (command.Close f) = refl
-    lost (command.Abandon f) = refl
-    lost (command.Named (path.Find t)) = refl
-    lost (command.Named t) = refl
+leaves_untold k told.Running v l e = leaves_all k told.Running v l tt
+leaves_untold k told.Lost v l e = leaves_all k told.Lost v l tt
 leaves_untold k u v l e = absurd cc
 
 -- ---- busy clients
