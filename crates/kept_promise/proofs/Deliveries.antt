@@ -152,12 +152,6 @@ serves_one w number now bytes =
     let q = serves_silent w.core number now bytes in
     (t.core, downs t.core.sessions t.down, λ up end. downs_apart up end t.core.sessions t.down, λ ws. routed_down w ws t q.0 q.1)
 
-serves_all : (w : World) (number now : ℕ) (rs : List (List ℕ)) → Puts w (map (Serves number now) rs) set_up
-serves_all w number now [] = puts_none w set_up
-serves_all w number now (r ∷ rs) =
-    let one = serves_one w number now r in
-    puts_more w (Serves number now r) (map (Serves number now) rs) set_up one (serves_all (record w { core = one.0 }) number now rs)
-
 -- ---- down: what the client sends goes up
 
 abbrev pub set_down : List ℕ → Unread → Wire → Wire
@@ -221,12 +215,6 @@ hears_one w number now bytes =
     let q = hears_silent w.core number now bytes in
     (t.core, ups t.core.sessions t.session t.up, λ down end. ups_apart down end t.core.sessions t.session t.up, λ ws. routed_up w ws t q.0 q.1)
 
-hears_all : (w : World) (number now : ℕ) (rs : List (List ℕ)) → Puts w (map (Hears number now) rs) set_down
-hears_all w number now [] = puts_none w set_down
-hears_all w number now (r ∷ rs) =
-    let one = hears_one w number now r in
-    puts_more w (Hears number now r) (map (Hears number now) rs) set_down one (hears_all (record w { core = one.0 }) number now rs)
-
 -- ---- events in a row
 
 appended : (w : World) (es fs : List Event) → all_happened (all_happened w es) fs ≡ all_happened w (es ++ fs)
@@ -254,7 +242,63 @@ all_own : (gs : List (ℕ × (Wire → Wire))) (ws : List Wire) (number : ℕ) (
 all_own [] ws number q e = (q, e)
 all_own (g ∷ gs) ws number q e = let one = else_own g.1 ws g.0 number q e in all_own gs (becomes g.1 ws g.0) number one.0 one.1
 
--- ---- two deliveries up
+-- ---- two deliveries one way
+
+-- One way through the wires: what a delivery sets, by what it finds there, and the event of each record that it completes. What is set hides
+-- what was set before, and stays as the events happen.
+record Way : Type 0 where
+  set : List ℕ → Unread → Wire → Wire
+  queue : Wire → List ℕ
+  end : Wire → Unread
+  whole : (q : Wire) → q ≡ set (queue q) (end q) q
+  again : (queue left : List ℕ) (end rest : Unread) (ws : List Wire) (number : ℕ) → becomes (set left rest) (becomes (set queue end) ws number) number ≡ becomes (set left rest) ws number
+  event : (number now : ℕ) → List ℕ → Event
+  one : (w : World) (number now : ℕ) (bytes : List ℕ) → Puts w (event number now bytes ∷ []) set
+  some : World → (number count now : ℕ) → World
+  none : (w : World) (number count now : ℕ) → numbered w.wires number ≡ None → some w number count now ≡ w
+  there : (w : World) (number count now : ℕ) (queue : List ℕ) (end : Unread) (q : Wire) → numbered w.wires number ≡ Some (set queue end q)
+      → some w number count now ≡ all_happened (wired w (becomes (set (drop count queue) (fed end (take count queue)).0) w.wires number)) (map (event number now) (fed end (take count queue)).1.records)
+
+all_put : (y : Way) (w : World) (number now : ℕ) (rs : List (List ℕ)) → Puts w (map (y.event number now) rs) y.set
+all_put y w number now [] = puts_none w y.set
+all_put y w number now (r ∷ rs) = let one = y.one w number now r in puts_more w (y.event number now r) (map (y.event number now) rs) y.set one (all_put y (record w { core = one.0 }) number now rs)
+
+-- where there is a wire
+both_there : (y : Way) (w : World) (number m n now : ℕ) (queue : List ℕ) (end : Unread) (q : Wire) → numbered w.wires number ≡ Some (y.set queue end q) → y.some (y.some w number m now) number n now ≡ y.some w number (m + n) now
+both_there y w number m n now queue end q e =
+    let r = fed end (take m queue) in
+    let left : List ℕ = drop m queue in
+    let d = fed r.0 (take n left) in
+    let f : Wire → Wire = y.set left r.0 in
+    let g : Wire → Wire = y.set (drop n left) d.0 in
+    let es : List Event = map (y.event number now) r.1.records in
+    let fs : List Event = map (y.event number now) d.1.records in
+    let one = all_put y w number now r.1.records in
+    let v : World = record w { core = one.0 } in
+    let there = all_own one.1 w.wires number (y.set queue end q) e in
+    let ws : List Wire = all_become one.1 w.wires in
+    let first : y.some w number m now ≡ wired v (becomes f ws number) = y.there w number m now queue end q e ∙ one.3 (becomes f w.wires number) ∙ ap (λ (zs : List Wire). wired v zs) (all_swap f one.1 (one.2 left r.0) w.wires number) in
+    let second : y.some (wired v (becomes f ws number)) number n now ≡ all_happened (wired v (becomes g (becomes f ws number) number)) fs = y.there (wired v (becomes f ws number)) number n now left r.0 there.0 (own f ws number there.0 there.1) in
+    let once : becomes g (becomes f ws number) number ≡ all_become one.1 (becomes g w.wires number) = y.again left (drop n left) r.0 d.0 ws number ∙ sym (all_swap g one.1 (one.2 (drop n left) d.0) w.wires number) in
+    ap (λ (u : World). y.some u number n now) first
+    ∙ second
+    ∙ ap (λ (zs : List Wire). all_happened (wired v zs) fs) once
+    ∙ ap (λ (u : World). all_happened u fs) (sym (one.3 (becomes g w.wires number)))
+    ∙ appended (wired w (becomes g w.wires number)) es fs
+    ∙ ap (λ (zs : List Event). all_happened (wired w (becomes g w.wires number)) zs) (map_both (y.event number now) r.1.records d.1.records)
+    ∙ ap (λ (p : Parts). all_happened (wired w (becomes (y.set (drop n left) (record { rest = p.rest; spoilt = p.spoilt })) w.wires number)) (map (y.event number now) p.records)) (end_twice end (take m queue) (take n left))
+    ∙ ap (λ (z : List ℕ). all_happened (wired w (becomes (y.set z (fed end (take m queue ++ take n left)).0) w.wires number)) (map (y.event number now) (fed end (take m queue ++ take n left)).1.records)) (drop_next m n queue)
+    ∙ ap (λ (z : List ℕ). all_happened (wired w (becomes (y.set (drop (m + n) queue) (fed end z).0) w.wires number)) (map (y.event number now) (fed end z).1.records)) (take_next m n queue)
+    ∙ sym (y.there w number (m + n) now queue end q e)
+
+adds_up : (y : Way) (w : World) (number m n now : ℕ) → y.some (y.some w number m now) number n now ≡ y.some w number (m + n) now
+adds_up y w number m n now = by (numbered w.wires number) refl
+  where
+    by : (o : Option Wire) → numbered w.wires number ≡ o → y.some (y.some w number m now) number n now ≡ y.some w number (m + n) now
+    by None e = ap (λ (u : World). y.some u number n now) (y.none w number m now e) ∙ y.none w number n now e ∙ sym (y.none w number (m + n) now e)
+    by (Some q) e = both_there y w number m n now (y.queue q) (y.end q) q (e ∙ ap (λ z. Some z) (y.whole q))
+
+-- ---- up
 
 -- one delivery: these events, and the wire is read so far
 pub up_events_of : (w : World) (number count now : ℕ) (q : Wire) → numbered w.wires number ≡ Some q
@@ -268,41 +312,10 @@ up_events_of w number count now q e =
 pub up_none : (w : World) (number count now : ℕ) → numbered w.wires number ≡ None → up_some w number count now ≡ w
 up_none w number count now e = ap (λ (o : Option Wire). up_at w number count now o) e
 
-ups_twice : (w : World) (number m n now : ℕ) (q : Wire) → numbered w.wires number ≡ Some q → up_some (up_some w number m now) number n now ≡ up_some w number (m + n) now
-ups_twice w number m n now q e =
-    let r = fed q.server_end (take m q.up) in
-    let left : List ℕ = drop m q.up in
-    let d = fed r.0 (take n left) in
-    let f : Wire → Wire = set_up left r.0 in
-    let g : Wire → Wire = set_up (drop n left) d.0 in
-    let es : List Event = map (Serves number now) r.1.records in
-    let fs : List Event = map (Serves number now) d.1.records in
-    let one = serves_all w number now r.1.records in
-    let v : World = record w { core = one.0 } in
-    let there = all_own one.1 w.wires number q e in
-    let ws : List Wire = all_become one.1 w.wires in
-    let first : up_some w number m now ≡ wired v (becomes f ws number) = up_events_of w number m now q e ∙ one.3 (becomes f w.wires number) ∙ ap (λ (zs : List Wire). wired v zs) (all_swap f one.1 (one.2 left r.0) w.wires number) in
-    let second : up_some (wired v (becomes f ws number)) number n now ≡ all_happened (wired v (becomes g (becomes f ws number) number)) fs = up_events_of (wired v (becomes f ws number)) number n now (f there.0) (own f ws number there.0 there.1) in
-    let once : becomes g (becomes f ws number) number ≡ all_become one.1 (becomes g w.wires number) = twice g f ws number ∙ sym (all_swap g one.1 (one.2 (drop n left) d.0) w.wires number) in
-    ap (λ (u : World). up_some u number n now) first
-    ∙ second
-    ∙ ap (λ (zs : List Wire). all_happened (wired v zs) fs) once
-    ∙ ap (λ (u : World). all_happened u fs) (sym (one.3 (becomes g w.wires number)))
-    ∙ appended (wired w (becomes g w.wires number)) es fs
-    ∙ ap (λ (zs : List Event). all_happened (wired w (becomes g w.wires number)) zs) (map_both (Serves number now) r.1.records d.1.records)
-    ∙ ap (λ (p : Parts). all_happened (wired w (becomes (set_up (drop n left) (record { rest = p.rest; spoilt = p.spoilt })) w.wires number)) (map (Serves number now) p.records)) (end_twice q.server_end (take m q.up) (take n left))
-    ∙ ap (λ (z : List ℕ). all_happened (wired w (becomes (set_up z (fed q.server_end (take m q.up ++ take n left)).0) w.wires number)) (map (Serves number now) (fed q.server_end (take m q.up ++ take n left)).1.records)) (drop_next m n q.up)
-    ∙ ap (λ (z : List ℕ). all_happened (wired w (becomes (set_up (drop (m + n) q.up) (fed q.server_end z).0) w.wires number)) (map (Serves number now) (fed q.server_end z).1.records)) (take_next m n q.up)
-    ∙ sym (up_events_of w number (m + n) now q e)
-
 pub ups_add_up : UpsAddUp
-ups_add_up = λ w number m n now. by w number m n now (numbered w.wires number) refl
-  where
-    by : (w : World) (number m n now : ℕ) (o : Option Wire) → numbered w.wires number ≡ o → up_some (up_some w number m now) number n now ≡ up_some w number (m + n) now
-    by w number m n now None e = ap (λ (u : World). up_some u number n now) (up_none w number m now e) ∙ up_none w number n now e ∙ sym (up_none w number (m + n) now e)
-    by w number m n now (Some q) e = ups_twice w number m n now q e
+ups_add_up = adds_up (record { set = set_up; queue = λ q. q.up; end = λ q. q.server_end; whole = λ q. refl; again = λ queue left end rest ws number. twice (set_up left rest) (set_up queue end) ws number; event = Serves; one = serves_one; some = up_some; none = up_none; there = λ w number count now queue end q e. up_events_of w number count now (set_up queue end q) e })
 
--- ---- two deliveries down
+-- ---- down
 
 -- one delivery: these events, and the wire is read so far
 pub down_events_of : (w : World) (number count now : ℕ) (q : Wire) → numbered w.wires number ≡ Some q
@@ -316,36 +329,5 @@ down_events_of w number count now q e =
 pub down_none : (w : World) (number count now : ℕ) → numbered w.wires number ≡ None → down_some w number count now ≡ w
 down_none w number count now e = ap (λ (o : Option Wire). down_at w number count now o) e
 
-downs_twice : (w : World) (number m n now : ℕ) (q : Wire) → numbered w.wires number ≡ Some q → down_some (down_some w number m now) number n now ≡ down_some w number (m + n) now
-downs_twice w number m n now q e =
-    let r = fed q.client_end (take m q.down) in
-    let left : List ℕ = drop m q.down in
-    let d = fed r.0 (take n left) in
-    let f : Wire → Wire = set_down left r.0 in
-    let g : Wire → Wire = set_down (drop n left) d.0 in
-    let es : List Event = map (Hears number now) r.1.records in
-    let fs : List Event = map (Hears number now) d.1.records in
-    let one = hears_all w number now r.1.records in
-    let v : World = record w { core = one.0 } in
-    let there = all_own one.1 w.wires number q e in
-    let ws : List Wire = all_become one.1 w.wires in
-    let first : down_some w number m now ≡ wired v (becomes f ws number) = down_events_of w number m now q e ∙ one.3 (becomes f w.wires number) ∙ ap (λ (zs : List Wire). wired v zs) (all_swap f one.1 (one.2 left r.0) w.wires number) in
-    let second : down_some (wired v (becomes f ws number)) number n now ≡ all_happened (wired v (becomes g (becomes f ws number) number)) fs = down_events_of (wired v (becomes f ws number)) number n now (f there.0) (own f ws number there.0 there.1) in
-    let once : becomes g (becomes f ws number) number ≡ all_become one.1 (becomes g w.wires number) = twice g f ws number ∙ sym (all_swap g one.1 (one.2 (drop n left) d.0) w.wires number) in
-    ap (λ (u : World). down_some u number n now) first
-    ∙ second
-    ∙ ap (λ (zs : List Wire). all_happened (wired v zs) fs) once
-    ∙ ap (λ (u : World). all_happened u fs) (sym (one.3 (becomes g w.wires number)))
-    ∙ appended (wired w (becomes g w.wires number)) es fs
-    ∙ ap (λ (zs : List Event). all_happened (wired w (becomes g w.wires number)) zs) (map_both (Hears number now) r.1.records d.1.records)
-    ∙ ap (λ (p : Parts). all_happened (wired w (becomes (set_down (drop n left) (record { rest = p.rest; spoilt = p.spoilt })) w.wires number)) (map (Hears number now) p.records)) (end_twice q.client_end (take m q.down) (take n left))
-    ∙ ap (λ (z : List ℕ). all_happened (wired w (becomes (set_down z (fed q.client_end (take m q.down ++ take n left)).0) w.wires number)) (map (Hears number now) (fed q.client_end (take m q.down ++ take n left)).1.records)) (drop_next m n q.down)
-    ∙ ap (λ (z : List ℕ). all_happened (wired w (becomes (set_down (drop (m + n) q.down) (fed q.client_end z).0) w.wires number)) (map (Hears number now) (fed q.client_end z).1.records)) (take_next m n q.down)
-    ∙ sym (down_events_of w number (m + n) now q e)
-
 pub downs_add_up : DownsAddUp
-downs_add_up = λ w number m n now. by w number m n now (numbered w.wires number) refl
-  where
-    by : (w : World) (number m n now : ℕ) (o : Option Wire) → numbered w.wires number ≡ o → down_some (down_some w number m now) number n now ≡ down_some w number (m + n) now
-    by w number m n now None e = ap (λ (u : World). down_some u number n now) (down_none w number m now e) ∙ down_none w number n now e ∙ sym (down_none w number (m + n) now e)
-    by w number m n now (Some q) e = downs_twice w number m n now q e
+downs_add_up = adds_up (record { set = set_down; queue = λ q. q.down; end = λ q. q.client_end; whole = λ q. refl; again = λ queue left end rest ws number. twice (set_down left rest) (set_down queue end) ws number; event = Hears; one = hears_one; some = down_some; none = down_none; there = λ w number count now queue end q e. down_events_of w number count now (set_down queue end q) e })
