@@ -6,19 +6,19 @@ use Rattle.client_state.specs.declared.task.Stage.TheVariants as stage
 use Rattle.server_core.specs.declared.change.Wanted.TheVariants as wanted
 use Rattle.register_model.specs.declared.op.Outcome.TheVariants as told
 use Rattle.register_model.specs.declared.op.Word.TheVariants as words
-use Rattle.kept_promise.proofs.Common.{nat_tests, slice_get, cond, ◌==◌, Pending, Temp, key_of, Change, Wanted, Stage, Op, TakenCall, Core, Entries, Seat, Session, numbered, unless, hashed_of, Book, Call, Call.Lease, Call.Hash, Call.Read, Call.Name, Call.Send, Call.Commit, Reply, Reply.Versioned, Reply.Hashed, Reply.Bytes, Reply.Changed, Ask, Queue, Call.Walks, Reply.Walked}
+use Rattle.kept_promise.proofs.Common.{nat_tests, slice_get, cond, ◌==◌, Pending, Temp, key_of, Change, Wanted, Stage, Op, TakenCall, Core, Entries, Seat, Session, numbered, unless, hashed_of, Book, Call, Call.Lease, Call.Hash, Call.Read, Call.Name, Call.Send, Call.Commit, Reply, Reply.Versioned, Reply.Hashed, Reply.Bytes, Reply.Changed, Ask, Queue, Call.Walks, Reply.Walked, Told}
 use Rattle.kept_promise.proofs.Statements.{CallFits}
-use Rattle.kept_promise.proofs.Lists.{some_is, nothing_there, same_or_not, at_end, of_appended, false_and_true}
+use Rattle.kept_promise.proofs.Lists.{some_is, nothing_there, same_or_not, at_end, of_appended, false_and_true, all_map, all_unless}
 use Rattle.kept_promise.proofs.Keys.{times, times_append, own, on_way, ask_key, change_key, told_key, pending_key, IsOurs, call_ours}
 use Rattle.kept_promise.proofs.Messages.{Job, job, stage_word, AllAsks, Rising, hash_offset, read_chunk, CallOf, IsAsked, AnswerOf, IsAnswer, FetchOf, IsCommit, CommitOf, IsNamed, IsPiece, PieceOf, TempUnder, AreParts, CloseOf, Trying, IsCreating, WaitsFor}
 use Rattle.kept_promise.proofs.Rights.{IsRight, WasThere}
 use Rattle.kept_promise.proofs.PathNames.{is_creating}
 use Rattle.kept_promise.proofs.History.{onward, goes_appended, still_appended}
-use Rattle.kept_promise.proofs.Later.{all_asks, all_tolds, same_view, cached_later}
+use Rattle.kept_promise.proofs.Later.{same_view, cached_later}
 use Rattle.kept_promise.proofs.Turns.{Around, turned_core, kept_turn}
 use Rattle.kept_promise.proofs.Taken.{rising_append, times_map_append}
 use Rattle.kept_promise.proofs.Orderly.{locals_of, InPlace}
-use Rattle.kept_promise.proofs.Ordered.{BeginsWith, orderly_clear, orderly_begun, place_more}
+use Rattle.kept_promise.proofs.Ordered.{BeginsWith, orderly_clear, orderly_begun}
 use Rattle.kept_promise.proofs.Facts.{IsBalanced, IsTalk, IsOf, IsSeat, Cached, HasXids, IsKept, commits_in, change_number}
 use Rattle.kept_promise.proofs.Takes.{server_still}
 use Rattle.kept_promise.proofs.Heard.{ask_pending, change_once, commits_unless}
@@ -250,24 +250,24 @@ kept_begins book k qs c n x q seat new cache temp file s a closing value seats s
         shut = λ cut. absurd (false_and_true x.cut g.uncut cut);
         lost = λ hung. absurd_hung hung;
         stands_is = h.stands_is;
-        ups_fit = place_more (λ u. CallFits u.xid u.call) x.hung q.ups a h.ups_fit w.fits;
+        ups_fit = all_unless (λ (u : Ask). CallFits u.xid u.call) x.hung q.ups (a ∷ []) h.ups_fit (w.fits, tt);
         downs_fit = h.downs_fit;
         talk = λ u. record {
           floor = talk.floor;
           under = talk.under;
           rising = unless_rising x.hung talk.floor q.ups a seat.client.next talk.rising w.first.xid;
-          asked = place_more (IsAsked (Some j)) x.hung q.ups a (all_asks (λ v. v.xid < seat.client.next) (IsAsked (Some j)) (λ v lt. call_first seat.client.next j s a w.first refl v.xid v.call lt) q.ups (asks_below talk.floor q.ups seat.client.next talk.rising)) (w.asked);
-          answers = all_tolds (λ v. v.xid < seat.client.next) (IsAnswer more x.taken closing (Some j)) (λ v lt. answer_first more x.taken closing seat.client.next j s a w.first refl v.xid v.reply lt) q.downs (tolds_below n k.server.waiting q x.hung seat.client.next (client.calls_of seat.client) talk.balanced);
+          asked = all_unless (IsAsked (Some j)) x.hung q.ups (a ∷ []) (all_map (λ (v : Ask). v.xid < seat.client.next) (IsAsked (Some j)) (λ v lt. call_first seat.client.next j s a w.first refl v.xid v.call lt) q.ups (asks_below talk.floor q.ups seat.client.next talk.rising)) (w.asked, tt);
+          answers = all_map (λ (v : Told). v.xid < seat.client.next) (IsAnswer more x.taken closing (Some j)) (λ v lt. answer_first more x.taken closing seat.client.next j s a w.first refl v.xid v.reply lt) q.downs (tolds_below n k.server.waiting q x.hung seat.client.next (client.calls_of seat.client) talk.balanced);
           fetch = λ i e. subst (λ (z : Job). FetchOf more x.taken z z.stage) (some_is j i e) (w.fetch x.taken);
           balanced = subst (IsBalanced n k.server.waiting (record { ups = ups; downs = q.downs }) x.hung (seat.client.next + 1)) (sym calls) (balanced_first n k.server.waiting q x.hung seat.client.next seat.client.forgotten a w.first.xid (subst (IsBalanced n k.server.waiting q x.hung seat.client.next) forgot talk.balanced));
           busy = λ i e. subst (λ (z : Job). 0 < length (client.pending_in z.stage)) (some_is j i e) (let l = ap (λ (z : List Pending). length z) w.first.pending in omega (arith, l));
         };
         contents = contents;
         lengths = λ m. short_by (m == seat.client.next_temp) m h.lengths;
-        commits = place_more (IsCommit more closing x.cut (Some j) contents) x.hung q.ups a (no_commits more closing x.cut (Some j) contents q.ups none_up) (w.commit contents);
-        pieces = place_more (IsPiece (hashed_of book.moments) contents) x.hung q.ups a (pieces_else (hashed_of book.moments) h.contents seat.client.next_temp value q.ups below.0 h.pieces) (w.piece contents);
+        commits = all_unless (IsCommit more closing x.cut (Some j) contents) x.hung q.ups (a ∷ []) (no_commits more closing x.cut (Some j) contents q.ups none_up) (w.commit contents, tt);
+        pieces = all_unless (IsPiece (hashed_of book.moments) contents) x.hung q.ups (a ∷ []) (pieces_else (hashed_of book.moments) h.contents seat.client.next_temp value q.ups below.0 h.pieces) (w.piece contents, tt);
         temps = λ i m e lt b key. let t = h.temps i m e lt b key in let less = below.1 i m e lt b key in (subst (λ l. AreParts (hashed_of book.moments) l e.1.pieces) (sym (content_else h.contents seat.client.next_temp value m (λ same. omega (arith, same, less)))) t.0, t.1);
-        temps_below = λ u. (place_more (λ v. TempUnder temp v.call) x.hung q.ups a (under_more seat.client.next_temp temp w.temps q.ups below.0) w.under, λ i m e lt b key. let less = below.1 i m e lt b key in let le = w.temps in omega (arith, less, le));
+        temps_below = λ u. (all_unless (λ (v : Ask). TempUnder temp v.call) x.hung q.ups (a ∷ []) (under_more seat.client.next_temp temp w.temps q.ups below.0) (w.under, tt), λ i m e lt b key. let less = below.1 i m e lt b key in let le = w.temps in omega (arith, less, le));
         closes = λ u i e. subst (λ (z : Job). CloseOf more closing contents temp z (client.local_bytes seat.client.opened z.file) z.stage) (some_is j i e) (w.closes contents (content_at h.contents seat.client.next_temp value));
         pending = λ i z f. nothing_there z (ap (λ (l : List Change). slice_get l i) (sym none_waits) ∙ f);
         single = let u = unless_commits x.hung q.ups a none_up in let v = ap (λ (l : List Change). length l) none_waits in omega (arith, u, v);

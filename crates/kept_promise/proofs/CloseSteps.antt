@@ -10,22 +10,21 @@ use Rattle.client_state.specs.declared.task.Way.TheVariants as way
 use Rattle.register_model.specs.declared.op.Word.TheVariants as words
 use Rattle.kept_promise.proofs.Common.{nat_tests, slice_get, not, cond, ◌==◌, ◌&&◌, nat_le, chunks_of, chunk_bytes, Chunk, Pending, Program, Temp, store_pending, without_call, names_from, names_all, store_of, is_stored, store_at, without_store, answered, with_whole, commit_call, calls_most, is_none, Names, Stage, Store, StoreCall, Task, Way, Op, Contains, Contains-append_left, Contains-append_right, Contains-push, Message, call_message, hashed_of, Core, Seat, Session, Book, unless, Call, Call.Name, Call.Send, Call.Commit, Ask, Told, Queue, ask_message, reply_program}
 use Rattle.kept_promise.proofs.Statements.{CallFits, AreInRow, PiecesOf, SameShape}
-use Rattle.kept_promise.proofs.Lists.{some_is, nothing_there, of_appended, at_end, there_at, false_and_true}
+use Rattle.kept_promise.proofs.Lists.{some_is, nothing_there, of_appended, at_end, there_at, false_and_true, all_append, all_at, all_in, all_map, all_unless}
 use Rattle.kept_promise.proofs.Keys.{times, times_append, there_by}
 use Rattle.kept_promise.proofs.Messages.{Job, job, stage_word, AllAsks, AllTolds, IsAsked, IsCommit, IsNamed, PieceOf, IsPiece, TempUnder, IsOwed, IsStoring, CloseOf}
 use Rattle.kept_promise.proofs.Chunks.{chunks_in_row, chunks_are_long, chunks_are_named}
 use Rattle.kept_promise.proofs.Facts.{IsSession, HasXids, commits_in, names_in}
-use Rattle.kept_promise.proofs.Taken.{asks_append, rising_append, times_map_append}
-use Rattle.kept_promise.proofs.Heard.{ask_pending, told_pending, asks_unless, change_once, commits_both}
+use Rattle.kept_promise.proofs.Taken.{rising_append, times_map_append}
+use Rattle.kept_promise.proofs.Heard.{ask_pending, told_pending, change_once, commits_both}
 use Rattle.kept_promise.proofs.Moves.{without_moves}
 use Rattle.kept_promise.proofs.StepCases.{some_call}
 use Rattle.kept_promise.proofs.Naming.{Ran, names_run, named_rising, named_bound, named_all, named_count, named_inside, named_times, named_note, named_commits}
 use Rattle.kept_promise.proofs.Steps.{tolds_below, Again, Here, session_at, Quiet, on, job_op, GoesOn, GoesInOrder, close_unnamed}
-use Rattle.kept_promise.proofs.Later.{all_asks, all_tolds}
 use Rattle.kept_promise.proofs.Shelf.{OneTemp}
 use Rattle.kept_promise.proofs.Orderly.{IsStore, locals_of, InPlace, IsInPlace, IsWanted, UpCommit, DownKnown, known_reply, Holds, HeldIn}
 use Rattle.kept_promise.proofs.Ordered.{IsFetching, IsFetched, AllFetching, AllFetched, fetching_place, fetched_wanted}
-use Rattle.kept_promise.proofs.OrderSteps.{WaitsFor, all_asks_at, ask_in, others_fetch, up_apart, down_apart, told_in, all_tolds_at}
+use Rattle.kept_promise.proofs.OrderSteps.{WaitsFor, others_fetch, up_apart, down_apart}
 use Rattle.kept_promise.proofs.Filling.{holds_named, holds_all, was_under}
 use Rattle.kept_promise.proofs.InOrder.{GoesOver, place_over, want_over, store_still, store_front, store_behind, idle_call, idle_reply, name_noted, no_asks}
 use Rattle.kept_promise.proofs.Rights.{WasThere}
@@ -95,8 +94,8 @@ Filled book k qs n x q t ts j g us st = x.hung ≡ false → (w : Temp) × OneTe
 stays_in_order : (book : Book) (k : Core) (qs : List Queue) (n : ℕ) (x : Session) (q : Queue) (t : Told) (ts : List Told) (j : Job) (g : Here book k qs n x q t ts j) (st more : Store) → Ready book k qs n x q t ts j g st → more.temp ≡ st.temp → more.chunks ≡ st.chunks → ((y : ℕ) (u : StoreCall) → store_at st.under y ≡ Some u → store_at more.under y ≡ Some u)
     → AllAsks (IsInPlace (Some (on j (stage.Storing more))) (locals_of (seat_at g).client)) q.ups × AllTolds (IsWanted book (Some (on j (stage.Storing more)))) ts
 stays_in_order book k qs n x q t ts j g st more w temp chunks found = (
-  all_asks (IsInPlace (Some (on j (stage.Storing st))) (locals_of (seat_at g).client)) (IsInPlace (Some (on j (stage.Storing more))) (locals_of (seat_at g).client)) (λ a h. place_over (on j (stage.Storing st)) (on j (stage.Storing more)) (locals_of (seat_at g).client) st more a.xid a.call (over a.xid) h) q.ups w.places,
-  all_tolds (IsWanted book (Some (on j (stage.Storing st)))) (IsWanted book (Some (on j (stage.Storing more)))) (λ u h. want_over book (on j (stage.Storing st)) (on j (stage.Storing more)) st more u.xid u.reply (over u.xid) h) ts w.wants,
+  all_map (IsInPlace (Some (on j (stage.Storing st))) (locals_of (seat_at g).client)) (IsInPlace (Some (on j (stage.Storing more))) (locals_of (seat_at g).client)) (λ a h. place_over (on j (stage.Storing st)) (on j (stage.Storing more)) (locals_of (seat_at g).client) st more a.xid a.call (over a.xid) h) q.ups w.places,
+  all_map (IsWanted book (Some (on j (stage.Storing st)))) (IsWanted book (Some (on j (stage.Storing more)))) (λ u h. want_over book (on j (stage.Storing st)) (on j (stage.Storing more)) st more u.xid u.reply (over u.xid) h) ts w.wants,
 )
   where
     over : (y : ℕ) → GoesOver (on j (stage.Storing st)) (on j (stage.Storing more)) st more y
@@ -178,7 +177,7 @@ part_named v (u ∷ us) zero temp a c at e = subst (λ (d : Call). Contains (par
 
 -- so each CONDWRITE is of a part that was hashed
 names_pieces : (book : Book) (k : Core) (qs : List Queue) (n : ℕ) (x : Session) (q : Queue) (t : Told) (ts : List Told) (j : Job) (g : Here book k qs n x q t ts j) (st : Store) → Ready book k qs n x q t ts j g st → NamesNoted g (named st (seat_at g).client.next).send → AllAsks (IsPiece (hashed_of book.moments) (contents_at g)) (naming st (seat_at g).client.next)
-names_pieces book k qs n x q t ts j g st w noted = all_asks_at (IsPiece (hashed_of book.moments) (contents_at g)) r.asks one
+names_pieces book k qs n x q t ts j g st w noted = all_at (IsPiece (hashed_of book.moments) (contents_at g)) r.asks one
   where
     r : Ran (names_from st (seat_at g).client.next) (calls_most - length st.under) (named st (seat_at g).client.next)
     r = run_of st (seat_at g).client.next
@@ -195,7 +194,7 @@ names_pieces book k qs n x q t ts j g st w noted = all_asks_at (IsPiece (hashed_
 known_below : (book : Book) (k : Core) (qs : List Queue) (n : ℕ) (x : Session) (q : Queue) (t : Told) (ts : List Told) (j : Job) (g : Here book k qs n x q t ts j) (z : ℕ) → DownKnown ts z → z < (seat_at g).client.next
 known_below book k qs n x q t ts j g z d =
     let h = session_at book k qs n x q t ts j g in
-    told_in (λ u. u.xid < h.seat.client.next) ts d.0 (record { xid = z; reply = known_reply }) (subst (AllTolds (λ u. u.xid < h.seat.client.next)) g.first (tolds_below n k.server.waiting q x.hung h.seat.client.next (client.calls_of h.seat.client) (h.talk g.uncut).balanced)).1 d.1
+    all_in (λ (u : Told). u.xid < h.seat.client.next) ts d.0 (record { xid = z; reply = known_reply }) (subst (AllTolds (λ u. u.xid < h.seat.client.next)) g.first (tolds_below n k.server.waiting q x.hung h.seat.client.next (client.calls_of h.seat.client) (h.talk g.uncut).balanced)).1 d.1
 
 -- where nothing is under way all chunks were named, since one more would have been
 idle_is_stored : (n : Names) (st : Store) (notes : List StoreCall) → n.store ≡ record st { named = st.named + length notes; under = st.under ++ notes } → (length st.under < calls_most → (c : Chunk) → slice_get st.chunks st.named ≡ Some c → 0 < length notes) → st.named + length notes ≤ length st.chunks → is_stored n.store ≡ false → 0 < length n.store.under
@@ -276,7 +275,7 @@ goes_storing book k qs n x q t ts j g st w filled noted off =
       xids = subst (λ (z : Store). HasXids more.next (stage.Storing z)) (sym r.store_is) (omega (arith, one, two, three, room));
       bounded = omega (arith, one, two, three, room, inside, few, most);
       orderly = subst (λ (z : Store). GoesInOrder book k qs n x q t ts j g (stage.Storing z) more.next c.forgotten r.asks) (sym r.store_is) (λ cache index. record {
-        asks = asks_unless (IsInPlace (Some (on j (stage.Storing after))) (locals_of c)) x.hung q.ups r.asks stays.0 (all_asks_at (IsInPlace (Some (on j (stage.Storing after))) (locals_of c)) r.asks (λ i a at. names_in_place a (name_noted st.temp st.chunks c.next st.named r.notes r.asks more.next i a r.named at)));
+        asks = all_unless (IsInPlace (Some (on j (stage.Storing after))) (locals_of c)) x.hung q.ups r.asks stays.0 (all_at (IsInPlace (Some (on j (stage.Storing after))) (locals_of c)) r.asks (λ i a at. names_in_place a (name_noted st.temp st.chunks c.next st.named r.notes r.asks more.next i a r.named at)));
         tolds = stays.1;
         holds = λ up. subst (λ (b : Bool). HeldIn k.server.temps n (unless b q.ups r.asks) ts (local_of g) (stage.Storing after)) (sym up) (let f = filled up in (f.0, f.1, holds_named (local_of g) q.ups r.asks ts st f.0.pieces c.next more.next r.notes r.named w.storing.inside (known_below book k qs n x q t ts j g) f.2));
         tree = λ i e z. known_on book j i (stage.Storing after) w.known e;
@@ -372,9 +371,9 @@ goes_committing book k qs n x q t ts j g st fits_file w filled noted on_ =
           let v = times_append y (f (ask_pending a) ∷ []) (map f c.forgotten) in
           omega (arith, e, p, d, m, u, v);
       rising = rising_append c.next r.asks (a ∷ []) more.next (more.next + 1) (named_rising st.temp st.chunks c.next st.named r.notes r.asks more.next r.named) (omega arith, omega arith);
-      asked = asks_append (IsAsked (Some (on j s))) r.asks (a ∷ []) (named_all (IsAsked (Some (on j s))) st.temp st.chunks c.next st.named r.notes r.asks more.next (λ z i d at le lt. tt) r.named) (tt, tt);
-      fits = asks_append (λ b. CallFits b.xid b.call) r.asks (a ∷ []) (named_all (λ b. CallFits b.xid b.call) st.temp st.chunks c.next st.named r.notes r.asks more.next (λ z i d at le lt. naming_fits (local_of g) st.temp z i d short (omega (arith, temp_less, next_ok, all_ok)) (omega (arith, lt, bound)) (ap (λ (l : List Chunk). slice_get l i) (sym w.storing.chunks) ∙ at)) r.named) ((omega (arith, bound), omega (arith, same_temp, temp_less, next_ok, all_ok), fits_file, short), tt);
-      commits = asks_append (IsCommit book x.closing x.cut (Some (on j s)) h.contents) r.asks (a ∷ []) (named_all (IsCommit book x.closing x.cut (Some (on j s)) h.contents) st.temp st.chunks c.next st.named r.notes r.asks more.next (λ z i d at le lt. tt) r.named) (
+      asked = all_append (IsAsked (Some (on j s))) r.asks (a ∷ []) (named_all (IsAsked (Some (on j s))) st.temp st.chunks c.next st.named r.notes r.asks more.next (λ z i d at le lt. tt) r.named) (tt, tt);
+      fits = all_append (λ (b : Ask). CallFits b.xid b.call) r.asks (a ∷ []) (named_all (λ b. CallFits b.xid b.call) st.temp st.chunks c.next st.named r.notes r.asks more.next (λ z i d at le lt. naming_fits (local_of g) st.temp z i d short (omega (arith, temp_less, next_ok, all_ok)) (omega (arith, lt, bound)) (ap (λ (l : List Chunk). slice_get l i) (sym w.storing.chunks) ∙ at)) r.named) ((omega (arith, bound), omega (arith, same_temp, temp_less, next_ok, all_ok), fits_file, short), tt);
+      commits = all_append (IsCommit book x.closing x.cut (Some (on j s)) h.contents) r.asks (a ∷ []) (named_all (IsCommit book x.closing x.cut (Some (on j s)) h.contents) st.temp st.chunks c.next st.named r.notes r.asks more.next (λ z i d at le lt. tt) r.named) (
         (
           record {
             place = j.place;
@@ -392,8 +391,8 @@ goes_committing book k qs n x q t ts j g st fits_file w filled noted on_ =
         ),
         tt,
       );
-      pieces = asks_append (IsPiece (hashed_of book.moments) h.contents) r.asks (a ∷ []) (names_pieces book k qs n x q t ts j g st w noted) (tt, tt);
-      under = asks_append (λ b. TempUnder c.next_temp b.call) r.asks (a ∷ []) (named_all (λ b. TempUnder c.next_temp b.call) st.temp st.chunks c.next st.named r.notes r.asks more.next (λ z i d at le lt. w.temp) r.named) (subst (λ (m : ℕ). m < c.next_temp) (sym same_temp) w.temp, tt);
+      pieces = all_append (IsPiece (hashed_of book.moments) h.contents) r.asks (a ∷ []) (names_pieces book k qs n x q t ts j g st w noted) (tt, tt);
+      under = all_append (λ (b : Ask). TempUnder c.next_temp b.call) r.asks (a ∷ []) (named_all (λ b. TempUnder c.next_temp b.call) st.temp st.chunks c.next st.named r.notes r.asks more.next (λ z i d at le lt. w.temp) r.named) (subst (λ (m : ℕ). m < c.next_temp) (sym same_temp) w.temp, tt);
       few = commits_more r.asks a (named_commits st.temp st.chunks c.next st.named r.notes r.asks more.next r.named);
       fetch = tt;
       busy = omega arith;
@@ -402,7 +401,7 @@ goes_committing book k qs n x q t ts j g st fits_file w filled noted on_ =
       xids = bound;
       bounded = bound;
       orderly = λ cache index. record {
-        asks = asks_unless (IsInPlace (Some (on j s)) (locals_of c)) x.hung q.ups (r.asks ++ a ∷ []) (fetching_place (Some (on j s)) (locals_of c) q.ups (idle_ups idle.0)) (asks_append (IsInPlace (Some (on j s)) (locals_of c)) r.asks (a ∷ []) (subst (AllAsks (IsInPlace (Some (on j s)) (locals_of c))) (sym (no_asks st.temp st.chunks c.next st.named r.notes r.asks more.next idle.1 r.named)) tt) ((on j s, refl, refl, refl, refl), tt));
+        asks = all_unless (IsInPlace (Some (on j s)) (locals_of c)) x.hung q.ups (r.asks ++ a ∷ []) (fetching_place (Some (on j s)) (locals_of c) q.ups (idle_ups idle.0)) (all_append (IsInPlace (Some (on j s)) (locals_of c)) r.asks (a ∷ []) (subst (AllAsks (IsInPlace (Some (on j s)) (locals_of c))) (sym (no_asks st.temp st.chunks c.next st.named r.notes r.asks more.next idle.1 r.named)) tt) ((on j s, refl, refl, refl, refl), tt));
         tolds = fetched_wanted book (Some (on j s)) ts (idle_downs idle.0);
         holds = λ up. subst (λ (b : Bool). HeldIn k.server.temps n (unless b q.ups (r.asks ++ a ∷ [])) ts (local_of g) s) (sym up) (λ u. full (filled up) idle.0 idle.1 u, λ gone. absurd (gone (length (q.ups ++ r.asks), more.store.temp, j.file, length (local_of g), ap (λ (l : List Ask). slice_get l (length (q.ups ++ r.asks))) (sym (append_assoc q.ups r.asks (a ∷ []))) ∙ at_end (q.ups ++ r.asks) a)));
         tree = λ i e z. known_on book j i s w.known e;
@@ -410,13 +409,13 @@ goes_committing book k qs n x q t ts j g st fits_file w filled noted on_ =
     }
   where
     idle_ups : st.under ≡ [] → AllFetching q.ups
-    idle_ups none = all_asks (IsInPlace (Some (on j (stage.Storing st))) (locals_of (seat_at g).client)) (λ a. IsFetching a.call) (λ a h. idle_call (on j (stage.Storing st)) (locals_of (seat_at g).client) st a.xid a.call refl none h) q.ups w.places
+    idle_ups none = all_map (IsInPlace (Some (on j (stage.Storing st))) (locals_of (seat_at g).client)) (λ a. IsFetching a.call) (λ a h. idle_call (on j (stage.Storing st)) (locals_of (seat_at g).client) st a.xid a.call refl none h) q.ups w.places
 
     idle_downs : st.under ≡ [] → AllFetched ts
-    idle_downs none = all_tolds (IsWanted book (Some (on j (stage.Storing st)))) (λ u. IsFetched u.reply) (λ u h. idle_reply book (on j (stage.Storing st)) st u.xid u.reply refl none h) ts w.wants
+    idle_downs none = all_map (IsWanted book (Some (on j (stage.Storing st)))) (λ u. IsFetched u.reply) (λ u h. idle_reply book (on j (stage.Storing st)) st u.xid u.reply refl none h) ts w.wants
 
     no_commit : (us : List Ask) → AllFetching us → (i : ℕ) (y m f size : ℕ) → slice_get us i ≡ Some (record { xid = y; call = Commit m f size }) → ⊥
-    no_commit us h i y m f size at = ask_in (λ b. IsFetching b.call) us i (record { xid = y; call = Commit m f size }) h at
+    no_commit us h i y m f size at = all_in (λ (b : Ask). IsFetching b.call) us i (record { xid = y; call = Commit m f size }) h at
 
     -- the temporary file holds all
     full : (f : (z : Temp) × OneTemp k.server.temps n st.temp z × Holds (local_of g) q.ups ts st z.pieces) → st.under ≡ [] → (run_of st (seat_at g).client.next).notes ≡ [] → (u : UpCommit (q.ups ++ committing st (seat_at g).client.next j.file (length (local_of g))) (named st (seat_at g).client.next).next) → (z : Temp) × OneTemp k.server.temps n u.1 z × SameShape z.pieces (PiecesOf (local_of g) (λ c. true) (chunks_of (local_of g)))
@@ -500,7 +499,7 @@ goes_whole book k qs n x q t ts j g st u d w inside at filled room =
       xids = omega (arith, names, room);
       bounded = omega (arith, room, named_le, few, most);
       orderly = λ cache index. record {
-        asks = asks_unless (IsInPlace (Some (on j s)) (locals_of c)) x.hung q.ups (a ∷ []) stays.0 ((sent, refl, (d, at, refl, refl)), tt);
+        asks = all_unless (IsInPlace (Some (on j s)) (locals_of c)) x.hung q.ups (a ∷ []) stays.0 ((sent, refl, (d, at, refl, refl)), tt);
         tolds = stays.1;
         holds = λ up. subst (λ (b : Bool). HeldIn k.server.temps n (unless b q.ups (a ∷ [])) ts (local_of g) s) (sym up) (filled up);
         tree = λ i e z. known_on book j i s w.known e;
@@ -673,8 +672,8 @@ ready_answered book k qs n x q t ts j g st u waits found answers quiet =
           let i = ap (λ (z : Pending). times y (p z ∷ [])) answers in
           omega (arith, a, b, d, e, m, i);
       xids = omega (arith, room, less);
-      places = all_asks_at (IsInPlace (Some (on j (stage.Storing (answered st t.xid)))) (locals_of c)) q.ups (λ i a at. place_over j (on j (stage.Storing (answered st t.xid))) (locals_of c) st (answered st t.xid) a.xid a.call (over a.xid (λ e. up_apart n k.server.waiting q x.hung c.next (client.calls_of c) t ts i a (h.talk g.uncut).balanced g.first at e)) (ask_in (IsInPlace (Some j) (locals_of c)) q.ups i a (subst (λ (o : Option Job). AllAsks (IsInPlace o (locals_of c)) q.ups) g.job_is (h.orderly g.uncut).asks) at));
-      wants = all_tolds_at (IsWanted book (Some (on j (stage.Storing (answered st t.xid))))) ts (λ i v at. want_over book j (on j (stage.Storing (answered st t.xid))) st (answered st t.xid) v.xid v.reply (over v.xid (λ e. down_apart n k.server.waiting q x.hung c.next (client.calls_of c) t ts i v (h.talk g.uncut).balanced g.first at e)) (told_in (IsWanted book (Some j)) ts i v (subst (AllTolds (IsWanted book (Some j))) g.first (subst (λ (o : Option Job). AllTolds (IsWanted book o) q.downs) g.job_is (h.orderly g.uncut).tolds)).1 at));
+      places = all_at (IsInPlace (Some (on j (stage.Storing (answered st t.xid)))) (locals_of c)) q.ups (λ i a at. place_over j (on j (stage.Storing (answered st t.xid))) (locals_of c) st (answered st t.xid) a.xid a.call (over a.xid (λ e. up_apart n k.server.waiting q x.hung c.next (client.calls_of c) t ts i a (h.talk g.uncut).balanced g.first at e)) (all_in (IsInPlace (Some j) (locals_of c)) q.ups i a (subst (λ (o : Option Job). AllAsks (IsInPlace o (locals_of c)) q.ups) g.job_is (h.orderly g.uncut).asks) at));
+      wants = all_at (IsWanted book (Some (on j (stage.Storing (answered st t.xid))))) ts (λ i v at. want_over book j (on j (stage.Storing (answered st t.xid))) st (answered st t.xid) v.xid v.reply (over v.xid (λ e. down_apart n k.server.waiting q x.hung c.next (client.calls_of c) t ts i v (h.talk g.uncut).balanced g.first at e)) (all_in (IsWanted book (Some j)) ts i v (subst (AllTolds (IsWanted book (Some j))) g.first (subst (λ (o : Option Job). AllTolds (IsWanted book o) q.downs) g.job_is (h.orderly g.uncut).tolds)).1 at));
       known = (h.orderly g.uncut).tree j g.job_is (ap stage_word waits);
       older = λ i w at. let o = was_under st.under t.xid i w at in store_older book k qs n x q t ts j g st o.0 w waits o.1;
     }

@@ -9,11 +9,11 @@ use Rattle.register_model.specs.declared.op.Word.TheVariants as words
 use Rattle.trace_ends.specs.Core.{idles, loss_down}
 use Rattle.server_core.specs.declared.change.Wanted.TheVariants as wanted
 use Rattle.kept_promise.proofs.Common.{slice_get, slice_set, cut, ended_by, nothing_done, ClientStep, Ended, Task, Op, Word, TakenCall, Core, Seat, Session, Event.Cuts, CoreStep, taken_of, session_of, ops_after, ops_with, cut_session, cuts_if, cuts, numbered, with_numbered, has_point, point_if, op_after, place_after, unless, hashed_of, Book, Ask, Queue, Call, Call.Commit, Call.Walks, Wanted}
-use Rattle.kept_promise.proofs.Lists.{some_is, nothing_there, same_or_not, of_replaced}
+use Rattle.kept_promise.proofs.Lists.{some_is, nothing_there, same_or_not, of_replaced, all_map}
 use Rattle.kept_promise.proofs.Messages.{Job, job, job_of, IsCommit, CommitOf, IsPending, WaitsFor}
 use Rattle.kept_promise.proofs.Rights.{IsRight, is_remote, Caused}
 use Rattle.kept_promise.proofs.History.{Goes, Still, Becomes, onward, grows_same, goes_same, still_same, goes_becomes, still_becomes}
-use Rattle.kept_promise.proofs.Later.{all_asks, commit_later, waits_later, pieces_later, parts_later, cached_later, same_view, Spares}
+use Rattle.kept_promise.proofs.Later.{commit_later, waits_later, pieces_later, parts_later, cached_later, same_view, Spares}
 use Rattle.kept_promise.proofs.Turns.{Around, around_with, also_numbered, turned_core, kept_turn}
 use Rattle.kept_promise.proofs.Rests.{kept_rest}
 use Rattle.kept_promise.proofs.Facts.{IsSeat, IsMatched, IsKept}
@@ -88,7 +88,7 @@ cut_kept book more k qs c n x q seat ended after kept here at is owner newest go
         talk = λ e. absurd cc;
         contents = h.contents;
         lengths = h.lengths;
-        commits = all_asks (IsCommit book x.closing x.cut (job h.seat) h.contents) (IsCommit more x.closing true (job d) h.contents) (λ a m. commit_later book more None ended x.closing true (job d) (job d) h.contents a g spares (λ e. refl) (cut_commit book x.closing x.cut (job h.seat) (job d) h.contents a.xid a.call m)) q.ups h.commits;
+        commits = all_map (IsCommit book x.closing x.cut (job h.seat) h.contents) (IsCommit more x.closing true (job d) h.contents) (λ a m. commit_later book more None ended x.closing true (job d) (job d) h.contents a g spares (λ e. refl) (cut_commit book x.closing x.cut (job h.seat) (job d) h.contents a.xid a.call m)) q.ups h.commits;
         pieces = pieces_later (hashed_of book.moments) (hashed_of more.moments) h.contents q.ups g.hashed h.pieces;
         temps = λ i m e lt f key. let o = h.temps i m e lt f key in (parts_later (hashed_of book.moments) (hashed_of more.moments) (h.contents m) e.1.pieces g.hashed o.0, o.1);
         temps_below = λ e. absurd cc;

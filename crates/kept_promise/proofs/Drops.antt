@@ -4,11 +4,11 @@ use Rattle.client_state.specs.State as client
 use Rattle.register_model.specs.declared.op.Outcome.TheVariants as told
 use Rattle.client_state.specs.declared.task.Stage.TheVariants as stage
 use Rattle.kept_promise.proofs.Common.{slice_get, slice_set, ◌==◌, ◌||◌, Pending, has_call, without_call, no_counts, nothing_done, store_pending, Stage, Op, Core, Seat, Session, numbered, ops_with, ops_after, acted, counted, Book, Told, Queue, Store, StoreCall}
-use Rattle.kept_promise.proofs.Lists.{some_is, nothing_there, same_or_not, of_replaced, false_and_true}
+use Rattle.kept_promise.proofs.Lists.{some_is, nothing_there, same_or_not, of_replaced, false_and_true, all_map}
 use Rattle.kept_promise.proofs.Keys.{times, there_by}
 use Rattle.kept_promise.proofs.Messages.{Job, job, AllTolds, IsAnswer, IsCommit}
 use Rattle.kept_promise.proofs.History.{Goes, Still, onward, goes_same, still_same, still_becomes}
-use Rattle.kept_promise.proofs.Later.{all_asks, all_tolds, answer_later, commit_later, waits_later, close_later, has_fetch_later, seat_later, Spares}
+use Rattle.kept_promise.proofs.Later.{answer_later, commit_later, waits_later, close_later, has_fetch_later, seat_later, Spares}
 use Rattle.kept_promise.proofs.Taken.{times_map_append}
 use Rattle.kept_promise.proofs.Turns.{Around, turned_core}
 use Rattle.kept_promise.proofs.OrderSteps.{IsElse, orderly_dropped}
@@ -108,8 +108,8 @@ kept_dropped book ops k qs n x q t ts seats after kept at is first uncut i there
       made_here = λ p f. nothing_there p f;
       ended_here = λ p o f. nothing_there p f;
       old_asks = talk.asked;
-      old_tolds = (subst (AllTolds (IsAnswer more x.taken x.closing (job h.seat))) first (all_tolds (IsAnswer book x.taken x.closing (job h.seat)) (IsAnswer more x.taken x.closing (job h.seat)) (λ u a. answer_later book more None None x.taken x.closing (job h.seat) u goes.grows spares a) q.downs talk.answers)).1;
-      old_commits = all_asks (IsCommit book x.closing x.cut (job h.seat) h.contents) (IsCommit more x.closing x.cut (job h.seat) h.contents) (λ a m. commit_later book more None None x.closing x.cut (job h.seat) (job h.seat) h.contents a goes.grows spares (λ u. refl) m) q.ups h.commits;
+      old_tolds = (subst (AllTolds (IsAnswer more x.taken x.closing (job h.seat))) first (all_map (IsAnswer book x.taken x.closing (job h.seat)) (IsAnswer more x.taken x.closing (job h.seat)) (λ u a. answer_later book more None None x.taken x.closing (job h.seat) u goes.grows spares a) q.downs talk.answers)).1;
+      old_commits = all_map (IsCommit book x.closing x.cut (job h.seat) h.contents) (IsCommit more x.closing x.cut (job h.seat) h.contents) (λ a m. commit_later book more None None x.closing x.cut (job h.seat) (job h.seat) h.contents a goes.grows spares (λ u. refl) m) q.ups h.commits;
       old_pending = λ m d f. waits_later book more None None x.closing x.cut (job h.seat) (job h.seat) d.session d.xid d.file d.what goes.grows spares (λ u. refl) (h.pending m d f);
       moves = moves_drops (client.pending h.seat.client.task) h.seat.client.forgotten i t there (talk.balanced.once t.xid);
       rising = omega arith;

@@ -5,13 +5,13 @@ use Rattle.client_state.specs.State as client
 use Rattle.register_model.specs.declared.op.Outcome.TheVariants as told
 use Rattle.kept_promise.proofs.Common.{slice_get, MessageFits, Change, Entry, Op, TakenCall, Core, CoreStep, Loss.Nothing, Seat, Session, numbered, with_numbered, unless, hashed_of, Book, Reply, Ask, Told, Queue, told_message, call_program, reply_program, Tree}
 use Rattle.kept_promise.proofs.Statements.{CallFits}
-use Rattle.kept_promise.proofs.Lists.{some_is, nothing_there, same_or_not, false_and_true}
+use Rattle.kept_promise.proofs.Lists.{some_is, nothing_there, same_or_not, false_and_true, all_append, all_unless}
 use Rattle.kept_promise.proofs.Keys.{own, key, ask_key, told_key}
 use Rattle.kept_promise.proofs.Messages.{Job, job, AllAsks, AllTolds, Rising, IsAsked, AnswerOf, IsAnswer, IsCommit, IsPiece, WaitsFor, CloseOf, TempUnder}
 use Rattle.kept_promise.proofs.History.{Goes}
 use Rattle.kept_promise.proofs.Later.{pieces_later, parts_later, has_fetch_later, seat_later, Stays}
-use Rattle.kept_promise.proofs.Taken.{finds_more, under_more, has_fetch_found, tolds_append}
-use Rattle.kept_promise.proofs.Takes.{took, put_down, commits_tail, way_moved, downs_of}
+use Rattle.kept_promise.proofs.Taken.{finds_more, under_more, has_fetch_found}
+use Rattle.kept_promise.proofs.Takes.{took, put_down, commits_tail, way_moved}
 use Rattle.kept_promise.proofs.Turns.{Around, around_same, around_with, turned_core, kept_turn}
 use Rattle.kept_promise.proofs.Serves.{again, put_is}
 use Rattle.kept_promise.proofs.Leading.{Leads, sent_message}
@@ -77,7 +77,7 @@ kept_entered book more k qs n moment tree journal x q a us r made sessions after
         lost = λ hung. absurd (false_and_true x.hung unhung hung);
         stands_is = h.stands_is;
         ups_fit = (ups_of (λ b. CallFits b.xid b.call) h.ups_fit).1;
-        downs_fit = downs_of (λ u. MessageFits (told_message u)) x.cut q.downs t h.downs_fit shows.fits;
+        downs_fit = all_unless (λ (u : Told). MessageFits (told_message u)) x.cut q.downs (t ∷ []) h.downs_fit (shows.fits, tt);
         talk = λ uncut. subst (λ (b : Bool). IsTalk more n k.server.waiting y (put_down q us b t) c) (sym uncut) (talks h shows uncut (h.talk uncut));
         contents = h.contents;
         lengths = h.lengths;
@@ -128,7 +128,7 @@ kept_entered book more k qs n moment tree journal x q a us r made sessions after
           under = under_more talk.floor x.taken z talk.under rising.0;
           rising = rising.1;
           asked = (subst (AllAsks (IsAsked (job h.seat))) e talk.asked).1;
-          answers = tolds_append (IsAnswer more (x.taken ++ z ∷ []) x.closing (job h.seat)) q.downs (t ∷ []) (shows.answers uncut) (shows.answer uncut, tt);
+          answers = all_append (IsAnswer more (x.taken ++ z ∷ []) x.closing (job h.seat)) q.downs (t ∷ []) (shows.answers uncut) (shows.answer uncut, tt);
           fetch = has_fetch_found more x.taken (x.taken ++ z ∷ []) (job h.seat) finds (has_fetch_later book more made None x.taken (job h.seat) g talk.fetch);
           balanced = record {
             most = λ v. let m = talk.balanced.most v in let w = way_moved n v k.server.waiting q a us t e keys in omega (arith, m, w);

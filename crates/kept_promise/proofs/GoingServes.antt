@@ -36,7 +36,7 @@ use Rattle.server_law.proofs.Trees.{IsBounded}
 use Rattle.server_law.proofs.TreeCalls.{entries_more, sizes_more}
 use Rattle.kept_promise.proofs.Common.{slice_get, cond, option_map, Contains, Contains-push, message_spell, MessageFits, stands, not, has_waiting, at, Entry, File, Op, TakenCall, Core, Session, Event.Serves, CoreStep, with_numbered, happens, serves, serves_if, quiet, Book, Call.Walks, Reply.Walked, NameReply, name_answer, Ask, Queue, ask_message, told_message}
 use Rattle.kept_promise.proofs.Statements.{CallFits}
-use Rattle.kept_promise.proofs.Lists.{some_is, nothing_there}
+use Rattle.kept_promise.proofs.Lists.{some_is, nothing_there, all_map}
 use Rattle.kept_promise.proofs.PathNames.{IsWalkSmall, going_makes, going_creates, is_going, is_making, is_creating}
 use Rattle.kept_promise.proofs.Keys.{key, change_key, ask_key}
 use Rattle.kept_promise.proofs.Makings.{step_by}
@@ -50,7 +50,7 @@ use Rattle.kept_promise.proofs.Messages.{Job, job, goal_word, asked_word, AllAsk
 use Rattle.kept_promise.proofs.Rights.{IsUnmade}
 use Rattle.kept_promise.proofs.Growth.{there_later}
 use Rattle.kept_promise.proofs.History.{onward, entered, AreNames, grows_named, goes_named, still_named}
-use Rattle.kept_promise.proofs.Later.{all_asks, all_tolds, answer_later, commit_later, close_later, waits_later, Spares}
+use Rattle.kept_promise.proofs.Later.{answer_later, commit_later, close_later, waits_later, Spares}
 use Rattle.kept_promise.proofs.Taken.{finds_more, answer_found}
 use Rattle.kept_promise.proofs.Takes.{took, file_still, fresh_still}
 use Rattle.kept_promise.proofs.Fits.{FitLaws}
@@ -261,8 +261,8 @@ module _ (laws : FitLaws) (book : Book) (k : Core) (qs : List Queue) (n now : �
                 pointed = subst (λ (b : Bool). PointedBy b x.closing j o (book.steps + 1) (entry_file done.first)) (sym (going_creates w.left w.goal going)) (inl (names_file done.first first, subst (λ (b : Bool). UnmadeBy b x.closing j o) (going_creates w.left w.goal going) (unmade uncut j o at there)));
               })),
             ));
-        answers = λ uncut. all_tolds (IsAnswer book x.taken x.closing (job h.seat)) (IsAnswer more (x.taken ++ z ∷ []) x.closing (job h.seat)) (λ u f. answer_found more x.taken (x.taken ++ z ∷ []) x.closing (job h.seat) u finds (answer_later book more None None x.taken x.closing (job h.seat) u grows spares f)) q.downs (h.talk uncut).answers;
-        commits = (subst (AllAsks (IsCommit more x.closing x.cut (job h.seat) h.contents)) g.first (all_asks (IsCommit book x.closing x.cut (job h.seat) h.contents) (IsCommit more x.closing x.cut (job h.seat) h.contents) (λ b m. commit_later book more None None x.closing x.cut (job h.seat) (job h.seat) h.contents b grows spares (λ u. refl) m) q.ups h.commits)).1;
+        answers = λ uncut. all_map (IsAnswer book x.taken x.closing (job h.seat)) (IsAnswer more (x.taken ++ z ∷ []) x.closing (job h.seat)) (λ u f. answer_found more x.taken (x.taken ++ z ∷ []) x.closing (job h.seat) u finds (answer_later book more None None x.taken x.closing (job h.seat) u grows spares f)) q.downs (h.talk uncut).answers;
+        commits = (subst (AllAsks (IsCommit more x.closing x.cut (job h.seat) h.contents)) g.first (all_map (IsCommit book x.closing x.cut (job h.seat) h.contents) (IsCommit more x.closing x.cut (job h.seat) h.contents) (λ b m. commit_later book more None None x.closing x.cut (job h.seat) (job h.seat) h.contents b grows spares (λ u. refl) m) q.ups h.commits)).1;
         closes = λ uncut j f. close_later book more None None x.closing h.contents h.seat.client.next_temp j (client.local_bytes h.seat.client.opened j.file) j.stage grows spares (h.closes uncut j f);
         pending = λ i c f. waits_later book more None None x.closing x.cut (job h.seat) (job h.seat) c.session c.xid c.file c.what grows spares (λ u. refl) (h.pending i c f);
         wanted = λ uncut. tt;

@@ -16,19 +16,18 @@ use Rattle.client_state.specs.declared.task.Stage.TheVariants as stage
 use Rattle.register_model.specs.declared.op.Outcome.TheVariants as told
 use Rattle.trace_replay.specs.Trail.{Moment}
 use Rattle.kept_promise.proofs.Common.{slice_get, cond, Contains, MessageFits, Change, Entry, Op, Core, Seat, Session, Event.Settles, numbered, with_numbered, happens, unless, hashed_of, Book, Reply.Walked, NameReply, name_answer, Told, Queue, told_message}
-use Rattle.kept_promise.proofs.Lists.{some_is, nothing_there, true_and_false}
+use Rattle.kept_promise.proofs.Lists.{some_is, nothing_there, true_and_false, all_append, all_unless}
 use Rattle.kept_promise.proofs.Keys.{times, times_append, own, on_way, key, change_key, ask_key, told_key}
 use Rattle.kept_promise.proofs.PathNames.{is_making, makes_later}
 use Rattle.kept_promise.proofs.Messages.{walk_for, walk_is, Job, job, AnswerOf, IsAnswer, IsGoing, CloseOf, WalkCame, WalkTold}
 use Rattle.kept_promise.proofs.History.{Goes}
 use Rattle.kept_promise.proofs.Later.{pieces_later, parts_later, has_fetch_later, seat_later}
-use Rattle.kept_promise.proofs.Taken.{tolds_append, tolds_at, times_map_append}
+use Rattle.kept_promise.proofs.Taken.{tolds_at, times_map_append}
 use Rattle.kept_promise.proofs.Turns.{around_same, around_with, turned_core, kept_turn}
 use Rattle.kept_promise.proofs.Ordered.{orderly_later, orderly_told}
 use Rattle.kept_promise.proofs.OrderSteps.{waits_untold}
 use Rattle.kept_promise.proofs.Unwaited.{unwaited}
 use Rattle.kept_promise.proofs.Steps.{no_commits}
-use Rattle.kept_promise.proofs.Takes.{downs_of}
 use Rattle.kept_promise.proofs.Facts.{IsServer, IsTalk, IsSession, IsKept, commits_in}
 use Rattle.kept_promise.proofs.Leading.{IsNoted}
 
@@ -137,7 +136,7 @@ module _ (book more : Book) (k : Core) (qs : List Queue) (now : ℕ) (c : Change
     under = talk.under;
     rising = talk.rising;
     asked = talk.asked;
-    answers = tolds_append (IsAnswer more x.taken x.closing (job h.seat)) q.downs (t ∷ []) (tolds_at (IsAnswer book x.taken x.closing (job h.seat)) (IsAnswer more x.taken x.closing (job h.seat)) q.downs (λ i u at f. unwaited book more x.taken x.taken x.closing (job h.seat) c.xid (walk_for a) u (waits_here uncut) (λ same. waits_untold n (c ∷ cs) q x.hung h.seat.client.next (client.calls_of h.seat.client) 0 i c u talk.balanced (ap (λ (l : List Change). slice_get l 0) (first_own c cs)) at (sym same)) f) talk.answers) (shows.answer uncut, tt);
+    answers = all_append (IsAnswer more x.taken x.closing (job h.seat)) q.downs (t ∷ []) (tolds_at (IsAnswer book x.taken x.closing (job h.seat)) (IsAnswer more x.taken x.closing (job h.seat)) q.downs (λ i u at f. unwaited book more x.taken x.taken x.closing (job h.seat) c.xid (walk_for a) u (waits_here uncut) (λ same. waits_untold n (c ∷ cs) q x.hung h.seat.client.next (client.calls_of h.seat.client) 0 i c u talk.balanced (ap (λ (l : List Change). slice_get l 0) (first_own c cs)) at (sym same)) f) talk.answers) (shows.answer uncut, tt);
     fetch = has_fetch_later book more made None x.taken (job h.seat) shows.goes.grows talk.fetch;
     balanced = record {
       most = λ y. let b = talk.balanced.most y in let w = way_settled n y c cs q t (first_own c cs) shows.key_is in omega (arith, b, w);
@@ -175,7 +174,7 @@ module _ (book more : Book) (k : Core) (qs : List Queue) (now : ℕ) (c : Change
           lost = h.lost;
           stands_is = h.stands_is;
           ups_fit = h.ups_fit;
-          downs_fit = downs_of (λ u. MessageFits (told_message u)) x.cut q.downs t h.downs_fit shows.fits;
+          downs_fit = all_unless (λ (u : Told). MessageFits (told_message u)) x.cut q.downs (t ∷ []) h.downs_fit (shows.fits, tt);
           talk = λ uncut. subst (λ (b : Bool). IsTalk more n cs x (record q { downs = unless b q.downs (t ∷ []) }) h.seat) (sym uncut) (talks uncut (subst (λ (l : List Change). IsTalk book n l x q h.seat) waits (h.talk uncut)));
           contents = h.contents;
           lengths = h.lengths;

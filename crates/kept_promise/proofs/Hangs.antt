@@ -7,11 +7,11 @@ use Rattle.server_core.specs.declared.event.Event.TheVariants as event
 use Rattle.client_state.specs.State as client
 use Rattle.trace_ends.specs.Core.{hangs_if as core_hangs_if, hangs as core_hangs}
 use Rattle.kept_promise.proofs.Common.{slice_get, not, cond, ◌==◌, filter, list_any, stands, server_step, Change, Op, Core, Seat, Session, quiet, numbered, with_numbered, Book, Ask, Queue, version_at}
-use Rattle.kept_promise.proofs.Lists.{some_is, nothing_there, same_or_not}
+use Rattle.kept_promise.proofs.Lists.{some_is, nothing_there, same_or_not, all_map}
 use Rattle.kept_promise.proofs.Keys.{times, times_append, own, on_way, change_key, ask_key, told_key, pending_key}
 use Rattle.kept_promise.proofs.Messages.{job, Rising, IsAnswer}
 use Rattle.kept_promise.proofs.History.{onward, grows_same, goes_same, still_same}
-use Rattle.kept_promise.proofs.Later.{all_tolds, answer_later, has_fetch_later, close_later, seat_later, Stays, Spares}
+use Rattle.kept_promise.proofs.Later.{answer_later, has_fetch_later, close_later, seat_later, Stays, Spares}
 use Rattle.kept_promise.proofs.Turns.{Around, around_same, around_with, also_numbered, turned_core, kept_turn}
 use Rattle.kept_promise.proofs.Shelf.{shelf_left, else_left}
 use Rattle.kept_promise.proofs.Ordered.{orderly_hung}
@@ -114,7 +114,7 @@ talk_hung book s n x q c t =
       under = t.under;
       rising = top t.floor q.ups t.rising;
       asked = tt;
-      answers = all_tolds (IsAnswer book x.taken x.closing (job c)) (IsAnswer (onward book 1 book.ops) x.taken x.closing (job c)) (λ u f. answer_later book (onward book 1 book.ops) None None x.taken x.closing (job c) u g spares f) q.downs t.answers;
+      answers = all_map (IsAnswer book x.taken x.closing (job c)) (IsAnswer (onward book 1 book.ops) x.taken x.closing (job c)) (λ u f. answer_later book (onward book 1 book.ops) None None x.taken x.closing (job c) u g spares f) q.downs t.answers;
       fetch = has_fetch_later book (onward book 1 book.ops) None None x.taken (job c) g t.fetch;
       balanced = record { most = λ y. less y (t.balanced.most y); least = λ e y. absurd cc; once = t.balanced.once; below = t.balanced.below; ours = t.balanced.ours };
       busy = t.busy;

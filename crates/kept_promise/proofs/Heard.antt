@@ -8,12 +8,12 @@ use Rattle.kept_promise.proofs.Keys.{times, times_append, own, on_way, change_ke
 use Rattle.kept_promise.proofs.Messages.{Job, job, job_of, AllAsks, AllTolds, Rising, IsAsked, IsAnswer, HasFetch, IsCommit, IsPiece, WaitsFor, TempUnder, CloseOf}
 use Rattle.kept_promise.proofs.History.{Goes, Still, onward}
 use Rattle.kept_promise.proofs.Later.{same_view}
-use Rattle.kept_promise.proofs.Taken.{asks_append, rising_append, times_map_append}
+use Rattle.kept_promise.proofs.Taken.{rising_append, times_map_append}
 use Rattle.kept_promise.proofs.Turns.{Around, around_same, turned_core, kept_turn}
 use Rattle.kept_promise.proofs.Orderly.{Orderly}
 use Rattle.kept_promise.proofs.Facts.{IsBalanced, IsSession, IsSeat, IsKept, commits_in, change_number}
 use Rattle.kept_promise.proofs.Takes.{server_still}
-use Rattle.kept_promise.proofs.Lists.{false_and_true}
+use Rattle.kept_promise.proofs.Lists.{false_and_true, all_unless}
 use Rattle.kept_promise.proofs.PathNames.{is_creating}
 
 -- ---- calls that wait
@@ -94,10 +94,6 @@ change_once _ = omega arith
 pub commits_both : (us vs : List Ask) → commits_in (us ++ vs) ≡ commits_in us + commits_in vs
 commits_both [] vs = omega arith
 commits_both (a ∷ us) vs = let both = commits_both us vs in omega (arith, both)
-
-pub asks_unless : (P : Ask → Type 0) (hung : Bool) (us vs : List Ask) → AllAsks P us → AllAsks P vs → AllAsks P (unless hung us vs)
-asks_unless P true us vs a b = a
-asks_unless P false us vs a b = asks_append P us vs a b
 
 rising_unless : (hung : Bool) (n : ℕ) (us vs : List Ask) (top next : ℕ) → Rising n us top → Rising top vs next → Rising n (unless hung us vs) next
 rising_unless true n us vs top next a b = wider n us top next (rising_to top vs next b) a
@@ -201,7 +197,7 @@ kept_heard book ops k qs n x q t ts c place asks made ended seats after kept at 
         shut = λ cut. absurd (false_and_true x.cut uncut cut);
         lost = λ hung. hung_ups x.hung hung (h.lost hung);
         stands_is = h.stands_is;
-        ups_fit = asks_unless (λ a. CallFits a.xid a.call) x.hung q.ups asks h.ups_fit shows.fits;
+        ups_fit = all_unless (λ (a : Ask). CallFits a.xid a.call) x.hung q.ups asks h.ups_fit shows.fits;
         downs_fit = first_down (λ u. MessageFits (told_message u)) h.downs_fit;
         talk = λ u.
             let talk = h.talk uncut in
@@ -209,7 +205,7 @@ kept_heard book ops k qs n x q t ts c place asks made ended seats after kept at 
               floor = talk.floor;
               under = talk.under;
               rising = rising_unless x.hung talk.floor q.ups asks h.seat.client.next c.next talk.rising shows.rising;
-              asked = asks_unless (IsAsked (job_of place c.task)) x.hung q.ups asks shows.old_asks shows.asked;
+              asked = all_unless (IsAsked (job_of place c.task)) x.hung q.ups asks shows.old_asks shows.asked;
               answers = shows.old_tolds;
               fetch = shows.fetch;
               balanced = balanced_heard n k.server.waiting q x.hung h.seat.client.next c.next (client.calls_of h.seat.client) (client.calls_of c) t ts asks e shows.moves shows.rising talk.balanced;
@@ -217,10 +213,10 @@ kept_heard book ops k qs n x q t ts c place asks made ended seats after kept at 
             };
         contents = h.contents;
         lengths = h.lengths;
-        commits = asks_unless (IsCommit more x.closing x.cut (job_of place c.task) h.contents) x.hung q.ups asks shows.old_commits shows.commits;
-        pieces = asks_unless (IsPiece (hashed_of book.moments) h.contents) x.hung q.ups asks h.pieces shows.pieces;
+        commits = all_unless (IsCommit more x.closing x.cut (job_of place c.task) h.contents) x.hung q.ups asks shows.old_commits shows.commits;
+        pieces = all_unless (IsPiece (hashed_of book.moments) h.contents) x.hung q.ups asks h.pieces shows.pieces;
         temps = h.temps;
-        temps_below = λ u. let f = h.temps_below uncut in (asks_unless (λ a. TempUnder c.next_temp a.call) x.hung q.ups asks (subst (λ (z : ℕ). AllAsks (λ a. TempUnder z a.call) q.ups) (sym shows.numbers) f.0) shows.under, λ i m w lt b key. subst (λ (z : ℕ). m < z) (sym shows.numbers) (f.1 i m w lt b key));
+        temps_below = λ u. let f = h.temps_below uncut in (all_unless (λ (a : Ask). TempUnder c.next_temp a.call) x.hung q.ups asks (subst (λ (z : ℕ). AllAsks (λ a. TempUnder z a.call) q.ups) (sym shows.numbers) f.0) shows.under, λ i m w lt b key. subst (λ (z : ℕ). m < z) (sym shows.numbers) (f.1 i m w lt b key));
         closes = λ u j f. shows.closes j f;
         pending = shows.old_pending;
         single = omega (arith, single, less);

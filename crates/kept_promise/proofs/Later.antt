@@ -9,10 +9,10 @@ use Rattle.client_state.specs.State as client
 use Rattle.client_state.specs.declared.task.Stage.TheVariants as stage
 use Rattle.kept_promise.proofs.Common.{Body, slice_get, Contains, Status, Chunk, Answer, Done, Failed, Committed, Hashes, Piece, Attr, Pending, stands, Temp, key_of, Change, Fetch, Stage, Value, Op, TakenCall, Seat, Session, numbered, hashed_of, Book, Collides, Tried, Call, Call.Name, Call.Send, Call.Commit, Call.Walks, Reply, Reply.Versioned, Reply.Hashed, Reply.Bytes, Reply.Changed, Ask, Told, Queue, Reply.Walked, name_answer, Moment, changes, Wanted}
 use Rattle.kept_promise.proofs.Keys.{times, own, on_way, change_key, ask_key, told_key, pending_key}
-use Rattle.kept_promise.proofs.Lists.{some_is}
+use Rattle.kept_promise.proofs.Lists.{some_is, all_map}
 use Rattle.nfs3_calls.specs.declared.message.Nfs.{Nfs}
 use Rattle.path_calls.specs.declared.walk.Walk.{Walk}
-use Rattle.kept_promise.proofs.Messages.{WalkTold, Job, job, lease_body, hash_body, AllAsks, AllTolds, IsTold, IsServed, IsTried, Trying, RefusedTold, HashTold, LeaseTold, PieceOf, IsPiece, IsPartOf, AreParts, ReadTold, CommitTold, TriedBy, AnswerOf, IsAnswer, IsFetch, IsReading, FetchOf, HasFetch, IsPending, CommitOf, IsCommit, IsOwed, CloseOf, TempUnder, WalkCame, UnmadeBy, PointedBy, IsCreating, IsNameOwed, goal_word, stage_word, walk_for, IsGoing, WaitsFor, IsTakenFor}
+use Rattle.kept_promise.proofs.Messages.{WalkTold, Job, job, lease_body, hash_body, AllAsks, IsTold, IsServed, IsTried, Trying, RefusedTold, HashTold, LeaseTold, PieceOf, IsPiece, IsPartOf, AreParts, ReadTold, CommitTold, TriedBy, AnswerOf, IsAnswer, IsFetch, IsReading, FetchOf, HasFetch, IsPending, CommitOf, IsCommit, IsOwed, CloseOf, TempUnder, WalkCame, UnmadeBy, PointedBy, IsCreating, IsNameOwed, goal_word, stage_word, walk_for, IsGoing, WaitsFor, IsTakenFor}
 use Rattle.kept_promise.proofs.Growth.{Grows, takes_later, value_later, version_later, or_later, held_later, tried_later, tried_wider, made_later, there_later, Follows}
 use Rattle.kept_promise.proofs.Orderly.{Orderly}
 use Rattle.kept_promise.proofs.Ordered.{SameFound, orderly_later}
@@ -22,14 +22,6 @@ use Rattle.kept_promise.proofs.PathNames.{is_creating}
 use Rattle.trace_replay.specs.Naming.{entry_file}
 use Rattle.path_calls.specs.declared.walk.Goal.{Goal}
 use Rattle.path_calls.specs.declared.walk.Goal.TheVariants as goal
-
-pub all_asks : (P Q : Ask → Type 0) → ((a : Ask) → P a → Q a) → (us : List Ask) → AllAsks P us → AllAsks Q us
-all_asks P Q f [] h = tt
-all_asks P Q f (a ∷ us) h = (f a h.0, all_asks P Q f us h.1)
-
-pub all_tolds : (P Q : Told → Type 0) → ((t : Told) → P t → Q t) → (ts : List Told) → AllTolds P ts → AllTolds Q ts
-all_tolds P Q f [] h = tt
-all_tolds P Q f (t ∷ ts) h = (f t h.0, all_tolds P Q f ts h.1)
 
 -- ---- messages
 
@@ -234,7 +226,7 @@ piece_of_later hashed after contents (Send temp s b) adds h = h
 piece_of_later hashed after contents _ adds h = tt
 
 pub pieces_later : (hashed after : List (List ℕ)) (contents : ℕ → List ℕ) (us : List Ask) → Adds hashed after → AllAsks (IsPiece hashed contents) us → AllAsks (IsPiece after contents) us
-pieces_later hashed after contents us adds h = all_asks (IsPiece hashed contents) (IsPiece after contents) (λ a p. piece_of_later hashed after contents a.call adds p) us h
+pieces_later hashed after contents us adds h = all_map (IsPiece hashed contents) (IsPiece after contents) (λ a p. piece_of_later hashed after contents a.call adds p) us h
 
 pub parts_later : (hashed after : List (List ℕ)) (v : List ℕ) (ps : List (ℕ × List ℕ)) → Adds hashed after → AreParts hashed v ps → AreParts after v ps
 parts_later hashed after v [] adds h = tt
@@ -275,7 +267,7 @@ talk_later book more made ended n w v x q seat g spares e h = record {
   under = h.under;
   rising = h.rising;
   asked = h.asked;
-  answers = all_tolds (IsAnswer book x.taken x.closing (job seat)) (IsAnswer more x.taken x.closing (job seat)) (λ t a. answer_later book more made ended x.taken x.closing (job seat) t g spares a) q.downs h.answers;
+  answers = all_map (IsAnswer book x.taken x.closing (job seat)) (IsAnswer more x.taken x.closing (job seat)) (λ t a. answer_later book more made ended x.taken x.closing (job seat) t g spares a) q.downs h.answers;
   fetch = has_fetch_later book more made ended x.taken (job seat) g h.fetch;
   balanced = balanced_later n w v q x.hung seat.client.next (client.calls_of seat.client) e h.balanced;
   busy = h.busy;
@@ -300,7 +292,7 @@ session_later book more made ended seats others s r n x q c d g was is same spar
       talk = λ at. subst (λ (z : Seat). IsTalk more n r.waiting x q z) (sym (there at)) (talk_later book more made ended n s.waiting r.waiting x q h.seat g spares view.waiting (h.talk at));
       contents = h.contents;
       lengths = h.lengths;
-      commits = all_asks (IsCommit book x.closing x.cut (job h.seat) h.contents) (IsCommit more x.closing x.cut (job d) h.contents) (λ a m. commit_later book more made ended x.closing x.cut (job h.seat) (job d) h.contents a g spares jobs m) q.ups h.commits;
+      commits = all_map (IsCommit book x.closing x.cut (job h.seat) h.contents) (IsCommit more x.closing x.cut (job d) h.contents) (λ a m. commit_later book more made ended x.closing x.cut (job h.seat) (job d) h.contents a g spares jobs m) q.ups h.commits;
       pieces = pieces_later (hashed_of book.moments) (hashed_of more.moments) h.contents q.ups g.hashed h.pieces;
       temps = λ i m u lt at k. let w = view.temps i m u lt at k in let o = h.temps w.0 m u lt w.1 k in (parts_later (hashed_of book.moments) (hashed_of more.moments) (h.contents m) u.1.pieces g.hashed o.0, o.1);
       temps_below = λ at. let f = h.temps_below at in subst (λ (z : Seat). AllAsks (λ a. TempUnder z.client.next_temp a.call) q.ups × ((i m : ℕ) (u : ℕ × Temp) → m < 4294967296 → slice_get r.temps i ≡ Some u → u.0 ≡ key_of n m → m < z.client.next_temp)) (sym (there at)) (f.0, λ i m u lt is k. let w = view.temps i m u lt is k in f.1 w.0 m u lt w.1 k);

@@ -20,7 +20,7 @@ use Rattle.trace_ends.specs.Core.{Loss.Made}
 use Rattle.kept_promise.proofs.StepCases.{command_cases}
 use Rattle.kept_promise.proofs.CallsKeep.{IsByCommit, is_of_files, Waits, got_if_keeps, makes_call, walk_made}
 use Rattle.kept_promise.proofs.Statements.{CallFits}
-use Rattle.kept_promise.proofs.Lists.{some_is, nothing_there, same_or_not, set_count, of_appended, of_replaced, true_and_false}
+use Rattle.kept_promise.proofs.Lists.{some_is, nothing_there, same_or_not, set_count, of_appended, of_replaced, true_and_false, AllOf, all_at}
 use Rattle.kept_promise.proofs.Keys.{own}
 use Rattle.kept_promise.proofs.Messages.{AllAsks}
 use Rattle.kept_promise.proofs.Fits.{FitLaws}
@@ -68,10 +68,6 @@ have_ups P sessions qs (Some m) asks h put = by (numbered sessions m) (numbered 
     by (Some x) (Some q) e f = have_with P qs m (record q { ups = unless x.hung q.ups asks }) h (put m x q refl e f (h m q f))
     by _ _ e f = h
 
-abbrev pub AllOf : {A : Type 0} → (A → Type 0) → List A → Type 0
-AllOf P [] = Unit {0}
-AllOf P (x ∷ xs) = P x × AllOf P xs
-
 pub have_downs : (P : ℕ → Queue → Type 0) (Q : ℕ × Told → Type 0) (sessions : List Session) (ps : List (ℕ × Told)) (qs : List Queue) → AllOf Q ps → QueuesHave P qs
     → ((n : ℕ) (t : Told) (q : Queue) (lost : Bool) → Q (n, t) → P n q → P n (record q { downs = unless lost q.downs (t ∷ []) })) → QueuesHave P (downs_put sessions qs ps)
 have_downs P Q sessions [] qs all h put = h
@@ -97,6 +93,16 @@ have_lost P qs (Up_of m) h new down up = by (numbered qs m) refl
     by : (q : Option Queue) → numbered qs m ≡ q → QueuesHave P (ups_lost qs m q)
     by None e = h
     by (Some q) e = have_with P qs m (record q { ups = [] }) h (up m q (h m q e))
+
+-- what an event takes off is the first of what it is taken from
+pub taken_off : (P : ℕ → Queue → Type 0) (k : Core) (qs mid : List Queue) (e : Event) → ((n : ℕ) (q : Queue) (a : Ask) (us : List Ask) → q.ups ≡ a ∷ us → P n q → P n (record q { ups = us })) → ((n : ℕ) (q : Queue) (t : Told) (ts : List Told) → q.downs ≡ t ∷ ts → P n q → P n (record q { downs = ts })) → Finds k qs e mid → QueuesHave P qs → QueuesHave P mid
+taken_off P k qs mid (Joins c) up down f h = subst (QueuesHave P) (sym f.5) h
+taken_off P k qs mid (Does c now d) up down f h = subst (QueuesHave P) (sym f.3) h
+taken_off P k qs mid (Serves n now bytes) up down f h = subst (QueuesHave P) (sym f.6) (have_with P qs n (record f.0 { ups = f.2 }) h (up n f.0 f.1 f.2 f.4 (h n f.0 f.3)))
+taken_off P k qs mid (Hears n now bytes) up down f h = subst (QueuesHave P) (sym f.6) (have_with P qs n (record f.0 { downs = f.2 }) h (down n f.0 f.1 f.2 f.4 (h n f.0 f.3)))
+taken_off P k qs mid (Settles now) up down f h = subst (QueuesHave P) (sym f) h
+taken_off P k qs mid (Cuts c) up down f h = subst (QueuesHave P) (sym f.2) h
+taken_off P k qs mid (Hangs n) up down f h = subst (QueuesHave P) (sym f.2) h
 
 -- ---- a client that isn't joined sends nothing, and answers at once
 
@@ -254,11 +260,7 @@ left_after k qs mid t s made l =
     let same = ap commits_in (nothing_put x.hung q.ups s.asks none) in
     let le = w.2 in
     (w.0, w.1, omega (arith, le, same))) in
-    have_downs P (λ u. Unit {0}) t.core.sessions s.tolds (ups_put t.core.sessions (queues_lost mid t.loss) t.session s.asks) (all_units s.tolds) two (λ n u q lost f h. h)
-  where
-    all_units : (ps : List (ℕ × Told)) → AllOf (λ p. Unit {0}) ps
-    all_units [] = tt
-    all_units (p ∷ ps) = (tt, all_units ps)
+    have_downs P (λ u. Unit {0}) t.core.sessions s.tolds (ups_put t.core.sessions (queues_lost mid t.loss) t.session s.asks) (all_at (λ p. Unit {0}) s.tolds (λ i p at. tt)) two (λ n u q lost f h. h)
 
 -- nothing is taken, and no more waits
 taken_none : (k : Core) (qs mid : List Queue) (t : CoreStep) → mid ≡ qs → ((n : ℕ) → length (own n t.core.server.waiting) ≤ length (own n k.server.waiting)) → QueuesHave (LeftSo k qs t.core) mid

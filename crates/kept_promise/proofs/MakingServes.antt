@@ -44,7 +44,7 @@ use Rattle.kept_promise.proofs.OrderSteps.{up_untold}
 use Rattle.kept_promise.proofs.Unwaited.{unwaited}
 use Rattle.kept_promise.proofs.Marks.{marks}
 use Rattle.kept_promise.proofs.Steps.{no_commits}
-use Rattle.kept_promise.proofs.Lists.{some_is, nothing_there, same_or_not, of_replaced, at_replaced}
+use Rattle.kept_promise.proofs.Lists.{some_is, nothing_there, same_or_not, of_replaced, at_replaced, all_map}
 use Rattle.kept_promise.proofs.Goings.{RefusedBy}
 use Rattle.kept_promise.proofs.PathNames.{building_makes, builds_at, is_building, creates_at, is_creating, makes_later}
 use Rattle.kept_promise.proofs.Rooted.{IsRooted}
@@ -55,7 +55,7 @@ use Rattle.kept_promise.proofs.Messages.{Job, job, AllAsks, IsCommit, IsCreating
 use Rattle.kept_promise.proofs.Rights.{IsUnmade}
 use Rattle.kept_promise.proofs.Growth.{value_alike, version_alike, there_later}
 use Rattle.kept_promise.proofs.History.{onward, entered, AreNames, made_op, made_book, IsEntryOf, grows_named, goes_named, still_named, goes_made, grows_made, value_now, version_now, marks_else}
-use Rattle.kept_promise.proofs.Later.{all_asks, all_tolds, answer_later, commit_later, close_later, waits_later, Spares}
+use Rattle.kept_promise.proofs.Later.{answer_later, commit_later, close_later, waits_later, Spares}
 use Rattle.kept_promise.proofs.Taken.{tolds_at, finds_more, answer_found}
 use Rattle.kept_promise.proofs.Takes.{took, file_still, fresh_still}
 use Rattle.kept_promise.proofs.Fits.{FitLaws}
@@ -271,8 +271,8 @@ module _ (laws : FitLaws) (book : Book) (k : Core) (qs : List Queue) (n now : �
         fits = reply_fits r after (ap (λ (p : Tree × Finished). p.0) is) (stays after done step).0 answer;
         answer = λ uncut. walk_came book more k qs n now x q xid w us h.seat r g.kept h.owner (h.here uncut).0 (h.talk uncut) g.first g.noted (sent r answer) refl refl
             (λ j o at on there. (o, there, refl, refl, inr (inr (makes r done after step leads uncut more refl refl j o o at on there refl (subst (λ (b : Bool). PointedBy b x.closing j o (book.steps + 1) (entry_file done.first)) (sym none) tt) e is first second))));
-        answers = λ uncut. all_tolds (IsAnswer book x.taken x.closing (job h.seat)) (IsAnswer more (x.taken ++ z ∷ []) x.closing (job h.seat)) (λ u f. answer_found more x.taken (x.taken ++ z ∷ []) x.closing (job h.seat) u finds (answer_later book more None None x.taken x.closing (job h.seat) u grows spares f)) q.downs (h.talk uncut).answers;
-        commits = (subst (AllAsks (IsCommit more x.closing x.cut (job h.seat) h.contents)) g.first (all_asks (IsCommit book x.closing x.cut (job h.seat) h.contents) (IsCommit more x.closing x.cut (job h.seat) h.contents) (λ b m. commit_later book more None None x.closing x.cut (job h.seat) (job h.seat) h.contents b grows spares (λ u. refl) m) q.ups h.commits)).1;
+        answers = λ uncut. all_map (IsAnswer book x.taken x.closing (job h.seat)) (IsAnswer more (x.taken ++ z ∷ []) x.closing (job h.seat)) (λ u f. answer_found more x.taken (x.taken ++ z ∷ []) x.closing (job h.seat) u finds (answer_later book more None None x.taken x.closing (job h.seat) u grows spares f)) q.downs (h.talk uncut).answers;
+        commits = (subst (AllAsks (IsCommit more x.closing x.cut (job h.seat) h.contents)) g.first (all_map (IsCommit book x.closing x.cut (job h.seat) h.contents) (IsCommit more x.closing x.cut (job h.seat) h.contents) (λ b m. commit_later book more None None x.closing x.cut (job h.seat) (job h.seat) h.contents b grows spares (λ u. refl) m) q.ups h.commits)).1;
         closes = λ uncut j f. close_later book more None None x.closing h.contents h.seat.client.next_temp j (client.local_bytes h.seat.client.opened j.file) j.stage grows spares (h.closes uncut j f);
         pending = λ i d f. waits_later book more None None x.closing x.cut (job h.seat) (job h.seat) d.session d.xid d.file d.what grows spares (λ u. refl) (h.pending i d f);
         wanted = λ uncut. tt;

@@ -33,6 +33,7 @@ use Rattle.trace_replay.specs.OwnCalls.{TakesCall, ComesTo, held_at}
 use Rattle.trace_replay.specs.Naming.{tree_at, entry_file, refusal_of}
 use Rattle.trace_replay.specs.Trail.{Moment, step_of}
 use Rattle.kept_promise.proofs.Common.{handle_bytes, Body, slice_get, cond, Status, Collides, ◌==◌, Contains, chunk_bytes, end_of, chunks_of, Chunk, Answer, Done, Failed, Attr, Committed, Hashes, HashRange, Piece, Range, hashes_of, piece_of, told_chunks, File, read_at, Fetch, ReadCall, Stage, Store, StoreCall, Task, Value, Op, Word, TakenCall, Seat, taken_at, hashed_of, sha1, Book, Or, value_at, version_at, Tried, Call, Call.Lease, Call.Hash, Call.Read, Call.Make, Call.Name, Call.Send, Call.Commit, Reply, Reply.Versioned, Reply.Hashed, Reply.Bytes, Reply.Changed, Ask, Told, Wanted, Call.Walks, Reply.Walked, name_answer, numbered, happens, changes}
+use Rattle.kept_promise.proofs.Lists.{AllOf}
 use Rattle.kept_promise.proofs.Rights.{WasThere, IsHeld, IsUnmade, IsMade}
 use Rattle.server_core.specs.declared.change.Wanted.TheVariants as wanted
 
@@ -74,12 +75,10 @@ stage_word _ = words.Open
 -- ---- lists of messages
 
 abbrev pub AllAsks : (Ask → Type 0) → List Ask → Type 0
-AllAsks P [] = Unit {0}
-AllAsks P (a ∷ us) = P a × AllAsks P us
+AllAsks P us = AllOf P us
 
 abbrev pub AllTolds : (Told → Type 0) → List Told → Type 0
-AllTolds P [] = Unit {0}
-AllTolds P (t ∷ ts) = P t × AllTolds P ts
+AllTolds P ts = AllOf P ts
 
 abbrev pub AllUnder : ℕ → List TakenCall → Type 0
 AllUnder n [] = Unit {0}

@@ -3,7 +3,7 @@ use Rattle.std.proofs.Common.{eqb-true, ◌⊎◌, inl, inr, ◌≡◌, ℕ, zer
 use Rattle.client_state.specs.declared.task.Stage.TheVariants as stage
 use Rattle.register_model.specs.declared.op.Word.TheVariants as words
 use Rattle.kept_promise.proofs.Common.{slice_get, cond, ◌==◌, Pending, Program, Temp, Change, Failed, Stage, Store, StoreCall, Seat, unless, Book, Call, Call.Make, Call.Name, Call.Send, Call.Commit, Reply, Reply.Made, Reply.Named, Reply.Stored, Reply.Changed, Ask, Told, Queue, call_program, reply_program, Status}
-use Rattle.kept_promise.proofs.Lists.{some_is, nothing_there}
+use Rattle.kept_promise.proofs.Lists.{some_is, nothing_there, all_at, all_in}
 use Rattle.kept_promise.proofs.Keys.{times, times_append, key, own, on_way, ask_key, told_key, change_key, pending_key, found_by, there_by, key_xid, wanted_program}
 use Rattle.kept_promise.proofs.Messages.{Job, job, stage_word, AllAsks, AllTolds}
 use Rattle.kept_promise.proofs.Growth.{Grows, there_later}
@@ -160,30 +160,12 @@ other_reply book j x y (Stored a) w apart h = absurd (subst (λ (s : Stage). Wai
 other_reply book j x y (Changed (Failed s u)) w apart h = apart (sym (subst (λ (s : Stage). WaitsFor s x → x ≡ y) (sym (ap (λ (z : Job). z.stage) (some_is j h.0 h.2) ∙ h.3)) (λ e. sym e) w))
 other_reply book j x y _ w apart h = tt
 
-pub all_asks_at : (P : Ask → Type 0) (us : List Ask) → ((i : ℕ) (a : Ask) → slice_get us i ≡ Some a → P a) → AllAsks P us
-all_asks_at P [] f = tt
-all_asks_at P (a ∷ us) f = (f 0 a refl, all_asks_at P us (λ i b at. f (suc i) b at))
-
-pub all_tolds_at : (P : Told → Type 0) (ts : List Told) → ((i : ℕ) (t : Told) → slice_get ts i ≡ Some t → P t) → AllTolds P ts
-all_tolds_at P [] f = tt
-all_tolds_at P (t ∷ ts) f = (f 0 t refl, all_tolds_at P ts (λ i b at. f (suc i) b at))
-
-pub ask_in : (P : Ask → Type 0) (us : List Ask) (i : ℕ) (a : Ask) → AllAsks P us → slice_get us i ≡ Some a → P a
-ask_in P [] i a h at = nothing_there a at
-ask_in P (b ∷ us) zero a h at = subst P (some_is b a at) h.0
-ask_in P (b ∷ us) (suc i) a h at = ask_in P us i a h.1 at
-
-pub told_in : (P : Told → Type 0) (ts : List Told) (i : ℕ) (t : Told) → AllTolds P ts → slice_get ts i ≡ Some t → P t
-told_in P [] i t h at = nothing_there t at
-told_in P (b ∷ ts) zero t h at = subst P (some_is b t at) h.0
-told_in P (b ∷ ts) (suc i) t h at = told_in P ts i t h.1 at
-
 -- its answer was taken: nothing else of a close is on its way
 pub others_fetch : (book : Book) (n : ℕ) (temps : List (ℕ × Temp)) (w : List Change) (q : Queue) (hung : Bool) (next : ℕ) (calls : List Pending) (t : Told) (ts : List Told) (seat : Seat) (j : Job) → IsBalanced n w q hung next calls → q.downs ≡ t ∷ ts → job seat ≡ Some j → WaitsFor j.stage t.xid → Orderly book n temps hung q seat
     → AllFetching q.ups × AllFetched ts
 others_fetch book n temps w q hung next calls t ts seat j b first is waits h = (
-  all_asks_at (λ a. IsFetching a.call) q.ups (λ i a at. other_call j (locals_of seat.client) t.xid a.xid a.call waits (λ e. up_apart n w q hung next calls t ts i a b first at e) (ask_in (IsInPlace (Some j) (locals_of seat.client)) q.ups i a (subst (λ (o : Option Job). AllAsks (IsInPlace o (locals_of seat.client)) q.ups) is h.asks) at)),
-  all_tolds_at (λ u. IsFetched u.reply) ts (λ i u at. other_reply book j t.xid u.xid u.reply waits (λ e. down_apart n w q hung next calls t ts i u b first at e) (told_in (IsWanted book (Some j)) ts i u (subst (AllTolds (IsWanted book (Some j))) first (subst (λ (o : Option Job). AllTolds (IsWanted book o) q.downs) is h.tolds)).1 at)),
+  all_at (λ (a : Ask). IsFetching a.call) q.ups (λ i a at. other_call j (locals_of seat.client) t.xid a.xid a.call waits (λ e. up_apart n w q hung next calls t ts i a b first at e) (all_in (IsInPlace (Some j) (locals_of seat.client)) q.ups i a (subst (λ (o : Option Job). AllAsks (IsInPlace o (locals_of seat.client)) q.ups) is h.asks) at)),
+  all_at (λ (u : Told). IsFetched u.reply) ts (λ i u at. other_reply book j t.xid u.xid u.reply waits (λ e. down_apart n w q hung next calls t ts i u b first at e) (all_in (IsWanted book (Some j)) ts i u (subst (AllTolds (IsWanted book (Some j))) first (subst (λ (o : Option Job). AllTolds (IsWanted book o) q.downs) is h.tolds)).1 at)),
 )
 
 -- the answer itself

@@ -4,7 +4,7 @@ use Rattle.client_state.specs.declared.task.Stage.TheVariants as stage
 use Rattle.register_model.specs.declared.op.Word.TheVariants as words
 use Rattle.trace_replay.specs.OwnCalls.{WaitsFor}
 use Rattle.kept_promise.proofs.Common.{changes, Done, Failed, Temp, temp_at, is_full, Stage, Store, Op, Seat, unless, Book, step_of, Call, Call.Lease, Call.Hash, Call.Read, Call.Make, Call.Name, Call.Send, Call.Commit, Reply, Reply.Versioned, Reply.Hashed, Reply.Bytes, Reply.Made, Reply.Named, Reply.Stored, Reply.Changed, Ask, Told, Queue, Call.Walks, Reply.Walked, Status, value_at}
-use Rattle.kept_promise.proofs.Lists.{some_is, nothing_there, at_end, of_appended, in_front}
+use Rattle.kept_promise.proofs.Lists.{some_is, nothing_there, at_end, of_appended, in_front, all_unless}
 use Rattle.kept_promise.proofs.Messages.{Job, job, stage_word, AllAsks, AllTolds}
 use Rattle.kept_promise.proofs.Growth.{Grows, there_later, value_later, Follows}
 use Rattle.kept_promise.proofs.Shelf.{NoTemp, OneTemp}
@@ -212,12 +212,6 @@ orderly_new book n temps seat free none = record {
   tree = λ j e w. nothing_there j (sym free ∙ e);
 }
 
--- one more is told
-told_more : (book : Book) (job : Option Job) (cut : Bool) (ts : List Told) (t : Told) → IsWanted book job t → AllTolds (IsWanted book job) ts → AllTolds (IsWanted book job) (unless cut ts (t ∷ []))
-told_more book job true ts t w h = h
-told_more book job false [] t w h = (w, tt)
-told_more book job false (u ∷ ts) t w h = (h.0, told_more book job false ts t w h.1)
-
 -- nothing is told of as known, and no temporary file as refused
 abbrev pub TellsNone : Reply → Type 0
 TellsNone (Named (Done u)) = ⊥
@@ -267,7 +261,7 @@ held_told temps n us ts t false v (Some j) none h = by j.stage h
     by _ h = h
 
 pub orderly_told : (book : Book) (n : ℕ) (temps : List (ℕ × Temp)) (hung cut : Bool) (q : Queue) (t : Told) (seat : Seat) → TellsNone t.reply → IsWanted book (job seat) t → Orderly book n temps hung q seat → Orderly book n temps hung (record q { downs = unless cut q.downs (t ∷ []) }) seat
-orderly_told book n temps hung cut q t seat none w h = record { asks = h.asks; tolds = told_more book (job seat) cut q.downs t w h.tolds; holds = λ up. held_told temps n q.ups q.downs t cut (locals_of seat.client) (job seat) none (h.holds up); tree = h.tree }
+orderly_told book n temps hung cut q t seat none w h = record { asks = h.asks; tolds = all_unless (IsWanted book (job seat)) cut q.downs (t ∷ []) h.tolds (w, tt); holds = λ up. held_told temps n q.ups q.downs t cut (locals_of seat.client) (job seat) none (h.holds up); tree = h.tree }
 
 -- ---- the first call is taken
 
@@ -327,7 +321,7 @@ pub orderly_answered : (book more : Book) (made ended : Option ℕ) (n : ℕ) (t
     → Orderly more n after false (record { ups = us; downs = unless cut q.downs (t ∷ []) }) seat
 orderly_answered book more made ended n temps after cut q a us t seat g first w held h = record {
   asks = (subst (AllAsks (IsInPlace (job seat) (locals_of seat.client))) first h.asks).1;
-  tolds = told_more more (job seat) cut q.downs t w (all_wanted_later book more made ended (job seat) q.downs g h.tolds);
+  tolds = all_unless (IsWanted more (job seat)) cut q.downs (t ∷ []) (all_wanted_later book more made ended (job seat) q.downs g h.tolds) (w, tt);
   holds = λ up. held;
   tree = tree_later book more made ended seat g h.tree;
 }
@@ -370,15 +364,10 @@ orderly_clear book n temps hung q seat free h = record {
   none = λ up. free_held temps n q.ups q.downs (locals_of seat.client) (job seat) (none_free (job seat) free) (h.holds up);
 }
 
-pub place_more : (P : Ask → Type 0) (hung : Bool) (us : List Ask) (a : Ask) → AllAsks P us → P a → AllAsks P (unless hung us (a ∷ []))
-place_more P true us a h p = h
-place_more P false [] a h p = (p, tt)
-place_more P false (u ∷ us) a h p = (h.0, place_more P false us a h.1 p)
-
 pub orderly_begun : (book : Book) (n : ℕ) (temps : List (ℕ × Temp)) (hung : Bool) (q : Queue) (a : Ask) (d : Seat) (j : Job) → job d ≡ Some j → InPlace (job d) (locals_of d.client) a.xid a.call → BeginsWith j.stage a → (stage_word j.stage ≡ words.Close → WasThere book j.file) → IsClear temps n hung q
     → Orderly book n temps hung (record { ups = unless hung q.ups (a ∷ []); downs = q.downs }) d
 orderly_begun book n temps hung q a d j is place begins tree clear = record {
-  asks = place_more (IsInPlace (job d) (locals_of d.client)) hung q.ups a (fetching_place (job d) (locals_of d.client) q.ups clear.ups) place;
+  asks = all_unless (IsInPlace (job d) (locals_of d.client)) hung q.ups (a ∷ []) (fetching_place (job d) (locals_of d.client) q.ups clear.ups) (place, tt);
   tolds = fetched_wanted book (job d) q.downs clear.downs;
   holds = λ up. subst (λ (o : Option Job). Held temps n (unless hung q.ups (a ∷ [])) q.downs (locals_of d.client) o) (sym is) (by j.stage begins hung up (clear.none up));
   tree = λ i e w. let same = some_is j i (sym is ∙ e) in subst (λ (z : Job). WasThere book z.file) same (tree (ap (λ (z : Job). stage_word z.stage) same ∙ w));

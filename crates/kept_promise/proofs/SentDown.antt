@@ -2,13 +2,12 @@
 use Rattle.std.proofs.Common.{◌⊎◌, inl, inr, ◌≡◌, ℕ, ◌+◌, ◌≤◌, List, [], ◌∷◌, ◌++◌, Option, Some, None, Result, Ok, Err, Bool, true, false, refl, sym, subst, arith, map}
 use Rattle.server_core.specs.State as server
 use Rattle.server_core.specs.declared.event.Event.TheVariants as event
-use Rattle.server_core.specs.declared.event.Sent.{Sent}
 use Rattle.server_rules.specs.declared.told.Told.{Told as Announced}
 use Rattle.server_rules.specs.declared.told.Told.TheVariants as announced
 use Rattle.kept_promise.proofs.Common.{Contains, Contains-append_left, Contains-append_right, Contains-push, parse_of, Message, WireFault, server_step, Core, Seat, Session, Event, Event.Joins, Event.Does, Event.Serves, Event.Hears, Event.Settles, Event.Cuts, Event.Hangs, CoreStep, numbered, server_waiting, is_newest, serves_if, serves, does, joins_as, joins, hears, hears_at, hears_if, cuts_if, cuts, hangs_if, hangs, happens, Moment, step_of, unless, Queue, Told}
+use Rattle.kept_promise.proofs.Lists.{all_append, AllOf, all_map}
 use Rattle.kept_promise.proofs.Messages.{AllTolds}
-use Rattle.kept_promise.proofs.Taken.{tolds_append}
-use Rattle.kept_promise.proofs.LeftCommits.{QueuesHave, AllOf, have_with, have_ups, have_downs, have_lost}
+use Rattle.kept_promise.proofs.LeftCommits.{QueuesHave, have_ups, have_downs, have_lost, taken_off}
 use Rattle.kept_promise.proofs.Leading.{sent_message, Sends, ups_put, queues_lost, queues_after}
 use Rattle.kept_promise.proofs.RunsCarried.{moment, Finds}
 
@@ -27,12 +26,8 @@ DownsSent past steps qs = QueuesHave (DownSent past steps) qs
 
 -- ---- as a run goes on
 
-tolds_map : (P Q : Told → Type 0) → ((t : Told) → P t → Q t) → (ts : List Told) → AllTolds P ts → AllTolds Q ts
-tolds_map P Q f [] h = tt
-tolds_map P Q f (t ∷ ts) h = (f t h.0, tolds_map P Q f ts h.1)
-
 later : (past : List Moment) (m : Moment) (steps after : ℕ) (qs : List Queue) → steps ≤ after → DownsSent past steps qs → DownsSent (past ++ m ∷ []) after qs
-later past m steps after qs le h n q at = tolds_map (WasSent past steps n) (WasSent (past ++ m ∷ []) after n) (λ t w. record {
+later past m steps after qs le h n q at = all_map (WasSent past steps n) (WasSent (past ++ m ∷ []) after n) (λ t w. record {
   moment = w.moment;
   there = Contains-append_left past (m ∷ []) w.moment w.there;
   by = (let lt = w.by in omega (arith, lt, le));
@@ -47,21 +42,11 @@ Any = ℕ → Told → Type 0
 abbrev On : Any → ℕ → Queue → Type 0
 On R n q = AllTolds (R n) q.downs
 
--- what is taken was the first
-taken_off : (R : Any) (k : Core) (qs mid : List Queue) (e : Event) → Finds k qs e mid → QueuesHave (On R) qs → QueuesHave (On R) mid
-taken_off R k qs mid (Joins c) f h = subst (QueuesHave (On R)) (sym f.5) h
-taken_off R k qs mid (Does c now d) f h = subst (QueuesHave (On R)) (sym f.3) h
-taken_off R k qs mid (Serves n now bytes) f h = subst (QueuesHave (On R)) (sym f.6) (have_with (On R) qs n (record f.0 { ups = f.2 }) h (h n f.0 f.3))
-taken_off R k qs mid (Hears n now bytes) f h = subst (QueuesHave (On R)) (sym f.6) (have_with (On R) qs n (record f.0 { downs = f.2 }) h (subst (AllTolds (R n)) f.4 (h n f.0 f.3)).1)
-taken_off R k qs mid (Settles now) f h = subst (QueuesHave (On R)) (sym f) h
-taken_off R k qs mid (Cuts c) f h = subst (QueuesHave (On R)) (sym f.2) h
-taken_off R k qs mid (Hangs n) f h = subst (QueuesHave (On R)) (sym f.2) h
-
-all_sent : (R : ℕ × Told → Type 0) (ps : List (ℕ × Told)) → ((p : ℕ × Told) → Contains (map sent_message ps) (sent_message p) → R p) → AllOf R ps
-all_sent R [] h = tt
-all_sent R (p ∷ ps) h = (
-  h p (Contains-append_left (sent_message p ∷ []) (map sent_message ps) (sent_message p) (Contains-push [] (sent_message p))),
-  all_sent R ps (λ q c. h q (Contains-append_right (sent_message p ∷ []) (map sent_message ps) (sent_message q) c)),
+pub all_sent : {A B : Type 0} (f : A → B) (P : A → Type 0) (xs : List A) → ((x : A) → Contains (map f xs) (f x) → P x) → AllOf P xs
+all_sent f P [] h = tt
+all_sent f P (x ∷ xs) h = (
+  h x (Contains-append_left (f x ∷ []) (map f xs) (f x) (Contains-push [] (f x))),
+  all_sent f P xs (λ y c. h y (Contains-append_right (f x ∷ []) (map f xs) (f y) c)),
 )
 
 -- what is put there is what it sends
@@ -69,77 +54,77 @@ put_on : (R : Any) (mid : List Queue) (t : CoreStep) (s : Sends t) → ((p : ℕ
 put_on R mid t s new h =
     let lost = have_lost (On R) mid t.loss h tt (λ n q g. tt) (λ n q g. g) in
     let ups = have_ups (On R) t.core.sessions (queues_lost mid t.loss) t.session s.asks lost (λ n x q is at there g. g) in
-    have_downs (On R) (λ p. R p.0 p.1) t.core.sessions s.tolds (ups_put t.core.sessions (queues_lost mid t.loss) t.session s.asks) (all_sent (λ p. R p.0 p.1) s.tolds (λ p c. new p (subst (λ l. Contains l (sent_message p)) (sym s.down_is) c))) ups put
+    have_downs (On R) (λ p. R p.0 p.1) t.core.sessions s.tolds (ups_put t.core.sessions (queues_lost mid t.loss) t.session s.asks) (all_sent sent_message (λ p. R p.0 p.1) s.tolds (λ p c. new p (subst (λ l. Contains l (sent_message p)) (sym s.down_is) c))) ups put
   where
     put : (n : ℕ) (u : Told) (q : Queue) (lost : Bool) → R n u → On R n q → AllTolds (R n) (unless lost q.downs (u ∷ []))
     put n u q true r g = g
-    put n u q false r g = tolds_append (R n) q.downs (u ∷ []) g (r, tt)
+    put n u q false r g = all_append (R n) q.downs (u ∷ []) g (r, tt)
 
 -- ---- the step of what is sent
 
--- where something is sent down, it is in a step
+-- where something is sent, it is in a step
 abbrev InStep : Core → CoreStep → Type 0
-InStep k t = (t.down ≡ []) ⊎ (k.steps + 1 ≤ t.core.steps)
+InStep k t = ((t.up ≡ []) × (t.down ≡ [])) ⊎ (k.steps + 1 ≤ t.core.steps)
 
-in_step : (k : Core) (e : Event) → InStep k (happens k e)
+pub in_step : (k : Core) (e : Event) → InStep k (happens k e)
 in_step k (Joins c) = by (numbered k.seats c)
   where
     made : (seat : Seat) (s : server.State) (o : Announced) → InStep k (joins_as k c seat s o)
-    made seat s (announced.Session n) = inl refl
-    made seat s _ = inl refl
+    made seat s (announced.Session n) = inl (refl, refl)
+    made seat s _ = inl (refl, refl)
 
     by : (o : Option Seat) → InStep k (joins k c o)
-    by None = inl refl
+    by None = inl (refl, refl)
     by (Some seat) = made seat (server_step k.server event.Connect).0 (server_step k.server event.Connect).1.told
 in_step k (Does c now d) = by (numbered k.seats c)
   where
     by : (o : Option Seat) → InStep k (does k c now d o)
-    by None = inl refl
-    by (Some seat) = inl refl
+    by None = inl (refl, refl)
+    by (Some seat) = inr (omega arith)
 in_step k (Serves n now bytes) = by (numbered k.sessions n)
   where
     read : (x : Session) (r : Result Message WireFault) → InStep k (serves_if k n now x r)
     read x (Ok m) = inr (omega arith)
-    read x (Err e) = inl refl
+    read x (Err e) = inl (refl, refl)
 
     by : (o : Option Session) → InStep k (serves k n now bytes o)
-    by None = inl refl
+    by None = inl (refl, refl)
     by (Some x) = read x (parse_of server_waiting bytes)
 in_step k (Hears n now bytes) = by (numbered k.sessions n)
   where
     newest : (i : ℕ) (seat : Seat) (b : Bool) → InStep k (hears_if k i now seat bytes b)
-    newest i seat true = inl refl
-    newest i seat false = inl refl
+    newest i seat true = inr (omega arith)
+    newest i seat false = inl (refl, refl)
 
     at : (i : ℕ) (o : Option Seat) → InStep k (hears_at k n i now bytes o)
-    at i None = inl refl
+    at i None = inl (refl, refl)
     at i (Some seat) = newest i seat (is_newest seat.session n)
 
     by : (o : Option Session) → InStep k (hears k n now bytes o)
-    by None = inl refl
+    by None = inl (refl, refl)
     by (Some x) = at x.owner (numbered k.seats x.owner)
 in_step k (Settles now) = inr (omega arith)
 in_step k (Cuts c) = by (numbered k.seats c)
   where
     linked : (seat : Seat) (b : Bool) → InStep k (cuts_if k c seat b)
-    linked seat true = inl refl
-    linked seat false = inl refl
+    linked seat true = inr (omega arith)
+    linked seat false = inl (refl, refl)
 
     by : (o : Option Seat) → InStep k (cuts k c o)
-    by None = inl refl
+    by None = inl (refl, refl)
     by (Some seat) = linked seat seat.client.linked
 in_step k (Hangs n) = by (numbered k.sessions n)
   where
     hung : (x : Session) (b : Bool) → InStep k (hangs_if k n x b)
-    hung x true = inl refl
-    hung x false = inl refl
+    hung x true = inl (refl, refl)
+    hung x false = inl (refl, refl)
 
     by : (o : Option Session) → InStep k (hangs k n o)
-    by None = inl refl
+    by None = inl (refl, refl)
     by (Some x) = hung x x.hung
 
-none_sent : {A : Type 0} (s : Sent) → Contains [] s → A
-none_sent s c = let lt = c.1 in absurd (omega (arith, lt))
+pub none_sent : {A B : Type 0} (x : A) (xs : List A) → xs ≡ [] → Contains xs x → B
+none_sent x xs none c = let there = subst (λ l. Contains l x) none c in let lt = there.1 in absurd (omega (arith, lt))
 
 -- ---- any event
 
@@ -147,10 +132,10 @@ pub sent_after : (past : List Moment) (k : Core) (qs mid : List Queue) (e : Even
 sent_after past k qs mid e s finds le h =
     let past2 : List Moment = past ++ moment k e ∷ [] in
     put_on (λ n t. WasSent past2 (happens k e).core.steps n t) mid (happens k e) s new
-    (taken_off (λ n t. WasSent past2 (happens k e).core.steps n t) k qs mid e finds (later past (moment k e) k.steps (happens k e).core.steps qs le h))
+    (taken_off (DownSent past2 (happens k e).core.steps) k qs mid e (λ n q a us is g. g) (λ n q t ts is g. (subst (AllTolds (WasSent past2 (happens k e).core.steps n)) is g).1) finds (later past (moment k e) k.steps (happens k e).core.steps qs le h))
   where
     new : (p : ℕ × Told) → Contains (happens k e).down (sent_message p) → WasSent (past ++ moment k e ∷ []) (happens k e).core.steps p.0 p.1
     new p c = elim (in_step k e) [
-      | inl none ↦ none_sent (sent_message p) (subst (λ l. Contains l (sent_message p)) none c)
+      | inl none ↦ none_sent (sent_message p) (happens k e).down none.1 c
       | inr step ↦ record { moment = moment k e; there = Contains-append_right past (moment k e ∷ []) (moment k e) (Contains-push [] (moment k e)); by = step; sent = c }
     ]

@@ -18,7 +18,7 @@ use Rattle.register_model.specs.declared.op.Word.TheVariants as words
 use Rattle.register_model.specs.Register.{IsFit}
 use Rattle.trace_replay.specs.Faithful.{IsKind, left_by as left_of}
 use Rattle.kept_promise.proofs.Common.{slice_get, slice_set, cond, ◌==◌, sha1, Done, Failed, MessageFits, at, Change, ServerStep, File, Entry, Fetch, Stage, Op, Core, Seat, Session, CoreStep, quiet, numbered, with_numbered, settled_ops, settled_by, pointed, pointed_at, unless, Book, Or, value_at, Reply, Reply.Versioned, Reply.Hashed, Reply.Bytes, Reply.Made, Reply.Named, Reply.Stored, Reply.Changed, Told, Queue, told_message, reply_program, Tree, Reply.Walked, Word, Value, value_from, unwrap_or, changes, Wanted, Event.Settles, happens}
-use Rattle.kept_promise.proofs.Lists.{some_is, nothing_there, same_or_not, at_end, at_replaced, of_replaced}
+use Rattle.kept_promise.proofs.Lists.{some_is, nothing_there, same_or_not, at_end, at_replaced, of_replaced, all_append}
 use Rattle.kept_promise.proofs.Keys.{times, times_append, times_head, own, key, change_key, ask_key, told_key, wanted_program}
 use Rattle.kept_promise.proofs.Messages.{Job, job, hash_offset, FetchOf, CommitTold, AllTolds, IsAnswer, AnswerOf, IsPending, CloseOf, content_wanted, WaitsFor, AsksFor, walk_for}
 use Rattle.kept_promise.proofs.Rights.{IsSound, IsUnmade, IsMade, WasThere}
@@ -27,7 +27,6 @@ use Rattle.kept_promise.proofs.History.{made_op, IsEntryOf, grows_made, goes_mad
 use Rattle.trace_ends.specs.Core.{newest_entries, changed_file}
 use Rattle.kept_promise.proofs.ServesFiles.{newest_one}
 use Rattle.kept_promise.proofs.Later.{seat_later}
-use Rattle.kept_promise.proofs.Taken.{tolds_append}
 use Rattle.kept_promise.proofs.Turns.{around_same, around_with, also_numbered, turned_core, kept_turn}
 use Rattle.kept_promise.proofs.Fits.{FitLaws}
 use Rattle.kept_promise.proofs.Ordered.{orderly_later, orderly_told}
@@ -122,7 +121,7 @@ settled_talk book e j o n c cs x q seat version what g first committing made t =
   under = t.under;
   rising = t.rising;
   asked = t.asked;
-  answers = tolds_append (IsAnswer (made_book book (e ∷ []) j c.file o) x.taken x.closing (job seat)) q.downs (answer c version ∷ []) (all_but (IsAnswer book x.taken x.closing (job seat)) (IsAnswer (made_book book (e ∷ []) j c.file o) x.taken x.closing (job seat)) (change_key c) q.downs none (λ u apart h. old_reply u.xid u.reply apart h) t.answers) (new_answer, tt);
+  answers = all_append (IsAnswer (made_book book (e ∷ []) j c.file o) x.taken x.closing (job seat)) q.downs (answer c version ∷ []) (all_but (IsAnswer book x.taken x.closing (job seat)) (IsAnswer (made_book book (e ∷ []) j c.file o) x.taken x.closing (job seat)) (change_key c) q.downs none (λ u apart h. old_reply u.xid u.reply apart h) t.answers) (new_answer, tt);
   fetch = λ i f. let same : here ≡ i = some_is here i (sym committing ∙ f) in subst (λ (w : Job). FetchOf (made_book book (e ∷ []) j c.file o) x.taken w w.stage) same tt;
   balanced = record {
     most = λ y. let a = t.balanced.most y in let w = way_settled n y c cs q (answer c version) first (answer_key c (content_wanted c.what) version what) in omega (arith, a, w);
@@ -314,7 +313,7 @@ settled_now laws book k qs now c cs f x q j o kept waits what there here unhung 
 
     downs_fit_more : (b : Bool) → AllTolds (λ u. MessageFits (told_message u)) q.downs → MessageFits (told_message (answer c (f.version + 1))) → AllTolds (λ u. MessageFits (told_message u)) (unless b q.downs (answer c (f.version + 1) ∷ []))
     downs_fit_more true w v = w
-    downs_fit_more false w v = tolds_append (λ u. MessageFits (told_message u)) q.downs (answer c (f.version + 1) ∷ []) w (v, tt)
+    downs_fit_more false w v = all_append (λ (u : Told). MessageFits (told_message u)) q.downs (answer c (f.version + 1) ∷ []) w (v, tt)
 
     committing : x.cut ≡ false → job (kept.sessions c.session x q here is).seat ≡ Some (record { place = j; file = c.file; stage = stage.Committing c.xid })
     committing uncut = subst (λ (z : ℕ). job (kept.sessions c.session x q here is).seat ≡ Some (record { place = z; file = c.file; stage = stage.Committing c.xid })) place_is (pending.waited uncut)

@@ -11,12 +11,12 @@ use Rattle.register_model.specs.declared.op.Outcome.TheVariants as told
 use Rattle.register_model.specs.declared.op.Word.TheVariants as words
 use Rattle.kept_promise.proofs.Common.{changes, cond, nat_tests, slice_get, slice_set, nat_le, Chunk, Answer, Done, Failed, Attr, Piece, Pending, Change, Fetch, Local, Stage, Op, Traffic, TakenCall, Core, Seat, Session, numbered, unless, hashed_of, Book, Entries, Indexed, Call, Call.Lease, Call.Hash, Call.Read, Call.Commit, Reply, Reply.Versioned, Reply.Hashed, Reply.Bytes, Reply.Changed, Ask, Told, Queue, reply_program, Call.Walks, Reply.Walked, Status}
 use Rattle.kept_promise.proofs.Statements.{CallFits}
-use Rattle.kept_promise.proofs.Lists.{some_is, nothing_there, same_or_not, of_replaced, at_replaced, false_and_true}
+use Rattle.kept_promise.proofs.Lists.{some_is, nothing_there, same_or_not, of_replaced, at_replaced, false_and_true, all_both, all_map}
 use Rattle.kept_promise.proofs.Keys.{times, times_append, own, on_way, ask_key, change_key, told_key, pending_key, found_by, there_by, key_xid}
 use Rattle.kept_promise.proofs.Messages.{Job, job, stage_word, AllAsks, AllTolds, Rising, hash_offset, read_chunk, CallOf, IsAsked, AnswerOf, IsAnswer, Trying, FetchOf, ReadTold, CommitOf, IsCommit, IsPiece, TempUnder, CloseOf, IsCreating, goal_word, RefusedTold}
 use Rattle.kept_promise.proofs.Rights.{Caused, IsRight, IsSound, WasThere}
 use Rattle.kept_promise.proofs.History.{Goes, onward, Becomes, goes_becomes, still_becomes}
-use Rattle.kept_promise.proofs.Later.{all_asks, cached_later, answer_later, trying_later, close_later, commit_later, fetch_of_later, Spares}
+use Rattle.kept_promise.proofs.Later.{cached_later, answer_later, trying_later, close_later, commit_later, fetch_of_later, Spares}
 use Rattle.kept_promise.proofs.Turns.{Around, turned_core}
 use Rattle.kept_promise.proofs.Orderly.{Orderly}
 use Rattle.kept_promise.proofs.Ordered.{AllFetching, none_free, orderly_later}
@@ -135,14 +135,6 @@ tolds_below n w q hung next calls h = by q.downs (λ i t at. below t (reach t i 
     by (t ∷ ts) f = (f 0 t refl, by ts (λ i u at. f (suc i) u at))
 
 -- ---- it goes on
-
-both_asks : (P Q R : Ask → Type 0) → ((a : Ask) → P a → Q a → R a) → (us : List Ask) → AllAsks P us → AllAsks Q us → AllAsks R us
-both_asks P Q R f [] p q = tt
-both_asks P Q R f (a ∷ us) p q = (f a p.0 q.0, both_asks P Q R f us p.1 q.1)
-
-both_tolds : (P Q R : Told → Type 0) → ((t : Told) → P t → Q t → R t) → (ts : List Told) → AllTolds P ts → AllTolds Q ts → AllTolds R ts
-both_tolds P Q R f [] p q = tt
-both_tolds P Q R f (t ∷ ts) p q = (f t p.0 q.0, both_tolds P Q R f ts p.1 q.1)
 
 -- where no commit is on its way up, nothing is to be shown of any
 pub no_commits : (book : Book) (closing : Option ℕ) (cut : Bool) (job : Option Job) (contents : ℕ → List ℕ) (us : List Ask) → commits_in us ≡ 0 → AllAsks (IsCommit book closing cut job contents) us
@@ -282,15 +274,15 @@ kept_goes book k qs n x q t ts j g s next forgotten asks cache index tr seats af
       still = still_becomes book 1 None None j.place of.op (counting of.op tr) of.there (becomes_counting book x.owner j tr of g.kept.sound) g.kept.sound;
       made_here = λ p f. nothing_there p f;
       ended_here = λ p o f. nothing_there p f;
-      old_asks = both_asks (λ a. a.xid < h.seat.client.next) (IsAsked (Some j)) (IsAsked (Some (on j s))) (λ a lt old. call_anew h.seat.client.next j s a.xid a.call w.again lt old) q.ups (asks_below talk.floor q.ups h.seat.client.next talk.rising) old_asks;
-      old_tolds = (subst (AllTolds (IsAnswer more x.taken x.closing (Some (on j s)))) g.first (both_tolds (λ u. u.xid < h.seat.client.next) (IsAnswer book x.taken x.closing (Some j)) (IsAnswer more x.taken x.closing (Some (on j s))) (λ u lt old. answer_anew more x.taken x.closing h.seat.client.next j s u.xid u.reply w.again lt (answer_later book more None None x.taken x.closing (Some j) u goes.grows spares old)) q.downs bound old_tolds)).1;
+      old_asks = all_both (λ (a : Ask). a.xid < h.seat.client.next) (IsAsked (Some j)) (IsAsked (Some (on j s))) (λ a lt old. call_anew h.seat.client.next j s a.xid a.call w.again lt old) q.ups (asks_below talk.floor q.ups h.seat.client.next talk.rising) old_asks;
+      old_tolds = (subst (AllTolds (IsAnswer more x.taken x.closing (Some (on j s)))) g.first (all_both (λ (u : Told). u.xid < h.seat.client.next) (IsAnswer book x.taken x.closing (Some j)) (IsAnswer more x.taken x.closing (Some (on j s))) (λ u lt old. answer_anew more x.taken x.closing h.seat.client.next j s u.xid u.reply w.again lt (answer_later book more None None x.taken x.closing (Some j) u goes.grows spares old)) q.downs bound old_tolds)).1;
       old_commits = no_commits more x.closing x.cut (Some (on j s)) h.contents q.ups w.quiet.ups;
       old_pending = λ i d f. nothing_there d (ap (λ (l : List Change). slice_get l i) (sym w.quiet.waiting) ∙ f);
       moves = w.moves;
       rising = w.rising;
       asked = w.asked;
       fits = w.fits;
-      commits = all_asks (IsCommit book x.closing x.cut (Some (on j s)) h.contents) (IsCommit more x.closing x.cut (Some (on j s)) h.contents) (λ a m. commit_later book more None None x.closing x.cut (Some (on j s)) (Some (on j s)) h.contents a goes.grows spares (λ u. refl) m) asks w.commits;
+      commits = all_map (IsCommit book x.closing x.cut (Some (on j s)) h.contents) (IsCommit more x.closing x.cut (Some (on j s)) h.contents) (λ a m. commit_later book more None None x.closing x.cut (Some (on j s)) (Some (on j s)) h.contents a goes.grows spares (λ u. refl) m) asks w.commits;
       pieces = w.pieces;
       under = w.under;
       few = let a = w.quiet.ups in let b = ap (λ (l : List Change). length l) w.quiet.waiting in let f = w.few in omega (arith, a, b, f);

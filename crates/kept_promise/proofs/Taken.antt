@@ -6,7 +6,7 @@ use Rattle.client_state.specs.declared.task.Stage.TheVariants as stage
 use Rattle.kept_promise.proofs.Common.{Body, cond, ◌==◌, find, Chunk, Status, Answer, Done, Failed, Attr, Hashes, Piece, Fetch, Stage, Value, TakenCall, taken_at, Book, Reply, Reply.Versioned, Reply.Hashed, Reply.Bytes, Reply.Changed, Ask, Told, Reply.Walked, name_answer, slice_get}
 use Rattle.kept_promise.proofs.Lists.{nothing_there}
 use Rattle.kept_promise.proofs.Keys.{times}
-use Rattle.kept_promise.proofs.Messages.{Job, IsServed, lease_body, hash_body, AllAsks, AllTolds, AllUnder, Rising, IsTold, IsTried, RefusedTold, HashTold, LeaseTold, ReadTold, TriedBy, AnswerOf, IsAnswer, IsFetch, FetchOf, HasFetch, WalkTold}
+use Rattle.kept_promise.proofs.Messages.{Job, IsServed, lease_body, hash_body, AllTolds, AllUnder, Rising, IsTold, IsTried, RefusedTold, HashTold, LeaseTold, ReadTold, TriedBy, AnswerOf, IsAnswer, IsFetch, FetchOf, HasFetch, WalkTold}
 use Rattle.path_calls.specs.declared.walk.Walk.{Walk}
 use Rattle.nfs3_calls.specs.declared.message.Nfs.{Nfs}
 
@@ -92,14 +92,6 @@ pub has_fetch_found : (book : Book) (taken after : List TakenCall) (job : Option
 has_fetch_found book taken after job f h = λ j e. fetch_of_found book taken after j j.stage f (h j e)
 
 -- ---- lists of messages
-
-pub asks_append : (P : Ask → Type 0) (us vs : List Ask) → AllAsks P us → AllAsks P vs → AllAsks P (us ++ vs)
-asks_append P [] vs a b = b
-asks_append P (u ∷ us) vs a b = (a.0, asks_append P us vs a.1 b)
-
-pub tolds_append : (P : Told → Type 0) (us vs : List Told) → AllTolds P us → AllTolds P vs → AllTolds P (us ++ vs)
-tolds_append P [] vs a b = b
-tolds_append P (u ∷ us) vs a b = (a.0, tolds_append P us vs a.1 b)
 
 pub rising_append : (n : ℕ) (us vs : List Ask) (top next : ℕ) → Rising n us top → Rising top vs next → Rising n (us ++ vs) next
 rising_append n [] vs top next a b = lower n top vs next a b

@@ -6,13 +6,13 @@ use Rattle.chunk_calls.specs.Files as the_files
 use Rattle.client_state.specs.State as client
 use Rattle.kept_promise.proofs.Common.{slice_get, Indexed, MessageFits, Temp, key_of, Change, File, TakenCall, Core, Session, numbered, unless, hashed_of, Book, value_at, Reply, Ask, Told, Queue, told_message, call_program, reply_program, version_at}
 use Rattle.kept_promise.proofs.Statements.{CallFits}
-use Rattle.kept_promise.proofs.Lists.{some_is, nothing_there, same_or_not, false_and_true}
+use Rattle.kept_promise.proofs.Lists.{some_is, nothing_there, same_or_not, false_and_true, all_append, all_map, all_unless}
 use Rattle.kept_promise.proofs.Keys.{times, times_append, own, on_way, key, change_key, ask_key, told_key}
-use Rattle.kept_promise.proofs.Messages.{job, AllAsks, AllTolds, Rising, IsAsked, AnswerOf, IsAnswer, IsCommit, IsPiece, TempUnder, AreParts}
+use Rattle.kept_promise.proofs.Messages.{job, AllAsks, Rising, IsAsked, AnswerOf, IsAnswer, IsCommit, IsPiece, TempUnder, AreParts}
 use Rattle.kept_promise.proofs.Growth.{Grows, or_later, value_alike, version_alike, there_later}
 use Rattle.kept_promise.proofs.History.{Still, onward, grows_same, goes_same, still_same}
-use Rattle.kept_promise.proofs.Later.{all_asks, all_tolds, answer_later, has_fetch_later, commit_later, close_later, waits_later, seat_later, Stays, Spares}
-use Rattle.kept_promise.proofs.Taken.{finds_more, under_more, answer_found, has_fetch_found, tolds_append, times_map_append}
+use Rattle.kept_promise.proofs.Later.{answer_later, has_fetch_later, commit_later, close_later, waits_later, seat_later, Stays, Spares}
+use Rattle.kept_promise.proofs.Taken.{finds_more, under_more, answer_found, has_fetch_found, times_map_append}
 use Rattle.kept_promise.proofs.Turns.{Around, around_same, turned_core, kept_turn}
 use Rattle.kept_promise.proofs.Shelf.{IsShelf}
 use Rattle.kept_promise.proofs.Orderly.{locals_of, Wanted, Held, Orderly}
@@ -60,10 +60,6 @@ way_moved n y w q a us t e same =
     let six = times_append y (ask_key a ∷ []) (map ask_key us) in
     let seven : times y (told_key t ∷ []) ≡ times y (ask_key a ∷ []) = ap (λ k. times y (k ∷ [])) same in
     omega (arith, one, two, three, was, four, five, six, seven)
-
-pub downs_of : (P : Told → Type 0) (cut : Bool) (downs : List Told) (t : Told) → AllTolds P downs → P t → AllTolds P (unless cut downs (t ∷ []))
-downs_of P true downs t h p = h
-downs_of P false downs t h p = tolds_append P downs (t ∷ []) h (p, tt)
 
 -- what a call that is answered at once is to show
 pub record Answers (book : Book) (k : Core) (n : ℕ) (x : Session) (q : Queue) (a : Ask) (temps : List (ℕ × Temp)) (r : Reply) (h : IsSession book k.seats k.server n x q) : Type 0 where
@@ -115,11 +111,11 @@ kept_reply book k qs n moment x q a us temps index r sessions after kept at is e
         lost = λ hung. absurd (false_and_true x.hung unhung hung);
         stands_is = h.stands_is;
         ups_fit = (ups_of (λ b. CallFits b.xid b.call) h.ups_fit).1;
-        downs_fit = downs_of (λ u. MessageFits (told_message u)) x.cut q.downs t h.downs_fit shows.fits;
+        downs_fit = all_unless (λ (u : Told). MessageFits (told_message u)) x.cut q.downs (t ∷ []) h.downs_fit (shows.fits, tt);
         talk = λ uncut. subst (λ (b : Bool). IsTalk more n k.server.waiting y (put_down q us b t) c) (sym uncut) (talks h shows uncut (h.talk uncut));
         contents = h.contents;
         lengths = h.lengths;
-        commits = (ups_of (IsCommit more x.closing x.cut (job c) h.contents) (all_asks (IsCommit book x.closing x.cut (job c) h.contents) (IsCommit more x.closing x.cut (job c) h.contents) (λ b m. commit_later book more None None x.closing x.cut (job c) (job c) h.contents b g spares (λ u. refl) m) q.ups h.commits)).1;
+        commits = (ups_of (IsCommit more x.closing x.cut (job c) h.contents) (all_map (IsCommit book x.closing x.cut (job c) h.contents) (IsCommit more x.closing x.cut (job c) h.contents) (λ b m. commit_later book more None None x.closing x.cut (job c) (job c) h.contents b g spares (λ u. refl) m) q.ups h.commits)).1;
         pieces = (ups_of (IsPiece (hashed_of book.moments) h.contents) h.pieces).1;
         temps = shows.pieces;
         temps_below = λ uncut. ((ups_of (λ b. TempUnder c.client.next_temp b.call) (h.temps_below uncut).0).1, shows.below uncut);
@@ -168,7 +164,7 @@ kept_reply book k qs n moment x q a us temps index r sessions after kept at is e
           under = under_more talk.floor x.taken z talk.under rising.0;
           rising = rising.1;
           asked = (subst (AllAsks (IsAsked (job h.seat))) e talk.asked).1;
-          answers = tolds_append (IsAnswer more (x.taken ++ z ∷ []) x.closing (job h.seat)) q.downs (t ∷ []) (all_tolds (IsAnswer book x.taken x.closing (job h.seat)) (IsAnswer more (x.taken ++ z ∷ []) x.closing (job h.seat)) (λ u f. answer_found more x.taken (x.taken ++ z ∷ []) x.closing (job h.seat) u finds (answer_later book more None None x.taken x.closing (job h.seat) u g spares f)) q.downs talk.answers) (shows.answer uncut, tt);
+          answers = all_append (IsAnswer more (x.taken ++ z ∷ []) x.closing (job h.seat)) q.downs (t ∷ []) (all_map (IsAnswer book x.taken x.closing (job h.seat)) (IsAnswer more (x.taken ++ z ∷ []) x.closing (job h.seat)) (λ u f. answer_found more x.taken (x.taken ++ z ∷ []) x.closing (job h.seat) u finds (answer_later book more None None x.taken x.closing (job h.seat) u g spares f)) q.downs talk.answers) (shows.answer uncut, tt);
           fetch = has_fetch_found more x.taken (x.taken ++ z ∷ []) (job h.seat) finds (has_fetch_later book more None None x.taken (job h.seat) g talk.fetch);
           balanced = record {
             most = λ v. let m = talk.balanced.most v in let w = way_moved n v k.server.waiting q a us t e keys in omega (arith, m, w);

@@ -21,7 +21,7 @@ use Rattle.client_state.specs.State as client
 use Rattle.client_state.specs.declared.task.Stage.TheVariants as stage
 use Rattle.trace_ends.specs.Core.{newest_entries, changed_file}
 use Rattle.kept_promise.proofs.Common.{slice_get, at, Failed, MessageFits, Change, Wanted, Entry, Op, Core, Session, CoreStep, quiet, numbered, with_numbered, settles, settled_by, unless, hashed_of, Book, Reply.Changed, Told, Queue, told_message, value_at}
-use Rattle.kept_promise.proofs.Lists.{some_is, nothing_there}
+use Rattle.kept_promise.proofs.Lists.{some_is, nothing_there, all_append, all_map, all_unless}
 use Rattle.kept_promise.proofs.Keys.{own, change_key, told_key}
 use Rattle.kept_promise.proofs.Rights.{WasThere}
 use Rattle.kept_promise.proofs.Remains.{there_version}
@@ -31,9 +31,8 @@ use Rattle.kept_promise.proofs.Fits.{FitLaws}
 use Rattle.kept_promise.proofs.Messages.{Job, job, AnswerOf, IsAnswer, IsPending}
 use Rattle.kept_promise.proofs.Orderly.{Went, Wanted as IsWantedReply}
 use Rattle.kept_promise.proofs.Ordered.{orderly_later, orderly_told}
-use Rattle.kept_promise.proofs.Later.{all_tolds, answer_later, close_later, pieces_later, parts_later, has_fetch_later, seat_later, Spares}
-use Rattle.kept_promise.proofs.Taken.{tolds_append}
-use Rattle.kept_promise.proofs.Takes.{downs_of, file_still, fresh_still}
+use Rattle.kept_promise.proofs.Later.{answer_later, close_later, pieces_later, parts_later, has_fetch_later, seat_later, Spares}
+use Rattle.kept_promise.proofs.Takes.{file_still, fresh_still}
 use Rattle.kept_promise.proofs.Turns.{around_same, around_with, turned_core, kept_turn}
 use Rattle.kept_promise.proofs.Steps.{no_commits}
 use Rattle.kept_promise.proofs.Facts.{FileIs, IsServer, IsTalk, IsSession, IsKept, commits_in}
@@ -164,7 +163,7 @@ module _ (laws : FitLaws) (book : Book) (k : Core) (qs : List Queue) (now : ℕ)
     under = talk.under;
     rising = talk.rising;
     asked = talk.asked;
-    answers = tolds_append (IsAnswer more x.taken x.closing (job h.seat)) q.downs (t ∷ []) (all_tolds (IsAnswer book x.taken x.closing (job h.seat)) (IsAnswer more x.taken x.closing (job h.seat)) (λ u f. answer_later book more None None x.taken x.closing (job h.seat) u (grows_same book 1) spares f) q.downs talk.answers) (told_now uncut, tt);
+    answers = all_append (IsAnswer more x.taken x.closing (job h.seat)) q.downs (t ∷ []) (all_map (IsAnswer book x.taken x.closing (job h.seat)) (IsAnswer more x.taken x.closing (job h.seat)) (λ u f. answer_later book more None None x.taken x.closing (job h.seat) u (grows_same book 1) spares f) q.downs talk.answers) (told_now uncut, tt);
     fetch = has_fetch_later book more None None x.taken (job h.seat) (grows_same book 1) talk.fetch;
     balanced = record {
       most = λ y. let b = talk.balanced.most y in let w = way_settled n y c cs q t (first_own c cs) key_is in omega (arith, b, w);
@@ -224,7 +223,7 @@ module _ (laws : FitLaws) (book : Book) (k : Core) (qs : List Queue) (now : ℕ)
           lost = h.lost;
           stands_is = h.stands_is;
           ups_fit = h.ups_fit;
-          downs_fit = downs_of (λ u. MessageFits (told_message u)) x.cut q.downs t h.downs_fit (laws.plain c.xid (Changed (Failed status.Stale tt)) (kept.server.xids 0 c first) tt);
+          downs_fit = all_unless (λ (u : Told). MessageFits (told_message u)) x.cut q.downs (t ∷ []) h.downs_fit ((laws.plain c.xid (Changed (Failed status.Stale tt)) (kept.server.xids 0 c first) tt), tt);
           talk = λ uncut. subst (λ (b : Bool). IsTalk more n cs x (record q { downs = unless b q.downs (t ∷ []) }) h.seat) (sym uncut) (talks uncut (subst (λ (l : List Change). IsTalk book n l x q h.seat) waits (h.talk uncut)));
           contents = h.contents;
           lengths = h.lengths;

@@ -6,12 +6,12 @@ use Rattle.chunk_calls.specs.Files as the_files
 use Rattle.server_core.specs.Steps.{sends}
 use Rattle.client_state.specs.State as client
 use Rattle.kept_promise.proofs.Common.{slice_get, cond, ◌==◌, at, Temp, Change, TakenCall, Core, Session, numbered, with_numbered, hashed_of, Book, Call, Call.Lease, Call.Hash, Call.Read, Call.Make, Call.Name, Call.Send, Call.Walks, Call.Commit, Ask, Queue}
-use Rattle.kept_promise.proofs.Lists.{some_is, nothing_there, same_or_not, of_appended, count_more, false_and_true}
+use Rattle.kept_promise.proofs.Lists.{some_is, nothing_there, same_or_not, of_appended, count_more, false_and_true, all_map}
 use Rattle.kept_promise.proofs.Keys.{times, times_append, own, on_way, change_key, ask_key, told_key}
 use Rattle.kept_promise.proofs.Messages.{job, AllAsks, Rising, IsAsked, IsAnswer, IsCommit, IsPiece, WaitsFor, TempUnder, content_wanted}
 use Rattle.kept_promise.proofs.Growth.{there_later}
 use Rattle.kept_promise.proofs.History.{onward, grows_same, goes_same, still_same}
-use Rattle.kept_promise.proofs.Later.{waits_later, all_asks, all_tolds, answer_later, has_fetch_later, commit_later, close_later, seat_later, Stays, Spares}
+use Rattle.kept_promise.proofs.Later.{waits_later, answer_later, has_fetch_later, commit_later, close_later, seat_later, Stays, Spares}
 use Rattle.kept_promise.proofs.Taken.{finds_more, under_more, answer_found, has_fetch_found, times_map_append}
 use Rattle.kept_promise.proofs.Turns.{Around, around_same, around_with, turned_core, kept_turn}
 use Rattle.kept_promise.proofs.Shelf.{IsShelf}
@@ -155,7 +155,7 @@ kept_coming book k qs n now x q a us temps d sessions after g comes around queue
               under = under_more talk.floor x.taken z talk.under rising.0;
               rising = rising.1;
               asked = (subst (AllAsks (IsAsked (job c))) g.first talk.asked).1;
-              answers = all_tolds (IsAnswer book x.taken x.closing (job c)) (IsAnswer more (x.taken ++ z ∷ []) x.closing (job c)) (λ u w. answer_found more x.taken (x.taken ++ z ∷ []) x.closing (job c) u finds (answer_later book more None None x.taken x.closing (job c) u grows spares w)) q.downs talk.answers;
+              answers = all_map (IsAnswer book x.taken x.closing (job c)) (IsAnswer more (x.taken ++ z ∷ []) x.closing (job c)) (λ u w. answer_found more x.taken (x.taken ++ z ∷ []) x.closing (job c) u finds (answer_later book more None None x.taken x.closing (job c) u grows spares w)) q.downs talk.answers;
               fetch = has_fetch_found more x.taken (x.taken ++ z ∷ []) (job c) finds (has_fetch_later book more None None x.taken (job c) grows talk.fetch);
               balanced = record {
                 most = λ v. let b = talk.balanced.most v in let w = way_waits n v k.server.waiting d q a us g.first comes.session_is comes.key_is in omega (arith, b, w);
@@ -168,7 +168,7 @@ kept_coming book k qs n now x q a us temps d sessions after g comes around queue
             };
         contents = h.contents;
         lengths = h.lengths;
-        commits = (subst (AllAsks (IsCommit more x.closing x.cut (job c) h.contents)) g.first (all_asks (IsCommit book x.closing x.cut (job c) h.contents) (IsCommit more x.closing x.cut (job c) h.contents) (λ b w. commit_later book more None None x.closing x.cut (job c) (job c) h.contents b grows spares (λ u. refl) w) q.ups h.commits)).1;
+        commits = (subst (AllAsks (IsCommit more x.closing x.cut (job c) h.contents)) g.first (all_map (IsCommit book x.closing x.cut (job c) h.contents) (IsCommit more x.closing x.cut (job c) h.contents) (λ b w. commit_later book more None None x.closing x.cut (job c) (job c) h.contents b grows spares (λ u. refl) w) q.ups h.commits)).1;
         pieces = (subst (AllAsks (IsPiece (hashed_of book.moments) h.contents)) g.first h.pieces).1;
         temps = λ i o e lt is key. let w = comes.were i e is in h.temps w.0 o e lt w.1 key;
         temps_below = λ uncut. ((subst (AllAsks (λ b. TempUnder c.client.next_temp b.call)) g.first (h.temps_below uncut).0).1, λ i o e lt is key. let w = comes.were i e is in (h.temps_below uncut).1 w.0 o e lt w.1 key);

@@ -7,11 +7,11 @@ use Rattle.register_model.specs.declared.op.Outcome.TheVariants as told
 use Rattle.register_model.specs.declared.op.Word.TheVariants as words
 use Rattle.kept_promise.proofs.Common.{changes, slice_get, slice_set, Pending, Change, Stage, Op, Traffic, Core, Seat, Session, numbered, hashed_of, Book, Entries, Ask, Told, Queue, Word}
 use Rattle.kept_promise.proofs.Statements.{CallFits}
-use Rattle.kept_promise.proofs.Lists.{some_is, nothing_there, same_or_not, of_replaced, at_replaced, false_and_true}
+use Rattle.kept_promise.proofs.Lists.{some_is, nothing_there, same_or_not, of_replaced, at_replaced, false_and_true, all_map}
 use Rattle.kept_promise.proofs.Messages.{Job, job, stage_word, AllTolds, IsAsked, IsAnswer, Trying, FetchOf, IsPiece, TempUnder, CloseOf}
 use Rattle.kept_promise.proofs.Rights.{Caused, IsRight, open_not_close}
 use Rattle.kept_promise.proofs.History.{onward, Becomes, goes_becomes, still_becomes}
-use Rattle.kept_promise.proofs.Later.{all_asks, all_tolds, cached_later}
+use Rattle.kept_promise.proofs.Later.{cached_later}
 use Rattle.kept_promise.proofs.Turns.{Around, turned_core}
 use Rattle.kept_promise.proofs.Ordered.{AllFetching}
 use Rattle.kept_promise.proofs.OrderSteps.{orderly_ends, free_on, open_no_close}
@@ -108,8 +108,8 @@ kept_finds book k qs n x q t ts j g id s a cache tr seats after w cached around 
       still = still_becomes book 1 None (Some j.place) j.place of.op r of.there became g.kept.sound;
       made_here = λ p f. nothing_there p f;
       ended_here = λ p o e there. ap (λ (z : Op). z.client) (some_is o of.op (sym there ∙ ap (slice_get book.ops) (sym (some_is j.place p e)) ∙ of.there)) ∙ of.client;
-      old_asks = all_asks (λ v. v.xid < h.seat.client.next) (IsAsked (Some i)) (λ v lt. call_first h.seat.client.next i s a w.first refl v.xid v.call lt) q.ups (asks_below talk.floor q.ups h.seat.client.next talk.rising);
-      old_tolds = (subst (AllTolds (IsAnswer more x.taken x.closing (Some i))) g.first (all_tolds (λ v. v.xid < h.seat.client.next) (IsAnswer more x.taken x.closing (Some i)) (λ v lt. answer_first more x.taken x.closing h.seat.client.next i s a w.first refl v.xid v.reply lt) q.downs bound)).1;
+      old_asks = all_map (λ (v : Ask). v.xid < h.seat.client.next) (IsAsked (Some i)) (λ v lt. call_first h.seat.client.next i s a w.first refl v.xid v.call lt) q.ups (asks_below talk.floor q.ups h.seat.client.next talk.rising);
+      old_tolds = (subst (AllTolds (IsAnswer more x.taken x.closing (Some i))) g.first (all_map (λ (v : Told). v.xid < h.seat.client.next) (IsAnswer more x.taken x.closing (Some i)) (λ v lt. answer_first more x.taken x.closing h.seat.client.next i s a w.first refl v.xid v.reply lt) q.downs bound)).1;
       old_commits = no_commits more x.closing x.cut (Some i) h.contents q.ups w.quiet.ups;
       old_pending = λ m z f. nothing_there z (ap (λ (l : List Change). slice_get l m) (sym w.quiet.waiting) ∙ f);
       moves = w.moves;
