@@ -4,14 +4,15 @@ use Rattle.tree_reading.specs.Tree.{Tree}
 use Rattle.server_core.specs.State as server
 use Rattle.chunk_calls.specs.Files as the_files
 use Rattle.client_state.specs.State as client
-use Rattle.kept_promise.proofs.Common.{slice_get, Indexed, MessageFits, Temp, key_of, Change, File, TakenCall, Core, Session, numbered, unless, hashed_of, Book, value_at, Reply, Ask, Told, Queue, told_message, call_program, reply_program, version_at}
+use Rattle.register_model.specs.declared.op.Outcome.TheVariants as told
+use Rattle.kept_promise.proofs.Common.{slice_get, Indexed, MessageFits, Temp, key_of, Change, File, TakenCall, Core, Session, numbered, unless, hashed_of, Book, value_at, Reply, Ask, Told, Queue, told_message, call_program, reply_program, version_at, Entry, Op, Seat, Tree}
 use Rattle.kept_promise.proofs.Statements.{CallFits}
 use Rattle.kept_promise.proofs.Lists.{some_is, nothing_there, same_or_not, false_and_true, all_append, all_map, all_unless}
 use Rattle.kept_promise.proofs.Keys.{times, times_append, own, on_way, key, change_key, ask_key, told_key}
-use Rattle.kept_promise.proofs.Messages.{job, AllAsks, Rising, IsAsked, AnswerOf, IsAnswer, IsCommit, IsPiece, TempUnder, AreParts}
+use Rattle.kept_promise.proofs.Messages.{job, AllAsks, Rising, IsAsked, AnswerOf, IsAnswer, IsCommit, IsPiece, TempUnder, AreParts, Job, AllTolds, WaitsFor, CloseOf}
 use Rattle.kept_promise.proofs.Growth.{Grows, or_later, value_alike, version_alike, there_later}
-use Rattle.kept_promise.proofs.History.{Still, onward, grows_same, goes_same, still_same}
-use Rattle.kept_promise.proofs.Later.{answer_later, has_fetch_later, commit_later, close_later, waits_later, seat_later, Stays, Spares}
+use Rattle.kept_promise.proofs.History.{Still, onward, grows_same, goes_same, still_same, Goes}
+use Rattle.kept_promise.proofs.Later.{answer_later, has_fetch_later, commit_later, close_later, waits_later, seat_later, Stays, Spares, pieces_later, parts_later}
 use Rattle.kept_promise.proofs.Taken.{finds_more, under_more, answer_found, has_fetch_found, times_map_append}
 use Rattle.kept_promise.proofs.Turns.{Around, around_same, turned_core, kept_turn}
 use Rattle.kept_promise.proofs.Shelf.{IsShelf}
@@ -61,6 +62,137 @@ way_moved n y w q a us t e same =
     let seven : times y (told_key t ∷ []) ≡ times y (ask_key a ∷ []) = ap (λ k. times y (k ∷ [])) same in
     omega (arith, one, two, three, was, four, five, six, seven)
 
+-- the server, with what it makes of a call that it answers at once
+abbrev left_server : server.State → (moment : ℕ) → Tree → List Entry → List (ℕ × Temp) → Indexed → server.State
+left_server s moment tree journal temps index = record s { moment = moment; tree = tree; journal = journal; temps = temps; index = index }
+
+-- what a call that is taken is to show, of the book after it, where the server is this one then
+pub record Shows (book more : Book) (k : Core) (n : ℕ) (x : Session) (q : Queue) (a : Ask) (us : List Ask) (s : server.State) (r : Reply) (made : Option ℕ) (h : IsSession book k.seats k.server n x q) : Type 0 where
+  pub goes : Goes book more made None
+  pub server : IsServer more s
+  pub journal_is : more.journal ≡ s.journal
+  pub made_here : (p : ℕ) → made ≡ Some p → x.closing ≡ Some p
+  pub program : reply_program r ≡ call_program a.call
+  pub fits : MessageFits (told_message (record { xid = a.xid; reply = r }))
+  pub answer : x.cut ≡ false → AnswerOf more (x.taken ++ record { xid = a.xid; step = book.steps + 1 } ∷ []) x.closing (job h.seat) a.xid r
+  -- the facts of the session that speak of what it remembers
+  pub answers : x.cut ≡ false → AllTolds (IsAnswer more (x.taken ++ record { xid = a.xid; step = book.steps + 1 } ∷ []) x.closing (job h.seat)) q.downs
+  pub commits : AllAsks (IsCommit more x.closing x.cut (job h.seat) h.contents) us
+  pub closes : x.cut ≡ false → (j : Job) → job h.seat ≡ Some j → CloseOf more x.closing h.contents h.seat.client.next_temp j (client.local_bytes h.seat.client.opened j.file) j.stage
+  pub pending : (i : ℕ) (c : Change) → slice_get (own n k.server.waiting) i ≡ Some c → WaitsFor more c.session x.closing x.cut (job h.seat) c.xid c.file c.what
+  pub wanted : x.cut ≡ false → Wanted more (job h.seat) a.xid r
+  pub held : x.cut ≡ false → Held s.temps n us (unless x.cut q.downs (record { xid = a.xid; reply = r } ∷ [])) (locals_of h.seat.client) (job h.seat)
+  pub running : (p : ℕ) (o : Op) → slice_get more.ops p ≡ Some o → o.outcome ≡ told.Running → (e : Seat) × (j : Job) × (numbered k.seats o.client ≡ Some e) × (job e ≡ Some j) × (j.place ≡ p)
+
+-- and of the temporary files that it leaves
+pub record Leaves (book : Book) (k : Core) (n : ℕ) (x : Session) (q : Queue) (temps : List (ℕ × Temp)) (h : IsSession book k.seats k.server n x q) : Type 0 where
+  pub pieces : (i m : ℕ) (e : ℕ × Temp) → m < 4294967296 → slice_get temps i ≡ Some e → e.0 ≡ key_of n m → AreParts (hashed_of book.moments) (h.contents m) e.1.pieces × (key_of e.1.session e.1.fd ≡ e.0)
+  pub below : x.cut ≡ false → (i m : ℕ) (e : ℕ × Temp) → m < 4294967296 → slice_get temps i ≡ Some e → e.0 ≡ key_of n m → m < h.seat.client.next_temp
+  pub shelf : IsShelf temps
+  pub found : (o : ℕ) → (o ≡ n → ⊥) → SameFound k.server.temps temps o
+  pub others : (o i m : ℕ) (e : ℕ × Temp) → (o ≡ n → ⊥) → m < 4294967296 → slice_get temps i ≡ Some e → e.0 ≡ key_of o m → (j : ℕ) × (slice_get k.server.temps j ≡ Some e)
+
+pub kept_taken : (book more : Book) (k : Core) (qs : List Queue) (n moment : ℕ) (tree : Tree) (journal : List Entry) (temps : List (ℕ × Temp)) (index : Indexed) (x : Session) (q : Queue) (a : Ask) (us : List Ask) (r : Reply) (made : Option ℕ) (sessions : List Session) (after : List Queue)
+    → (kept : IsKept book k qs) → (at : numbered k.sessions n ≡ Some x) → (is : numbered qs n ≡ Some q) → q.ups ≡ a ∷ us → x.hung ≡ false
+    → Around k.sessions sessions n (took x a.xid (book.steps + 1)) → Around qs after n (put_down q us x.cut (record { xid = a.xid; reply = r }))
+    → Shows book more k n x q a us (left_server k.server moment tree journal temps index) r made (kept.sessions n x q at is) → Leaves book k n x q temps (kept.sessions n x q at is)
+    → IsKept more (turned_core more (left_server k.server moment tree journal temps index) k.seats sessions) after
+kept_taken book more k qs n moment tree journal temps index x q a us r made sessions after kept at is e unhung around queues shows leaves =
+    let h = kept.sessions n x q at is in
+    let s = left_server k.server moment tree journal temps index in
+    let g = shows.goes.grows in
+    let y = took x a.xid (book.steps + 1) in
+    let t : Told = record { xid = a.xid; reply = r } in
+    let c = h.seat in
+    let ups_of : (P : Ask → Type 0) → AllAsks P q.ups → P a × AllAsks P us = λ P all. subst (AllAsks P) e all in
+    kept_turn book more k qs s k.seats sessions after n x y (put_down q us x.cut t) c c made None (record {
+      at = at;
+      was = h.owner;
+      session_around = around;
+      queue_around = queues;
+      seat_around = around_same k.seats x.owner c h.owner;
+      owner = refl;
+      goes = shows.goes;
+      server = shows.server;
+      sessions_made = refl;
+      view = λ o apart. record { stands_is = refl; waiting = refl; temps = λ i m u lt at q. leaves.others o i m u apart lt at q; found = leaves.found o apart };
+      elsewhere = inl refl;
+      closing = λ p f. inl f;
+      made_here = shows.made_here;
+      ended_here = λ p o f. nothing_there p f;
+      session = record {
+        seat = c;
+        owner = h.owner;
+        here = h.here;
+        shut = λ cut. cut_downs x.cut cut (h.shut cut);
+        lost = λ hung. absurd (false_and_true x.hung unhung hung);
+        stands_is = h.stands_is;
+        ups_fit = (ups_of (λ b. CallFits b.xid b.call) h.ups_fit).1;
+        downs_fit = all_unless (λ (u : Told). MessageFits (told_message u)) x.cut q.downs (t ∷ []) h.downs_fit (shows.fits, tt);
+        talk = λ uncut. subst (λ (b : Bool). IsTalk more n k.server.waiting y (put_down q us b t) c) (sym uncut) (talks h shows uncut (h.talk uncut));
+        contents = h.contents;
+        lengths = h.lengths;
+        commits = shows.commits;
+        pieces = pieces_later (hashed_of book.moments) (hashed_of more.moments) h.contents us g.hashed (ups_of (IsPiece (hashed_of book.moments) h.contents) h.pieces).1;
+        temps = λ i m u lt w key_is. let o = leaves.pieces i m u lt w key_is in (parts_later (hashed_of book.moments) (hashed_of more.moments) (h.contents m) u.1.pieces g.hashed o.0, o.1);
+        temps_below = λ uncut. ((ups_of (λ b. TempUnder c.client.next_temp b.call) (h.temps_below uncut).0).1, leaves.below uncut);
+        closes = shows.closes;
+        pending = shows.pending;
+        single = let a1 = h.single in let b1 = commits_tail a us in let c1 = ap commits_in e in omega (arith, a1, b1, c1);
+        old = λ p f. let o = h.old p f in let u = g.each p o.0 o.1 in (u.0, u.1, u.2.client ∙ o.2);
+        orderly = λ uncut. subst (λ (b : Bool). Orderly more n temps b (put_down q us x.cut t) c) (sym unhung) (orderly_answered book more made None n k.server.temps temps x.cut q a us t c g e (shows.wanted uncut) (shows.held uncut) (subst (λ (b : Bool). Orderly book n k.server.temps b q c) unhung (h.orderly uncut)));
+      };
+      seat = seat_later book more made None k.sessions sessions x.owner c g stays (λ p o f. nothing_there p f) (kept.seats x.owner c h.owner);
+      running = shows.running;
+      shelf = leaves.shelf;
+      home = λ i d f. let z = kept.home i d f in homes z.0 d.session z.1 z.2;
+    }) shows.journal_is kept
+  where
+    cut_downs : (b : Bool) → b ≡ true → q.downs ≡ [] → unless b q.downs (record { xid = a.xid; reply = r } ∷ []) ≡ []
+    cut_downs true u none = none
+    cut_downs false u none = absurd cc
+
+    later_session : (z : Session) (m : ℕ) → numbered k.sessions m ≡ Some z → (v : Session) × (numbered sessions m ≡ Some v) × (v.owner ≡ z.owner) × (v.cut ≡ z.cut) × (v.hung ≡ z.hung)
+    later_session z m f = elim (same_or_not m n) [
+      | inr apart ↦ (z, around.others m apart ∙ f, refl, refl, refl)
+      | inl here ↦
+          let same : x ≡ z = some_is x z (sym at ∙ ap (numbered k.sessions) (sym here) ∙ f) in
+          (took x a.xid (book.steps + 1), ap (numbered sessions) here ∙ around.there, ap (λ (v : Session). v.owner) same, ap (λ (v : Session). v.cut) same, ap (λ (v : Session). v.hung) same)
+    ]
+
+    homes : (z : Session) (m : ℕ) → numbered k.sessions m ≡ Some z → z.hung ≡ false → (v : Session) × (numbered sessions m ≡ Some v) × (v.hung ≡ false)
+    homes z m f hung = let v = later_session z m f in (v.0, v.1, v.4 ∙ hung)
+
+    stays : Stays k.sessions sessions x.owner
+    stays m z f = let v = later_session z m f in (v.0, v.1, v.2, λ mine. v.3)
+
+    talks : (h : IsSession book k.seats k.server n x q) → Shows book more k n x q a us (left_server k.server moment tree journal temps index) r made h → x.cut ≡ false → IsTalk book n k.server.waiting x q h.seat → IsTalk more n k.server.waiting (took x a.xid (book.steps + 1)) (put_down q us false (record { xid = a.xid; reply = r })) h.seat
+    talks h shows uncut talk =
+        let g = shows.goes.grows in
+        let t : Told = record { xid = a.xid; reply = r } in
+        let z : TakenCall = record { xid = a.xid; step = book.steps + 1 } in
+        let finds = finds_more x.taken z in
+        let rising = subst (λ (l : List Ask). Rising talk.floor l h.seat.client.next) e talk.rising in
+        let keys : told_key t ≡ ask_key a = ap (key a.xid) shows.program in
+        record {
+          floor = a.xid + 1;
+          under = under_more talk.floor x.taken z talk.under rising.0;
+          rising = rising.1;
+          asked = (subst (AllAsks (IsAsked (job h.seat))) e talk.asked).1;
+          answers = all_append (IsAnswer more (x.taken ++ z ∷ []) x.closing (job h.seat)) q.downs (t ∷ []) (shows.answers uncut) (shows.answer uncut, tt);
+          fetch = has_fetch_found more x.taken (x.taken ++ z ∷ []) (job h.seat) finds (has_fetch_later book more made None x.taken (job h.seat) g talk.fetch);
+          balanced = record {
+            most = λ v. let m = talk.balanced.most v in let w = way_moved n v k.server.waiting q a us t e keys in omega (arith, m, w);
+            least = λ hung v. let m = talk.balanced.least hung v in let w = way_moved n v k.server.waiting q a us t e keys in omega (arith, m, w);
+            once = talk.balanced.once;
+            below = talk.balanced.below;
+            ours = talk.balanced.ours;
+          };
+          busy = talk.busy;
+        }
+
+-- ---- one that changes no file
+
 -- what a call that is answered at once is to show
 pub record Answers (book : Book) (k : Core) (n : ℕ) (x : Session) (q : Queue) (a : Ask) (temps : List (ℕ × Temp)) (r : Reply) (h : IsSession book k.seats k.server n x q) : Type 0 where
   pub program : reply_program r ≡ call_program a.call
@@ -83,95 +215,21 @@ kept_reply book k qs n moment x q a us temps index r sessions after kept at is e
     let h = kept.sessions n x q at is in
     let more = onward book 1 book.ops in
     let g = grows_same book 1 in
-    let y = took x a.xid (book.steps + 1) in
-    let t : Told = record { xid = a.xid; reply = r } in
-    let c = h.seat in
+    let z : TakenCall = record { xid = a.xid; step = book.steps + 1 } in
     let spares : Spares x.closing None = λ p u v. nothing_there p v in
-    let ups_of : (P : Ask → Type 0) → AllAsks P q.ups → P a × AllAsks P us = λ P all. subst (AllAsks P) e all in
-    kept_turn book more k qs (record k.server { moment = moment; temps = temps; index = index }) k.seats sessions after n x y (put_down q us x.cut t) c c None None (record {
-      at = at;
-      was = h.owner;
-      session_around = around;
-      queue_around = queues;
-      seat_around = around_same k.seats x.owner c h.owner;
-      owner = refl;
+    kept_taken book more k qs n moment k.server.tree k.server.journal temps index x q a us r None sessions after kept at is e unhung around queues (record {
       goes = goes_same book 1 kept.sound;
       server = server_still book more None None k.server moment temps index g (still_same book 1 kept.sound) kept.server;
-      sessions_made = refl;
-      view = λ o apart. record { stands_is = refl; waiting = refl; temps = λ i m u lt at q. shows.others o i m u apart lt at q; found = shows.found o apart };
-      elsewhere = inl refl;
-      closing = λ p f. inl f;
+      journal_is = kept.journal;
       made_here = λ p f. nothing_there p f;
-      ended_here = λ p o f. nothing_there p f;
-      session = record {
-        seat = c;
-        owner = h.owner;
-        here = h.here;
-        shut = λ cut. cut_downs x.cut cut (h.shut cut);
-        lost = λ hung. absurd (false_and_true x.hung unhung hung);
-        stands_is = h.stands_is;
-        ups_fit = (ups_of (λ b. CallFits b.xid b.call) h.ups_fit).1;
-        downs_fit = all_unless (λ (u : Told). MessageFits (told_message u)) x.cut q.downs (t ∷ []) h.downs_fit (shows.fits, tt);
-        talk = λ uncut. subst (λ (b : Bool). IsTalk more n k.server.waiting y (put_down q us b t) c) (sym uncut) (talks h shows uncut (h.talk uncut));
-        contents = h.contents;
-        lengths = h.lengths;
-        commits = (ups_of (IsCommit more x.closing x.cut (job c) h.contents) (all_map (IsCommit book x.closing x.cut (job c) h.contents) (IsCommit more x.closing x.cut (job c) h.contents) (λ b m. commit_later book more None None x.closing x.cut (job c) (job c) h.contents b g spares (λ u. refl) m) q.ups h.commits)).1;
-        pieces = (ups_of (IsPiece (hashed_of book.moments) h.contents) h.pieces).1;
-        temps = shows.pieces;
-        temps_below = λ uncut. ((ups_of (λ b. TempUnder c.client.next_temp b.call) (h.temps_below uncut).0).1, shows.below uncut);
-        closes = λ uncut j f. close_later book more None None x.closing h.contents c.client.next_temp j (client.local_bytes c.client.opened j.file) j.stage g spares (h.closes uncut j f);
-        pending = λ i d f. waits_later book more None None x.closing x.cut (job c) (job c) d.session d.xid d.file d.what g spares (λ u. refl) (h.pending i d f);
-        single = let a1 = h.single in let b1 = commits_tail a us in let c1 = ap commits_in e in omega (arith, a1, b1, c1);
-        old = λ p f. let o = h.old p f in let u = g.each p o.0 o.1 in (u.0, u.1, u.2.client ∙ o.2);
-        orderly = λ uncut. subst (λ (b : Bool). Orderly more n temps b (put_down q us x.cut t) c) (sym unhung) (orderly_answered book more None None n k.server.temps temps x.cut q a us t c g e (shows.wanted uncut) (shows.held uncut us e) (subst (λ (b : Bool). Orderly book n k.server.temps b q c) unhung (h.orderly uncut)));
-      };
-      seat = seat_later book more None None k.sessions sessions x.owner c g stays (λ p o f. nothing_there p f) (kept.seats x.owner c h.owner);
+      program = shows.program;
+      fits = shows.fits;
+      answer = shows.answer;
+      answers = λ uncut. all_map (IsAnswer book x.taken x.closing (job h.seat)) (IsAnswer more (x.taken ++ z ∷ []) x.closing (job h.seat)) (λ u f. answer_found more x.taken (x.taken ++ z ∷ []) x.closing (job h.seat) u (finds_more x.taken z) (answer_later book more None None x.taken x.closing (job h.seat) u g spares f)) q.downs (h.talk uncut).answers;
+      commits = (subst (AllAsks (IsCommit more x.closing x.cut (job h.seat) h.contents)) e (all_map (IsCommit book x.closing x.cut (job h.seat) h.contents) (IsCommit more x.closing x.cut (job h.seat) h.contents) (λ b m. commit_later book more None None x.closing x.cut (job h.seat) (job h.seat) h.contents b g spares (λ u. refl) m) q.ups h.commits)).1;
+      closes = λ uncut j f. close_later book more None None x.closing h.contents h.seat.client.next_temp j (client.local_bytes h.seat.client.opened j.file) j.stage g spares (h.closes uncut j f);
+      pending = λ i d f. waits_later book more None None x.closing x.cut (job h.seat) (job h.seat) d.session d.xid d.file d.what g spares (λ u. refl) (h.pending i d f);
+      wanted = shows.wanted;
+      held = λ uncut. shows.held uncut us e;
       running = kept.running;
-      shelf = shows.shelf;
-      home = λ i d f. let z = kept.home i d f in homes z.0 d.session z.1 z.2;
-    }) kept.journal kept
-  where
-    cut_downs : (b : Bool) → b ≡ true → q.downs ≡ [] → unless b q.downs (record { xid = a.xid; reply = r } ∷ []) ≡ []
-    cut_downs true u none = none
-    cut_downs false u none = absurd cc
-
-    later_session : (z : Session) (m : ℕ) → numbered k.sessions m ≡ Some z → (v : Session) × (numbered sessions m ≡ Some v) × (v.owner ≡ z.owner) × (v.cut ≡ z.cut) × (v.hung ≡ z.hung)
-    later_session z m f = elim (same_or_not m n) [
-      | inr apart ↦ (z, around.others m apart ∙ f, refl, refl, refl)
-      | inl here ↦
-          let same : x ≡ z = some_is x z (sym at ∙ ap (numbered k.sessions) (sym here) ∙ f) in
-          (took x a.xid (book.steps + 1), ap (numbered sessions) here ∙ around.there, ap (λ (v : Session). v.owner) same, ap (λ (v : Session). v.cut) same, ap (λ (v : Session). v.hung) same)
-    ]
-
-    homes : (z : Session) (m : ℕ) → numbered k.sessions m ≡ Some z → z.hung ≡ false → (v : Session) × (numbered sessions m ≡ Some v) × (v.hung ≡ false)
-    homes z m f hung = let v = later_session z m f in (v.0, v.1, v.4 ∙ hung)
-
-    stays : Stays k.sessions sessions x.owner
-    stays m z f = let v = later_session z m f in (v.0, v.1, v.2, λ mine. v.3)
-
-    talks : (h : IsSession book k.seats k.server n x q) → Answers book k n x q a temps r h → x.cut ≡ false → IsTalk book n k.server.waiting x q h.seat → IsTalk (onward book 1 book.ops) n k.server.waiting (took x a.xid (book.steps + 1)) (put_down q us false (record { xid = a.xid; reply = r })) h.seat
-    talks h shows uncut talk =
-        let more = onward book 1 book.ops in
-        let g = grows_same book 1 in
-        let t : Told = record { xid = a.xid; reply = r } in
-        let z : TakenCall = record { xid = a.xid; step = book.steps + 1 } in
-        let finds = finds_more x.taken z in
-        let rising = subst (λ (l : List Ask). Rising talk.floor l h.seat.client.next) e talk.rising in
-        let spares : Spares x.closing None = λ p u v. nothing_there p v in
-        let keys : told_key t ≡ ask_key a = ap (key a.xid) shows.program in
-        record {
-          floor = a.xid + 1;
-          under = under_more talk.floor x.taken z talk.under rising.0;
-          rising = rising.1;
-          asked = (subst (AllAsks (IsAsked (job h.seat))) e talk.asked).1;
-          answers = all_append (IsAnswer more (x.taken ++ z ∷ []) x.closing (job h.seat)) q.downs (t ∷ []) (all_map (IsAnswer book x.taken x.closing (job h.seat)) (IsAnswer more (x.taken ++ z ∷ []) x.closing (job h.seat)) (λ u f. answer_found more x.taken (x.taken ++ z ∷ []) x.closing (job h.seat) u finds (answer_later book more None None x.taken x.closing (job h.seat) u g spares f)) q.downs talk.answers) (shows.answer uncut, tt);
-          fetch = has_fetch_found more x.taken (x.taken ++ z ∷ []) (job h.seat) finds (has_fetch_later book more None None x.taken (job h.seat) g talk.fetch);
-          balanced = record {
-            most = λ v. let m = talk.balanced.most v in let w = way_moved n v k.server.waiting q a us t e keys in omega (arith, m, w);
-            least = λ hung v. let m = talk.balanced.least hung v in let w = way_moved n v k.server.waiting q a us t e keys in omega (arith, m, w);
-            once = talk.balanced.once;
-            below = talk.balanced.below;
-            ours = talk.balanced.ours;
-          };
-          busy = talk.busy;
-        }
+    }) (record { pieces = shows.pieces; below = shows.below; shelf = shows.shelf; found = shows.found; others = shows.others })
