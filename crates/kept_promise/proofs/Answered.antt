@@ -10,7 +10,7 @@ use Rattle.path_calls.specs.declared.walk.Goal.TheVariants as goal
 use Rattle.path_calls.specs.declared.walk.Walk.{Walk}
 use Rattle.open_close.specs.Walking.{is_its}
 use Rattle.wire.specs.declared.message.Program.TheVariants as program
-use Rattle.kept_promise.proofs.Common.{slice_get, cond, ◌==◌, ◌||◌, Answer, Attr, Committed, Hashes, Piece, waiting, Pending, Program, has_call, store_pending, read_pending, store_at, read_at, ReadCall, StoreCall, Reply, Reply.Versioned, Reply.Hashed, Reply.Bytes, Reply.Made, Reply.Named, Reply.Stored, Reply.Changed, Told, reply_program, Reply.Walked, NameReply, NameReply.LookedUp, NameReply.Shown, NameReply.Listed, NameReply.MadeFile, NameReply.MadeDir, NameReply.NoDir, NameReply.Gone, NameReply.Renamed, name_answer}
+use Rattle.kept_promise.proofs.Common.{slice_get, cond, ◌==◌, ◌||◌, Answer, Attr, Committed, Hashes, Piece, waiting, Pending, Program, has_call, store_pending, read_pending, store_at, read_at, ReadCall, StoreCall, Reply, Reply.Versioned, Reply.Hashed, Reply.Bytes, Reply.Made, Reply.Named, Reply.Stored, Reply.Changed, Told, reply_program, Reply.Walked, NameReply, NameReply.LookedUp, name_answer}
 use Rattle.kept_promise.proofs.Lists.{some_is, nothing_there, in_front, false_and_true}
 use Rattle.kept_promise.proofs.Keys.{times, code_of}
 use Rattle.kept_promise.proofs.PathNames.{IsAsking}
@@ -63,13 +63,7 @@ read_here (u ∷ us) i t e = by (u.xid == t.xid) refl i e (λ k. read_here us k 
 
 walked_code : (r : NameReply) → 8 ≤ code_of (reply_program (Walked r))
 walked_code (LookedUp a) = omega arith
-walked_code (Shown a) = omega arith
-walked_code (Listed a) = omega arith
-walked_code (MadeFile a) = omega arith
-walked_code (MadeDir a) = omega arith
-walked_code (NoDir a) = omega arith
-walked_code (Gone a) = omega arith
-walked_code (Renamed a) = omega arith
+walked_code _ = omega arith
 
 pub lease_reply : (r : Reply) → 7 ≡ code_of (reply_program r) → (a : Answer Leased Unit) × (r ≡ Versioned a)
 lease_reply (Versioned a) e = (a, refl)
@@ -111,15 +105,7 @@ read_reply _ e = absurd (omega (arith, e))
 pub walk_code : (dir : ℕ) (left : List (List ℕ)) (g : Goal) → IsAsking g → 8 ≤ code_of (program.Nfs (nfs_proc (call_at dir left g)))
 walk_code dir (n ∷ ns) g h = omega arith
 walk_code dir [] (goal.Find n) h = omega arith
-walk_code dir [] (goal.Look n) h = omega arith
-walk_code dir [] goal.LookRoot h = omega arith
-walk_code dir [] (goal.List p) h = omega arith
-walk_code dir [] (goal.Make n) h = omega arith
-walk_code dir [] (goal.MakeDir n) h = omega arith
-walk_code dir [] (goal.Remove n) h = omega arith
-walk_code dir [] (goal.RemoveDir n) h = omega arith
-walk_code dir [] (goal.RenameFrom n to) h = omega arith
-walk_code dir [] (goal.RenameTo from n to) h = omega arith
+walk_code dir _ _ h = omega arith
 
 pub walk_reply : (r : Reply) → 8 ≤ code_of (reply_program r) → (m : NameReply) × (r ≡ Walked m)
 walk_reply (Walked m) e = (m, refl)

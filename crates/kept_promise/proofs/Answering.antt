@@ -164,15 +164,10 @@ few_moves [] n to few more = omega (arith, more)
 few_moves (d ∷ ds) n to few more = omega (arith, few, more)
 
 few_calls : (k : PathCommand) → HasNames k → walk_left (begun k) ≤ 999998
-few_calls (path.Find s) h = let few = h.0.1 in omega (arith, few)
-few_calls (path.Look s) h = let few = h.0.1 in omega (arith, few)
 few_calls path.LookRoot h = omega arith
 few_calls (path.List p) h = let few = h.1 in omega (arith, few)
-few_calls (path.Make s) h = let few = h.0.1 in omega (arith, few)
-few_calls (path.MakeDir s) h = let few = h.0.1 in omega (arith, few)
-few_calls (path.Remove s) h = let few = h.0.1 in omega (arith, few)
-few_calls (path.RemoveDir s) h = let few = h.0.1 in omega (arith, few)
 few_calls (path.Rename s t) h = few_moves s.dirs s.name t h.0.0.1 h.1.0.1
+few_calls _ h = let few = h.0.1 in omega (arith, few)
 
 walk_asks : (s : client.State) (k : PathCommand) → HasNames k → may_walk s (begun k) ≡ may_ask s
 walk_asks s k names = by (may_ask s) refl

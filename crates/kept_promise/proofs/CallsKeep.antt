@@ -13,7 +13,7 @@ use Rattle.server_core.specs.Closing.{answers, names_unless, names_bytes, looked
 use Rattle.server_core.specs.Steps.{sends}
 use Rattle.chunk_calls.specs.Writing.{bytes_known, cond_fault}
 use Rattle.server_core.specs.declared.event.Event.TheVariants as event
-use Rattle.kept_promise.proofs.Common.{Temp, size_most, temp_at, room_fault, piece_fault, assembled, without_temp, nat_lt, if◌then◌else◌, Failed, Status, Body, Message, Indexed, Node, directory, file, node_of, File, Change, ServerStep, server_step, called, got_if, stands, at, makes, makes_unless, commits, commits_to, commits_whole, has_waiting, is_full, Tree, Ask, ask_message, Call, Call.Lease, Call.Hash, Call.Read, Call.Make, Call.Name, Call.Send, Call.Commit, Call.Walks, Entry}
+use Rattle.kept_promise.proofs.Common.{Temp, size_most, temp_at, room_fault, piece_fault, assembled, without_temp, nat_lt, if◌then◌else◌, Failed, Status, Body, Message, Indexed, Node, directory, file, node_of, File, Change, ServerStep, server_step, called, got_if, stands, at, makes, makes_unless, commits, commits_to, commits_whole, has_waiting, is_full, Tree, Ask, ask_message, Call, Call.Read, Call.Make, Call.Walks, Entry}
 use Rattle.server_core.specs.declared.change.Wanted.TheVariants as wanted
 use Rattle.server_core.specs.Step.{asks, asks_tree}
 use Rattle.tree_calls.specs.Waiting.{calls}
@@ -72,17 +72,13 @@ IsOfFiles (message.Call xid (body.Nfs m)) = ⊥
 IsOfFiles m = Unit {0}
 
 walk_of_files : (xid dir : ℕ) (left : List (List ℕ)) (g : Goal) → IsAhead left g → makes_at left g ≡ false → IsOfFiles (message.Call xid (body.Nfs (call_at dir left g)))
-walk_of_files xid dir (n ∷ ns) g asks none = tt
-walk_of_files xid dir [] (goal.Find name) asks none = tt
-walk_of_files xid dir [] (goal.Look name) asks none = tt
-walk_of_files xid dir [] goal.LookRoot asks none = tt
-walk_of_files xid dir [] (goal.List p) asks none = tt
 walk_of_files xid dir [] (goal.Make name) asks none = absurd cc
 walk_of_files xid dir [] (goal.MakeDir name) asks none = absurd cc
 walk_of_files xid dir [] (goal.Remove name) asks none = absurd cc
 walk_of_files xid dir [] (goal.RemoveDir name) asks none = absurd cc
 walk_of_files xid dir [] (goal.RenameFrom name to) asks none = absurd asks
 walk_of_files xid dir [] (goal.RenameTo from name to) asks none = absurd cc
+walk_of_files xid dir _ _ asks none = tt
 
 -- a call that is taken may make or remove something
 abbrev pub makes_call : Call → Bool
@@ -94,14 +90,8 @@ pub is_of_files : (a : Ask) → CallFits a.xid a.call → makes_call a.call ≡ 
 is_of_files a fits none = by a.call fits none
   where
     by : (c : Call) → CallFits a.xid c → makes_call c ≡ false → IsOfFiles (ask_message (record { xid = a.xid; call = c }))
-    by (Lease f) fits none = tt
-    by (Hash f o) fits none = tt
-    by (Read f c) fits none = tt
-    by (Make m f) fits none = tt
-    by (Name m c) fits none = tt
-    by (Send m start bytes) fits none = tt
-    by (Commit m f size) fits none = tt
     by (Walks w) fits none = walk_of_files a.xid w.dir w.left w.goal fits.1.ahead none
+    by _ fits none = tt
 
 -- the others are the last calls of walks
 pub walk_made : (c : Call) → makes_call c ≡ true → (w : Walk) × (c ≡ Walks w) × (is_making w ≡ true)

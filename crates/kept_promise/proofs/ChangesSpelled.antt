@@ -1,5 +1,5 @@
 -- What the server answers to a call that makes, removes or renames fits its record, where its tree is within the limits, before and after.
-use Rattle.std.proofs.Common.{◌≡◌, ℕ, ◌<◌, ◌^◌, List, [], ◌∷◌, Option, Some, None, Result, Ok, Err, Bool, true, false, refl, sym, ap, subst, arith, lit<}
+use Rattle.std.proofs.Common.{◌≡◌, ℕ, ◌<◌, ◌^◌, List, [], Option, Some, None, Result, Ok, Err, Bool, true, false, refl, sym, ap, subst, arith, lit<}
 use Rattle.std.specs.Option.{option_map}
 use Rattle.xdr_codec.specs.Xdr.{bool_fits}
 use Rattle.xdr_codec.specs.Attr.{attr_form}
@@ -102,14 +102,7 @@ making_answers_fit = λ xid t held w x h k making. by xid t held w.dir w.left w.
     by xid t held dir [] (goal.Make n) x h k e = created_fits t (create t held dir n mode.Guarded).0 xid dir (create t held dir n mode.Guarded).1 h k x
     by xid t held dir [] (goal.MakeDir n) x h k e = made_directory_fits t (mkdir t held dir n).0 xid dir (mkdir t held dir n).1 h k x
     by xid t held dir [] (goal.RemoveDir n) x h k e = removed_directory_fits t (rmdir t held dir n).0 xid dir (rmdir t held dir n).1 h k x
-    by xid t held dir [] (goal.Find n) x h k e = absurd cc
-    by xid t held dir [] (goal.Look n) x h k e = absurd cc
-    by xid t held dir [] goal.LookRoot x h k e = absurd cc
-    by xid t held dir [] (goal.List p) x h k e = absurd cc
-    by xid t held dir [] (goal.Remove n) x h k e = absurd cc
-    by xid t held dir [] (goal.RenameFrom n to) x h k e = absurd cc
-    by xid t held dir [] (goal.RenameTo from n to) x h k e = absurd cc
-    by xid t held dir (m ∷ ms) g x h k e = absurd cc
+    by xid t held dir _ _ x h k e = absurd cc
 
 -- ---- and one that removes or renames
 

@@ -76,23 +76,7 @@ turn_tells w _ = refl
 
 line_tells : (dir : ℕ) (l : Line) → turn_told (turn_of dir l) ≡ event_by (Some l)
 line_tells dir line.Skipped = refl
-line_tells dir line.Version = refl
-line_tells dir (line.Term n) = refl
-line_tells dir (line.Drift n) = refl
-line_tells dir (line.Clients n) = refl
-line_tells dir (line.Dir spot) = refl
-line_tells dir (line.File spot content) = refl
-line_tells dir (line.Join m r at) = refl
-line_tells dir (line.Do m r d) = refl
-line_tells dir (line.Up n a at) = refl
-line_tells dir (line.Down n a r) = refl
-line_tells dir (line.Settle at) = refl
-line_tells dir (line.Cut m r) = refl
-line_tells dir (line.Hang n at) = refl
-line_tells dir (line.Pass n rounds at r) = refl
-line_tells dir (line.Forge w key file offset count) = refl
-line_tells dir (line.Clear w) = refl
-line_tells dir (line.Evict m file) = refl
+line_tells dir _ = refl
 
 -- ---- of all lines
 
@@ -138,23 +122,7 @@ lines_told (l ∷ ls) = by (line_of l) ∙ ap (λ (z : List Told). command_by (l
   where
     by_line : (x : Line) → flat_map commanded (event_by (Some x) ++ events_of ls) ≡ command_by (Some x) ++ flat_map commanded (events_of ls)
     by_line line.Skipped = refl
-    by_line line.Version = refl
-    by_line (line.Term n) = refl
-    by_line (line.Drift n) = refl
-    by_line (line.Clients n) = refl
-    by_line (line.Dir spot) = refl
-    by_line (line.File spot content) = refl
-    by_line (line.Join m r at) = refl
-    by_line (line.Do m r d) = refl
-    by_line (line.Up n a at) = refl
-    by_line (line.Down n a r) = refl
-    by_line (line.Settle at) = refl
-    by_line (line.Cut m r) = refl
-    by_line (line.Hang n at) = refl
-    by_line (line.Pass n rounds at r) = refl
-    by_line (line.Forge w key file offset count) = refl
-    by_line (line.Clear w) = refl
-    by_line (line.Evict m file) = refl
+    by_line _ = refl
 
     by : (o : Option Line) → flat_map commanded (event_by o ++ events_of ls) ≡ command_by o ++ flat_map commanded (events_of ls)
     by None = refl

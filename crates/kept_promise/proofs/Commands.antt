@@ -359,41 +359,22 @@ arrived_word [] n to = refl
 arrived_word (d ∷ ds) n to = refl
 
 pub begun_word : (k : PathCommand) → path_word k ≡ goal_word (walk_begun k).goal
-begun_word (path.Find s) = refl
-begun_word (path.Look s) = refl
-begun_word path.LookRoot = refl
-begun_word (path.List p) = refl
-begun_word (path.Make s) = refl
-begun_word (path.MakeDir s) = refl
-begun_word (path.Remove s) = refl
-begun_word (path.RemoveDir s) = refl
 begun_word (path.Rename s t) = arrived_word s.dirs s.name t
+begun_word _ = refl
 
 -- a make, a remove and a rename may change a file
 walk_closing : (k : PathCommand) → (closing : Option ℕ) (place : ℕ) → (closing_with closing place (path_word k) None ≡ closing) ⊎ (closing_with closing place (path_word k) None ≡ Some place)
-walk_closing (path.Find s) closing place = inl refl
-walk_closing (path.Look s) closing place = inl refl
-walk_closing path.LookRoot closing place = inl refl
-walk_closing (path.List p) closing place = inl refl
 walk_closing (path.Make s) closing place = inr refl
-walk_closing (path.MakeDir s) closing place = inl refl
 walk_closing (path.Remove s) closing place = inr refl
-walk_closing (path.RemoveDir s) closing place = inl refl
 walk_closing (path.Rename s t) closing place = inr refl
+walk_closing _ closing place = inl refl
 
 changing_closing : (what : Word) (closing : Option ℕ) (place : ℕ) → changes what ≡ true → closing_with closing place what None ≡ Some place
 changing_closing what closing place e = ap (λ (b : Bool). if b then Some place else closing) e
 
 walk_remote : (k : PathCommand) → Rattle.kept_promise.proofs.Rights.is_remote (path_word k) ≡ true
 walk_remote (path.Find s) = refl
-walk_remote (path.Look s) = refl
-walk_remote path.LookRoot = refl
-walk_remote (path.List p) = refl
-walk_remote (path.Make s) = refl
-walk_remote (path.MakeDir s) = refl
-walk_remote (path.Remove s) = refl
-walk_remote (path.RemoveDir s) = refl
-walk_remote (path.Rename s t) = refl
+walk_remote _ = refl
 
 walk_begins : (book : Book) (k : Core) (qs : List Queue) (c : ℕ) (seat : Seat) (p : PathCommand) → HasNames p → (g : Idle book k qs c seat) → Linked book k qs c seat → seat.client.next < 4293967297
     → Answers book k qs c seat (path_word p) 0 [] (asks_next seat.client (walk_begun p))
@@ -513,14 +494,7 @@ idle_does book k qs c now seat (command.Named n) fits g = subst (λ (l : List �
   where
     no_value : (n : PathCommand) (e : Option Rattle.client_state.specs.declared.step.Ended.Ended) → Rattle.trace_ends.specs.Commands.value_at_begin seat.client (path_word n) 0 e ≡ []
     no_value (path.Find s) e = refl
-    no_value (path.Look s) e = refl
-    no_value path.LookRoot e = refl
-    no_value (path.List p) e = refl
-    no_value (path.Make s) e = refl
-    no_value (path.MakeDir s) e = refl
-    no_value (path.Remove s) e = refl
-    no_value (path.RemoveDir s) e = refl
-    no_value (path.Rename s t) e = refl
+    no_value _ e = refl
 idle_does book k qs c now seat (command.Abandon file) fits g = local_one book k qs c seat words.Abandon file [] (abandons seat.client file) g (λ l at. own_with book k qs c seat words.Abandon file [] (client.without_local seat.client.opened file) outcome.Done refl g (gone book k qs c seat file g))
 
 busy_step : (s : client.State) (t : Task) (d : Command) (now : ℕ) → s.task ≡ Some t → command_step s d now ≡ (s, ends outcome.Busy 0 0)

@@ -35,13 +35,8 @@ ByServer (command.Named k) u = Unit {0}
 ByServer d u = FromServer u
 
 pub by_server : (d : Command) (u : Outcome) → FromServer u → ByServer d u
-by_server (command.Open f) u h = h
-by_server (command.Write f offset content) u h = h
-by_server (command.Trunc f size) u h = h
-by_server (command.Read f offset count) u h = h
-by_server (command.Close f) u h = h
-by_server (command.Abandon f) u h = h
 by_server (command.Named k) u h = tt
+by_server _ u h = h
 
 -- what a close is to store
 abbrev pub Stores : Command → Op → Option (List ℕ) → Type 0
@@ -54,13 +49,8 @@ HasIdFile (command.Named k) o = Unit {0}
 HasIdFile d o = o.file ≡ file_of d
 
 pub id_file : (d : Command) (o : Op) → o.file ≡ file_of d → HasIdFile d o
-id_file (command.Open f) o e = e
-id_file (command.Write f offset content) o e = e
-id_file (command.Trunc f size) o e = e
-id_file (command.Read f offset count) o e = e
-id_file (command.Close f) o e = e
-id_file (command.Abandon f) o e = e
 id_file (command.Named k) o e = tt
+id_file _ o e = e
 
 -- what became of a command whose client's own answer is this one, or none
 abbrev pub Came : Deed → Op → Option (List ℕ) → Option Outcome → Type 0
@@ -125,22 +115,12 @@ pub stays_same : (d : Command) (o : Op) → StaysBy d o o
 stays_same d o = record { file = λ h. h; asked = λ h. h }
 
 pub stays_by : (d : Command) (o r : Op) → r.file ≡ o.file → (FromServer o.outcome → FromServer r.outcome) → StaysBy d o r
-stays_by (command.Open f) o r e h = record { file = λ x. e ∙ x; asked = h }
-stays_by (command.Write f offset content) o r e h = record { file = λ x. e ∙ x; asked = h }
-stays_by (command.Trunc f size) o r e h = record { file = λ x. e ∙ x; asked = h }
-stays_by (command.Read f offset count) o r e h = record { file = λ x. e ∙ x; asked = h }
-stays_by (command.Close f) o r e h = record { file = λ x. e ∙ x; asked = h }
-stays_by (command.Abandon f) o r e h = record { file = λ x. e ∙ x; asked = h }
 stays_by (command.Named k) o r e h = record { file = λ x. x; asked = λ x. x }
+stays_by _ o r e h = record { file = λ x. e ∙ x; asked = h }
 
 pub stays_named : (d : Command) (o r : Op) → IsOnNames d → StaysBy d o r
 stays_named (command.Named k) o r n = record { file = λ x. x; asked = λ x. x }
-stays_named (command.Open f) o r n = absurd n
-stays_named (command.Write f offset content) o r n = absurd n
-stays_named (command.Trunc f size) o r n = absurd n
-stays_named (command.Read f offset count) o r n = absurd n
-stays_named (command.Close f) o r n = absurd n
-stays_named (command.Abandon f) o r n = absurd n
+stays_named _ o r n = absurd n
 
 abbrev pub AllStay : List Deed → List Op → List Op → Type 0
 AllStay ds ops rs = (i : ℕ) (d : Deed) (o r : Op) → slice_get ds i ≡ Some d → slice_get ops i ≡ Some o → slice_get rs i ≡ Some r → StaysBy d.command o r
@@ -238,12 +218,7 @@ came_moved step d o r l None is lt w m b h = (stores d.command w h.0, b.asked h.
 
     stores : (k : Command) → o.word ≡ word_of k → Stores k o l → Stores k r l
     stores (command.Close f) w s = s ∙ ap (λ z. Some z) (sym (m.value w))
-    stores (command.Open f) w s = s
-    stores (command.Write f offset content) w s = s
-    stores (command.Trunc f size) w s = s
-    stores (command.Read f offset count) w s = s
-    stores (command.Abandon f) w s = s
-    stores (command.Named t) w s = s
+    stores _ w s = s
 
 -- where a client was free all that it had begun before had ended
 pub local_before_same : (step : ℕ) (ds : List Deed) (ops rs : List Op) (i : ℕ) (d : Deed) (o : Op) (f : ℕ) → Rises ops → AreDeeds ds ops → AllMoved step ops rs → slice_get ds i ≡ Some d → slice_get ops i ≡ Some o → is_busy ops o ≡ false → local_before ds rs i d.client f ≡ local_before ds ops i d.client f

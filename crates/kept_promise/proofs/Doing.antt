@@ -134,12 +134,7 @@ one_new c step s d r None small none h =
 
     stores : (k : Command) → ValueIs s k → Stores k (record (begun c (word_of k) (file_of k) (value_at_begin s (word_of k) (file_of k) None) step) { traffic = counted (begun c (word_of k) (file_of k) (value_at_begin s (word_of k) (file_of k) None) step).traffic r.1.counts }) (local_of s (file_of k))
     stores (command.Close f) v = v
-    stores (command.Open f) v = tt
-    stores (command.Write f offset content) v = tt
-    stores (command.Trunc f size) v = tt
-    stores (command.Read f offset count) v = tt
-    stores (command.Abandon f) v = tt
-    stores (command.Named k) v = tt
+    stores _ v = tt
 
 -- ---- the step
 

@@ -72,13 +72,6 @@ open_cause book f o (told.Closed v n d) w e r s h = absurd (apart (sym h.0 ∙ w
   where
     apart : words.Close ≡ words.Open → ⊥
     apart e = absurd cc
-open_cause book f o (told.Piece n d) w e r s h = s
-open_cause book f o told.Done w e r s h = s
-open_cause book f o told.Busy w e r s h = s
-open_cause book f o told.NotOpen w e r s h = s
-open_cause book f o told.AlreadyOpen w e r s h = s
-open_cause book f o (told.TooBig n) w e r s h = s
-open_cause book f o told.NoLink w e r s h = s
 open_cause book f o told.PeerMemory w e r s h = h
 open_cause book f o (told.BadPeer n) w e r s h = h
 open_cause book f o told.Memory w e r s h = h
@@ -90,6 +83,7 @@ open_cause book f o (told.Seen a b c d) w e r s h = absurd (apart (sym h ∙ w))
   where
     apart : words.Look ≡ words.Open → ⊥
     apart e = absurd cc
+open_cause book f o _ w e r s h = s
 
 close_cause : (book : Book) (f : ℕ) (o : Op) (u : Outcome) → o.word ≡ words.Close → o.file ≡ f → FromServer u → Caused book o u → HasCause book (command.Close f) o u
 close_cause book f o (told.Closed v n d) w e s h = subst (λ (x : ℕ). IsClosed book x o v n d) e h.1
@@ -104,13 +98,6 @@ close_cause book f o (told.Changed a b) w e s h = absurd (apart (sym h.0 ∙ w))
   where
     apart : words.Open ≡ words.Close → ⊥
     apart e = absurd cc
-close_cause book f o (told.Piece n d) w e s h = s
-close_cause book f o told.Done w e s h = s
-close_cause book f o told.Busy w e s h = s
-close_cause book f o told.NotOpen w e s h = s
-close_cause book f o told.AlreadyOpen w e s h = s
-close_cause book f o (told.TooBig n) w e s h = s
-close_cause book f o told.NoLink w e s h = s
 close_cause book f o told.PeerMemory w e s h = h
 close_cause book f o (told.BadPeer n) w e s h = h
 close_cause book f o told.Memory w e s h = h
@@ -122,6 +109,7 @@ close_cause book f o (told.Seen a b c d) w e s h = absurd (apart (sym h ∙ w))
   where
     apart : words.Look ≡ words.Close → ⊥
     apart e = absurd cc
+close_cause book f o _ w e s h = s
 
 -- ---- a command's operation
 

@@ -61,13 +61,8 @@ came_well : (book : Book) (d : Deed) (o : Op) (l : Option (List ℕ)) (k : Comma
 came_well book d o None (command.Named n) e named lost runs h = named_well book n o o.outcome (named n refl) lost runs h.0
 came_well book d o (Some x) (command.Named n) e named lost runs h = named_well book n o o.outcome (named n refl) lost runs h.0
 came_well book d o None (command.Open f) e named lost runs h = opened_well book f o o.outcome lost runs h.0
-came_well book d o (Some x) (command.Open f) e named lost runs h = tt
-came_well book d o None (command.Close f) e named lost runs h = tt
 came_well book d o (Some x) (command.Close f) e named lost runs h = closed_well book f x o o.outcome lost runs h.0
-came_well book d o l (command.Write f offset content) e named lost runs h = tt
-came_well book d o l (command.Trunc f size) e named lost runs h = tt
-came_well book d o l (command.Read f offset count) e named lost runs h = tt
-came_well book d o l (command.Abandon f) e named lost runs h = tt
+came_well book d o _ _ e named lost runs h = tt
 
 pub ends_well : (book : Book) (d : Deed) (o : Op) (l : Option (List ℕ)) → ((n : PathCommand) → d.command ≡ command.Named n → (status : ℕ) → o.outcome ≡ told.Refused status → EndsNamed n (told.Refused status)) → IsDone book d o l → IsSome o.end → can_ask d.joined d.calls ≡ true → is_busy book.ops o ≡ false → IsUncut book o → EndsWell d.command l o.outcome
 ends_well book d o l named h ended asks free uncut =

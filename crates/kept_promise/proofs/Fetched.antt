@@ -28,8 +28,6 @@ IsFetched told.NoLink = ⊥
 
 -- at the end of a fetch
 pub ends_fetched : (u : Outcome) (opened after : List (ℕ × Local)) (file : ℕ) → EndsWith opened after file u → IsFetched (told_of u)
-ends_fetched (outcome.Opened g len digest) opened after file h = tt
-ends_fetched (outcome.Closed g version len digest) opened after file h = tt
 ends_fetched (outcome.Piece len digest) opened after file h = absurd h
 ends_fetched outcome.Done opened after file h = absurd h
 ends_fetched outcome.Busy opened after file h = absurd h
@@ -37,11 +35,4 @@ ends_fetched outcome.NotOpen opened after file h = absurd h
 ends_fetched outcome.AlreadyOpen opened after file h = absurd h
 ends_fetched (outcome.TooBig size) opened after file h = absurd h
 ends_fetched outcome.NoLink opened after file h = absurd h
-ends_fetched outcome.Lost opened after file h = tt
-ends_fetched (outcome.Changed m n) opened after file h = tt
-ends_fetched (outcome.Refused t) opened after file h = tt
-ends_fetched outcome.PeerMemory opened after file h = tt
-ends_fetched (outcome.BadPeer fault) opened after file h = tt
-ends_fetched outcome.Memory opened after file h = tt
-ends_fetched (outcome.Names names) opened after file h = tt
-ends_fetched (outcome.Seen id kind version len) opened after file h = tt
+ends_fetched _ opened after file h = tt

@@ -100,15 +100,7 @@ GoesOn what t = Unit {0}
 arrives_word : (dir : ℕ) (left : List (List ℕ)) (g : Goal) → goal_word (arrives dir left g).goal ≡ goal_word g
 arrives_word dir (n ∷ ns) g = refl
 arrives_word dir [] (goal.RenameFrom n to) = refl
-arrives_word dir [] (goal.Find n) = refl
-arrives_word dir [] (goal.Look n) = refl
-arrives_word dir [] goal.LookRoot = refl
-arrives_word dir [] (goal.List p) = refl
-arrives_word dir [] (goal.Make n) = refl
-arrives_word dir [] (goal.MakeDir n) = refl
-arrives_word dir [] (goal.Remove n) = refl
-arrives_word dir [] (goal.RemoveDir n) = refl
-arrives_word dir [] (goal.RenameTo from n to) = refl
+arrives_word dir _ _ = refl
 
 pub asks_word : (w : Walk) (a : Nfs) (v : Walk) → walk_told w a ≡ told.Asks v → goal_word v.goal ≡ goal_word w.goal
 asks_word w a v e = subst (GoesOn (goal_word w.goal)) e (by a)

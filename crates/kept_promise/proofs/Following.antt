@@ -194,12 +194,7 @@ goes_set past opening all k qs e after p q r kept h none still silent at m stay 
 -- what gets its file from the server is on names
 makes_named : (d : Command) → gets_file (word_of d) ≡ true → IsOnNames d
 makes_named (command.Named k) e = tt
-makes_named (command.Open f) e = absurd cc
-makes_named (command.Write f offset content) e = absurd cc
-makes_named (command.Trunc f size) e = absurd cc
-makes_named (command.Read f offset count) e = absurd cc
-makes_named (command.Close f) e = absurd cc
-makes_named (command.Abandon f) e = absurd cc
+makes_named _ e = absurd cc
 
 -- an operation's change was made, of which its client was told nothing yet
 goes_change : (past : List Moment) (opening : List Opening) (all : List Moment) (k : Core) (qs : List Queue) (e : Event) (after : Core) → IsKept (book_at opening k all) k qs → IsFollowed past k → deed_by past (k.steps + 1) e ≡ [] → ((c : ℕ) (b : Bool) → joined_by c b e ≡ b) → ((c n : ℕ) → calls_by c n (moment k e) ≡ n) → IsChange k after.ops → after.seats ≡ k.seats → k.steps ≤ after.steps → Goes past k e after

@@ -273,16 +273,11 @@ pub stage_quiet : (st : Stage) → IsOfFile st ⊎ ((changes (stage_word st) ≡
 stage_quiet (stage.Walking x w) = inr (by w.goal)
   where
     by : (g : Goal) → (changes (goal_word g) ≡ false) ⊎ (gets_file (goal_word g) ≡ true)
-    by (goal.Find n) = inl refl
-    by (goal.Look n) = inl refl
-    by goal.LookRoot = inl refl
-    by (goal.List p) = inl refl
     by (goal.Make n) = inr refl
-    by (goal.MakeDir n) = inl refl
     by (goal.Remove n) = inr refl
-    by (goal.RemoveDir n) = inl refl
     by (goal.RenameFrom n to) = inr refl
     by (goal.RenameTo from n to) = inr refl
+    by _ = inl refl
 stage_quiet st = inl tt
 
 -- and an answer to that finds no file
@@ -413,10 +408,7 @@ found_none r none id e = nothing_there id (sym none ∙ e)
 
 end_plain : (e : WalkEnd) → IsOpenedBy (outcome_of e) → ⊥
 end_plain walk_end.Done h = h
-end_plain (walk_end.Names names) h = h
-end_plain (walk_end.Seen id kind version len) h = h
-end_plain (walk_end.Refused status) h = h
-end_plain walk_end.NoLink h = h
+end_plain _ h = h
 
 took_found : (s : State) (calls : List Pending) (file : ℕ) (st : Stage) (x : ℕ) (b : Body) → WhereFound (took s calls file st x b)
 took_found s calls file (stage.Walking y w) x b = walk_cases WhereFound s calls file y w x b (record {

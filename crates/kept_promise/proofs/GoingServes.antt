@@ -77,14 +77,11 @@ word_wanted w (asked.Rename r) h = ap goal_word h.1
 
 -- of entries about names alone no file is changed
 pub names_none : (n : ℕ) (first second : Option TreeEntry) → IsName first → IsName second → AreNames (entries_by n first second)
-names_none n None None a b i e at = nothing_there e at
 names_none n None (Some y) a b zero e at = ap (λ (z : Entry). is_of_file z.kind) (sym (some_is _ e at)) ∙ ap is_of_file (b y refl)
-names_none n None (Some y) a b (suc i) e at = nothing_there e at
 names_none n (Some x) None a b zero e at = ap (λ (z : Entry). is_of_file z.kind) (sym (some_is _ e at)) ∙ ap is_of_file (a x refl)
-names_none n (Some x) None a b (suc i) e at = nothing_there e at
 names_none n (Some x) (Some y) a b zero e at = ap (λ (z : Entry). is_of_file z.kind) (sym (some_is _ e at)) ∙ ap is_of_file (a x refl)
 names_none n (Some x) (Some y) a b (suc zero) e at = ap (λ (z : Entry). is_of_file z.kind) (sym (some_is _ e at)) ∙ ap is_of_file (b y refl)
-names_none n (Some x) (Some y) a b (suc (suc i)) e at = nothing_there e at
+names_none n _ _ a b _ e at = nothing_there e at
 
 pub names_unchanged : (n : ℕ) (first second : Option TreeEntry) → IsName first → IsName second → changed_file (entries_by n first second) ≡ None
 names_unchanged n None None a b = refl

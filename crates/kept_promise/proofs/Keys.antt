@@ -106,25 +106,11 @@ IsOurs p = 0 < code_of p
 pub walk_ours : (dir : ℕ) (left : List (List ℕ)) (g : Goal) → IsOurs (program.Nfs (nfs_proc_of (call_at dir left g)))
 walk_ours dir (n ∷ ns) g = omega arith
 walk_ours dir [] (goal.Find name) = omega arith
-walk_ours dir [] (goal.Look name) = omega arith
-walk_ours dir [] goal.LookRoot = omega arith
-walk_ours dir [] (goal.List p) = omega arith
-walk_ours dir [] (goal.Make name) = omega arith
-walk_ours dir [] (goal.MakeDir name) = omega arith
-walk_ours dir [] (goal.Remove name) = omega arith
-walk_ours dir [] (goal.RemoveDir name) = omega arith
-walk_ours dir [] (goal.RenameFrom name to) = omega arith
-walk_ours dir [] (goal.RenameTo from name to) = omega arith
+walk_ours dir _ _ = omega arith
 
 pub call_ours : (c : Call) → IsOurs (call_program c)
-call_ours (Call.Lease f) = omega arith
-call_ours (Call.Hash f o) = omega arith
-call_ours (Call.Read f c) = omega arith
-call_ours (Call.Make t f) = omega arith
-call_ours (Call.Name t c) = omega arith
-call_ours (Call.Send t s b) = omega arith
-call_ours (Call.Commit t f n) = omega arith
 call_ours (Call.Walks w) = walk_ours w.dir w.left w.goal
+call_ours _ = omega arith
 
 code_small : (p : Program) → code_of p < 16
 code_small (program.Lb lb_proc.GetLease) = omega arith

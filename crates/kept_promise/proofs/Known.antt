@@ -110,11 +110,8 @@ path_refused book o s status positive (inr z) (inr u) = inr (u.0, (refused_in bo
 
 found_as : (book : Book) (o : Op) (s : Spot) (u : Outcome) → o.word ≡ words.Open → (FindsFile (bare book.moments) o s → o.file ≡ 0 → ⊥) → Caused book o u → EndsAs book.moments (path.Find s) o u → NamedCause book (path.Find s) o u
 found_as book o s (told.Opened len digest) w positive h (inl f) = (has_found book o s positive f.0, h.1)
-found_as book o s (told.Opened len digest) w positive h (inr x) = absurd x.1
 found_as book o s told.AlreadyOpen w positive h (inl f) = (has_found book o s positive f.0, f.1 refl)
-found_as book o s told.AlreadyOpen w positive h (inr x) = absurd x.1
 found_as book o s (told.Changed first last) w positive h (inl f) = (has_found book o s positive f.0, h.1)
-found_as book o s (told.Changed first last) w positive h (inr x) = absurd x.1
 found_as book o s (told.Refused status) w positive h ends = path_refused book o s status positive (subst (λ (v : Word). RefusedBy book o v status) w h) ends
 found_as book o s told.Lost w positive h ends = h.1
 found_as book o s told.Running w positive h ends = h.1
@@ -125,17 +122,12 @@ found_as book o s told.Memory w positive h ends = absurd h
 found_as book o s (told.Names list) w positive h ends = absurd (apart words.Open words.List open_list o.word w h)
 found_as book o s (told.Seen id kind version len) w positive h ends = absurd (apart words.Open words.Look open_look o.word w h)
 found_as book o s (told.Piece len digest) w positive h (inl f) = absurd f.2
-found_as book o s (told.Piece len digest) w positive h (inr x) = absurd x.1
 found_as book o s told.Done w positive h (inl f) = absurd f.2
-found_as book o s told.Done w positive h (inr x) = absurd x.1
 found_as book o s told.Busy w positive h (inl f) = absurd f.2
-found_as book o s told.Busy w positive h (inr x) = absurd x.1
 found_as book o s told.NotOpen w positive h (inl f) = absurd f.2
-found_as book o s told.NotOpen w positive h (inr x) = absurd x.1
 found_as book o s (told.TooBig size) w positive h (inl f) = absurd f.2
-found_as book o s (told.TooBig size) w positive h (inr x) = absurd x.1
 found_as book o s told.NoLink w positive h (inl f) = absurd f.2
-found_as book o s told.NoLink w positive h (inr x) = absurd x.1
+found_as book o s _ w positive h (inr x) = absurd x.1
 
 -- ---- a look, and a listing
 
@@ -198,14 +190,7 @@ running_as book o c is h = subst (NamedCause book c o) (sym is) (by c (subst (Ca
   where
     by : (c : PathCommand) → Caused book o told.Running → NamedCause book c o told.Running
     by (path.Find s) h = h.1
-    by (path.Look s) h = h.1
-    by path.LookRoot h = h.1
-    by (path.List p) h = h.1
-    by (path.Make s) h = h.1
-    by (path.MakeDir s) h = h.1
-    by (path.Remove s) h = h.1
-    by (path.RemoveDir s) h = h.1
-    by (path.Rename s t) h = h.1
+    by _ h = h.1
 
 -- where it was refused, the status is one that its command may have
 found_status : (book : Book) (o : Op) (s : Spot) (status : ℕ) → (FindsFile (bare book.moments) o s → o.file ≡ 0 → ⊥) → RefusedBy book o words.Open status → EndsAs book.moments (path.Find s) o (told.Refused status) → EndsNamed (path.Find s) (told.Refused status)
@@ -216,14 +201,7 @@ found_status book o s status positive r (inr u) = u.1.2
 
 named_status : (book : Book) (o : Op) (c : PathCommand) (status : ℕ) → o.word ≡ path_word c → Caused book o (told.Refused status) → IsGiven book c o → EndsAs book.moments c o (told.Refused status) → EndsNamed c (told.Refused status)
 named_status book o (path.Find s) status w h g ends = found_status book o s status (g.positive s) (subst (λ (v : Word). RefusedBy book o v status) w h) ends
-named_status book o (path.Look s) status w h g ends = ends.2
-named_status book o path.LookRoot status w h g ends = ends.2
-named_status book o (path.List p) status w h g ends = ends.2
-named_status book o (path.Make s) status w h g ends = ends.2
-named_status book o (path.MakeDir s) status w h g ends = ends.2
-named_status book o (path.Remove s) status w h g ends = ends.2
-named_status book o (path.RemoveDir s) status w h g ends = ends.2
-named_status book o (path.Rename s t) status w h g ends = ends.2
+named_status book o _ status w h g ends = ends.2
 
 -- one that asked the server, which isn't over in its first step
 pub named_cause : (book : Book) (o : Op) (c : PathCommand) → o.word ≡ path_word c → Caused book o o.outcome → IsGiven book c o → (o.outcome ≡ told.Running) ⊎ EndsAs book.moments c o o.outcome → NamedCause book c o o.outcome

@@ -321,9 +321,6 @@ goal_gets g e = absurd cc
 -- an operation whose stage the server doesn't give a file
 pub stage_gets : (s : Stage) → is_naming s ≡ false → gets_file (stage_word s) ≡ false
 stage_gets (stage.Walking x w) e = goal_gets w.goal e
-stage_gets (stage.Making x t) e = refl
-stage_gets (stage.Storing st) e = refl
-stage_gets (stage.Committing x) e = refl
 stage_gets _ e = refl
 
 pub of_later : (book more : Book) (made ended : Option ℕ) (i : ℕ) (j : Job) → Grows book more made ended → ((p : ℕ) (o : Op) → ended ≡ Some p → slice_get book.ops p ≡ Some o → o.client ≡ i → ⊥) → IsOf book i j → IsOf more i j

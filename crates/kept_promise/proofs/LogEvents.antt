@@ -555,17 +555,11 @@ walk_after P E all laws more taken step o s calls file y w x b log names word ru
 
     ended_unopened : (e : WalkEnd) → IsUnopened (told_of (outcome_of e))
     ended_unopened walk_end.Done len digest q = absurd cc
-    ended_unopened (walk_end.Names ns) len digest q = absurd cc
-    ended_unopened (walk_end.Seen id kind version size) len digest q = absurd cc
-    ended_unopened (walk_end.Refused t) len digest q = absurd cc
-    ended_unopened walk_end.NoLink len digest q = absurd cc
+    ended_unopened _ len digest q = absurd cc
 
     ended_unchanged : (e : WalkEnd) → IsUnchanged (told_of (outcome_of e))
     ended_unchanged walk_end.Done first last q = absurd cc
-    ended_unchanged (walk_end.Names ns) first last q = absurd cc
-    ended_unchanged (walk_end.Seen id kind version size) first last q = absurd cc
-    ended_unchanged (walk_end.Refused t) first last q = absurd cc
-    ended_unchanged walk_end.NoLink first last q = absurd cc
+    ended_unchanged _ first last q = absurd cc
 
     -- an open of the file goes on
     found : (id : ℕ) (st : Stage) (m : Message) (r : client.State) (acts : ClientStep) → IsOfFile st → stage_word st ≡ o.word → r.task ≡ Some (record { file = id; stage = st }) → P (log ++ Took (message.Answer x b) ∷ Sent m ∷ []) id o.value st → After P E (log ++ deals_with (message.Answer x b ∷ []) [] (m ∷ [])) (r, acts) (record o { file = id; traffic = counted o.traffic acts.counts })
@@ -683,11 +677,8 @@ logs_hears P E all laws fits opening past k qs after n now bytes mid kept h left
         value_by book closing contents m j o v at (stage.Making x temp) h is = ap (λ (z : Op). z.value) (some_is o h.0.op (sym at ∙ h.0.there)) ∙ h.0.value_is
         value_by book closing contents m j o v at (stage.Storing st) h is = ap (λ (z : Op). z.value) (some_is o h.0.op (sym at ∙ h.0.there)) ∙ h.0.value_is
         value_by book closing contents m j o v at (stage.Committing x) h is = ap (λ (z : Op). z.value) (some_is o h.0 (sym at ∙ h.1)) ∙ h.3
-        value_by book closing contents m j o v at (stage.Asking x) h is = absurd cc
-        value_by book closing contents m j o v at (stage.Hashing tries x) h is = absurd cc
-        value_by book closing contents m j o v at (stage.Listing x f) h is = absurd cc
-        value_by book closing contents m j o v at (stage.Reading f) h is = absurd cc
         value_by book closing contents m j o v at (stage.Walking x w) h is = absurd (goal_not_close w.goal is)
+        value_by book closing contents m j o v at _ h is = absurd cc
 
         log_is : (o new : Op) → Rattle.kept_promise.proofs.Counted.AlikeUpTo k.steps o new → is_in new (k.steps + 1) h.session.owner ≡ true → deals_of new (past ++ moment k (Hears n now bytes) ∷ []) ≡ deals_of o past ++ deals_with (wanted_by h.seat.client (Ok (told_message h.told))) (given_by_message h.seat.client (Ok (told_message h.told))) (got_step h.seat.client (Ok (told_message h.told)) now).1.send
         log_is o new same now_in =

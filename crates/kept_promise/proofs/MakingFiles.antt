@@ -47,12 +47,7 @@ renames_else (goal.Make n) e make gone = absurd (make refl)
 renames_else (goal.Remove n) e make gone = absurd (gone refl)
 renames_else (goal.RenameFrom n to) e make gone = refl
 renames_else (goal.RenameTo from n to) e make gone = refl
-renames_else (goal.Find n) e make gone = absurd cc
-renames_else (goal.Look n) e make gone = absurd cc
-renames_else goal.LookRoot e make gone = absurd cc
-renames_else (goal.List p) e make gone = absurd cc
-renames_else (goal.MakeDir n) e make gone = absurd cc
-renames_else (goal.RemoveDir n) e make gone = absurd cc
+renames_else _ e make gone = absurd cc
 
 -- so what may change a file, and is done without one, is a rename
 pub fileless_rename : (t : Tree) (held : Held) (w : Walk) (done : Changed) → is_making w ≡ true → (step_by t held w.dir w.goal).1 ≡ Ok done → entry_file done.first ≡ None → changes (goal_word w.goal) ≡ true → goal_word w.goal ≡ words.Rename

@@ -12,78 +12,39 @@ use Rattle.kept_promise.proofs.StepCases.{IsOfFile}
 use Rattle.kept_promise.proofs.Facts.{is_naming}
 
 pub creates_changes : (left : List (List ℕ)) (g : Goal) → creates_at left g ≡ true → changes (goal_word g) ≡ true
-creates_changes [] (goal.Find n) e = absurd cc
-creates_changes [] (goal.Look n) e = absurd cc
-creates_changes [] goal.LookRoot e = absurd cc
-creates_changes [] (goal.List p) e = absurd cc
 creates_changes [] (goal.Make n) e = refl
-creates_changes [] (goal.MakeDir n) e = absurd cc
 creates_changes [] (goal.Remove n) e = refl
-creates_changes [] (goal.RemoveDir n) e = absurd cc
-creates_changes [] (goal.RenameFrom n to) e = absurd cc
 creates_changes [] (goal.RenameTo from n to) e = refl
-creates_changes (m ∷ ms) g e = absurd cc
+creates_changes _ _ e = absurd cc
 
 pub later_changes : (left : List (List ℕ)) (g : Goal) → makes_later left g ≡ true → changes (goal_word g) ≡ true
-later_changes (m ∷ ms) (goal.Find n) e = absurd cc
-later_changes (m ∷ ms) (goal.Look n) e = absurd cc
-later_changes (m ∷ ms) goal.LookRoot e = absurd cc
-later_changes (m ∷ ms) (goal.List p) e = absurd cc
 later_changes (m ∷ ms) (goal.Make n) e = refl
-later_changes (m ∷ ms) (goal.MakeDir n) e = absurd cc
 later_changes (m ∷ ms) (goal.Remove n) e = refl
-later_changes (m ∷ ms) (goal.RemoveDir n) e = absurd cc
 later_changes (m ∷ ms) (goal.RenameFrom n to) e = refl
 later_changes (m ∷ ms) (goal.RenameTo from n to) e = refl
-later_changes [] (goal.Find n) e = absurd cc
-later_changes [] (goal.Look n) e = absurd cc
-later_changes [] goal.LookRoot e = absurd cc
-later_changes [] (goal.List p) e = absurd cc
-later_changes [] (goal.Make n) e = absurd cc
-later_changes [] (goal.MakeDir n) e = absurd cc
-later_changes [] (goal.Remove n) e = absurd cc
-later_changes [] (goal.RemoveDir n) e = absurd cc
 later_changes [] (goal.RenameFrom n to) e = refl
-later_changes [] (goal.RenameTo from n to) e = absurd cc
+later_changes _ _ e = absurd cc
 
 -- while names are left, the call that may change a file is still to come
 pub changes_later : (n : List ℕ) (ns : List (List ℕ)) (g : Goal) → changes (goal_word g) ≡ true → makes_later (n ∷ ns) g ≡ true
-changes_later m ms (goal.Find n) e = absurd cc
-changes_later m ms (goal.Look n) e = absurd cc
-changes_later m ms goal.LookRoot e = absurd cc
-changes_later m ms (goal.List p) e = absurd cc
 changes_later m ms (goal.Make n) e = refl
-changes_later m ms (goal.MakeDir n) e = absurd cc
 changes_later m ms (goal.Remove n) e = refl
-changes_later m ms (goal.RemoveDir n) e = absurd cc
 changes_later m ms (goal.RenameFrom n to) e = refl
 changes_later m ms (goal.RenameTo from n to) e = refl
+changes_later m ms _ e = absurd cc
 
 -- and else it's its next one
 pub changes_now : (g : Goal) → IsAhead [] g → changes (goal_word g) ≡ true → creates_at [] g ≡ true
-changes_now (goal.Find n) ahead e = absurd cc
-changes_now (goal.Look n) ahead e = absurd cc
-changes_now goal.LookRoot ahead e = absurd cc
-changes_now (goal.List p) ahead e = absurd cc
 changes_now (goal.Make n) ahead e = refl
-changes_now (goal.MakeDir n) ahead e = absurd cc
 changes_now (goal.Remove n) ahead e = refl
-changes_now (goal.RemoveDir n) ahead e = absurd cc
 changes_now (goal.RenameFrom n to) ahead e = absurd ahead
 changes_now (goal.RenameTo from n to) ahead e = refl
+changes_now _ ahead e = absurd cc
 
 -- where it isn't its next one it is behind it
 owed_behind : (g : Goal) → changes (goal_word g) ≡ true → creates_at [] g ≡ false → makes_later [] g ≡ true
-owed_behind (goal.Find n) e none = absurd cc
-owed_behind (goal.Look n) e none = absurd cc
-owed_behind goal.LookRoot e none = absurd cc
-owed_behind (goal.List p) e none = absurd cc
-owed_behind (goal.Make n) e none = absurd cc
-owed_behind (goal.MakeDir n) e none = absurd cc
-owed_behind (goal.Remove n) e none = absurd cc
-owed_behind (goal.RemoveDir n) e none = absurd cc
 owed_behind (goal.RenameFrom n to) e none = refl
-owed_behind (goal.RenameTo from n to) e none = absurd cc
+owed_behind _ e none = absurd cc
 
 pub changes_owed : (left : List (List ℕ)) (g : Goal) → changes (goal_word g) ≡ true → creates_at left g ≡ false → makes_later left g ≡ true
 changes_owed [] g e none = owed_behind g e none
@@ -96,16 +57,9 @@ making_left (m ∷ ms) g e = absurd cc
 
 pub creates_making : (left : List (List ℕ)) (g : Goal) → creates_at left g ≡ true → makes_at left g ≡ true
 creates_making [] (goal.Make n) e = refl
-creates_making [] (goal.Find n) e = absurd cc
-creates_making [] (goal.Look n) e = absurd cc
-creates_making [] goal.LookRoot e = absurd cc
-creates_making [] (goal.List p) e = absurd cc
-creates_making [] (goal.MakeDir n) e = absurd cc
 creates_making [] (goal.Remove n) e = refl
-creates_making [] (goal.RemoveDir n) e = absurd cc
-creates_making [] (goal.RenameFrom n to) e = absurd cc
 creates_making [] (goal.RenameTo from n to) e = refl
-creates_making (m ∷ ms) g e = absurd cc
+creates_making _ _ e = absurd cc
 
 -- it's no open
 pub making_unopened : (left : List (List ℕ)) (g : Goal) → makes_at left g ≡ true → goal_word g ≡ words.Open → ⊥
@@ -133,24 +87,11 @@ making_goal left g e = absurd cc
 -- what makes, removes and renames nothing changes no file
 pub creates_makes : (left : List (List ℕ)) (g : Goal) → makes_at left g ≡ false → creates_at left g ≡ false
 creates_makes [] (goal.Make n) e = absurd cc
-creates_makes [] (goal.Find n) e = refl
-creates_makes [] (goal.Look n) e = refl
-creates_makes [] goal.LookRoot e = refl
-creates_makes [] (goal.List p) e = refl
-creates_makes [] (goal.MakeDir n) e = refl
 creates_makes [] (goal.Remove n) e = absurd cc
-creates_makes [] (goal.RemoveDir n) e = refl
-creates_makes [] (goal.RenameFrom n to) e = refl
 creates_makes [] (goal.RenameTo from n to) e = absurd cc
-creates_makes (m ∷ ms) g e = refl
+creates_makes _ _ e = refl
 
 -- what goes on on a file has it from its begin
 pub file_unnamed : (s : Stage) → IsOfFile s → is_naming s ≡ false
 file_unnamed (stage.Walking x w) of = absurd of
-file_unnamed (stage.Making x temp) of = refl
-file_unnamed (stage.Storing st) of = refl
-file_unnamed (stage.Committing x) of = refl
-file_unnamed (stage.Asking x) of = refl
-file_unnamed (stage.Hashing tries x) of = refl
-file_unnamed (stage.Listing x f) of = refl
-file_unnamed (stage.Reading f) of = refl
+file_unnamed _ of = refl

@@ -40,28 +40,12 @@ names_join (d ∷ a) b h k = (h.0, names_join a b h.1 k)
 pub call_named : (x dir : ℕ) (left : List (List ℕ)) (g : Goal) → IsNameDeal (Sent (message.Call x (body.Nfs (call_at dir left g))))
 call_named x dir (n ∷ ns) g = tt
 call_named x dir [] (goal.Find n) = tt
-call_named x dir [] (goal.Look n) = tt
-call_named x dir [] goal.LookRoot = tt
-call_named x dir [] (goal.List p) = tt
-call_named x dir [] (goal.Make n) = tt
-call_named x dir [] (goal.MakeDir n) = tt
-call_named x dir [] (goal.Remove n) = tt
-call_named x dir [] (goal.RemoveDir n) = tt
-call_named x dir [] (goal.RenameFrom n to) = tt
-call_named x dir [] (goal.RenameTo from n to) = tt
+call_named x dir _ _ = tt
 
 no_read : (dir : ℕ) (left : List (List ℕ)) (g : Goal) → (6 == proc_number (nfs_proc (call_at dir left g))) ≡ false
 no_read dir (n ∷ ns) g = refl
 no_read dir [] (goal.Find n) = refl
-no_read dir [] (goal.Look n) = refl
-no_read dir [] goal.LookRoot = refl
-no_read dir [] (goal.List p) = refl
-no_read dir [] (goal.Make n) = refl
-no_read dir [] (goal.MakeDir n) = refl
-no_read dir [] (goal.Remove n) = refl
-no_read dir [] (goal.RemoveDir n) = refl
-no_read dir [] (goal.RenameFrom n to) = refl
-no_read dir [] (goal.RenameTo from n to) = refl
+no_read dir _ _ = refl
 
 -- and an answer to it
 pub answer_named : (x : ℕ) (w : Walk) (a : Nfs) → is_its w a ≡ true → IsNameDeal (Took (message.Answer x (body.Nfs a)))

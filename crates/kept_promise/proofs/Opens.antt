@@ -46,71 +46,28 @@ HasShut ds seats = (c : ℕ) (seat : Seat) (j : Job) (d : Deed) → numbered sea
 
 finds_running : (d : Command) (l : Option (List ℕ)) → FindsBy d told.Running l
 finds_running (command.Named k) l = tt
-finds_running (command.Open f) l = tt
-finds_running (command.Write f offset content) l = tt
-finds_running (command.Trunc f size) l = tt
-finds_running (command.Read f offset count) l = tt
-finds_running (command.Close f) l = tt
-finds_running (command.Abandon f) l = tt
+finds_running _ l = tt
 
 finds_busy : (d : Command) (l : Option (List ℕ)) → FindsBy d told.Busy l
 finds_busy (command.Named k) l = tt
-finds_busy (command.Open f) l = tt
-finds_busy (command.Write f offset content) l = tt
-finds_busy (command.Trunc f size) l = tt
-finds_busy (command.Read f offset count) l = tt
-finds_busy (command.Close f) l = tt
-finds_busy (command.Abandon f) l = tt
+finds_busy _ l = tt
 
 -- only one on names says anything
 pub finds_by : (d : Command) (u : Told) (l : Option (List ℕ)) → (IsOnNames d → FindsOpen u l) → FindsBy d u l
 finds_by (command.Named k) u l h = h tt
-finds_by (command.Open f) u l h = tt
-finds_by (command.Write f offset content) u l h = tt
-finds_by (command.Trunc f size) u l h = tt
-finds_by (command.Read f offset count) u l h = tt
-finds_by (command.Close f) u l h = tt
-finds_by (command.Abandon f) u l h = tt
+finds_by _ u l h = tt
 
 -- the end of a fetch of a file that wasn't open
 pub fetched_finds : (u : Outcome) (opened after : List (ℕ × Local)) (file : ℕ) (l : Option (List ℕ)) → EndsWith opened after file u → l ≡ None → FindsOpen (told_of u) l
 fetched_finds (outcome.Opened g len digest) opened after file l h none = none
-fetched_finds (outcome.Closed g version len digest) opened after file l h none = tt
 fetched_finds outcome.AlreadyOpen opened after file l h none = absurd h
-fetched_finds (outcome.Piece len digest) opened after file l h none = tt
-fetched_finds outcome.Done opened after file l h none = tt
-fetched_finds outcome.Busy opened after file l h none = tt
-fetched_finds outcome.NotOpen opened after file l h none = tt
-fetched_finds (outcome.TooBig size) opened after file l h none = tt
-fetched_finds outcome.NoLink opened after file l h none = tt
-fetched_finds outcome.Lost opened after file l h none = tt
-fetched_finds (outcome.Changed m n) opened after file l h none = tt
-fetched_finds (outcome.Refused t) opened after file l h none = tt
-fetched_finds outcome.PeerMemory opened after file l h none = tt
-fetched_finds (outcome.BadPeer fault) opened after file l h none = tt
-fetched_finds (outcome.Names names) opened after file l h none = tt
-fetched_finds (outcome.Seen id kind version len) opened after file l h none = tt
-fetched_finds outcome.Memory opened after file l h none = tt
+fetched_finds _ opened after file l h none = tt
 
 -- the end of a walk
 pub walked_finds : (u : Outcome) (l : Option (List ℕ)) → IsNeither u → (u ≡ outcome.AlreadyOpen → IsSome l) → FindsOpen (told_of u) l
 walked_finds (outcome.Opened g len digest) l h some = absurd h
-walked_finds (outcome.Closed g version len digest) l h some = tt
 walked_finds outcome.AlreadyOpen l h some = some refl
-walked_finds (outcome.Piece len digest) l h some = tt
-walked_finds outcome.Done l h some = tt
-walked_finds outcome.Busy l h some = tt
-walked_finds outcome.NotOpen l h some = tt
-walked_finds (outcome.TooBig size) l h some = tt
-walked_finds outcome.NoLink l h some = tt
-walked_finds outcome.Lost l h some = tt
-walked_finds (outcome.Changed m n) l h some = tt
-walked_finds (outcome.Refused t) l h some = tt
-walked_finds outcome.PeerMemory l h some = tt
-walked_finds (outcome.BadPeer fault) l h some = tt
-walked_finds (outcome.Names names) l h some = tt
-walked_finds (outcome.Seen id kind version len) l h some = tt
-walked_finds outcome.Memory l h some = tt
+walked_finds _ l h some = tt
 
 -- ---- the local contents when an operation that goes on began
 
@@ -241,10 +198,7 @@ fetching s r t at shut none = record {
 
 end_not : (e : WalkEnd) → outcome_of e ≡ outcome.AlreadyOpen → ⊥
 end_not walk_end.Done e = absurd cc
-end_not (walk_end.Names names) e = absurd cc
-end_not (walk_end.Seen id kind version len) e = absurd cc
-end_not (walk_end.Refused status) e = absurd cc
-end_not walk_end.NoLink e = absurd cc
+end_not _ e = absurd cc
 
 bad_not : (f : Rattle.client_state.specs.declared.step.BadPeer.BadPeer) → outcome.BadPeer f ≡ outcome.AlreadyOpen → ⊥
 bad_not f e = absurd cc
@@ -449,9 +403,4 @@ new_opens s d now o taken step running t l = finds_by d (op_after o t taken step
 
     by : (d : Command) → IsOnNames d → FindsOpen (op_after o t taken step (command_step s d now).1).outcome l
     by (command.Named k) names = ended (command.Named k) (command_step s (command.Named k) now).1.ended refl (λ e is. named_ends s k now e l is)
-    by (command.Open f) names = absurd names
-    by (command.Write f offset content) names = absurd names
-    by (command.Trunc f size) names = absurd names
-    by (command.Read f offset count) names = absurd names
-    by (command.Close f) names = absurd names
-    by (command.Abandon f) names = absurd names
+    by _ names = absurd names

@@ -53,14 +53,8 @@ abbrev pub OpOwn : Ending
 OpOwn log w file v u = AreNear w file v log × IsBare w log
 
 of_stage : (st : Stage) → IsOfFile st → (l : List Deal) → IsBare (stage_word st) l
-of_stage (stage.Asking x) of l = tt
-of_stage (stage.Hashing tries x) of l = tt
-of_stage (stage.Listing x f) of l = tt
-of_stage (stage.Reading f) of l = tt
-of_stage (stage.Making x temp) of l = tt
-of_stage (stage.Storing w) of l = tt
-of_stage (stage.Committing x) of l = tt
 of_stage (stage.Walking x w) of l = absurd of
+of_stage _ of l = tt
 
 -- at a stage of a file
 own_at : (log : List Deal) (file : ℕ) (v : List ℕ) (st : Stage) → IsOfFile st → AreNear (stage_word st) file v log × StageChunks st v → OwnBy log file v st

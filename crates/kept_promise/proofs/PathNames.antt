@@ -208,26 +208,13 @@ no_names = (tt, omega arith)
 pub arrives_named : (dir : ℕ) (left : List (List ℕ)) (g : Goal) → AreNames left → IsGoalNamed g → IsWalkNamed (arrives dir left g)
 arrives_named dir (n ∷ ns) g h aim = (h, aim)
 arrives_named dir [] (goal.RenameFrom n to) h aim = (aim.1.0, (aim.0, aim.1.1))
-arrives_named dir [] (goal.Find n) h aim = (no_names, aim)
-arrives_named dir [] (goal.Look n) h aim = (no_names, aim)
-arrives_named dir [] goal.LookRoot h aim = (no_names, aim)
-arrives_named dir [] (goal.List p) h aim = (no_names, aim)
-arrives_named dir [] (goal.Make n) h aim = (no_names, aim)
-arrives_named dir [] (goal.MakeDir n) h aim = (no_names, aim)
-arrives_named dir [] (goal.Remove n) h aim = (no_names, aim)
-arrives_named dir [] (goal.RemoveDir n) h aim = (no_names, aim)
-arrives_named dir [] (goal.RenameTo from n to) h aim = (no_names, aim)
+arrives_named dir [] _ h aim = (no_names, aim)
 
 pub begun_named : (k : PathCommand) → HasNames k → IsWalkNamed (begun k)
-begun_named (path.Find s) h = h
-begun_named (path.Look s) h = h
 begun_named path.LookRoot h = (no_names, tt)
 begun_named (path.List p) h = (h, tt)
-begun_named (path.Make s) h = h
-begun_named (path.MakeDir s) h = h
-begun_named (path.Remove s) h = h
-begun_named (path.RemoveDir s) h = h
 begun_named (path.Rename s t) h = arrives_named 1 s.dirs (goal.RenameFrom s.name t) h.0.0 (h.0.1, h.1)
+begun_named _ h = h
 
 -- ---- what a walk that is under way is
 
@@ -325,31 +312,13 @@ is_from_goal (goal.RenameFrom n to) = true
 is_from_goal g = false
 
 pub ahead_else : (left : List (List ℕ)) (g : Goal) → is_from_goal g ≡ false → IsAhead left g
-ahead_else (n ∷ ns) g e = tt
 ahead_else [] (goal.RenameFrom n to) e = absurd cc
-ahead_else [] (goal.Find n) e = tt
-ahead_else [] (goal.Look n) e = tt
-ahead_else [] goal.LookRoot e = tt
-ahead_else [] (goal.List p) e = tt
-ahead_else [] (goal.Make n) e = tt
-ahead_else [] (goal.MakeDir n) e = tt
-ahead_else [] (goal.Remove n) e = tt
-ahead_else [] (goal.RemoveDir n) e = tt
-ahead_else [] (goal.RenameTo from n to) e = tt
+ahead_else _ _ e = tt
 
 -- what arrives is ahead
 pub arrives_ahead : (dir : ℕ) (left : List (List ℕ)) (g : Goal) → IsAhead (arrives dir left g).left (arrives dir left g).goal
-arrives_ahead dir (n ∷ ns) g = tt
 arrives_ahead dir [] (goal.RenameFrom n to) = ahead_else to.dirs (goal.RenameTo dir n to.name) refl
-arrives_ahead dir [] (goal.Find n) = tt
-arrives_ahead dir [] (goal.Look n) = tt
-arrives_ahead dir [] goal.LookRoot = tt
-arrives_ahead dir [] (goal.List p) = tt
-arrives_ahead dir [] (goal.Make n) = tt
-arrives_ahead dir [] (goal.MakeDir n) = tt
-arrives_ahead dir [] (goal.Remove n) = tt
-arrives_ahead dir [] (goal.RemoveDir n) = tt
-arrives_ahead dir [] (goal.RenameTo from n to) = tt
+arrives_ahead dir _ _ = tt
 
 pub record IsWalkSmall (w : Walk) : Type 0 where
   pub dir : w.dir < 18446744073709551616
@@ -376,26 +345,13 @@ begun_small k h = record { dir = dir k; named = begun_named k h; asking = asking
     ahead (path.Rename s t) = (renames s.dirs s.name t).2
 
     dir : (k : PathCommand) → (begun k).dir < 18446744073709551616
-    dir (path.Find s) = omega arith
-    dir (path.Look s) = omega arith
-    dir path.LookRoot = omega arith
-    dir (path.List p) = omega arith
-    dir (path.Make s) = omega arith
-    dir (path.MakeDir s) = omega arith
-    dir (path.Remove s) = omega arith
-    dir (path.RemoveDir s) = omega arith
     dir (path.Rename s t) = (renames s.dirs s.name t).0
+    dir _ = omega arith
 
     asking : (k : PathCommand) → IsAsking (begun k).goal
-    asking (path.Find s) = tt
-    asking (path.Look s) = tt
-    asking path.LookRoot = tt
     asking (path.List p) = (omega arith, omega arith)
-    asking (path.Make s) = tt
-    asking (path.MakeDir s) = tt
-    asking (path.Remove s) = tt
-    asking (path.RemoveDir s) = tt
     asking (path.Rename s t) = (renames s.dirs s.name t).1
+    asking _ = tt
 
 -- the calls of the open that may follow
 abbrev pub open_calls : Goal → ℕ
@@ -410,16 +366,8 @@ calls_short : (w : Walk) (g : Goal) → w.goal ≡ g → IsGoalNamed g → lengt
 calls_short w g is aim few = subst (λ (z : Goal). length w.left + goal_left z + open_calls z ≤ 900064) (sym is) (by g aim)
   where
     by : (g : Goal) → IsGoalNamed g → length w.left + goal_left g + open_calls g ≤ 900064
-    by (goal.Find n) aim = omega (arith, few)
-    by (goal.Look n) aim = omega (arith, few)
-    by goal.LookRoot aim = omega (arith, few)
-    by (goal.List p) aim = omega (arith, few)
-    by (goal.Make n) aim = omega (arith, few)
-    by (goal.MakeDir n) aim = omega (arith, few)
-    by (goal.Remove n) aim = omega (arith, few)
-    by (goal.RemoveDir n) aim = omega (arith, few)
     by (goal.RenameFrom n to) aim = let some = aim.1.0.1 in omega (arith, few, some)
-    by (goal.RenameTo dir n to) aim = omega (arith, few)
+    by _ aim = omega (arith, few)
 
 pub walk_calls_short : (w : Walk) → IsWalkNamed w → walk_calls w ≤ 900064
 walk_calls_short w h = calls_short w w.goal refl h.1 h.0.1

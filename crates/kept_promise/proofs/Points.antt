@@ -10,7 +10,7 @@ use Rattle.register_model.specs.declared.op.Word.TheVariants as words
 use Rattle.trace_replay.specs.OwnCalls.{TakesCall}
 use Rattle.trace_replay.specs.Faithful.{IsFirstOf, HasPoint, OpensAt}
 use Rattle.trace_replay.specs.Traffic.{attempts_in, no_attempt}
-use Rattle.kept_promise.proofs.Common.{◌==◌, cond, slice_get, Contains, Body, Done, has_call, got_step, ClientStep, Ended, Outcome, Stage, State, Op, TakenCall, has_point, point_if, taken_at, op_after, Moment, deals_of, Deal, Book, Reply, Reply.Versioned, Reply.Hashed, Reply.Bytes, Told, told_message, reply_body, Reply.Walked, NameReply.LookedUp, NameReply.Shown, NameReply.Listed, NameReply.MadeFile, NameReply.MadeDir, NameReply.NoDir}
+use Rattle.kept_promise.proofs.Common.{◌==◌, cond, slice_get, Contains, Body, Done, has_call, got_step, ClientStep, Ended, Outcome, Stage, State, Op, TakenCall, has_point, point_if, taken_at, op_after, Moment, deals_of, Deal, Book, Reply, Reply.Versioned, Reply.Hashed, Reply.Bytes, Told, told_message, reply_body, Reply.Walked, NameReply.LookedUp}
 use Rattle.kept_promise.proofs.Lists.{some_is}
 use Rattle.kept_promise.proofs.Messages.{Job, stage_word, lease_body, hash_body, hash_offset, IsServed, IsLeased, AnswerOf, FetchOf, TriedBy}
 use Rattle.kept_promise.proofs.VersionRuns.{opened_by, or_none}
@@ -39,12 +39,7 @@ served_in book taken closing t j has fetch answer (stage.Hashing tries y) at (Ha
 served_in book taken closing t j has fetch answer (stage.Listing y f) at (Hashed (Done g)) is = λ same. (subst (FetchOf book taken j) at fetch).0.tried.call
 served_in book taken closing t j has fetch answer (stage.Reading f) at (Bytes (Done p)) is = (subst (FetchOf book taken j) at fetch).0.tried.call
 served_in book taken closing t j has fetch answer (stage.Reading f) at (Walked (LookedUp a)) is = tt
-served_in book taken closing t j has fetch answer (stage.Reading f) at (Walked (Shown a)) is = tt
-served_in book taken closing t j has fetch answer (stage.Reading f) at (Walked (Listed a)) is = tt
-served_in book taken closing t j has fetch answer (stage.Reading f) at (Walked (MadeFile a)) is = tt
-served_in book taken closing t j has fetch answer (stage.Reading f) at (Walked (MadeDir a)) is = tt
-served_in book taken closing t j has fetch answer (stage.Reading f) at (Walked (NoDir a)) is = tt
-served_in book taken closing t j has fetch answer st at r is = tt
+served_in book taken closing t j has fetch answer _ at _ is = tt
 
 served_still : (book : Book) (taken : List TakenCall) (j : Job) → FetchOf book taken j j.stage → (st : Stage) → j.stage ≡ st → StageGood (λ v x. StageCall book taken j st x) (λ x. Unit {0}) st
 served_still book taken j fetch (stage.Listing y f) at = (subst (FetchOf book taken j) at fetch).0.tried.call

@@ -1,7 +1,7 @@
 -- What is on its way between the two ends of a run are whole messages, each of which its end reads.
 use Rattle.std.proofs.Common.{◌≡◌, ℕ, zero, suc, List, [], ◌∷◌, Some, Bool, true, false, refl, sym, ap, ◌∙◌, subst, map}
 use Rattle.trace_replay.specs.Traces.{IsRead, IsServed, IsAnswered, xid_of, HoldsMessages}
-use Rattle.kept_promise.proofs.Common.{All-nil, All-cons, All, slice_get, MessageFits, IsExpected, Waiting, Message, Pending, waiting_of, calls_of, Session, server_waiting, World, Moment, book_of, Call, Call.Lease, Call.Hash, Call.Read, Call.Make, Call.Name, Call.Send, Call.Commit, Ask, Told, Queue, call_message, ask_message, told_message, Call.Walks}
+use Rattle.kept_promise.proofs.Common.{All-nil, All-cons, All, slice_get, MessageFits, IsExpected, Waiting, Message, Pending, waiting_of, calls_of, Session, server_waiting, World, Moment, book_of, Call, Call.Lease, Ask, Told, Queue, call_message, ask_message, told_message, Call.Walks}
 use Rattle.kept_promise.proofs.Statements.{CallFits}
 use Rattle.kept_promise.proofs.Messages.{AllAsks, AllTolds}
 use Rattle.kept_promise.proofs.Facts.{IsSession}
@@ -34,29 +34,15 @@ tolds_read fits w (t ∷ ts) h waits =
 served_at : (xid dir : ℕ) (left : List (List ℕ)) (g : Goal) → IsServed (message.Call xid (body.Nfs (call_at dir left g)))
 served_at xid dir (n ∷ ns) g = tt
 served_at xid dir [] (goal.Find name) = tt
-served_at xid dir [] (goal.Look name) = tt
-served_at xid dir [] goal.LookRoot = tt
-served_at xid dir [] (goal.List p) = tt
-served_at xid dir [] (goal.Make name) = tt
-served_at xid dir [] (goal.MakeDir name) = tt
-served_at xid dir [] (goal.Remove name) = tt
-served_at xid dir [] (goal.RemoveDir name) = tt
-served_at xid dir [] (goal.RenameFrom name to) = tt
-served_at xid dir [] (goal.RenameTo from name to) = tt
+served_at xid dir _ _ = tt
 
 asks_done : (us : List Ask) → All IsServed (map ask_message us)
 asks_done [] = All-nil IsServed
 asks_done (a ∷ us) = All-cons IsServed (ask_message a) (map ask_message us) (by a.call) (asks_done us)
   where
     by : (c : Call) → IsServed (call_message a.xid c)
-    by (Lease f) = tt
-    by (Hash f o) = tt
-    by (Read f c) = tt
-    by (Make m f) = tt
-    by (Name m c) = tt
-    by (Send m s b) = tt
-    by (Commit m f s) = tt
     by (Walks w) = served_at a.xid w.dir w.left w.goal
+    by _ = tt
 
 tolds_answered : (calls : List Pending) (ts : List Told) → ((i : ℕ) (t : Told) → slice_get ts i ≡ Some t → (k : ℕ) × (slice_get calls k ≡ Some (told_pending t))) → All (IsAnswered calls) (map told_message ts)
 tolds_answered calls [] waits = All-nil (IsAnswered calls)
@@ -74,13 +60,7 @@ of_ask (a ∷ us) zero m at = (a, refl, by a.call ∙ ap xid_of (some_is (ask_me
   where
     by : (c : Call) → a.xid ≡ xid_of (call_message a.xid c)
     by (Lease f) = refl
-    by (Hash f o) = refl
-    by (Read f c) = refl
-    by (Make m f) = refl
-    by (Name m c) = refl
-    by (Send m s b) = refl
-    by (Commit m f s) = refl
-    by (Walks w) = refl
+    by _ = refl
 of_ask (a ∷ us) (suc i) m at = of_ask us i m at
 
 pub holds_messages : (P : Fact) → FitLaws → (all past : List Moment) (w : World) → Stands P all past w → HoldsMessages w

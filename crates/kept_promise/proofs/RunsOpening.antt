@@ -103,43 +103,11 @@ turn_adds next w _ f h = no_more w w refl
 
 line_adds : (c dir : ℕ) (l : Line) → added c (turn_of dir l) ≡ opening_by c (Some l)
 line_adds c dir line.Skipped = refl
-line_adds c dir line.Version = refl
-line_adds c dir (line.Term n) = refl
-line_adds c dir (line.Drift n) = refl
-line_adds c dir (line.Clients n) = refl
-line_adds c dir (line.Dir spot) = refl
-line_adds c dir (line.File spot content) = refl
-line_adds c dir (line.Join m r at) = refl
-line_adds c dir (line.Do m r d) = refl
-line_adds c dir (line.Up n a at) = refl
-line_adds c dir (line.Down n a r) = refl
-line_adds c dir (line.Settle at) = refl
-line_adds c dir (line.Cut m r) = refl
-line_adds c dir (line.Hang n at) = refl
-line_adds c dir (line.Pass n rounds at r) = refl
-line_adds c dir (line.Forge w key file offset count) = refl
-line_adds c dir (line.Clear w) = refl
-line_adds c dir (line.Evict m file) = refl
+line_adds c dir _ = refl
 
 line_counts : (dir : ℕ) (l : Line) → count_added (turn_of dir l) ≡ opened_by (Some l)
 line_counts dir line.Skipped = refl
-line_counts dir line.Version = refl
-line_counts dir (line.Term n) = refl
-line_counts dir (line.Drift n) = refl
-line_counts dir (line.Clients n) = refl
-line_counts dir (line.Dir spot) = refl
-line_counts dir (line.File spot content) = refl
-line_counts dir (line.Join m r at) = refl
-line_counts dir (line.Do m r d) = refl
-line_counts dir (line.Up n a at) = refl
-line_counts dir (line.Down n a r) = refl
-line_counts dir (line.Settle at) = refl
-line_counts dir (line.Cut m r) = refl
-line_counts dir (line.Hang n at) = refl
-line_counts dir (line.Pass n rounds at r) = refl
-line_counts dir (line.Forge w key file offset count) = refl
-line_counts dir (line.Clear w) = refl
-line_counts dir (line.Evict m file) = refl
+line_counts dir _ = refl
 
 -- ---- all lines
 

@@ -356,12 +356,7 @@ heard_on m xid r c = by m.event refl c
 
     by : (e : Event) → m.event ≡ e → Contains (taken_by m.before (client_of m.before e) e) (name_told xid r) → (session : ℕ) × TakesTold m session xid r
     by (Hears n now bytes) is c = (n, (now, bytes, is, subst (λ z. Contains (taken_by m.before (client_of m.before z) z) (name_told xid r)) (sym is) c))
-    by (Joins i) is c = none c
-    by (Does i now d) is c = none c
-    by (Serves n now bytes) is c = none c
-    by (Settles now) is c = none c
-    by (Cuts i) is c = none c
-    by (Hangs n) is c = none c
+    by _ is c = none c
 
 -- where the server knew all, it told of none that it isn't known
 pub none_unknown : (moments : List Moment) (o : Op) → ((m : Moment) → Contains moments m → AreTold moments m) → AllKnown moments o → unknown_in (deals_of o moments) ≡ 0

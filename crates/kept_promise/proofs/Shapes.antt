@@ -87,10 +87,7 @@ good_took Q R s fresh calls file (stage.Walking y w) x b q = walk_cases (Good Q 
   where
     by : (e : WalkEnd) → OutcomeGood Q (outcome_of e) x
     by walk_end.Done = tt
-    by (walk_end.Names names) = tt
-    by (walk_end.Seen id kind version len) = tt
-    by (walk_end.Refused status) = tt
-    by walk_end.NoLink = tt
+    by _ = tt
 good_took Q R s fresh calls file st x b q = took_cases (λ found r. Good Q R r) s calls file st x b tt (record {
   ends = λ r e unchanged came. good_ends Q R x b r e;
   changed = λ r f version e open_ gave last is. good_ends Q R x b r e;

@@ -1,6 +1,6 @@
 -- A run carries that each command is on a file by its id, of 64 bits: a line with another one is refused.
 use Rattle.std.proofs.Common.{false, inl, inr, ◌≡◌, ℕ, ◌+◌, List, ◌++◌, Some, append-nil, sym, subst}
-use Rattle.kept_promise.proofs.Common.{slice_get, Opening, Core, Event, Event.Joins, Event.Does, Event.Serves, Event.Hears, Event.Settles, Event.Cuts, Event.Hangs, Moment, Deed, deeds_of, deed_by, joined_from, calls_from, Queue}
+use Rattle.kept_promise.proofs.Common.{slice_get, Opening, Core, Event, Event.Joins, Event.Does, Moment, Deed, deeds_of, deed_by, joined_from, calls_from, Queue}
 use Rattle.kept_promise.proofs.Lists.{nothing_there, of_appended}
 use Rattle.kept_promise.proofs.Locally.{deeds_more}
 use Rattle.kept_promise.proofs.PathNames.{IsSmall}
@@ -16,11 +16,7 @@ small_more past k (Does c now d) qs mid f h = λ i x at. elim (of_appended (deed
   | inr old ↦ h i x old
 ]
 small_more past k (Joins c) qs mid f h = subst AreSmall (sym (append-nil (deeds_of past))) h
-small_more past k (Serves n now bytes) qs mid f h = subst AreSmall (sym (append-nil (deeds_of past))) h
-small_more past k (Hears n now bytes) qs mid f h = subst AreSmall (sym (append-nil (deeds_of past))) h
-small_more past k (Settles now) qs mid f h = subst AreSmall (sym (append-nil (deeds_of past))) h
-small_more past k (Cuts c) qs mid f h = subst AreSmall (sym (append-nil (deeds_of past))) h
-small_more past k (Hangs n) qs mid f h = subst AreSmall (sym (append-nil (deeds_of past))) h
+small_more past k _ qs mid f h = subst AreSmall (sym (append-nil (deeds_of past))) h
 
 abbrev pub SmallDeeds : (all past : List Moment) → List Opening → Core → List Queue → Type 0
 SmallDeeds all past opening k qs = AreSmall (deeds_of past)

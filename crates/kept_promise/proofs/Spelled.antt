@@ -89,13 +89,7 @@ call_fits xid (Walks w) f = walk_fits xid w.dir w.left w.goal f.0 f.1.named.0 f.
 
 call_expected : (xid : ℕ) (c : Call) → IsExpected server_waiting (call_message xid c)
 call_expected xid (Lease file) = refl
-call_expected xid (Hash file offset) = refl
-call_expected xid (Read file c) = refl
-call_expected xid (Make temp file) = refl
-call_expected xid (Name temp c) = refl
-call_expected xid (Send temp start bytes) = refl
-call_expected xid (Commit temp file size) = refl
-call_expected xid (Walks w) = refl
+call_expected xid _ = refl
 
 pub calls_fit : CallsFit
 calls_fit = λ xid c f. (call_fits xid c f, call_expected xid c)

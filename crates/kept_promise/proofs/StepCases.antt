@@ -481,14 +481,11 @@ pub record OfCloses (Z : List (ℕ × ℕ) → State × ClientStep → Type 0) (
   pub whole : (old : Store) (c : StoreCall) (k : Chunk) → st ≡ stage.Storing old → IsUnknown b → bytes_came x b ≡ 0 → store_at old.under x ≡ Some c → c.way ≡ way.Named → slice_get old.chunks c.index ≡ Some k → Z [] (sends_whole s file x (local_bytes s.opened file) (answered old x) c (Some k))
 
 pub either_word : (st : Stage) → IsOfFile st → (stage_word st ≡ words.Open) ⊎ (stage_word st ≡ words.Close)
-either_word (stage.Asking x) known = inl refl
-either_word (stage.Hashing tries x) known = inl refl
-either_word (stage.Listing x f) known = inl refl
-either_word (stage.Reading f) known = inl refl
 either_word (stage.Making x temp) known = inr refl
 either_word (stage.Storing w) known = inr refl
 either_word (stage.Committing x) known = inr refl
 either_word (stage.Walking y w) known = absurd known
+either_word _ known = inl refl
 
 pub of_closes : (Z : List (ℕ × ℕ) → State × ClientStep → Type 0) (s : State) (calls : List Pending) (file : ℕ) (st : Stage) (x : ℕ) (b : Body) → IsOfFile st → OfCloses Z s file st x b → Cases Z s calls file st x b
 of_closes Z s calls file st x b known h = record {

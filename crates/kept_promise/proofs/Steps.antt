@@ -176,15 +176,7 @@ gone_on c file next s forgotten cache index = record c { next = next; task = Som
 
 pub goal_not_close : (g : Goal) → goal_word g ≡ words.Close → ⊥
 goal_not_close (goal.Find n) e = absurd cc
-goal_not_close (goal.Look n) e = absurd cc
-goal_not_close goal.LookRoot e = absurd cc
-goal_not_close (goal.List p) e = absurd cc
-goal_not_close (goal.Make n) e = absurd cc
-goal_not_close (goal.MakeDir n) e = absurd cc
-goal_not_close (goal.Remove n) e = absurd cc
-goal_not_close (goal.RemoveDir n) e = absurd cc
-goal_not_close (goal.RenameFrom n to) e = absurd cc
-goal_not_close (goal.RenameTo from n to) e = absurd cc
+goal_not_close _ e = absurd cc
 
 -- what goes on is given a file by the server where it was before
 pub naming_same : (s t : Stage) → stage_word s ≡ stage_word t → is_naming s ≡ false → is_naming t ≡ false
@@ -199,13 +191,7 @@ naming_same s (stage.Walking x w) same none = by s same none
     by (stage.Hashing tries y) same none = ap changes (sym same)
     by (stage.Listing y f) same none = ap changes (sym same)
     by (stage.Reading f) same none = ap changes (sym same)
-naming_same s (stage.Making y temp) same none = refl
-naming_same s (stage.Storing st) same none = refl
-naming_same s (stage.Committing y) same none = refl
-naming_same s (stage.Asking y) same none = refl
-naming_same s (stage.Hashing tries y) same none = refl
-naming_same s (stage.Listing y f) same none = refl
-naming_same s (stage.Reading f) same none = refl
+naming_same s _ same none = refl
 
 -- none of an open or a close of a file is
 pub open_unnamed : (s : Stage) → stage_word s ≡ words.Open → is_naming s ≡ false

@@ -53,15 +53,7 @@ commit_kept n o r sent same by (s, there, of, is) = (s, there, same s.step s.cli
 
 goal_not_close : (g : Goal) → goal_word g ≡ words.Close → ⊥
 goal_not_close (goal.Find n) e = absurd cc
-goal_not_close (goal.Look n) e = absurd cc
-goal_not_close goal.LookRoot e = absurd cc
-goal_not_close (goal.List p) e = absurd cc
-goal_not_close (goal.Make n) e = absurd cc
-goal_not_close (goal.MakeDir n) e = absurd cc
-goal_not_close (goal.Remove n) e = absurd cc
-goal_not_close (goal.RemoveDir n) e = absurd cc
-goal_not_close (goal.RenameFrom n to) e = absurd cc
-goal_not_close (goal.RenameTo from n to) e = absurd cc
+goal_not_close _ e = absurd cc
 
 asked_not_close : (a : Asked) → asked_word a ≡ words.Close → ⊥
 asked_not_close (asked.Remove r) e = absurd cc

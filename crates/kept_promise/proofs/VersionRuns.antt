@@ -18,7 +18,7 @@ use Rattle.trace_ends.specs.Ops.{taken_on, file_with}
 use Rattle.trace_ends.specs.Session.{taken_of as session_taken}
 use Rattle.trace_replay.specs.Trail.{taken_of}
 use Rattle.trace_replay.specs.Faithful.{Carries, OpensVersion}
-use Rattle.kept_promise.proofs.Common.{nat_tests, Contains-append_left, Contains-append_right, Contains-append_cases, Contains-push, ◌==◌, ◌&&◌, ◌||◌, nat_le, slice_get, slice_set, cond, find, Contains, Command, Done, Hashes, parse_of, WireFault, Message, Change, File, server_step, has_call, pending, command_step, got_step, ended_by, joined, ClientStep, Ended, Outcome, Stage, Task, changes, changed_before, Op, Opening, TakenCall, word_of, told_of, has_point, point_if, op_after, begun, taken_at, place_after, place_with, pointed, pointed_at, Core, Seat, Session, Event, Event.Joins, Event.Does, Event.Serves, Event.Hears, Event.Settles, Event.Cuts, Event.Hangs, CoreStep, numbered, with_numbered, new_session, taken_with, commanded_session, commanded_sessions, cut_session, server_waiting, serves_if, serves, session_of, ops_after, ops_with, acted, does, joins_as, joins, settled_ops, settled_by, settles, cuts_if, cuts, hangs_if, hangs, happens, Moment, Said, all_said, owner_in, client_of, wanted_if, wanted_by, taken_by, Book, version_at, until, TellsVersion, Reply, Reply.Versioned, Reply.Hashed, Reply.Bytes, Told, Queue, reply_body, told_message, ServerStep, ask_message, Reply.Walked, NameReply.LookedUp, NameReply.Shown, NameReply.Listed, NameReply.MadeFile, NameReply.MadeDir, NameReply.NoDir, Wanted}
+use Rattle.kept_promise.proofs.Common.{nat_tests, Contains-append_left, Contains-append_right, Contains-append_cases, Contains-push, ◌==◌, ◌&&◌, ◌||◌, nat_le, slice_get, slice_set, cond, find, Contains, Command, Done, Hashes, parse_of, WireFault, Message, Change, File, server_step, has_call, pending, command_step, got_step, ended_by, joined, ClientStep, Ended, Outcome, Stage, Task, changes, changed_before, Op, Opening, TakenCall, word_of, told_of, has_point, point_if, op_after, begun, taken_at, place_after, place_with, pointed, pointed_at, Core, Seat, Session, Event, Event.Joins, Event.Does, Event.Serves, Event.Hears, Event.Settles, Event.Cuts, Event.Hangs, CoreStep, numbered, with_numbered, new_session, taken_with, commanded_session, commanded_sessions, cut_session, server_waiting, serves_if, serves, session_of, ops_after, ops_with, acted, does, joins_as, joins, settled_ops, settled_by, settles, cuts_if, cuts, hangs_if, hangs, happens, Moment, Said, all_said, owner_in, client_of, wanted_if, wanted_by, taken_by, Book, version_at, until, TellsVersion, Reply, Reply.Versioned, Reply.Hashed, Reply.Bytes, Told, Queue, reply_body, told_message, ServerStep, ask_message, Reply.Walked, NameReply.LookedUp, Wanted}
 use Rattle.kept_promise.proofs.Lists.{some_is, nothing_there, at_end, same_or_not, of_replaced, of_appended, kept_appended, at_replaced, set_else, false_and_true, true_and_false}
 use Rattle.kept_promise.proofs.Marks.{unpointed, too_late}
 use Rattle.kept_promise.proofs.Messages.{Job, job, job_of, AllTolds, AllUnder, hash_offset, IsTold, IsHashed, IsLeased, AnswerOf, IsAnswer, stage_word, WaitsFor}
@@ -608,12 +608,7 @@ took_in book k said i taken closing t j o ops steps file mine none begun has ans
 took_in book k said i taken closing t j o ops steps file mine none begun has answer (stage.Reading f) at (Bytes (Done p)) is old =
     attempt_more (early_of book.opening) said k.ops taken o (record { step = k.steps + 1; client = i; message = told_message t }) f.version f.first (λ hashes. absurd (subst (λ m. TellsVersion m) (same_reply t (Bytes (Done p)) is) hashes)) old
 took_in book k said i taken closing t j o ops steps file mine none begun has answer (stage.Reading f) at (Walked (LookedUp a)) is old = tt
-took_in book k said i taken closing t j o ops steps file mine none begun has answer (stage.Reading f) at (Walked (Shown a)) is old = tt
-took_in book k said i taken closing t j o ops steps file mine none begun has answer (stage.Reading f) at (Walked (Listed a)) is old = tt
-took_in book k said i taken closing t j o ops steps file mine none begun has answer (stage.Reading f) at (Walked (MadeFile a)) is old = tt
-took_in book k said i taken closing t j o ops steps file mine none begun has answer (stage.Reading f) at (Walked (MadeDir a)) is old = tt
-took_in book k said i taken closing t j o ops steps file mine none begun has answer (stage.Reading f) at (Walked (NoDir a)) is old = tt
-took_in book k said i taken closing t j o ops steps file mine none begun has answer st at r is old = tt
+took_in book k said i taken closing t j o ops steps file mine none begun has answer _ at _ is old = tt
 
 versions_hears : FitLaws → (book more : Book) (past : List Moment) (k : Core) (qs after : List Queue) (n now : ℕ) (bytes : List ℕ) (mid : List Queue) → IsKept book k qs → (h : Heard k qs n now bytes mid) → IsKept more (happens k (Hears n now bytes)).core after → CountedAt past k → VersionsAt (early_of book.opening) past k → VersionsBy (early_of book.opening) past k (Hears n now bytes) (happens k (Hears n now bytes))
 versions_hears laws book more past k qs after n now bytes mid kept h left counted before =

@@ -5,7 +5,7 @@ use Rattle.server_core.specs.State as server
 use Rattle.chunk_calls.specs.Files as the_files
 use Rattle.server_core.specs.Steps.{sends}
 use Rattle.client_state.specs.State as client
-use Rattle.kept_promise.proofs.Common.{slice_get, cond, ◌==◌, at, Temp, Change, TakenCall, Core, Session, numbered, with_numbered, hashed_of, Book, Call, Call.Lease, Call.Hash, Call.Read, Call.Make, Call.Name, Call.Send, Call.Walks, Call.Commit, Ask, Queue}
+use Rattle.kept_promise.proofs.Common.{slice_get, cond, ◌==◌, at, Temp, Change, TakenCall, Core, Session, numbered, with_numbered, hashed_of, Book, Call, Call.Lease, Ask, Queue}
 use Rattle.kept_promise.proofs.Lists.{some_is, nothing_there, same_or_not, of_appended, count_more, false_and_true, all_map}
 use Rattle.kept_promise.proofs.Keys.{times, times_append, own, on_way, change_key, ask_key, told_key}
 use Rattle.kept_promise.proofs.Messages.{job, AllAsks, Rising, IsAsked, IsAnswer, IsCommit, IsPiece, WaitsFor, TempUnder, content_wanted}
@@ -60,13 +60,7 @@ way_waits n y w c q a us e here same =
 -- a call's number is small
 call_xid : (xid : ℕ) (c : Call) → CallFits xid c → xid < 4294967296
 call_xid xid (Lease f) h = h.0
-call_xid xid (Hash f o) h = h.0
-call_xid xid (Read f c) h = h.0
-call_xid xid (Make m f) h = h.0
-call_xid xid (Name m c) h = h.0
-call_xid xid (Send m start bytes) h = h.0
-call_xid xid (Commit m f size) h = h.0
-call_xid xid (Walks w) h = h.0
+call_xid xid _ h = h.0
 
 pub record ComesToWait (book : Book) (k : Core) (n : ℕ) (x : Session) (q : Queue) (a : Ask) (us : List Ask) (temps : List (ℕ × Temp)) (d : Change) (h : IsSession book k.seats k.server n x q) : Type 0 where
   pub session_is : d.session ≡ n

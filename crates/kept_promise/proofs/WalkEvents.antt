@@ -28,7 +28,7 @@ use Rattle.open_close.specs.Walking.{walks, walks_if, is_its, is_look, told_walk
 use Rattle.trace_ends.specs.Session.{taken_of as session_taken}
 use Rattle.trace_replay.specs.Trail.{AreCounted, steps_by}
 use Rattle.trace_ends.specs.Commands.{path_word}
-use Rattle.kept_promise.proofs.Common.{slice_get, Contains, Contains-push_cases, Command, ClientStep, Ended, ended_by, command_step, Pending, Stage, Task, Op, Opening, TakenCall, op_after, ops_with, place_after, Core, Seat, CoreStep, Event, Event.Joins, Event.Does, Event.Serves, Event.Hears, Event.Settles, Event.Cuts, Event.Hangs, numbered, joins, does, cuts, cuts_if, acted, session_of, server_step, happens, Moment, step_of, Deed, deeds_of, Book, Queue, taken_by, got_step, told_message, Body, took, took_if, got_message, has_call, pending, idle, drops, reply_body, ◌==◌, ◌||◌, Contains-append_cases, Reply, Reply.Walked, Reply.Bytes, Reply.Versioned, Reply.Hashed, Reply.Made, Reply.Named, Reply.Stored, Reply.Changed, name_answer, Message, wanted_if, Contains-push, file_of, joined_from, calls_from, place_with, nat_lt, if◌then◌else◌, Local, Part, content_length, content_bytes, on_local, edits, truncates, reads, abandons, too_big, writes, done_with, closes, asks_temp, opens, opens_if, asks_file, asks_kept, is_open, may_ask, local_most, written_size, written, truncated, ends, word_of, value_at_begin, Word, point_if, has_point, told_of, Outcome}
+use Rattle.kept_promise.proofs.Common.{slice_get, Contains, Contains-push_cases, Command, ClientStep, Ended, ended_by, command_step, Pending, Stage, Task, Op, Opening, TakenCall, op_after, ops_with, place_after, Core, Seat, CoreStep, Event, Event.Joins, Event.Does, Event.Serves, Event.Hears, Event.Settles, Event.Cuts, Event.Hangs, numbered, joins, does, cuts, cuts_if, acted, session_of, server_step, happens, Moment, step_of, Deed, deeds_of, Book, Queue, taken_by, got_step, told_message, Body, took, took_if, got_message, has_call, pending, idle, drops, reply_body, ◌==◌, ◌||◌, Contains-append_cases, Reply, Reply.Walked, Reply.Bytes, Reply.Named, name_answer, Message, wanted_if, Contains-push, file_of, joined_from, calls_from, place_with, nat_lt, if◌then◌else◌, Local, Part, content_length, content_bytes, on_local, edits, truncates, reads, abandons, too_big, writes, done_with, closes, asks_temp, opens, opens_if, asks_file, asks_kept, is_open, may_ask, local_most, written_size, written, truncated, ends, word_of, value_at_begin, Word, point_if, has_point, told_of, Outcome}
 use Rattle.kept_promise.proofs.Actors.{job_place, job_task, Heard, heard_at, heard_acts, heard_takes}
 use Rattle.kept_promise.proofs.Lists.{some_is, nothing_there, of_appended, kept_appended, count_more, within, at_end}
 use Rattle.kept_promise.proofs.Messages.{Job, job, job_of, WalkCame, WalkTold, AllTolds, IsAnswer, AnswerOf, FetchOf, CloseOf}
@@ -62,23 +62,11 @@ IsFound all c o now = ((s : Spot) × (c ≡ path.Find s) × ((step : ℕ) × Lea
 
 found_of : (all : List Moment) (c : PathCommand) (o : Op) (st : Stage) (n : ℕ) → IsOfFile st → OnWay all c o st n → IsFound all c o n
 found_of all c o (stage.Walking x w) n of h = absurd of
-found_of all c o (stage.Asking x) n of h = h
-found_of all c o (stage.Hashing t x) n of h = h
-found_of all c o (stage.Listing x f) n of h = h
-found_of all c o (stage.Reading f) n of h = h
-found_of all c o (stage.Making x t) n of h = h
-found_of all c o (stage.Storing t) n of h = h
-found_of all c o (stage.Committing x) n of h = h
+found_of all c o _ n of h = h
 
 of_found : (all : List Moment) (c : PathCommand) (o : Op) (st : Stage) (n : ℕ) → IsOfFile st → IsFound all c o n → OnWay all c o st n
 of_found all c o (stage.Walking x w) n of h = absurd of
-of_found all c o (stage.Asking x) n of h = h
-of_found all c o (stage.Hashing t x) n of h = h
-of_found all c o (stage.Listing x f) n of h = h
-of_found all c o (stage.Reading f) n of h = h
-of_found all c o (stage.Making x t) n of h = h
-of_found all c o (stage.Storing t) n of h = h
-of_found all c o (stage.Committing x) n of h = h
+of_found all c o _ n of h = h
 
 some_number : (n m : ℕ) → ◌≡◌ {A = Option ℕ} (Some n) (Some m) → n ≡ m
 some_number n m e = some_is n m e
@@ -112,21 +100,11 @@ found_over all c o r n m e le ((s, is, (step, leads, before)), pointless, word) 
 -- a step of an operation on a file finds none
 on_file_on : (all : List Moment) (d : Command) (o r : Op) (st new : Stage) (n m : ℕ) → r.word ≡ o.word → r.point ≡ o.point → r.begin ≡ o.begin → r.file ≡ o.file → n ≤ m → IsOfFile st → IsOfFile new → IsOn all d o st n → IsOn all d r new m
 on_file_on all (command.Named c) o r st new n m word point begin file le of of_new h = of_found all c r new m of_new (found_of all c r st m of (is_on all (command.Named c) o r st n m word (inl point) begin file le h))
-on_file_on all (command.Open f) o r st new n m word point begin file le of of_new h = of_new
-on_file_on all (command.Write f a b) o r st new n m word point begin file le of of_new h = of_new
-on_file_on all (command.Trunc f a) o r st new n m word point begin file le of of_new h = of_new
-on_file_on all (command.Read f a b) o r st new n m word point begin file le of of_new h = of_new
-on_file_on all (command.Close f) o r st new n m word point begin file le of of_new h = of_new
-on_file_on all (command.Abandon f) o r st new n m word point begin file le of of_new h = of_new
+on_file_on all _ o r st new n m word point begin file le of of_new h = of_new
 
 on_file_over : (all : List Moment) (d : Command) (o r : Op) (st : Stage) (n m : ℕ) → EndsIn o r m → n ≤ m → IsOfFile st → IsOn all d o st n → IsOver all d r
 on_file_over all (command.Named c) o r st n m e le of h = let f = found_of all c o st n of h in (e.word ∙ f.2, inr (inr (found_over all c o r n m e le f)))
-on_file_over all (command.Open f) o r st n m e le of h = tt
-on_file_over all (command.Write f a b) o r st n m e le of h = tt
-on_file_over all (command.Trunc f a) o r st n m e le of h = tt
-on_file_over all (command.Read f a b) o r st n m e le of h = tt
-on_file_over all (command.Close f) o r st n m e le of h = tt
-on_file_over all (command.Abandon f) o r st n m e le of h = tt
+on_file_over all _ o r st n m e le of h = tt
 
 -- ---- its connection is lost
 
@@ -143,12 +121,7 @@ lost_over all d o r (stage.Reading f) n m e is le h = on_file_over all d o r (st
 lost_over all d o r (stage.Making x t) n m e is le h = on_file_over all d o r (stage.Making x t) n m e le tt h
 lost_over all d o r (stage.Storing t) n m e is le h = on_file_over all d o r (stage.Storing t) n m e le tt h
 lost_over all d o r (stage.Committing x) n m e is le h = on_file_over all d o r (stage.Committing x) n m e le tt h
-lost_over all (command.Open f) o r (stage.Walking x w) n m e is le h = tt
-lost_over all (command.Write f a b) o r (stage.Walking x w) n m e is le h = tt
-lost_over all (command.Trunc f a) o r (stage.Walking x w) n m e is le h = tt
-lost_over all (command.Read f a b) o r (stage.Walking x w) n m e is le h = tt
-lost_over all (command.Close f) o r (stage.Walking x w) n m e is le h = tt
-lost_over all (command.Abandon f) o r (stage.Walking x w) n m e is le h = tt
+lost_over all _ o r (stage.Walking x w) n m e is le h = tt
 
 lost_comes : (all : List Moment) (d : Deed) (o : Op) (j : Job) (n : ℕ) (s : client.State) (taken : List TakenCall) → IsOn all d.command o j.stage n → (t : Option Task) → t ≡ Some (record { file = j.file; stage = j.stage }) → StepComes all d o (s, ended_by t (record { outcome = outcome.Lost; rests_on = 0 })) taken (n + 1)
 lost_comes all d o j n s taken on t e = subst (λ (z : Option Task). StepComes all d o (s, ended_by z (record { outcome = outcome.Lost; rests_on = 0 })) taken (n + 1)) (sym e) (record {
@@ -314,11 +287,7 @@ heard_comes laws all past opening k qs n now bytes mid kept h order one noted is
                 subst (λ (i : ℕ). Contains (taken_by k i (Hears n now bytes)) (message.Answer x (body.Nfs (name_answer r)))) (sym client_is)
                 (subst (λ (l : List Message). Contains l (message.Answer x (body.Nfs (name_answer r)))) (sym (heard_takes laws book k qs n now bytes mid kept h ∙ ap (λ (b : Bool). wanted_if b (told_message h.told)) waits ∙ ap (λ (z : Reply). message.Answer x (reply_body z) ∷ []) is_reply)) one)
         on_path (command.Open f) named on = absurd on
-        on_path (command.Write f a b) named on = absurd on
-        on_path (command.Trunc f a) named on = absurd on
-        on_path (command.Read f a b) named on = absurd on
-        on_path (command.Close f) named on = absurd on
-        on_path (command.Abandon f) named on = absurd on
+        on_path _ named on = absurd on
 
         answered : (its : Bool) → NoFault o (told_walk (idle s) (client.calls_of s) x w (name_answer r) its) taken (k.steps + 1) → StepComes all d o (told_walk (idle s) (client.calls_of s) x w (name_answer r) its) taken (k.steps + 1)
         answered true right = on_path d.command refl on
@@ -328,12 +297,7 @@ heard_comes laws all past opening k qs n now bytes mid kept h order one noted is
         answered : (its : Bool) → NoFault o (told_walk (idle s) (client.calls_of s) x w (nfs.ReadAnswer a) its) taken (k.steps + 1) → StepComes all d o (told_walk (idle s) (client.calls_of s) x w (nfs.ReadAnswer a) its) taken (k.steps + 1)
         answered true right = fault_comes all d o (idle s) x taken (k.steps + 1) right
         answered false right = fault_comes all d o (idle s) x taken (k.steps + 1) right
-    to_walk y w e own (Versioned a) is b on right = fault_comes all d o (idle s) x taken (k.steps + 1) right
-    to_walk y w e own (Hashed a) is b on right = fault_comes all d o (idle s) x taken (k.steps + 1) right
-    to_walk y w e own (Made a) is b on right = fault_comes all d o (idle s) x taken (k.steps + 1) right
-    to_walk y w e own (Named a) is b on right = fault_comes all d o (idle s) x taken (k.steps + 1) right
-    to_walk y w e own (Stored a) is b on right = fault_comes all d o (idle s) x taken (k.steps + 1) right
-    to_walk y w e own (Changed a) is b on right = fault_comes all d o (idle s) x taken (k.steps + 1) right
+    to_walk y w e own _ is b on right = fault_comes all d o (idle s) x taken (k.steps + 1) right
 
     own_took : (st : Stage) → j.stage ≡ st → has_call (client.pending_in st) x ≡ true → IsOn all d.command o st k.steps → NoFault o (took (idle s) (client.calls_of s) j.file st x (reply_body h.told.reply)) taken (k.steps + 1) → StepComes all d o (took (idle s) (client.calls_of s) j.file st x (reply_body h.told.reply)) taken (k.steps + 1)
     own_took (stage.Walking y w) e has on right = to_walk y w e (eqb-true y x (or_none (y == x) has)) h.told.reply refl (ap (λ (z : Option Task). has_call (pending z) x) (job_task h.seat.place h.seat.client.task j is) ∙ ap (λ (z : Stage). has_call (client.pending_in z) x) e ∙ has) on right
@@ -438,12 +402,7 @@ walk_over s c o step run begin None = by (may_walk s (begun c))
 
 command_over : (all : List Moment) (s : client.State) (d : Command) (now : ℕ) (o : Op) (step : ℕ) → o.word ≡ word_of d → o.outcome ≡ told.Running → o.begin ≡ step → (let r = command_step s d now in IsOver all d (op_after o r.0 [] step r.1))
 command_over all s (command.Named c) now o step word run begin = (word_stays o (walks s c s.task).0 [] step (walks s c s.task).1 ∙ word, elim (walk_over s c o step run begin s.task) [ inl runs ↦ inl runs | inr once ↦ inr (inl once) ])
-command_over all s (command.Open f) now o step word run begin = tt
-command_over all s (command.Write f a b) now o step word run begin = tt
-command_over all s (command.Trunc f a) now o step word run begin = tt
-command_over all s (command.Read f a b) now o step word run begin = tt
-command_over all s (command.Close f) now o step word run begin = tt
-command_over all s (command.Abandon f) now o step word run begin = tt
+command_over all s _ now o step word run begin = tt
 
 does_onward : (all past : List Moment) (opening : List Opening) (k : Core) (qs : List Queue) (c now : ℕ) (d : Command) (seat : Seat) → IsSmall d → IsKept (book_at opening k all) k qs → numbered k.seats c ≡ Some seat → Walks all past k → Walks all (past ++ moment k (Does c now d) ∷ []) (does k c now d (Some seat)).core
 does_onward all past opening k qs c now d seat small kept here h = onward all past k r (Does c now d) (omega arith) (count_more k.ops new ∙ ap suc h.count ∙ sym (count_more (deeds_of past) deed))

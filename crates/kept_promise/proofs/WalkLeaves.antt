@@ -33,10 +33,7 @@ IsWalkLeft s r = (r.0.next ≤ s.next + calls_most) × (r.0.opened ≡ s.opened)
 
 end_neither : (e : WalkEnd) → IsNeither (outcome_of e)
 end_neither walk_end.Done = tt
-end_neither (walk_end.Names names) = tt
-end_neither (walk_end.Seen id kind version len) = tt
-end_neither (walk_end.Refused status) = tt
-end_neither walk_end.NoLink = tt
+end_neither _ = tt
 
 took_walk_left : (s : client.State) (calls : List Pending) (file y : ℕ) (w : Walk) (xid : ℕ) (b : Body) → IsWalkLeft s (took s calls file (stage.Walking y w) xid b)
 took_walk_left s calls file y w xid b = walk_cases (IsWalkLeft s) s calls file y w xid b (record {

@@ -133,10 +133,7 @@ gave_more p ds file x w h more k = walk_more (λ (l : List Deal) (q : Part). Gav
 
 end_no_link : (e : WalkEnd) → outcome_of e ≡ outcome.NoLink → e ≡ walk_end.NoLink
 end_no_link walk_end.NoLink h = refl
-end_no_link walk_end.Done h = absurd cc
-end_no_link (walk_end.Names names) h = absurd cc
-end_no_link (walk_end.Seen id kind version len) h = absurd cc
-end_no_link (walk_end.Refused status) h = absurd cc
+end_no_link _ h = absurd cc
 
 opens_join : (file : ℕ) (a b : List Deal) → AreOwn words.Open file [] a → AreOwn words.Open file [] b → AreOwn words.Open file [] (a ++ b)
 opens_join file [] b h k = k

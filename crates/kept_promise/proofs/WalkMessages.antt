@@ -18,28 +18,12 @@ use Rattle.kept_promise.proofs.Common.{◌==◌, sent_traffic, taken_traffic}
 not_read : (dir : ℕ) (left : List (List ℕ)) (g : Goal) → (6 == proc_number (nfs_proc (call_at dir left g))) ≡ false
 not_read dir (n ∷ ns) g = refl
 not_read dir [] (goal.Find name) = refl
-not_read dir [] (goal.Look name) = refl
-not_read dir [] goal.LookRoot = refl
-not_read dir [] (goal.List p) = refl
-not_read dir [] (goal.Make name) = refl
-not_read dir [] (goal.MakeDir name) = refl
-not_read dir [] (goal.Remove name) = refl
-not_read dir [] (goal.RemoveDir name) = refl
-not_read dir [] (goal.RenameFrom name to) = refl
-not_read dir [] (goal.RenameTo from name to) = refl
+not_read dir _ _ = refl
 
 call_silent : (x dir : ℕ) (left : List (List ℕ)) (g : Goal) → sent_traffic (message.Call x (body.Nfs (call_at dir left g))) ≡ no_traffic
 call_silent x dir (n ∷ ns) g = refl
 call_silent x dir [] (goal.Find name) = refl
-call_silent x dir [] (goal.Look name) = refl
-call_silent x dir [] goal.LookRoot = refl
-call_silent x dir [] (goal.List p) = refl
-call_silent x dir [] (goal.Make name) = refl
-call_silent x dir [] (goal.MakeDir name) = refl
-call_silent x dir [] (goal.Remove name) = refl
-call_silent x dir [] (goal.RemoveDir name) = refl
-call_silent x dir [] (goal.RenameFrom name to) = refl
-call_silent x dir [] (goal.RenameTo from name to) = refl
+call_silent x dir _ _ = refl
 
 pub call_counts : (x : ℕ) (w : Walk) → sent_traffic (message.Call x (body.Nfs (next_call w))) ≡ no_traffic
 call_counts x w = call_silent x w.dir w.left w.goal

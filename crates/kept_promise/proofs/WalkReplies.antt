@@ -40,17 +40,13 @@ abbrev pub walk_reply : Tree → Walk → NameReply
 walk_reply t w = reply_at t w.dir w.left w.goal
 
 told_at : (t : Tree) (dir : ℕ) (left : List (List ℕ)) (g : Goal) → IsAhead left g → makes_at left g ≡ false → told_by t.nodes (call_at dir left g) ≡ Some (name_answer (reply_at t dir left g))
-told_at t dir (n ∷ ns) g asks none = refl
-told_at t dir [] (goal.Find name) asks none = refl
-told_at t dir [] (goal.Look name) asks none = refl
-told_at t dir [] goal.LookRoot asks none = refl
-told_at t dir [] (goal.List p) asks none = refl
 told_at t dir [] (goal.Make name) asks none = absurd cc
 told_at t dir [] (goal.MakeDir name) asks none = absurd cc
 told_at t dir [] (goal.Remove name) asks none = absurd cc
 told_at t dir [] (goal.RemoveDir name) asks none = absurd cc
 told_at t dir [] (goal.RenameFrom name to) asks none = absurd asks
 told_at t dir [] (goal.RenameTo from name to) asks none = absurd cc
+told_at t dir _ _ asks none = refl
 
 pub reply_told : (t : Tree) (w : Walk) → IsWalkSmall w → is_making w ≡ false → told_by t.nodes (next_call w) ≡ Some (name_answer (walk_reply t w))
 reply_told t w h none = told_at t w.dir w.left w.goal h.ahead none
@@ -72,17 +68,13 @@ making_untold t w m e = by (is_making w) refl
     by true is = nothing_there m (sym (untold_at t w.dir w.left w.goal is) ∙ e)
 
 of_its : (t : Tree) (dir : ℕ) (left : List (List ℕ)) (g : Goal) → IsAhead left g → makes_at left g ≡ false → nfs_proc (name_answer (reply_at t dir left g)) ≡ nfs_proc (call_at dir left g)
-of_its t dir (n ∷ ns) g asks none = refl
-of_its t dir [] (goal.Find name) asks none = refl
-of_its t dir [] (goal.Look name) asks none = refl
-of_its t dir [] goal.LookRoot asks none = refl
-of_its t dir [] (goal.List p) asks none = refl
 of_its t dir [] (goal.Make name) asks none = absurd cc
 of_its t dir [] (goal.MakeDir name) asks none = absurd cc
 of_its t dir [] (goal.Remove name) asks none = absurd cc
 of_its t dir [] (goal.RemoveDir name) asks none = absurd cc
 of_its t dir [] (goal.RenameFrom name to) asks none = absurd asks
 of_its t dir [] (goal.RenameTo from name to) asks none = absurd cc
+of_its t dir _ _ asks none = refl
 
 -- it is of the call's procedure
 pub reply_its : (t : Tree) (w : Walk) → IsWalkSmall w → is_making w ≡ false → nfs_proc (name_answer (walk_reply t w)) ≡ nfs_proc (next_call w)
@@ -96,12 +88,8 @@ fits_at t xid dir [] (goal.Find name) h names aim asks none x = lookup_fits t xi
 fits_at t xid dir [] (goal.Look name) h names aim asks none x = lookup_fits t xid (place dir name) h aim.0 x
 fits_at t xid dir [] goal.LookRoot h names aim asks none x = getattr_fits t xid (handle_bytes dir) h x
 fits_at t xid dir [] (goal.List p) h names aim asks none x = listing_fits t xid (record { dir = handle_bytes dir; cookie = p.cookie; verifier = p.verifier; count = LISTING_MOST }) h x
-fits_at t xid dir [] (goal.Make name) h names aim asks none x = absurd cc
-fits_at t xid dir [] (goal.MakeDir name) h names aim asks none x = absurd cc
-fits_at t xid dir [] (goal.Remove name) h names aim asks none x = absurd cc
-fits_at t xid dir [] (goal.RemoveDir name) h names aim asks none x = absurd cc
 fits_at t xid dir [] (goal.RenameFrom name to) h names aim asks none x = absurd asks
-fits_at t xid dir [] (goal.RenameTo from name to) h names aim asks none x = absurd cc
+fits_at t xid dir [] _ h names aim asks none x = absurd cc
 
 pub name_answers_fit : NameAnswersFit
 name_answers_fit = λ xid t w r x h small e.
@@ -116,17 +104,13 @@ abbrev answers_with : server.State → (session xid : ℕ) → Nfs → List Entr
 answers_with s session xid m journal = (record s { journal = journal }, (says s session xid (body.Nfs m)).1)
 
 called_at : (s : server.State) (session xid dir : ℕ) (left : List (List ℕ)) (g : Goal) → IsAhead left g → makes_at left g ≡ false → called s session xid (body.Nfs (call_at dir left g)) ≡ answers_with s session xid (name_answer (reply_at s.tree dir left g)) (s.journal ++ [])
-called_at s session xid dir (n ∷ ns) g asks none = refl
-called_at s session xid dir [] (goal.Find name) asks none = refl
-called_at s session xid dir [] (goal.Look name) asks none = refl
-called_at s session xid dir [] goal.LookRoot asks none = refl
-called_at s session xid dir [] (goal.List p) asks none = refl
 called_at s session xid dir [] (goal.Make name) asks none = absurd cc
 called_at s session xid dir [] (goal.MakeDir name) asks none = absurd cc
 called_at s session xid dir [] (goal.Remove name) asks none = absurd cc
 called_at s session xid dir [] (goal.RemoveDir name) asks none = absurd cc
 called_at s session xid dir [] (goal.RenameFrom name to) asks none = absurd asks
 called_at s session xid dir [] (goal.RenameTo from name to) asks none = absurd cc
+called_at s session xid dir _ _ asks none = refl
 
 pub called_walk : (s : server.State) (session xid : ℕ) (w : Walk) → IsWalkSmall w → is_making w ≡ false → called s session xid (body.Nfs (next_call w)) ≡ says s session xid (body.Nfs (name_answer (walk_reply s.tree w)))
 called_walk s session xid w h none = called_at s session xid w.dir w.left w.goal h.ahead none ∙ ap (answers_with s session xid (name_answer (walk_reply s.tree w))) (append-nil s.journal)

@@ -129,34 +129,21 @@ some_none x e = absurd cc
 
 bare_same : (k : PathCommand) (o r : Op) → r.file ≡ o.file → r.point ≡ o.point → IsBare k o → IsBare k r
 bare_same (path.Make s) o r file point h = tt
-bare_same (path.Find s) o r file point h = (file ∙ h.0, point ∙ h.1)
-bare_same (path.Look s) o r file point h = (file ∙ h.0, point ∙ h.1)
-bare_same path.LookRoot o r file point h = (file ∙ h.0, point ∙ h.1)
-bare_same (path.List p) o r file point h = (file ∙ h.0, point ∙ h.1)
-bare_same (path.MakeDir s) o r file point h = (file ∙ h.0, point ∙ h.1)
 bare_same (path.Remove s) o r file point h = tt
-bare_same (path.RemoveDir s) o r file point h = (file ∙ h.0, point ∙ h.1)
 bare_same (path.Rename s t) o r file point h = tt
+bare_same _ o r file point h = (file ∙ h.0, point ∙ h.1)
 
 -- an answer that refuses leads to that
 pub refused_leads : (w : Walk) (a : Nfs) (s : Status) → refusal_of a ≡ Some s → walk_told w a ≡ leading.Ends (walk_end.Refused s)
-refused_leads w (nfs.LookupAnswer (Done f)) s e = nothing_there s e
 refused_leads w (nfs.LookupAnswer (Failed r f)) s e = ap (λ (z : Status). leading.Ends (walk_end.Refused z)) (some_is r s e)
-refused_leads w (nfs.GetAttrAnswer (Done f)) s e = nothing_there s e
 refused_leads w (nfs.GetAttrAnswer (Failed r f)) s e = ap (λ (z : Status). leading.Ends (walk_end.Refused z)) (some_is r s e)
-refused_leads w (nfs.ReadDirAnswer (Done f)) s e = nothing_there s e
 refused_leads w (nfs.ReadDirAnswer (Failed r f)) s e = ap (λ (z : Status). leading.Ends (walk_end.Refused z)) (some_is r s e)
-refused_leads w (nfs.CreateAnswer (Done f)) s e = nothing_there s e
 refused_leads w (nfs.CreateAnswer (Failed r f)) s e = ap (λ (z : Status). leading.Ends (walk_end.Refused z)) (some_is r s e)
-refused_leads w (nfs.MkDirAnswer (Done f)) s e = nothing_there s e
 refused_leads w (nfs.MkDirAnswer (Failed r f)) s e = ap (λ (z : Status). leading.Ends (walk_end.Refused z)) (some_is r s e)
-refused_leads w (nfs.RemoveAnswer (Done f)) s e = nothing_there s e
 refused_leads w (nfs.RemoveAnswer (Failed r f)) s e = ap (λ (z : Status). leading.Ends (walk_end.Refused z)) (some_is r s e)
-refused_leads w (nfs.RmDirAnswer (Done f)) s e = nothing_there s e
 refused_leads w (nfs.RmDirAnswer (Failed r f)) s e = ap (λ (z : Status). leading.Ends (walk_end.Refused z)) (some_is r s e)
-refused_leads w (nfs.RenameAnswer (Done f)) s e = nothing_there s e
 refused_leads w (nfs.RenameAnswer (Failed r f)) s e = ap (λ (z : Status). leading.Ends (walk_end.Refused z)) (some_is r s e)
-refused_leads w m s e = nothing_there s e
+refused_leads w _ s e = nothing_there s e
 
 -- what changes names alone is no remove, and no rename
 name_builds : (left : List (List ℕ)) (g : Goal) → makes_at left g ≡ true → IsNameGoal g → builds_at left g ≡ true
@@ -270,14 +257,7 @@ module _ (all : List Moment) (book : Book) (are : book.moments ≡ all) (order :
     where
       by : (k : PathCommand) → o.word ≡ path_word k → (is_find k ≡ false) → point_if (has_point o.word e.outcome) taken e.rests_on o.point ≡ o.point
       by (path.Find s) w other = absurd cc
-      by (path.Look s) w other = ap (λ (z : Word). point_if (has_point z e.outcome) taken e.rests_on o.point) w
-      by path.LookRoot w other = ap (λ (z : Word). point_if (has_point z e.outcome) taken e.rests_on o.point) w
-      by (path.List p) w other = ap (λ (z : Word). point_if (has_point z e.outcome) taken e.rests_on o.point) w
-      by (path.Make p) w other = ap (λ (z : Word). point_if (has_point z e.outcome) taken e.rests_on o.point) w
-      by (path.MakeDir p) w other = ap (λ (z : Word). point_if (has_point z e.outcome) taken e.rests_on o.point) w
-      by (path.Remove p) w other = ap (λ (z : Word). point_if (has_point z e.outcome) taken e.rests_on o.point) w
-      by (path.RemoveDir p) w other = ap (λ (z : Word). point_if (has_point z e.outcome) taken e.rests_on o.point) w
-      by (path.Rename p q) w other = ap (λ (z : Word). point_if (has_point z e.outcome) taken e.rests_on o.point) w
+      by _ w other = ap (λ (z : Word). point_if (has_point z e.outcome) taken e.rests_on o.point) w
 
   -- one that may change a file has none while its call is still to come, and none if that was refused
   at_last : changes (goal_word w.goal) ≡ true → is_creating w ≡ false → HasNeither o
@@ -301,11 +281,6 @@ module _ (all : List Moment) (book : Book) (are : book.moments ≡ all) (order :
   -- it has none before, if what it waited for was refused
   none_before : (s : Status) → refusal_of a ≡ Some s → (k : PathCommand) → c ≡ k → is_find k ≡ false → HasNeither o
   none_before s refused (path.Find p) is other = absurd cc
-  none_before s refused (path.Look p) is other = subst (λ (k : PathCommand). IsBare k o) is idle
-  none_before s refused path.LookRoot is other = subst (λ (k : PathCommand). IsBare k o) is idle
-  none_before s refused (path.List p) is other = subst (λ (k : PathCommand). IsBare k o) is idle
-  none_before s refused (path.MakeDir p) is other = subst (λ (k : PathCommand). IsBare k o) is idle
-  none_before s refused (path.RemoveDir p) is other = subst (λ (k : PathCommand). IsBare k o) is idle
   none_before s refused (path.Make p) is other = unmade_before s refused (ap (λ (g : Goal). changes (goal_word g)) (subst (λ (k : PathCommand). HasWalk (bare all) o.begin k w step) is old).1)
   none_before s refused (path.Remove p) is other = unmade_before s refused (ap (λ (g : Goal). changes (goal_word g)) (subst (λ (k : PathCommand). HasWalk (bare all) o.begin k w step) is old).1)
   none_before s refused (path.Rename p q) is other = unmade_before s refused (by (subst (λ (k : PathCommand). HasWalk (bare all) o.begin k w step) is old))
@@ -313,6 +288,7 @@ module _ (all : List Moment) (book : Book) (are : book.moments ≡ all) (order :
       by : HasWalk (bare all) o.begin (path.Rename p q) w step → changes (goal_word w.goal) ≡ true
       by (inl has) = ap (λ (g : Goal). changes (goal_word g)) has.has.1
       by (inr has) = ap (λ (g : Goal). changes (goal_word g)) has.has.1
+  none_before s refused _ is other = subst (λ (k : PathCommand). IsBare k o) is idle
 
   refused_pointless : (k : PathCommand) → c ≡ k → o.word ≡ path_word k → (e : Status) → refusal_of a ≡ Some e → (r : client.State × ClientStep) → r.1.ended ≡ Some (record { outcome = outcome.Refused e; rests_on = x }) → (become r).file ≡ o.file → IsPointless k (become r) (status_number e) (step_of h.at)
   refused_pointless k same own_word e refused r is file = by k same own_word (is_find k) refl
@@ -570,14 +546,7 @@ same_way o = record { client = refl; word = refl; point = inl refl; file = refl;
 
 not_close : (c : PathCommand) → path_word c ≡ words.Close → ⊥
 not_close (path.Find s) e = absurd cc
-not_close (path.Look s) e = absurd cc
-not_close path.LookRoot e = absurd cc
-not_close (path.List p) e = absurd cc
-not_close (path.Make s) e = absurd cc
-not_close (path.MakeDir s) e = absurd cc
-not_close (path.Remove s) e = absurd cc
-not_close (path.RemoveDir s) e = absurd cc
-not_close (path.Rename s t) e = absurd cc
+not_close _ e = absurd cc
 
 found_on : (all : List Moment) (c : PathCommand) (o r : Op) (n m : ℕ) → r.begin ≡ o.begin → r.file ≡ o.file → n ≤ m → ((s : Spot) × (c ≡ path.Find s) × ((step : ℕ) × Leads (bare all) o.begin ROOT (all_names s) o.file step × (step ≤ n)))
     → (s : Spot) × (c ≡ path.Find s) × ((step : ℕ) × Leads (bare all) r.begin ROOT (all_names s) r.file step × (step ≤ m))
@@ -593,22 +562,11 @@ bare_on c o r file (inr close) is h = absurd (not_close c (sym is ∙ close))
 
 way_on : (all : List Moment) (c : PathCommand) (o r : Op) (st : Stage) (n m : ℕ) → r.word ≡ o.word → (r.point ≡ o.point) ⊎ (o.word ≡ words.Close) → r.begin ≡ o.begin → r.file ≡ o.file → n ≤ m → OnWay all c o st n → OnWay all c r st m
 way_on all c o r (stage.Walking x w) n m word point begin file le (step, has, before, plain, is) = (step, subst (λ (b : ℕ). HasWalk (bare all) b c w step) (sym begin) has, omega (arith, le, before), bare_on c o r file point is plain, word ∙ is)
-way_on all c o r (stage.Asking x) n m word point begin file le h = (found_on all c o r n m begin file le h.0, point_stays c o r point h.1 h.2, word ∙ h.2)
-way_on all c o r (stage.Hashing t x) n m word point begin file le h = (found_on all c o r n m begin file le h.0, point_stays c o r point h.1 h.2, word ∙ h.2)
-way_on all c o r (stage.Listing x f) n m word point begin file le h = (found_on all c o r n m begin file le h.0, point_stays c o r point h.1 h.2, word ∙ h.2)
-way_on all c o r (stage.Reading f) n m word point begin file le h = (found_on all c o r n m begin file le h.0, point_stays c o r point h.1 h.2, word ∙ h.2)
-way_on all c o r (stage.Making x t) n m word point begin file le h = (found_on all c o r n m begin file le h.0, point_stays c o r point h.1 h.2, word ∙ h.2)
-way_on all c o r (stage.Storing t) n m word point begin file le h = (found_on all c o r n m begin file le h.0, point_stays c o r point h.1 h.2, word ∙ h.2)
-way_on all c o r (stage.Committing x) n m word point begin file le h = (found_on all c o r n m begin file le h.0, point_stays c o r point h.1 h.2, word ∙ h.2)
+way_on all c o r _ n m word point begin file le h = (found_on all c o r n m begin file le h.0, point_stays c o r point h.1 h.2, word ∙ h.2)
 
 pub is_on : (all : List Moment) (d : Command) (o r : Op) (st : Stage) (n m : ℕ) → r.word ≡ o.word → (r.point ≡ o.point) ⊎ (o.word ≡ words.Close) → r.begin ≡ o.begin → r.file ≡ o.file → n ≤ m → IsOn all d o st n → IsOn all d r st m
 is_on all (command.Named c) o r st n m word point begin file le h = way_on all c o r st n m word point begin file le h
-is_on all (command.Open f) o r st n m word point begin file le h = h
-is_on all (command.Write f a b) o r st n m word point begin file le h = h
-is_on all (command.Trunc f a) o r st n m word point begin file le h = h
-is_on all (command.Read f a b) o r st n m word point begin file le h = h
-is_on all (command.Close f) o r st n m word point begin file le h = h
-is_on all (command.Abandon f) o r st n m word point begin file le h = h
+is_on all _ o r st n m word point begin file le h = h
 
 inside_on : (o r : Op) (from step : ℕ) → r.end ≡ o.end → IsInside o from step → IsInside r from step
 inside_on o r from step end h = (h.0, λ e is. h.1 e (sym end ∙ is))
@@ -637,14 +595,7 @@ pointless_on c o r is s status step h = by s.point
   where
     none : (k : PathCommand) → r.point ≡ o.point → IsPointless k o status step → IsPointless k r status step
     none (path.Find z) same h = same ∙ h
-    none (path.Look z) same h = (s.file ∙ h.0, same ∙ h.1)
-    none path.LookRoot same h = (s.file ∙ h.0, same ∙ h.1)
-    none (path.List z) same h = (s.file ∙ h.0, same ∙ h.1)
-    none (path.Make z) same h = (s.file ∙ h.0, same ∙ h.1)
-    none (path.MakeDir z) same h = (s.file ∙ h.0, same ∙ h.1)
-    none (path.Remove z) same h = (s.file ∙ h.0, same ∙ h.1)
-    none (path.RemoveDir z) same h = (s.file ∙ h.0, same ∙ h.1)
-    none (path.Rename z t) same h = (s.file ∙ h.0, same ∙ h.1)
+    none _ same h = (s.file ∙ h.0, same ∙ h.1)
 
     by : (r.point ≡ o.point) ⊎ (o.word ≡ words.Close) → IsPointless c r status step
     by (inl same) = none c same h
@@ -675,10 +626,7 @@ done_on all c o r is s h = by s.point
     same (path.Remove p) point h = makes_in_on all o r p.dirs (λ dir. nfs.Remove (place dir p.name)) (λ dir t held. remove t held dir p.name) s point h
     same (path.RemoveDir p) point h = makes_in_on all o r p.dirs (λ dir. nfs.RmDir (place dir p.name)) (λ dir t held. rmdir t held dir p.name) s point h
     same (path.Rename p q) point (dir, first, to, second, leads, more, made) = (dir, first, to, second, subst (λ (b : ℕ). Leads (bare all) b ROOT p.dirs dir first) (sym s.begin) leads, more, makes_on all o r second (rename_call dir p.name to q.name) (λ tree held. rename tree held dir p.name to q.name) s point made)
-    same (path.Find p) point h = absurd h
-    same (path.Look p) point h = absurd h
-    same path.LookRoot point h = absurd h
-    same (path.List p) point h = absurd h
+    same _ point h = absurd h
 
     by : (r.point ≡ o.point) ⊎ (o.word ≡ words.Close) → NameDone (bare all) r c
     by (inl point) = same c point h
@@ -717,9 +665,4 @@ pub is_over : (all : List Moment) (d : Command) (o r : Op) → SameWay o r → I
 is_over all (command.Named c) o r s (is, inl h) = (s.word ∙ is, inl (s.outcome ∙ h))
 is_over all (command.Named c) o r s (is, inr (inl h)) = (s.word ∙ is, inr (inl (s.end ∙ h ∙ ap (λ (n : ℕ). Some n) (sym s.begin))))
 is_over all (command.Named c) o r s (is, inr (inr h)) = (s.word ∙ is, inr (inr (subst (EndsAs all c r) (sym s.outcome) (ends_on all c o r o.outcome is s h))))
-is_over all (command.Open f) o r s h = tt
-is_over all (command.Write f a b) o r s h = tt
-is_over all (command.Trunc f a) o r s h = tt
-is_over all (command.Read f a b) o r s h = tt
-is_over all (command.Close f) o r s h = tt
-is_over all (command.Abandon f) o r s h = tt
+is_over all _ o r s h = tt

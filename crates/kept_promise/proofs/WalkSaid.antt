@@ -109,12 +109,7 @@ HasCalls d u end begin log = SendsNone log
 -- also where its connection was lost
 lost_calls : (d : Command) (end : Option ℕ) (begin : ℕ) (log : List Deal) (file : ℕ) (st : Stage) → IsSaid d log file st → HasCalls d told.Lost end begin log
 lost_calls (command.Named c) end begin log file st h = inr (under_walk told.Lost (asks (begun c)) log file st (lost_so st) h)
-lost_calls (command.Open f) end begin log file st h = h.1
-lost_calls (command.Write f a b) end begin log file st h = h.1
-lost_calls (command.Trunc f a) end begin log file st h = h.1
-lost_calls (command.Read f a b) end begin log file st h = h.1
-lost_calls (command.Close f) end begin log file st h = h.1
-lost_calls (command.Abandon f) end begin log file st h = h.1
+lost_calls _ end begin log file st h = h.1
 
 -- a listing that ended so, behind its first step, gave up
 abbrev pub GaveNow : Command → History → (end : Option ℕ) → (begin : ℕ) → List Deal → Type 0
@@ -733,12 +728,7 @@ said_hears fits all past opening k qs after n now bytes mid kept h left before s
                   (heard_filed new o (asks (begun c)) (deals_of o past) h.seat.client w.0 h.told.xid (reply_body h.told.reply) (job_task h.seat.place h.seat.client.task w.0 w.1) was has
                   (λ fault. no_fault_after more o r.0 taken (k.steps + 1) r.1 right fault) (file_now o r.0 taken (k.steps + 1) r.1) (word_after o r.0 taken (k.steps + 1) r.1) (point_now o r.0 taken (k.steps + 1) r.1));
             }
-        on (command.Open f) was has = record { stage = λ u running is. ((plain was).stage u running is, subst SendsNone (sym log) (plain was).each); each = subst SendsNone (sym log) (plain was).each; gave = tt; filed = tt }
-        on (command.Write f a b) was has = record { stage = λ u running is. ((plain was).stage u running is, subst SendsNone (sym log) (plain was).each); each = subst SendsNone (sym log) (plain was).each; gave = tt; filed = tt }
-        on (command.Trunc f a) was has = record { stage = λ u running is. ((plain was).stage u running is, subst SendsNone (sym log) (plain was).each); each = subst SendsNone (sym log) (plain was).each; gave = tt; filed = tt }
-        on (command.Read f a b) was has = record { stage = λ u running is. ((plain was).stage u running is, subst SendsNone (sym log) (plain was).each); each = subst SendsNone (sym log) (plain was).each; gave = tt; filed = tt }
-        on (command.Close f) was has = record { stage = λ u running is. ((plain was).stage u running is, subst SendsNone (sym log) (plain was).each); each = subst SendsNone (sym log) (plain was).each; gave = tt; filed = tt }
-        on (command.Abandon f) was has = record { stage = λ u running is. ((plain was).stage u running is, subst SendsNone (sym log) (plain was).each); each = subst SendsNone (sym log) (plain was).each; gave = tt; filed = tt }
+        on _ was has = record { stage = λ u running is. ((plain was).stage u running is, subst SendsNone (sym log) (plain was).each); each = subst SendsNone (sym log) (plain was).each; gave = tt; filed = tt }
 
 -- ---- any event
 

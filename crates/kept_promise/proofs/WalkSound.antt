@@ -51,59 +51,24 @@ pub data WalkStep (w : Walk) (r : Told) : Type 0 where
 
 -- where a name leads to a directory, all is as it was, and one call fewer is left
 arrives_dir : (id : ℕ) (ns : List (List ℕ)) (g : Goal) → id < 18446744073709551616 → (arrives id ns g).dir < 18446744073709551616
-arrives_dir id (n ∷ ns) g small = small
 arrives_dir id [] (goal.RenameFrom n to) small = omega arith
-arrives_dir id [] (goal.Find n) small = small
-arrives_dir id [] (goal.Look n) small = small
-arrives_dir id [] goal.LookRoot small = small
-arrives_dir id [] (goal.List p) small = small
-arrives_dir id [] (goal.Make n) small = small
-arrives_dir id [] (goal.MakeDir n) small = small
-arrives_dir id [] (goal.Remove n) small = small
-arrives_dir id [] (goal.RemoveDir n) small = small
-arrives_dir id [] (goal.RenameTo from n to) small = small
+arrives_dir id _ _ small = small
 
 arrives_asking : (id : ℕ) (ns : List (List ℕ)) (g : Goal) → id < 18446744073709551616 → IsAsking g → IsAsking (arrives id ns g).goal
-arrives_asking id (n ∷ ns) g small h = h
 arrives_asking id [] (goal.RenameFrom n to) small h = small
-arrives_asking id [] (goal.Find n) small h = h
-arrives_asking id [] (goal.Look n) small h = h
-arrives_asking id [] goal.LookRoot small h = h
-arrives_asking id [] (goal.List p) small h = h
-arrives_asking id [] (goal.Make n) small h = h
-arrives_asking id [] (goal.MakeDir n) small h = h
-arrives_asking id [] (goal.Remove n) small h = h
-arrives_asking id [] (goal.RemoveDir n) small h = h
-arrives_asking id [] (goal.RenameTo from n to) small h = h
+arrives_asking id _ _ small h = h
 
 arrives_small : (id : ℕ) (ns : List (List ℕ)) (g : Goal) → id < 18446744073709551616 → AreNames ns → IsGoalNamed g → IsAsking g → IsWalkSmall (arrives id ns g)
 arrives_small id ns g small names aim asking = record { dir = arrives_dir id ns g small; named = arrives_named id ns g names aim; asking = arrives_asking id ns g small asking; ahead = arrives_ahead id ns g }
 
 arrives_calls : (id : ℕ) (ns : List (List ℕ)) (g : Goal) → walk_calls (arrives id ns g) ≡ length ns + goal_left g + open_calls g
-arrives_calls id (n ∷ ns) g = refl
 arrives_calls id [] (goal.RenameFrom n to) = omega arith
-arrives_calls id [] (goal.Find n) = refl
-arrives_calls id [] (goal.Look n) = refl
-arrives_calls id [] goal.LookRoot = refl
-arrives_calls id [] (goal.List p) = refl
-arrives_calls id [] (goal.Make n) = refl
-arrives_calls id [] (goal.MakeDir n) = refl
-arrives_calls id [] (goal.Remove n) = refl
-arrives_calls id [] (goal.RemoveDir n) = refl
-arrives_calls id [] (goal.RenameTo from n to) = refl
+arrives_calls id _ _ = refl
 
 arrives_word : (id : ℕ) (ns : List (List ℕ)) (g : Goal) → goal_word (arrives id ns g).goal ≡ goal_word g
 arrives_word id (n ∷ ns) g = refl
 arrives_word id [] (goal.RenameFrom n to) = refl
-arrives_word id [] (goal.Find n) = refl
-arrives_word id [] (goal.Look n) = refl
-arrives_word id [] goal.LookRoot = refl
-arrives_word id [] (goal.List p) = refl
-arrives_word id [] (goal.Make n) = refl
-arrives_word id [] (goal.MakeDir n) = refl
-arrives_word id [] (goal.Remove n) = refl
-arrives_word id [] (goal.RemoveDir n) = refl
-arrives_word id [] (goal.RenameTo from n to) = refl
+arrives_word id _ _ = refl
 
 -- the last entry of a page comes no further than the names do
 last_page : (ns : List Node) (room cookie : ℕ) → last_cookie cookie (page_of room cookie ns) ≤ cookie + length ns

@@ -105,18 +105,12 @@ module _ (nodes : List Node) (w : Walk) (a : Nfs) (s : Status) (rooted : IsRoote
 
   module _ (book : Book) (begin step : ℕ) where
     way_refused : (k : PathCommand) → HasWalk book begin k w step → (n : List ℕ) (ns : List (List ℕ)) → w.left ≡ n ∷ ns → EndsNamed k (told.Refused (status_number s))
-    way_refused (path.Find x) h n ns left = inl (on_way n ns left)
     way_refused (path.Look x) h n ns left = on_way n ns left
     way_refused path.LookRoot h n ns left = absurd (some (sym (at_root book begin step w h.0).0 ∙ left))
       where
         some : ◌≡◌ {A = List (List ℕ)} [] (n ∷ ns) → ⊥
         some e = absurd cc
-    way_refused (path.List p) h n ns left = inl (on_way n ns left)
-    way_refused (path.Make x) h n ns left = inl (on_way n ns left)
-    way_refused (path.MakeDir x) h n ns left = inl (on_way n ns left)
-    way_refused (path.Remove x) h n ns left = inl (on_way n ns left)
-    way_refused (path.RemoveDir x) h n ns left = inl (on_way n ns left)
-    way_refused (path.Rename x y) h n ns left = inl (on_way n ns left)
+    way_refused _ h n ns left = inl (on_way n ns left)
 
     goal_refused : (k : PathCommand) → HasWalk book begin k w step → w.left ≡ [] → EndsNamed k (told.Refused (status_number s))
     goal_refused (path.Find x) h left = inl (look_up x.name (subst IsGoalNamed h.1 small.named.1) (goal_is (goal.Find x.name) left h.1))

@@ -72,15 +72,7 @@ walk_word g h = (goal_not_close g, by g h)
   where
     by : (g : Goal) → IsAsking g → is_remote (goal_word g) ≡ true
     by (goal.Find n) h = refl
-    by (goal.Look n) h = refl
-    by goal.LookRoot h = refl
-    by (goal.List p) h = refl
-    by (goal.Make n) h = refl
-    by (goal.MakeDir n) h = refl
-    by (goal.Remove n) h = refl
-    by (goal.RemoveDir n) h = refl
-    by (goal.RenameFrom n to) h = refl
-    by (goal.RenameTo from n to) h = refl
+    by _ h = refl
 
 -- ---- it ends
 
@@ -406,12 +398,8 @@ module _ (book : Book) (k : Core) (qs : List Queue) (n : ℕ) (x : Session) (q :
   same_point o xid e = ap (λ (b : Bool). point_if b x.taken xid of.op.point) (unpointed of.op.word o e)
 
   unseen : (b : Bool) (e : WalkEnd) → IsUnseen e → file_with of.op.file (seen_in b e) ≡ of.op.file
-  unseen false e u = refl
-  unseen true walk_end.Done u = refl
-  unseen true (walk_end.Names ns) u = refl
   unseen true (walk_end.Seen id kind version len) u = absurd u
-  unseen true (walk_end.Refused s) u = refl
-  unseen true walk_end.NoLink u = refl
+  unseen _ _ u = refl
 
   -- what changes no file is as its client left it
   unchanged : (named : ℕ) (p : Option ℕ) (u : Outcome) (v : List ℕ) → changes of.op.word ≡ false → IsAsBefore x.closing j.place of.op None named p u v
@@ -498,10 +486,7 @@ module _ (book : Book) (k : Core) (qs : List Queue) (n : ℕ) (x : Session) (q :
 
   not_running : (e : WalkEnd) → is_running (told_of (outcome_of e)) ≡ false
   not_running walk_end.Done = refl
-  not_running (walk_end.Names ns) = refl
-  not_running (walk_end.Seen id kind version len) = refl
-  not_running (walk_end.Refused s) = refl
-  not_running walk_end.NoLink = refl
+  not_running _ = refl
 
   -- what was refused is to change nothing any more
   abbrev Before : Option ℕ → WalkEnd → Type 0

@@ -68,17 +68,8 @@ is_from (goal.RenameFrom name to) = true
 is_from g = false
 
 arrives_else : (id : ℕ) (ns : List (List ℕ)) (g : Goal) → is_from g ≡ false → arrives id ns g ≡ record { dir = id; left = ns; goal = g }
-arrives_else id (n ∷ ns) g e = refl
 arrives_else id [] (goal.RenameFrom name to) e = absurd cc
-arrives_else id [] (goal.Find name) e = refl
-arrives_else id [] (goal.Look name) e = refl
-arrives_else id [] goal.LookRoot e = refl
-arrives_else id [] (goal.List p) e = refl
-arrives_else id [] (goal.Make name) e = refl
-arrives_else id [] (goal.MakeDir name) e = refl
-arrives_else id [] (goal.Remove name) e = refl
-arrives_else id [] (goal.RemoveDir name) e = refl
-arrives_else id [] (goal.RenameTo from name to) e = refl
+arrives_else id _ _ e = refl
 
 -- a step down
 reaches_on : (book : Book) (from : ℕ) (whole : List (List ℕ)) (w : Walk) (step : ℕ) (n : List ℕ) (ns : List (List ℕ)) (m : Moment) (s : Standing) → IsReached book from whole w step → w.left ≡ n ∷ ns → Contains book.moments m → step ≤ step_of m → stands_for (tree_at m).nodes w.dir n ≡ Some s → (done : List (List ℕ)) × (whole ≡ done ++ ns) × Leads book from ROOT done s.id (step_of m)
@@ -193,19 +184,13 @@ HasWalk book begin (path.Rename s t) w step = IsFirst book begin s t w step ⊎ 
 
 -- it begins at the root
 pub walk_begins : (book : Book) (begin : ℕ) (k : PathCommand) → HasWalk book begin k (begun k) begin
-walk_begins book begin (path.Find s) = (([], refl, (refl, refl)), refl)
-walk_begins book begin (path.Look s) = (([], refl, (refl, refl)), refl)
-walk_begins book begin path.LookRoot = (([], refl, (refl, refl)), refl)
 walk_begins book begin (path.List p) = record { found_at = begin; reached = ([], refl, (refl, refl)); before = omega arith; pages = no_pages; goal_is = refl; so_far = inl (refl, refl) }
-walk_begins book begin (path.Make s) = (([], refl, (refl, refl)), refl)
-walk_begins book begin (path.MakeDir s) = (([], refl, (refl, refl)), refl)
-walk_begins book begin (path.Remove s) = (([], refl, (refl, refl)), refl)
-walk_begins book begin (path.RemoveDir s) = (([], refl, (refl, refl)), refl)
 walk_begins book begin (path.Rename s t) = by s.dirs refl
   where
     by : (ns : List (List ℕ)) → s.dirs ≡ ns → IsFirst book begin s t (arrives ROOT ns (goal.RenameFrom s.name t)) begin ⊎ IsSecond book begin s t (arrives ROOT ns (goal.RenameFrom s.name t)) begin
     by [] e = inr (record { dir = ROOT; found_at = begin; found = subst (λ (l : List (List ℕ)). Leads book begin ROOT l ROOT begin) (sym e) (refl, refl); has = (([], refl, (refl, refl)), refl) })
     by (n ∷ ns) e = inl (record { next = n; others = ns; left_is = refl; has = (([], e, (refl, refl)), refl) })
+walk_begins book begin _ = (([], refl, (refl, refl)), refl)
 
 -- a name stood for a node, and it goes on there
 pub walk_goes : (book : Book) (begin : ℕ) (k : PathCommand) (w : Walk) (step : ℕ) (n : List ℕ) (ns : List (List ℕ)) (m : Moment) (s : Standing) → HasWalk book begin k w step → w.left ≡ n ∷ ns → Contains book.moments m → step ≤ step_of m → stands_for (tree_at m).nodes w.dir n ≡ Some s → HasWalk book begin k (arrives s.id ns w.goal) (step_of m)

@@ -13,7 +13,7 @@ use Rattle.client_state.specs.declared.task.Stage.TheVariants as stage
 use Rattle.register_model.specs.declared.op.Outcome.TheVariants as told
 use Rattle.register_model.specs.declared.op.Word.TheVariants as words
 use Rattle.trace_ends.specs.Commands.{path_word}
-use Rattle.kept_promise.proofs.Common.{slice_get, slice_set, Contains-push_cases, Command, ClientStep, Ended, joined, Stage, Task, Op, Opening, TakenCall, op_after, ops_with, ops_after, Core, Seat, Event, Event.Joins, Event.Does, Event.Serves, Event.Hears, Event.Settles, Event.Cuts, Event.Hangs, numbered, with_numbered, joins_as, happens, Moment, Deed, deeds_of, deed_by, Queue, idle, ends, word_of, is_untold}
+use Rattle.kept_promise.proofs.Common.{slice_get, slice_set, Contains-push_cases, Command, ClientStep, Ended, joined, Stage, Task, Op, Opening, TakenCall, op_after, ops_with, ops_after, Core, Seat, Event, Event.Joins, Event.Does, Event.Settles, numbered, with_numbered, joins_as, happens, Moment, Deed, deeds_of, deed_by, Queue, idle, ends, word_of, is_untold}
 use Rattle.kept_promise.proofs.Actors.{job_place}
 use Rattle.kept_promise.proofs.Lists.{set_count, some_is, nothing_there, kept_appended, at_replaced, same_or_not, set_else, true_and_false}
 use Rattle.kept_promise.proofs.Messages.{Job, job, job_of}
@@ -64,23 +64,12 @@ no_make c s is e = true_and_false (gets_file (path_word c)) e (ap (λ (z : PathC
 
 made_on : (all : List Moment) (c : PathCommand) (o r : Op) (st : Stage) (n m : ℕ) → MadeWay o r → n ≤ m → OnWay all c o st n → OnWay all c r st m
 made_on all c o r (stage.Walking x w) n m s le (step, has, before, plain, is) = (step, subst (λ (b : ℕ). HasWalk (bare all) b c w step) (sym s.begin) has, omega (arith, le, before), bare_make c r (ap gets_file (sym is) ∙ s.gets), s.word ∙ is)
-made_on all c o r (stage.Asking x) n m s le h = absurd (no_make c h.0.0 h.0.1 (ap gets_file (sym h.2) ∙ s.gets))
-made_on all c o r (stage.Hashing t x) n m s le h = absurd (no_make c h.0.0 h.0.1 (ap gets_file (sym h.2) ∙ s.gets))
-made_on all c o r (stage.Listing x f) n m s le h = absurd (no_make c h.0.0 h.0.1 (ap gets_file (sym h.2) ∙ s.gets))
-made_on all c o r (stage.Reading f) n m s le h = absurd (no_make c h.0.0 h.0.1 (ap gets_file (sym h.2) ∙ s.gets))
-made_on all c o r (stage.Making x t) n m s le h = absurd (no_make c h.0.0 h.0.1 (ap gets_file (sym h.2) ∙ s.gets))
-made_on all c o r (stage.Storing t) n m s le h = absurd (no_make c h.0.0 h.0.1 (ap gets_file (sym h.2) ∙ s.gets))
-made_on all c o r (stage.Committing x) n m s le h = absurd (no_make c h.0.0 h.0.1 (ap gets_file (sym h.2) ∙ s.gets))
+made_on all c o r _ n m s le h = absurd (no_make c h.0.0 h.0.1 (ap gets_file (sym h.2) ∙ s.gets))
 
 kept_on : (all : List Moment) (d : Command) (o r : Op) (st : Stage) (n m : ℕ) → WayKept o r → n ≤ m → IsOn all d o st n → IsOn all d r st m
 kept_on all d o r st n m (inl s) le h = is_on all d o r st n m s.word s.point s.begin s.file le h
 kept_on all (command.Named c) o r st n m (inr s) le h = made_on all c o r st n m s le h
-kept_on all (command.Open f) o r st n m (inr s) le h = h
-kept_on all (command.Write f a b) o r st n m (inr s) le h = h
-kept_on all (command.Trunc f a) o r st n m (inr s) le h = h
-kept_on all (command.Read f a b) o r st n m (inr s) le h = h
-kept_on all (command.Close f) o r st n m (inr s) le h = h
-kept_on all (command.Abandon f) o r st n m (inr s) le h = h
+kept_on all _ o r st n m (inr s) le h = h
 
 made_ends : (all : List Moment) (c : PathCommand) (o r : Op) (u : History) → gets_file (path_word c) ≡ true → is_untold u ≡ true → EndsAs all c o u → EndsAs all c r u
 made_ends all (path.Make s) o r told.Lost e t h = tt
@@ -107,11 +96,7 @@ over_kept all (command.Named c) o r (inr s) h = (
   ],
 )
 over_kept all (command.Open f) o r (inr s) h = tt
-over_kept all (command.Write f a b) o r (inr s) h = tt
-over_kept all (command.Trunc f a) o r (inr s) h = tt
-over_kept all (command.Read f a b) o r (inr s) h = tt
-over_kept all (command.Close f) o r (inr s) h = tt
-over_kept all (command.Abandon f) o r (inr s) h = tt
+over_kept all _ o r (inr s) h = tt
 
 -- ---- an event
 
@@ -134,12 +119,7 @@ OpCame all past ds k r = (p : ℕ) (d : Deed) (q : Op) → slice_get ds p ≡ So
 
 prefixed : (past : List Moment) (k : Core) (e : Event) (p : ℕ) (d : Deed) → slice_get (deeds_of past) p ≡ Some d → slice_get (More past k e) p ≡ Some d
 prefixed past k (Does c now x) p d at = kept_appended (deeds_of past) _ p d at
-prefixed past k (Joins c) p d at = ap (λ (l : List Deed). slice_get l p) (append-nil (deeds_of past)) ∙ at
-prefixed past k (Serves n now bytes) p d at = ap (λ (l : List Deed). slice_get l p) (append-nil (deeds_of past)) ∙ at
-prefixed past k (Hears n now bytes) p d at = ap (λ (l : List Deed). slice_get l p) (append-nil (deeds_of past)) ∙ at
-prefixed past k (Settles now) p d at = ap (λ (l : List Deed). slice_get l p) (append-nil (deeds_of past)) ∙ at
-prefixed past k (Cuts c) p d at = ap (λ (l : List Deed). slice_get l p) (append-nil (deeds_of past)) ∙ at
-prefixed past k (Hangs n) p d at = ap (λ (l : List Deed). slice_get l p) (append-nil (deeds_of past)) ∙ at
+prefixed past k _ p d at = ap (λ (l : List Deed). slice_get l p) (append-nil (deeds_of past)) ∙ at
 
 jobs_longer : (all : List Moment) (ds more : List Deed) (k : Core) → ((p : ℕ) (d : Deed) → slice_get ds p ≡ Some d → slice_get more p ≡ Some d) → JobsOn all ds k → JobsOn all more k
 jobs_longer all ds more k longer h = λ i seat j here is. let w = h i seat j here is in (w.0, w.1, longer j.place w.0 w.2, w.3, w.4, w.5, w.6)
@@ -271,12 +251,7 @@ acted_at ops l o c taken step acts at = ap (λ (z : Option Op). slice_get (ops_a
 -- one that runs isn't over
 runs_over : (all : List Moment) (d : Command) (o : Op) → o.word ≡ word_of d → o.outcome ≡ told.Running → IsOver all d o
 runs_over all (command.Named c) o w e = (w, inl e)
-runs_over all (command.Open f) o w e = tt
-runs_over all (command.Write f a b) o w e = tt
-runs_over all (command.Trunc f a) o w e = tt
-runs_over all (command.Read f a b) o w e = tt
-runs_over all (command.Close f) o w e = tt
-runs_over all (command.Abandon f) o w e = tt
+runs_over all _ o w e = tt
 
 -- what a step of the client makes of its operation
 pub record StepComes (all : List Moment) (d : Deed) (o : Op) (r : client.State × ClientStep) (taken : List TakenCall) (now : ℕ) : Type 0 where

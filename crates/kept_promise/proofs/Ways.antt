@@ -17,13 +17,7 @@ HasWays ds seats = (c : ℕ) (seat : Seat) (j : Job) (d : Deed) → numbered sea
 
 pub stage_case : (st : Stage) → IsOfFile st ⊎ ((y : ℕ) × (w : Walk) × (st ≡ stage.Walking y w))
 stage_case (stage.Walking y w) = inr (y, w, refl)
-stage_case (stage.Asking y) = inl tt
-stage_case (stage.Hashing tries y) = inl tt
-stage_case (stage.Listing y f) = inl tt
-stage_case (stage.Reading f) = inl tt
-stage_case (stage.Making y temp) = inl tt
-stage_case (stage.Storing w) = inl tt
-stage_case (stage.Committing y) = inl tt
+stage_case _ = inl tt
 
 pub job_parts : (l : Option ℕ) (t : Option Task) (j : Job) → job_of l t ≡ Some j → (l ≡ Some j.place) × (t ≡ Some (record { file = j.file; stage = j.stage }))
 job_parts (Some p) (Some t) j e = (ap (λ (z : Job). Some z.place) (some_is (record { place = p; file = t.file; stage = t.stage }) j e), ap (λ (z : Job). Some (record { file = z.file; stage = z.stage })) (some_is (record { place = p; file = t.file; stage = t.stage }) j e))
