@@ -1,19 +1,17 @@
 -- A step finds no file by a path, where its command has none and no walk is under way: its operation has the file that it began with.
-use Rattle.std.proofs.Common.{◌≡◌, ℕ, List, Option, Some, None, Ok, Err, Bool, true, false, Result, length, refl, sym, ap, ◌∙◌, subst, inl, inr, ◌⊎◌}
+use Rattle.std.proofs.Common.{◌≡◌, ℕ, List, Option, Some, None, Bool, true, false, Result, length, refl, sym, ap, ◌∙◌, subst, inl, inr, ◌⊎◌}
 use Rattle.command_text.specs.declared.command.Command.TheVariants as command
 use Rattle.xdr_codec.specs.declared.status.Status.TheVariants as status
 use Rattle.hash_calls.specs.declared.message.Lb.TheVariants as lb
 use Rattle.nfs3_calls.specs.declared.message.Nfs.TheVariants as nfs
 use Rattle.wire.specs.declared.message.Body.TheVariants as body
-use Rattle.wire.specs.declared.message.Message.TheVariants as message
-use Rattle.wire.specs.declared.message.RpcRefusal.TheVariants as refusal
 use Rattle.client_cache.specs.Cache.{content_of, reserved}
 use Rattle.client_state.specs.declared.step.Outcome.TheVariants as outcome
 use Rattle.client_state.specs.declared.task.Stage.TheVariants as stage
 use Rattle.client_state.specs.declared.task.Way.TheVariants as way
 use Rattle.file_open.specs.Caching.{content_in, found_all}
 use Rattle.file_open.specs.Fetching.{changes as gives_up}
-use Rattle.kept_promise.proofs.Common.{Word, changes, Op, TakenCall, op_after, op_ended, counted, Book, Core, Queue, ends, too_big, done_with, Part, content_length, content_bytes, nat_lt, ◌==◌, if◌then◌else◌, slice_get, Answer, Done, Failed, Hashes, Leased, Piece, Body, Message, Pending, RpcRefusal, WireFault, Content, Chunk, Command, Broken, broken_of, with_hashes, listed, reads_all, is_here, looked_up, read_at, with_bytes, fault_in, other_version, fetch_of, tries_most, State, local_at, local_bytes, calls_of, pending, has_call, idle, may_ask, is_open, ended_by, cut, drops, denied, on_local, local_most, written_size, written, truncated, edits, writes, truncates, reads, abandons, opens, opens_if, asks_file, asks_kept, retries, reads_if, reads_on, lists_on, told_shape, told_version, told_hashes, told_first, uses_kept, told_lease, misfits, told_bytes, told_chunk, told_piece, store_of, store_at, answered, names_all, is_stored, goes_if, goes_on, told_temp, sends_whole, told_named, told_whole, told_way, told_stored, closes, asks_temp, command_step, took, took_if, denied_if, got_message, got_fault, got_step, BadPeer, ClientStep, Ended, Fetch, Local, ReadCall, Stage, Store, StoreCall, Task, Way}
+use Rattle.kept_promise.proofs.Common.{Word, changes, Op, TakenCall, op_after, op_ended, counted, Book, Core, Queue, ends, too_big, done_with, Part, content_length, content_bytes, nat_lt, ◌==◌, if◌then◌else◌, slice_get, Answer, Done, Failed, Hashes, Leased, Piece, Body, Message, Pending, WireFault, Content, Chunk, Command, Broken, broken_of, with_hashes, listed, reads_all, is_here, looked_up, read_at, with_bytes, fault_in, other_version, fetch_of, tries_most, State, local_at, local_bytes, calls_of, idle, may_ask, is_open, ended_by, cut, on_local, local_most, written_size, written, truncated, edits, writes, truncates, reads, abandons, opens, opens_if, asks_file, asks_kept, retries, reads_if, reads_on, lists_on, told_shape, told_version, told_hashes, told_first, uses_kept, told_lease, misfits, told_bytes, told_chunk, told_piece, store_of, store_at, answered, names_all, is_stored, goes_if, goes_on, told_temp, sends_whole, told_named, told_whole, told_way, told_stored, closes, asks_temp, command_step, took, got_step, BadPeer, ClientStep, Ended, Fetch, Local, ReadCall, Stage, Store, StoreCall, Task, Way}
 use Rattle.trace_ends.specs.Ops.{file_with}
 use Rattle.kept_promise.proofs.Lists.{some_is, nothing_there}
 use Rattle.kept_promise.proofs.Messages.{Job, job, goal_word, stage_word, FetchOf}
@@ -25,7 +23,7 @@ use Rattle.path_calls.specs.declared.walk.Goal.{Goal}
 use Rattle.path_calls.specs.declared.walk.Goal.TheVariants as goal
 use Rattle.open_close.specs.Walking.{walks, walks_if, outcome_of, is_look, seen_in}
 use Rattle.client_state.specs.Ending.{may_walk}
-use Rattle.kept_promise.proofs.StepCases.{IsOfFile, IsOpenedBy, walk_cases}
+use Rattle.kept_promise.proofs.StepCases.{IsOfFile, IsOpenedBy, walk_cases, got_cases}
 use Rattle.path_calls.specs.declared.answers.Ended.{Ended as WalkEnd}
 use Rattle.path_calls.specs.declared.answers.Ended.TheVariants as walk_end
 use Rattle.kept_promise.proofs.FindsOpen.{finds_open}
@@ -222,40 +220,24 @@ took_finds s calls file (stage.Committing y) xid (body.Lb (lb.CommitTmpAnswer (D
 took_finds s calls file (stage.Walking y w) xid b of = absurd of
 took_finds s calls file st xid b of = refl
 
-denied_none : (s : State) (calls : List Pending) (xid : ℕ) (r : RpcRefusal) → FindsNone (denied s calls xid r)
-denied_none s calls xid refusal.SystemErr = refl
-denied_none s calls xid r = refl
-
-drops_none : (s : State) (t : Option Task) (xid : ℕ) (b : Bool) → FindsNone (drops s t xid b)
-drops_none s t xid true = refl
-drops_none s (Some t) xid false = refl
-drops_none s None xid false = refl
+-- a step finds no file where an answer to what is under way finds none
+got_none : (s : State) (m : Result Message WireFault) (now : ℕ) → ((t : Task) → s.task ≡ Some t → (xid : ℕ) (b : Body) → FindsNone (took (idle s) (calls_of s) t.file t.stage xid b)) → (got_step s m now).1.found ≡ None
+got_none s m now none = got_cases FindsNone s m now (record {
+  took = none;
+  memory = λ t is xid. refl;
+  bad = λ t is f. refl;
+  off = λ free. refl;
+  forgot = λ xid. refl;
+  unfit = λ xid r. refl;
+  call = refl;
+})
 
 -- what is under way, if anything is, is no walk
 abbrev pub NoWalk : Option Task → Type 0
 NoWalk t = (u : Task) → t ≡ Some u → IsOfFile u.stage
 
 pub got_finds : (s : State) (m : Result Message WireFault) (now : ℕ) → NoWalk s.task → (got_step s m now).1.found ≡ None
-got_finds s (Err e) now none = by s.task
-  where
-    by : (t : Option Task) → FindsNone (got_fault s t e)
-    by (Some t) = refl
-    by None = refl
-got_finds s (Ok m) now none = by s.task none m
-  where
-    by : (t : Option Task) → NoWalk t → (m : Message) → FindsNone (got_message s t m)
-    by t w (message.Answer xid b) = own t w (has_call (pending t) xid)
-      where
-        own : (t : Option Task) → NoWalk t → (is_own : Bool) → FindsNone (took_if s t xid b is_own)
-        own (Some t) w true = took_finds (idle s) (calls_of s) t.file t.stage xid b (w t refl)
-        own t w is_own = drops_none s t xid (has_call s.forgotten xid)
-    by t w (message.Refuse xid r) = own t (has_call (pending t) xid)
-      where
-        own : (t : Option Task) (is_own : Bool) → FindsNone (denied_if s t xid r is_own)
-        own (Some t) true = denied_none (idle s) (calls_of s) xid r
-        own t is_own = drops_none s t xid (has_call s.forgotten xid)
-    by t w (message.Unfit xid r) = refl
-    by t w (message.Call xid b) = refl
+got_finds s m now none = got_none s m now (λ t is xid b. took_finds (idle s) (calls_of s) t.file t.stage xid b (none t is))
 
 -- ---- the connection is lost
 
@@ -306,56 +288,10 @@ took_makes s calls file (stage.Walking y w) x b make = walk_cases FindsNone s ca
 
     none_seen : (e : WalkEnd) → seen_in false e ≡ None
     none_seen e = refl
-took_makes s calls file (stage.Making y temp) x b make = absurd (close_not make)
-  where
-    close_not : gets_file words.Close ≡ true → ⊥
-    close_not e = absurd cc
-took_makes s calls file (stage.Storing st) x b make = absurd (close_not make)
-  where
-    close_not : gets_file words.Close ≡ true → ⊥
-    close_not e = absurd cc
-took_makes s calls file (stage.Committing y) x b make = absurd (close_not make)
-  where
-    close_not : gets_file words.Close ≡ true → ⊥
-    close_not e = absurd cc
-took_makes s calls file (stage.Asking y) x b make = absurd (open_not make)
-  where
-    open_not : gets_file words.Open ≡ true → ⊥
-    open_not e = absurd cc
-took_makes s calls file (stage.Hashing tries y) x b make = absurd (open_not make)
-  where
-    open_not : gets_file words.Open ≡ true → ⊥
-    open_not e = absurd cc
-took_makes s calls file (stage.Listing y f) x b make = absurd (open_not make)
-  where
-    open_not : gets_file words.Open ≡ true → ⊥
-    open_not e = absurd cc
-took_makes s calls file (stage.Reading f) x b make = absurd (open_not make)
-  where
-    open_not : gets_file words.Open ≡ true → ⊥
-    open_not e = absurd cc
+took_makes s calls file st x b make = absurd cc
 
 got_makes : (s : State) (m : Result Message WireFault) (now : ℕ) → ((u : Task) → s.task ≡ Some u → gets_file (stage_word u.stage) ≡ true) → (got_step s m now).1.found ≡ None
-got_makes s (Err e) now make = by s.task
-  where
-    by : (t : Option Task) → FindsNone (got_fault s t e)
-    by (Some t) = refl
-    by None = refl
-got_makes s (Ok m) now make = by s.task make m
-  where
-    by : (t : Option Task) → ((u : Task) → t ≡ Some u → gets_file (stage_word u.stage) ≡ true) → (m : Message) → FindsNone (got_message s t m)
-    by t w (message.Answer xid b) = own t w (has_call (pending t) xid)
-      where
-        own : (t : Option Task) → ((u : Task) → t ≡ Some u → gets_file (stage_word u.stage) ≡ true) → (is_own : Bool) → FindsNone (took_if s t xid b is_own)
-        own (Some t) w true = took_makes (idle s) (calls_of s) t.file t.stage xid b (w t refl)
-        own t w is_own = drops_none s t xid (has_call s.forgotten xid)
-    by t w (message.Refuse xid r) = own t (has_call (pending t) xid)
-      where
-        own : (t : Option Task) (is_own : Bool) → FindsNone (denied_if s t xid r is_own)
-        own (Some t) true = denied_none (idle s) (calls_of s) xid r
-        own t is_own = drops_none s t xid (has_call s.forgotten xid)
-    by t w (message.Unfit xid r) = refl
-    by t w (message.Call xid b) = refl
+got_makes s m now make = got_none s m now (λ t is xid b. took_makes (idle s) (calls_of s) t.file t.stage xid b (make t is))
 
 -- a step finds no file, or is of an operation that changes no file
 abbrev pub Quietly : ClientStep → Word → Type 0
@@ -422,23 +358,12 @@ took_found s calls file (stage.Walking y w) x b = walk_cases WhereFound s calls 
 took_found s calls file st x b = found_none (took s calls file st x b) (took_finds s calls file st x b tt)
 
 pub step_found : (s : State) (m : Result Message WireFault) (now : ℕ) → WhereFound (got_step s m now)
-step_found s (Err e) now = by s.task
-  where
-    by : (t : Option Task) → WhereFound (got_fault s t e)
-    by (Some t) = λ id is. nothing_there id is
-    by None = λ id is. nothing_there id is
-step_found s (Ok m) now = by s.task m
-  where
-    by : (t : Option Task) (m : Message) → WhereFound (got_message s t m)
-    by t (message.Answer xid b) = own t (has_call (pending t) xid)
-      where
-        own : (t : Option Task) (is_own : Bool) → WhereFound (took_if s t xid b is_own)
-        own (Some t) true = took_found (idle s) (calls_of s) t.file t.stage xid b
-        own t is_own = found_none (drops s t xid (has_call s.forgotten xid)) (drops_none s t xid (has_call s.forgotten xid))
-    by t (message.Refuse xid r) = own t (has_call (pending t) xid)
-      where
-        own : (t : Option Task) (is_own : Bool) → WhereFound (denied_if s t xid r is_own)
-        own (Some t) true = found_none (denied (idle s) (calls_of s) xid r) (denied_none (idle s) (calls_of s) xid r)
-        own t is_own = found_none (drops s t xid (has_call s.forgotten xid)) (drops_none s t xid (has_call s.forgotten xid))
-    by t (message.Unfit xid r) = λ id e. nothing_there id e
-    by t (message.Call xid b) = λ id e. nothing_there id e
+step_found s m now = got_cases WhereFound s m now (record {
+  took = λ t is xid b. took_found (idle s) (calls_of s) t.file t.stage xid b;
+  memory = λ t is xid id e. nothing_there id e;
+  bad = λ t is f id e. nothing_there id e;
+  off = λ none id e. nothing_there id e;
+  forgot = λ xid id e. nothing_there id e;
+  unfit = λ xid r id e. nothing_there id e;
+  call = λ id e. nothing_there id e;
+})

@@ -1,13 +1,11 @@
 -- What an answer leaves of a client's open files, and how far the xids of its calls go on.
-use Rattle.std.proofs.Common.{◌≡◌, ℕ, zero, suc, ◌+◌, ◌-◌, ◌<◌, ◌≤◌, List, [], ◌∷◌, length, Option, Some, None, Bool, true, false, refl, sym, subst, arith, Result, Ok, Err}
+use Rattle.std.proofs.Common.{◌≡◌, ℕ, zero, suc, ◌+◌, ◌-◌, ◌<◌, ◌≤◌, List, [], ◌∷◌, length, Option, Some, None, Bool, true, false, refl, sym, subst, arith, Result, ◌∙◌}
 use Rattle.std.proofs.lemmas.List.{length-append}
 use Rattle.xdr_codec.specs.declared.status.Status.TheVariants as status
 use Rattle.hash_calls.specs.declared.call.Leased.{Leased}
 use Rattle.hash_calls.specs.declared.message.Lb.TheVariants as lb
 use Rattle.nfs3_calls.specs.declared.message.Nfs.TheVariants as nfs
 use Rattle.wire.specs.declared.message.Body.TheVariants as body
-use Rattle.wire.specs.declared.message.Message.TheVariants as message
-use Rattle.wire.specs.declared.message.RpcRefusal.TheVariants as refusal
 use Rattle.chunk_index.specs.Index.{Indexed}
 use Rattle.client_cache.specs.Cache.{Entries, content_of}
 use Rattle.file_open.specs.Caching.{content_in, from_index, found_all}
@@ -17,8 +15,9 @@ use Rattle.client_state.specs.State as client
 use Rattle.client_state.specs.declared.step.Outcome.TheVariants as outcome
 use Rattle.client_state.specs.declared.task.Stage.TheVariants as stage
 use Rattle.client_state.specs.declared.task.Way.TheVariants as way
-use Rattle.kept_promise.proofs.Common.{nat_tests, slice_get, nat_lt, if◌then◌else◌, ◌==◌, ◌&&◌, Chunk, Answer, Done, Failed, Status, Hashes, Piece, Body, Message, Pending, RpcRefusal, WireFault, names_from, names_next, names_more, names_all, is_stored, store_of, store_at, answered, calls_most, is_none, fetch_of, with_hashes, listed, reads_from, reads_next, reads_more, reads_all, is_here, read_at, fault_in, other_version, with_bytes, Broken, broken_of, idle, refused, reads_if, reads_on, lists_on, told_shape, told_version, told_hashes, told_first, retries, misfits, told_bytes, told_chunk, told_piece, goes_if, goes_on, told_temp, sends_whole, told_named, told_whole, told_way, told_stored, denied, took, drops, took_if, denied_if, got_message, got_fault, got_step, Names, Reads, BadPeer, ClientStep, Ended, Outcome, Fetch, Local, ReadCall, Stage, Store, StoreCall, Task, Way}
-use Rattle.kept_promise.proofs.StepCases.{some_call, IsOfFile}
+use Rattle.kept_promise.proofs.Common.{nat_tests, slice_get, nat_lt, if◌then◌else◌, ◌==◌, ◌&&◌, Chunk, Answer, Done, Failed, Status, Hashes, Piece, Body, Message, Pending, WireFault, names_from, names_next, names_more, names_all, is_stored, store_of, store_at, answered, calls_most, is_none, fetch_of, with_hashes, listed, reads_from, reads_next, reads_more, reads_all, is_here, read_at, fault_in, other_version, with_bytes, Broken, broken_of, idle, refused, reads_if, reads_on, lists_on, told_shape, told_version, told_hashes, told_first, retries, misfits, told_bytes, told_chunk, told_piece, goes_if, goes_on, told_temp, sends_whole, told_named, told_whole, told_way, told_stored, took, got_step, Names, Reads, BadPeer, ClientStep, Ended, Outcome, Fetch, Local, ReadCall, Stage, Store, StoreCall, Task, Way}
+use Rattle.kept_promise.proofs.Lists.{some_is, nothing_there}
+use Rattle.kept_promise.proofs.StepCases.{some_call, IsOfFile, got_cases}
 
 -- ---- what is said
 
@@ -212,64 +211,29 @@ took_left s calls file (stage.Committing asked) xid (body.Lb (lb.CommitTmpAnswer
 took_left s calls file (stage.Walking asked w) xid b known = absurd known
 took_left s calls file p xid b known = (omega arith, refl)
 
-denied_left : (s : client.State) (calls : List Pending) (file xid : ℕ) (r : RpcRefusal) → IsLeft s file (denied s calls xid r)
-denied_left s calls file xid refusal.SystemErr = (omega arith, refl)
-denied_left s calls file xid r = (omega arith, refl)
-
-drops_left : (s : client.State) (o : Option Task) (file xid : ℕ) (b : Bool) → IsLeft s file (drops s o xid b)
-drops_left s o file xid true = (omega arith, refl)
-drops_left s (Some t) file xid false = (omega arith, refl)
-drops_left s None file xid false = (omega arith, refl)
-
-abbrev file_in : Option Task → ℕ
-file_in None = 0
-file_in (Some t) = t.file
-
--- what is under way, if anything is, is no walk
-abbrev IsOnFile : Option Task → Type 0
-IsOnFile None = Unit {0}
-IsOnFile (Some t) = IsOfFile t.stage
-
-took_if_left : (s : client.State) (o : Option Task) (xid : ℕ) (b : Body) (own : Bool) → IsOnFile o → IsLeft s (file_in o) (took_if s o xid b own)
-took_if_left s (Some t) xid b true known = took_left (idle s) (client.calls_of s) t.file t.stage xid b known
-took_if_left s (Some t) xid b false known = drops_left s (Some t) t.file xid (client.has_call s.forgotten xid)
-took_if_left s None xid b own known = drops_left s None 0 xid (client.has_call s.forgotten xid)
-
-denied_if_left : (s : client.State) (o : Option Task) (xid : ℕ) (r : RpcRefusal) (own : Bool) → IsLeft s (file_in o) (denied_if s o xid r own)
-denied_if_left s (Some t) xid r true = denied_left (idle s) (client.calls_of s) t.file xid r
-denied_if_left s (Some t) xid r false = drops_left s (Some t) t.file xid (client.has_call s.forgotten xid)
-denied_if_left s None xid r own = drops_left s None 0 xid (client.has_call s.forgotten xid)
-
-got_left : (s : client.State) (o : Option Task) (m : Message) → IsOnFile o → IsLeft s (file_in o) (got_message s o m)
-got_left s o (message.Answer xid b) known = took_if_left s o xid b (client.has_call (client.pending o) xid) known
-got_left s o (message.Refuse xid r) known = denied_if_left s o xid r (client.has_call (client.pending o) xid)
-got_left s o _ known = (omega arith, refl)
-
-fault_came_left : (s : client.State) (o : Option Task) (e : WireFault) → IsLeft s (file_in o) (got_fault s o e)
-fault_came_left s (Some t) e = (omega arith, refl)
-fault_came_left s None e = (omega arith, refl)
-
 -- whatever comes
 pub step_left : (s : client.State) (m : Result Message WireFault) (now : ℕ) (t : Task) → s.task ≡ Some t → IsOfFile t.stage → IsLeft s t.file (got_step s m now)
-step_left s m now t e known = subst (λ (o : Option Task). IsLeft s (file_in o) (got_step s m now)) e (by m)
-  where
-    by : (m : Result Message WireFault) → IsLeft s (file_in s.task) (got_step s m now)
-    by (Ok m) = got_left s s.task m (subst IsOnFile (sym e) known)
-    by (Err f) = fault_came_left s s.task f
+step_left s m now t at known = got_cases (IsLeft s t.file) s m now (record {
+  took = λ u is xid b. subst (λ (z : Task). IsLeft s t.file (took (idle s) (client.calls_of s) z.file z.stage xid b)) (some_is t u (sym at ∙ is)) (took_left (idle s) (client.calls_of s) t.file t.stage xid b known);
+  memory = λ u is xid. (omega arith, refl);
+  bad = λ u is f. (omega arith, refl);
+  off = λ none. (omega arith, refl);
+  forgot = λ xid. (omega arith, refl);
+  unfit = λ xid r. (omega arith, refl);
+  call = (omega arith, refl);
+})
 
 -- with nothing under way nothing ends by it
 abbrev IsIdle : client.State → client.State × ClientStep → Type 0
 IsIdle s r = (r.0.next ≡ s.next) × (r.0.opened ≡ s.opened) × (r.1.ended ≡ None)
 
-drops_idle : (s : client.State) (xid : ℕ) (b : Bool) → IsIdle s (drops s None xid b)
-drops_idle s xid true = (refl, refl, refl)
-drops_idle s xid false = (refl, refl, refl)
-
-idle_by : (s : client.State) (m : Result Message WireFault) → IsIdle s (elim m [ Ok m ↦ got_message s None m | Err e ↦ got_fault s None e ])
-idle_by s (Ok (message.Answer xid b)) = drops_idle s xid (client.has_call s.forgotten xid)
-idle_by s (Ok (message.Refuse xid r)) = drops_idle s xid (client.has_call s.forgotten xid)
-idle_by s _ = (refl, refl, refl)
-
 pub step_idle : (s : client.State) (m : Result Message WireFault) (now : ℕ) → s.task ≡ None → (let r = got_step s m now in (r.0.next ≡ s.next) × (r.0.opened ≡ s.opened) × (r.1.ended ≡ None))
-step_idle s (Ok m) now e = subst (λ (o : Option Task). IsIdle s (got_message s o m)) (sym e) (idle_by s (Ok m))
-step_idle s (Err f) now e = subst (λ (o : Option Task). IsIdle s (got_fault s o f)) (sym e) (idle_by s (Err f))
+step_idle s m now none = got_cases (IsIdle s) s m now (record {
+  took = λ t is xid b. nothing_there t (sym none ∙ is);
+  memory = λ t is xid. nothing_there t (sym none ∙ is);
+  bad = λ t is f. nothing_there t (sym none ∙ is);
+  off = λ none. (refl, refl, refl);
+  forgot = λ xid. (refl, refl, refl);
+  unfit = λ xid r. (refl, refl, refl);
+  call = (refl, refl, refl);
+})

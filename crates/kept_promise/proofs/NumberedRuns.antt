@@ -1,18 +1,17 @@
 -- A run carries that the calls of each session are numbered from 1 on, in the order in which they are sent.
 use Rattle.std.proofs.Common.{inl, inr, ◌≡◌, ℕ, zero, suc, ◌+◌, ◌-◌, ◌<◌, List, [], ◌∷◌, ◌++◌, length, Option, Some, None, Result, Ok, Err, Bool, true, false, refl, sym, ap, ◌∙◌, subst, arith, append-nil, length-append, replicate}
 use Rattle.wire.specs.declared.message.Message.TheVariants as message
-use Rattle.wire.specs.declared.message.RpcRefusal.TheVariants as refusal
 use Rattle.client_state.specs.State as client
 use Rattle.trace_replay.specs.Numbered.{numbers_among, numbers_if, numbers_by, numbers_of, CountOn}
 use Rattle.client_state.specs.declared.task.Stage.{Stage}
 use Rattle.client_state.specs.declared.task.Stage.TheVariants as stage
-use Rattle.kept_promise.proofs.Common.{nat_tests, slice_get, Chunk, Command, Body, Message, Pending, RpcRefusal, WireFault, parse_of, names_from, names_all, calls_most, reads_from, reads_chunk, connect, has_room, command_step, got_step, got_fault, took_if, drops, denied, denied_if, idle, took, Reads, ClientStep, Fetch, Stage, Store, Task, Opening, Word, word_of, calls_among, Core, Seat, Session, Event, Event.Joins, Event.Does, Event.Serves, Event.Hears, Event.Settles, Event.Cuts, Event.Hangs, CoreStep, new_seat, new_session, joined, numbered, with_numbered, session_of, commanded_sessions, cut_session, is_newest, acted, does, joins_as, joins, cuts_if, cuts, hangs_if, hangs, serves, serves_if, server_waiting, happens, Moment, Book, Queue}
+use Rattle.kept_promise.proofs.Common.{nat_tests, slice_get, Chunk, Command, Body, Message, Pending, WireFault, parse_of, names_from, names_all, calls_most, reads_from, reads_chunk, connect, has_room, command_step, got_step, idle, took, Reads, ClientStep, Fetch, Stage, Store, Opening, Word, word_of, calls_among, Core, Seat, Session, Event, Event.Joins, Event.Does, Event.Serves, Event.Hears, Event.Settles, Event.Cuts, Event.Hangs, CoreStep, new_seat, new_session, joined, numbered, with_numbered, session_of, commanded_sessions, cut_session, is_newest, acted, does, joins_as, joins, cuts_if, cuts, hangs_if, hangs, serves, serves_if, server_waiting, happens, Moment, Book, Queue}
 use Rattle.kept_promise.proofs.Lists.{some_is, nothing_there, set_count, within as inside}
 use Rattle.kept_promise.proofs.Facts.{IsKept}
 use Rattle.kept_promise.proofs.RunsCarried.{book_at, moment, Step, Carried}
 use Rattle.kept_promise.proofs.Actors.{newest_is, heard_at}
 use Rattle.kept_promise.proofs.Versions.{of_numbered}
-use Rattle.kept_promise.proofs.StepCases.{reads_keep, names_keep, reads_of, Cases, took_cases, walk_cases, command_cases}
+use Rattle.kept_promise.proofs.StepCases.{reads_keep, names_keep, reads_of, Cases, took_cases, walk_cases, command_cases, got_cases}
 use Rattle.kept_promise.proofs.Numbering.{got_number, command_number}
 use Rattle.kept_promise.proofs.LogEvents.{joins_silent, serves_silent, hangs_silent, cuts_silent}
 
@@ -87,39 +86,15 @@ answer_numbers s calls file (stage.Walking y w) x b = walk_cases (Numbers s) s c
 answer_numbers s calls file st x b = took_cases (λ found r. Numbers s r) s calls file st x b tt (took_numbers s calls file st x b)
 
 got_numbers : (s : client.State) (m : Result Message WireFault) (now : ℕ) → Numbers s (got_step s m now)
-got_numbers s (Err e) now = by s.task
-  where
-    by : (o : Option Task) → Numbers s (got_fault s o e)
-    by (Some t) = tt
-    by None = tt
-got_numbers s (Ok (message.Answer x b)) now = by s.task (client.has_call (client.pending s.task) x)
-  where
-    dropped : (o : Option Task) (t : Bool) → Numbers s (drops s o x t)
-    dropped o true = tt
-    dropped (Some t) false = tt
-    dropped None false = tt
-
-    by : (o : Option Task) (own : Bool) → Numbers s (took_if s o x b own)
-    by (Some t) true = answer_numbers (idle s) (client.calls_of s) t.file t.stage x b
-    by (Some t) false = dropped (Some t) (client.has_call s.forgotten x)
-    by None own = dropped None (client.has_call s.forgotten x)
-got_numbers s (Ok (message.Refuse x r)) now = by s.task (client.has_call (client.pending s.task) x)
-  where
-    dropped : (o : Option Task) (t : Bool) → Numbers s (drops s o x t)
-    dropped o true = tt
-    dropped (Some t) false = tt
-    dropped None false = tt
-
-    why : (r : RpcRefusal) → Numbers s (denied (idle s) (client.calls_of s) x r)
-    why refusal.SystemErr = tt
-    why _ = tt
-
-    by : (o : Option Task) (own : Bool) → Numbers s (denied_if s o x r own)
-    by (Some t) true = why r
-    by (Some t) false = dropped (Some t) (client.has_call s.forgotten x)
-    by None own = dropped None (client.has_call s.forgotten x)
-got_numbers s (Ok (message.Unfit x r)) now = tt
-got_numbers s (Ok (message.Call x b)) now = tt
+got_numbers s m now = got_cases (Numbers s) s m now (record {
+  took = λ t is x b. answer_numbers (idle s) (client.calls_of s) t.file t.stage x b;
+  memory = λ t is x. tt;
+  bad = λ t is f. tt;
+  off = λ none. tt;
+  forgot = λ x. tt;
+  unfit = λ x r. tt;
+  call = tt;
+})
 
 command_numbers : (s : client.State) (d : Command) (now : ℕ) → Numbers s (command_step s d now)
 command_numbers s d now = command_cases (Numbers s) s d now (record {

@@ -1,13 +1,11 @@
 -- The number of a client's next call is one more than the calls that it sent on its connection.
-use Rattle.std.proofs.Common.{◌≡◌, ℕ, zero, suc, ◌+◌, ◌-◌, List, [], ◌∷◌, ◌++◌, length, Option, Some, None, Result, Ok, Err, Bool, true, false, refl, sym, ap, ◌∙◌, arith, eq-eqb, ne_eqb}
+use Rattle.std.proofs.Common.{◌≡◌, ℕ, zero, suc, ◌+◌, ◌-◌, List, [], ◌∷◌, ◌++◌, length, Option, Some, None, Result, Bool, true, false, refl, sym, ap, ◌∙◌, arith, eq-eqb, ne_eqb}
 use Rattle.command_text.specs.declared.command.Command.TheVariants as command
 use Rattle.xdr_codec.specs.declared.status.Status.TheVariants as status
 use Rattle.hash_calls.specs.declared.call.Leased.{Leased}
 use Rattle.hash_calls.specs.declared.message.Lb.TheVariants as lb
 use Rattle.nfs3_calls.specs.declared.message.Nfs.TheVariants as nfs
 use Rattle.wire.specs.declared.message.Body.TheVariants as body
-use Rattle.wire.specs.declared.message.Message.TheVariants as message
-use Rattle.wire.specs.declared.message.RpcRefusal.TheVariants as refusal
 use Rattle.chunk_index.specs.Index.{Indexed}
 use Rattle.client_cache.specs.Cache.{Entries, reserved, content_of}
 use Rattle.client_cache.specs.declared.kept.Content.{Content}
@@ -18,12 +16,12 @@ use Rattle.client_state.specs.declared.step.Outcome.TheVariants as outcome
 use Rattle.client_state.specs.declared.task.Stage.TheVariants as stage
 use Rattle.client_state.specs.declared.task.Way.TheVariants as way
 use Rattle.trace_replay.specs.Trail.{call_number}
-use Rattle.kept_promise.proofs.Common.{slice_get, ◌==◌, nat_lt, if◌then◌else◌, Chunk, content_length, content_bytes, Command, Answer, Done, Failed, Hashes, Piece, Body, Message, Pending, RpcRefusal, WireFault, names_from, names_next, names_more, names_all, is_stored, store_of, store_at, answered, local_most, written_size, written, truncated, calls_most, fetch_of, with_hashes, listed, reads_from, reads_more, reads_all, is_here, read_at, fault_in, other_version, with_bytes, Broken, broken_of, is_open, may_ask, asks_file, asks_kept, uses_kept, told_lease, opens_if, opens, on_local, too_big, done_with, edits, writes, truncates, reads, abandons, asks_temp, closes, command_step, idle, reads_if, reads_on, lists_on, told_shape, told_version, told_hashes, told_first, retries, misfits, told_bytes, told_chunk, told_piece, goes_if, goes_on, told_temp, sends_whole, told_named, told_whole, told_way, told_stored, denied, took, drops, took_if, denied_if, got_fault, got_step, ends, Names, Reads, BadPeer, ClientStep, Fetch, Local, ReadCall, Stage, Store, StoreCall, Task, Way, Moment, calls_among, sent_if, calls_by, calls_from}
+use Rattle.kept_promise.proofs.Common.{slice_get, ◌==◌, nat_lt, if◌then◌else◌, Chunk, content_length, content_bytes, Command, Answer, Done, Failed, Hashes, Piece, Body, Message, Pending, WireFault, names_from, names_next, names_more, names_all, is_stored, store_of, store_at, answered, local_most, written_size, written, truncated, calls_most, fetch_of, with_hashes, listed, reads_from, reads_more, reads_all, is_here, read_at, fault_in, other_version, with_bytes, Broken, broken_of, is_open, may_ask, asks_file, asks_kept, uses_kept, told_lease, opens_if, opens, on_local, too_big, done_with, edits, writes, truncates, reads, abandons, asks_temp, closes, command_step, idle, reads_if, reads_on, lists_on, told_shape, told_version, told_hashes, told_first, retries, misfits, told_bytes, told_chunk, told_piece, goes_if, goes_on, told_temp, sends_whole, told_named, told_whole, told_way, told_stored, took, got_step, ends, Names, Reads, BadPeer, ClientStep, Fetch, Local, ReadCall, Stage, Store, StoreCall, Task, Way, Moment, calls_among, sent_if, calls_by, calls_from}
 use Rattle.path_calls.specs.Walk.{begun}
 use Rattle.path_calls.specs.declared.walk.Walk.{Walk}
 use Rattle.client_state.specs.Ending.{may_walk}
 use Rattle.open_close.specs.Walking.{walks, walks_if}
-use Rattle.kept_promise.proofs.StepCases.{reads_keep, walk_cases}
+use Rattle.kept_promise.proofs.StepCases.{reads_keep, walk_cases, got_cases}
 
 -- ---- a client's step
 
@@ -175,36 +173,17 @@ took_number s calls file (stage.Committing asked) xid (body.Lb (lb.CommitTmpAnsw
 took_number s calls file (stage.Walking asked w) xid b = walk_number s calls file asked w xid b
 took_number s calls file p xid b = omega arith
 
-drops_number : (s : client.State) (o : Option Task) (xid : ℕ) (b : Bool) → Numbers s (drops s o xid b)
-drops_number s o xid true = omega arith
-drops_number s (Some t) xid false = omega arith
-drops_number s None xid false = omega arith
-
-took_if_number : (s : client.State) (o : Option Task) (xid : ℕ) (b : Body) (own : Bool) → Numbers s (took_if s o xid b own)
-took_if_number s (Some t) xid b true = took_number (idle s) (client.calls_of s) t.file t.stage xid b
-took_if_number s (Some t) xid b false = drops_number s (Some t) xid (client.has_call s.forgotten xid)
-took_if_number s None xid b own = drops_number s None xid (client.has_call s.forgotten xid)
-
-denied_number : (s : client.State) (o : Option Task) (xid : ℕ) (r : RpcRefusal) (own : Bool) → Numbers s (denied_if s o xid r own)
-denied_number s (Some t) xid r true = by r
-  where
-    by : (r : RpcRefusal) → Numbers s (denied (idle s) (client.calls_of s) xid r)
-    by refusal.SystemErr = omega arith
-    by _ = omega arith
-denied_number s (Some t) xid r false = drops_number s (Some t) xid (client.has_call s.forgotten xid)
-denied_number s None xid r own = drops_number s None xid (client.has_call s.forgotten xid)
-
 -- whatever comes
 pub got_number : (s : client.State) (m : Result Message WireFault) (now : ℕ) → Numbers s (got_step s m now)
-got_number s (Err e) now = by s.task
-  where
-    by : (o : Option Task) → Numbers s (got_fault s o e)
-    by (Some t) = omega arith
-    by None = omega arith
-got_number s (Ok (message.Answer xid b)) now = took_if_number s s.task xid b (client.has_call (client.pending s.task) xid)
-got_number s (Ok (message.Refuse xid r)) now = denied_number s s.task xid r (client.has_call (client.pending s.task) xid)
-got_number s (Ok (message.Unfit xid r)) now = omega arith
-got_number s (Ok (message.Call xid b)) now = omega arith
+got_number s m now = got_cases (Numbers s) s m now (record {
+  took = λ t is xid b. took_number (idle s) (client.calls_of s) t.file t.stage xid b;
+  memory = λ t is xid. omega arith;
+  bad = λ t is f. omega arith;
+  off = λ none. omega arith;
+  forgot = λ xid. omega arith;
+  unfit = λ xid r. omega arith;
+  call = omega arith;
+})
 
 -- ---- a command
 

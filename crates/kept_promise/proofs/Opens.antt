@@ -1,9 +1,7 @@
 -- An open of a path was told that its file is open just where it was, when the open began.
-use Rattle.std.proofs.Common.{inl, inr, ◌≡◌, ℕ, zero, suc, ◌<◌, List, [], ◌∷◌, ◌++◌, length, Option, Some, None, IsSome, Bool, true, false, refl, sym, ap, ◌∙◌, subst, arith, Result, Ok, Err, take}
+use Rattle.std.proofs.Common.{inl, inr, ◌≡◌, ℕ, zero, suc, ◌<◌, List, [], ◌∷◌, ◌++◌, length, Option, Some, None, IsSome, Bool, true, false, refl, sym, ap, ◌∙◌, subst, arith, Result, take}
 use Rattle.command_text.specs.declared.command.Command.TheVariants as command
 use Rattle.command_text.specs.declared.path.PathCommand.{PathCommand}
-use Rattle.wire.specs.declared.message.Message.TheVariants as message
-use Rattle.wire.specs.declared.message.RpcRefusal.TheVariants as refusal
 use Rattle.path_calls.specs.declared.answers.Ended.TheVariants as walk_end
 use Rattle.path_calls.specs.declared.answers.Ended.{Ended as WalkEnd}
 use Rattle.path_calls.specs.declared.walk.Walk.{Walk}
@@ -17,13 +15,13 @@ use Rattle.register_model.specs.declared.op.Outcome.{Outcome as Told}
 use Rattle.register_model.specs.declared.op.Outcome.TheVariants as told
 use Rattle.trace_replay.specs.Faithful.{FindsOpen}
 use Rattle.trace_ends.specs.Ops.{file_with}
-use Rattle.kept_promise.proofs.Common.{slice_get, option_map, is_some, Body, Message, Pending, RpcRefusal, WireFault, Command, command_step, idle, took, drops, took_if, denied, denied_if, got_message, got_fault, got_step, ClientStep, Ended, Outcome, Local, Stage, Task, TakenCall, Op, Seat, numbered, with_numbered, place_with, place_after, op_after, op_ended, ops_with, counted, told_of, Deed, can_ask, is_busy, after_one, local_from, local_before, own_answer}
+use Rattle.kept_promise.proofs.Common.{slice_get, option_map, is_some, Body, Message, Pending, WireFault, Command, command_step, idle, took, got_step, ClientStep, Ended, Outcome, Local, Stage, Task, TakenCall, Op, Seat, numbered, with_numbered, place_with, place_after, op_after, op_ended, ops_with, counted, told_of, Deed, can_ask, is_busy, after_one, local_from, local_before, own_answer}
 use Rattle.kept_promise.proofs.Lists.{some_is, nothing_there, same_or_not, of_appended, within}
 use Rattle.kept_promise.proofs.Messages.{Job, job, job_of}
 use Rattle.kept_promise.proofs.Turns.{around_with}
 use Rattle.kept_promise.proofs.JobFacts.{ops_shape}
 use Rattle.kept_promise.proofs.Leaving.{EndsWith}
-use Rattle.kept_promise.proofs.StepCases.{IsOfFile, Cases, took_cases, walk_cases, command_cases}
+use Rattle.kept_promise.proofs.StepCases.{IsOfFile, Cases, took_cases, walk_cases, command_cases, got_cases}
 use Rattle.kept_promise.proofs.Locally.{Idles, local_idle}
 use Rattle.kept_promise.proofs.Deeds.{also_there, IsOnNames, Came, IsDeed, local_of, HasDeeds, Moved, AllMoved, local_before_same, before_more, busy_behind}
 use Rattle.kept_promise.proofs.Ways.{job_parts, InDeeds}
@@ -216,34 +214,18 @@ took_leads s calls file y w xid b = walk_cases (Leads s) s calls file y w xid b 
   ends = λ v e is same. over s _ _ refl refl (end_not e);
 })
 
-denied_leads : (s : client.State) (calls : List Pending) (xid : ℕ) (r : RpcRefusal) → Leads s (denied s calls xid r)
-denied_leads s calls xid refusal.SystemErr = over s _ _ refl refl memory_not
-denied_leads s calls xid r = over s _ _ refl refl (bad_not _)
-
 pub walk_leads : (s : client.State) (m : Result Message WireFault) (now : ℕ) (t : Task) (y : ℕ) (w : Walk) → s.task ≡ Some t → t.stage ≡ stage.Walking y w → Leads s (got_step s m now)
-walk_leads s m now t y w at is = by m
-  where
-    dropped : (xid : ℕ) (b : Bool) → Leads s (drops s (Some t) xid b)
-    dropped xid true = on s _ t y w at is refl
-    dropped xid false = over s _ _ refl refl (bad_not _)
-
-    own : (xid : ℕ) (b : Body) (own : Bool) → Leads s (took_if s (Some t) xid b own)
-    own xid b true = subst (λ (st : Stage). Leads s (took (idle s) (client.calls_of s) t.file st xid b)) (sym is) (let h = took_leads (idle s) (client.calls_of s) t.file y w xid b in record { shut = h.shut; open_ = h.open_ })
-    own xid b false = dropped xid (client.has_call s.forgotten xid)
-
-    denies : (xid : ℕ) (r : RpcRefusal) (own : Bool) → Leads s (denied_if s (Some t) xid r own)
-    denies xid r true = let h = denied_leads (idle s) (client.calls_of s) xid r in record { shut = h.shut; open_ = h.open_ }
-    denies xid r false = dropped xid (client.has_call s.forgotten xid)
-
-    got : (m : Message) → Leads s (got_message s (Some t) m)
-    got (message.Answer xid b) = own xid b (client.has_call (client.pending (Some t)) xid)
-    got (message.Refuse xid r) = denies xid r (client.has_call (client.pending (Some t)) xid)
-    got (message.Unfit xid r) = on s _ t y w at is refl
-    got (message.Call xid b) = on s _ t y w at is refl
-
-    by : (m : Result Message WireFault) → Leads s (got_step s m now)
-    by (Ok m) = subst (λ (o : Option Task). Leads s (got_message s o m)) (sym at) (got m)
-    by (Err f) = subst (λ (o : Option Task). Leads s (got_fault s o f)) (sym at) (over s _ _ refl refl (bad_not _))
+walk_leads s m now t y w at is = got_cases (Leads s) s m now (record {
+  took = λ u same xid b.
+      let h = took_leads (idle s) (client.calls_of s) t.file y w xid b in
+      subst (λ (z : Task). Leads s (took (idle s) (client.calls_of s) z.file z.stage xid b)) (some_is t u (sym at ∙ same)) (subst (λ (st : Stage). Leads s (took (idle s) (client.calls_of s) t.file st xid b)) (sym is) (record { shut = h.shut; open_ = h.open_ }));
+  memory = λ u same xid. over s _ _ refl refl memory_not;
+  bad = λ u same f. over s _ _ refl refl (bad_not f);
+  off = λ none. nothing_there t (sym none ∙ at);
+  forgot = λ xid. on s _ t y w at is refl;
+  unfit = λ xid r. on s _ t y w at is refl;
+  call = on s _ t y w at is refl;
+})
 
 -- ---- a fetch goes on as one of its file
 
@@ -269,36 +251,18 @@ file_cases s calls file st x b = record {
 }
 
 pub keeps_file : (s : client.State) (m : Result Message WireFault) (now : ℕ) (t : Task) → s.task ≡ Some t → IsOfFile t.stage → KeepsFile t.file (got_step s m now)
-keeps_file s m now t at known = by m
+keeps_file s m now t at known = got_cases (KeepsFile t.file) s m now (record {
+  took = λ u is xid b. subst (λ (z : Task). KeepsFile t.file (took (idle s) (client.calls_of s) z.file z.stage xid b)) (some_is t u (sym at ∙ is)) (took_cases (λ found r. KeepsFile t.file r) (idle s) (client.calls_of s) t.file t.stage xid b known (file_cases (idle s) (client.calls_of s) t.file t.stage xid b));
+  memory = λ u is xid v e. nothing_there v e;
+  bad = λ u is f v e. nothing_there v e;
+  off = λ none. same;
+  forgot = λ xid. same;
+  unfit = λ xid r. same;
+  call = same;
+})
   where
     same : (u : Task) → s.task ≡ Some u → u.file ≡ t.file
     same u e = sym (ap (λ (z : Task). z.file) (some_is t u (sym at ∙ e)))
-
-    dropped : (xid : ℕ) (b : Bool) → KeepsFile t.file (drops s (Some t) xid b)
-    dropped xid true = same
-    dropped xid false = λ u e. nothing_there u e
-
-    own : (xid : ℕ) (b : Body) (own : Bool) → KeepsFile t.file (took_if s (Some t) xid b own)
-    own xid b true = took_cases (λ found r. KeepsFile t.file r) (idle s) (client.calls_of s) t.file t.stage xid b known (file_cases (idle s) (client.calls_of s) t.file t.stage xid b)
-    own xid b false = dropped xid (client.has_call s.forgotten xid)
-
-    denied_file : (xid : ℕ) (r : RpcRefusal) → KeepsFile t.file (denied (idle s) (client.calls_of s) xid r)
-    denied_file xid refusal.SystemErr = λ u e. nothing_there u e
-    denied_file xid r = λ u e. nothing_there u e
-
-    denies : (xid : ℕ) (r : RpcRefusal) (own : Bool) → KeepsFile t.file (denied_if s (Some t) xid r own)
-    denies xid r true = denied_file xid r
-    denies xid r false = dropped xid (client.has_call s.forgotten xid)
-
-    got : (m : Message) → KeepsFile t.file (got_message s (Some t) m)
-    got (message.Answer xid b) = own xid b (client.has_call (client.pending (Some t)) xid)
-    got (message.Refuse xid r) = denies xid r (client.has_call (client.pending (Some t)) xid)
-    got (message.Unfit xid r) = same
-    got (message.Call xid b) = same
-
-    by : (m : Result Message WireFault) → KeepsFile t.file (got_step s m now)
-    by (Ok m) = subst (λ (o : Option Task). KeepsFile t.file (got_message s o m)) (sym at) (got m)
-    by (Err f) = subst (λ (o : Option Task). KeepsFile t.file (got_fault s o f)) (sym at) (λ u e. nothing_there u e)
 
 -- ---- jobs
 

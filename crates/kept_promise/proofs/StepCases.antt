@@ -1,6 +1,6 @@
 -- What a client's step can come to, by a command or by an answer to a call of its operation: whatever holds of each case holds of the step. And what
 -- is true of the calls that go out in it, one by one.
-use Rattle.std.proofs.Common.{◌⊎◌, inl, inr, ◌≡◌, ℕ, zero, suc, ◌+◌, ◌<◌, ◌≤◌, List, [], ◌∷◌, ◌++◌, length, Option, Some, None, Bool, true, false, refl, sym, ap, ◌∙◌, subst, arith}
+use Rattle.std.proofs.Common.{◌⊎◌, inl, inr, ◌≡◌, ℕ, zero, suc, ◌+◌, ◌<◌, ◌≤◌, List, [], ◌∷◌, ◌++◌, length, Option, Some, None, Bool, true, false, refl, sym, ap, ◌∙◌, subst, arith, Result, Ok, Err}
 use Rattle.command_text.specs.declared.command.Command.TheVariants as command
 use Rattle.command_text.specs.declared.path.PathCommand.{PathCommand}
 use Rattle.xdr_codec.specs.declared.status.Status.TheVariants as status
@@ -15,9 +15,11 @@ use Rattle.path_calls.specs.declared.answers.Told.{Told as WalkTold}
 use Rattle.path_calls.specs.declared.answers.Told.TheVariants as walk_told_as
 use Rattle.path_calls.specs.declared.walk.Walk.{Walk}
 use Rattle.open_close.specs.Walking.{asks_next, walks_if, walks, finding, finds_if, outcome_of, is_look, seen_in, walked, is_its, told_walk}
-use Rattle.client_state.specs.Ending.{may_walk}
+use Rattle.client_state.specs.Ending.{may_walk, cut_off, refusal_code}
 use Rattle.wire.specs.declared.message.Body.TheVariants as body
 use Rattle.wire.specs.declared.message.Message.TheVariants as message
+use Rattle.wire.specs.declared.message.RpcRefusal.TheVariants as refusal
+use Rattle.open_close.specs.Step.{fault_of}
 use Rattle.chunk_index.specs.Index.{Indexed}
 use Rattle.client_cache.specs.Cache.{Entries, reserved, content_of}
 use Rattle.client_cache.specs.declared.kept.Content.{Content}
@@ -36,7 +38,7 @@ use Rattle.client_state.specs.declared.task.Stage.TheVariants as stage
 use Rattle.client_state.specs.declared.task.Way.TheVariants as way
 use Rattle.register_model.specs.declared.op.Word.TheVariants as words
 use Rattle.trace_replay.specs.Trail.{given_in}
-use Rattle.kept_promise.proofs.Common.{nat_tests, ◌==◌, ◌&&◌, not, if◌then◌else◌, sha1, end_from, end_of, slice_get, nat_lt, Chunk, content_length, content_bytes, Command, Answer, Done, Failed, Status, Hashes, Pair, Piece, Body, Pending, names_next, names_more, names_all, is_stored, store_of, store_at, answered, ends, local_most, written_size, written, truncated, tries_most, fetch_of, with_hashes, listed, reads_next, reads_more, reads_all, is_here, read_at, fault_in, other_version, with_bytes, Broken, broken_if, broken_pair, broken_pairs, chunks_from, with_pairs, broken_sum, broken_of, State, local_at, local_bytes, part_of, bad_peer, refused, tries_anew, retries, reads_if, reads_on, lists_on, told_shape, told_version, told_hashes, misfits, told_bytes, told_chunk, told_piece, goes_if, goes_on, sends_whole, told_named, told_way, told_stored, forgets, idle, took, is_open, may_ask, opens_if, opens, on_local, too_big, done_with, edits, writes, truncates, abandons, asks_temp, closes, command_step, Names, Reads, BadPeer, ClientStep, Ended, Outcome, Fetch, Local, ReadCall, Stage, Store, StoreCall, Task, Way, Word, no_counts, taken_traffic}
+use Rattle.kept_promise.proofs.Common.{nat_tests, ◌==◌, ◌&&◌, not, if◌then◌else◌, sha1, end_from, end_of, slice_get, nat_lt, Chunk, content_length, content_bytes, Command, Answer, Done, Failed, Status, Hashes, Pair, Piece, Body, Pending, names_next, names_more, names_all, is_stored, store_of, store_at, answered, ends, local_most, written_size, written, truncated, tries_most, fetch_of, with_hashes, listed, reads_next, reads_more, reads_all, is_here, read_at, fault_in, other_version, with_bytes, Broken, broken_if, broken_pair, broken_pairs, chunks_from, with_pairs, broken_sum, broken_of, State, local_at, local_bytes, part_of, bad_peer, refused, tries_anew, retries, reads_if, reads_on, lists_on, told_shape, told_version, told_hashes, misfits, told_bytes, told_chunk, told_piece, goes_if, goes_on, sends_whole, told_named, told_way, told_stored, forgets, idle, took, is_open, may_ask, opens_if, opens, on_local, too_big, done_with, edits, writes, truncates, abandons, asks_temp, closes, command_step, Names, Reads, BadPeer, ClientStep, Ended, Outcome, Fetch, Local, ReadCall, Stage, Store, StoreCall, Task, Way, Word, no_counts, taken_traffic, Message, RpcRefusal, WireFault, calls_of, pending, has_call, denied, drops, took_if, denied_if, got_message, got_fault, got_step, nothing_done}
 use Rattle.kept_promise.proofs.Lists.{some_is, nothing_there}
 use Rattle.kept_promise.proofs.Messages.{stage_word}
 
@@ -604,3 +606,47 @@ command_cases Z s (command.Named c) now h = by s.task refl
     by : (t : Option Task) → s.task ≡ t → Z (walks s c t)
     by (Some t) is = h.busy t is
     by None is = asks is (may_walk s (walk_begun c)) refl
+
+-- ---- what comes
+
+-- what a step by a message, or by a record that is none, can come to
+pub record Gets (Z : State × ClientStep → Type 0) (s : State) : Type 0 where
+  -- an answer, or a refusal, to a call of the operation under way
+  pub took : (t : Task) → s.task ≡ Some t → (xid : ℕ) (b : Body) → Z (took (idle s) (calls_of s) t.file t.stage xid b)
+  pub memory : (t : Task) → s.task ≡ Some t → (xid : ℕ) → Z (denied (idle s) (calls_of s) xid refusal.SystemErr)
+  -- what no server sends, where an operation is under way, and where none is
+  pub bad : (t : Task) → s.task ≡ Some t → (f : BadPeer) → Z (bad_peer s f 0)
+  pub off : s.task ≡ None → Z (cut_off s)
+  -- an answer to a call that was forgotten, and calls
+  pub forgot : (xid : ℕ) → Z (drops s None xid true)
+  pub unfit : (xid : ℕ) (r : RpcRefusal) → Z (got_message s None (message.Unfit xid r))
+  pub call : Z (s, nothing_done)
+
+unwaited : (Z : State × ClientStep → Type 0) (s : State) → Gets Z s → (o : Option Task) → s.task ≡ o → (xid : ℕ) (forgotten : Bool) → Z (drops s o xid forgotten)
+unwaited Z s h o is xid true = h.forgot xid
+unwaited Z s h (Some t) is xid false = h.bad t is (bad.UnknownXid xid)
+unwaited Z s h None is xid false = h.off is
+
+-- whatever holds of each holds of the step
+pub got_cases : (Z : State × ClientStep → Type 0) (s : State) (m : Result Message WireFault) (now : ℕ) → Gets Z s → Z (got_step s m now)
+got_cases Z s (Err e) now h = by s.task refl
+  where
+    by : (o : Option Task) → s.task ≡ o → Z (got_fault s o e)
+    by (Some t) is = h.bad t is (fault_of e)
+    by None is = h.off is
+got_cases Z s (Ok (message.Answer xid b)) now h = by s.task refl (has_call (pending s.task) xid)
+  where
+    by : (o : Option Task) → s.task ≡ o → (own : Bool) → Z (took_if s o xid b own)
+    by (Some t) is true = h.took t is xid b
+    by o is own = unwaited Z s h o is xid (has_call s.forgotten xid)
+got_cases Z s (Ok (message.Refuse xid r)) now h = by s.task refl (has_call (pending s.task) xid)
+  where
+    denies : (t : Task) → s.task ≡ Some t → (r : RpcRefusal) → Z (denied (idle s) (calls_of s) xid r)
+    denies t is refusal.SystemErr = h.memory t is xid
+    denies t is r = h.bad t is (bad.Denied (refusal_code r))
+
+    by : (o : Option Task) → s.task ≡ o → (own : Bool) → Z (denied_if s o xid r own)
+    by (Some t) is true = denies t is r
+    by o is own = unwaited Z s h o is xid (has_call s.forgotten xid)
+got_cases Z s (Ok (message.Unfit xid r)) now h = h.unfit xid r
+got_cases Z s (Ok (message.Call xid b)) now h = h.call
