@@ -44,7 +44,7 @@ use Rattle.kept_promise.proofs.NamesLog.{IsNameDeal, NamesOnly, names_join, call
 use Rattle.kept_promise.proofs.Shapes.{busy_command}
 use Rattle.kept_promise.proofs.VersionRuns.{settled_are, own_op, foreign_at, IsChange, Remembers, change_of, of_file_unnamed}
 use Rattle.kept_promise.proofs.Taking.{IsApart, tried_from, Taking, apart_in, IsWhole, fetched_now}
-use Rattle.kept_promise.proofs.Logs.{IsSilent, Going, Ending, HaveLogs, logs_kept, deals_silent, deals_apart, deals_own, deals_more, deals_same, deals_alike, deals_early, as_before, logs_quiet, Renewed, logs_acts, logs_begins, deals_filed, past_more}
+use Rattle.kept_promise.proofs.Logs.{IsSilent, Going, Ending, HaveLogs, logs_kept, deals_silent, deals_apart, deals_own, deals_more, deals_same, deals_alike, deals_early, as_before, logs_quiet, Renewed, logs_acts, logs_begins, deals_filed, past_more, ArePast}
 use Rattle.kept_promise.proofs.Found.{file_after, took_finds, command_finds}
 use Rattle.kept_promise.proofs.ServesQuietly.{serves_quiet}
 use Rattle.kept_promise.proofs.PathNames.{IsSmall}
@@ -568,6 +568,15 @@ walk_after P E all laws more taken step o s calls file y w x b log names word ru
       each = subst (λ (z : Word). E (log ++ Took (message.Answer x b) ∷ Sent m ∷ []) z id o.value o.outcome) open_ (laws.other (log ++ Took (message.Answer x b) ∷ Sent m ∷ []) id o.value st o.outcome of p (unopened_running o.outcome running) (unchanged_running o.outcome running));
     }
 
+-- whatever holds of an answer that is dropped, and of one to what is under way, holds of each answer
+pub answer_cases : (Z : client.State × ClientStep → List Message → List (ℕ × ℕ) → Type 0) (c : client.State) (t : Task) (x : ℕ) (b : Body) → c.task ≡ Some t → ((forgotten : Bool) → Z (drops c (Some t) x forgotten) [] [])
+    → (client.has_call (client.pending_in t.stage) x ≡ true → Z (took (idle c) (client.calls_of c) t.file t.stage x b) (message.Answer x b ∷ []) (given_in c (with_file t.file (reading_by t.stage x b)))) → Z (got_message c c.task (message.Answer x b)) (wanted_by c (Ok (message.Answer x b))) (given_by_message c (Ok (message.Answer x b)))
+answer_cases Z c t x b task dropped own = subst (λ (o : Option Task). Z (took_if c o x b (client.has_call (client.pending o) x)) (wanted_if (client.has_call (client.pending o) x) (message.Answer x b)) (given_in c (reading o (message.Answer x b)))) (sym task) (by (client.has_call (client.pending_in t.stage) x) refl)
+  where
+    by : (is_own : Bool) → client.has_call (client.pending_in t.stage) x ≡ is_own → Z (took_if c (Some t) x b is_own) (wanted_if is_own (message.Answer x b)) (given_in c (reading_if t x b is_own))
+    by true is = own is
+    by false is = dropped (client.has_call c.forgotten x)
+
 abbrev Goes_on : (P : Going) (E : Ending) (more : Book) (ops : List Op) (p : ℕ) → Op → List TakenCall → (steps : ℕ) → List Deal → client.State → (file x : ℕ) → Body → Stage → Type 0
 Goes_on P E more ops p o taken n log c file x b st = (let got = took (idle c) (client.calls_of c) file st x b in more.ops ≡ slice_set ops p (op_after o got.0 taken (n + 1) got.1) → IsRight more (op_after o got.0 taken (n + 1) got.1) → After P E (log ++ deals_with (message.Answer x b ∷ []) (given_in c (with_file file (reading_by st x b))) got.1.send) got (op_after o got.0 taken (n + 1) got.1))
 
@@ -575,7 +584,7 @@ answered : (P : Going) (E : Ending) (all : List Moment) → LogLaws all P E → 
     → (IsOfFile j.stage → (got : client.State × ClientStep) → client.has_call (client.pending_in j.stage) x ≡ true → more.ops ≡ slice_set book.ops p (op_after o got.0 taken (book.steps + 1) got.1) → IsRight more (op_after o got.0 taken (book.steps + 1) got.1) → got.1.found ≡ None → Answering book more taken j o p c x b got)
     → Comes P E more book.ops p o taken book.steps log (got_message c c.task (message.Answer x b)) (wanted_by c (Ok (message.Answer x b))) (given_by_message c (Ok (message.Answer x b)))
 answered P E all laws book more taken j o p c x b log all_is task word running was each known =
-    subst (λ (t : Option Task). Comes P E more book.ops p o taken book.steps log (took_if c t x b (client.has_call (client.pending t) x)) (wanted_if (client.has_call (client.pending t) x) (message.Answer x b)) (given_in c (reading t (message.Answer x b)))) (sym task) (by (client.has_call (client.pending_in j.stage) x) refl)
+    answer_cases (Comes P E more book.ops p o taken book.steps log) c (record { file = j.file; stage = j.stage }) x b task dropped (going j.stage refl)
   where
     dropped : (forgotten : Bool) → Comes P E more book.ops p o taken book.steps log (drops c (Some (record { file = j.file; stage = j.stage })) x forgotten) [] []
     dropped true ops right = record {
@@ -593,9 +602,25 @@ answered P E all laws book more taken j o p c x b log all_is task word running w
     going (stage.Walking y w) at own ops right = walk_after P E all laws more taken (book.steps + 1) o (idle c) (client.calls_of c) j.file y w x b log (laws.walked log o.file o.value y w (subst (P log o.file o.value) at was)) (word ∙ ap stage_word at) running right
     going st at own ops right = subst (Goes_on P E more book.ops p o taken book.steps log c j.file x b) at (filed (subst IsOfFile (sym at) tt) own) ops right
 
-    by : (own : Bool) → client.has_call (client.pending_in j.stage) x ≡ own → Comes P E more book.ops p o taken book.steps log (took_if c (Some (record { file = j.file; stage = j.stage })) x b own) (wanted_if own (message.Answer x b)) (given_in c (reading_if (record { file = j.file; stage = j.stage }) x b own))
-    by true own ops right = going j.stage refl own ops right
-    by false own ops right = dropped (client.has_call c.forgotten x) ops right
+-- what its operation took and sent, once an answer is heard
+pub heard_log : FitLaws → (opening : List Opening) (all past : List Moment) (k : Core) (qs : List Queue) (n now : ℕ) (bytes : List ℕ) (mid : List Queue) → IsKept (book_at opening k all) k qs → (h : Heard k qs n now bytes mid) → ArePast k.steps past → (p : ℕ) (o : Op) → h.seat.place ≡ Some p → slice_get k.ops p ≡ Some o
+    → (let r = got_step h.seat.client (Ok (told_message h.told)) now in deals_of (op_after o r.0 (session_taken (session_of k.sessions h.seat.session)) (k.steps + 1) r.1) (past ++ moment k (Hears n now bytes) ∷ []) ≡ deals_of o past ++ deals_with (wanted_by h.seat.client (Ok (told_message h.told))) (given_by_message h.seat.client (Ok (told_message h.told))) r.1.send)
+heard_log fits opening all past k qs n now bytes mid kept h before p o e at =
+    let book : Book = book_at opening k all in
+    let r = got_step h.seat.client (Ok (told_message h.told)) now in
+    let taken : List TakenCall = session_taken (session_of k.sessions h.seat.session) in
+    let new : Op = op_after o r.0 taken (k.steps + 1) r.1 in
+    let actor = (acts_alone book k qs h.session.owner h.seat kept h.owner).own p o e at in
+    let owner : owner_in (numbered k.sessions n) ≡ h.session.owner = ap owner_in h.at in
+    deals_more new past (moment k (Hears n now bytes))
+    ∙ ap (λ l. l ++ deals_in new (moment k (Hears n now bytes))) (deals_alike k.steps o new past (running_past o r.0 taken k.steps r.1 actor.1) before)
+    ∙ ap (λ l. deals_of o past ++ l) (
+    deals_own new (moment k (Hears n now bytes)) (ap (is_in new (k.steps + 1)) owner ∙ running_now o r.0 taken k.steps h.session.owner r.1 actor.0 actor.1 actor.2)
+    ∙ ap (λ i. deals_with (taken_by k i (Hears n now bytes)) (given_by k i (Hears n now bytes)) (happens k (Hears n now bytes)).up) owner
+    ∙ ap (λ l. deals_with l (given_by k h.session.owner (Hears n now bytes)) (happens k (Hears n now bytes)).up) (heard_takes fits book k qs n now bytes mid kept h)
+    ∙ ap (λ l. deals_with (wanted_by h.seat.client (Ok (told_message h.told))) l (happens k (Hears n now bytes)).up) (heard_gives fits book k qs n now bytes mid kept h)
+    ∙ ap (λ (t : CoreStep). deals_with (wanted_by h.seat.client (Ok (told_message h.told))) (given_by_message h.seat.client (Ok (told_message h.told))) t.up) (heard_acts fits book k qs n now bytes mid kept h)
+    )
 
 logs_hears : (P : Going) (E : Ending) (all : List Moment) → LogLaws all P E → FitLaws → (opening : List Opening) (past : List Moment) (k : Core) (qs after : List Queue) (n now : ℕ) (bytes : List ℕ) (mid : List Queue) → IsKept (book_at opening k all) k qs → (h : Heard k qs n now bytes mid)
     → IsKept (book_at opening (happens k (Hears n now bytes)).core all) (happens k (Hears n now bytes)).core after → LogsAt P E past k → LogsAt P E (past ++ moment k (Hears n now bytes) ∷ []) (happens k (Hears n now bytes)).core
@@ -640,7 +665,6 @@ logs_hears P E all laws fits opening past k qs after n now bytes mid kept h left
         let at_place : slice_get k.ops j.place ≡ Some o = ap (slice_get k.ops) w.2 ∙ at in
         let word : o.word ≡ stage_word j.stage = ap (λ (z : Op). z.word) (some_is o of.op (sym at_place ∙ of.there)) ∙ of.word in
         let task = job_task h.seat.place h.seat.client.task j w.1 in
-        let actor = (acts_alone book k qs h.session.owner h.seat kept h.owner).own p o e at in
         let new : Op = op_after o r.0 taken (k.steps + 1) r.1 in
         let ops_are : more.ops ≡ slice_set k.ops p new = ap (λ (t : CoreStep). t.core.ops) turned ∙ ap (λ l. ops_with k.ops l r.0 taken (k.steps + 1) r.1) e ∙ ap (λ l. ops_after k.ops p l r.0 taken (k.steps + 1) r.1) at in
         let right = left.sound.rights p new (ap (λ (l : List Op). slice_get l p) ops_are ∙ at_replaced k.ops p new o at) in
@@ -656,7 +680,7 @@ logs_hears P E all laws fits opening past k qs after n now bytes mid kept h left
         let apart = apart_in h.told.xid j.stage (omega (arith, all_once, split, calls)) in
         let close = subst (λ (z : Seat). CloseOf book h.session.closing s.contents z.client.next_temp j (client.local_bytes z.client.opened j.file) j.stage) same_seat (s.closes h.uncut j job_is) in
         let value = value_by book h.session.closing s.contents h.seat.client.next_temp j o (client.local_bytes h.seat.client.opened j.file) at_place j.stage close in
-        let log = log_is o new (running_past o r.0 taken k.steps r.1 actor.1) (running_now o r.0 taken k.steps h.session.owner r.1 actor.0 actor.1 actor.2) in
+        let log = heard_log fits opening all past k qs n now bytes mid kept h before.by p o e at in
         let a = answered P E all laws book more taken j o p h.seat.client h.told.xid (reply_body h.told.reply) (deals_of o past) refl task word w.4 (before.jobs h.session.owner h.seat j o h.owner w.1 at_place) (before.each p o at) (λ of_known got mine ops_got right_got finds. record {
           known = of_known;
           finds = finds;
@@ -679,18 +703,6 @@ logs_hears P E all laws fits opening past k qs after n now bytes mid kept h left
         value_by book closing contents m j o v at (stage.Committing x) h is = ap (λ (z : Op). z.value) (some_is o h.0 (sym at ∙ h.1)) ∙ h.3
         value_by book closing contents m j o v at (stage.Walking x w) h is = absurd (goal_not_close w.goal is)
         value_by book closing contents m j o v at _ h is = absurd cc
-
-        log_is : (o new : Op) → Rattle.kept_promise.proofs.Counted.AlikeUpTo k.steps o new → is_in new (k.steps + 1) h.session.owner ≡ true → deals_of new (past ++ moment k (Hears n now bytes) ∷ []) ≡ deals_of o past ++ deals_with (wanted_by h.seat.client (Ok (told_message h.told))) (given_by_message h.seat.client (Ok (told_message h.told))) (got_step h.seat.client (Ok (told_message h.told)) now).1.send
-        log_is o new same now_in =
-            deals_more new past (moment k (Hears n now bytes))
-            ∙ ap (λ l. l ++ deals_in new (moment k (Hears n now bytes))) (deals_alike k.steps o new past same before.by)
-            ∙ ap (λ l. deals_of o past ++ l) (
-            deals_own new (moment k (Hears n now bytes)) (ap (is_in new (k.steps + 1)) owner ∙ now_in)
-            ∙ ap (λ i. deals_with (taken_by k i (Hears n now bytes)) (given_by k i (Hears n now bytes)) (happens k (Hears n now bytes)).up) owner
-            ∙ ap (λ l. deals_with l (given_by k h.session.owner (Hears n now bytes)) (happens k (Hears n now bytes)).up) (heard_takes fits (book_at opening k all) k qs n now bytes mid kept h)
-            ∙ ap (λ l. deals_with (wanted_by h.seat.client (Ok (told_message h.told))) l (happens k (Hears n now bytes)).up) (heard_gives fits (book_at opening k all) k qs n now bytes mid kept h)
-            ∙ ap (λ (t : CoreStep). deals_with (wanted_by h.seat.client (Ok (told_message h.told))) (given_by_message h.seat.client (Ok (told_message h.told))) t.up) turned
-            )
 
 -- ---- any event
 

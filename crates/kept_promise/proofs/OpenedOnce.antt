@@ -9,26 +9,25 @@ use Rattle.trace_ends.specs.Session.{taken_of as session_taken}
 use Rattle.trace_replay.specs.Faithful.{OpenedBy}
 use Rattle.trace_replay.specs.Traffic.{attempts_in, no_attempt}
 use Rattle.trace_replay.specs.Trail.{given_by_message}
-use Rattle.kept_promise.proofs.Common.{Deal.Sent, hashed_of, Deal.Took, Deal.Found, nat_tests, ◌==◌, ◌&&◌, nat_le, nat_lt, slice_get, slice_set, Body, Message, Pending, got_step, idle, took_if, drops, ClientStep, Ended, Stage, State, Task, until, Op, Opening, TakenCall, op_after, Core, Event, Event.Hears, CoreStep, numbered, session_of, ops_after, ops_with, acted, happens, Moment, client_of, owner_in, wanted_by, taken_by, given_by, is_in, Deal, deals_with, deals_in, deals_of, Book, Queue, version_at, told_message, took}
+use Rattle.kept_promise.proofs.Common.{Deal.Sent, hashed_of, Deal.Took, Deal.Found, nat_tests, ◌==◌, ◌&&◌, nat_le, nat_lt, slice_get, slice_set, Body, Message, Pending, got_step, idle, took_if, drops, ClientStep, Ended, Stage, State, Task, until, Op, Opening, TakenCall, op_after, Core, Event, Event.Hears, CoreStep, numbered, session_of, ops_after, ops_with, acted, happens, Moment, client_of, owner_in, wanted_by, is_in, Deal, deals_with, deals_of, Book, Queue, version_at, told_message, took}
 use Rattle.kept_promise.proofs.Lists.{some_is, nothing_there, at_replaced}
 use Rattle.kept_promise.proofs.Messages.{Job, job, stage_word, AllTolds, AnswerOf, IsAnswer, FetchOf, IsTrying}
 use Rattle.kept_promise.proofs.Rights.{Caused}
 use Rattle.kept_promise.proofs.Fits.{FitLaws}
 use Rattle.kept_promise.proofs.Facts.{IsKept, IsSession, is_naming}
 use Rattle.kept_promise.proofs.RunsCarried.{book_at, moment, Step, Carried}
-use Rattle.kept_promise.proofs.Counted.{AlikeUpTo, running_now, running_past}
-use Rattle.kept_promise.proofs.Actors.{job_task, acts_alone, Heard, heard_at, heard_acts, heard_takes, heard_gives}
+use Rattle.kept_promise.proofs.Actors.{job_task, Heard, heard_at, heard_acts}
 use Rattle.kept_promise.proofs.Versions.{version_in}
 use Rattle.kept_promise.proofs.VersionRuns.{own_op, word_after, heard_finds, opened_by, unnamed}
 use Rattle.kept_promise.proofs.JobFacts.{ops_shape}
 use Rattle.kept_promise.proofs.Adjusts.{adjusted_core}
 use Rattle.kept_promise.proofs.Leases.{client_stays}
-use Rattle.kept_promise.proofs.LogEvents.{file_stays}
+use Rattle.kept_promise.proofs.LogEvents.{file_stays, heard_log}
 use Rattle.kept_promise.proofs.Points.{CalledAt, called_as, point_now, rests_on}
 use Rattle.kept_promise.proofs.OpsAfter.{IsHears, ops_after_event, same_versions, opened_before}
 use Rattle.kept_promise.proofs.StepCases.{Cases, took_cases, walk_cases, IsOpenedBy}
 use Rattle.kept_promise.proofs.Taking.{Moved, version_later, versions_after, tries_of, moved_by}
-use Rattle.kept_promise.proofs.Logs.{deals_apart, deals_own, deals_more, deals_same, deals_pointed, deals_alike}
+use Rattle.kept_promise.proofs.Logs.{deals_apart, deals_same, deals_pointed}
 use Rattle.kept_promise.proofs.LogSums.{begins_in, sum_join, sum_took, IsSum}
 use Rattle.kept_promise.proofs.LogEvents.{LogsAt, carried_logs}
 use Rattle.kept_promise.proofs.Found.{Quietly, step_found}
@@ -187,18 +186,6 @@ once_hears fits all past opening k qs after n now bytes mid kept h left met befo
     same_seat : s.seat ≡ h.seat
     same_seat = some_is s.seat h.seat (sym s.owner ∙ h.owner)
 
-    log_is : (o new : Op) → AlikeUpTo k.steps o new → is_in new (k.steps + 1) h.session.owner ≡ true → deals_of new (past ++ moment k (Hears n now bytes) ∷ []) ≡ deals_of o past ++ deals_with (wanted_by h.seat.client (Ok (told_message h.told))) (given_by_message h.seat.client (Ok (told_message h.told))) (got_step h.seat.client (Ok (told_message h.told)) now).1.send
-    log_is o new same now_in =
-        deals_more new past (moment k (Hears n now bytes))
-        ∙ ap (λ l. l ++ deals_in new (moment k (Hears n now bytes))) (deals_alike k.steps o new past same met.by)
-        ∙ ap (λ l. deals_of o past ++ l) (
-        deals_own new (moment k (Hears n now bytes)) (ap (is_in new (k.steps + 1)) owner ∙ now_in)
-        ∙ ap (λ i. deals_with (taken_by k i (Hears n now bytes)) (given_by k i (Hears n now bytes)) (happens k (Hears n now bytes)).up) owner
-        ∙ ap (λ l. deals_with l (given_by k h.session.owner (Hears n now bytes)) (happens k (Hears n now bytes)).up) (heard_takes fits (book_at opening k all) k qs n now bytes mid kept h)
-        ∙ ap (λ l. deals_with (wanted_by h.seat.client (Ok (told_message h.told))) l (happens k (Hears n now bytes)).up) (heard_gives fits (book_at opening k all) k qs n now bytes mid kept h)
-        ∙ ap (λ (t : CoreStep). deals_with (wanted_by h.seat.client (Ok (told_message h.told))) (given_by_message h.seat.client (Ok (told_message h.told))) t.up) turned
-        )
-
     ended : (p len : ℕ) (digest : List ℕ) (o : Op) → h.seat.place ≡ Some p → slice_get k.ops p ≡ Some o → (op_after o (got_step h.seat.client (Ok (told_message h.told)) now).0 (session_taken (session_of k.sessions h.seat.session)) (k.steps + 1) (got_step h.seat.client (Ok (told_message h.told)) now).1).outcome ≡ told.Opened len digest
         → IsOnce (past ++ moment k (Hears n now bytes) ∷ []) (book_at opening (acted k h.session.owner h.seat (got_step h.seat.client (Ok (told_message h.told)) now).0 (got_step h.seat.client (Ok (told_message h.told)) now).1).core all) (op_after o (got_step h.seat.client (Ok (told_message h.told)) now).0 (session_taken (session_of k.sessions h.seat.session)) (k.steps + 1) (got_step h.seat.client (Ok (told_message h.told)) now).1)
     ended p len digest o e at is = record { end = k.steps + 1; end_is = end_is r.1.ended is; by = omega arith; once = λ lt. moved lt; called = called }
@@ -259,8 +246,7 @@ once_hears fits all past opening k qs after n now bytes mid kept h left met befo
         -- it began no attempt in this step
         begun : begins_in (deals_of new (past ++ moment k (Hears n now bytes) ∷ [])) ≡ begins_in (deals_of o past)
         begun =
-            let actor = (acts_alone book k qs h.session.owner h.seat kept h.owner).own p o e at in
-            let log = log_is o new (running_past o r.0 taken k.steps r.1 actor.1) (running_now o r.0 taken k.steps h.session.owner r.1 actor.0 actor.1 actor.2) in
+            let log = heard_log fits opening all past k qs n now bytes mid kept h met.by p o e at in
             let ts = wanted_by h.seat.client (Ok (told_message h.told)) in
             let fs = given_by_message h.seat.client (Ok (told_message h.told)) in
             let a = ap begins_in log in
@@ -279,27 +265,11 @@ once_hears fits all past opening k qs after n now bytes mid kept h left met befo
             → Moved (ops_with k.ops h.seat.place (got_step h.seat.client (Ok (told_message h.told)) now).0 (session_taken (session_of k.sessions h.seat.session)) (k.steps + 1) (got_step h.seat.client (Ok (told_message h.told)) now).1) (op_after o (got_step h.seat.client (Ok (told_message h.told)) now).0 (session_taken (session_of k.sessions h.seat.session)) (k.steps + 1) (got_step h.seat.client (Ok (told_message h.told)) now).1).file (op_after o (got_step h.seat.client (Ok (told_message h.told)) now).0 (session_taken (session_of k.sessions h.seat.session)) (k.steps + 1) (got_step h.seat.client (Ok (told_message h.told)) now).1).begin (k.steps + 1)
         moved lt =
             let j : Job = w.0 in
-            let of = (kept.seats h.session.owner h.seat h.owner).task j w.1 in
-            let at_place : slice_get k.ops j.place ≡ Some o = ap (slice_get k.ops) w.2 ∙ at in
-            let word : o.word ≡ stage_word j.stage = ap (λ (z : Op). z.word) (some_is o of.op (sym at_place ∙ of.there)) ∙ of.word in
-            let actor = (acts_alone book k qs h.session.owner h.seat kept h.owner).own p o e at in
-            let ops_are : more.ops ≡ slice_set k.ops p new = ap (λ (t : CoreStep). t.core.ops) turned ∙ ap (λ l. ops_with k.ops l r.0 taken (k.steps + 1) r.1) e ∙ ap (λ l. ops_after k.ops p l r.0 taken (k.steps + 1) r.1) at in
-            let right = left.sound.rights p new (ap (λ (l : List Op). slice_get l p) ops_are ∙ at_replaced k.ops p new o at) in
-            let open_ : stage_word j.stage ≡ words.Open = sym word ∙ sym (word_after o r.0 taken (k.steps + 1) r.1) ∙ (subst (Caused more new) is right.cause).0 in
-            let job_is : job s.seat ≡ Some j = ap job same_seat ∙ w.1 in
-            let fetch = subst (λ z. FetchOf book z j j.stage) taken_is ((s.talk h.uncut).fetch j job_is) in
             let trying = subst (IsTrying book) w.1 (kept.seats h.session.owner h.seat h.owner).trying in
-            let log = log_is o new (running_past o r.0 taken k.steps r.1 actor.1) (running_now o r.0 taken k.steps h.session.owner r.1 actor.0 actor.1 actor.2) in
-            let ts = wanted_by h.seat.client (Ok (told_message h.told)) in
-            let fs = given_by_message h.seat.client (Ok (told_message h.told)) in
-            let a = ap begins_in log in
-            let b = sum_join Rattle.kept_promise.proofs.Common.first_number (deals_of o past) (deals_with ts fs r.1.send) in
-            let c = sum_join Rattle.kept_promise.proofs.Common.first_number (map Took ts ++ map Found fs) (map Sent r.1.send) in
-            let d = sum_took Rattle.kept_promise.proofs.Common.first_number ts fs in
-            let none = ap (λ (ms : List Message). begins_in (map Sent ms)) silent in
-            let more_ = begun_by (deals_of o past) o.file o.value j.stage (met.jobs h.session.owner h.seat j o h.owner w.1 at_place) open_ (omega (arith, lt, a, b, c, d, none)) in
-            let m = moved_by book taken j o at_place trying fetch open_ more_ in
-            subst (λ f. Moved (ops_with k.ops h.seat.place r.0 taken (k.steps + 1) r.1) f new.begin (k.steps + 1)) (sym (file_stays o r.0 taken (k.steps + 1) r.1 (unfound r.1.found refl) ∙ w.5 (unnamed w.0.stage (ap changes open_))))
+            let same = begun in
+            let more_ = begun_by (deals_of o past) o.file o.value j.stage (met.jobs h.session.owner h.seat j o h.owner w.1 there) stage_open (omega (arith, lt, same)) in
+            let m = moved_by book taken j o there trying fetch stage_open more_ in
+            subst (λ f. Moved (ops_with k.ops h.seat.place r.0 taken (k.steps + 1) r.1) f new.begin (k.steps + 1)) (sym (file_stays o r.0 taken (k.steps + 1) r.1 (unfound r.1.found refl) ∙ w.5 (unnamed w.0.stage (ap changes stage_open))))
             (let begin = begin_is r.1.ended in let m1 = m.1 in (m.0, omega (arith, m1, begin), m.2, λ v. m.3 (ap (version_in k.ops j.file) (sym begin) ∙ sym (versions_after k.ops h.seat.place r.0 taken (k.steps + 1) r.1 finds j.file new.begin) ∙ v ∙ versions_after k.ops h.seat.place r.0 taken (k.steps + 1) r.1 finds j.file m.0)))
           where
             begin_is : (l : Option Ended) → (op_after o r.0 taken (k.steps + 1) (record r.1 { ended = l })).begin ≡ o.begin

@@ -23,9 +23,9 @@ use Rattle.register_model.specs.declared.op.Word.TheVariants as words
 use Rattle.trace_ends.specs.Session.{taken_of as session_taken}
 use Rattle.trace_ends.specs.Ops.{begun as op_begun, file_with}
 use Rattle.trace_replay.specs.Trail.{given_in, given_by_message}
-use Rattle.file_open.specs.Looking.{reading_by, with_file, reading_if, reading}
+use Rattle.file_open.specs.Looking.{reading_by, with_file}
 use Rattle.trace_replay.specs.Walking.{Part, Part.asks, IsWalk, AreCalls, HasWalkFile, HasFoundFile}
-use Rattle.kept_promise.proofs.Common.{◌==◌, Word, Outcome, told_of, slice_get, slice_set, Command, ClientStep, Ended, ended_by, joined, command_step, Stage, Task, Op, Opening, TakenCall, op_after, ops_with, ops_after, place_after, place_with, Core, Seat, CoreStep, Event, Event.Joins, Event.Does, Event.Serves, Event.Hears, Event.Settles, Event.Cuts, Event.Hangs, numbered, with_numbered, joins, joins_as, does, cuts, cuts_if, settles, acted, session_of, server_step, happens, Moment, Deed, deeds_of, Book, Queue, taken_by, given_by, got_step, got_message, told_message, reply_body, Body, took, took_if, idle, drops, Message, owner_in, is_in, joined_from, calls_from, word_of, file_of, value_at_begin, wanted_by, wanted_if, Deal, Deal.Sent, deals_with, deals_in, deals_of}
+use Rattle.kept_promise.proofs.Common.{◌==◌, Word, Outcome, told_of, slice_get, slice_set, Command, ClientStep, Ended, ended_by, joined, command_step, Stage, Task, Op, Opening, TakenCall, op_after, ops_with, ops_after, place_after, place_with, Core, Seat, CoreStep, Event, Event.Joins, Event.Does, Event.Serves, Event.Hears, Event.Settles, Event.Cuts, Event.Hangs, numbered, with_numbered, joins, joins_as, does, cuts, cuts_if, settles, acted, session_of, server_step, happens, Moment, Deed, deeds_of, Book, Queue, got_step, got_message, told_message, reply_body, Body, took, idle, drops, Message, owner_in, is_in, joined_from, calls_from, word_of, file_of, value_at_begin, wanted_by, Deal, Deal.Sent, deals_with, deals_in, deals_of}
 use Rattle.kept_promise.proofs.Lists.{some_is, nothing_there, of_appended, of_replaced, at_replaced, at_end, within}
 use Rattle.kept_promise.proofs.Messages.{Job, job, job_of, stage_word}
 use Rattle.kept_promise.proofs.PathNames.{IsSmall}
@@ -34,8 +34,8 @@ use Rattle.kept_promise.proofs.Fits.{FitLaws}
 use Rattle.kept_promise.proofs.Locally.{deeds_more}
 use Rattle.kept_promise.proofs.JobFacts.{ops_shape, job_after}
 use Rattle.kept_promise.proofs.RunsCarried.{book_at, moment, Step}
-use Rattle.kept_promise.proofs.Actors.{job_place, job_task, acts_alone, Heard, heard_at, heard_acts, heard_takes, heard_gives}
-use Rattle.kept_promise.proofs.Counted.{AlikeUpTo, running_past, running_now}
+use Rattle.kept_promise.proofs.Actors.{job_place, job_task, acts_alone, Heard, heard_at, heard_acts}
+use Rattle.kept_promise.proofs.Counted.{AlikeUpTo, running_past}
 use Rattle.kept_promise.proofs.CountedRuns.{no_fault_after}
 use Rattle.kept_promise.proofs.CommandOps.{made_by, job_stays}
 use Rattle.kept_promise.proofs.Shapes.{busy_command}
@@ -46,7 +46,7 @@ use Rattle.kept_promise.proofs.Rights.{IsRight, gets_file}
 use Rattle.kept_promise.proofs.Found.{took_finds, command_finds}
 use Rattle.kept_promise.proofs.StepCases.{IsOfFile, IsFault}
 use Rattle.kept_promise.proofs.Logs.{IsSilent, ArePast, AreAsBefore, as_before, deals_more, deals_same, deals_silent, deals_pointed, deals_alike, deals_apart, deals_own, deals_early, deals_filed}
-use Rattle.kept_promise.proofs.LogEvents.{joins_silent, cuts_silent, hangs_silent, is_new, IsNew}
+use Rattle.kept_promise.proofs.LogEvents.{joins_silent, cuts_silent, hangs_silent, is_new, IsNew, heard_log, answer_cases}
 use Rattle.kept_promise.proofs.WalkLog.{GaveUp, walk_gave, IsUnder, SaidOn, outcome_by, runs_so, lost_so, SendsNone, PlainOn, under_walk, under_word, walk_said, file_said, plain_said, first_said, command_none, command_plain, none_named, under_walking}
 use Rattle.kept_promise.proofs.OwnLog.{AreNear, near_is_own}
 use Rattle.kept_promise.proofs.WalkFile.{filed_found, filed_as, filed_made, found_as, unfound_as, unfound_of, walk_filed, command_filed, lost_point}
@@ -527,7 +527,7 @@ AnswerSaid p log file r ms found = (IsFault r.1.ended → ⊥) → SaidOn p (log
 
 heard_said : (p : Part) (log : List Deal) (c : client.State) (j : Job) (x : ℕ) (b : Body) → c.task ≡ Some (record { file = j.file; stage = j.stage }) → IsUnder p log j.file j.stage → AnswerSaid p log j.file (got_message c c.task (message.Answer x b)) (wanted_by c (Ok (message.Answer x b))) (given_by_message c (Ok (message.Answer x b)))
 heard_said p log c j x b task was =
-    subst (λ (t : Option Task). AnswerSaid p log j.file (took_if c t x b (client.has_call (client.pending t) x)) (wanted_if (client.has_call (client.pending t) x) (message.Answer x b)) (given_in c (reading t (message.Answer x b)))) (sym task) (by (client.has_call (client.pending_in j.stage) x) refl)
+    answer_cases (AnswerSaid p log j.file) c (record { file = j.file; stage = j.stage }) x b task dropped (own j.stage was)
   where
     dropped : (forgotten : Bool) → AnswerSaid p log j.file (drops c (Some (record { file = j.file; stage = j.stage })) x forgotten) [] []
     dropped true = λ well. record {
@@ -547,17 +547,13 @@ heard_said p log c j x b task was =
           (λ was mine well. walk_said p log j.file (idle c) (client.calls_of c) j.file y w x b (sym (eqb-true y x (or_none (y == x) mine))) was well) was mine well
     ]
 
-    by : (is_own : Bool) → client.has_call (client.pending_in j.stage) x ≡ is_own → AnswerSaid p log j.file (took_if c (Some (record { file = j.file; stage = j.stage })) x b is_own) (wanted_if is_own (message.Answer x b)) (given_in c (reading_if (record { file = j.file; stage = j.stage }) x b is_own))
-    by true is = own j.stage was is
-    by false is = dropped (client.has_call c.forgotten x)
-
 -- the file of its operation, which was this, and is that then
 abbrev AnswerFiled : (n o : Op) → Part → List Deal → client.State × ClientStep → List Message → List (ℕ × ℕ) → Type 0
 AnswerFiled n o p log r ms found = (IsFault r.1.ended → ⊥) → n.file ≡ file_with o.file r.1.found → n.word ≡ o.word → (r.1.ended ≡ None → n.point ≡ o.point) → HasWalkFile n p (log ++ deals_with ms found r.1.send)
 
 heard_filed : (n o : Op) (p : Part) (log : List Deal) (c : client.State) (j : Job) (x : ℕ) (b : Body) → c.task ≡ Some (record { file = j.file; stage = j.stage }) → IsUnder p log o.file j.stage → HasWalkFile o p log → AnswerFiled n o p log (got_message c c.task (message.Answer x b)) (wanted_by c (Ok (message.Answer x b))) (given_by_message c (Ok (message.Answer x b)))
 heard_filed n o p log c j x b task was has =
-    subst (λ (t : Option Task). AnswerFiled n o p log (took_if c t x b (client.has_call (client.pending t) x)) (wanted_if (client.has_call (client.pending t) x) (message.Answer x b)) (given_in c (reading t (message.Answer x b)))) (sym task) (by (client.has_call (client.pending_in j.stage) x) refl)
+    answer_cases (AnswerFiled n o p log) c (record { file = j.file; stage = j.stage }) x b task dropped (own j.stage was)
   where
     dropped : (forgotten : Bool) → AnswerFiled n o p log (drops c (Some (record { file = j.file; stage = j.stage })) x forgotten) [] []
     dropped true = λ well file word point. subst (HasWalkFile n p) (sym (append-nil log)) (filed_as o n file (unfound_as o n file word (point refl)) p log has)
@@ -571,10 +567,6 @@ heard_filed n o p log c j x b task was has =
           (λ was mine well file word point. walk_filed n o.file p log o.file (idle c) (client.calls_of c) j.file y w x b (sym (eqb-true y x (or_none (y == x) mine))) was well file (λ none running. unfound_as o n (file ∙ ap (file_with o.file) none) word (point running) (unfound_of o p log o.file y w was has))) was mine
     ]
 
-    by : (is_own : Bool) → client.has_call (client.pending_in j.stage) x ≡ is_own → AnswerFiled n o p log (took_if c (Some (record { file = j.file; stage = j.stage })) x b is_own) (wanted_if is_own (message.Answer x b)) (given_in c (reading_if (record { file = j.file; stage = j.stage }) x b is_own))
-    by true is = own j.stage was is
-    by false is = dropped (client.has_call c.forgotten x)
-
 -- and where a listing gives up
 abbrev AnswerGave : Part → List Deal → client.State × ClientStep → List Message → List (ℕ × ℕ) → Type 0
 AnswerGave p log r ms found = (e : Ended) → r.1.ended ≡ Some e → e.outcome ≡ outcome.NoLink → GaveUp p (log ++ deals_with ms found r.1.send)
@@ -584,7 +576,7 @@ bad_link f e = absurd cc
 
 heard_gave : (ns : List (List ℕ)) (log : List Deal) (c : client.State) (j : Job) (x : ℕ) (b : Body) → c.task ≡ Some (record { file = j.file; stage = j.stage }) → IsUnder (asks (begun (path.List ns))) log j.file j.stage → AnswerGave (asks (begun (path.List ns))) log (got_message c c.task (message.Answer x b)) (wanted_by c (Ok (message.Answer x b))) (given_by_message c (Ok (message.Answer x b)))
 heard_gave ns log c j x b task was =
-    subst (λ (t : Option Task). AnswerGave (asks (begun (path.List ns))) log (took_if c t x b (client.has_call (client.pending t) x)) (wanted_if (client.has_call (client.pending t) x) (message.Answer x b)) (given_in c (reading t (message.Answer x b)))) (sym task) (by (client.has_call (client.pending_in j.stage) x) refl)
+    answer_cases (AnswerGave (asks (begun (path.List ns))) log) c (record { file = j.file; stage = j.stage }) x b task dropped (own j.stage was)
   where
     dropped : (forgotten : Bool) → AnswerGave (asks (begun (path.List ns))) log (drops c (Some (record { file = j.file; stage = j.stage })) x forgotten) [] []
     dropped true = λ e at link. nothing_there e at
@@ -598,10 +590,6 @@ heard_gave ns log c j x b task was =
           (λ was mine. walk_gave (asks (begun (path.List ns))) log j.file (idle c) (client.calls_of c) j.file y w x b (sym (eqb-true y x (or_none (y == x) mine))) was) was mine
     ]
 
-    by : (is_own : Bool) → client.has_call (client.pending_in j.stage) x ≡ is_own → AnswerGave (asks (begun (path.List ns))) log (took_if c (Some (record { file = j.file; stage = j.stage })) x b is_own) (wanted_if is_own (message.Answer x b)) (given_in c (reading_if (record { file = j.file; stage = j.stage }) x b is_own))
-    by true is = own j.stage was is
-    by false is = dropped (client.has_call c.forgotten x)
-
 told_link : (u : Outcome) → told_of u ≡ told.NoLink → u ≡ outcome.NoLink
 told_link outcome.NoLink e = refl
 told_link u e = absurd cc
@@ -612,7 +600,7 @@ AnswerPlain log r ms found = (IsFault r.1.ended → ⊥) → PlainOn (log ++ dea
 
 heard_plain : (log : List Deal) (c : client.State) (j : Job) (x : ℕ) (b : Body) → c.task ≡ Some (record { file = j.file; stage = j.stage }) → IsOfFile j.stage → SendsNone log → AnswerPlain log (got_message c c.task (message.Answer x b)) (wanted_by c (Ok (message.Answer x b))) (given_by_message c (Ok (message.Answer x b)))
 heard_plain log c j x b task of none =
-    subst (λ (t : Option Task). AnswerPlain log (took_if c t x b (client.has_call (client.pending t) x)) (wanted_if (client.has_call (client.pending t) x) (message.Answer x b)) (given_in c (reading t (message.Answer x b)))) (sym task) (by (client.has_call (client.pending_in j.stage) x))
+    answer_cases (AnswerPlain log) c (record { file = j.file; stage = j.stage }) x b task dropped (λ is well. plain_said log (idle c) (client.calls_of c) j.file j.stage x b (given_in c (with_file j.file (reading_by j.stage x b))) of none)
   where
     dropped : (forgotten : Bool) → AnswerPlain log (drops c (Some (record { file = j.file; stage = j.stage })) x forgotten) [] []
     dropped true = λ well. record {
@@ -620,10 +608,6 @@ heard_plain log c j x b task of none =
       each = subst SendsNone (sym (append-nil log)) none;
     }
     dropped false = λ well. absurd (well (bad.UnknownXid x, refl))
-
-    by : (is_own : Bool) → AnswerPlain log (took_if c (Some (record { file = j.file; stage = j.stage })) x b is_own) (wanted_if is_own (message.Answer x b)) (given_in c (reading_if (record { file = j.file; stage = j.stage }) x b is_own))
-    by true well = plain_said log (idle c) (client.calls_of c) j.file j.stage x b (given_in c (with_file j.file (reading_by j.stage x b))) of none
-    by false well = dropped (client.has_call c.forgotten x) well
 
 said_hears : FitLaws → (all past : List Moment) (opening : List Opening) (k : Core) (qs after : List Queue) (n now : ℕ) (bytes : List ℕ) (mid : List Queue) → IsKept (book_at opening k all) k qs → (h : Heard k qs n now bytes mid)
     → IsKept (book_at opening (happens k (Hears n now bytes)).core all) (happens k (Hears n now bytes)).core after → ArePast k.steps past → AreSaid past k → AreSaid (past ++ moment k (Hears n now bytes) ∷ []) (happens k (Hears n now bytes)).core
@@ -648,18 +632,6 @@ said_hears fits all past opening k qs after n now bytes mid kept h left before s
     owner : owner_in (numbered k.sessions n) ≡ h.session.owner
     owner = ap owner_in h.at
 
-    log_is : (o new : Op) → AlikeUpTo k.steps o new → is_in new (k.steps + 1) h.session.owner ≡ true → deals_of new (past ++ moment k (Hears n now bytes) ∷ []) ≡ deals_of o past ++ deals_with (wanted_by h.seat.client (Ok (told_message h.told))) (given_by_message h.seat.client (Ok (told_message h.told))) (got_step h.seat.client (Ok (told_message h.told)) now).1.send
-    log_is o new same now_in =
-        deals_more new past (moment k (Hears n now bytes))
-        ∙ ap (λ l. l ++ deals_in new (moment k (Hears n now bytes))) (deals_alike k.steps o new past same before)
-        ∙ ap (λ l. deals_of o past ++ l) (
-        deals_own new (moment k (Hears n now bytes)) (ap (is_in new (k.steps + 1)) owner ∙ now_in)
-        ∙ ap (λ i. deals_with (taken_by k i (Hears n now bytes)) (given_by k i (Hears n now bytes)) (happens k (Hears n now bytes)).up) owner
-        ∙ ap (λ l. deals_with l (given_by k h.session.owner (Hears n now bytes)) (happens k (Hears n now bytes)).up) (heard_takes fits (book_at opening k all) k qs n now bytes mid kept h)
-        ∙ ap (λ l. deals_with (wanted_by h.seat.client (Ok (told_message h.told))) l (happens k (Hears n now bytes)).up) (heard_gives fits (book_at opening k all) k qs n now bytes mid kept h)
-        ∙ ap (λ (t : CoreStep). deals_with (wanted_by h.seat.client (Ok (told_message h.told))) (given_by_message h.seat.client (Ok (told_message h.told))) t.up) turned
-        )
-
     renewed : (p : ℕ) (d : Deed) (o : Op) → h.seat.place ≡ Some p → slice_get (deeds_of past) p ≡ Some d → slice_get k.ops p ≡ Some o → SaidNow (past ++ moment k (Hears n now bytes) ∷ []) d.command (got_step h.seat.client (Ok (told_message h.told)) now).0 (got_step h.seat.client (Ok (told_message h.told)) now).1 (op_after o (got_step h.seat.client (Ok (told_message h.told)) now).0 (session_taken (session_of k.sessions h.seat.session)) (k.steps + 1) (got_step h.seat.client (Ok (told_message h.told)) now).1)
     renewed p d o e deed at = on d.command (said.jobs h.session.owner h.seat w.0 d o h.owner w.1 (ap (slice_get (deeds_of past)) w.2 ∙ deed) (ap (slice_get k.ops) w.2 ∙ at)) (said.filed p d o deed at)
       where
@@ -676,7 +648,7 @@ said_hears fits all past opening k qs after n now bytes mid kept h left before s
         right = left.sound.rights p new (ap (λ (l : List Op). slice_get l p) ops_are ∙ at_replaced k.ops p new o at)
 
         log : deals_of new (past ++ moment k (Hears n now bytes) ∷ []) ≡ deals_of o past ++ deals_with (wanted_by h.seat.client (Ok (told_message h.told))) (given_by_message h.seat.client (Ok (told_message h.told))) (got_step h.seat.client (Ok (told_message h.told)) now).1.send
-        log = let actor = (acts_alone (book_at opening k all) k qs h.session.owner h.seat kept h.owner).own p o e at in log_is o new (running_past o r.0 taken k.steps r.1 actor.1) (running_now o r.0 taken k.steps h.session.owner r.1 actor.0 actor.1 actor.2)
+        log = heard_log fits opening all past k qs n now bytes mid kept h before p o e at
 
         plain : IsOfFile w.0.stage × SendsNone (deals_of o past) → PlainOn (deals_of o past ++ deals_with (wanted_by h.seat.client (Ok (told_message h.told))) (given_by_message h.seat.client (Ok (told_message h.told))) (got_step h.seat.client (Ok (told_message h.told)) now).1.send) (got_step h.seat.client (Ok (told_message h.told)) now)
         plain was = heard_plain (deals_of o past) h.seat.client w.0 h.told.xid (reply_body h.told.reply) (job_task h.seat.place h.seat.client.task w.0 w.1) was.0 was.1 (λ fault. no_fault_after more o r.0 taken (k.steps + 1) r.1 right fault)
