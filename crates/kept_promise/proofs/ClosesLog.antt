@@ -26,8 +26,7 @@ use Rattle.kept_promise.proofs.LogSums.{sent_more, named_join, made_join, commit
 use Rattle.kept_promise.proofs.Steps.{goal_not_close}
 use Rattle.kept_promise.proofs.WalkRuns.{took_file}
 use Rattle.kept_promise.proofs.NamesLog.{NamesOnly, names_count, names_pay}
-use Rattle.kept_promise.proofs.LogEvents.{Answering, Answered, found_in, LogLaws, value_stays}
-use Rattle.kept_promise.proofs.Rights.{gets_file}
+use Rattle.kept_promise.proofs.LogEvents.{Answering, Answered, found_in, LogLaws, value_stays, by_getting}
 
 -- ---- what is carried
 
@@ -283,13 +282,6 @@ closes_heard book more taken j o p s x b a log h = record {
         ]
     by w word = tt
 
--- an operation that gets its file from the server
-moves_closes : (log : List Deal) (file other : ℕ) (v : List ℕ) (w : Word) (u : History) → gets_file w ≡ true → CloseNamed log w file v u → CloseNamed log w other v u
-moves_closes log file other v words.Make u gets h = h
-moves_closes log file other v words.Remove u gets h = h
-moves_closes log file other v words.Rename u gets h = h
-moves_closes log file other v w u gets h = absurd cc
-
 pub closes_laws : (all : List Moment) → LogLaws all ClosesBy CloseNamed
 closes_laws all = record {
   walks = λ log file v x w h. h;
@@ -298,7 +290,7 @@ closes_laws all = record {
   asks = λ log names x file v. tt;
   opens = λ log names x file v. tt;
   closes = λ x temp file v. (record { named = refl; paid = (tt, tt, refl); made = refl; commits = refl; came = refl }, refl);
-  moves = λ log file other v w u gets h. moves_closes log file other v w u gets h;
+  moves = λ log file other v w u gets. by_getting (λ z. CloseNamed log z file v u → CloseNamed log z other v u) (λ h. h) (λ h. h) (λ h. h) w gets;
   other = λ log file v st u of p un same. other log file v st u of p;
   heard = λ book more taken j o p s x b all_is a log h. closes_heard book more taken j o p s x b a log h;
 }

@@ -5,7 +5,7 @@ use Rattle.rpc_record.proofs.Splitting.{split_cut}
 use Rattle.server_core.specs.declared.event.Sent.{Sent}
 use Rattle.kept_promise.proofs.Common.{slice_get, Fed, Refusal, Unread, Parts, split, fed, parse_of, Message, WireFault, Core, Seat, Session, Event, Event.Serves, Event.Hears, server_waiting, CoreStep, Loss, Loss.Nothing, numbered, serves_if, serves, hears_if, hears_at, hears, is_newest, happens, World, Wire, bytes_of, unless, up_put_in, up_put, down_put_in, down_put, lost_by, routed, happened, all_happened, up_events, up_at, up_some, down_events, down_at, down_some}
 use Rattle.kept_promise.proofs.Statements.{UpsAddUp, DownsAddUp}
-use Rattle.kept_promise.proofs.Places.{at_place, becomes, there_is, none_is, swap, twice, own}
+use Rattle.kept_promise.proofs.Places.{at_place, becomes, there_is, swap, twice, own, put_is}
 use Rattle.kept_promise.proofs.Shelves.{drop_next}
 
 -- ---- bytes
@@ -107,11 +107,7 @@ downs sessions (s ∷ ss) = downs_in s (numbered sessions s.session) ++ downs se
 
 down_in_is : (ws : List Wire) (s : Sent) (x : Option Session) → down_put_in ws s x (numbered ws s.session) ≡ all_become (downs_in s x) ws
 down_in_is ws s None = refl
-down_in_is ws s (Some x) = by (numbered ws s.session) refl
-  where
-    by : (o : Option Wire) → numbered ws s.session ≡ o → down_put_in ws s (Some x) o ≡ becomes (add_down x.cut (bytes_of (s.message ∷ []))) ws s.session
-    by None e = sym (none_is (add_down x.cut (bytes_of (s.message ∷ []))) ws s.session e)
-    by (Some q) e = there_is (add_down x.cut (bytes_of (s.message ∷ []))) ws s.session q e
+down_in_is ws s (Some x) = put_is (down_put_in ws s (Some x)) (add_down x.cut (bytes_of (s.message ∷ []))) ws s.session refl (λ q. refl)
 
 pub down_is : (sessions : List Session) (ws : List Wire) (ss : List Sent) → down_put sessions ws ss ≡ all_become (downs sessions ss) ws
 down_is sessions ws [] = refl
@@ -170,11 +166,7 @@ ups sessions (Some number) ms = ups_in number ms (numbered sessions number)
 
 up_in_is : (ws : List Wire) (number : ℕ) (ms : List Message) (x : Option Session) → up_put_in ws number ms x (numbered ws number) ≡ all_become (ups_in number ms x) ws
 up_in_is ws number ms None = refl
-up_in_is ws number ms (Some x) = by (numbered ws number) refl
-  where
-    by : (o : Option Wire) → numbered ws number ≡ o → up_put_in ws number ms (Some x) o ≡ becomes (add_up x.hung (bytes_of ms)) ws number
-    by None e = sym (none_is (add_up x.hung (bytes_of ms)) ws number e)
-    by (Some q) e = there_is (add_up x.hung (bytes_of ms)) ws number q e
+up_in_is ws number ms (Some x) = put_is (up_put_in ws number ms (Some x)) (add_up x.hung (bytes_of ms)) ws number refl (λ q. refl)
 
 pub up_is : (sessions : List Session) (ws : List Wire) (o : Option ℕ) (ms : List Message) → up_put sessions ws o ms ≡ all_become (ups sessions o ms) ws
 up_is sessions ws None ms = refl

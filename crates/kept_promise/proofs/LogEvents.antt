@@ -602,6 +602,13 @@ answered P E all laws book more taken j o p c x b log all_is task word running w
     going (stage.Walking y w) at own ops right = walk_after P E all laws more taken (book.steps + 1) o (idle c) (client.calls_of c) j.file y w x b log (laws.walked log o.file o.value y w (subst (P log o.file o.value) at was)) (word ∙ ap stage_word at) running right
     going st at own ops right = subst (Goes_on P E more book.ops p o taken book.steps log c j.file x b) at (filed (subst IsOfFile (sym at) tt) own) ops right
 
+-- what holds with each word of those that get their file from the server
+pub by_getting : (Z : Word → Type 0) → Z words.Make → Z words.Remove → Z words.Rename → (w : Word) → gets_file w ≡ true → Z w
+by_getting Z make remove rename words.Make gets = make
+by_getting Z make remove rename words.Remove gets = remove
+by_getting Z make remove rename words.Rename gets = rename
+by_getting Z make remove rename w gets = absurd cc
+
 -- what its operation took and sent, once an answer is heard
 pub heard_log : FitLaws → (opening : List Opening) (all past : List Moment) (k : Core) (qs : List Queue) (n now : ℕ) (bytes : List ℕ) (mid : List Queue) → IsKept (book_at opening k all) k qs → (h : Heard k qs n now bytes mid) → ArePast k.steps past → (p : ℕ) (o : Op) → h.seat.place ≡ Some p → slice_get k.ops p ≡ Some o
     → (let r = got_step h.seat.client (Ok (told_message h.told)) now in deals_of (op_after o r.0 (session_taken (session_of k.sessions h.seat.session)) (k.steps + 1) r.1) (past ++ moment k (Hears n now bytes) ∷ []) ≡ deals_of o past ++ deals_with (wanted_by h.seat.client (Ok (told_message h.told))) (given_by_message h.seat.client (Ok (told_message h.told))) r.1.send)

@@ -16,12 +16,12 @@ use Rattle.trace_replay.specs.Trail.{sent_of}
 use Rattle.kept_promise.proofs.Common.{nat_tests, ◌==◌, nat_lt, option_map, Done, Attr, Hashes, Piece, Body, Message, Pending, end_of, tries_most, lease_call, hash_call, read_call, with_hashes, reads_from, reads_chunk, other_version, shown_version, idle, took, Reads, ClientStep, Ended, Outcome, Fetch, Stage, Task, Chunk, Op, Word, TakenCall, op_after, told_of, Moment, Deal, Deal.Took, Deal.Found, Deal.Sent, deals_with, deals_of, Book}
 use Rattle.kept_promise.proofs.Lists.{some_is, nothing_there}
 use Rattle.kept_promise.proofs.Messages.{Job, stage_word}
-use Rattle.kept_promise.proofs.Rights.{IsRight, Caused, gets_file}
+use Rattle.kept_promise.proofs.Rights.{IsRight, Caused}
 use Rattle.kept_promise.proofs.VersionRuns.{word_after}
 use Rattle.kept_promise.proofs.StepCases.{reads_keep, FetchIn, FetchNow, FetchNow.all_told, FetchNow.one_came, GaveUp, IsChangedBy, reads_of, open_and_close, OfOpens, of_opens, took_cases, IsOfFile}
 use Rattle.kept_promise.proofs.Logs.{Going, Ending}
 use Rattle.kept_promise.proofs.LogSums.{sent_more, begins_in, attempts_log}
-use Rattle.kept_promise.proofs.LogEvents.{IsUnchanged, Answering, Answered, found_in, LogLaws}
+use Rattle.kept_promise.proofs.LogEvents.{IsUnchanged, Answering, Answered, found_in, LogLaws, by_getting}
 use Rattle.kept_promise.proofs.OwnLog.{OpOwn, none_begin}
 use Rattle.kept_promise.proofs.Steps.{goal_not_close}
 use Rattle.kept_promise.proofs.NamesLog.{NamesOnly, names_count}
@@ -343,13 +343,6 @@ meets_heard book more taken j o p s x b a log h = record {
     by words.Open e = met (sym a.taking.word ∙ sym (word_after o r.0 taken (book.steps + 1) r.1) ∙ e) (op_after o r.0 taken (book.steps + 1) r.1).outcome refl
     by w e = tt
 
--- an operation that gets its file from the server
-moves_meets : (log : List Deal) (file other : ℕ) (v : List ℕ) (w : Word) (u : History) → gets_file w ≡ true → OpenMet log w file v u → OpenMet log w other v u
-moves_meets log file other v words.Make u gets h = h
-moves_meets log file other v words.Remove u gets h = h
-moves_meets log file other v words.Rename u gets h = h
-moves_meets log file other v w u gets h = absurd cc
-
 pub meets_laws : (all : List Moment) → LogLaws all MeetsBy OpenMet
 meets_laws all = record {
   walks = λ log file v x w h. h;
@@ -358,7 +351,7 @@ meets_laws all = record {
   asks = λ log names x file v. names_begun log (Sent (lease_call x file)) names;
   opens = λ log names x file v. subst (λ (t : Attempts). Tries t 1 new_attempt) (sym (names_begun log (Sent (hash_call x file 0)) names)) (refl, refl, tt, (let le : 1 ≤ tries_most = omega arith in le));
   closes = λ x temp file v. tt;
-  moves = λ log file other v w u gets h. moves_meets log file other v w u gets h;
+  moves = λ log file other v w u gets. by_getting (λ z. OpenMet log z file v u → OpenMet log z other v u) (λ h. h) (λ h. h) (λ h. h) w gets;
   other = λ log file v st u of p un same. other log file v st u of p same;
   heard = λ book more taken j o p s x b all_is a log h. meets_heard book more taken j o p s x b a log h;
 }

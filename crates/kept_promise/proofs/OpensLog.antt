@@ -15,14 +15,14 @@ use Rattle.trace_replay.specs.Fetches.{Fetched, no_fetch, fetch_if, fetch_with, 
 use Rattle.kept_promise.proofs.Common.{Deal.Sent, Deal.Found, nat_tests, ◌==◌, slice_get, slice_set, Chunk, Done, Hashes, Body, Message, Pending, lease_call, hash_call, with_hashes, with_pairs, is_none, without_read, fault_in, idle, took, ClientStep, Ended, Fetch, Stage, Task, Op, Word, TakenCall, op_after, told_of, has_point, point_if, taken_at, no_traffic, Moment, hashed_of, Deal, Deal.Took, deals_with, deals_of, IsOpened, Book, Or, Collides, value_at}
 use Rattle.kept_promise.proofs.Lists.{some_is, nothing_there, both_true}
 use Rattle.kept_promise.proofs.Messages.{Job, stage_word, IsFetch}
-use Rattle.kept_promise.proofs.Rights.{Caused, gets_file}
+use Rattle.kept_promise.proofs.Rights.{Caused}
 use Rattle.kept_promise.proofs.VersionRuns.{opened_by, word_after}
 use Rattle.kept_promise.proofs.Counted.{traffic_is}
 use Rattle.kept_promise.proofs.Taking.{Taking, IsApart, same_value}
 use Rattle.kept_promise.proofs.StepCases.{bytes_came, IsOpenedBy, JustEnds, FetchIn, FetchNow, FetchNow.all_told, FetchNow.one_came, GaveUp, reads_of, given, open_and_close, OfOpens, of_opens, took_cases, IsOfFile}
 use Rattle.kept_promise.proofs.Logs.{Going, Ending}
 use Rattle.kept_promise.proofs.LogSums.{came_in, came_join, asked_in, read_number, begins_in, sum_join, IsSum}
-use Rattle.kept_promise.proofs.LogEvents.{IsUnopened, Answering, Answered, found_in, LogLaws, file_stays}
+use Rattle.kept_promise.proofs.LogEvents.{IsUnopened, Answering, Answered, found_in, LogLaws, file_stays, by_getting}
 use Rattle.kept_promise.proofs.Reached.{Reached, OneFetch, IsBare, AreReached, each_reached, told_only, first_told, first_reached, over_took, reached_took, over_join, over_begins, over_lists, chosen_count, under_lens, lens_less, len_is, read_xid, appended, fetch_join, came_one, last_one, reads_ask, goes_onward}
 use Rattle.kept_promise.proofs.ClosesLog.{none_sent}
 use Rattle.kept_promise.proofs.OwnLog.{OpOwn, open_stores}
@@ -414,13 +414,6 @@ opens_heard book more taken j o p s x b a log h = record {
     by None is (told.Opened len digest) out = absurd (running_not len digest (sym (outcome_is r.1.ended (told.Opened len digest) is out)))
     by l is u out = tt
 
--- an operation that gets its file from the server
-moves_opens : (bytes : List (List ℕ)) (log : List Deal) (file other : ℕ) (v : List ℕ) (w : Word) (u : History) → gets_file w ≡ true → OpenRead bytes log w file v u → OpenRead bytes log w other v u
-moves_opens bytes log file other v words.Make u gets h = h
-moves_opens bytes log file other v words.Remove u gets h = h
-moves_opens bytes log file other v words.Rename u gets h = h
-moves_opens bytes log file other v w u gets h = absurd cc
-
 pub opens_laws : (all : List Moment) → LogLaws all OpensBy (OpenRead (hashed_of all))
 opens_laws all = record {
   walks = λ log file v x w h. h;
@@ -429,7 +422,7 @@ opens_laws all = record {
   asks = λ log names x file v. asked log names x file;
   opens = λ log names x file v. begun log names x file;
   closes = λ x temp file v. tt;
-  moves = λ log file other v w u gets h. moves_opens (hashed_of all) log file other v w u gets h;
+  moves = λ log file other v w u gets. by_getting (λ z. OpenRead (hashed_of all) log z file v u → OpenRead (hashed_of all) log z other v u) (λ h. h) (λ h. h) (λ h. h) w gets;
   other = λ log file v st u of p un same. (any (stage_word st) st refl log file v p, other log v u un);
   heard = λ book more taken j o p s x b all_is a log h. subst (λ (l : List Moment). Answered OpensBy (OpenRead (hashed_of l)) book taken o log x b (found_in s j.file j.stage x b) (took (idle s) (client.calls_of s) j.file j.stage x b)) all_is (opens_heard book more taken j o p s x b a log h);
 }

@@ -1,5 +1,5 @@
 -- The element of a list at a number becomes another: when two such changes may be swapped, and what stays.
-use Rattle.std.proofs.Common.{◌≡◌, ℕ, zero, suc, List, [], ◌∷◌, Some, None, refl, ap, ◌∙◌}
+use Rattle.std.proofs.Common.{◌≡◌, ℕ, zero, suc, List, [], ◌∷◌, Some, None, refl, ap, ◌∙◌, Option, sym}
 use Rattle.kept_promise.proofs.Common.{slice_get, slice_set, numbered, with_numbered}
 
 abbrev pub at_place : {A : Type 0} → (A → A) → List A → ℕ → List A
@@ -28,6 +28,24 @@ there_is f qs (suc k) q e = place_there f qs k q e
 pub none_is : {A : Type 0} (f : A → A) (qs : List A) (number : ℕ) → numbered qs number ≡ None → becomes f qs number ≡ qs
 none_is f qs zero e = refl
 none_is f qs (suc k) e = place_none f qs k e
+
+-- what is put in place of what stands there, if anything does
+pub put_is : {A : Type 0} (put : Option A → List A) (f : A → A) (qs : List A) (number : ℕ) → put None ≡ qs → ((q : A) → put (Some q) ≡ with_numbered qs number (f q)) → put (numbered qs number) ≡ becomes f qs number
+put_is {A = A} put f qs number none some = by (numbered qs number) refl
+  where
+    by : (o : Option A) → numbered qs number ≡ o → put o ≡ becomes f qs number
+    by None e = none ∙ sym (none_is f qs number e)
+    by (Some q) e = some q ∙ there_is f qs number q e
+
+place_next : {A : Type 0} (f g : A → A) (qs : List A) (k : ℕ) (q r : A) → slice_get qs k ≡ Some q → f q ≡ g r → at_place f qs k ≡ at_place g (slice_set qs k r) k
+place_next f g [] k q r e is = absurd cc
+place_next f g (p ∷ ps) zero q r e is = let same : p ≡ q = cc in ap (λ z. z ∷ ps) (ap f same ∙ is)
+place_next f g (p ∷ ps) (suc k) q r e is = ap (λ zs. p ∷ zs) (place_next f g ps k q r e is)
+
+-- one that was put there first, and became the same
+pub next_is : {A : Type 0} (f g : A → A) (qs : List A) (number : ℕ) (q r : A) → numbered qs number ≡ Some q → f q ≡ g r → becomes f qs number ≡ becomes g (with_numbered qs number r) number
+next_is f g qs zero q r e is = absurd cc
+next_is f g qs (suc k) q r e is = place_next f g qs k q r e is
 
 place_swap : {A : Type 0} (f g : A → A) → ((q : A) → f (g q) ≡ g (f q)) → (qs : List A) (i k : ℕ) → at_place f (at_place g qs i) k ≡ at_place g (at_place f qs k) i
 place_swap f g h (q ∷ qs) zero zero = ap (λ z. z ∷ qs) (h q)

@@ -1,7 +1,7 @@
 -- Queues without their first calls, or answers: to take them off goes before what an event sends as well as behind it.
-use Rattle.std.proofs.Common.{◌≡◌, ℕ, zero, suc, List, [], ◌∷◌, Option, Some, None, Bool, drop, refl, sym, ap, ◌∙◌, subst, map}
-use Rattle.kept_promise.proofs.Common.{slice_get, slice_set, Session, Loss, Loss.Nothing, CoreStep, numbered, with_numbered, unless, Ask, Told, Queue}
-use Rattle.kept_promise.proofs.Places.{at_place, becomes, there_is, none_is, swap, become_has}
+use Rattle.std.proofs.Common.{◌≡◌, ℕ, suc, List, [], ◌∷◌, Option, Some, None, Bool, drop, refl, sym, ap, ◌∙◌, subst, map}
+use Rattle.kept_promise.proofs.Common.{Session, Loss, Loss.Nothing, CoreStep, numbered, with_numbered, unless, Ask, Told, Queue}
+use Rattle.kept_promise.proofs.Places.{becomes, swap, become_has, put_is, next_is}
 use Rattle.kept_promise.proofs.Leading.{Sends, sent_message, ups_put_in, ups_put, downs_put_in, downs_put, queues_lost, queues_after}
 
 -- ---- what is sent, as changes of queues
@@ -19,18 +19,10 @@ abbrev add_up : (lost : Bool) → List Ask → Queue → Queue
 add_up lost asks q = record q { ups = unless lost q.ups asks }
 
 down_in : (qs : List Queue) (p : ℕ × Told) (x : Session) → downs_put_in qs p (Some x) (numbered qs p.0) ≡ becomes (add_down x.cut p.1) qs p.0
-down_in qs p x = by (numbered qs p.0) refl
-  where
-    by : (o : Option Queue) → numbered qs p.0 ≡ o → downs_put_in qs p (Some x) o ≡ becomes (add_down x.cut p.1) qs p.0
-    by None e = sym (none_is (add_down x.cut p.1) qs p.0 e)
-    by (Some q) e = there_is (add_down x.cut p.1) qs p.0 q e
+down_in qs p x = put_is (downs_put_in qs p (Some x)) (add_down x.cut p.1) qs p.0 refl (λ q. refl)
 
 up_in : (qs : List Queue) (n : ℕ) (asks : List Ask) (x : Session) → ups_put_in qs n asks (Some x) (numbered qs n) ≡ becomes (add_up x.hung asks) qs n
-up_in qs n asks x = by (numbered qs n) refl
-  where
-    by : (o : Option Queue) → numbered qs n ≡ o → ups_put_in qs n asks (Some x) o ≡ becomes (add_up x.hung asks) qs n
-    by None e = sym (none_is (add_up x.hung asks) qs n e)
-    by (Some q) e = there_is (add_up x.hung asks) qs n q e
+up_in qs n asks x = put_is (ups_put_in qs n asks (Some x)) (add_up x.hung asks) qs n refl (λ q. refl)
 
 down_off_in : (i n : ℕ) (qs : List Queue) (p : ℕ × Told) (x : Option Session) → downs_put_in (becomes (off_ups i) qs n) p x (numbered (becomes (off_ups i) qs n) p.0) ≡ becomes (off_ups i) (downs_put_in qs p x (numbered qs p.0)) n
 down_off_in i n qs p None = refl
@@ -108,24 +100,8 @@ heard_has qs t s loss none n q e = subst (λ (zs : List Queue). (r : Queue) × (
 
 -- ---- to take more off
 
-off_next_place : (qs : List Queue) (i k : ℕ) (q : Queue) (a : Ask) (us : List Ask) → slice_get qs k ≡ Some q → q.ups ≡ a ∷ us → at_place (off_ups (suc i)) qs k ≡ at_place (off_ups i) (slice_set qs k (record q { ups = us })) k
-off_next_place [] i k q a us e is = absurd cc
-off_next_place (p ∷ ps) i zero q a us e is =
-    let same : p ≡ q = cc in
-    ap (λ (z : Queue). record z { ups = drop (suc i) z.ups } ∷ ps) same ∙ ap (λ (zs : List Ask). record q { ups = drop (suc i) zs } ∷ ps) is
-off_next_place (p ∷ ps) i (suc k) q a us e is = ap (λ (zs : List Queue). p ∷ zs) (off_next_place ps i k q a us e is)
-
 pub ups_next : (qs : List Queue) (i n : ℕ) (q : Queue) (a : Ask) (us : List Ask) → numbered qs n ≡ Some q → q.ups ≡ a ∷ us → becomes (off_ups (suc i)) qs n ≡ becomes (off_ups i) (with_numbered qs n (record q { ups = us })) n
-ups_next qs i zero q a us e is = absurd cc
-ups_next qs i (suc k) q a us e is = off_next_place qs i k q a us e is
-
-down_next_place : (qs : List Queue) (i k : ℕ) (q : Queue) (t : Told) (ts : List Told) → slice_get qs k ≡ Some q → q.downs ≡ t ∷ ts → at_place (off_downs (suc i)) qs k ≡ at_place (off_downs i) (slice_set qs k (record q { downs = ts })) k
-down_next_place [] i k q t ts e is = absurd cc
-down_next_place (p ∷ ps) i zero q t ts e is =
-    let same : p ≡ q = cc in
-    ap (λ (z : Queue). record z { downs = drop (suc i) z.downs } ∷ ps) same ∙ ap (λ (zs : List Told). record q { downs = drop (suc i) zs } ∷ ps) is
-down_next_place (p ∷ ps) i (suc k) q t ts e is = ap (λ (zs : List Queue). p ∷ zs) (down_next_place ps i k q t ts e is)
+ups_next qs i n q a us e is = next_is (off_ups (suc i)) (off_ups i) qs n q (record q { ups = us }) e (ap (λ (zs : List Ask). record q { ups = drop (suc i) zs }) is)
 
 pub downs_next : (qs : List Queue) (i n : ℕ) (q : Queue) (t : Told) (ts : List Told) → numbered qs n ≡ Some q → q.downs ≡ t ∷ ts → becomes (off_downs (suc i)) qs n ≡ becomes (off_downs i) (with_numbered qs n (record q { downs = ts })) n
-downs_next qs i zero q t ts e is = absurd cc
-downs_next qs i (suc k) q t ts e is = down_next_place qs i k q t ts e is
+downs_next qs i n q t ts e is = next_is (off_downs (suc i)) (off_downs i) qs n q (record q { downs = ts }) e (ap (λ (zs : List Told). record q { downs = drop (suc i) zs }) is)
