@@ -15,16 +15,17 @@ use Rattle.client_state.specs.State as client
 use Rattle.client_state.specs.declared.task.Stage.TheVariants as stage
 use Rattle.register_model.specs.declared.op.Outcome.TheVariants as told
 use Rattle.trace_replay.specs.Trail.{Moment}
-use Rattle.kept_promise.proofs.Common.{slice_get, cond, Contains, MessageFits, Change, Entry, Op, Core, Seat, Session, Event.Settles, numbered, with_numbered, happens, unless, hashed_of, Book, Reply.Walked, NameReply, name_answer, Told, Queue, told_message}
+use Rattle.kept_promise.proofs.Common.{slice_get, cond, Contains, MessageFits, Change, Entry, Op, Core, Seat, Session, Event.Settles, numbered, with_numbered, happens, unless, hashed_of, Book, Reply.Walked, NameReply, name_answer, Told, Queue, told_message, Reply, Indexed}
+use Rattle.kept_promise.proofs.Orderly.{Wanted}
 use Rattle.kept_promise.proofs.Lists.{some_is, nothing_there, true_and_false, all_append, all_unless}
 use Rattle.kept_promise.proofs.Keys.{times, times_append, own, on_way, key, change_key, ask_key, told_key}
 use Rattle.kept_promise.proofs.PathNames.{is_making, makes_later}
-use Rattle.kept_promise.proofs.Messages.{walk_for, walk_is, Job, job, AnswerOf, IsAnswer, IsGoing, CloseOf, WalkCame, WalkTold}
+use Rattle.kept_promise.proofs.Messages.{walk_for, walk_is, Job, job, AnswerOf, IsAnswer, IsGoing, CloseOf, WalkCame, WalkTold, AllTolds}
 use Rattle.kept_promise.proofs.History.{Goes}
 use Rattle.kept_promise.proofs.Later.{pieces_later, parts_later, has_fetch_later, seat_later}
 use Rattle.kept_promise.proofs.Taken.{tolds_at, times_map_append}
 use Rattle.kept_promise.proofs.Turns.{around_same, around_with, turned_core, kept_turn}
-use Rattle.kept_promise.proofs.Ordered.{orderly_later, orderly_told}
+use Rattle.kept_promise.proofs.Ordered.{orderly_later, orderly_told, TellsNone}
 use Rattle.kept_promise.proofs.OrderSteps.{waits_untold}
 use Rattle.kept_promise.proofs.Unwaited.{unwaited}
 use Rattle.kept_promise.proofs.Steps.{no_commits}
@@ -80,19 +81,23 @@ way_settled n y c cs q t first same =
 abbrev pub settled_server : server.State → (now : ℕ) → List Change → Tree → List Entry → server.State
 settled_server s now cs tree journal = record s { moment = max s.moment now; waiting = cs; tree = tree; journal = journal }
 
-pub record ShowsSettled (book more : Book) (k : Core) (now : ℕ) (c : Change) (cs : List Change) (x : Session) (q : Queue) (tree : Tree) (journal : List Entry) (r : NameReply) (made : Option ℕ) (h : IsSession book k.seats k.server c.session x q) : Type 0 where
+-- what is to show where the first change that waits is no more, and its client is told this of it
+pub record ShowsTold (book more : Book) (k : Core) (c : Change) (x : Session) (q : Queue) (s : server.State) (r : Reply) (made : Option ℕ) (h : IsSession book k.seats k.server c.session x q) : Type 0 where
   pub goes : Goes book more made None
-  pub server : IsServer more (settled_server k.server now cs tree journal)
-  pub journal_is : more.journal ≡ journal
+  pub server : IsServer more s
+  pub journal_is : more.journal ≡ s.journal
   pub made_here : (p : ℕ) → made ≡ Some p → x.closing ≡ Some p
-  pub key_is : told_key (record { xid = c.xid; reply = Walked r }) ≡ change_key c
-  pub fits : MessageFits (told_message (record { xid = c.xid; reply = Walked r }))
-  pub answer : x.cut ≡ false → AnswerOf more x.taken x.closing (job h.seat) c.xid (Walked r)
+  pub key_is : told_key (record { xid = c.xid; reply = r }) ≡ change_key c
+  pub fits : MessageFits (told_message (record { xid = c.xid; reply = r }))
+  pub answers : x.cut ≡ false → AllTolds (IsAnswer more x.taken x.closing (job h.seat)) q.downs
+  pub answer : x.cut ≡ false → AnswerOf more x.taken x.closing (job h.seat) c.xid r
+  pub closes : x.cut ≡ false → (j : Job) → job h.seat ≡ Some j → CloseOf more x.closing h.contents h.seat.client.next_temp j (client.local_bytes h.seat.client.opened j.file) j.stage
+  pub plain : TellsNone r
+  pub wanted : x.cut ≡ false → Wanted more (job h.seat) c.xid r
   pub running : (p : ℕ) (o : Op) → slice_get more.ops p ≡ Some o → o.outcome ≡ told.Running → (e : Seat) × (j : Job) × (numbered k.seats o.client ≡ Some e) × (job e ≡ Some j) × (j.place ≡ p)
 
-module _ (book more : Book) (k : Core) (qs : List Queue) (now : ℕ) (c : Change) (cs : List Change) (a : Asked) (x : Session) (q : Queue) (tree : Tree) (journal : List Entry) (r : NameReply) (made : Option ℕ)
-    (kept : IsKept book k qs) (waits : k.server.waiting ≡ c ∷ cs) (here : numbered k.sessions c.session ≡ Some x) (unhung : x.hung ≡ false) (is : numbered qs c.session ≡ Some q)
-    (pending : IsGoing book c.session x.closing x.cut (job (kept.sessions c.session x q here is).seat) c.xid a) (shows : ShowsSettled book more k now c cs x q tree journal r made (kept.sessions c.session x q here is)) where
+module _ (book more : Book) (k : Core) (qs : List Queue) (now : ℕ) (c : Change) (cs : List Change) (x : Session) (q : Queue) (tree : Tree) (journal : List Entry) (index : Indexed) (r : Reply) (made : Option ℕ)
+    (kept : IsKept book k qs) (waits : k.server.waiting ≡ c ∷ cs) (here : numbered k.sessions c.session ≡ Some x) (is : numbered qs c.session ≡ Some q) (shows : ShowsTold book more k c x q (record (settled_server k.server now cs tree journal) { index = index }) r made (kept.sessions c.session x q here is)) where
   abbrev n : ℕ
   n = c.session
 
@@ -100,10 +105,10 @@ module _ (book more : Book) (k : Core) (qs : List Queue) (now : ℕ) (c : Change
   h = kept.sessions n x q here is
 
   abbrev t : Told
-  t = record { xid = c.xid; reply = Walked r }
+  t = record { xid = c.xid; reply = r }
 
   abbrev s : server.State
-  s = settled_server k.server now cs tree journal
+  s = record (settled_server k.server now cs tree journal) { index = index }
 
   abbrev p : Queue
   p = record q { downs = unless x.cut q.downs (t ∷ []) }
@@ -120,12 +125,6 @@ module _ (book more : Book) (k : Core) (qs : List Queue) (now : ℕ) (c : Change
   none_own [] e i d f = nothing_there d f
   none_own (z ∷ l) e i d f = absurd (omega (arith, e))
 
-  -- its client waits for it
-  waits_here : x.cut ≡ false → (j : Job) → job h.seat ≡ Some j → j.stage ≡ stage.Walking c.xid (walk_for a)
-  waits_here uncut j at =
-      let w = pending.waited uncut in
-      ap (λ (z : Job). z.stage) (some_is j (record { place = pending.place; file = 0; stage = stage.Walking c.xid w.0 }) (sym at ∙ w.1)) ∙ ap (stage.Walking c.xid) (walk_is w.0 a w.2)
-
   cut_downs : (b : Bool) → b ≡ true → q.downs ≡ [] → unless b q.downs (t ∷ []) ≡ []
   cut_downs true u none = none
   cut_downs false u none = absurd cc
@@ -136,7 +135,7 @@ module _ (book more : Book) (k : Core) (qs : List Queue) (now : ℕ) (c : Change
     under = talk.under;
     rising = talk.rising;
     asked = talk.asked;
-    answers = all_append (IsAnswer more x.taken x.closing (job h.seat)) q.downs (t ∷ []) (tolds_at (IsAnswer book x.taken x.closing (job h.seat)) (IsAnswer more x.taken x.closing (job h.seat)) q.downs (λ i u at f. unwaited book more x.taken x.taken x.closing (job h.seat) c.xid (walk_for a) u (waits_here uncut) (λ same. waits_untold n (c ∷ cs) q x.hung h.seat.client.next (client.calls_of h.seat.client) 0 i c u talk.balanced (ap (λ (l : List Change). slice_get l 0) (first_own c cs)) at (sym same)) f) talk.answers) (shows.answer uncut, tt);
+    answers = all_append (IsAnswer more x.taken x.closing (job h.seat)) q.downs (t ∷ []) (shows.answers uncut) (shows.answer uncut, tt);
     fetch = has_fetch_later book more made None x.taken (job h.seat) shows.goes.grows talk.fetch;
     balanced = record {
       most = λ y. let b = talk.balanced.most y in let w = way_settled n y c cs q t (first_own c cs) shows.key_is in omega (arith, b, w);
@@ -148,8 +147,8 @@ module _ (book more : Book) (k : Core) (qs : List Queue) (now : ℕ) (c : Change
     busy = talk.busy;
   }
 
-  pub kept_settled : IsKept more (turned_core more s k.seats k.sessions) (with_numbered qs n p)
-  kept_settled =
+  pub kept_told : IsKept more (turned_core more s k.seats k.sessions) (with_numbered qs n p)
+  kept_told =
       let g = shows.goes.grows in
       kept_turn book more k qs s k.seats k.sessions (with_numbered qs n p) n x x p h.seat h.seat made None (record {
         at = here;
@@ -182,17 +181,59 @@ module _ (book more : Book) (k : Core) (qs : List Queue) (now : ℕ) (c : Change
           pieces = pieces_later (hashed_of book.moments) (hashed_of more.moments) h.contents q.ups g.hashed h.pieces;
           temps = λ i m u lt w key_is. let o = h.temps i m u lt w key_is in (parts_later (hashed_of book.moments) (hashed_of more.moments) (h.contents m) u.1.pieces g.hashed o.0, o.1);
           temps_below = h.temps_below;
-          closes = λ uncut j f. subst (CloseOf more x.closing h.contents h.seat.client.next_temp j (client.local_bytes h.seat.client.opened j.file)) (sym (waits_here uncut j f)) (λ later. absurd (none_later a later));
+          closes = shows.closes;
           pending = λ i d f. absurd (none_own (own n cs) alone.1 i d f);
           single = let z = alone.0 in let y = alone.1 in omega (arith, z, y);
           old = λ z w. let u = h.old z w in let v = g.each z u.0 u.1 in (v.0, v.1, v.2.client ∙ u.2);
-          orderly = λ uncut. orderly_told more n k.server.temps x.hung x.cut q t h.seat tt tt (orderly_later book more made None n k.server.temps k.server.temps x.hung q h.seat g (λ m lt. refl) (h.orderly uncut));
+          orderly = λ uncut. orderly_told more n k.server.temps x.hung x.cut q t h.seat shows.plain (shows.wanted uncut) (orderly_later book more made None n k.server.temps k.server.temps x.hung q h.seat g (λ m lt. refl) (h.orderly uncut));
         };
         seat = seat_later book more made None k.sessions k.sessions x.owner h.seat g (λ m z w. (z, w, refl, λ u. refl)) (λ z u w. nothing_there z w) (kept.seats x.owner h.seat h.owner);
         running = shows.running;
         shelf = kept.shelf;
         home = λ i d w. kept.home (suc i) d (behind k.server c cs waits i d w);
       }) shows.journal_is kept
+
+-- ---- a change of names
+
+pub record ShowsSettled (book more : Book) (k : Core) (now : ℕ) (c : Change) (cs : List Change) (x : Session) (q : Queue) (tree : Tree) (journal : List Entry) (r : NameReply) (made : Option ℕ) (h : IsSession book k.seats k.server c.session x q) : Type 0 where
+  pub goes : Goes book more made None
+  pub server : IsServer more (settled_server k.server now cs tree journal)
+  pub journal_is : more.journal ≡ journal
+  pub made_here : (p : ℕ) → made ≡ Some p → x.closing ≡ Some p
+  pub key_is : told_key (record { xid = c.xid; reply = Walked r }) ≡ change_key c
+  pub fits : MessageFits (told_message (record { xid = c.xid; reply = Walked r }))
+  pub answer : x.cut ≡ false → AnswerOf more x.taken x.closing (job h.seat) c.xid (Walked r)
+  pub running : (p : ℕ) (o : Op) → slice_get more.ops p ≡ Some o → o.outcome ≡ told.Running → (e : Seat) × (j : Job) × (numbered k.seats o.client ≡ Some e) × (job e ≡ Some j) × (j.place ≡ p)
+
+module _ (book more : Book) (k : Core) (qs : List Queue) (now : ℕ) (c : Change) (cs : List Change) (a : Asked) (x : Session) (q : Queue) (tree : Tree) (journal : List Entry) (r : NameReply) (made : Option ℕ)
+    (kept : IsKept book k qs) (waits : k.server.waiting ≡ c ∷ cs) (here : numbered k.sessions c.session ≡ Some x) (unhung : x.hung ≡ false) (is : numbered qs c.session ≡ Some q)
+    (pending : IsGoing book c.session x.closing x.cut (job (kept.sessions c.session x q here is).seat) c.xid a) (shows : ShowsSettled book more k now c cs x q tree journal r made (kept.sessions c.session x q here is)) where
+  abbrev its : IsSession book k.seats k.server c.session x q
+  its = kept.sessions c.session x q here is
+
+  -- its client waits for it
+  waits_here : x.cut ≡ false → (j : Job) → job its.seat ≡ Some j → j.stage ≡ stage.Walking c.xid (walk_for a)
+  waits_here uncut j at =
+      let w = pending.waited uncut in
+      ap (λ (z : Job). z.stage) (some_is j (record { place = pending.place; file = 0; stage = stage.Walking c.xid w.0 }) (sym at ∙ w.1)) ∙ ap (stage.Walking c.xid) (walk_is w.0 a w.2)
+
+  pub kept_settled : IsKept more (turned_core more (settled_server k.server now cs tree journal) k.seats k.sessions) (with_numbered qs c.session (record q { downs = unless x.cut q.downs (record { xid = c.xid; reply = Walked r } ∷ []) }))
+  kept_settled = kept_told book more k qs now c cs x q tree journal k.server.index (Walked r) made kept waits here is (record {
+    goes = shows.goes;
+    server = shows.server;
+    journal_is = shows.journal_is;
+    made_here = shows.made_here;
+    key_is = shows.key_is;
+    fits = shows.fits;
+    answers = λ uncut.
+        let talk = subst (λ (l : List Change). IsTalk book c.session l x q its.seat) waits (its.talk uncut) in
+        tolds_at (IsAnswer book x.taken x.closing (job its.seat)) (IsAnswer more x.taken x.closing (job its.seat)) q.downs (λ i u at f. unwaited book more x.taken x.taken x.closing (job its.seat) c.xid (walk_for a) u (waits_here uncut) (λ same. waits_untold c.session (c ∷ cs) q x.hung its.seat.client.next (client.calls_of its.seat.client) 0 i c u talk.balanced (ap (λ (l : List Change). slice_get l 0) (first_own c cs)) at (sym same)) f) talk.answers;
+    answer = shows.answer;
+    closes = λ uncut j f. subst (CloseOf more x.closing its.contents its.seat.client.next_temp j (client.local_bytes its.seat.client.opened j.file)) (sym (waits_here uncut j f)) (λ later. absurd (none_later a later));
+    plain = tt;
+    wanted = λ uncut. tt;
+    running = shows.running;
+  })
 
 -- ---- what is told of it
 

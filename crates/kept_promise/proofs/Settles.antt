@@ -17,24 +17,21 @@ use Rattle.register_model.specs.declared.op.Outcome.TheVariants as told
 use Rattle.register_model.specs.declared.op.Word.TheVariants as words
 use Rattle.register_model.specs.Register.{IsFit}
 use Rattle.trace_replay.specs.Faithful.{IsKind, left_by as left_of}
-use Rattle.kept_promise.proofs.Common.{slice_get, slice_set, cond, ◌==◌, sha1, Done, Failed, MessageFits, at, Change, ServerStep, File, Entry, Fetch, Stage, Op, Core, Seat, Session, CoreStep, quiet, numbered, with_numbered, settled_ops, settled_by, pointed, pointed_at, unless, Book, Or, value_at, Reply, Reply.Versioned, Reply.Hashed, Reply.Bytes, Reply.Made, Reply.Named, Reply.Stored, Reply.Changed, Told, Queue, told_message, reply_program, Tree, Reply.Walked, Word, Value, value_from, unwrap_or, changes, Wanted, Event.Settles, happens}
-use Rattle.kept_promise.proofs.Lists.{some_is, nothing_there, same_or_not, at_end, at_replaced, of_replaced, all_append}
+use Rattle.kept_promise.proofs.Common.{slice_get, slice_set, cond, ◌==◌, sha1, Done, Failed, at, Change, ServerStep, File, Entry, Fetch, Stage, Op, Core, Seat, Session, CoreStep, quiet, numbered, with_numbered, settled_ops, settled_by, pointed, pointed_at, unless, Book, Or, value_at, Reply, Reply.Versioned, Reply.Hashed, Reply.Bytes, Reply.Made, Reply.Named, Reply.Stored, Reply.Changed, Told, Queue, reply_program, Tree, Reply.Walked, Word, Value, value_from, unwrap_or, changes, Wanted, Event.Settles, happens}
+use Rattle.kept_promise.proofs.Lists.{some_is, nothing_there, same_or_not, at_end, at_replaced, of_replaced}
 use Rattle.kept_promise.proofs.Keys.{times, times_append, times_head, own, key, change_key, ask_key, told_key, wanted_program}
-use Rattle.kept_promise.proofs.Messages.{Job, job, hash_offset, FetchOf, CommitTold, AllTolds, IsAnswer, AnswerOf, IsPending, CloseOf, content_wanted, WaitsFor, AsksFor, walk_for}
+use Rattle.kept_promise.proofs.Messages.{Job, job, hash_offset, CommitTold, AllTolds, IsAnswer, AnswerOf, IsPending, CloseOf, content_wanted, WaitsFor, AsksFor, walk_for}
 use Rattle.kept_promise.proofs.Rights.{IsSound, IsUnmade, IsMade, WasThere}
 use Rattle.kept_promise.proofs.Growth.{Grows, or_map, made_later, or_later, there_later}
 use Rattle.kept_promise.proofs.History.{made_op, IsEntryOf, grows_made, goes_made, value_now, version_now, made_book}
 use Rattle.trace_ends.specs.Core.{newest_entries, changed_file}
 use Rattle.kept_promise.proofs.ServesFiles.{newest_one}
-use Rattle.kept_promise.proofs.Later.{seat_later}
-use Rattle.kept_promise.proofs.Turns.{around_same, around_with, also_numbered, turned_core, kept_turn}
+use Rattle.kept_promise.proofs.Turns.{also_numbered, turned_core}
 use Rattle.kept_promise.proofs.Fits.{FitLaws}
-use Rattle.kept_promise.proofs.Ordered.{orderly_later, orderly_told}
 use Rattle.kept_promise.proofs.OrderSteps.{keys_once}
-use Rattle.kept_promise.proofs.Facts.{IsValue, FileIs, IsTalk, IsKept, commits_in, IsWanted}
+use Rattle.kept_promise.proofs.Facts.{IsValue, FileIs, IsTalk, IsKept, IsWanted}
 use Rattle.kept_promise.proofs.Leading.{Leads, downs_put_in, downs_put, KeptSettles, IsNoted}
 use Rattle.kept_promise.proofs.Cuts.{leads_idle}
-use Rattle.kept_promise.proofs.Steps.{no_commits}
 use Rattle.server_law.proofs.Trees.{replaced_own, replaced_other, replaced_size, replaced_bounded, file_bounded, given}
 use Rattle.kept_promise.proofs.Making.{entry_of, made_change, room_there, made_is}
 use Rattle.path_calls.specs.declared.walk.Walk.{Walk}
@@ -42,7 +39,7 @@ use Rattle.kept_promise.proofs.NoZero.{replaced_none}
 use Rattle.kept_promise.proofs.MadeFiles.{file_alike, others_alike, own_alike, gone_fresh}
 use Rattle.kept_promise.proofs.Rooted.{replaced_rooted}
 use Rattle.kept_promise.proofs.Unused.{unused_replaced}
-use Rattle.kept_promise.proofs.GoingSettles.{way_settled}
+use Rattle.kept_promise.proofs.GoingSettles.{kept_told, behind}
 use Rattle.kept_promise.proofs.GoingEnds.{ends_so}
 use Rattle.kept_promise.proofs.Departures.{settles_so}
 use Rattle.kept_promise.proofs.Gone.{no_directory}
@@ -112,26 +109,11 @@ not_asking x y e = absurd cc
 same_xid : (x y : ℕ) → stage.Committing x ≡ stage.Committing y → x ≡ y
 same_xid x y e = cc
 
--- where it waited for nothing but its commit, a client still waits for that
-settled_talk : (book : Book) (e : Entry) (j : ℕ) (o : Op) (n : ℕ) (c : Change) (cs : List Change) (x : Session) (q : Queue) (seat : Seat) (version : ℕ) → c.what ≡ wanted.Content (content_wanted c.what)
-    → Grows book (made_book book (e ∷ []) j c.file o) (Some j) None → own n (c ∷ cs) ≡ c ∷ own n cs → job seat ≡ Some (record { place = j; file = c.file; stage = stage.Committing c.xid }) → IsMade (made_book book (e ∷ []) j c.file o) j version
-    → IsTalk book n (c ∷ cs) x q seat → IsTalk (made_book book (e ∷ []) j c.file o) n cs x (record q { downs = q.downs ++ answer c version ∷ [] }) seat
-settled_talk book e j o n c cs x q seat version what g first committing made t = record {
-  floor = t.floor;
-  under = t.under;
-  rising = t.rising;
-  asked = t.asked;
-  answers = all_append (IsAnswer (made_book book (e ∷ []) j c.file o) x.taken x.closing (job seat)) q.downs (answer c version ∷ []) (all_but (IsAnswer book x.taken x.closing (job seat)) (IsAnswer (made_book book (e ∷ []) j c.file o) x.taken x.closing (job seat)) (change_key c) q.downs none (λ u apart h. old_reply u.xid u.reply apart h) t.answers) (new_answer, tt);
-  fetch = λ i f. let same : here ≡ i = some_is here i (sym committing ∙ f) in subst (λ (w : Job). FetchOf (made_book book (e ∷ []) j c.file o) x.taken w w.stage) same tt;
-  balanced = record {
-    most = λ y. let a = t.balanced.most y in let w = way_settled n y c cs q (answer c version) first (answer_key c (content_wanted c.what) version what) in omega (arith, a, w);
-    least = λ hung y. let a = t.balanced.least hung y in let w = way_settled n y c cs q (answer c version) first (answer_key c (content_wanted c.what) version what) in omega (arith, a, w);
-    once = t.balanced.once;
-    below = t.balanced.below;
-    ours = t.balanced.ours;
-  };
-  busy = t.busy;
-}
+-- where its client waits for nothing but the commit, what it was told before stays so
+settled_answers : (book : Book) (e : Entry) (j : ℕ) (o : Op) (n : ℕ) (c : Change) (cs : List Change) (x : Session) (q : Queue) (seat : Seat) → c.what ≡ wanted.Content (content_wanted c.what)
+    → Grows book (made_book book (e ∷ []) j c.file o) (Some j) None → own n (c ∷ cs) ≡ c ∷ own n cs → job seat ≡ Some (record { place = j; file = c.file; stage = stage.Committing c.xid })
+    → IsTalk book n (c ∷ cs) x q seat → AllTolds (IsAnswer (made_book book (e ∷ []) j c.file o) x.taken x.closing (job seat)) q.downs
+settled_answers book e j o n c cs x q seat what g first committing t = all_but (IsAnswer book x.taken x.closing (job seat)) (IsAnswer (made_book book (e ∷ []) j c.file o) x.taken x.closing (job seat)) (change_key c) q.downs none (λ u apart h. old_reply u.xid u.reply apart h) t.answers
   where
     here : Job
     here = record { place = j; file = c.file; stage = stage.Committing c.xid }
@@ -148,9 +130,6 @@ settled_talk book e j o n c cs x q seat version what g first committing made t =
         let e4 = times_head k (map change_key (own n cs)) in
         omega (arith, a, b, d, e1, e2, e3, e4)
 
-    new_answer : IsAnswer (made_book book (e ∷ []) j c.file o) x.taken x.closing (job seat) (answer c version)
-    new_answer = λ i f s. let same : here ≡ i = some_is here i (sym committing ∙ f) in subst (λ (w : Job). CommitTold (made_book book (e ∷ []) j c.file o) x.closing w (Done (record { version = version; term = 0 }))) same made
-
     -- an answer to anything else is not waited for, or tells of the past
     old_reply : (y : ℕ) (r : Reply) → (key y (reply_program r) ≡ change_key c → ⊥) → AnswerOf book x.taken x.closing (job seat) y r → AnswerOf (made_book book (e ∷ []) j c.file o) x.taken x.closing (job seat) y r
     old_reply y (Versioned a) apart h = λ i f s. let same : here ≡ i = some_is here i (sym committing ∙ f) in absurd (not_asking c.xid y (ap (λ (z : Job). z.stage) same ∙ s))
@@ -160,16 +139,13 @@ settled_talk book e j o n c cs x q seat version what g first committing made t =
     old_reply y (Changed (Failed s u)) apart h = λ i f w.
         let same : here ≡ i = some_is here i (sym committing ∙ f) in
         let x_is : c.xid ≡ y = same_xid c.xid y (ap (λ (z : Job). z.stage) same ∙ w) in
-        absurd (apart (ap (λ (z : ℕ). key z (program.Lb lb_proc.CommitTmp)) (sym x_is) ∙ answer_key c (content_wanted c.what) version what))
+        absurd (apart (ap (λ (z : ℕ). key z (program.Lb lb_proc.CommitTmp)) (sym x_is) ∙ answer_key c (content_wanted c.what) 0 what))
     old_reply y (Made a) apart h = tt
     old_reply y (Walked r) apart h = λ i w f s. let same : here ≡ i = some_is here i (sym committing ∙ f) in absurd (not_walking c.xid y w (ap (λ (z : Job). z.stage) same ∙ s))
     old_reply y (Named a) apart h = tt
     old_reply y (Stored a) apart h = tt
 
 -- ---- the event
-
-fewer_waiting : (s : server.State) (c : Change) (cs : List Change) → s.waiting ≡ c ∷ cs → (i : ℕ) (d : Change) → slice_get cs i ≡ Some d → slice_get s.waiting (suc i) ≡ Some d
-fewer_waiting s c cs e i d f = ap (λ (l : List Change). slice_get l (suc i)) e ∙ f
 
 -- the server, once a change was made
 abbrev settled_server : server.State → (now : ℕ) → Change → List Change → File → server.State
@@ -205,12 +181,7 @@ settled_now laws book k qs now c cs f x q j o kept waits what there here unhung 
     let g = goes.grows in
     let more = made_book book (e ∷ []) j c.file o in
     let version : ℕ = f.version + 1 in
-    let t : Told = answer c version in
-    let p : Queue = record q { downs = unless x.cut q.downs (t ∷ []) } in
     let r = settled_server k.server now c cs f in
-    let first : own n k.server.waiting ≡ c ∷ own n cs = ap (own n) waits ∙ own_first c cs in
-    let alone : (commits_in q.ups ≡ 0) × (length (own n cs) ≡ 0) = (let a = h.single in let b = ap length first in (omega (arith, a, b), omega (arith, a, b))) in
-    let none : own n cs ≡ [] = empty_is (own n cs) alone.1 in
     let short : length (content_wanted c.what) ≤ 67108864 = kept.server.lengths 0 c (ap (λ (l : List Change). slice_get l 0) waits) in
     let room = room_there book k.server c cs kept.server waits what in
     let held : (z : ℕ) → FileIs more z (the_files.file_at r.tree z) = λ z. held_made book e j o k.server.tree c.file f (content_wanted c.what) at_ unmade word kept.sound file_is size same short kept.server.held there z in
@@ -236,13 +207,7 @@ settled_now laws book k qs now c cs f x q j o kept waits what there here unhung 
       },
       (book.steps + 2, omega arith, version_now book (e ∷ []) c.file j o at_ unmade kept.sound ∙ ap (λ (z : ℕ). z + 1) own_file.4, value_now book (e ∷ []) c.file j o at_ unmade kept.sound ∙ ap (λ (w : Word). value_from w o.value) word),
     ) in
-    kept_turn book more k qs r k.seats k.sessions (with_numbered qs n p) n x x p h.seat h.seat (Some j) None (record {
-      at = here;
-      was = h.owner;
-      session_around = around_same k.sessions n x here;
-      queue_around = around_with qs n q p is;
-      seat_around = around_same k.seats x.owner h.seat h.owner;
-      owner = refl;
+    kept_told book more k qs now c cs x q r.tree r.journal r.index (Changed (Done (record { version = version; term = 0 }))) (Some j) kept waits here is (record {
       goes = goes;
       server = record {
         held = held;
@@ -250,46 +215,24 @@ settled_now laws book k qs now c cs f x q j o kept waits what there here unhung 
         bounded = replaced_bounded k.server.tree c.file (content_wanted c.what) f there (omega (arith, entries)) short (omega (arith, small)) kept.server.bounded;
         zero = replaced_none k.server.tree c.file (f.version + 1) (content_wanted c.what) 0 kept.server.zero;
         rooted = replaced_rooted k.server.tree c.file (f.version + 1) (content_wanted c.what) kept.server.rooted;
-        wants = λ i d z. kept.server.wants (suc i) d (fewer_waiting k.server c cs waits i d z);
+        wants = λ i d z. kept.server.wants (suc i) d (behind k.server c cs waits i d z);
         changes = omega (arith, entries);
         bytes = omega (arith, sizes, small);
-        lengths = λ i d z. kept.server.lengths (suc i) d (fewer_waiting k.server c cs waits i d z);
-        targets = λ i d z. there_later book more (Some j) None d.file g (kept.server.targets (suc i) d (fewer_waiting k.server c cs waits i d z));
-        xids = λ i d z. kept.server.xids (suc i) d (fewer_waiting k.server c cs waits i d z);
+        lengths = λ i d z. kept.server.lengths (suc i) d (behind k.server c cs waits i d z);
+        targets = λ i d z. there_later book more (Some j) None d.file g (kept.server.targets (suc i) d (behind k.server c cs waits i d z));
+        xids = λ i d z. kept.server.xids (suc i) d (behind k.server c cs waits i d z);
       };
-      sessions_made = refl;
-      view = λ m apart. record { stands_is = refl; waiting = sym (ap (own m) waits ∙ own_other m c cs apart); temps = λ i m2 u lt z w. (i, z); found = λ m2 lt. refl };
-      elsewhere = inl refl;
-      closing = λ z w. inl w;
+      journal_is = ap (λ (l : List Entry). l ++ e ∷ []) kept.journal;
       made_here = λ z w. known ∙ w;
-      ended_here = λ z u w. nothing_there z w;
-      session = record {
-        seat = h.seat;
-        owner = h.owner;
-        here = h.here;
-        shut = λ cut. shut_downs x.cut cut (h.shut cut);
-        lost = h.lost;
-        stands_is = h.stands_is;
-        ups_fit = h.ups_fit;
-        downs_fit = downs_fit_more x.cut h.downs_fit (laws.plain c.xid (Changed (Done (record { version = version; term = 0 }))) (kept.server.xids 0 c (ap (λ (l : List Change). slice_get l 0) waits)) (let a = (file_bounded k.server.tree c.file f kept.server.bounded there).0 in omega (arith, a, entries), refl));
-        talk = λ uncut. subst (λ (b : Bool). IsTalk more n cs x (record q { downs = unless b q.downs (t ∷ []) }) h.seat) (sym uncut) (settled_talk book e j o n c cs x q h.seat version what g (own_first c cs) (committing uncut) made (subst (λ (l : List Change). IsTalk book n l x q h.seat) waits (h.talk uncut)));
-        contents = h.contents;
-        lengths = h.lengths;
-        commits = no_commits more x.closing x.cut (job h.seat) h.contents q.ups alone.0;
-        pieces = h.pieces;
-        temps = h.temps;
-        temps_below = h.temps_below;
-        closes = λ uncut i w. close_made more uncut i w (h.closes uncut i w);
-        pending = λ i d w. nothing_there d (ap (λ (l : List Change). slice_get l i) (sym none) ∙ w);
-        single = omega (arith, alone.0, alone.1);
-        old = λ z w. let u = h.old z w in let v = g.each z u.0 u.1 in (v.0, v.1, v.2.client ∙ u.2);
-        orderly = λ uncut. orderly_told more n k.server.temps x.hung x.cut q t h.seat tt tt (orderly_later book more (Some j) None n k.server.temps k.server.temps x.hung q h.seat g (λ m lt. refl) (h.orderly uncut));
-      };
-      seat = seat_later book more (Some j) None k.sessions k.sessions x.owner h.seat g (λ m z w. (z, w, refl, λ u. refl)) (λ z u w. nothing_there z w) (kept.seats x.owner h.seat h.owner);
+      key_is = answer_key c (content_wanted c.what) version what;
+      fits = laws.plain c.xid (Changed (Done (record { version = version; term = 0 }))) (kept.server.xids 0 c (ap (λ (l : List Change). slice_get l 0) waits)) (let a = (file_bounded k.server.tree c.file f kept.server.bounded there).0 in omega (arith, a, entries), refl);
+      answers = λ uncut. settled_answers book e j o n c cs x q h.seat what g (own_first c cs) (committing uncut) (subst (λ (l : List Change). IsTalk book n l x q h.seat) waits (h.talk uncut));
+      answer = λ uncut i z w. subst (λ (u : Job). CommitTold more x.closing u (Done (record { version = version; term = 0 }))) (some_is (record { place = j; file = c.file; stage = stage.Committing c.xid }) i (sym (committing uncut) ∙ z)) made;
+      closes = λ uncut i w. close_made more uncut i w (h.closes uncut i w);
+      plain = tt;
+      wanted = λ uncut. tt;
       running = λ z u w run. still_runs z u w run;
-      shelf = kept.shelf;
-      home = λ i d w. kept.home (suc i) d (fewer_waiting k.server c cs waits i d w);
-    }) (ap (λ (l : List Entry). l ++ e ∷ []) kept.journal) kept
+    })
   where
     pending_there : slice_get book.ops j ≡ Some o
     pending_there = subst (λ (z : ℕ). slice_get book.ops z ≡ Some o) place_is (pending.there ∙ ap (λ (z : Op). Some z) op_is)
@@ -302,18 +245,6 @@ settled_now laws book k qs now c cs f x q j o kept waits what there here unhung 
 
     pending_unmade : IsUnmade o
     pending_unmade = subst IsUnmade op_is pending.unmade
-
-    empty_is : (l : List Change) → length l ≡ 0 → l ≡ []
-    empty_is [] w = refl
-    empty_is (d ∷ l) w = absurd (omega (arith, w))
-
-    shut_downs : (b : Bool) → b ≡ true → q.downs ≡ [] → unless b q.downs (answer c (f.version + 1) ∷ []) ≡ []
-    shut_downs true w none = none
-    shut_downs false w none = absurd cc
-
-    downs_fit_more : (b : Bool) → AllTolds (λ u. MessageFits (told_message u)) q.downs → MessageFits (told_message (answer c (f.version + 1))) → AllTolds (λ u. MessageFits (told_message u)) (unless b q.downs (answer c (f.version + 1) ∷ []))
-    downs_fit_more true w v = w
-    downs_fit_more false w v = all_append (λ (u : Told). MessageFits (told_message u)) q.downs (answer c (f.version + 1) ∷ []) w (v, tt)
 
     committing : x.cut ≡ false → job (kept.sessions c.session x q here is).seat ≡ Some (record { place = j; file = c.file; stage = stage.Committing c.xid })
     committing uncut = subst (λ (z : ℕ). job (kept.sessions c.session x q here is).seat ≡ Some (record { place = z; file = c.file; stage = stage.Committing c.xid })) place_is (pending.waited uncut)

@@ -1,5 +1,5 @@
 -- A COMMITTMP whose file is gone once its change is the first that waits: nothing is made, and its session is told so.
-use Rattle.std.proofs.Common.{inl, inr, ◌≡◌, ℕ, suc, ◌+◌, List, [], ◌∷◌, ◌++◌, length, max, replicate, append-nil, Option, Some, None, IsSome, Bool, true, false, Ok, refl, sym, ap, ◌∙◌, subst, arith}
+use Rattle.std.proofs.Common.{inr, ◌≡◌, ℕ, suc, ◌+◌, List, [], ◌∷◌, ◌++◌, length, max, replicate, append-nil, Option, Some, None, IsSome, false, Ok, refl, sym, ap, ◌∙◌, subst, arith}
 use Rattle.xdr_codec.specs.declared.answer.Answer.TheVariants as answer
 use Rattle.xdr_codec.specs.declared.status.Status.TheVariants as status
 use Rattle.tree_nodes.specs.declared.node.Node.{Node}
@@ -20,9 +20,9 @@ use Rattle.server_rules.specs.declared.told.Told.TheVariants as announced
 use Rattle.client_state.specs.State as client
 use Rattle.client_state.specs.declared.task.Stage.TheVariants as stage
 use Rattle.trace_ends.specs.Core.{newest_entries, changed_file}
-use Rattle.kept_promise.proofs.Common.{slice_get, at, Failed, MessageFits, Change, Wanted, Entry, Op, Core, Session, CoreStep, quiet, numbered, with_numbered, settles, settled_by, unless, hashed_of, Book, Reply.Changed, Told, Queue, told_message, value_at}
-use Rattle.kept_promise.proofs.Lists.{some_is, nothing_there, all_append, all_map, all_unless}
-use Rattle.kept_promise.proofs.Keys.{own, change_key, told_key}
+use Rattle.kept_promise.proofs.Common.{slice_get, at, Failed, Change, Wanted, Entry, Op, Core, Session, CoreStep, quiet, numbered, with_numbered, settles, settled_by, unless, Book, Reply.Changed, Told, Queue, told_message, value_at}
+use Rattle.kept_promise.proofs.Lists.{some_is, nothing_there, all_map}
+use Rattle.kept_promise.proofs.Keys.{change_key, told_key}
 use Rattle.kept_promise.proofs.Rights.{WasThere}
 use Rattle.kept_promise.proofs.Remains.{there_version}
 use Rattle.kept_promise.proofs.Growth.{value_later, there_later}
@@ -30,16 +30,14 @@ use Rattle.kept_promise.proofs.History.{onward, grows_same, goes_same, still_sam
 use Rattle.kept_promise.proofs.Fits.{FitLaws}
 use Rattle.kept_promise.proofs.Messages.{Job, job, AnswerOf, IsAnswer, IsPending}
 use Rattle.kept_promise.proofs.Orderly.{Went, Wanted as IsWantedReply}
-use Rattle.kept_promise.proofs.Ordered.{orderly_later, orderly_told}
-use Rattle.kept_promise.proofs.Later.{answer_later, close_later, pieces_later, parts_later, has_fetch_later, seat_later, Spares}
+use Rattle.kept_promise.proofs.Later.{answer_later, close_later, Spares}
 use Rattle.kept_promise.proofs.Takes.{file_still, fresh_still}
-use Rattle.kept_promise.proofs.Turns.{around_same, around_with, turned_core, kept_turn}
-use Rattle.kept_promise.proofs.Steps.{no_commits}
-use Rattle.kept_promise.proofs.Facts.{FileIs, IsServer, IsTalk, IsSession, IsKept, commits_in}
+use Rattle.kept_promise.proofs.Turns.{turned_core}
+use Rattle.kept_promise.proofs.Facts.{FileIs, IsServer, IsSession, IsKept}
 use Rattle.kept_promise.proofs.Leading.{Leads, downs_put, downs_put_in}
 use Rattle.kept_promise.proofs.Hangs.{core_is}
 use Rattle.kept_promise.proofs.ServesFiles.{none_newest, pointed_none}
-use Rattle.kept_promise.proofs.GoingSettles.{first_own, other_own, behind, way_settled}
+use Rattle.kept_promise.proofs.GoingSettles.{behind, kept_told}
 
 -- ---- what the tree makes of it
 
@@ -122,21 +120,6 @@ module _ (laws : FitLaws) (book : Book) (k : Core) (qs : List Queue) (now : ℕ)
   key_is : told_key t ≡ change_key c
   key_is = sym (ap (λ (w : Wanted). change_key (record c { what = w })) what)
 
-  alone : (commits_in q.ups ≡ 0) × (length (own n cs) ≡ 0)
-  alone =
-      let single = h.single in
-      let one = ap (λ (l : List Change). length (own n l)) waits in
-      let mine = ap (λ (l : List Change). length l) (first_own c cs) in
-      (omega (arith, single, one, mine), omega (arith, single, one, mine))
-
-  none_own : (l : List Change) → length l ≡ 0 → (i : ℕ) (d : Change) → slice_get l i ≡ Some d → ⊥
-  none_own [] e i d f = nothing_there d f
-  none_own (z ∷ l) e i d f = absurd (omega (arith, e))
-
-  cut_downs : (b : Bool) → b ≡ true → q.downs ≡ [] → unless b q.downs (t ∷ []) ≡ []
-  cut_downs true u empty = empty
-  cut_downs false u empty = absurd cc
-
   -- its client waits for it
   job_is : x.cut ≡ false → (j : Job) → job h.seat ≡ Some j → j ≡ record { place = p.place; file = c.file; stage = stage.Committing c.xid }
   job_is uncut j at = some_is j (record { place = p.place; file = c.file; stage = stage.Committing c.xid }) (sym at ∙ p.waited uncut)
@@ -156,24 +139,6 @@ module _ (laws : FitLaws) (book : Book) (k : Core) (qs : List Queue) (now : ℕ)
 
   wanted_now : x.cut ≡ false → IsWantedReply more (job h.seat) c.xid (Changed (Failed status.Stale tt))
   wanted_now uncut = (record { place = p.place; file = c.file; stage = stage.Committing c.xid }, p.op, p.waited uncut, refl, p.there, p.word_is, inr (went, refl))
-
-  talks : x.cut ≡ false → IsTalk book n (c ∷ cs) x q h.seat → IsTalk more n cs x (record q { downs = q.downs ++ t ∷ [] }) h.seat
-  talks uncut talk = record {
-    floor = talk.floor;
-    under = talk.under;
-    rising = talk.rising;
-    asked = talk.asked;
-    answers = all_append (IsAnswer more x.taken x.closing (job h.seat)) q.downs (t ∷ []) (all_map (IsAnswer book x.taken x.closing (job h.seat)) (IsAnswer more x.taken x.closing (job h.seat)) (λ u f. answer_later book more None None x.taken x.closing (job h.seat) u (grows_same book 1) spares f) q.downs talk.answers) (told_now uncut, tt);
-    fetch = has_fetch_later book more None None x.taken (job h.seat) (grows_same book 1) talk.fetch;
-    balanced = record {
-      most = λ y. let b = talk.balanced.most y in let w = way_settled n y c cs q t (first_own c cs) key_is in omega (arith, b, w);
-      least = λ hung y. let b = talk.balanced.least hung y in let w = way_settled n y c cs q t (first_own c cs) key_is in omega (arith, b, w);
-      once = talk.balanced.once;
-      below = talk.balanced.below;
-      ours = talk.balanced.ours;
-    };
-    busy = talk.busy;
-  }
 
   server_unmade : IsServer more s
   server_unmade =
@@ -199,49 +164,21 @@ module _ (laws : FitLaws) (book : Book) (k : Core) (qs : List Queue) (now : ℕ)
 
   kept_unmade : IsKept more (turned_core more s k.seats k.sessions) (with_numbered qs n after)
   kept_unmade =
-      let g = grows_same book 1 in
-      kept_turn book more k qs s k.seats k.sessions (with_numbered qs n after) n x x after h.seat h.seat None None (record {
-        at = here;
-        was = h.owner;
-        session_around = around_same k.sessions n x here;
-        queue_around = around_with qs n q after is;
-        seat_around = around_same k.seats x.owner h.seat h.owner;
-        owner = refl;
+      let grows = grows_same book 1 in
+      kept_told book more k qs now c cs x q k.server.tree k.server.journal k.server.index (Changed (Failed status.Stale tt)) None kept waits here is (record {
         goes = goes_same book 1 kept.sound;
         server = server_unmade;
-        sessions_made = refl;
-        view = λ m apart. record { stands_is = refl; waiting = sym (ap (own m) waits ∙ other_own m c cs apart); temps = λ i m2 u lt z w. (i, z); found = λ m2 lt. refl };
-        elsewhere = inl refl;
-        closing = λ z w. inl w;
+        journal_is = kept.journal;
         made_here = λ z w. nothing_there z w;
-        ended_here = λ z u w. nothing_there z w;
-        session = record {
-          seat = h.seat;
-          owner = h.owner;
-          here = h.here;
-          shut = λ cut. cut_downs x.cut cut (h.shut cut);
-          lost = h.lost;
-          stands_is = h.stands_is;
-          ups_fit = h.ups_fit;
-          downs_fit = all_unless (λ (u : Told). MessageFits (told_message u)) x.cut q.downs (t ∷ []) h.downs_fit ((laws.plain c.xid (Changed (Failed status.Stale tt)) (kept.server.xids 0 c first) tt), tt);
-          talk = λ uncut. subst (λ (b : Bool). IsTalk more n cs x (record q { downs = unless b q.downs (t ∷ []) }) h.seat) (sym uncut) (talks uncut (subst (λ (l : List Change). IsTalk book n l x q h.seat) waits (h.talk uncut)));
-          contents = h.contents;
-          lengths = h.lengths;
-          commits = no_commits more x.closing x.cut (job h.seat) h.contents q.ups alone.0;
-          pieces = pieces_later (hashed_of book.moments) (hashed_of more.moments) h.contents q.ups g.hashed h.pieces;
-          temps = λ i m u lt w key. let o = h.temps i m u lt w key in (parts_later (hashed_of book.moments) (hashed_of more.moments) (h.contents m) u.1.pieces g.hashed o.0, o.1);
-          temps_below = h.temps_below;
-          closes = λ uncut j f. close_later book more None None x.closing h.contents h.seat.client.next_temp j (client.local_bytes h.seat.client.opened j.file) j.stage g spares (h.closes uncut j f);
-          pending = λ i d f. absurd (none_own (own n cs) alone.1 i d f);
-          single = let z = alone.0 in let y = alone.1 in omega (arith, z, y);
-          old = λ z w. let u = h.old z w in let v = g.each z u.0 u.1 in (v.0, v.1, v.2.client ∙ u.2);
-          orderly = λ uncut. orderly_told more n k.server.temps x.hung x.cut q t h.seat tt (wanted_now uncut) (orderly_later book more None None n k.server.temps k.server.temps x.hung q h.seat g (λ m lt. refl) (h.orderly uncut));
-        };
-        seat = seat_later book more None None k.sessions k.sessions x.owner h.seat g (λ m z w. (z, w, refl, λ u. refl)) (λ z u w. nothing_there z w) (kept.seats x.owner h.seat h.owner);
+        key_is = key_is;
+        fits = laws.plain c.xid (Changed (Failed status.Stale tt)) (kept.server.xids 0 c first) tt;
+        answers = λ uncut. all_map (IsAnswer book x.taken x.closing (job h.seat)) (IsAnswer more x.taken x.closing (job h.seat)) (λ u f. answer_later book more None None x.taken x.closing (job h.seat) u grows spares f) q.downs (h.talk uncut).answers;
+        answer = told_now;
+        closes = λ uncut j f. close_later book more None None x.closing h.contents h.seat.client.next_temp j (client.local_bytes h.seat.client.opened j.file) j.stage grows spares (h.closes uncut j f);
+        plain = tt;
+        wanted = wanted_now;
         running = kept.running;
-        shelf = kept.shelf;
-        home = λ i d w. kept.home (suc i) d (behind k.server c cs waits i d w);
-      }) kept.journal kept
+      })
 
   told_queue : downs_put k.sessions qs ((n, t) ∷ []) ≡ with_numbered qs n after
   told_queue = ap (λ (o : Option Session). downs_put_in qs (n, t) o (numbered qs n)) here ∙ ap (λ (o : Option Queue). downs_put_in qs (n, t) (Some x) o) is
