@@ -153,21 +153,7 @@ refused_at c xid s = refused (idle c) (client.calls_of c) xid s
 
 pub comes_refused : (book : Book) (k : Core) (qs : List Queue) (n : ℕ) (x : Session) (q : Queue) (t : Told) (ts : List Told) (j : Job) (g : Here book k qs n x q t ts j) (s : Status) → stage_word j.stage ≡ words.Open → Quiet k n q → RefusedTold book x.taken j t.xid s
     → Comes book k qs n x q t ts j g (refused_at (client_at book k qs n x q t ts j g) t.xid s)
-comes_refused book k qs n x q t ts j g s word quiet (inl dir) = subst (λ z. Comes book k qs n x q t ts j g (refused_at (client_at book k qs n x q t ts j g) t.xid z)) (sym dir.0) (inr (record {
-  op = r;
-  ended = record { outcome = outcome.Refused status.IsDir; rests_on = t.xid };
-  made = None;
-  opened = c.opened;
-  forgotten = client.without_call (client.calls_of c) t.xid;
-  cache = c.cache;
-  index = c.index;
-  shows = stops_open book k qs n x q t ts j g tr of.op.point (told.Refused 21) of.op.value c.opened quiet word refl (λ m e. inl e) (λ more grows steps. by more of.op.word w (inl (refl, inside more grows))) (g.kept.seats x.owner h.seat h.owner).opened;
-  cached = inl (g.kept.seats x.owner h.seat h.owner).kept;
-  state_is = refl;
-  send_is = refl;
-  ended_is = refl;
-  op_is = ap (λ v. open_op of.op tr (book.steps + 1) (point_if (has_point v (outcome.Refused status.IsDir)) x.taken t.xid of.op.point) (told.Refused 21) of.op.value) w;
-}))
+comes_refused book k qs n x q t ts j g s word quiet refused_ = by refused_
   where
     h : IsSession book k.seats k.server n x q
     h = session_at book k qs n x q t ts j g
@@ -184,73 +170,71 @@ comes_refused book k qs n x q t ts j g s word quiet (inl dir) = subst (λ z. Com
     tr : Traffic
     tr = counted of.op.traffic no_counts
 
-    r : Op
-    r = open_op of.op tr (book.steps + 1) of.op.point (told.Refused 21) of.op.value
+    as_open : (more : Book) (r : Op) (code : ℕ) (v : Word) → v ≡ words.Open → IsOpenRefused more r.file r code → RefusedBy more r v code
+    as_open more r code words.Open e i = inl i
+    as_open more r code _ e i = absurd cc
 
-    after : of.op.begin ≤ dir.1.moment
-    after = subst (λ (o : Op). o.begin ≤ dir.1.moment) (some_is dir.1.op of.op (sym dir.1.there ∙ of.there)) dir.1.after
+    by : RefusedTold book x.taken j t.xid s → Comes book k qs n x q t ts j g (refused_at (client_at book k qs n x q t ts j g) t.xid s)
+    by (inl dir) = subst (λ z. Comes book k qs n x q t ts j g (refused_at (client_at book k qs n x q t ts j g) t.xid z)) (sym dir.0) (inr (record {
+      op = r;
+      ended = record { outcome = outcome.Refused status.IsDir; rests_on = t.xid };
+      made = None;
+      opened = c.opened;
+      forgotten = client.without_call (client.calls_of c) t.xid;
+      cache = c.cache;
+      index = c.index;
+      shows = stops_open book k qs n x q t ts j g tr of.op.point (told.Refused 21) of.op.value c.opened quiet word refl (λ m e. inl e) (λ more grows steps. as_open more r 21 of.op.word w (inl (refl, inside more grows))) (g.kept.seats x.owner h.seat h.owner).opened;
+      cached = inl (g.kept.seats x.owner h.seat h.owner).kept;
+      state_is = refl;
+      send_is = refl;
+      ended_is = refl;
+      op_is = ap (λ v. open_op of.op tr (book.steps + 1) (point_if (has_point v (outcome.Refused status.IsDir)) x.taken t.xid of.op.point) (told.Refused 21) of.op.value) w;
+    }))
+      where
+        r : Op
+        r = open_op of.op tr (book.steps + 1) of.op.point (told.Refused 21) of.op.value
 
-    inside : (more : Book) → Grows book more None (Some j.place) → IsDirectory more r of.op.file
-    inside more grows =
-        let is = dir.1.step_is in
-        let past = dir.1.past in
-        record {
-          moment = dir.1.at;
-          there = grows.happened dir.1.at dir.1.noted;
-          inside = (omega (arith, after, is), λ e q. let end = some_is (book.steps + 1) e q in omega (arith, past, is, end));
-          node = dir.1.node;
-          node_is = ap (directory_of (tree_at dir.1.at).nodes) (of.file (open_unnamed j.stage word)) ∙ dir.1.node_is;
-        }
+        after : of.op.begin ≤ dir.1.moment
+        after = subst (λ (o : Op). o.begin ≤ dir.1.moment) (some_is dir.1.op of.op (sym dir.1.there ∙ of.there)) dir.1.after
 
-    by : (more : Book) (v : Word) → v ≡ words.Open → IsOpenRefused more of.op.file r 21 → RefusedBy more r v 21
-    by more words.Open e i = inl i
-    by more _ e i = absurd cc
-comes_refused book k qs n x q t ts j g s word quiet (inr stale) = subst (λ z. Comes book k qs n x q t ts j g (refused_at (client_at book k qs n x q t ts j g) t.xid z)) (sym stale.0) (inr (record {
-  op = r;
-  ended = record { outcome = outcome.Refused status.Stale; rests_on = t.xid };
-  made = None;
-  opened = c.opened;
-  forgotten = client.without_call (client.calls_of c) t.xid;
-  cache = c.cache;
-  index = c.index;
-  shows = stops_open book k qs n x q t ts j g tr (Some m) (told.Refused 70) of.op.value c.opened quiet word refl (told_point book k qs n x q t ts j g t.xid None stale.1.0 stale.1.1) (λ more grows steps. by more of.op.word w (inr (
-    refl,
-    (m, (refl, after, (book.steps + 1, refl, omega (arith, past))), ap (λ f. value_at more f m) (of.file (open_unnamed j.stage word)) ∙ value_later book more None (Some j.place) j.file m grows (omega (arith, past)) ∙ stale.1.1.value),
-  ))) (g.kept.seats x.owner h.seat h.owner).opened;
-  cached = inl (g.kept.seats x.owner h.seat h.owner).kept;
-  state_is = refl;
-  send_is = refl;
-  ended_is = refl;
-  op_is = ap (λ v. open_op of.op tr (book.steps + 1) (point_if (has_point v (outcome.Refused status.Stale)) x.taken t.xid of.op.point) (told.Refused 70) of.op.value) w ∙ ap (λ p. open_op of.op tr (book.steps + 1) p (told.Refused 70) of.op.value) stale.1.1.was;
-}))
-  where
-    h : IsSession book k.seats k.server n x q
-    h = session_at book k qs n x q t ts j g
+        inside : (more : Book) → Grows book more None (Some j.place) → IsDirectory more r of.op.file
+        inside more grows =
+            let is = dir.1.step_is in
+            let past = dir.1.past in
+            record {
+              moment = dir.1.at;
+              there = grows.happened dir.1.at dir.1.noted;
+              inside = (omega (arith, after, is), λ e q. let end = some_is (book.steps + 1) e q in omega (arith, past, is, end));
+              node = dir.1.node;
+              node_is = ap (directory_of (tree_at dir.1.at).nodes) (of.file (open_unnamed j.stage word)) ∙ dir.1.node_is;
+            }
+    by (inr stale) = subst (λ z. Comes book k qs n x q t ts j g (refused_at (client_at book k qs n x q t ts j g) t.xid z)) (sym stale.0) (inr (record {
+      op = r;
+      ended = record { outcome = outcome.Refused status.Stale; rests_on = t.xid };
+      made = None;
+      opened = c.opened;
+      forgotten = client.without_call (client.calls_of c) t.xid;
+      cache = c.cache;
+      index = c.index;
+      shows = stops_open book k qs n x q t ts j g tr (Some m) (told.Refused 70) of.op.value c.opened quiet word refl (told_point book k qs n x q t ts j g t.xid None stale.1.0 stale.1.1) (λ more grows steps. as_open more r 70 of.op.word w (inr (
+        refl,
+        (m, (refl, after, (book.steps + 1, refl, omega (arith, past))), ap (λ f. value_at more f m) (of.file (open_unnamed j.stage word)) ∙ value_later book more None (Some j.place) j.file m grows (omega (arith, past)) ∙ stale.1.1.value),
+      ))) (g.kept.seats x.owner h.seat h.owner).opened;
+      cached = inl (g.kept.seats x.owner h.seat h.owner).kept;
+      state_is = refl;
+      send_is = refl;
+      ended_is = refl;
+      op_is = ap (λ v. open_op of.op tr (book.steps + 1) (point_if (has_point v (outcome.Refused status.Stale)) x.taken t.xid of.op.point) (told.Refused 70) of.op.value) w ∙ ap (λ p. open_op of.op tr (book.steps + 1) p (told.Refused 70) of.op.value) stale.1.1.was;
+    }))
+      where
+        m : ℕ
+        m = stale.1.1.moment
 
-    c : client.State
-    c = h.seat.client
+        past : m ≤ book.steps
+        past = stale.1.1.past
 
-    of : IsOf book x.owner j
-    of = job_op book k qs x h.seat j g.kept h.owner g.job_is
+        after : of.op.begin ≤ m
+        after = subst (λ (o : Op). o.begin ≤ m) (some_is stale.1.1.op of.op (sym stale.1.1.there ∙ of.there)) stale.1.1.after
 
-    w : of.op.word ≡ words.Open
-    w = of.word ∙ word
-
-    tr : Traffic
-    tr = counted of.op.traffic no_counts
-
-    m : ℕ
-    m = stale.1.1.moment
-
-    past : m ≤ book.steps
-    past = stale.1.1.past
-
-    after : of.op.begin ≤ m
-    after = subst (λ (o : Op). o.begin ≤ m) (some_is stale.1.1.op of.op (sym stale.1.1.there ∙ of.there)) stale.1.1.after
-
-    r : Op
-    r = open_op of.op tr (book.steps + 1) (Some m) (told.Refused 70) of.op.value
-
-    by : (more : Book) (v : Word) → v ≡ words.Open → IsOpenRefused more of.op.file r 70 → RefusedBy more r v 70
-    by more words.Open e i = inl i
-    by more _ e i = absurd cc
+        r : Op
+        r = open_op of.op tr (book.steps + 1) (Some m) (told.Refused 70) of.op.value

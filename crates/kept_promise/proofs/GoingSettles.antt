@@ -1,5 +1,5 @@
 -- A remove, or a rename over a file, that waited is settled, and its session told: it's refused, or its file goes.
-use Rattle.std.proofs.Common.{inl, ◌≡◌, ℕ, suc, ◌+◌, ◌≤◌, List, [], ◌∷◌, ◌++◌, length, max, map, Option, Some, None, Bool, true, false, refl, sym, ap, ◌∙◌, subst, arith, eq-eqb, ne_eqb}
+use Rattle.std.proofs.Common.{inl, ◌≡◌, ℕ, suc, ◌+◌, List, [], ◌∷◌, ◌++◌, length, max, map, Option, Some, None, Bool, true, false, refl, sym, ap, ◌∙◌, subst, arith, eq-eqb, ne_eqb}
 use Rattle.nfs3_calls.specs.Nfs.{nfs_proc}
 use Rattle.wire.specs.declared.message.Body.TheVariants as body
 use Rattle.wire.specs.declared.message.Message.TheVariants as message
@@ -14,8 +14,8 @@ use Rattle.server_core.specs.declared.change.Wanted.TheVariants as wanted
 use Rattle.client_state.specs.State as client
 use Rattle.client_state.specs.declared.task.Stage.TheVariants as stage
 use Rattle.register_model.specs.declared.op.Outcome.TheVariants as told
-use Rattle.trace_replay.specs.Trail.{Moment}
 use Rattle.kept_promise.proofs.Common.{slice_get, cond, Contains, MessageFits, Change, Entry, Op, Core, Seat, Session, Event.Settles, numbered, with_numbered, happens, unless, hashed_of, Book, Reply.Walked, NameReply, name_answer, Told, Queue, told_message, Reply, Indexed}
+use Rattle.kept_promise.proofs.Tells.{came_told}
 use Rattle.kept_promise.proofs.Orderly.{Wanted}
 use Rattle.kept_promise.proofs.Lists.{some_is, nothing_there, true_and_false, all_append, all_unless}
 use Rattle.kept_promise.proofs.Keys.{times, times_append, own, on_way, key, change_key, ask_key, told_key}
@@ -243,34 +243,8 @@ pub settled_came : (book more : Book) (k : Core) (qs : List Queue) (now n : ℕ)
     → ((j : Job) (o : Op) → job c ≡ Some j → slice_get book.ops j.place ≡ Some o → (z : Op) × (slice_get more.ops j.place ≡ Some z) × (z.begin ≡ o.begin) × (z.client ≡ o.client) × WalkCame more (record { before = k; event = Settles now }) (book.steps + 1) x.closing j z (walk_for a) (name_answer r))
     → AnswerOf more x.taken x.closing (job c) xid (Walked r)
 settled_came book more k qs now n x q xid a c r kept was here noted sent moments steps waits came = λ j v is at.
-    let of = (kept.seats x.owner c was).task j is in
-    let begun = (kept.sound.rights j.place of.op of.there).begun in
-    let passed = kept.steps in
-    let same : v ≡ walk_for a = walks_same xid v (walk_for a) (sym at ∙ waits j is) in
-    let z = came j of.op is of.there in
-    subst (λ (u : Walk). WalkTold more x.taken x.closing j xid u (name_answer r)) (sym same) (record {
-      at = record { before = k; event = Settles now };
-      noted = subst (λ (l : List Moment). Contains l (record { before = k; event = Settles now })) (sym moments) noted.there;
-      moment = book.steps + 1;
-      step_is = omega (arith, passed);
-      was = λ none. absurd (true_and_false (is_making (walk_for a)) (makes_for a) none);
-      past = omega (arith, steps);
-      op = z.0;
-      there = z.1;
-      after = subst (λ (b : ℕ). b ≤ book.steps + 1) (sym z.2) (omega (arith, begun));
-      bounded = kept.server.bounded;
-      rooted = kept.server.rooted;
-      came = z.4;
-      session = n;
-      sent = sent;
-      seat = c;
-      seat_is = ap (numbered k.seats) (z.3 ∙ of.client) ∙ was;
-      newest = here;
-      job_is = is;
-      then_op = of.op;
-      then_is = ap (λ (l : List Op). slice_get l j.place) (sym kept.ops) ∙ of.there;
-      then_began = sym z.2;
-    })
+    subst (λ (u : Walk). WalkTold more x.taken x.closing j xid u (name_answer r)) (sym (walks_same xid v (walk_for a) (sym at ∙ waits j is)))
+    (came_told book more k qs n x x.taken xid (walk_for a) c r (Settles now) kept was here noted sent moments steps j is (λ none. absurd (true_and_false (is_making (walk_for a)) (makes_for a) none)) (λ o there. came j o is there))
   where
     walks_same : (y : ℕ) (v w : Walk) → stage.Walking y v ≡ stage.Walking y w → v ≡ w
     walks_same y v w e = cc

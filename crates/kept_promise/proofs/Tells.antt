@@ -14,7 +14,7 @@ use Rattle.client_state.specs.State as client
 use Rattle.client_state.specs.declared.task.Stage.TheVariants as stage
 use Rattle.trace_replay.specs.OwnCalls.{TakesCall}
 use Rattle.trace_replay.specs.Trail.{served_hashed}
-use Rattle.kept_promise.proofs.Common.{slice_get, cond, ◌==◌, ◌||◌, Contains, end_of, parse_of, server_waiting, Body, Message, Op, Task, chunk_bytes, Chunk, handle_bytes, Failed, Status, HashRange, Range, message_spell, MessageFits, Node, directory, file, node_of, told_chunks, hashes_of, piece_of, leased_of, File, Fetch, Stage, Value, TakenCall, Core, Seat, Session, Event.Serves, numbered, hashed_of, Book, value_at, version_at, Call.Lease, Call.Hash, Call.Read, Reply, Reply.Versioned, Reply.Hashed, Reply.Bytes, Ask, Queue, ask_message, told_message, Tree, Call.Walks, Reply.Walked, name_answer, happens, NameReply, Moment}
+use Rattle.kept_promise.proofs.Common.{slice_get, cond, ◌==◌, ◌||◌, Contains, end_of, parse_of, server_waiting, Body, Message, Op, Task, chunk_bytes, Chunk, handle_bytes, Failed, Status, HashRange, Range, message_spell, MessageFits, Node, directory, file, node_of, told_chunks, hashes_of, piece_of, leased_of, File, Fetch, Stage, Value, TakenCall, Core, Seat, Session, Event.Serves, numbered, hashed_of, Book, value_at, version_at, Call.Lease, Call.Hash, Call.Read, Reply, Reply.Versioned, Reply.Hashed, Reply.Bytes, Ask, Queue, ask_message, told_message, Tree, Call.Walks, Reply.Walked, name_answer, happens, NameReply, Moment, Event, taken_at}
 use Rattle.kept_promise.proofs.Statements.{CallFits}
 use Rattle.kept_promise.proofs.Lists.{some_is, nothing_there}
 use Rattle.kept_promise.proofs.Messages.{Job, job, job_of, lease_body, hash_body, AllAsks, Rising, IsAsked, hash_offset, IsTold, IsHashed, RefusedTold, HashTold, IsLeased, LeaseTold, IsRead, ReadTold, TriedBy, AnswerOf, IsFetch, IsReading, FetchOf, range_from, WalkCame, WalkTold, IsTakenFor}
@@ -259,25 +259,22 @@ taken_now book more k qs n now x a w c client_ j o kept was here noted parsed_ a
       stage_is = on;
     }
 
--- an answer to it, which came of it in this step
-pub walk_came : (book more : Book) (k : Core) (qs : List Queue) (n now : ℕ) (x : Session) (q : Queue) (xid : ℕ) (w : Walk) (us : List Ask) (c : Seat) (r : NameReply) → IsKept book k qs → numbered k.seats x.owner ≡ Some c → c.session ≡ Some n → IsTalk book n k.server.waiting x q c → q.ups ≡ record { xid = xid; call = Walks w } ∷ us
-    → IsNoted book k (Serves n now (message_spell (ask_message (record { xid = xid; call = Walks w })))) → Contains (happens k (Serves n now (message_spell (ask_message (record { xid = xid; call = Walks w }))))).down (record { session = n; message = message.Answer xid (body.Nfs (name_answer r)) })
-    → more.moments ≡ book.moments → more.steps ≡ book.steps + 1
-    → ((j : Job) (o : Op) → job c ≡ Some j → j.stage ≡ stage.Walking xid w → slice_get book.ops j.place ≡ Some o → (z : Op) × (slice_get more.ops j.place ≡ Some z) × (z.begin ≡ o.begin) × (z.client ≡ o.client) × WalkCame more (record { before = k; event = Serves n now (message_spell (ask_message (record { xid = xid; call = Walks w }))) }) (book.steps + 1) x.closing j z w (name_answer r))
-    → AnswerOf more (with_taken x xid (book.steps + 1)) x.closing (job c) xid (Walked r)
-walk_came book more k qs n now x q xid w us c r kept was here talk e noted sent moments steps came = λ j v is at.
+-- an answer to a walk's call that came of it in the step of this event
+pub came_told : (book more : Book) (k : Core) (qs : List Queue) (n : ℕ) (x : Session) (taken : List TakenCall) (xid : ℕ) (w : Walk) (c : Seat) (r : NameReply) (e : Event) → IsKept book k qs → numbered k.seats x.owner ≡ Some c → c.session ≡ Some n → IsNoted book k e
+    → Contains (happens k e).down (record { session = n; message = message.Answer xid (body.Nfs (name_answer r)) }) → more.moments ≡ book.moments → more.steps ≡ book.steps + 1 → (j : Job) → job c ≡ Some j → (is_making w ≡ false → taken_at taken xid ≡ Some (book.steps + 1))
+    → ((o : Op) → slice_get book.ops j.place ≡ Some o → (z : Op) × (slice_get more.ops j.place ≡ Some z) × (z.begin ≡ o.begin) × (z.client ≡ o.client) × WalkCame more (record { before = k; event = e }) (book.steps + 1) x.closing j z w (name_answer r))
+    → WalkTold more taken x.closing j xid w (name_answer r)
+came_told book more k qs n x taken xid w c r e kept was here noted sent moments steps j is was_taken came =
     let of = (kept.seats x.owner c was).task j is in
     let begun = (kept.sound.rights j.place of.op of.there).begun in
-    let rising = subst (λ (l : List Ask). Rising talk.floor l c.client.next) e talk.rising in
     let passed = kept.steps in
-    let same : v ≡ w = (subst (AllAsks (IsAsked (job c))) e talk.asked).0 j v is at in
-    let z = came j of.op is (at ∙ ap (stage.Walking xid) same) of.there in
-    subst (λ (u : Walk). WalkTold more (with_taken x xid (book.steps + 1)) x.closing j xid u (name_answer r)) (sym same) (record {
-      at = record { before = k; event = Serves n now (message_spell (ask_message (record { xid = xid; call = Walks w }))) };
-      noted = subst (λ (l : List Moment). Contains l (record { before = k; event = Serves n now (message_spell (ask_message (record { xid = xid; call = Walks w }))) })) (sym moments) noted.there;
+    let z = came of.op of.there in
+    record {
+      at = record { before = k; event = e };
+      noted = subst (λ (l : List Moment). Contains l (record { before = k; event = e })) (sym moments) noted.there;
       moment = book.steps + 1;
       step_is = omega (arith, passed);
-      was = λ none. finds_last x.taken talk.floor (record { xid = xid; step = book.steps + 1 }) talk.under rising.0;
+      was = was_taken;
       past = omega (arith, steps);
       op = z.0;
       there = z.1;
@@ -294,7 +291,20 @@ walk_came book more k qs n now x q xid w us c r kept was here talk e noted sent 
       then_op = of.op;
       then_is = ap (λ (l : List Op). slice_get l j.place) (sym kept.ops) ∙ of.there;
       then_began = sym z.2;
-    })
+    }
+
+-- an answer to it, which came of it in this step
+pub walk_came : (book more : Book) (k : Core) (qs : List Queue) (n now : ℕ) (x : Session) (q : Queue) (xid : ℕ) (w : Walk) (us : List Ask) (c : Seat) (r : NameReply) → IsKept book k qs → numbered k.seats x.owner ≡ Some c → c.session ≡ Some n → IsTalk book n k.server.waiting x q c → q.ups ≡ record { xid = xid; call = Walks w } ∷ us
+    → IsNoted book k (Serves n now (message_spell (ask_message (record { xid = xid; call = Walks w })))) → Contains (happens k (Serves n now (message_spell (ask_message (record { xid = xid; call = Walks w }))))).down (record { session = n; message = message.Answer xid (body.Nfs (name_answer r)) })
+    → more.moments ≡ book.moments → more.steps ≡ book.steps + 1
+    → ((j : Job) (o : Op) → job c ≡ Some j → j.stage ≡ stage.Walking xid w → slice_get book.ops j.place ≡ Some o → (z : Op) × (slice_get more.ops j.place ≡ Some z) × (z.begin ≡ o.begin) × (z.client ≡ o.client) × WalkCame more (record { before = k; event = Serves n now (message_spell (ask_message (record { xid = xid; call = Walks w }))) }) (book.steps + 1) x.closing j z w (name_answer r))
+    → AnswerOf more (with_taken x xid (book.steps + 1)) x.closing (job c) xid (Walked r)
+walk_came book more k qs n now x q xid w us c r kept was here talk e noted sent moments steps came = λ j v is at.
+    let rising = subst (λ (l : List Ask). Rising talk.floor l c.client.next) e talk.rising in
+    let same : v ≡ w = (subst (AllAsks (IsAsked (job c))) e talk.asked).0 j v is at in
+    subst (λ (u : Walk). WalkTold more (with_taken x xid (book.steps + 1)) x.closing j xid u (name_answer r)) (sym same)
+    (came_told book more k qs n x (with_taken x xid (book.steps + 1)) xid w c r (Serves n now (message_spell (ask_message (record { xid = xid; call = Walks w })))) kept was here noted sent moments steps j is (λ none. finds_last x.taken talk.floor (record { xid = xid; step = book.steps + 1 }) talk.under rising.0)
+    (λ o there. came j o is (at ∙ ap (stage.Walking xid) same) there))
 
 -- what the tree tells of it now
 pub walk_told : (book : Book) (k : Core) (qs : List Queue) (n now : ℕ) (x : Session) (q : Queue) (xid : ℕ) (w : Walk) (us : List Ask) (c : Seat) → IsKept book k qs → numbered k.seats x.owner ≡ Some c → c.session ≡ Some n → IsTalk book n k.server.waiting x q c → q.ups ≡ record { xid = xid; call = Walks w } ∷ us → CallFits xid (Walks w) → is_making w ≡ false
