@@ -179,11 +179,8 @@ module _ (book : Book) (ds : List Deed) (i : ℕ) (d : Deed) (o : Op) (right : I
       → Came (record d { command = k }) o (before (file_of k)) (own k (file_of k)) → Part k o.file
   part (command.Open f) e w refused named c = id_part (command.Open f) e (λ x. e) (λ s. s) (λ a s. open_cause book f o o.outcome w e (refused f refl) s right.cause) c
   part (command.Close f) e w refused named c = id_part (command.Close f) e (λ x. e) (λ s. s) (λ a s. close_cause book f o o.outcome w e s right.cause) c
-  part (command.Write f offset content) e w refused named c = id_part (command.Write f offset content) e (λ x. e) (λ s. s) (λ a s. absurd a) c
-  part (command.Trunc f size) e w refused named c = id_part (command.Trunc f size) e (λ x. e) (λ s. s) (λ a s. absurd a) c
-  part (command.Read f offset count) e w refused named c = id_part (command.Read f offset count) e (λ x. e) (λ s. s) (λ a s. absurd a) c
-  part (command.Abandon f) e w refused named c = id_part (command.Abandon f) e (λ x. e) (λ s. s) (λ a s. absurd a) c
   part (command.Named n) e w refused named c = named_part n (named n refl) c
+  part d e w refused named c = id_part d e (λ x. e) (λ s. s) (λ a s. absurd a) c
 
 pub is_done : (book : Book) (ds : List Deed) (i : ℕ) (d : Deed) (o : Op) → d.calls ≤ calls_most * d.begin → IsRight book o → IsDeed ds book.ops i d o → IsKnown book d o (local_before ds book.ops i d.client o.file) → IsDone book d o (local_before ds book.ops i d.client o.file)
 is_done book ds i d o few right h known =

@@ -9,7 +9,7 @@ use Rattle.client_state.specs.State as client
 use Rattle.register_model.specs.declared.op.Word.TheVariants as words
 use Rattle.trace_ends.specs.Session.{taken_of as session_taken}
 use Rattle.trace_replay.specs.Saving.{lease_told, EndsBy, UsesKept, TellsLease}
-use Rattle.kept_promise.proofs.Common.{Contains, Contains-push_cases, no_counts, slice_get, option_map, unwrap_or, Done, Message, Pending, got_step, took, uses_kept, idle, hash_call, ClientStep, Local, Stage, Op, Opening, TakenCall, op_after, counted, no_traffic, Core, Seat, Event, Event.Joins, Event.Does, Event.Serves, Event.Hears, Event.Settles, Event.Cuts, Event.Hangs, numbered, session_of, happens, Moment, step_of, client_of, owner_in, taken_by, is_in, local_at_itself, hashed_of, deals_of, Book, Queue, told_message}
+use Rattle.kept_promise.proofs.Common.{Contains, Contains-push_cases, no_counts, slice_get, option_map, unwrap_or, Done, Message, Pending, got_step, took, uses_kept, idle, hash_call, ClientStep, Local, Stage, Op, Opening, TakenCall, op_after, counted, no_traffic, Core, Seat, Event, Event.Hears, numbered, session_of, happens, Moment, step_of, client_of, owner_in, taken_by, is_in, local_at_itself, hashed_of, deals_of, Book, Queue, told_message}
 use Rattle.kept_promise.proofs.Lists.{some_is, nothing_there, of_appended, of_replaced, true_and_false}
 use Rattle.kept_promise.proofs.Messages.{stage_word}
 use Rattle.kept_promise.proofs.Fits.{FitLaws}
@@ -121,12 +121,7 @@ used_hears fits all past opening k qs after n now bytes mid kept h left known p 
 
 used_now : FitLaws → (all past rest : List Moment) (opening : List Opening) (k : Core) (qs : List Queue) (e : Event) (mid after : List Queue) → Step all past rest opening k qs e mid after → Known all past k → (p : ℕ) (o : Op) → slice_get (happens k e).core.ops p ≡ Some o → UsesKept (moment k e) o
 used_now fits all past rest opening k qs (Hears n now bytes) mid after s known p o at = used_hears fits all past opening k qs after n now bytes mid s.kept (heard_at (book_at opening k all) k qs n now bytes mid s.kept s.finds) s.left known p o at
-used_now fits all past rest opening k qs (Joins c) mid after s known p o at = none_taken (moment k (Joins c)) o refl
-used_now fits all past rest opening k qs (Does c now d) mid after s known p o at = none_taken (moment k (Does c now d)) o refl
-used_now fits all past rest opening k qs (Serves n now bytes) mid after s known p o at = none_taken (moment k (Serves n now bytes)) o refl
-used_now fits all past rest opening k qs (Settles now) mid after s known p o at = none_taken (moment k (Settles now)) o refl
-used_now fits all past rest opening k qs (Cuts c) mid after s known p o at = none_taken (moment k (Cuts c)) o refl
-used_now fits all past rest opening k qs (Hangs n) mid after s known p o at = none_taken (moment k (Hangs n)) o refl
+used_now fits all past rest opening k qs e mid after s known p o at = none_taken (moment k e) o refl
 
 pub used_event : FitLaws → (all past rest : List Moment) (opening : List Opening) (k : Core) (qs : List Queue) (e : Event) (mid after : List Queue) → Step all past rest opening k qs e mid after → Known all past k → (step_of (moment k e) ≤ (happens k e).core.steps) ⊎ IsSilent (moment k e) → UsedAt all past opening k → UsedAt all (past ++ moment k e ∷ []) opening (happens k e).core
 used_event fits all past rest opening k qs e mid after s known said h = record {

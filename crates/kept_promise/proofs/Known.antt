@@ -213,11 +213,7 @@ named_cause book o c word h given (inr ends) = by c word given ends
     by (path.Look s) w g ends = look_as book o s o.outcome h ends
     by path.LookRoot w g ends = root_as book o o.outcome h ends
     by (path.List p) w g ends = list_as book o p o.outcome (g.too_long p refl) h ends
-    by (path.Make s) w g ends = change_as book o (path.Make s) o.outcome refl h ends
-    by (path.MakeDir s) w g ends = change_as book o (path.MakeDir s) o.outcome refl h ends
-    by (path.Remove s) w g ends = change_as book o (path.Remove s) o.outcome refl h ends
-    by (path.RemoveDir s) w g ends = change_as book o (path.RemoveDir s) o.outcome refl h ends
-    by (path.Rename s t) w g ends = change_as book o (path.Rename s t) o.outcome refl h ends
+    by e w g ends = change_as book o e o.outcome refl h ends
 
 -- all that is known of a command, for what it came to
 pub known_by : (book : Book) (ds : List Deed) (i : ℕ) (d : Deed) (o : Op) → o.word ≡ word_of d.command → Caused book o o.outcome → IsOver book.moments d.command o → HasOpens ds book.ops → slice_get ds i ≡ Some d → slice_get book.ops i ≡ Some o

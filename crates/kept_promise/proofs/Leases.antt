@@ -13,7 +13,7 @@ use Rattle.trace_replay.specs.OwnCalls.{WaitsFor, TakesCall}
 use Rattle.trace_ends.specs.Session.{taken_of as session_taken}
 use Rattle.trace_replay.specs.Saving.{lease_told, LeasedAt, TellsLease}
 use Rattle.trace_replay.specs.Book.{first_version}
-use Rattle.kept_promise.proofs.Common.{◌==◌, Contains, Contains-push_cases, Way, answered, slice_get, Answer, Done, Body, Message, Pending, got_step, took, took_if, told_stored, told_way, idle, ClientStep, Ended, Stage, Store, StoreCall, Task, store_at, Op, Opening, TakenCall, op_after, Core, Seat, Event, Event.Joins, Event.Does, Event.Serves, Event.Hears, Event.Settles, Event.Cuts, Event.Hangs, CoreStep, numbered, session_of, acted, happens, Moment, step_of, client_of, owner_in, wanted_if, taken_by, is_in, Book, version_at, changed_before, content_of, filter, Queue, Reply, Reply.Versioned, told_message, reply_body}
+use Rattle.kept_promise.proofs.Common.{◌==◌, Contains, Contains-push_cases, Way, answered, slice_get, Answer, Done, Body, Message, Pending, got_step, took, took_if, told_stored, told_way, idle, ClientStep, Ended, Stage, Store, StoreCall, Task, store_at, Op, Opening, TakenCall, op_after, Core, Seat, Event, Event.Hears, CoreStep, numbered, session_of, acted, happens, Moment, step_of, client_of, owner_in, wanted_if, taken_by, is_in, Book, version_at, changed_before, content_of, filter, Queue, Reply, Reply.Versioned, told_message, reply_body}
 use Rattle.kept_promise.proofs.Lists.{some_is, of_appended, of_replaced, true_and_false}
 use Rattle.kept_promise.proofs.Messages.{Job, job, lease_body, AllTolds, IsLeased, LeaseTold, AnswerOf, IsAnswer}
 use Rattle.kept_promise.proofs.Fits.{FitLaws}
@@ -269,24 +269,14 @@ none_leased book m o none x l mine there = (let lt = (subst (λ (ms : List Messa
 
 pub leased_now : FitLaws → (all past rest : List Moment) (opening : List Opening) (k : Core) (qs : List Queue) (e : Event) (mid after : List Queue) → Step all past rest opening k qs e mid after → OpsAfter e k (happens k e).core.ops → (p : ℕ) (o : Op) → slice_get (happens k e).core.ops p ≡ Some o → TellsLease (book_at opening (happens k e).core all) (moment k e) o
 leased_now fits all past rest opening k qs (Hears n now bytes) mid after s grown p o at = leased_hears fits all past rest opening k qs n now bytes mid after s grown p o at
-leased_now fits all past rest opening k qs (Joins c) mid after s grown p o at = none_leased (book_at opening (happens k (Joins c)).core all) (moment k (Joins c)) o refl
-leased_now fits all past rest opening k qs (Does c now d) mid after s grown p o at = none_leased (book_at opening (happens k (Does c now d)).core all) (moment k (Does c now d)) o refl
-leased_now fits all past rest opening k qs (Serves n now bytes) mid after s grown p o at = none_leased (book_at opening (happens k (Serves n now bytes)).core all) (moment k (Serves n now bytes)) o refl
-leased_now fits all past rest opening k qs (Settles now) mid after s grown p o at = none_leased (book_at opening (happens k (Settles now)).core all) (moment k (Settles now)) o refl
-leased_now fits all past rest opening k qs (Cuts c) mid after s grown p o at = none_leased (book_at opening (happens k (Cuts c)).core all) (moment k (Cuts c)) o refl
-leased_now fits all past rest opening k qs (Hangs n) mid after s grown p o at = none_leased (book_at opening (happens k (Hangs n)).core all) (moment k (Hangs n)) o refl
+leased_now fits all past rest opening k qs e mid after s grown p o at = none_leased (book_at opening (happens k e).core all) (moment k e) o refl
 
 pub none_shut : (m : Moment) (o : Op) → taken_by m.before (client_of m.before m.event) m.event ≡ [] → HasFile m o
 none_shut m o none x l mine there zero = (let lt = (subst (λ (ms : List Message). Contains ms (lease_told x l)) none there).1 in absurd (omega (arith, lt)))
 
 pub shut_now : FitLaws → (all past rest : List Moment) (opening : List Opening) (k : Core) (qs : List Queue) (e : Event) (mid after : List Queue) → Step all past rest opening k qs e mid after → (p : ℕ) (o : Op) → slice_get (happens k e).core.ops p ≡ Some o → HasFile (moment k e) o
 shut_now fits all past rest opening k qs (Hears n now bytes) mid after s p o at = shut_hears fits all past rest opening k qs n now bytes mid after s p o at
-shut_now fits all past rest opening k qs (Joins c) mid after s p o at = none_shut (moment k (Joins c)) o refl
-shut_now fits all past rest opening k qs (Does c now d) mid after s p o at = none_shut (moment k (Does c now d)) o refl
-shut_now fits all past rest opening k qs (Serves n now bytes) mid after s p o at = none_shut (moment k (Serves n now bytes)) o refl
-shut_now fits all past rest opening k qs (Settles now) mid after s p o at = none_shut (moment k (Settles now)) o refl
-shut_now fits all past rest opening k qs (Cuts c) mid after s p o at = none_shut (moment k (Cuts c)) o refl
-shut_now fits all past rest opening k qs (Hangs n) mid after s p o at = none_shut (moment k (Hangs n)) o refl
+shut_now fits all past rest opening k qs e mid after s p o at = none_shut (moment k e) o refl
 
 pub shut_stays : (book : Book) (k : Core) (qs : List Queue) (e : Event) (ops : List Op) (m : Moment) → IsKept book k qs → step_of m ≤ k.steps → OpsAfter e k ops → ((p : ℕ) (o : Op) → slice_get k.ops p ≡ Some o → HasFile m o) → (p : ℕ) (o : Op) → slice_get ops p ≡ Some o → HasFile m o
 shut_stays book k qs e ops m kept le (inl same) h p o at = h p o (ap (λ (l : List Op). slice_get l p) (sym same) ∙ at)

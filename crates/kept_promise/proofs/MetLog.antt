@@ -369,10 +369,7 @@ meets_laws all = record {
     other log file v (stage.Making x temp) u of p same = tt
     other log file v (stage.Storing st) u of p same = tt
     other log file v (stage.Committing x) u of p same = tt
-    other log file v (stage.Asking x) u of p same = plain log u (all_met log file v (stage.Asking x) p refl) same
-    other log file v (stage.Hashing tries x) u of p same = plain log u (all_met log file v (stage.Hashing tries x) p refl) same
-    other log file v (stage.Listing x f) u of p same = plain log u (all_met log file v (stage.Listing x f) p refl) same
-    other log file v (stage.Reading f) u of p same = plain log u (all_met log file v (stage.Reading f) p refl) same
+    other log file v e u of p same = plain log u (all_met log file v e p refl) same
 
 -- ---- what it makes of the promise
 

@@ -82,14 +82,7 @@ next_turned next w (turn.File dir name content) f h = λ early.
     let more = opens_file w.core.server.tree dir name (content_bytes content) was.0 f.1.0 in
     (more.given, more.next ∙ ap (λ (i : ℕ). i + 1) was.1)
 next_turned next w (turn.Join c) f h = λ early. not_early (turned w (turn.Join c)).stage refl early
-next_turned next w (turn.Do c now d) f h = λ early. not_early (turned w (turn.Do c now d)).stage (turned_to w (turn.Do c now d) tt).stage early
-next_turned next w (turn.Up m a now) f h = λ early. not_early (turned w (turn.Up m a now)).stage (turned_to w (turn.Up m a now) tt).stage early
-next_turned next w (turn.Down m a now) f h = λ early. not_early (turned w (turn.Down m a now)).stage (turned_to w (turn.Down m a now) tt).stage early
-next_turned next w (turn.Settle now) f h = λ early. not_early (turned w (turn.Settle now)).stage (turned_to w (turn.Settle now) tt).stage early
-next_turned next w (turn.Cut c) f h = λ early. not_early (turned w (turn.Cut c)).stage (turned_to w (turn.Cut c) tt).stage early
-next_turned next w (turn.Hang m) f h = λ early. not_early (turned w (turn.Hang m)).stage (turned_to w (turn.Hang m) tt).stage early
-next_turned next w (turn.Pass m k server at) f h = λ early. not_early (turned w (turn.Pass m k server at)).stage (turned_to w (turn.Pass m k server at) tt).stage early
-next_turned next w (turn.Adjust a) f h = λ early. not_early (turned w (turn.Adjust a)).stage (turned_to w (turn.Adjust a) tt).stage early
+next_turned next w e f h = λ early. not_early (turned w e).stage (turned_to w e tt).stage early
 
 next_first : HasNext 2 start
 next_first = λ early. (record { below = (omega arith, tt); apart = (tt, tt) }, refl)

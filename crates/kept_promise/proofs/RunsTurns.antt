@@ -172,15 +172,7 @@ first_turned n w (turn.At s) past may le f h early = stage_first n w s past (h f
 first_turned n w (turn.Clients m) past may le f h early = clients_first n m w past (h f)
 first_turned n w (turn.Dir dir name) past may le f h early = directory_first n w dir name past le f.1 (h f.0)
 first_turned n w (turn.File dir name content) past may le f h early = file_first n w dir name content past le f.1 (h f.0)
-first_turned n w (turn.Join c) past may le f h early = not_early (turned w (turn.Join c)).stage (turned_to w (turn.Join c) may).stage early
-first_turned n w (turn.Do c now d) past may le f h early = not_early (turned w (turn.Do c now d)).stage (turned_to w (turn.Do c now d) may).stage early
-first_turned n w (turn.Up m a now) past may le f h early = not_early (turned w (turn.Up m a now)).stage (turned_to w (turn.Up m a now) may).stage early
-first_turned n w (turn.Down m a now) past may le f h early = not_early (turned w (turn.Down m a now)).stage (turned_to w (turn.Down m a now) may).stage early
-first_turned n w (turn.Settle now) past may le f h early = not_early (turned w (turn.Settle now)).stage (turned_to w (turn.Settle now) may).stage early
-first_turned n w (turn.Cut c) past may le f h early = not_early (turned w (turn.Cut c)).stage (turned_to w (turn.Cut c) may).stage early
-first_turned n w (turn.Hang m) past may le f h early = not_early (turned w (turn.Hang m)).stage (turned_to w (turn.Hang m) may).stage early
-first_turned n w (turn.Pass m k server at) past may le f h early = not_early (turned w (turn.Pass m k server at)).stage (turned_to w (turn.Pass m k server at) may).stage early
-first_turned n w (turn.Adjust a) past may le f h early = not_early (turned w (turn.Adjust a)).stage (turned_to w (turn.Adjust a) may).stage early
+first_turned n w e past may le f h early = not_early (turned w e).stage (turned_to w e may).stage early
 
 -- ---- any line
 

@@ -235,30 +235,15 @@ saves fits all past rest opening k qs e mid after s sent ups before = (answers_n
   where
     told : (e : Event) → Step all past rest opening k qs e mid after → AreTold all (moment k e)
     told (Hears n now bytes) s = are_told fits all past (moment k (Hears n now bytes) ∷ rest) opening k qs mid n now bytes s.split s.kept (heard_at (book_at opening k all) k qs n now bytes mid s.kept s.finds) sent before
-    told (Joins c) s = not_heard all k (Joins c) (λ i j x is. absurd cc)
-    told (Does c now d) s = not_heard all k (Does c now d) (λ i j x is. absurd cc)
-    told (Serves n now bytes) s = not_heard all k (Serves n now bytes) (λ i j x is. absurd cc)
-    told (Settles now) s = not_heard all k (Settles now) (λ i j x is. absurd cc)
-    told (Cuts c) s = not_heard all k (Cuts c) (λ i j x is. absurd cc)
-    told (Hangs n) s = not_heard all k (Hangs n) (λ i j x is. absurd cc)
+    told e s = not_heard all k e (λ i j x is. absurd cc)
 
     asked : (e : Event) → AsksFirst (moment k e)
     asked (Does c now d) = first_asked k c now d
-    asked (Joins c) = not_done k (Joins c) (λ i j x is. absurd cc)
-    asked (Serves n now bytes) = not_done k (Serves n now bytes) (λ i j x is. absurd cc)
-    asked (Hears n now bytes) = not_done k (Hears n now bytes) (λ i j x is. absurd cc)
-    asked (Settles now) = not_done k (Settles now) (λ i j x is. absurd cc)
-    asked (Cuts c) = not_done k (Cuts c) (λ i j x is. absurd cc)
-    asked (Hangs n) = not_done k (Hangs n) (λ i j x is. absurd cc)
+    asked e = not_done k e (λ i j x is. absurd cc)
 
     called : (e : Event) → Step all past rest opening k qs e mid after → AreSent all (moment k e)
     called (Serves n now bytes) s = was_sent fits all past (moment k (Serves n now bytes) ∷ rest) opening k qs mid n now bytes s.split s.kept s.finds ups
-    called (Joins c) s = not_served all k (Joins c) (λ i j x is. absurd cc)
-    called (Does c now d) s = not_served all k (Does c now d) (λ i j x is. absurd cc)
-    called (Hears n now bytes) s = not_served all k (Hears n now bytes) (λ i j x is. absurd cc)
-    called (Settles now) s = not_served all k (Settles now) (λ i j x is. absurd cc)
-    called (Cuts c) s = not_served all k (Cuts c) (λ i j x is. absurd cc)
-    called (Hangs n) s = not_served all k (Hangs n) (λ i j x is. absurd cc)
+    called e s = not_served all k e (λ i j x is. absurd cc)
 
 -- ---- what a run carries
 

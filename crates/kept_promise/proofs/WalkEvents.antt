@@ -114,14 +114,8 @@ walk_lost all _ o r file plain = tt
 
 lost_over : (all : List Moment) (d : Command) (o r : Op) (st : Stage) (n m : ℕ) → EndsIn o r m → r.outcome ≡ told.Lost → n ≤ m → IsOn all d o st n → IsOver all d r
 lost_over all (command.Named c) o r (stage.Walking x w) n m e is le h = (e.word ∙ h.4, inr (inr (subst (EndsAs all c r) (sym is) (walk_lost all c o r e.file h.3))))
-lost_over all d o r (stage.Asking x) n m e is le h = on_file_over all d o r (stage.Asking x) n m e le tt h
-lost_over all d o r (stage.Hashing t x) n m e is le h = on_file_over all d o r (stage.Hashing t x) n m e le tt h
-lost_over all d o r (stage.Listing x f) n m e is le h = on_file_over all d o r (stage.Listing x f) n m e le tt h
-lost_over all d o r (stage.Reading f) n m e is le h = on_file_over all d o r (stage.Reading f) n m e le tt h
-lost_over all d o r (stage.Making x t) n m e is le h = on_file_over all d o r (stage.Making x t) n m e le tt h
-lost_over all d o r (stage.Storing t) n m e is le h = on_file_over all d o r (stage.Storing t) n m e le tt h
-lost_over all d o r (stage.Committing x) n m e is le h = on_file_over all d o r (stage.Committing x) n m e le tt h
 lost_over all _ o r (stage.Walking x w) n m e is le h = tt
+lost_over all d o r v n m e is le h = on_file_over all d o r v n m e le tt h
 
 lost_comes : (all : List Moment) (d : Deed) (o : Op) (j : Job) (n : ℕ) (s : client.State) (taken : List TakenCall) → IsOn all d.command o j.stage n → (t : Option Task) → t ≡ Some (record { file = j.file; stage = j.stage }) → StepComes all d o (s, ended_by t (record { outcome = outcome.Lost; rests_on = 0 })) taken (n + 1)
 lost_comes all d o j n s taken on t e = subst (λ (z : Option Task). StepComes all d o (s, ended_by z (record { outcome = outcome.Lost; rests_on = 0 })) taken (n + 1)) (sym e) (record {
@@ -301,13 +295,7 @@ heard_comes laws all past opening k qs n now bytes mid kept h order one noted is
 
     own_took : (st : Stage) → j.stage ≡ st → has_call (client.pending_in st) x ≡ true → IsOn all d.command o st k.steps → NoFault o (took (idle s) (client.calls_of s) j.file st x (reply_body h.told.reply)) taken (k.steps + 1) → StepComes all d o (took (idle s) (client.calls_of s) j.file st x (reply_body h.told.reply)) taken (k.steps + 1)
     own_took (stage.Walking y w) e has on right = to_walk y w e (eqb-true y x (or_none (y == x) has)) h.told.reply refl (ap (λ (z : Option Task). has_call (pending z) x) (job_task h.seat.place h.seat.client.task j is) ∙ ap (λ (z : Stage). has_call (client.pending_in z) x) e ∙ has) on right
-    own_took (stage.Asking y) e has on right = file_comes all d o k.steps (idle s) (client.calls_of s) j.file (stage.Asking y) x (reply_body h.told.reply) taken tt on
-    own_took (stage.Hashing t y) e has on right = file_comes all d o k.steps (idle s) (client.calls_of s) j.file (stage.Hashing t y) x (reply_body h.told.reply) taken tt on
-    own_took (stage.Listing y f) e has on right = file_comes all d o k.steps (idle s) (client.calls_of s) j.file (stage.Listing y f) x (reply_body h.told.reply) taken tt on
-    own_took (stage.Reading f) e has on right = file_comes all d o k.steps (idle s) (client.calls_of s) j.file (stage.Reading f) x (reply_body h.told.reply) taken tt on
-    own_took (stage.Making y t) e has on right = file_comes all d o k.steps (idle s) (client.calls_of s) j.file (stage.Making y t) x (reply_body h.told.reply) taken tt on
-    own_took (stage.Storing t) e has on right = file_comes all d o k.steps (idle s) (client.calls_of s) j.file (stage.Storing t) x (reply_body h.told.reply) taken tt on
-    own_took (stage.Committing y) e has on right = file_comes all d o k.steps (idle s) (client.calls_of s) j.file (stage.Committing y) x (reply_body h.told.reply) taken tt on
+    own_took v e has on right = file_comes all d o k.steps (idle s) (client.calls_of s) j.file v x (reply_body h.told.reply) taken tt on
 
     own : (t : Option Task) → t ≡ Some mine → (b : Bool) → has_call (pending t) x ≡ b → NoFault o (took_if s t x (reply_body h.told.reply) b) taken (k.steps + 1) → StepComes all d o (took_if s t x (reply_body h.told.reply) b) taken (k.steps + 1)
     own t e true has right = subst (λ (z : Option Task). NoFault o (took_if s z x (reply_body h.told.reply) true) taken (k.steps + 1) → StepComes all d o (took_if s z x (reply_body h.told.reply) true) taken (k.steps + 1)) (sym e) (own_took j.stage refl (ap (λ (z : Option Task). has_call (pending z) x) (sym e) ∙ has) on) right

@@ -374,12 +374,7 @@ walk_first s c None e none u at file = by (may_walk s (begun c)) at
 
 command_first : (s : client.State) (d : Command) (now : ℕ) → s.task ≡ None → (u : Task) → (command_step s d now).0.task ≡ Some u → (file : ℕ) → IsSaid d (map Sent (command_step s d now).1.send) file u.stage
 command_first s (command.Named c) now none u at file = walk_first s c s.task refl none u at file
-command_first s (command.Open f) now none u at file = (command_plain s (command.Open f) now (λ c e. absurd cc) none u at, command_none s (command.Open f) now (λ c e. absurd cc))
-command_first s (command.Write f a b) now none u at file = (command_plain s (command.Write f a b) now (λ c e. absurd cc) none u at, command_none s (command.Write f a b) now (λ c e. absurd cc))
-command_first s (command.Trunc f a) now none u at file = (command_plain s (command.Trunc f a) now (λ c e. absurd cc) none u at, command_none s (command.Trunc f a) now (λ c e. absurd cc))
-command_first s (command.Read f a b) now none u at file = (command_plain s (command.Read f a b) now (λ c e. absurd cc) none u at, command_none s (command.Read f a b) now (λ c e. absurd cc))
-command_first s (command.Close f) now none u at file = (command_plain s (command.Close f) now (λ c e. absurd cc) none u at, command_none s (command.Close f) now (λ c e. absurd cc))
-command_first s (command.Abandon f) now none u at file = (command_plain s (command.Abandon f) now (λ c e. absurd cc) none u at, command_none s (command.Abandon f) now (λ c e. absurd cc))
+command_first s d now none u at file = (command_plain s d now (λ c e. absurd cc) none u at, command_none s d now (λ c e. absurd cc))
 
 -- of an operation that begins in this step
 walk_calls : (s : client.State) (c : PathCommand) (t : Option Task) (step : ℕ) → (let r = walks s c t in HasCalls (command.Named c) (outcome_by r.1.ended) (end_by step r.1.ended) step (map Sent r.1.send))
@@ -392,12 +387,7 @@ walk_calls s c None step = by (may_walk s (begun c))
 
 command_calls : (s : client.State) (d : Command) (now step : ℕ) → (let r = command_step s d now in HasCalls d (outcome_by r.1.ended) (end_by step r.1.ended) step (map Sent r.1.send))
 command_calls s (command.Named c) now step = walk_calls s c s.task step
-command_calls s (command.Open f) now step = command_none s (command.Open f) now (λ c e. absurd cc)
-command_calls s (command.Write f a b) now step = command_none s (command.Write f a b) now (λ c e. absurd cc)
-command_calls s (command.Trunc f a) now step = command_none s (command.Trunc f a) now (λ c e. absurd cc)
-command_calls s (command.Read f a b) now step = command_none s (command.Read f a b) now (λ c e. absurd cc)
-command_calls s (command.Close f) now step = command_none s (command.Close f) now (λ c e. absurd cc)
-command_calls s (command.Abandon f) now step = command_none s (command.Abandon f) now (λ c e. absurd cc)
+command_calls s d now step = command_none s d now (λ c e. absurd cc)
 
 said_does : (past : List Moment) (book : Book) (k : Core) (qs : List Queue) (c now : ℕ) (d : Command) (seat : Seat) → IsSmall d → IsKept book k qs → numbered k.seats c ≡ Some seat → ArePast k.steps past → length k.ops ≡ length (deeds_of past) → AreSaid past k → AreSaid (past ++ moment k (Does c now d) ∷ []) (does k c now d (Some seat)).core
 said_does past book k qs c now d seat small kept here before count h = record {

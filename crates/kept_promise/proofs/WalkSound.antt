@@ -154,12 +154,8 @@ module _ (t : Tree) (w : Walk) (a : Nfs) (b : IsBounded t) (small : IsWalkSmall 
     | inl f ↦ over (ended.Refused f.0) f.2 tt
     | inr s ↦ page p s.0 left aim s.1 s.2
   ]
-  last (goal.Make n) aim ahead named left = absurd (silent (goal.Make n) left aim refl)
-  last (goal.MakeDir n) aim ahead named left = absurd (silent (goal.MakeDir n) left aim refl)
-  last (goal.Remove n) aim ahead named left = absurd (silent (goal.Remove n) left aim refl)
-  last (goal.RemoveDir n) aim ahead named left = absurd (silent (goal.RemoveDir n) left aim refl)
   last (goal.RenameFrom n to) aim ahead named left = absurd ahead
-  last (goal.RenameTo from n to) aim ahead named left = absurd (silent (goal.RenameTo from n to) left aim refl)
+  last e aim ahead named left = absurd (silent e left aim refl)
 
   pub walk_sound : WalkStep w (walk_told w a)
   walk_sound = by w.left refl
