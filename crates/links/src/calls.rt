@@ -13,8 +13,7 @@ pub struct Calls {
     failing: Items<u64>,
 }
 
-// Written by hand, it is proved here alone; derived, each crate above would prove how each part is let
-// go.
+// By hand: docs/PROVING.md, "Values that are let go".
 impl Drop for Calls {
     fn drop(self) {
         let Calls { made: _, failing } = self;

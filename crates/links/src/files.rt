@@ -1,4 +1,4 @@
-//! Files of the host, by their names. What a call makes of them states `specs/Files.antt`.
+//! Files of the host, by their names. `specs/Files.antt` states what a call makes of them.
 
 ghost use Rattle.std.specs.Prelude.{◌≡◌, ℕ, ◌≤◌, ◌<◌, List, length, Option, Some, Err, IfOk, OnOk, OnErr, IsErrOf};
 ghost use Rattle.std.specs.Option.{option_map};
@@ -20,8 +20,7 @@ pub struct HostFile {
     pub bytes: Bytes,
 }
 
-// Written by hand, it is proved here alone; derived, each crate above would prove how each part is let
-// go.
+// By hand: docs/PROVING.md, "Values that are let go".
 impl Drop for HostFile {
     fn drop(self) {
         let HostFile { name, bytes } = self;

@@ -22,6 +22,7 @@ use limits::FILE_MOST;
 use std::alloc::{AllocError, Global};
 use std::marker::Model;
 
+/// Whether the file is of this name.
 fn is_of(name: &[u8], file: &HostFile) -> bool
     ensures { result ≡ is_of name.now file.now }
 {
@@ -106,8 +107,7 @@ pub struct SureFiles {
     files: Vec<HostFile>,
 }
 
-// Written by hand, it is proved here alone; derived, each crate above would prove how each part is let
-// go.
+// By hand: docs/PROVING.md, "Values that are let go".
 impl Drop for SureFiles {
     fn drop(self) {
         let SureFiles { files } = self;
@@ -174,8 +174,7 @@ pub struct MemFiles {
     faults: u64,
 }
 
-// Written by hand, it is proved here alone; derived, each crate above would prove how each part is let
-// go.
+// By hand: docs/PROVING.md, "Values that are let go".
 impl Drop for MemFiles {
     fn drop(self) {
         let MemFiles {

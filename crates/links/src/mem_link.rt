@@ -28,8 +28,7 @@ pub struct SureLink {
     alloc: Global,
 }
 
-// Written by hand, it is proved here alone; derived, each crate above would prove how each part is let
-// go.
+// By hand: docs/PROVING.md, "Values that are let go".
 impl Drop for SureLink {
     fn drop(self) {
         let SureLink {
@@ -140,8 +139,7 @@ pub struct MemLink {
     alloc: Global,
 }
 
-// Written by hand, it is proved here alone; derived, each crate above would prove how each part is let
-// go.
+// By hand: docs/PROVING.md, "Values that are let go".
 impl Drop for MemLink {
     fn drop(self) {
         let MemLink {

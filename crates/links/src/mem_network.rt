@@ -23,8 +23,7 @@ pub struct SureNetwork {
     alloc: Global,
 }
 
-// Written by hand, it is proved here alone; derived, each crate above would prove how each part is let
-// go.
+// By hand: docs/PROVING.md, "Values that are let go".
 impl Drop for SureNetwork {
     fn drop(self) {
         let SureNetwork {
@@ -114,8 +113,7 @@ pub struct MemNetwork {
     faults: u64,
 }
 
-// Written by hand, it is proved here alone; derived, each crate above would prove how each part is let
-// go.
+// By hand: docs/PROVING.md, "Values that are let go".
 impl Drop for MemNetwork {
     fn drop(self) {
         let MemNetwork {
@@ -164,7 +162,7 @@ impl MemNetwork {
         self.faults
     }
 
-    // Counts a fault.
+    /// Counts a fault.
     fn fail<T>(&mut self) -> Result<T, Failed>
         ensures failed { IsErr result }
         ensures later { self.old.faults ≤ self.new.faults }

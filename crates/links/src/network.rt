@@ -1,4 +1,5 @@
-//! The network, which gives links. When a fault may be answered states `Causes.antt` of `lb_base`.
+//! The network, which gives links. `Causes.antt` of `lb_base` states when a fault
+//! may be answered.
 
 ghost use Rattle.std.specs.Prelude.{◌≡◌, ℕ, ◌+◌, ◌-◌, ◌^◌, ◌≤◌, min, OnOk, OnErr};
 ghost use Rattle.lb_base.specs.Causes.{Rose};

@@ -30,7 +30,7 @@ pub struct Inbox {
     room: Vec<u8>,
 }
 
-// Written by hand, it is proved here alone.
+// By hand: docs/PROVING.md, "Values that are let go".
 impl Drop for Inbox {
     fn drop(self) {
         let Inbox {

@@ -21,6 +21,7 @@ pub fn is_head(one: &Kept) -> bool
     }
 }
 
+/// Whether a record is of the node of this id.
 fn is_of(id: u64, one: &Kept) -> bool
     ensures { result ≡ is_of id one.now }
 {
@@ -31,6 +32,7 @@ fn is_of(id: u64, one: &Kept) -> bool
     }
 }
 
+/// Whether a record takes the place of the other.
 fn takes_place(one: &Kept, other: &Kept) -> bool
     ensures { result ≡ takes_place one.now other.now }
 {
@@ -68,7 +70,7 @@ pub fn copy_of(alloc: Global, one: &Kept) -> Result<Kept, AllocError>
     }
 }
 
-// The place of the record that this one replaces; the number of records where there is none.
+/// The place of the record that this one replaces; the number of records where there is none.
 fn place_of(records: &Vec<Kept>, one: &Kept) -> usize
     ensures { result ≡ place_of one.now records.now.items }
 {

@@ -23,6 +23,7 @@ pub struct SureStore {
     records: Vec<Kept>,
 }
 
+// By hand: docs/PROVING.md, "Values that are let go".
 impl Drop for SureStore {
     fn drop(self) {
         let SureStore { records } = self;
@@ -104,6 +105,7 @@ pub struct MemStore {
     faults: u64,
 }
 
+// By hand: docs/PROVING.md, "Values that are let go".
 impl Drop for MemStore {
     fn drop(self) {
         let MemStore {
@@ -154,7 +156,7 @@ impl MemStore {
         self.faults
     }
 
-    // Counts a call, and whether it fails.
+    /// Counts a call, and whether it fails.
     fn call(&mut self) -> bool
         ensures fails { IsTrue result ↔ Contains self.old.failing self.old.calls }
         ensures later { self.old.faults ≤ self.new.faults }

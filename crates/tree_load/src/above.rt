@@ -13,7 +13,7 @@ use std::alloc::{AllocError, Global};
 use std::collections::BTreeMap;
 use store::record::Kept;
 
-// Where the node of an id stands.
+/// Where the node of an id stands.
 fn spot(nodes: &BTreeMap<u64, Found>, count: usize, id: u64) -> usize
     requires { count + 1 < 2 ^ 64 }
     ensures { result ≡ spot_by count id (found_place (get nat_cmp nodes.now id)) }
@@ -27,7 +27,7 @@ fn spot(nodes: &BTreeMap<u64, Found>, count: usize, id: u64) -> usize
     }
 }
 
-// Where the directory of a record stands.
+/// Where the directory of a record stands.
 fn up_from(nodes: &BTreeMap<u64, Found>, count: usize, one: &Kept) -> usize
     requires { count + 1 < 2 ^ 64 }
     ensures { result ≡ up_by count (λ id. found_place (get nat_cmp nodes.now id)) one.now }
@@ -58,7 +58,7 @@ pub fn steps_up(
     Ok(steps)
 }
 
-// What the one list has at the places that the other tells.
+/// What the one list has at the places that the other tells.
 fn through(alloc: Global, places: &[usize], list: &[usize]) -> Result<Vec<usize>, AllocError>
     requires { StayWithin places.now (length list.now) }
     ensures { IfOk result (λ v. v.items ≡ map (λ place. slice_index list.now place) places.now) }
@@ -70,7 +70,7 @@ fn through(alloc: Global, places: &[usize], list: &[usize]) -> Result<Vec<usize>
     Ok(found)
 }
 
-// One step more of the odd number of steps that is left.
+/// One step more of the odd number of steps that is left.
 fn odd_step(
     alloc: Global,
     at: Vec<usize>,

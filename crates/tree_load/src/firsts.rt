@@ -29,7 +29,7 @@ pub struct Firsts<'a> {
     pub contents: BTreeMap<u64, usize>,
 }
 
-// Puts what was found under an id, in place of what stood there.
+/// Puts what was found under an id, in place of what stood there.
 #[tactic(auto, using(crate::proofs::Tables::put_is))]
 fn put_node(firsts: &mut BTreeMap<u64, Found>, id: u64, found: Found) -> Result<(), AllocError>
     ensures { OnOk result ((q : ℕ) → get nat_cmp firsts.new q ≡ (if id == q then Some found else get nat_cmp firsts.old q)) }
@@ -38,7 +38,7 @@ fn put_node(firsts: &mut BTreeMap<u64, Found>, id: u64, found: Found) -> Result<
     Ok(())
 }
 
-// Puts a place under an id, in place of what stood there.
+/// Puts a place under an id, in place of what stood there.
 #[tactic(auto, using(crate::proofs::Tables::put_is))]
 fn put_content(firsts: &mut BTreeMap<u64, usize>, id: u64, place: usize) -> Result<(), AllocError>
     ensures { OnOk result ((q : ℕ) → get nat_cmp firsts.new q ≡ (if id == q then Some place else get nat_cmp firsts.old q)) }
@@ -47,7 +47,7 @@ fn put_content(firsts: &mut BTreeMap<u64, usize>, id: u64, place: usize) -> Resu
     Ok(())
 }
 
-// Puts a place under a name, in place of what stood there.
+/// Puts a place under a name, in place of what stood there.
 #[tactic(auto, using(crate::proofs::Tables::name_put))]
 fn put_name<'a>(
     firsts: &mut BTreeMap<(u64, &'a [u8]), usize>,
@@ -61,7 +61,7 @@ fn put_name<'a>(
     Ok(())
 }
 
-// Notes a record that comes before those that were noted.
+/// Notes a record that comes before those that were noted.
 fn note<'a>(firsts: &mut Firsts<'a>, place: usize, one: &'a Kept) -> Result<(), AllocError>
     ensures nodes { OnOk result ((id : ℕ) → get nat_cmp firsts.new.nodes id ≡ node_over place one.now (get nat_cmp firsts.old.nodes id) id) }
     ensures names { OnOk result (IsNameNoted place one.now firsts.old.names firsts.new.names) }

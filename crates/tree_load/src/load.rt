@@ -13,7 +13,7 @@ use std::alloc::{AllocError, Global};
 use store::record::{Head, Kept};
 use tree_nodes::nodes::Nodes;
 
-// The head that is the first record, if it is one.
+/// The head that is the first record, if it is one.
 fn first_head(records: &[Kept]) -> Option<Head>
     ensures { result ≡ first_head records.now }
 {
@@ -23,7 +23,7 @@ fn first_head(records: &[Kept]) -> Option<Head>
     }
 }
 
-// Which record is the first that breaks a rule, where this head is the first.
+/// Which record is the first that breaks a rule, where this head is the first.
 #[tactic(auto, using(crate::proofs::Loading::some_record, crate::proofs::Loading::fault_well, crate::proofs::Loading::fault_head))]
 fn fault(alloc: Global, head: Head, records: &[Kept]) -> Result<Option<usize>, AllocError>
     requires { first_head records.now ≡ Some head }
@@ -36,7 +36,7 @@ fn fault(alloc: Global, head: Head, records: &[Kept]) -> Result<Option<usize>, A
     Ok(rules::first_fault(head, records, &known))
 }
 
-// The tree of records that break no rule.
+/// The tree of records that break no rule.
 #[tactic(auto, using(crate::proofs::Loading::ids_of, crate::proofs::Loading::apart_of, crate::proofs::Loading::below_of, crate::proofs::Loading::limits_of, crate::proofs::Loading::tree_is))]
 fn tree_of(alloc: Global, head: Head, records: Vec<Kept>) -> Result<Tree, AllocError>
     requires head { first_head records.items ≡ Some head }

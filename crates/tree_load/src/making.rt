@@ -29,7 +29,7 @@ pub struct Parted {
     pub contents: BTreeMap<u64, Stored>,
 }
 
-// Keeps a content, unless its id has one.
+/// Keeps a content, unless its id has one.
 #[tactic(auto, using(crate::proofs::Parting::kept_new, crate::proofs::Parting::kept_old))]
 fn keep(
     alloc: Global,
@@ -51,7 +51,7 @@ fn keep(
     Ok(())
 }
 
-// Takes a record apart from the others.
+/// Takes a record apart from the others.
 fn sort_out(alloc: Global, parted: &mut Parted, one: Kept) -> Result<(), AllocError>
     ensures nodes { OnOk result (parted.new.nodes.items ≡ parted.old.nodes.items ++ node_list (one ∷ [])) }
     ensures contents { OnOk result ((id : ℕ) → get nat_cmp parted.new.contents id ≡ or_else (get nat_cmp parted.old.contents id) (content_at one id)) }
@@ -66,7 +66,7 @@ fn sort_out(alloc: Global, parted: &mut Parted, one: Kept) -> Result<(), AllocEr
     }
 }
 
-// The nodes and the contents of records.
+/// The nodes and the contents of records.
 fn part(alloc: Global, records: Vec<Kept>) -> Result<Parted, AllocError>
     ensures nodes { IfOk result (λ p. p.nodes.items ≡ node_list records.items) }
     ensures contents { IfOk result (λ p. (id : ℕ) → get nat_cmp p.contents id ≡ content_with records.items id) }
@@ -81,7 +81,7 @@ fn part(alloc: Global, records: Vec<Kept>) -> Result<Parted, AllocError>
     Ok(parted)
 }
 
-// The file of a record, by the content that its id has.
+/// The file of a record, by the content that its id has.
 fn file_of(alloc: Global, one: NodeRecord, stored: Option<Stored>) -> Node
     ensures { result ≡ with_stored one stored }
 {
@@ -103,7 +103,7 @@ fn file_of(alloc: Global, one: NodeRecord, stored: Option<Stored>) -> Node
     }
 }
 
-// The node of a record; the content of its id is taken out of the others.
+/// The node of a record; the content of its id is taken out of the others.
 fn node_of(
     alloc: Global,
     changes: u64,
@@ -128,7 +128,7 @@ fn node_of(
     }
 }
 
-// The root directory.
+/// The root directory.
 fn root(alloc: Global, version: u64) -> Node
     ensures { result ≡ root version }
 {
@@ -141,7 +141,7 @@ fn root(alloc: Global, version: u64) -> Node
     }
 }
 
-// The root and the nodes of the records, with their contents.
+/// The root and the nodes of the records, with their contents.
 fn join(alloc: Global, changes: u64, parted: Parted) -> Result<Vec<Node>, AllocError>
     requires { AreIdsApart parted.nodes.items }
     ensures { IfOk result (λ v. v.items ≡ root changes ∷ map (λ n. node_by changes n (get nat_cmp parted.contents n.id)) parted.nodes.items) }

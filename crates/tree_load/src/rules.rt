@@ -62,7 +62,7 @@ pub fn learn<'a>(alloc: Global, records: &'a [Kept]) -> Result<Known<'a>, AllocE
     })
 }
 
-// What stands with a node.
+/// What stands with a node.
 fn stands_with<'a>(
     records: &[Kept],
     known: &Known<'a>,
@@ -99,14 +99,14 @@ pub fn is_head_well(head: Head) -> bool
         && head.next as u128 <= (1 << 63) + head.changes as u128
 }
 
-// Whether a name may stand in a directory.
+/// Whether a name may stand in a directory.
 fn is_name_well(name: &[u8]) -> bool
     ensures { result ≡ is_name_well name.now }
 {
     names::spelt(name).is_ok() && !names::is_dot(name) && !names::is_dot_dot(name)
 }
 
-// Whether this is the place.
+/// Whether this is the place.
 fn is_at(place: usize, found: Option<usize>) -> bool
     ensures { result ≡ is_at place found }
 {
@@ -116,7 +116,7 @@ fn is_at(place: usize, found: Option<usize>) -> bool
     }
 }
 
-// The place of what was found.
+/// The place of what was found.
 fn found_place(found: Option<Found>) -> Option<usize>
     ensures { result ≡ found_place found }
 {
@@ -126,7 +126,7 @@ fn found_place(found: Option<Found>) -> Option<usize>
     }
 }
 
-// Whether a node is a directory.
+/// Whether a node is a directory.
 fn is_directory_kind(kind: NodeKind) -> bool
     ensures { result ≡ is_directory_kind kind }
 {
@@ -136,7 +136,7 @@ fn is_directory_kind(kind: NodeKind) -> bool
     }
 }
 
-// Whether what was found is a directory.
+/// Whether what was found is a directory.
 fn is_directory_at(found: Option<Found>) -> bool
     ensures { result ≡ is_directory_at found }
 {
@@ -146,7 +146,7 @@ fn is_directory_at(found: Option<Found>) -> bool
     }
 }
 
-// Whether a place is before this one.
+/// Whether a place is before this one.
 fn is_before(place: usize, found: Option<usize>) -> bool
     ensures { result ≡ place_before place found }
 {
@@ -156,7 +156,7 @@ fn is_before(place: usize, found: Option<usize>) -> bool
     }
 }
 
-// Whether a file has its content, and a directory none before it.
+/// Whether a file has its content, and a directory none before it.
 fn fits(kind: NodeKind, place: usize, content: Option<usize>) -> bool
     ensures { result ≡ fits kind place content }
 {
@@ -166,7 +166,7 @@ fn fits(kind: NodeKind, place: usize, content: Option<usize>) -> bool
     }
 }
 
-// Whether a node breaks no rule, by what stands with it.
+/// Whether a node breaks no rule, by what stands with it.
 fn is_node_well(head: Head, place: usize, node: &NodeRecord, around: Around) -> bool
     ensures { result ≡ is_node_by head place node.now around }
 {
@@ -180,7 +180,7 @@ fn is_node_well(head: Head, place: usize, node: &NodeRecord, around: Around) -> 
         && fits(node.kind, place, around.content)
 }
 
-// Whether a content's node isn't a directory before it.
+/// Whether a content's node isn't a directory before it.
 fn is_file_at(place: usize, found: Option<Found>) -> bool
     ensures { result ≡ is_file_by place found }
 {
@@ -190,7 +190,7 @@ fn is_file_at(place: usize, found: Option<Found>) -> bool
     }
 }
 
-// Whether a content breaks no rule, by what stands with it.
+/// Whether a content breaks no rule, by what stands with it.
 fn is_content_well(
     head: Head,
     place: usize,
@@ -211,7 +211,7 @@ fn is_content_well(
         && sum + len <= TREE_MOST
 }
 
-// How many bytes a content has.
+/// How many bytes a content has.
 fn size_of(one: &Kept) -> u64
     ensures { result ≡ size_of one.now }
 {
@@ -221,7 +221,7 @@ fn size_of(one: &Kept) -> u64
     }
 }
 
-// Whether a record breaks no rule, where the contents before it have so many bytes.
+/// Whether a record breaks no rule, where the contents before it have so many bytes.
 #[tactic(auto, using(crate::proofs::Ruled::node_same, crate::proofs::Ruled::content_same))]
 fn is_well<'a>(
     head: Head,
