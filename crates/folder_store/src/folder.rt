@@ -34,6 +34,7 @@ pub struct FolderStore<R> {
     faults: u64,
 }
 
+// By hand: docs/PROVING.md, "Values that are let go".
 impl<R: Drop> Drop for FolderStore<R> {
     fn drop(self) {
         let FolderStore {
@@ -58,6 +59,7 @@ struct Folder {
     unfinished: bool,
 }
 
+// By hand: docs/PROVING.md, "Values that are let go".
 impl Drop for Folder {
     fn drop(self) {
         let Folder {
@@ -86,7 +88,8 @@ impl<R> FolderStore<R> {
     }
 }
 
-fn is_want(error: io::Error) -> StoreErr {
+/// Why the host failed, as a store tells it.
+fn store_err(error: io::Error) -> StoreErr {
     if error.kind() == ErrorKind::OutOfMemory {
         return StoreErr::Memory;
     }
@@ -98,7 +101,7 @@ fn read_named<R: Files>(rt: &R, alloc: Global, paths: &Paths) -> Result<Option<V
     let file = match fs::open(rt, paths.at()) {
         Ok(file) => file,
         Err(error) if error.kind() == ErrorKind::NotFound => return Ok(None),
-        Err(error) => return Err(is_want(error)),
+        Err(error) => return Err(store_err(error)),
     };
     let mut source = StreamSource::new(file);
     match read_all(alloc, READ_MOST, &mut source) {
@@ -123,6 +126,7 @@ fn record_in(alloc: Global, which: Which, bytes: Vec<u8>) -> Result<Option<Kept>
     }
 }
 
+/// Reads the record that the folder has a file of.
 fn read_record<R: Files>(
     rt: &R,
     alloc: Global,
@@ -164,7 +168,7 @@ fn finish<R: Files>(rt: &R, alloc: Global, paths: &mut Paths) -> Result<(), Stor
     };
     match carry_out(rt, paths, &list) {
         Ok(()) => Ok(()),
-        Err(error) => Err(is_want(error)),
+        Err(error) => Err(store_err(error)),
     }
 }
 
@@ -203,7 +207,7 @@ fn records_of<R: Files + AllocGlobal + Clone + Drop>(
     finish(rt, alloc, paths)?;
     let there = match records_there(rt, alloc, paths.folder()) {
         Ok(there) => there,
-        Err(error) => return Err(is_want(error)),
+        Err(error) => return Err(store_err(error)),
     };
     let mut records = Vec::new(alloc);
     for which in there.iter() {
@@ -212,16 +216,15 @@ fn records_of<R: Files + AllocGlobal + Clone + Drop>(
     Ok(records)
 }
 
+/// Opens a folder, and reads its records.
 fn load_folder<R: Files<File = File> + AllocGlobal + Clone + Drop>(
     rt: &R,
     alloc: Global,
     place: &str,
 ) -> Result<(Folder, Vec<Kept>), StoreErr> {
     let mut folder = Folder::open(rt, alloc, place)?;
-    match records_of(rt, alloc, &mut folder.paths) {
-        Ok(records) => Ok((folder, records)),
-        Err(error) => Err(error),
-    }
+    let records = records_of(rt, alloc, &mut folder.paths)?;
+    Ok((folder, records))
 }
 
 impl Folder {
@@ -247,6 +250,7 @@ impl Folder {
         fs::create(rt, self.paths.beside())
     }
 
+    /// Adds a change to the list; what it makes is written beside the file that it replaces.
     fn write_change<R: Files>(&mut self, rt: &R, change: &Change) -> io::Result<()> {
         match change {
             Change::Node(node) => {
@@ -265,6 +269,7 @@ impl Folder {
         }
     }
 
+    /// The same of the head.
     fn write_head<R: Files>(&mut self, rt: &R, head: Head) -> io::Result<()> {
         let mut file = self.create(rt, Which::Head)?;
         put_head(&mut file, head)

@@ -11,6 +11,7 @@ use std::io;
 use std::io::Write;
 use store::record::{ContentRecord, Head, NodeKind, NodeRecord};
 
+/// The number that a kind is in its file.
 fn kind_number(kind: NodeKind) -> u32
     ensures { result ≡ kind_number kind }
 {
@@ -20,6 +21,7 @@ fn kind_number(kind: NodeKind) -> u32
     }
 }
 
+/// The kind of this number, if it is one.
 fn kind_in(number: u32) -> Option<NodeKind>
     ensures { result ≡ kind_in number }
 {

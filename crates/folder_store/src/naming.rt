@@ -16,6 +16,7 @@ pub enum Which {
     Content(u64),
 }
 
+/// The record that a letter and a number name, if they name one.
 fn lettered(letter: u8, digits: &[u8]) -> Option<Which>
     ensures { result ≡ lettered letter digits.now }
 {

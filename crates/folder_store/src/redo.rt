@@ -3,7 +3,8 @@
 //!
 //! A change writes each file that it makes beside the one that it replaces. Then the list becomes
 //! the file `change`, by one renaming: from then on the change is made. Each line of the list is a
-//! renaming or a removal; whatever was done already is passed over. At last the list goes.
+//! renaming or a removal; whatever was done already is passed over. At a line that is neither, it fails
+//! and stays. At last the list goes.
 
 use crate::naming::{Which, held_by, put_name};
 use command_text::fields::number;
@@ -29,6 +30,7 @@ pub struct Paths {
     beside: String,
 }
 
+// By hand: docs/PROVING.md, "Values that are let go".
 impl Drop for Paths {
     fn drop(self) {
         let Paths { folder, at, beside } = self;
@@ -67,7 +69,7 @@ impl Paths {
         self.at.as_str()
     }
 
-    /// The path beside it.
+    /// The path of the new file beside the one named last (`NAME~`).
     pub fn beside(&self) -> &str {
         self.beside.as_str()
     }
@@ -88,12 +90,18 @@ impl Paths {
         self.beside.push_str(BESIDE)
     }
 
+    /// Both paths are the folder's again, with no name behind.
     fn begin(&mut self) -> Result<(), AllocError> {
         self.at.clear();
         self.beside.clear();
         self.at.push_str(self.folder.as_str())?;
         self.beside.push_str(self.folder.as_str())
     }
+}
+
+/// The error of a line that no change has in its list.
+fn no_line() -> io::Error {
+    io::Error::from(ErrorKind::InvalidData)
 }
 
 /// A file that isn't there any more is as good as done.
@@ -104,35 +112,45 @@ fn done_or_gone(done: io::Result<()>) -> io::Result<()> {
     }
 }
 
+/// Puts the new file of a record in its place.
 fn put_in_place<R: Files>(rt: &R, paths: &mut Paths, which: Which) -> io::Result<()> {
     paths.name(which)?;
     done_or_gone(fs::rename(rt, paths.beside(), paths.at()))
 }
 
+/// Removes the file of a record.
 fn remove<R: Files>(rt: &R, paths: &mut Paths, which: Which) -> io::Result<()> {
     paths.name(which)?;
     done_or_gone(fs::remove_file(rt, paths.at()))
 }
 
-/// Carries out a line of the list: `+NAME` puts a file in its place, `-ID` removes a node's.
-fn carry_out_line<R: Files>(rt: &R, paths: &mut Paths, line: &[u8]) -> io::Result<()> {
-    let Some((sign, text)) = line.split_first() else {
-        return Ok(());
-    };
-    if *sign == b'+' {
-        return match held_by(text) {
-            Some(which) => put_in_place(rt, paths, which),
-            None => Ok(()),
-        };
-    }
-    let Some(id) = number(text) else {
-        return Ok(());
-    };
+/// Removes the files of a node.
+fn remove_node<R: Files>(rt: &R, paths: &mut Paths, id: u64) -> io::Result<()> {
     remove(rt, paths, Which::Node(id))?;
     remove(rt, paths, Which::Content(id))
 }
 
-/// Carries out a list that is made, and takes it away.
+/// Carries out a line of the list: `+NAME` puts a file in its place, `-ID` removes a node's. A line
+/// that is neither is an error, and nothing is done for it; an empty one, as behind the last line feed,
+/// is passed over.
+fn carry_out_line<R: Files>(rt: &R, paths: &mut Paths, line: &[u8]) -> io::Result<()> {
+    let Some((sign, text)) = line.split_first() else {
+        return Ok(());
+    };
+    match *sign {
+        b'+' => match held_by(text) {
+            Some(which) => put_in_place(rt, paths, which),
+            None => Err(no_line()),
+        },
+        b'-' => match number(text) {
+            Some(id) => remove_node(rt, paths, id),
+            None => Err(no_line()),
+        },
+        _ => Err(no_line()),
+    }
+}
+
+/// Carries out a list that is made, and takes it away; it stays where a line of it fails.
 pub fn carry_out<R: Files>(rt: &R, paths: &mut Paths, list: &[u8]) -> io::Result<()> {
     for line in list.split(|byte| *byte == b'\n') {
         carry_out_line(rt, paths, line)?;
