@@ -53,13 +53,13 @@ pub enum Command {
     },
 }
 
-/// Where a store's folder is.
+/// The path of a store's folder.
 #[derive(Drop)]
-pub struct Place {
+pub struct StorePath {
     path: String,
 }
 
-impl Model for Place {
+impl Model for StorePath {
     ghost use Rattle.std.specs.Prelude.{ℕ, List, string_bytes};
 
     ghost Value = { List ℕ };
@@ -67,12 +67,12 @@ impl Model for Place {
     ghost view = { λ p. string_bytes p.path };
 }
 
-impl Place {
-    /// A place of this path.
-    pub fn copy_of(alloc: Global, path: &str) -> Result<Place, AllocError>
+impl StorePath {
+    /// A copy of this path. The one error is want of memory.
+    pub fn copy_of(alloc: Global, path: &str) -> Result<StorePath, AllocError>
         ensures { IfOk result (λ p. p ≡ path.now) }
     {
-        Ok(Place {
+        Ok(StorePath {
             path: String::from_str(alloc, path)?,
         })
     }
@@ -90,12 +90,13 @@ impl Place {
 pub struct ServeOptions {
     /// The port at which clients dial.
     pub port: u16,
-    /// How long a lease lasts, in milliseconds.
+    /// `--term`: how long a lease is to last, in milliseconds. Checked, and not used until leases are
+    /// served.
     pub term: u64,
     /// After how many sessions the server ends.
     pub sessions: u32,
     /// Where the store is.
-    pub store: Place,
+    pub store: StorePath,
 }
 
 /// How a server's tree is mounted.
@@ -103,7 +104,8 @@ pub struct ServeOptions {
 pub struct MountOptions {
     /// The port at which the server listens.
     pub port: u16,
-    /// How far clocks may drift apart, in milliseconds.
+    /// `--drift`: how far clocks may drift apart, in milliseconds. Checked, and not used until leases
+    /// are served.
     pub drift: u64,
 }
 

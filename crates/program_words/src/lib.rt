@@ -1,6 +1,5 @@
-//! The words that the program takes, and what they ask for. What words
-//! ask for is `asked_of` of `specs/Words.antt`: what `clap` makes of them by the command of
-//! `specs/Line.antt`, with each number in its range.
+//! The program's words and what they ask for: `asked_of` of `specs/Words.antt`, over the `clap` command
+//! of `specs/Line.antt`.
 #![tactic(auto)]
 
 pub mod asked;

@@ -51,6 +51,7 @@ fn with<'a>(
     ensures { (a : App) (r : Rule) → rule_of arg.entry ≡ r → IfOk command.entry (λ c. app_of c ≡ a)
         → IfOk result (λ c. app_of c ≡ with_rule a r) }
 {
+    // Errors are handed on by a `match`, which is proved more cheaply than `?` (docs/PROVING.md, Code).
     match command {
         Ok(command) => command.arg(arg),
         Err(error) => Err(error),
@@ -92,7 +93,7 @@ fn mount_line<'a>(alloc: Global) -> Result<Command<'a>, AllocError>
     with(command, required(alloc, "drift"))
 }
 
-/// A command with a command more below it; the error of either is handed on.
+/// A command with a command more below it; an error of either is `AllocError`.
 fn below<'a>(
     above: Result<Command<'a>, AllocError>,
     command: Result<Command<'a>, AllocError>,

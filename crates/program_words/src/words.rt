@@ -8,8 +8,8 @@ ghost use Rattle.clap.specs.Words.{first_of, found_of, rows_of, subcommand_rows_
 ghost use Rattle.program_words.specs.Words.{given, if_given, is_set, view_of, replay_with, replay_of, gen_of, serve_of, mount_of, named_of, entered_of, asked_of, command_in, IsFew};
 
 use crate::asked::{
-    Asked, Command, InputCommand, MountOptions, PORT_MOST, Place, SEED_MOST, SeedCommand,
-    ServeOptions, View,
+    Asked, Command, InputCommand, MountOptions, PORT_MOST, SEED_MOST, SeedCommand, ServeOptions,
+    StorePath, View,
 };
 use crate::line::lbfs;
 use clap::ArgMatches;
@@ -32,13 +32,12 @@ fn first<'a>(name: &str, matches: &ArgMatches<'a>) -> Option<&'a str>
 fn given(low: u64, high: u64, name: &str, matches: &ArgMatches) -> Option<u64>
     ensures { result ≡ given low high name.now (rows_of (found_of matches.now)) }
 {
-    match first(name, matches) {
-        Some(word) => number_within(low, high, word.as_bytes()),
-        None => None,
-    }
+    let word = first(name, matches)?;
+    number_within(low, high, word.as_bytes())
 }
 
-/// The same of an option that may be left out: no number then.
+/// The number that an option was given which may be left out: no number where it was, and nothing where
+/// the number isn't in its range.
 fn if_given(low: u64, high: u64, name: &str, matches: &ArgMatches) -> Option<Option<u64>>
     ensures { result ≡ if_given low high (first_of name.now (rows_of (found_of matches.now))) }
 {
@@ -99,17 +98,13 @@ fn replay_of(matches: &ArgMatches) -> Option<Asked>
 fn gen_of(matches: &ArgMatches) -> Option<Asked>
     ensures { result ≡ gen_of (rows_of (found_of matches.now)) }
 {
-    match (
-        given(0, SEED_MOST, "seed", matches),
-        given(1, BLOCKS_MOST, "blocks", matches),
-    ) {
-        (Some(seed), Some(blocks)) => Some(Asked::Command(Command::OfSeed {
-            seed,
-            blocks,
-            command: SeedCommand::Write,
-        })),
-        _ => None,
-    }
+    let seed = given(0, SEED_MOST, "seed", matches)?;
+    let blocks = given(1, BLOCKS_MOST, "blocks", matches)?;
+    Some(Asked::Command(Command::OfSeed {
+        seed,
+        blocks,
+        command: SeedCommand::Write,
+    }))
 }
 
 /// The port that was given.
@@ -143,7 +138,7 @@ fn serve_of(alloc: Global, matches: &ArgMatches) -> Result<Option<Asked>, AllocE
                 port,
                 term,
                 sessions,
-                store: Place::copy_of(alloc, path)?,
+                store: StorePath::copy_of(alloc, path)?,
             })))
         }
         _ => Ok(None),
@@ -154,10 +149,9 @@ fn serve_of(alloc: Global, matches: &ArgMatches) -> Result<Option<Asked>, AllocE
 fn mount_of(matches: &ArgMatches) -> Option<Asked>
     ensures { result ≡ mount_of (rows_of (found_of matches.now)) }
 {
-    match (port_of(matches), given(0, DRIFT_MOST, "drift", matches)) {
-        (Some(port), Some(drift)) => Some(Asked::Mount(MountOptions { port, drift })),
-        _ => None,
-    }
+    let port = port_of(matches)?;
+    let drift = given(0, DRIFT_MOST, "drift", matches)?;
+    Some(Asked::Mount(MountOptions { port, drift }))
 }
 
 /// What the command of this name asks for.

@@ -6,7 +6,7 @@ ghost use Rattle.program_words.specs.Words.{IsFew, command_in};
 use crate::trial::split;
 use limits::SESSIONS_EVER_MOST;
 use program_words::asked::{
-    Asked, Command, InputCommand, MountOptions, PORT_MOST, Place, ServeOptions, View,
+    Asked, Command, InputCommand, MountOptions, PORT_MOST, ServeOptions, StorePath, View,
 };
 use row_text::out::Out;
 use row_text::text::number;
@@ -30,7 +30,7 @@ fn serve_of(alloc: Global, words: &str, port: u16, out: &mut Out) -> Option<Aske
 {
     let term = number(behind(words, "--term"));
     let sessions = number(behind(words, "--sessions")).min(SESSIONS_EVER_MOST) as u32;
-    match Place::copy_of(alloc, behind(words, "--store")) {
+    match StorePath::copy_of(alloc, behind(words, "--store")) {
         Ok(store) => Some(Asked::Serve(ServeOptions {
             port,
             term,
