@@ -64,10 +64,8 @@ fn put(alloc: Global, words: &mut Words) -> Result<MountLine, LineErr>
         return Err(LineErr::BadLine);
     };
     let local = LocalName::read(alloc, name)?;
-    match read_place(alloc, word) {
-        Ok(place) => Ok(MountLine::Put { local, place }),
-        Err(error) => Err(error),
-    }
+    let place = read_place(alloc, word)?;
+    Ok(MountLine::Put { local, place })
 }
 
 /// `get PLACE LOCAL`.
@@ -78,10 +76,8 @@ fn get(alloc: Global, words: &mut Words) -> Result<MountLine, LineErr>
         return Err(LineErr::BadLine);
     };
     let place = read_place(alloc, word)?;
-    match LocalName::read(alloc, name) {
-        Ok(local) => Ok(MountLine::Get { place, local }),
-        Err(error) => Err(error),
-    }
+    let local = LocalName::read(alloc, name)?;
+    Ok(MountLine::Get { place, local })
 }
 
 /// `join`.
@@ -105,10 +101,8 @@ fn read_kind(alloc: Global, kind: &[u8], words: &mut Words) -> Result<MountLine,
     } else if kind == b"join".as_slice() {
         join(words).ok_or(LineErr::BadLine)
     } else {
-        match Command::read(alloc, kind, words) {
-            Ok(command) => Ok(MountLine::Plain(command)),
-            Err(error) => Err(error),
-        }
+        let command = Command::read(alloc, kind, words)?;
+        Ok(MountLine::Plain(command))
     }
 }
 

@@ -16,7 +16,7 @@ pub struct LocalName {
     text: String,
 }
 
-// By hand, so that no crate above proves how each part is let go.
+// By hand: docs/PROVING.md, "Values that are let go".
 impl Drop for LocalName {
     fn drop(self) {
         let LocalName { text } = self;

@@ -23,7 +23,7 @@ pub struct Mounted<F: Files> {
     walk: Option<Walk>,
 }
 
-/// By hand, so that the crates above prove nothing of how the parts go.
+// By hand: docs/PROVING.md, "Values that are let go".
 impl<F: Files + Drop> Drop for Mounted<F> {
     fn drop(self) {
         let Mounted {
