@@ -99,6 +99,7 @@ where
     ensures why { IfErr result (λ e. Unjoined (IsFaulty N.L.faults dialler.new.unpaired) (N.faults dialler.old.net) (N.faults dialler.new.net) e) }
     ensures later { N.faults dialler.old.net ≤ N.faults dialler.new.net }
 {
+    // Errors are handed on by a `match`, which is proved more cheaply than `?` (docs/PROVING.md, Code).
     match dial(shared.alloc(), dialler) {
         Ok(dialled) => {
             let Dialled { link, twin, inbox } = dialled;

@@ -1,4 +1,4 @@
-//! Why a mount ends before its script does. When each comes states `mount`.
+//! Why a mount ends before its script does. `mount` says when each comes.
 
 /// Why a mount ended before its script did.
 #[derive(Clone, Copy)]

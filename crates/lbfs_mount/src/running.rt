@@ -73,10 +73,7 @@ where
     ensures later { N.faults dialler.old.net ≤ N.faults dialler.new.net }
 {
     if shared.run(rt, line, clock.now()) {
-        match connect(scope, rt, shared, dialler, clock) {
-            Ok(()) => {}
-            Err(why) => return Err(why),
-        }
+        connect(scope, rt, shared, dialler, clock)?;
     }
     match shared.await_line(rt) {
         Ok(answer) => Ok(answer),
@@ -107,6 +104,7 @@ where
     ensures ends { AnswerEnds (IsFaulty N.L.faults dialler.new.unpaired) (K.held sink.old) (K.held sink.new) (K.faults sink.old) (K.faults sink.new) (N.faults dialler.old.net) (N.faults dialler.new.net) result }
     ensures later { (N.faults dialler.old.net ≤ N.faults dialler.new.net) × (K.faults sink.old ≤ K.faults sink.new) }
 {
+    // Errors are handed on by a `match`, which is proved more cheaply than `?` (docs/PROVING.md, Code).
     match run_line(scope, rt, shared, dialler, clock, line) {
         Ok(answer) => write_answer(sink, &answer),
         Err(why) => Err(why),

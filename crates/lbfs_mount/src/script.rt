@@ -94,9 +94,9 @@ impl Script {
     /// The next line that comes from the source, without its line feed; none at the end of the input.
     /// It takes bytes only where no line is there yet, and may wait for them.
     ///
-    /// Whatever bytes are taken at once, the lines are those of all bytes that come, in order. Once
-    /// the input has ended no more is taken. `Fault` comes only where the source's count rose, `TooLong` where more than `INPUT_MOST` bytes
-    /// came. After an error the bytes that were taken last may be gone.
+    /// Whatever bytes are taken at once, the lines are those of all bytes that come, in order. Once the
+    /// input has ended no more is taken. `Fault` comes only where the source's count rose, `TooLong` where
+    /// more than `INPUT_MOST` bytes came. After an error the bytes that were taken last may be gone.
     pub fn next<S: Source>(
         &mut self,
         alloc: Global,

@@ -7,7 +7,7 @@ use lbfs_client::line::MountLine;
 use record_ends::end::End;
 use std::alloc::{AllocError, Global};
 
-/// What a turn asks; what each call does states `Desk`.
+/// What a turn asks; `Desk` says what each call does.
 pub(crate) trait Turns {
     /// The links of its connections.
     type L;
