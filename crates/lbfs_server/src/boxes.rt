@@ -18,8 +18,7 @@ pub struct Outbox<T> {
     pub messages: Items<T>,
 }
 
-// Written by hand, it is proved here alone; derived, each crate above would prove how each part is let
-// go.
+// By hand: docs/PROVING.md, "Values that are let go".
 impl<T: Drop> Drop for Outbox<T> {
     fn drop(self) {
         let Outbox {

@@ -56,7 +56,7 @@ pub struct Held<S: Store> {
     boxes: Outboxes<Message>,
 }
 
-// By hand, so that no crate above proves how each part is let go.
+// By hand: docs/PROVING.md, "Values that are let go".
 impl<S: Store + Drop> Drop for Held<S> {
     fn drop(self) {
         let Held { kept, boxes } = self;
@@ -65,6 +65,7 @@ impl<S: Store + Drop> Drop for Held<S> {
     }
 }
 
+/// Whether both are so.
 fn both(one: bool, other: bool) -> bool
     ensures { IsTrue result → IsTrue one × IsTrue other }
 {
@@ -247,15 +248,6 @@ impl<S: Store + Drop> Held<S> {
                 Went::Memory
             }
         }
-    }
-
-    /// A record of a session came.
-    pub fn got(&mut self, alloc: Global, session: u32, bytes: &[u8], now: u64) -> Went
-        requires { now < 2 ^ 63 }
-        ensures { HeardOrLeft S.records S.faults self.old session now (parse_of server_waits bytes.now) result self.new }
-    {
-        let read = read_record(alloc, bytes);
-        self.heard(alloc, session, read, now)
     }
 
     /// The store, once nobody is told anything any more.

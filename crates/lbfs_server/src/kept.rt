@@ -49,6 +49,7 @@ impl<S: Store + Drop> KeptServer<S> {
         ensures stepped { Steps (S.faults self.old.store) (S.faults self.new.store) self.old.server event self.new.server result }
         ensures store { StoreKeeps S.records S.faults self.old self.new }
     {
+        // Named first: the invariant is proved after the call.
         let step = self.server.step(alloc, &mut self.store, event);
         step
     }

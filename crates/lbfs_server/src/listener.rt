@@ -117,6 +117,7 @@ fn begin<
                 serve_session(rt, shared, session, link, clock);
                 serving.fetch_sub(1, Ordering::SeqCst);
             };
+            // Without a thread the listener serves this session itself, and accepts nothing meanwhile.
             if let Err(refused) = scope.spawn(serve) {
                 (refused.value)();
             }

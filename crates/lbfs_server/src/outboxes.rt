@@ -15,8 +15,7 @@ pub struct Outboxes<T> {
     alloc: Global,
 }
 
-// Written by hand, it is proved here alone; derived, each crate above would prove how each part is let
-// go.
+// By hand: docs/PROVING.md, "Values that are let go".
 impl<T: Drop> Drop for Outboxes<T> {
     fn drop(self) {
         let Outboxes { boxes, alloc: _ } = self;

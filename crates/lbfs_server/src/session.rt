@@ -111,6 +111,8 @@ pub fn session_out<W: Wait, H: Turns + Drop, G: Gate + Drop, L: Link + Drop>(
     }
 }
 
+/// Takes records off a session's link, and puts out by it what there is to say behind each, until it
+/// ends.
 fn both_on<W: Wait, H: Turns + Drop, G: Gate + Drop, L: Link + Drop, C: Clock>(
     rt: &W,
     shared: &Shared<H, G, L>,

@@ -29,7 +29,7 @@ pub struct Shared<H, G, L> {
     alloc: Global,
 }
 
-// By hand, so that no crate above proves how each part is let go.
+// By hand: docs/PROVING.md, "Values that are let go".
 impl<H: Drop, G: Drop, L: Drop> Drop for Shared<H, G, L> {
     fn drop(self) {
         let Shared {

@@ -13,7 +13,7 @@ use tree_nodes::content::Content;
 use wire::fault::WireErr;
 use wire::message::Message;
 
-/// What a turn asks; what each call does states `Held`.
+/// What a turn asks; `Held` says what each call does.
 pub trait Turns {
     /// Whether a session stands.
     fn stands(&self, session: u32) -> bool;
