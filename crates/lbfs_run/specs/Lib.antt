@@ -5,3 +5,4 @@ pub mod PlainEnds
 pub mod Serving
 pub mod Taken
 pub mod Telling
+pub mod Words

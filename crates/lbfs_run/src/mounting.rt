@@ -1,5 +1,5 @@
-//! `mount`: the lines of the source are run on the tree of a server, one by one. How that ends, and
-//! what is written then, states `specs/Mounting.antt`.
+//! `mount`: the lines of the source are run on the tree of a server, one by one. `specs/Mounting.antt`
+//! states how that ends, and what is written then.
 
 ghost use Rattle.std.specs.Prelude.{◌≡◌, ◌≤◌, ◌⊎◌, [], IfOk, IsErrOf};
 ghost use Rattle.lb_base.specs.Causes.{Rose};

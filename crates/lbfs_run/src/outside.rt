@@ -1,4 +1,4 @@
-//! What the program works with.
+//! All that a run touches outside its own memory, as one value, so that tests give one in memory.
 
 /// The outside of the program.
 #[derive(Drop)]

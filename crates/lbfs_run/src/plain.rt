@@ -67,7 +67,7 @@ fn read_and_run<S: Source>(
     }
 }
 
-// What is written for a command.
+/// What is written for a command.
 fn output_of_one<S: Source>(
     alloc: Global,
     command: Command,

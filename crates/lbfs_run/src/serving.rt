@@ -1,5 +1,5 @@
-//! `serve`: the tree of a store, served until as many sessions as were asked for have ended. How that
-//! ends, and what is written then, states `specs/Serving.antt`.
+//! `serve`: the tree of a store, served until as many sessions as were asked for have ended.
+//! `specs/Serving.antt` states how that ends, and what is written then.
 
 ghost use Rattle.std.specs.Prelude.{◌≡◌, ◌≤◌, ◌⊎◌, IfOk};
 ghost use Rattle.lb_base.specs.Causes.{Rose};
