@@ -24,6 +24,7 @@ pub(crate) fn go(
 {
     let step = client.command(alloc, command, now);
     let (more, ended) = step.into_parts();
+    // Errors are handed on by a `match`, which is proved more cheaply than `?` (docs/PROVING.md, Code).
     match append(alloc, send, more) {
         Ok(()) => Ok(ended),
         Err(want) => {

@@ -46,6 +46,7 @@ fn begin<F: Files>(
     ensures { IfOk result (λ said. Begins (record { host = record { files = F.files files.old; faults = F.faults files.old }; client = client.old; walk = walk.old }) next place now (record { host = record { files = F.files files.new; faults = F.faults files.new }; client = client.new; walk = walk.new }) said) }
 {
     let mut send = Items::new(alloc);
+    // Errors are handed on by a `match`, which is proved more cheaply than `?` (docs/PROVING.md, Code).
     match go(alloc, client, place.opening(), now, &mut send) {
         Ok(ended) => {
             *walk = Some(next);

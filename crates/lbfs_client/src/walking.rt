@@ -83,6 +83,7 @@ fn follow<F: Files>(
 {
     let (more, ended) = step.into_parts();
     let mut send = Items::new(alloc);
+    // Errors are handed on by a `match`, which is proved more cheaply than `?` (docs/PROVING.md, Code).
     match append(alloc, &mut send, more) {
         Ok(()) => {
             let said = lead(alloc, files, client, walk, &ended, now, send);
