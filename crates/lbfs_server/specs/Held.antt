@@ -151,7 +151,7 @@ module _ {S : Type 0} (records : S → Option (List Kept)) (faults : S → ℕ) 
   After old event.Connect said new = Joined old said new
   After old (event.Got session message now) said new = Took old (event.Got session message now) said new
   After old (event.Settle now) said new = Took old (event.Settle now) said new
-  After old (event.Hang session) said new = Left old session new
+  After old (event.Hang session) said new = Left old session new × (said ≡ went.Closed)
 
   -- What a record makes that is no message: it hangs its session. An answer for which nobody waits is no event.
   abbrev pub Unheard : Held S → (session : ℕ) → WireFault → Went → Held S → Type 0

@@ -347,7 +347,7 @@ impl<S: Store + Drop> Turns for Held<S> {
     /// All that is to be said to a session, in order; nothing is left. It takes no memory.
     fn take_out(&mut self, session: u32) -> Vec<Message>
         ensures taken { (messages : List Message) → Holds self.old.boxes session messages → (result.items ≡ messages) × Holds self.new.boxes session [] }
-        ensures none { Lacks self.old.boxes session → result.items ≡ [] }
+        ensures none { Lacks self.old.boxes session → (result.items ≡ []) × Lacks self.new.boxes session }
         ensures others { KeepsOthers self.old.boxes self.new.boxes session }
         ensures kept { self.new.kept ≡ self.old.kept }
     {

@@ -1,4 +1,4 @@
-use Rattle.std.proofs.Common.{sym, subst}
+use Rattle.std.proofs.Common.{refl, sym, subst}
 use Rattle.server_core.specs.Step.{IsTimed}
 use Rattle.lbfs_server.specs.declared.held.Went.TheVariants as went
 use Rattle.lbfs_server.specs.Held.{After}
@@ -20,4 +20,4 @@ pub returns-in-Settle : goal.returns-in-Settle
 returns-in-Settle g c = subst (λ e. After g.S.Store.records g.S.Store.faults c.args.self.now e c.settle.result c.settle.new.self) (sym c.in-Settle.is) c.settle.ensures
 
 pub returns-in-Hang : goal.returns-in-Hang
-returns-in-Hang g c = subst (λ e. After g.S.Store.records g.S.Store.faults c.args.self.now e went.Closed c.hang.new.self) (sym c.in-Hang.is) c.hang.ensures
+returns-in-Hang g c = subst (λ e. After g.S.Store.records g.S.Store.faults c.args.self.now e went.Closed c.hang.new.self) (sym c.in-Hang.is) (c.hang.ensures, refl)
