@@ -1,9 +1,16 @@
 -- What a turn of a mount makes of its client: a call of `Mounted`, and one that tells it the end of the link where what was said didn't go out.
-use Rattle.std.specs.Prelude.{◌≡◌, ◌⊎◌, ℕ, List, Option, Some, None}
+use Rattle.std.specs.Prelude.{◌≡◌, ◌⊎◌, ℕ, List, Option, Some, None, Bool, false, not}
 use Rattle.record_ends.specs.declared.end.End.{End}
 use Rattle.lbfs_client.specs.Mounting.{Mount, Stops}
+use Rattle.lbfs_client.specs.declared.line.MountLine.{MountLine}
+use Rattle.lbfs_client.specs.declared.line.MountLine.TheVariants as line
 use Rattle.lbfs_client.specs.declared.said.Said.{Said}
 use Rattle.lbfs_mount.specs.Mounts.{IsAnswer}
+
+-- whether a connection is to be joined for a line
+abbrev pub wants_link : MountLine → (linked : Bool) → Bool
+wants_link line.Join linked = not linked
+wants_link l linked = false
 
 -- what is said of an operation that ended, if one did
 abbrev pub IsTold : Option (List ℕ) → Type 0

@@ -1,9 +1,9 @@
 //! What the threads of a mount share: the client, the link on which its messages go, and the line of
 //! what ended last. `specs/Turns.antt` says what a turn makes of the client.
 
-ghost use Rattle.std.specs.Prelude.{◌≡◌, ◌⊎◌, ◌==◌, IfOk, IsOk, IsTrue, true, false};
+ghost use Rattle.std.specs.Prelude.{◌≡◌, ◌⊎◌, ◌==◌, ◌+◌, ◌-◌, ◌^◌, min, IfOk, IsOk, IsTrue, true, false};
 ghost use Rattle.lbfs_client.specs.Mounting.{Runs, Receives, joined_step};
-ghost use Rattle.lbfs_mount.specs.Turns.{IsTold, Loses, Sends, Turns};
+ghost use Rattle.lbfs_mount.specs.Turns.{IsTold, Loses, Sends, Turns, wants_link};
 
 use crate::answer_line::AnswerLine;
 use crate::turns::Turns;
@@ -104,7 +104,8 @@ impl<F: Files + Drop, L: Link + Drop> Desk<F, L> {
     /// What a call of the client says is sent, and its line kept; or memory ran out.
     fn settle(&mut self, alloc: Global, said: Result<Said, AllocError>, now: u64)
         requires { IfOk said (λ s. IsTold s.line) }
-        ensures { self.new.starved ≡ false → IsOk said × Sends self.old.mounted now self.new.mounted }
+        ensures sent { self.new.starved ≡ false → IsOk said × Sends self.old.mounted now self.new.mounted }
+        ensures number { self.new.connection ≡ self.old.connection }
     {
         match said {
             Ok(said) => {
@@ -123,7 +124,8 @@ impl<F: Files + Drop, L: Link + Drop> Desk<F, L> {
 
     /// The link has ended so. Nothing more goes out on it.
     fn lose(&mut self, alloc: Global, end: End, now: u64)
-        ensures { self.new.starved ≡ false → Loses self.old.mounted end now self.new.mounted }
+        ensures lost { self.new.starved ≡ false → Loses self.old.mounted end now self.new.mounted }
+        ensures number { self.new.connection ≡ self.old.connection }
     {
         close(&mut self.link);
         match self.mounted.ended(alloc, end, now) {
@@ -160,7 +162,8 @@ impl<F: Files + Drop, L: Link + Drop> Turns for Desk<F, L> {
 
     /// A line of the script begins. It answers whether a connection is to be joined for it.
     fn run(&mut self, alloc: Global, line: MountLine, now: u64) -> bool
-        ensures { self.new.starved ≡ false → Turns (λ m said. Runs self.old.mounted line now m said) now self.new.mounted }
+        ensures turn { self.new.starved ≡ false → Turns (λ m said. Runs self.old.mounted line now m said) now self.new.mounted }
+        ensures wants { result ≡ wants_link line self.old.mounted.client.linked }
     {
         let wants = matches!(line, MountLine::Join) && !self.mounted.linked();
         let said = self.mounted.line(alloc, line, now);
@@ -171,7 +174,8 @@ impl<F: Files + Drop, L: Link + Drop> Turns for Desk<F, L> {
     /// A connection is joined, on this link. Its number is what the thread that takes its records is
     /// known by.
     fn join(&mut self, alloc: Global, link: L, now: u64) -> u64
-        ensures { self.new.starved ≡ false → Turns (λ m said. joined_step self.old.mounted ≡ (m, said)) now self.new.mounted }
+        ensures turn { self.new.starved ≡ false → Turns (λ m said. joined_step self.old.mounted ≡ (m, said)) now self.new.mounted }
+        ensures number { (result ≡ self.new.connection) × (self.new.connection ≡ min (self.old.connection + 1) (2 ^ 64 - 1)) }
     {
         close(&mut self.link);
         self.link = Some(link);

@@ -6,5 +6,5 @@ use Rattle.lbfs_mount.proofs.desk.DeskTurns.join.Goals as goal
 pub settle-requires : goal.settle-requires
 settle-requires g c = joined_all c.joined-said.result c.args.self.now.mounted c.joined-said.new.self c.joined-said.ensures
 
-pub returns : goal.returns
-returns g c = λ fed. turn c.joined-said.result (λ m said. joined_step c.args.self.now.mounted ≡ (m, said)) c.joined-said.new.self c.args.now c.settle.new.self.mounted c.joined-said.ensures (c.settle.ensures fed)
+pub returns-clause-turn : goal.returns-clause-turn
+returns-clause-turn g c = λ fed. turn c.joined-said.result (λ m said. joined_step c.args.self.now.mounted ≡ (m, said)) c.joined-said.new.self c.args.now c.settle.new.self.mounted c.joined-said.ensures (c.settle.ensures.sent fed)

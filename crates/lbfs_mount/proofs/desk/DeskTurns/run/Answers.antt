@@ -5,5 +5,5 @@ use Rattle.lbfs_mount.proofs.desk.DeskTurns.run.Goals as goal
 pub settle-requires : goal.settle-requires
 settle-requires g c = runs_all c.line-said.result c.args.self.now.mounted c.args.line c.args.now c.line-said.new.self c.line-said.ensures
 
-pub returns : goal.returns
-returns g c = λ fed. turn c.line-said.result (λ m said. Runs c.args.self.now.mounted c.args.line c.args.now m said) c.line-said.new.self c.args.now c.settle.new.self.mounted c.line-said.ensures (c.settle.ensures fed)
+pub returns-clause-turn : goal.returns-clause-turn
+returns-clause-turn g c = λ fed. turn c.line-said.result (λ m said. Runs c.args.self.now.mounted c.args.line c.args.now m said) c.line-said.new.self c.args.now c.settle.new.self.mounted c.line-said.ensures (c.settle.ensures.sent fed)
