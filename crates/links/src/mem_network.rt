@@ -185,7 +185,7 @@ impl Network for MemNetwork {
         ensures later { self.old.faults ≤ self.new.faults }
         ensures cause { OnErr result (Rose self.old.faults self.new.faults) }
         ensures fails { IsErr result ↔ Contains self.old.calls.failing self.old.calls.made }
-        ensures listens { OnOk result (self.new.listens ≡ true) }
+        ensures listens { self.new.listens ≡ (if is_err result then self.old.listens else true) }
         ensures calls { self.new.calls ≡ record self.old.calls { made = min (self.old.calls.made + 1) (2 ^ 64 - 1) } }
         ensures faults { self.new.faults ≡ (if is_err result then min (self.old.faults + 1) (2 ^ 64 - 1) else self.old.faults) }
         ensures rest { (self.new.coming ≡ self.old.coming) × (self.new.reached ≡ self.old.reached) }

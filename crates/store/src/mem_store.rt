@@ -2,7 +2,7 @@
 //! never fails. Each change looks through the records, so these are for tests and small trees.
 //! `specs/Memory.antt` states what contracts see of them.
 
-ghost use Rattle.std.specs.Prelude.{◌≡◌, ℕ, ◌+◌, ◌-◌, ◌^◌, ◌≤◌, ◌↔◌, if◌then◌else◌, List, [], min, Contains, Option, Some, Ok, IfOk, OnOk, OnErr, IsOk, IsErr, IsErrOf, IsTrue, length};
+ghost use Rattle.std.specs.Prelude.{◌≡◌, ℕ, ◌+◌, ◌-◌, ◌^◌, ◌≤◌, ◌↔◌, if◌then◌else◌, List, [], min, Contains, Option, Some, Ok, IfOk, OnOk, OnErr, IsOk, IsErr, IsErrOf, is_err, IsTrue, length};
 ghost use Rattle.std.specs.Option.{option_map};
 ghost use Rattle.lb_base.specs.Causes.{Rose};
 ghost use Rattle.store.specs.Records.{applied, places};
@@ -185,6 +185,7 @@ impl Store for MemStore {
         ensures later { self.old.faults ≤ self.new.faults }
         ensures cause { IsErrOf result errors.Failed → Rose self.old.faults self.new.faults }
         ensures fails { IsErrOf result errors.Failed ↔ Contains self.old.failing self.old.calls }
+        ensures calls { self.new.calls ≡ min (self.old.calls + 1) (2 ^ 64 - 1) }
         ensures rest { self.new ≡ record self.old { calls = self.new.calls; faults = self.new.faults } }
     {
         if self.call() {
@@ -209,6 +210,8 @@ impl Store for MemStore {
         ensures later { self.old.faults ≤ self.new.faults }
         ensures cause { OnErr result (Rose self.old.faults self.new.faults) }
         ensures fails { IsErr result ↔ Contains self.old.failing self.old.calls }
+        ensures calls { (self.new.calls ≡ min (self.old.calls + 1) (2 ^ 64 - 1)) × (self.new.failing ≡ self.old.failing) }
+        ensures faults { self.new.faults ≡ (if is_err result then min (self.old.faults + 1) (2 ^ 64 - 1) else self.old.faults) }
     {
         if self.call() {
             return Err(Failed);
