@@ -78,6 +78,22 @@ abbrev pub told_stored : State → (calls : List Pending) → (file xid : ℕ) �
 told_stored s calls file xid content st b None = unknown s xid
 told_stored s calls file xid content st b (Some c) = told_way s calls file xid content (answered st xid) c c.way b
 
+-- ---- want of memory
+
+-- an answer to a CONDWRITE takes memory only where the close goes on by it
+abbrev pub MayMissNamed : Answer Unit Unit → (wants_bytes : Bool) → Type 0
+MayMissNamed a true = Unit {0}
+MayMissNamed (Done u) false = Unit {0}
+MayMissNamed (Failed status u) false = ⊥
+
+-- and so does any answer to a call for a chunk
+abbrev pub MayMissWay : Way → Body → Type 0
+MayMissWay way.Named (body.Lb (lb.CondWriteAnswer a)) = MayMissNamed a (wants_bytes a)
+MayMissWay way.Whole (body.Lb (lb.TmpWriteAnswer (Done u))) = Unit {0}
+MayMissWay w b = ⊥
+
+-- ---- the close ends
+
 -- the file has its new content, which is kept, and is no longer open
 abbrev pub closed : State → (calls : List Pending) → (file xid version : ℕ) → (content : List ℕ) → State × ClientStep
 closed s calls file xid version content = (record (forgets s calls xid) { opened = without_local s.opened file; cache = with_content s.cache file version content }, ends (outcome.Closed file version (length content) (sha1 content)) xid 0)

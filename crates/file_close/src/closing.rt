@@ -6,7 +6,8 @@ ghost use Rattle.client_state.specs.View.{state_of, whole_of, IsHeld, IsSound, I
 ghost use Rattle.file_close.specs.Closing.{store_of};
 ghost use Rattle.client_state.specs.State.{local_at, local_bytes};
 ghost use Rattle.client_state.specs.Ending.{on_local, may_ask, MayMissOn};
-ghost use Rattle.file_close.specs.Storing.{closes, asks_temp, goes_if, goes_on, sends_whole, told_named, told_way, closed};
+ghost use Rattle.file_close.specs.Storing.{closes, asks_temp, goes_if, goes_on, sends_whole, told_named, told_way, closed, MayMissNamed, MayMissWay};
+ghost use Rattle.transfer_rules.specs.Answers.{wants_bytes};
 ghost use Rattle.client_state.specs.declared.task.Stage.TheVariants as stage;
 
 use crate::calls::Names;
@@ -214,6 +215,7 @@ fn told_named(
     ensures ok { IfOk result (λ a. told_named (state_of state.old) state.old.waiting.calls file xid (local_bytes state.old.opened.entries file) store call answer.now ≡ (state_of state.new, a)) }
     ensures done { IfOk result (λ a. a.missed ≡ false) }
     ensures err { OnErr result (whole_of state.new ≡ whole_of state.old) }
+    ensures sure { OnErr result (MayMissNamed answer.now (wants_bytes answer.now)) }
     ensures sound { OnOk result (IsSound state.new) }
     ensures held { OnErr result (IsHeld state.new) }
 {
@@ -245,6 +247,7 @@ pub fn told_chunk(
     ensures ok { IfOk result (λ a. told_way (state_of state.old) state.old.waiting.calls file xid (local_bytes state.old.opened.entries file) store call call.way body.now ≡ (state_of state.new, a)) }
     ensures done { IfOk result (λ a. a.missed ≡ false) }
     ensures err { OnErr result (whole_of state.new ≡ whole_of state.old) }
+    ensures sure { OnErr result (MayMissWay call.way body.now) }
     ensures sound { OnOk result (IsSound state.new) }
     ensures held { OnErr result (IsHeld state.new) }
 {
