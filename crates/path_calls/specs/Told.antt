@@ -109,6 +109,11 @@ plainly_told (nfs.RmDirAnswer a) = changed_by a
 plainly_told (nfs.RenameAnswer a) = changed_by a
 plainly_told _ = told.Other
 
+-- only a page of a directory takes memory, for its names
+abbrev pub MayMissTold : Nfs → Type 0
+MayMissTold (nfs.ReadDirAnswer (Done l)) = Unit {0}
+MayMissTold a = ⊥
+
 -- The answer to the walk's last call; one to another procedure is none of its answers.
 abbrev pub walk_told : Walk → Nfs → Told
 walk_told w (nfs.LookupAnswer (Done f)) = told_found w.left w.goal f

@@ -1,9 +1,9 @@
 //! What comes of an answer (`specs/Told.antt`).
 
-ghost use Rattle.std.specs.Prelude.{◌≡◌, ◌++◌, IfOk, OnOk, map};
+ghost use Rattle.std.specs.Prelude.{◌≡◌, ◌++◌, IfOk, OnOk, OnErr, map};
 ghost use Rattle.xdr_codec.specs.Handle.{file_of};
 ghost use Rattle.path_calls.specs.Walk.{arrives};
-ghost use Rattle.path_calls.specs.Told.{seen, sees, told_goal, told_found, last_cookie, lists_on, told_page, told_attr, changed_by, plainly_told, walk_told};
+ghost use Rattle.path_calls.specs.Told.{seen, sees, told_goal, told_found, last_cookie, lists_on, told_page, told_attr, changed_by, plainly_told, walk_told, MayMissTold};
 
 use crate::walk::{Goal, Pages, Walk, from_root};
 use command_text::path::Path;
@@ -199,7 +199,8 @@ fn told_change<D, F>(answer: &Answer<D, F>) -> Told
 impl Walk {
     /// What comes of the answer to its call. The one error is want of memory, for the names of a page.
     pub fn told(self, alloc: Global, answer: &Nfs) -> Result<Told, AllocError>
-        ensures { IfOk result (λ t. t ≡ walk_told self answer.now) }
+        ensures told { IfOk result (λ t. t ≡ walk_told self answer.now) }
+        ensures sure { OnErr result (MayMissTold answer.now) }
     {
         let Walk { dir, left, goal } = self;
         match answer {
