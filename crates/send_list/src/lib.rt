@@ -29,12 +29,14 @@ impl<T: Drop> Drop for SendList<T> {
 }
 
 impl<T> Model for SendList<T> {
-    ghost use Rattle.std.specs.Prelude.{List};
+    ghost use Rattle.std.specs.Prelude.{◌≡◌, List, [], None};
     ghost use Rattle.send_list.specs.Sent.{sent_list};
 
     ghost Value = { List T };
 
     ghost view = { λ s. sent_list s.first s.rest };
+
+    ghost invariant = { λ s. s.first ≡ None → s.rest ≡ [] };
 }
 
 impl<T> SendList<T> {
