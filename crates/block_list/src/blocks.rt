@@ -15,7 +15,7 @@ pub fn at(blocks: &Vec<Block>, len: usize, place: usize) -> Option<u32>
     blocks[place / BLOCK_MOST].at(place % BLOCK_MOST)
 }
 
-// Moves the last number of a block to the front of the next.
+/// Moves the last number of a block to the front of the next.
 fn move_on(blocks: &mut Vec<Block>, block: usize)
     requires next { block + 1 < length blocks.old.items }
     requires some { 0 < length (block_at blocks.old.items block) }
@@ -28,7 +28,7 @@ fn move_on(blocks: &mut Vec<Block>, block: usize)
     blocks[block + 1].push_front(number);
 }
 
-// Moves the first number of a block's next to its back.
+/// Moves the first number of a block's next to its back.
 fn move_back(blocks: &mut Vec<Block>, block: usize)
     requires next { block + 1 < length blocks.old.items }
     requires some { 0 < length (block_at blocks.old.items (block + 1)) }
@@ -41,7 +41,7 @@ fn move_back(blocks: &mut Vec<Block>, block: usize)
     blocks[block].push_back(number);
 }
 
-// Makes room for a number in a block, which is not behind the last number.
+/// Makes room for a number in a block, which is not behind the last number.
 fn open(blocks: &mut Vec<Block>, len: usize, block: usize)
     requires filled { AreFilled blocks.old.items len }
     requires room { len < 2048 * length blocks.old.items }
@@ -57,7 +57,7 @@ fn open(blocks: &mut Vec<Block>, len: usize, block: usize)
     }
 }
 
-// Fills a block that is short of a number from those behind it; so many numbers there are.
+/// Fills a block that is short of a number from those behind it; so many numbers there are.
 fn close(blocks: &mut Vec<Block>, len: usize, block: usize)
     requires hole { HaveHole blocks.old.items len block }
     ensures same { concat blocks.new.items ≡ concat blocks.old.items }
@@ -71,7 +71,7 @@ fn close(blocks: &mut Vec<Block>, len: usize, block: usize)
     }
 }
 
-// Puts a number into a block.
+/// Puts a number into a block.
 fn put(blocks: &mut Vec<Block>, block: usize, place: usize, number: u32)
     requires there { block < length blocks.old.items }
     requires within { place ≤ length (block_at blocks.old.items block) }
@@ -81,7 +81,7 @@ fn put(blocks: &mut Vec<Block>, block: usize, place: usize, number: u32)
     blocks[block].insert(place, number);
 }
 
-// Takes a number out of a block.
+/// Takes a number out of a block.
 fn take(blocks: &mut Vec<Block>, block: usize, place: usize) -> u32
     requires there { block < length blocks.old.items }
     requires within { place < length (block_at blocks.old.items block) }

@@ -1,6 +1,6 @@
 //! The list: its one public face.
 
-ghost use Rattle.std.specs.Prelude.{◌≡◌, ◌+◌, ◌<◌, ◌≤◌, [], ◌∷◌, ◌++◌, length, OnOk, OnErr, Some};
+ghost use Rattle.std.specs.Prelude.{◌≡◌, ◌+◌, ◌<◌, ◌≤◌, [], length, OnOk, OnErr, Some};
 ghost use Rattle.std.specs.List.{slice_get, insert, remove};
 
 use crate::block::{BLOCK_MOST, Block};
@@ -82,17 +82,6 @@ impl BlockList {
         self.room -= 1;
     }
 
-    /// Puts a number in at the end. The one error is want of memory, and then the numbers stay.
-    pub fn push(&mut self, number: u32) -> Result<(), AllocError>
-        ensures ok { OnOk result (self.new.items ≡ self.old.items ++ number ∷ []) }
-        ensures err { OnErr result (self.new.items ≡ self.old.items) }
-    {
-        self.reserve(1)?;
-        let end = self.len;
-        self.insert(end, number);
-        Ok(())
-    }
-
     /// Takes out the number at a place.
     pub fn remove(&mut self, place: usize) -> u32
         requires { place < length self.old.items }
@@ -118,7 +107,7 @@ impl BlockList {
         Ok(())
     }
 
-    // One more block. The one error is want of memory, and then nothing changes.
+    /// One more block. The one error is want of memory, and then nothing changes.
     fn widen(&mut self) -> Result<(), AllocError>
         ensures ok { OnOk result (self.new.room ≡ self.old.room + 2048) }
         ensures err { OnErr result (self.new.room ≡ self.old.room) }
