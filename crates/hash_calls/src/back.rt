@@ -1,5 +1,5 @@
-//! Any call of the callback program and any answer, read from a record and written to it. Which they
-//! are states `specs/Back.antt`.
+//! Any call of the callback program and any answer, read from a record and written to it.
+//! `specs/Back.antt` states which they are.
 
 ghost use Rattle.std.specs.Prelude.{◌≡◌, ◌++◌, OnOk};
 

@@ -1,5 +1,5 @@
-//! Any call of LBFS and any answer, read from a record and written to it. Which they are states
-//! `specs/Lb.antt`.
+//! Any call of LBFS and any answer, read from a record and written to it. `specs/Lb.antt` states which
+//! they are.
 
 ghost use Rattle.std.specs.Prelude.{◌≡◌, ◌++◌, OnOk};
 

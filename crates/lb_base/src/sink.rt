@@ -1,5 +1,5 @@
-//! Bytes that go out. When a fault may be answered states `specs/Causes.antt`, and what is known of
-//! bytes that were given over several calls `specs/Known.antt`.
+//! Bytes that go out. `specs/Causes.antt` states when a fault may be answered, and `specs/Known.antt`
+//! what is known of bytes that were given over several calls.
 
 ghost use Rattle.std.specs.Prelude.{◌≡◌, ℕ, ◌≤◌, ◌<◌, List, length, Option, IfOk, OnOk, OnErr, IsErrOf};
 ghost use Rattle.std.specs.Io.KnownBytes.{WriteAppends, Appends};

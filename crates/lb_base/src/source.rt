@@ -1,4 +1,4 @@
-//! Bytes that come in. When a fault may be answered states `specs/Causes.antt`.
+//! Bytes that come in. `specs/Causes.antt` states when a fault may be answered.
 
 ghost use Rattle.std.specs.Prelude.{◌≡◌, ℕ, ◌≤◌, ◌<◌, List, length, Option, Some, IfOk, OnErr, IsErrOf};
 ghost use Rattle.std.specs.Io.KnownBytes.{ReadConsumes, Consumes, IsAtEnd};

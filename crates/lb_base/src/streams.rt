@@ -1,6 +1,6 @@
 //! Sources and sinks over a reader and a writer of the standard library, as standard input and
 //! standard output. They tell of bytes what the reader and the writer tell: of the standard streams
-//! nothing. When a fault may be answered states `specs/Causes.antt`.
+//! nothing. `specs/Causes.antt` states when a fault may be answered.
 
 ghost use Rattle.std.specs.Prelude.{◌≡◌, ℕ, ◌+◌, ◌-◌, ◌^◌, ◌≤◌, ◌<◌, length, min, IfOk, OnOk, OnErr, IsErrOf};
 ghost use Rattle.std.specs.Io.KnownBytes.{ReadConsumes, WriteAppends};

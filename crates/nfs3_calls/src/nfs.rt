@@ -1,5 +1,5 @@
-//! Any call and any answer, read from a record and written to it. Which they are states
-//! `specs/Nfs.antt`.
+//! Any call and any answer, read from a record and written to it. `specs/Nfs.antt` states which they
+//! are.
 
 ghost use Rattle.std.specs.Prelude.{◌≡◌, ◌++◌, OnOk};
 

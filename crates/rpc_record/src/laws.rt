@@ -24,7 +24,7 @@ pub fn records_are_framed()
 
 /// Pieces, however they were cut, are refused exactly where a start of a record stands behind
 /// whole records in their joined bytes whose headers promise more than `RECORD_MOST` bytes, or which has
-/// a 1,025th header and promises no more than these; and those records come beside the refusal.
+/// more than `FRAGMENTS_MOST` headers and promises no more than these; and those records come beside the refusal.
 pub fn refusals_are_of_spoilt_streams()
     ensures exact { (pieces : List (List ℕ)) (why : Refusal) → IsBytes (concat pieces) → ((all_fed nothing_read pieces).spoilt ≡ Some why) ↔ Spoils (concat pieces) why }
     ensures beside { (pieces records : List (List ℕ)) (why : Refusal) → SpoiltBehind records (concat pieces) why → all_fed nothing_read pieces ≡ record { records = records; rest = []; spoilt = Some why } }

@@ -33,15 +33,11 @@ pub fn mark(alloc: Global, contents: &[u8]) -> Result<Bytes, MarkError>
     ensures too_big { RECORD_MOST < length contents.now → result ≡ Err (errors.TooBig (length contents.now)) }
     ensures fits { length contents.now ≤ RECORD_MOST → MatchResult result (λ bytes. bytes ≡ marked contents.now) (λ e. e ≡ errors.Memory) }
 {
-    match header_of(contents.len()) {
-        Ok(header) => {
-            let mut bytes = Vec::with_capacity(alloc, 4 + contents.len())?;
-            bytes.extend_from_slice(&header)?;
-            bytes.extend_from_slice(contents)?;
-            Ok(Items::from_vec(bytes))
-        }
-        Err(refused) => Err(refused),
-    }
+    let header = header_of(contents.len())?;
+    let mut bytes = Vec::with_capacity(alloc, 4 + contents.len())?;
+    bytes.extend_from_slice(&header)?;
+    bytes.extend_from_slice(contents)?;
+    Ok(Items::from_vec(bytes))
 }
 
 /// Writes a record's header over the first four bytes, which stand before its own: so a record that
@@ -53,14 +49,10 @@ pub fn mark_in_place(bytes: &mut [u8]) -> Result<(), MarkError>
     ensures too_big { RECORD_MOST < length bytes.old - 4 → (result ≡ Err (errors.TooBig (length bytes.old - 4))) × (bytes.new ≡ bytes.old) }
     ensures fits { length bytes.old - 4 ≤ RECORD_MOST → (result ≡ Ok tt) × (bytes.new ≡ marked (drop 4 bytes.old)) }
 {
-    match header_of(bytes.len() - 4) {
-        Ok(header) => {
-            bytes[0] = header[0];
-            bytes[1] = header[1];
-            bytes[2] = header[2];
-            bytes[3] = header[3];
-            Ok(())
-        }
-        Err(refused) => Err(refused),
-    }
+    let header = header_of(bytes.len() - 4)?;
+    bytes[0] = header[0];
+    bytes[1] = header[1];
+    bytes[2] = header[2];
+    bytes[3] = header[3];
+    Ok(())
 }

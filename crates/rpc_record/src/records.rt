@@ -116,8 +116,8 @@ fn take_off(alloc: Global, bytes: &mut Vec<u8>, known: Progress) -> Result<Cut, 
     Ok(cut)
 }
 
-/// One end of a stream of records. A record has at most `RECORD_MOST` bytes, in at most `FRAGMENTS_MOST` fragments;
-/// fragments of no bytes are taken, and count.
+/// One end of a stream of records. A record has at most `RECORD_MOST` bytes, in at most `FRAGMENTS_MOST`
+/// fragments; fragments of no bytes are taken, and count.
 pub struct Records {
     rest: Vec<u8>,
     known: Progress,

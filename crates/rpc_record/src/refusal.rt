@@ -16,7 +16,8 @@ pub enum Refusal {
         /// How many the headers promise, with the one that passes the limit.
         len: usize,
     },
-    /// A record has a 1,025th fragment, whose header doesn't promise too many bytes as well.
+    /// A record has more than `FRAGMENTS_MOST` fragments, and the header of the first that is too many
+    /// doesn't promise too many bytes as well.
     TooManyFragments,
 }
 

@@ -1,5 +1,5 @@
-//! Items of any type. What a form is states `specs/Format.antt`; of items that may be there, are
-//! counted or chained `specs/Choice.antt`, `specs/Repeat.antt` and `specs/Chain.antt`.
+//! Items of any type. `specs/Format.antt` states what a form is; `specs/Choice.antt`, `specs/Repeat.antt`
+//! and `specs/Chain.antt` have those of items that may be there, are counted, or chained.
 
 ghost use Rattle.std.specs.Prelude.{◌≡◌, ℕ, OnOk, OnErr, ◌++◌, All, length, ◌<◌, ◌≤◌, ◌^◌, IfSome};
 ghost use Rattle.std.specs.List.{flat_map};
