@@ -1,7 +1,6 @@
 //! What a step of the client leads to: `specs/Mounting.antt`, over the fields of a mounted client.
 
 ghost use Rattle.std.specs.Prelude.{◌≡◌, IfOk, Some, None};
-ghost use Rattle.wire.specs.Parse.{parse_of};
 ghost use Rattle.client_state.specs.Ending.{cut};
 ghost use Rattle.lbfs_client.specs.Mounting.{Walks, Leads, Hearing, Receives, Loses, Stops};
 
@@ -16,9 +15,9 @@ use open_close::client::Client;
 use record_ends::end::End;
 use send_list::append;
 use std::alloc::{AllocError, Global};
-use wire::fault::{WireErr, WireFault};
-use wire::message::{Message, Waiting};
-use wire::parse::parse;
+use wire::fault::WireFault;
+use wire::message::Message;
+use wire::parse::message_of;
 
 /// An operation of the client has ended so, and this is what the line under way has left to do.
 fn walk_with<F: Files>(
@@ -110,21 +109,6 @@ fn hear<F: Files>(
 {
     let step = client.got(alloc, message, now);
     follow(alloc, files, client, walk, step, now)
-}
-
-/// The message that a record is, or why it is none.
-fn message_of(
-    alloc: Global,
-    bytes: &[u8],
-    expected: &Waiting,
-) -> Result<Result<Message, WireFault>, AllocError>
-    ensures { IfOk result (λ message. message ≡ parse_of expected.now bytes.now) }
-{
-    match parse(alloc, bytes, expected) {
-        Ok(message) => Ok(Ok(message)),
-        Err(WireErr::Fault(fault)) => Ok(Err(fault)),
-        Err(WireErr::Memory) => Err(AllocError),
-    }
 }
 
 /// A record came.

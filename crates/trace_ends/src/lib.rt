@@ -17,7 +17,6 @@ mod hearing;
 mod joining;
 pub mod ops;
 mod outbox;
-pub mod parsing;
 pub mod places;
 pub mod seat;
 pub mod sending;

@@ -11,7 +11,6 @@ ghost use Rattle.trace_ends.specs.Session.{new_seat};
 ghost use Rattle.trace_ends.specs.Ops.{place_after, place_with};
 
 use crate::adjusting::Change;
-use crate::parsing::parse_record;
 use crate::places::{place_after, place_with};
 use client_state::step::ClientStep;
 use command_text::command::Command;
@@ -19,6 +18,7 @@ use open_close::client::Client;
 use session_rules::running::Runs;
 use std::alloc::{AllocError, Global};
 use std::marker::Model;
+use wire::parse::message_of;
 
 /// A client, which may have joined or not.
 pub struct Seat {
@@ -126,7 +126,7 @@ impl Seat {
         ensures acts { IfOk result (λ acts. (got_step self.old.client (parse_of (waiting_of self.old.client) bytes.now) now).1 ≡ acts) }
         ensures seat { IfOk result (λ acts. self.new ≡ record self.old { client = (got_step self.old.client (parse_of (waiting_of self.old.client) bytes.now) now).0; place = place_after self.old.place acts.ended }) }
     {
-        let said = parse_record(alloc, bytes, self.client.waiting())?;
+        let said = message_of(alloc, bytes, self.client.waiting())?;
         let acts = self.client.got(alloc, said, now);
         if acts.missed {
             return Err(AllocError);

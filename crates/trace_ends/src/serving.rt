@@ -8,7 +8,6 @@ ghost use Rattle.trace_ends.specs.View.{core_of, core_step_of};
 
 use crate::core_step::CoreStep;
 use crate::entering::{changed_by, enter};
-use crate::parsing::parse_record;
 use crate::session::{remember, short_number};
 use crate::world_core::{Core, count_on};
 use lb_base::items::Items;
@@ -17,6 +16,7 @@ use session_rules::numbers::place_of;
 use session_rules::pointing::point_at;
 use std::alloc::{AllocError, Global};
 use wire::message::{Message, Side, Waiting};
+use wire::parse::message_of;
 
 /// The server asks for nothing, so nothing waits there.
 fn server_waiting(alloc: Global) -> Waiting
@@ -39,8 +39,8 @@ fn note(core: &mut Core, place: usize, message: &Message) -> Result<(), AllocErr
     Ok(())
 }
 
-/// The operation of this session that changed a file has its point at this step, and so many entries
-/// of the journal as were made in it have this step.
+/// The operation of this session that changed a file has its point at this step, and the last `made`
+/// entries of the journal have this step.
 fn enter_at(core: &mut Core, place: usize, made: u32) -> Result<(), AllocError>
     requires { place < length core.old.sessions.items }
     ensures { OnOk result (IfSome (slice_get core.old.sessions.items place) (λ x. core_of core.new ≡ record (core_of core.old) { ops = pointed_at core.old.ops.items x.closing core.old.steps (changed_file (newest_entries core.old.server.journal made)); entries = core.old.entries.items ++ replicate made core.old.steps })) }
@@ -109,7 +109,7 @@ fn serves_at(
     requires now { now < 2 ^ 63 }
     ensures { IfOk result (λ t. core_step_of core.new t ≡ serves (core_of core.old) (place + 1) now bytes.now (slice_get core.old.sessions.items place)) }
 {
-    let said = parse_record(alloc, bytes, &server_waiting(alloc))?;
+    let said = message_of(alloc, bytes, &server_waiting(alloc))?;
     match said {
         Ok(message) => got(alloc, core, place, now, message),
         Err(_fault) => {

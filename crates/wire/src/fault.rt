@@ -1,4 +1,4 @@
-//! Why a record is no message, and where. Which fault it is says `parse_of` of `specs/Parse.antt`.
+//! Why a record is no message, and where. `parse_of` of `specs/Parse.antt` says which fault it is.
 
 ghost use Rattle.std.specs.Prelude.{◌≡◌};
 ghost use Rattle.wire.specs.Parse.{fault_at, not_rpc, garbage};

@@ -1,4 +1,5 @@
-//! Messages: a record to a message, and a message to its record.
+//! RPC records of NFS, LBFS and the callback program as typed messages, both ways, and the order in
+//! which a record is refused.
 #![tactic(auto)]
 
 pub mod fault;

@@ -1,7 +1,7 @@
 //! Which message a record is. `specs/Parse.antt` states it as it is tested, and
 //! `specs/Refused.antt` by what stands in the record.
 
-ghost use Rattle.std.specs.Prelude.{◌≡◌, Ok, None};
+ghost use Rattle.std.specs.Prelude.{◌≡◌, Ok, None, IfOk};
 ghost use Rattle.wire.specs.Parse.{IsParsed, parse_of, parse_call, parse_call_body, parse_reply, replied, with_args, called, versioned, refusal_of, waiting};
 ghost use Rattle.wire.specs.Message.{args_of, result_of};
 ghost use Rattle.xdr_codec.specs.Format.{GivesAll, whole_at};
@@ -14,7 +14,7 @@ use crate::message::{
 use hash_calls::message::{BackProc, LbProc};
 use nfs3_calls::message::NfsProc;
 use rpc_record::header::{Accept, CallHead, Denial, Direction, Front, ReplyHead};
-use std::alloc::Global;
+use std::alloc::{AllocError, Global};
 use xdr_codec::fault::ReadError;
 use xdr_codec::item::Item;
 use xdr_codec::program::{read_args, read_results};
@@ -41,6 +41,22 @@ pub fn parse(alloc: Global, bytes: &[u8], expected: &Waiting) -> Result<Message,
                 reply(alloc, front.xid, program, &mut reader)
             }
         },
+    }
+}
+
+/// The message that a record is, or what is wrong with it, as `parse` says; the one error is want of
+/// memory.
+pub fn message_of(
+    alloc: Global,
+    bytes: &[u8],
+    expected: &Waiting,
+) -> Result<Result<Message, WireFault>, AllocError>
+    ensures told { IfOk result (λ message. message ≡ parse_of expected.now bytes.now) }
+{
+    match parse(alloc, bytes, expected) {
+        Ok(message) => Ok(Ok(message)),
+        Err(WireErr::Fault(fault)) => Ok(Err(fault)),
+        Err(WireErr::Memory) => Err(AllocError),
     }
 }
 

@@ -62,10 +62,8 @@ pub fn spell_marked(alloc: Global, message: &Message) -> Result<Bytes, MarkError
     ensures refused { IfErr result (λ e. length (message_spell message.now) ≤ RECORD_MOST → e ≡ mark_errors.Memory) }
 {
     let mut bytes = spell_behind(alloc, message)?;
-    match mark_in_place(&mut bytes) {
-        Ok(()) => Ok(Bytes::from_vec(bytes)),
-        Err(refused) => Err(refused),
-    }
+    mark_in_place(&mut bytes)?;
+    Ok(Bytes::from_vec(bytes))
 }
 
 fn put(alloc: Global, writer: &mut Writer, message: &Message) -> Result<(), AllocError>
