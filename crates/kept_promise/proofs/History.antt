@@ -7,12 +7,12 @@ use Rattle.register_model.specs.declared.op.Word.TheVariants as words
 use Rattle.trace_replay.specs.Book.{first_version}
 use Rattle.tree_reading.specs.declared.entry.EntryKind.{EntryKind}
 use Rattle.register_model.specs.Register.{IsFit}
-use Rattle.trace_replay.specs.Faithful.{IsKind, HasJournal, left_by as left_of}
+use Rattle.trace_replay.specs.Faithful.{IsKind, Tells, HasJournal, left_by as left_of}
 use Rattle.trace_ends.specs.Core.{is_of_file}
 use Rattle.kept_promise.proofs.Common.{slice_get, slice_set, not, is_some, sha1, Entry, changes, changed_before, value_from, is_lost, is_untold, content_of, Op, Word, Book, Or, value_at, version_at, is_running, unwrap_or}
 use Rattle.kept_promise.proofs.Lists.{some_is, nothing_there, within, in_front, of_more, more_there, of_replicate, replicate_there, of_appended, kept_appended, of_replaced, at_replaced, else_replaced, true_and_false}
 use Rattle.kept_promise.proofs.Marks.{marks, mark_of, left_by, ArePast, unpointed, unchanging, made_before, marks_appended, marks_neither, marks_same, marks_before, marks_elsewhere, marks_later, marks_made, all_below, inserted_count, inserted_latest}
-use Rattle.kept_promise.proofs.Rights.{Tells, kind_changes, gets_file, is_remote, Caused, IsRight, IsSound, IsUnmade, IsFitted}
+use Rattle.kept_promise.proofs.Rights.{kind_changes, gets_file, is_remote, Caused, IsRight, IsSound, IsUnmade, IsFitted}
 use Rattle.kept_promise.proofs.Growth.{Follows, follows_same, Grows, or_later, value_seen, version_seen, version_later, right_later, fitted_later, value_later}
 
 -- so many steps later, with these operations

@@ -133,10 +133,6 @@ pub record IsHeld (moments : List Moment) (f : ℕ) (g : File) : Type 0 where
 abbrev pub AreAlike : List Moment → Type 0
 AreAlike moments = (f : ℕ) (g h : File) → IsHeld moments f g → IsHeld moments f h → g.version ≡ h.version → g.content ≡ h.content
 
--- an entry of this step, about a file, is that of a change at its point, of its file, with what that left of it, in the version after the file's before
-abbrev pub Tells : Book → (step : ℕ) → Entry → Type 0
-Tells book p e = (k : ℕ) × (o : Op) × (slice_get book.ops k ≡ Some o) × IsKind o.word e.kind × (o.point ≡ Some p) × (o.file ≡ e.file) × (length (left_by o) ≡ e.len) × Or book (sha1 (left_by o) ≡ e.sha1) × (e.version ≡ version_at book e.file p + 1)
-
 pub kind_changes : (w : Word) (k : EntryKind) → IsKind w k → changes w ≡ true
 kind_changes words.Close k h = refl
 kind_changes words.Make k h = refl

@@ -87,6 +87,8 @@ holds_messages P fits all past w h number q at =
       down = record { sound = c.down_sound; read = downs x.0 m s x.0.cut refl; bytes = c.down };
       answered = answers x.0 m s x.0.cut refl;
       once = λ i j a b one two same. let t = of_told m.downs i a one in let u = of_told m.downs j b two in once x.0 m s x.0.cut refl i j t.0 u.0 t.1 u.1 (t.2 ∙ same ∙ sym u.2);
+      lost = λ hung. ap (map ask_message) (s.lost hung);
+      shut = λ cut. ap (map told_message) (s.shut cut);
     }
   where
     -- a session that was cut has nothing on its way down

@@ -161,14 +161,18 @@ abbrev pub left_by : Op → List ℕ
 left_by o = unwrap_or (value_from o.word o.value) []
 
 -- the changes of files in the server's journal are those of the operations that have a point as a change, one for one and in order
+-- An entry of this step tells a change: that of an operation whose point it is, of its file, with what that left of it, in the version after that
+-- of the file before.
+abbrev pub Tells : Book → (step : ℕ) → Entry → Type 0
+Tells book p e = (k : ℕ) × (o : Op) × (slice_get book.ops k ≡ Some o) × IsKind o.word e.kind × (o.point ≡ Some p) × (o.file ≡ e.file) × (length (left_by o) ≡ e.len) × Or book (sha1 (left_by o) ≡ e.sha1) × (e.version ≡ version_at book e.file p + 1)
+
 pub record HasJournal (book : Book) : Type 0 where
   -- each entry has its step, and the steps rise; of the entries of one step one at most is of a file
   pub count : length book.entries ≡ length book.journal
   pub rising : (i j p q : ℕ) → i < j → slice_get book.entries i ≡ Some p → slice_get book.entries j ≡ Some q → p ≤ q
   pub apart : (i j p q : ℕ) (d e : Entry) → i < j → slice_get book.entries i ≡ Some p → slice_get book.entries j ≡ Some q → slice_get book.journal i ≡ Some d → slice_get book.journal j ≡ Some e → is_of_file d.kind ≡ true → is_of_file e.kind ≡ true → p < q
-  -- each of a file was made at the point of an operation, of its file, with what that left of it, in the version after that of the file before
-  pub made : (i p : ℕ) (e : Entry) → slice_get book.entries i ≡ Some p → slice_get book.journal i ≡ Some e → is_of_file e.kind ≡ true
-      → (k : ℕ) × (o : Op) × (slice_get book.ops k ≡ Some o) × IsKind o.word e.kind × (o.point ≡ Some p) × (o.file ≡ e.file) × (length (left_by o) ≡ e.len) × Or book (sha1 (left_by o) ≡ e.sha1) × (e.version ≡ version_at book e.file p + 1)
+  -- each of a file tells the change of one
+  pub made : (i p : ℕ) (e : Entry) → slice_get book.entries i ≡ Some p → slice_get book.journal i ≡ Some e → is_of_file e.kind ≡ true → Tells book p e
   -- and each operation that has a point as a change made one
   pub only : (k p : ℕ) (o : Op) → slice_get book.ops k ≡ Some o → changes o.word ≡ true → o.point ≡ Some p → (i : ℕ) × (e : Entry) × (slice_get book.entries i ≡ Some p) × (slice_get book.journal i ≡ Some e) × (is_of_file e.kind ≡ true)
   -- which no other operation made: none has the same point

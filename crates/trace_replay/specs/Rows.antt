@@ -311,7 +311,7 @@ pub whose_index : map (λ lines. refused_of (codes "2") lines) (codes "forge 3 8
 unfolding record_of digits
 whose_index = refl
 
--- limits that no trace comes to yet: the bytes of all files together, at their edge and past it
+-- a limit that no trace of a file of examples comes to: the bytes of all files together, at their edge and past it
 abbrev full : World
 full = record start { stage = stage.Files; size = 1073741823 }
 

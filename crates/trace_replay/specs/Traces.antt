@@ -133,7 +133,8 @@ pub record AreOfMessages (waiting : Waiting) (end : Unread) (queue : List ℕ) (
   pub bytes : end.rest ++ queue ≡ bytes_of ms
 
 -- So it is at both ends of a session. Up come calls that the server does, and down answers to calls that the session's owner waits for, each
--- to another; nor do two calls have one number, while the owner does not see the session lost.
+-- to another; nor do two calls have one number, while the owner does not see the session lost. Nothing comes up once the server has seen it
+-- lost, and nothing down once its owner has.
 pub record HoldsQueues (w : World) (number : ℕ) (q : Wire) : Type 0 where
   pub session : Session
   pub seat : Seat
@@ -147,6 +148,8 @@ pub record HoldsQueues (w : World) (number : ℕ) (q : Wire) : Type 0 where
   pub down : AreOfMessages (waiting_of seat.client) q.client_end q.down downs
   pub answered : All (IsAnswered (calls_of seat.client)) downs
   pub once : (i j : ℕ) (a b : Message) → slice_get downs i ≡ Some a → slice_get downs j ≡ Some b → xid_of a ≡ xid_of b → i ≡ j
+  pub lost : session.hung ≡ true → ups ≡ []
+  pub shut : session.cut ≡ true → downs ≡ []
 
 abbrev pub HoldsMessages : World → Type 0
 HoldsMessages w = (number : ℕ) (q : Wire) → numbered w.wires number ≡ Some q → HoldsQueues w number q

@@ -1,5 +1,5 @@
 -- Worked traces: which events and commands their lines tell, how their steps and the calls of a connection count, which numbers calls have, which messages
--- begin an attempt, what attempts read, what a close sends whole, and which close has a value.
+-- begin an attempt, what attempts read and which versions they met, what a close names and sends whole, and which close has a value.
 use Rattle.std.specs.Prelude.{◌≡◌, ℕ, ◌<◌, List, [], ◌∷◌, ◌++◌, map, Bool, true, false, Some, codes, refl}
 use Rattle.std.proofs.Common.{arith, ap}
 use Rattle.chunk_cut.specs.declared.chunk.Chunk.{Chunk}
@@ -9,6 +9,9 @@ use Rattle.rpc_record.specs.Records.{record_of}
 use Rattle.client_cache.specs.Cache.{fronted}
 use Rattle.xdr_codec.specs.declared.answer.Answer.TheVariants.{Done, Failed}
 use Rattle.xdr_codec.specs.declared.status.Status.TheVariants as status
+use Rattle.xdr_codec.specs.declared.attr.Attr.{Attr}
+use Rattle.xdr_codec.specs.declared.attr.Kind.TheVariants as kind
+use Rattle.nfs3_calls.specs.declared.message.Nfs.TheVariants as nfs
 use Rattle.hash_calls.specs.declared.message.Lb.TheVariants as lb
 use Rattle.wire.specs.declared.message.Body.TheVariants as body
 use Rattle.wire.specs.declared.message.Message.TheVariants as message
@@ -22,7 +25,7 @@ use Rattle.trace_ends.specs.Ops.{begun}
 use Rattle.trace_ends.specs.Core.{Core, happens, Event.Joins, Event.Does, Event.Settles, Event.Cuts, Event.Hangs}
 use Rattle.trace_ends.specs.Session.{new_seat}
 use Rattle.trace_replay.specs.Trail.{Deed, Said, moments, deeds_of, commands_of, events_of, AreCounted}
-use Rattle.trace_replay.specs.Traffic.{Deal, Deal.Took, Deal.Found, Deal.Sent, attempts_of}
+use Rattle.trace_replay.specs.Traffic.{Deal, Deal.Took, Deal.Found, Deal.Sent, attempts_of, attempts_in, named_in}
 use Rattle.trace_replay.specs.Fetches.{fetches_in, no_fetch, chosen, ReachesFirst, EachReaches}
 use Rattle.trace_replay.specs.Owing.{owes_nothing, Pays, PaysAll}
 use Rattle.trace_replay.specs.Numbered.{numbers_of, CountOn}
@@ -134,6 +137,41 @@ read_again_is_not h = by h.given h.found h.reads
     by [] found reads = let e = ap start found in absurd (omega (arith, e))
     by (true ∷ bs) found reads = let e = ap start reads in let b = behind false bs in absurd (omega (arith, e, b))
     by (false ∷ bs) found reads = let e = ap start found in let b = behind true bs in absurd (omega (arith, e, b))
+
+-- ---- attempts that met another version
+
+abbrev told_version : (xid version : ℕ) → Deal
+told_version xid version = Took (message.Answer xid (body.Lb (lb.GetHashAnswer (Done (record { version = version; term = 0; size = 5000; pairs = []; eof = false })))))
+
+abbrev shown_by : (version : ℕ) → Attr
+shown_by version = record { kind = kind.File; mode = 420; nlink = 1; uid = 0; gid = 0; size = 5000; used = 0; rdev_major = 0; rdev_minor = 0; fsid = 0; fileid = 2; atime = record { seconds = 0; nanoseconds = 0 }; mtime = record { seconds = 0; nanoseconds = version }; ctime = record { seconds = 0; nanoseconds = 0 } }
+
+abbrev read_shows : (xid version : ℕ) → Deal
+read_shows xid version = Took (message.Answer xid (body.Nfs (nfs.ReadAnswer (Done (record { attr = Some (shown_by version); count = 0; eof = true; bytes = [] })))))
+
+-- the first attempt met version 5 by a further piece, the second one version 6 by a READ's attributes, and the third was told no other yet
+abbrev given_up_twice : List Deal
+given_up_twice =
+    Sent (hash_call 1 2 0)
+    ∷ told_version 1 4
+    ∷ Sent (hash_call 2 2 4096)
+    ∷ told_version 2 5
+    ∷ Sent (hash_call 3 2 0)
+    ∷ told_version 3 5
+    ∷ Sent (read_call 4 2 one)
+    ∷ read_shows 4 6
+    ∷ Sent (hash_call 5 2 0)
+    ∷ told_version 5 6
+    ∷ []
+
+pub attempts_met : attempts_in given_up_twice ≡ record { last = Some (record { told = Some 6; met = None }); failed = record { told = Some 4; met = Some 5 } ∷ record { told = Some 5; met = Some 6 } ∷ [] }
+attempts_met = refl
+
+-- ---- what a close names
+
+-- CONDWRITEs name chunks, in order, and TMPWRITEs none
+pub chunks_named : named_in (Sent (cond_call 3 1 one) ∷ Sent (cond_call 4 1 other) ∷ Sent (temp_call 5 1 [] other) ∷ []) ≡ one ∷ other ∷ []
+chunks_named = refl
 
 -- ---- what a close sends whole
 

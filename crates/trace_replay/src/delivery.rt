@@ -87,7 +87,7 @@ impl WorldState {
         self.down_some(alloc, session, Amount::All, at)
     }
 
-    /// So many rounds of a session, or as many as anything is on its way before.
+    /// Rounds of a session, `count` at most, while anything is on its way.
     pub fn passes(
         &mut self,
         alloc: Global,

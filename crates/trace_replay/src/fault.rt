@@ -24,6 +24,13 @@ pub enum TraceErr {
     Memory,
 }
 
+/// The refusal of the line of this number.
+pub fn refused(line: u64, fault: LineFault) -> TraceErr
+    ensures { result ≡ errors.Refused (record { line = line; fault = fault }) }
+{
+    TraceErr::Refused(Refused { line, fault })
+}
+
 impl From<AllocError> for TraceErr {
     ghost from_gives = { λ _ e. e ≡ errors.Memory };
 

@@ -2,14 +2,11 @@
 
 ghost use Rattle.std.specs.Prelude.{◌≡◌, ◌<◌, ◌^◌};
 ghost use Rattle.command_text.specs.Parts.{lines_of};
-ghost use Rattle.trace_text.specs.declared.refusal.LineFault.TheVariants.{Grammar};
-ghost use Rattle.trace_replay.specs.Run.{refused};
 ghost use Rattle.trace_replay.specs.Timed.{accepted};
 ghost use Rattle.trace_replay.specs.Lines.{applied_from, AreApplied, ComesTo};
 ghost use Rattle.trace_replay.specs.Traces.{Gives};
-ghost use Rattle.trace_replay.specs.declared.fault.TraceErr.TheVariants as errors;
 
-use crate::fault::{Refused, TraceErr};
+use crate::fault::{TraceErr, refused};
 use crate::world::World;
 use command_text::line_err::LineErr;
 use command_text::parts::first_line;
@@ -17,16 +14,6 @@ use register_model::history::History;
 use std::alloc::Global;
 use trace_text::line::Line;
 use trace_text::refusal::LineFault;
-
-/// The refusal of a line outside the grammar.
-fn bad_line(line: u64) -> TraceErr
-    ensures { result ≡ errors.Refused (refused line Grammar) }
-{
-    TraceErr::Refused(Refused {
-        line,
-        fault: LineFault::Grammar,
-    })
-}
 
 /// Runs the lines of a text, of which the first has this number, and gives the number of the line
 /// behind them. `Refused`: the first line that is outside the grammar, out of place, past a limit, or
@@ -40,7 +27,7 @@ pub fn run_lines(alloc: Global, world: &mut World, first: u64, text: &[u8]) -> R
     'lines: while let Some((line, left)) = first_line(rest) {
         let line = match Line::read(alloc, line) {
             Ok(line) => line,
-            Err(LineErr::BadLine) => return Err(bad_line(number)),
+            Err(LineErr::BadLine) => return Err(refused(number, LineFault::Grammar)),
             Err(LineErr::Memory) => return Err(TraceErr::Memory),
         };
         world.apply(alloc, number, line)?;
@@ -59,7 +46,7 @@ pub fn run(alloc: Global, input: &[u8]) -> Result<World, TraceErr>
     let mut world = World::new(alloc)?;
     let next = run_lines(alloc, &mut world, 1, input)?;
     if world.in_header() {
-        return Err(bad_line(next));
+        return Err(refused(next, LineFault::Grammar));
     }
     Ok(world)
 }

@@ -113,23 +113,11 @@ fn header_asks(stage: Stage, line: &Line) -> Result<Turn, LineFault>
     requires { in_header stage ≡ true }
     ensures { (w : World) → result ≡ asks_at w stage line.now }
 {
-    match stage {
-        Stage::Version => match line {
-            Line::Version => Ok(Turn::At(Stage::Term)),
-            _ => Err(LineFault::Grammar),
-        },
-        Stage::Term => match line {
-            Line::Term(_) => Ok(Turn::At(Stage::Drift)),
-            _ => Err(LineFault::Grammar),
-        },
-        Stage::Drift => match line {
-            Line::Drift(_) => Ok(Turn::At(Stage::Clients)),
-            _ => Err(LineFault::Grammar),
-        },
-        Stage::Clients => match line {
-            Line::Clients(count) => Ok(Turn::Clients(*count)),
-            _ => Err(LineFault::Grammar),
-        },
+    match (stage, line) {
+        (Stage::Version, Line::Version) => Ok(Turn::At(Stage::Term)),
+        (Stage::Term, Line::Term(_)) => Ok(Turn::At(Stage::Drift)),
+        (Stage::Drift, Line::Drift(_)) => Ok(Turn::At(Stage::Clients)),
+        (Stage::Clients, Line::Clients(count)) => Ok(Turn::Clients(*count)),
         _ => Err(LineFault::Grammar),
     }
 }

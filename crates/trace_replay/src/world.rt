@@ -7,9 +7,8 @@ ghost use Rattle.trace_replay.specs.Timed.{timed_start, timed_asked};
 ghost use Rattle.trace_replay.specs.World.{history_of};
 ghost use Rattle.trace_replay.specs.Run.{in_header};
 ghost use Rattle.trace_replay.specs.Turns.{IsApplied, IsRefused};
-ghost use Rattle.trace_replay.specs.declared.fault.TraceErr.TheVariants as errors;
 
-use crate::fault::{Refused, TraceErr};
+use crate::fault::{TraceErr, refused};
 use crate::stage::Stage;
 use crate::state::WorldState;
 use crate::timing::{Times, timing_of};
@@ -45,13 +44,6 @@ impl Model for World {
     ghost use Rattle.trace_replay.specs.WorldView.{world_of, timed_of};
 
     ghost view = { λ w. timed_of w.state w.times };
-}
-
-/// A line that is refused.
-fn refused(line: u64, fault: LineFault) -> TraceErr
-    ensures { result ≡ errors.Refused (record { line = line; fault = fault }) }
-{
-    TraceErr::Refused(Refused { line, fault })
 }
 
 impl World {
