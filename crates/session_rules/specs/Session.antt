@@ -2,8 +2,8 @@
 use Rattle.std.specs.Prelude.{ℕ, List, [], Option, None, Bool, false}
 use Rattle.session_rules.specs.declared.taken_call.TakenCall.{TakenCall}
 
--- what is kept of a session beside the bytes on their way: its client, the calls of the operation under way that the server took, the
--- place of the last operation that sent calls on it and may change a file, and whether an end saw the connection lost
+-- what is kept of a session beside the bytes on their way: its client, the calls that the server took since the last operation began that
+-- sent some, the place of the last operation that sent calls on it and may change a file, and whether an end saw the connection lost
 pub record Session : Type 0 where
   pub owner : ℕ
   pub taken : List TakenCall

@@ -12,7 +12,7 @@ use std::marker::Model;
 pub struct Session {
     /// The number of its client.
     pub owner: u64,
-    /// The calls of the operation under way that the server took.
+    /// The calls that the server took since the last operation began that sent some.
     pub taken: Vec<TakenCall>,
     /// The place of the last operation that sent calls on it and may change a file.
     pub closing: Option<usize>,
