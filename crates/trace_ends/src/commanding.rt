@@ -33,13 +33,11 @@ fn command_session(
 )
     ensures { sessions.new.items ≡ commanded_sessions sessions.old.items session (session_of sessions.old.items session) running place word acts.now }
 {
-    let number = match session {
-        Some(number) => number,
-        None => return,
+    let Some(number) = session else {
+        return;
     };
-    match place_of(sessions.len(), u64::from(number)) {
-        Some(at) => commanded(&mut sessions[at], running, place, word, acts),
-        None => (),
+    if let Some(at) = place_of(sessions.len(), u64::from(number)) {
+        commanded(&mut sessions[at], running, place, word, acts);
     }
 }
 

@@ -33,13 +33,11 @@ fn loss_down(session: Option<u32>) -> Loss
 fn cut_session(sessions: &mut Vec<Session>, session: Option<u32>)
     ensures { sessions.new.items ≡ cut_session sessions.old.items session (session_of sessions.old.items session) }
 {
-    let number = match session {
-        Some(number) => number,
-        None => return,
+    let Some(number) = session else {
+        return;
     };
-    match place_of(sessions.len(), u64::from(number)) {
-        Some(place) => sessions[place].cut = true,
-        None => (),
+    if let Some(place) = place_of(sessions.len(), u64::from(number)) {
+        sessions[place].cut = true;
     }
 }
 

@@ -39,14 +39,14 @@ fn entries_from(entries: &[Entry], place: usize) -> &[Entry]
     }
 }
 
-/// The newest entries, so many.
+/// The last `made` entries.
 fn newest_entries(entries: &[Entry], made: u32) -> &[Entry]
     ensures { result.now ≡ newest_entries entries.now made }
 {
     entries_from(entries, entries.len().saturating_sub(made as usize))
 }
 
-/// The first file whose content the newest entries, so many, are about.
+/// The first file whose content the last `made` entries are about.
 pub fn changed_by(entries: &[Entry], made: u32) -> Option<u64>
     ensures { result ≡ changed_file (newest_entries entries.now made) }
 {

@@ -14,8 +14,8 @@ use session_rules::pointing::settle_session;
 use std::alloc::{AllocError, Global};
 
 impl Core {
-    /// The server makes the first change that waits, if there is one that can be made, in a step at
-    /// a reading of its clock in milliseconds.
+    /// The server makes the change that came first of those that wait, if one waits, in a step at a
+    /// reading of its clock in milliseconds.
     pub fn settles(&mut self, alloc: Global, now: u64) -> Result<CoreStep, AllocError>
         requires { now < 2 ^ 63 }
         ensures { IfOk result (λ t. core_step_of self.new t ≡ happens (core_of self.old) (Settles now)) }
@@ -27,12 +27,9 @@ impl Core {
             let_go_step(step);
             return Err(AllocError);
         }
-        match step.told {
-            Told::Settled { session, .. } => {
-                let changed = changed_by(self.server.journal(), step.entries);
-                settle_session(&mut self.ops, &self.sessions, session, at, changed)
-            }
-            _ => (),
+        if let Told::Settled { session, .. } = step.told {
+            let changed = changed_by(self.server.journal(), step.entries);
+            settle_session(&mut self.ops, &self.sessions, session, at, changed);
         }
         match enter(&mut self.entries, step.entries, at) {
             Ok(()) => Ok(CoreStep::served(alloc, step)),

@@ -82,15 +82,16 @@ impl Core {
         })
     }
 
-    /// The tree opens with a file or directory of this name, where that is free in the directory. The one error is
-    /// want of memory, and all then stays as it was.
+    /// The tree opens with a file or directory of this name, where that is free in the directory. The one
+    /// error is want of memory, and all then stays as it was.
     pub fn open(&mut self, dir: u64, name: Name, body: Body) -> Result<(), AllocError>
         ensures { OnOk result (core_of self.new ≡ record (core_of self.old) { server = opens_with (core_of self.old).server dir name body }) }
     {
         self.server.open(dir, name, body)
     }
 
-    /// So many clients, none of which has joined. The one error is want of memory.
+    /// Puts `count` clients in the place of those that are there, none of which has joined. The one error
+    /// is want of memory.
     pub fn seat_all(&mut self, alloc: Global, count: u64) -> Result<(), AllocError>
         ensures { OnOk result (core_of self.new ≡ record (core_of self.old) { seats = replicate count new_seat }) }
     {
