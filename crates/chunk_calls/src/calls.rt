@@ -23,7 +23,7 @@ pub struct Outcome {
     pub left_out: bool,
 }
 
-// An answer, where all was done.
+/// An answer, where all was done.
 fn done(answer: Lb) -> Outcome
     ensures { result ≡ record { answer = Some answer; left_out = false } }
 {
@@ -33,7 +33,7 @@ fn done(answer: Lb) -> Outcome
     }
 }
 
-// A GETHASH. The one error is want of memory, and all then stays as it was.
+/// A GETHASH. The one error is want of memory, and all then stays as it was.
 fn tell_hashes(
     alloc: Global,
     tree: &Tree,

@@ -84,8 +84,8 @@ impl Cutter {
         })
     }
 
-    // Takes bytes up to the end of the chunk under way, or all where it goes on: how many, and the
-    // chunk if it ended.
+    /// Takes bytes up to the end of the chunk under way, or all where it goes on: how many, and the
+    /// chunk if it ended.
     fn advance(&mut self, piece: &[u8]) -> (usize, Option<Chunk>)
         requires { fed self.old + length piece.now < 2 ^ 64 }
         ensures within { result.0 ≤ length piece.now }
@@ -106,7 +106,7 @@ impl Cutter {
         }
     }
 
-    // Adds bytes to the chunk under way.
+    /// Adds bytes to the chunk under way.
     fn hash(&mut self, bytes: &[u8])
         requires { fed self.old + length bytes.now < 2 ^ 64 }
         ensures counts { self.new ≡ record self.old { hasher = self.new.hasher; len = self.old.len + length bytes.now } }
@@ -116,7 +116,7 @@ impl Cutter {
         self.len += bytes.len() as u64;
     }
 
-    // Ends the chunk under way, and begins the next.
+    /// Ends the chunk under way, and begins the next.
     fn close(&mut self) -> Chunk
         requires { fed self.old < 2 ^ 64 }
         ensures counts { self.new ≡ record self.old { hasher = self.new.hasher; start = fed self.old; len = 0 } }

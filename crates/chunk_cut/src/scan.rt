@@ -38,8 +38,8 @@ pub fn find_end(window: &mut Window, len: u64, piece: &[u8]) -> Option<usize>
     }
 }
 
-// Finds the end behind the first `from` bytes of the piece. With these the chunk has the least number
-// of bytes, and the window lies in the piece: no byte has to be kept for it.
+/// Finds the end behind the first `from` bytes of the piece. With these the chunk has the least number
+/// of bytes, and the window lies in the piece: no byte has to be kept for it.
 fn roll_on(len: u64, piece: &[u8], from: usize) -> Option<usize>
     requires sizes { len + length piece.now < 2 ^ 64 }
     requires within { (48 ≤ from) × (from ≤ length piece.now) }
@@ -57,7 +57,7 @@ fn roll_on(len: u64, piece: &[u8], from: usize) -> Option<usize>
     None
 }
 
-// How many of the bytes that follow, of which there are `count`, are in no window that is looked at.
+/// How many of the bytes that follow, of which there are `count`, are in no window that is looked at.
 fn unwatched(len: u64, count: usize) -> usize
     ensures within { result ≤ count }
     ensures before { (len + result ≤ 2000) ⊎ (result ≡ 0) }

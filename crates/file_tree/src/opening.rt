@@ -63,7 +63,7 @@ impl TreeState {
         }
     }
 
-    // Adds a directory.
+    /// Adds a directory.
     fn open_directory(&mut self, dir: u64, name: Name) -> Result<(), AllocError>
         requires state { IsState self.old }
         requires may { may_open self.old.nodes.nodes dir name ≡ Ok tt }
@@ -83,7 +83,7 @@ impl TreeState {
         Ok(())
     }
 
-    // Adds a file.
+    /// Adds a file.
     fn open_file(&mut self, dir: u64, name: Name, content: Content) -> Result<(), AllocError>
         requires state { IsState self.old }
         requires may { may_open self.old.nodes.nodes dir name ≡ Ok tt }
@@ -106,7 +106,7 @@ impl TreeState {
         Ok(())
     }
 
-    // Whether a content of so many bytes is within the limits.
+    /// Whether a content of so many bytes is within the limits.
     fn has_room_for(&self, len: u64) -> bool
         requires { IsState self.now }
         ensures short { result ≡ true → len ≤ file_most }
@@ -115,7 +115,7 @@ impl TreeState {
         len <= FILE_MOST && self.bytes as u128 + len as u128 <= TREE_MOST as u128
     }
 
-    // The next id, with a place for its node. The one error is want of memory.
+    /// The next id, with a place for its node. The one error is want of memory.
     fn place(&mut self) -> Result<u64, AllocError>
         requires { IsState self.old }
         ensures tree { state_of self.new ≡ state_of self.old }
@@ -131,7 +131,7 @@ impl TreeState {
         Ok(id)
     }
 
-    // Adds a node that has the next id.
+    /// Adds a node that has the next id.
     fn add(&mut self, node: Node)
         requires state { IsState self.old }
         requires id { node.id ≡ self.old.nodes.next }
@@ -148,7 +148,7 @@ impl TreeState {
         self.nodes.insert(node);
     }
 
-    // Counts the first change, if none was.
+    /// Counts the first change, if none was.
     fn count_first(&mut self)
         requires { IsState self.old }
         ensures counted { state_of self.new ≡ with_change (state_of self.old) }
@@ -162,7 +162,7 @@ impl TreeState {
         }
     }
 
-    // Gives all directories the version 1.
+    /// Gives all directories the version 1.
     fn count_directories(&mut self)
         requires state { IsState self.old }
         requires one { 1 ≤ self.old.changes }
@@ -179,7 +179,7 @@ impl TreeState {
         }
     }
 
-    // Gives a directory the version 1, if one has the id.
+    /// Gives a directory the version 1, if one has the id.
     fn count_directory(&mut self, id: u64)
         requires state { IsState self.old }
         requires one { 1 ≤ self.old.changes }

@@ -6,7 +6,7 @@ use std::alloc::AllocError;
 use tree_reading::call::Held;
 
 /// How many places a store needs for all changes that wait, one an entry, and for so many more. The
-/// one error is want of memory, as which a number beyond 32 bits counts too.
+/// one error is want of memory, as which 2^32 - 255 entries or more count too.
 pub fn places(held: Held, more: u8) -> Result<u32, AllocError>
     ensures { IfOk result (λ n. n ≡ held.entries + more) }
 {

@@ -58,7 +58,7 @@ impl TreeState {
         self.nodes.set_version(dir, self.changes);
     }
 
-    // Takes the node of a name out of the nodes.
+    /// Takes the node of a name out of the nodes.
     fn clear(&mut self, dir: u64, name: &[u8])
         requires state { IsState self.old }
         requires there { IsSome (named self.old.nodes.nodes dir name.now) }
@@ -72,7 +72,7 @@ impl TreeState {
         self.bytes -= let_go(gone);
     }
 
-    // Counts a change of the names of a directory.
+    /// Counts a change of the names of a directory.
     fn count(&mut self, dir: u64)
         requires state { IsState self.old }
         requires count { self.old.changes + 1 ≤ changes_most }
@@ -97,7 +97,7 @@ impl TreeState {
         self.count(dir);
     }
 
-    // Moves the node of a name to another one that is free, and counts so many changes.
+    /// Moves the node of a name to another one that is free, and counts so many changes.
     fn shift(&mut self, dir: u64, name: &[u8], to: u64, to_name: Name, more: u64)
         requires state { IsState self.old }
         requires count { (self.old.changes + more ≤ changes_most) × (0 < more) }
@@ -159,7 +159,7 @@ impl TreeState {
         self.nodes.set_content(id, version, content);
     }
 
-    // How many bytes the node of an id contains.
+    /// How many bytes the node of an id contains.
     fn size_at(&self, id: u64) -> u64
         ensures { result ≡ size_in (with_id self.now.nodes.nodes id) }
     {
@@ -167,14 +167,14 @@ impl TreeState {
     }
 }
 
-// How many bytes a node contained that goes.
+/// How many bytes a node contained that goes.
 fn let_go(node: Node) -> u64
     ensures { result ≡ length (content_of node.body) }
 {
     size_of(&node)
 }
 
-// How many bytes the nodes contain.
+/// How many bytes the nodes contain.
 #[tactic(auto, using(crate::proofs::Limits::size_from, crate::proofs::Limits::size_past))]
 fn bytes_in(nodes: &Nodes) -> u64
     requires { contents_size nodes.now.nodes ≤ tree_most }
@@ -187,7 +187,7 @@ fn bytes_in(nodes: &Nodes) -> u64
     bytes
 }
 
-// How many bytes a node contains, if there is one.
+/// How many bytes a node contains, if there is one.
 fn size_in(node: Option<&Node>) -> u64
     ensures { result ≡ size_in (option_copied node.entry) }
 {

@@ -20,7 +20,7 @@ use tree_nodes::content::Content;
 use tree_reading::call::{Changed, CreateMode, Held, Planned};
 use xdr_codec::status::Status;
 
-// CREATE of a file that is to be made.
+/// CREATE of a file that is to be made.
 #[tactic(auto, using(crate::proofs::Stepping::step_done, crate::proofs::Stepping::created_failed, crate::proofs::Stepping::keeps_failed))]
 fn make_file<S: Store>(
     tree: &mut Tree,
@@ -89,7 +89,7 @@ pub fn create<S: Store>(
     }
 }
 
-// MKDIR of a directory that is to be made.
+/// MKDIR of a directory that is to be made.
 #[tactic(auto, using(crate::proofs::Stepping::step_done, crate::proofs::Stepping::mkdir_failed, crate::proofs::Stepping::keeps_failed))]
 fn make_directory<S: Store>(
     tree: &mut Tree,
@@ -200,7 +200,7 @@ pub fn rmdir<S: Store>(
     }
 }
 
-// The id of the node that a name stands for.
+/// The id of the node that a name stands for.
 #[tactic(auto, using(crate::proofs::Stepping::id_stands, crate::proofs::Stepping::id_nothing))]
 fn id_at(tree: &Tree, dir: u64, name: &[u8]) -> u64
     ensures { result ≡ id_found (named tree.now.tree.nodes dir name.now) }
@@ -211,7 +211,7 @@ fn id_at(tree: &Tree, dir: u64, name: &[u8]) -> u64
     }
 }
 
-// What the node of a name is.
+/// What the node of a name is.
 #[tactic(auto, using(crate::proofs::Stepping::kind_stands, crate::proofs::Stepping::kind_nothing))]
 fn kind_at(tree: &Tree, dir: u64, name: &[u8]) -> NodeKind
     ensures { result ≡ kind_found (named tree.now.tree.nodes dir name.now) }
@@ -232,7 +232,7 @@ fn kind_of(is_file: bool) -> NodeKind
     }
 }
 
-// The record of the node of a name, under another one.
+/// The record of the node of a name, under another one.
 fn moved_record(tree: &Tree, dir: u64, name: &[u8], to: u64, to_name: Name) -> NodeRecord
     ensures { result ≡ record { id = id_found (named tree.now.tree.nodes dir name.now); parent = to; kind = kind_found (named tree.now.tree.nodes dir name.now); name = to_name } }
 {
@@ -244,7 +244,7 @@ fn moved_record(tree: &Tree, dir: u64, name: &[u8], to: u64, to_name: Name) -> N
     }
 }
 
-// RENAME to a name that is free.
+/// RENAME to a name that is free.
 #[tactic(auto, using(crate::proofs::Stepping::step_done, crate::proofs::Stepping::free_failed, crate::proofs::Stepping::keeps_failed))]
 fn move_free<S: Store>(
     tree: &mut Tree,
@@ -264,6 +264,7 @@ fn move_free<S: Store>(
     ensures room { tree.old.room ≤ tree.new.room }
     ensures later { S.faults store.old ≤ S.faults store.new }
 {
+    // The contract alone names it.
     let _moved = moved;
     let (to_name, copy) = to_name.split();
     let node = moved_record(tree, dir, name, to, copy);
@@ -274,7 +275,7 @@ fn move_free<S: Store>(
     tree.rename(dir, name, to, to_name, held)
 }
 
-// RENAME to the name of another node, which goes.
+/// RENAME to the name of another node, which goes.
 #[tactic(auto, using(crate::proofs::Stepping::step_done, crate::proofs::Stepping::over_failed, crate::proofs::Stepping::keeps_failed))]
 fn move_over<S: Store>(
     tree: &mut Tree,
@@ -294,6 +295,7 @@ fn move_over<S: Store>(
     ensures room { tree.old.room ≤ tree.new.room }
     ensures later { S.faults store.old ≤ S.faults store.new }
 {
+    // The contract alone names it.
     let _moved = moved;
     let (to_name, copy) = to_name.split();
     let node = moved_record(tree, dir, name, to, copy);

@@ -122,7 +122,7 @@ impl Window {
     }
 }
 
-// The fingerprint of some bytes and one more at the end, from theirs.
+/// The fingerprint of some bytes and one more at the end, from theirs.
 fn append(print: u64, byte: u8) -> u64
     requires { print < 2 ^ 53 }
     ensures { (w : List ℕ) → print ≡ fp w → result ≡ fp (w ++ byte ∷ []) }
@@ -130,7 +130,7 @@ fn append(print: u64, byte: u8) -> u64
     ((print & LOW) << 8) ^ u64::from(byte) ^ high_part((print >> 45) as usize)
 }
 
-// The fingerprint of a window's other bytes, from that of the window and its oldest byte.
+/// The fingerprint of a window's other bytes, from that of the window and its oldest byte.
 fn without(print: u64, oldest: u8) -> u64
     ensures { (w : List ℕ) → length w ≡ 47 → print ≡ fp (oldest ∷ w) → result ≡ fp w }
 {

@@ -120,10 +120,7 @@ impl ServerState {
         requires { IsBounded self.now }
         ensures { result ≡ commit_target (state_of self.now) session commit.now.size temp.now (target_in (node_of (state_of self.now).tree commit.now.handle)) }
     {
-        let id = match answers::target_in(&self.tree, &commit.handle) {
-            Ok(id) => id,
-            Err(status) => return Err(status),
-        };
+        let id = answers::target_in(&self.tree, &commit.handle)?;
         if commit.size > FILE_MOST {
             return Err(Status::FBig);
         }

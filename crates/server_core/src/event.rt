@@ -1,10 +1,7 @@
 //! What happens to a server, and what it does then. `specs/Step.antt` says what it does.
 
-ghost use Rattle.std.specs.Prelude.{◌≡◌, []};
-
 use send_list::SendList;
 use server_rules::told::Told;
-use std::alloc::Global;
 use wire::message::Message;
 
 /// What happens to a server.
@@ -48,24 +45,13 @@ pub struct ServerStep {
     pub missed: bool,
 }
 
-/// A message that was taken goes.
+/// Drops a message. Callers above call this, so that each proves one call, and not how every kind of
+/// message goes.
 pub fn let_go(message: Message) {
     drop(message);
 }
 
-/// A step whose messages nobody wants goes.
+/// Drops a step whose messages nobody wants.
 pub fn let_go_step(step: ServerStep) {
     drop(step);
-}
-
-/// Messages that were looked at go.
-pub fn let_go_sent(sent: SendList<Sent>) {
-    drop(sent);
-}
-
-/// No message. It takes no memory.
-pub fn none_sent(alloc: Global) -> SendList<Sent>
-    ensures { result ≡ [] }
-{
-    SendList::none(alloc)
 }

@@ -192,6 +192,7 @@ impl Server {
         ensures spare { entries_held self.new.waiting ≤ S.spare store.new }
         ensures later { S.faults store.old ≤ S.faults store.new }
     {
+        // Named first: what a server keeps to is proved once the call is over.
         let step = self.state.step(alloc, store, event);
         step
     }
@@ -203,6 +204,7 @@ impl Server {
         ensures missed { result.missed ≡ true → Misses self.old event self.new result }
     {
         let mut store = NoStore;
+        // Named first, as in `step`.
         let step = self.state.step(alloc, &mut store, event);
         step
     }

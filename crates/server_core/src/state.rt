@@ -53,7 +53,8 @@ pub struct ServerState {
     pub sessions: Vec<u32>,
     /// How many sessions were ever made.
     pub sessions_made: u32,
-    /// The last moment used, in milliseconds of the server's clock.
+    /// The last moment used, in milliseconds of the server's clock. It is kept for leases: no step depends
+    /// on it yet.
     pub moment: u64,
     /// A content that was made ahead, for the COMMITTMP that comes next. It is no part of the state: a
     /// COMMITTMP whose content it is cuts and hashes none, and comes to the same.
@@ -181,8 +182,7 @@ impl ServerState {
         }
     }
 
-    /// A call of a session that stands. An `Err` changes nothing, but for a
-    /// look-up.
+    /// A call of a session that stands. An `Err` changes nothing, but for a look-up.
     fn try_call<S: Store>(
         &mut self,
         alloc: Global,

@@ -25,7 +25,7 @@ fn entries_wanted(what: &Wanted) -> u64
     }
 }
 
-/// How many bytes it brings.
+/// How many bytes a change brings.
 fn size_wanted(what: &Wanted) -> u64
     ensures { result ≡ size_wanted what.now }
 {

@@ -21,7 +21,7 @@ pub struct Temp {
     session: u32,
     /// The client's number of it.
     fd: u32,
-    /// The id of the file that it was made for.
+    /// The id of the file that it was made for. Nothing reads it: COMMITTMP names its file by itself.
     target: u64,
     /// Its pieces.
     pieces: Pieces,

@@ -256,8 +256,8 @@ impl Temps {
     }
 
     /// Makes a temporary file with nothing in it, for the file with the id `target`: `FdInUse` where
-    /// the session has one under the number, `TooManyTemps` where it has sixteen. All stays as it was
-    /// where the call is refused.
+    /// the session has one under the number, `TooManyTemps` where it has sixteen, `Memory` where that
+    /// runs out. All stays as it was where the call is refused.
     pub fn make(&mut self, session: u32, fd: u32, target: u64) -> Result<(), TempErr>
         ensures told { Tells result (room_fault self.old session fd) }
         ensures ok { OnOk result (self.new ≡ with_temp self.old (empty_temp session fd target)) }
@@ -280,7 +280,8 @@ impl Temps {
 
     /// Puts a piece at a place of a temporary file: `BadFd` where there is no such file, `Inval`
     /// where the piece is empty or ends beyond 2 ^ 64 - 1, `FBig` where it ends beyond 67,108,864
-    /// bytes, `Inval` where it meets another piece. All stays as it was where the call is refused.
+    /// bytes, `Inval` where it meets another piece, `Memory` where that runs out. All stays as it was
+    /// where the call is refused.
     pub fn put(&mut self, session: u32, fd: u32, offset: u64, bytes: Bytes) -> Result<(), TempErr>
         ensures told { Tells result (piece_fault (temp_at self.old session fd) offset (length bytes)) }
         ensures ok { OnOk result (self.new ≡ with_more self.old (temp_at self.old session fd) offset bytes) }
@@ -293,9 +294,9 @@ impl Temps {
 
     /// Ends a temporary file, and gives two owners of its whole content, where its pieces cover 0 to
     /// the size once each and nothing beyond, and else none: `BadFd` where there is no such file,
-    /// `FBig` where the size is beyond 67,108,864 bytes. Memory that the content lacks is taken first,
-    /// and then each piece let go as its bytes are moved. All stays as it was where the call is
-    /// refused.
+    /// `FBig` where the size is beyond 67,108,864 bytes. Memory that the content lacks is taken first
+    /// (`Memory` where it runs out), and then each piece let go as its bytes are moved. All stays as it
+    /// was where the call is refused.
     pub fn take(
         &mut self,
         session: u32,

@@ -102,7 +102,7 @@ pub enum Asked {
 }
 
 impl Asked {
-    /// The id of the file that goes, for whose leases it waits.
+    /// The id of the file that goes.
     pub fn file(&self) -> u64
         ensures { result ≡ file_of self.now }
     {

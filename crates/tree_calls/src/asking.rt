@@ -26,7 +26,7 @@ use tree_reading::reading::Standing;
 use xdr_codec::answer::Answer;
 use xdr_codec::status::Status;
 
-// The status of a refusal, where JUKEBOX comes before want of space.
+/// The status of a refusal, where JUKEBOX comes before want of space.
 fn busy_first(busy: bool, status: Status) -> Status
     ensures { result ≡ busy_first busy status }
 {
@@ -39,7 +39,7 @@ fn busy_first(busy: bool, status: Status) -> Status
     }
 }
 
-// The file that REMOVE waits for.
+/// The file that REMOVE waits for.
 fn remove_comes(busy: bool, plan: Result<Changed, Status>) -> Result<u64, Status>
     ensures { result ≡ remove_comes busy plan }
 {
@@ -64,7 +64,7 @@ fn is_over_file(found: Option<Standing>) -> bool
     }
 }
 
-// The file that RENAME waits for, or none, and it is done at once.
+/// The file that RENAME waits for, or none, and it is done at once.
 fn over_comes(busy: bool, found: Option<Standing>) -> Result<Option<u64>, Status>
     ensures { result ≡ over_comes busy found }
 {
@@ -82,7 +82,7 @@ fn over_comes(busy: bool, found: Option<Standing>) -> Result<Option<u64>, Status
     }
 }
 
-// The node that RENAME moves and the file that it waits for, or none, and it is done at once.
+/// The node that RENAME moves and the file that it waits for, or none, and it is done at once.
 fn rename_comes(
     busy: bool,
     found: Option<Standing>,
@@ -167,7 +167,7 @@ pub fn asks_rename(
     rename_comes(busy, found, tree.plan_rename(dir, name, to, to_name, held))
 }
 
-// What waits of a RENAME over a file. The one error is want of memory.
+/// What waits of a RENAME over a file. The one error is want of memory.
 fn renaming_of(
     alloc: Global,
     dir: u64,

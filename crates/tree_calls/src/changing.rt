@@ -141,8 +141,8 @@ fn make_file<S: Store>(
     Ok(created(tree, before, dir, handle, outcome))
 }
 
-/// CREATE. The one error is want of memory, where the call is not refused, and the
-/// tree is then as it was.
+/// CREATE. The one error is want of memory, where the call is not refused, and the tree is then as it
+/// was.
 #[tactic(auto, using(crate::proofs::Steps::create_misnamed, crate::proofs::Steps::create_refused, crate::proofs::Steps::create_there, crate::proofs::Steps::kept_same))]
 pub fn create<S: Store>(
     alloc: Global,
@@ -222,8 +222,8 @@ fn make_directory<S: Store>(
     Ok(made_directory(tree, before, dir, handle, outcome))
 }
 
-/// MKDIR. The one error is want of memory, where the call is not refused, and the
-/// tree is then as it was.
+/// MKDIR. The one error is want of memory, where the call is not refused, and the tree is then as it
+/// was.
 #[tactic(auto, using(crate::proofs::Steps::mkdir_misnamed, crate::proofs::Steps::mkdir_refused, crate::proofs::Steps::kept_same))]
 pub fn mkdir<S: Store>(
     alloc: Global,
@@ -274,7 +274,7 @@ fn removed_directory(
     }
 }
 
-// RMDIR of a directory that may go, for which the store has a place.
+/// RMDIR of a directory that may go, for which the store has a place.
 #[tactic(auto, using(crate::proofs::Steps::rmdir_step))]
 fn remove_directory<S: Store>(
     tree: &mut Tree,
@@ -294,8 +294,8 @@ fn remove_directory<S: Store>(
     removed_directory(tree, before, dir, outcome)
 }
 
-/// RMDIR. The one error is want of memory for the store's place, where the call is
-/// not refused, and the tree is then as it was.
+/// RMDIR. The one error is want of memory for the store's place, where the call is not refused, and the
+/// tree is then as it was.
 #[tactic(auto, using(crate::proofs::Steps::rmdir_misnamed, crate::proofs::Steps::rmdir_refused, crate::proofs::Steps::called_ready, crate::proofs::Steps::kept_ready, crate::proofs::Steps::kept_same))]
 pub fn rmdir<S: Store>(
     tree: &mut Tree,

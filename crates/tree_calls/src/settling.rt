@@ -24,7 +24,7 @@ use tree_reading::checks::is_node;
 use xdr_codec::answer::Answer;
 use xdr_codec::status::Status;
 
-// Whether a name still stands for a node.
+/// Whether a name still stands for a node.
 fn still(tree: &Tree, dir: u64, name: &[u8], id: u64) -> Result<(), Status>
     ensures { result ≡ still tree.now.tree.nodes (spot_of dir name.now) id }
 {
@@ -65,7 +65,7 @@ fn removed(tree: &Tree, before: Option<Before>, dir: u64, outcome: Result<Change
     }
 }
 
-// REMOVE of the file of a name, which was checked again.
+/// REMOVE of the file of a name, which was checked again.
 #[tactic(auto, using(crate::proofs::Steps::removed_step))]
 fn remove<S: Store>(tree: &mut Tree, store: &mut S, spot: &Spot, held: Held) -> Done
     requires { held.entries + 1 ≤ S.spare store.old }

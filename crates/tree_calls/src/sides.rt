@@ -35,13 +35,11 @@ pub fn known(tree: &Tree, id: u64) -> Option<Attr>
 pub fn before(tree: &Tree, dir: u64) -> Option<Before>
     ensures { result ≡ before tree.now.tree.nodes dir }
 {
-    match known(tree, dir) {
-        Some(attr) => Some(before_of(attr)),
-        None => None,
-    }
+    Some(before_of(known(tree, dir)?))
 }
 
-/// And after it.
+/// What is told of a directory that may have changed: how it was before, and how it is after
+/// (`wcc_data` of RFC 1813, 2.6).
 pub fn both_sides(tree: &Tree, before: Option<Before>, dir: u64) -> Wcc
     ensures { result ≡ both_sides before tree.now.tree.nodes dir }
 {
@@ -51,7 +49,7 @@ pub fn both_sides(tree: &Tree, before: Option<Before>, dir: u64) -> Wcc
     }
 }
 
-/// A failure tells nothing of it.
+/// Nothing is told of a directory, as where a call fails before it is looked up.
 pub fn no_side() -> Wcc
     ensures { result ≡ no_side }
 {

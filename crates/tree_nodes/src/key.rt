@@ -27,7 +27,7 @@ pub fn key_at(keys: &Vec<Key>, place: usize) -> Key
     }
 }
 
-// The byte at a place of a name, and 0 past its end.
+/// The byte at a place of a name, and 0 past its end.
 fn byte_at(name: &[u8], place: usize) -> u8
     ensures { result ≡ get_or name.now place 0 }
 {

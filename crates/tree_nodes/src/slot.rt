@@ -28,7 +28,7 @@ fn slot_id(slot: &Slot) -> u64
     }
 }
 
-// The id at a place, and 0 past the last.
+/// The id at a place, and 0 past the last.
 fn id_at(slots: &Vec<Slot>, place: usize) -> u64
     ensures { result ≡ id_or (slice_get slots.now.items place) }
 {
@@ -51,7 +51,7 @@ pub fn first_from(slots: &Vec<Slot>, id: u64) -> usize
     searched(slots, id)
 }
 
-// The same by halves.
+/// The same by halves.
 #[tactic(auto, using(crate::proofs::Rising::from_high, crate::proofs::Rising::goes_past, crate::proofs::Rising::stays))]
 fn searched(slots: &Vec<Slot>, id: u64) -> usize
     requires { AreRising slots.now.items }

@@ -68,7 +68,7 @@ impl Slots {
         slot::node_in(&self.held, place)
     }
 
-    // The key of the node in a place.
+    /// The key of the node in a place.
     fn key_at(&self, place: usize) -> Key
         ensures key { result ≡ key_of (node_at self.now.items place) }
         ensures bytes { AreBytes (node_at self.now.items place).name }

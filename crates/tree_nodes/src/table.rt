@@ -66,8 +66,8 @@ pub fn places(slots: &Slots, order: &BlockList, dir: u64) -> (usize, usize)
     (start, end)
 }
 
-// Whether the node at a place in the order comes before a name, which begins so; none does past the
-// last.
+/// Whether the node at a place in the order comes before a name, which begins so; none does past the
+/// last.
 fn comes_before(
     slots: &Slots,
     order: &BlockList,
@@ -114,7 +114,7 @@ pub fn with_id(slots: &Slots, id: u64) -> Option<&Node>
     if_id(slots.node_in(place), id)
 }
 
-// Whether there is a node with the id.
+/// Whether there is a node with the id.
 fn has_id(slots: &Slots, id: u64) -> bool
     requires { AreRising slots.now.items }
     ensures { result ≡ is_some (taken_at slots.now.items id) }
@@ -125,7 +125,7 @@ fn has_id(slots: &Slots, id: u64) -> bool
     }
 }
 
-// The node, if it has the id.
+/// The node, if it has the id.
 fn if_id(node: Option<&Node>, id: u64) -> Option<&Node>
     ensures { option_copied result ≡ kept_by (λ n. n.id == id) (option_copied node.entry) }
 {
@@ -135,7 +135,7 @@ fn if_id(node: Option<&Node>, id: u64) -> Option<&Node>
     }
 }
 
-// The node, if it has the name in the directory.
+/// The node, if it has the name in the directory.
 fn if_named<'a>(node: Option<&'a Node>, dir: u64, name: &[u8]) -> Option<&'a Node>
     ensures { option_copied result ≡ kept_by (λ n. (n.parent == dir) && bytes_eq n.name name.now) (option_copied node.entry) }
 {
@@ -164,7 +164,7 @@ pub struct Table {
     pub next: u64,
 }
 
-// Puts a node into a place whose node is gone, and that place into the order. It takes no memory.
+/// Puts a node into a place whose node is gone, and that place into the order. It takes no memory.
 fn put_in(slots: &mut Slots, order: &mut BlockList, slot: u32, node: Node)
     requires sorted { AreInOrder (shown slots.old.items order.old.items) }
     requires there { slot < length slots.old.items }
@@ -179,8 +179,8 @@ fn put_in(slots: &mut Slots, order: &mut BlockList, slot: u32, node: Node)
     order.insert(place, slot);
 }
 
-// Takes the node at a place in the order out of its place there and in the slots, which keeps its
-// id; gives the number of the slot, and the node.
+/// Takes the node at a place in the order out of its place there and in the slots, which keeps its
+/// id; gives the number of the slot, and the node.
 fn take_out(slots: &mut Slots, order: &mut BlockList, place: usize) -> (u32, Node)
     requires taken { AllByRecursion (IsTaken slots.old.items) order.old.items }
     requires within { place < length order.old.items }
@@ -302,7 +302,8 @@ impl Table {
         self.slots.put(place, node);
     }
 
-    /// Makes room for so many nodes more. The one error is want of memory.
+    /// Makes room for so many nodes more. The one error is want of memory, as which 2^32 nodes or more
+    /// count too.
     pub fn reserve(&mut self, count: u32) -> Result<(), AllocError>
         requires sound { IsSound self.old }
         ensures room { OnOk result (count ≤ room_of self.new) }

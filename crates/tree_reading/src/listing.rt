@@ -19,14 +19,14 @@ use xdr_codec::status::Status;
 /// How many bytes an answer takes without its entries.
 const LIST_LEAST: u32 = 104;
 
-// How many bytes an entry takes in an answer.
+/// How many bytes an entry takes in an answer.
 fn entry_size(name: &[u8]) -> usize
     ensures { result ≡ entry_size name.now }
 {
     24 + 4 * ((name.len() + 3) / 4)
 }
 
-// The entries of nodes in a row, from a cookie on, as many as fit.
+/// The entries of nodes in a row, from a cookie on, as many as fit.
 #[tactic(auto, using(crate::proofs::Pages::no_node))]
 fn page(
     alloc: Global,
@@ -67,7 +67,7 @@ fn page(
     Ok(Items::from_vec(entries))
 }
 
-// Whether a cookie was not given by this directory, or before its names changed.
+/// Whether a cookie was not given by this directory, or before its names changed.
 fn is_bad_cookie(nodes: &Nodes, dir: &Node, cookie: u64, verifier: u64) -> bool
     requires { dir.now.id < 2 ^ 64 - 1 }
     ensures { result ≡ is_bad_cookie nodes.now.nodes dir.now cookie verifier }
@@ -76,7 +76,7 @@ fn is_bad_cookie(nodes: &Nodes, dir: &Node, cookie: u64, verifier: u64) -> bool
     (cookie != 0 && verifier != dir.version) || ((end - start) as u64) < cookie
 }
 
-// How many names a directory has behind a cookie.
+/// How many names a directory has behind a cookie.
 #[tactic(auto, using(crate::proofs::Pages::count_behind))]
 fn count_behind(nodes: &Nodes, dir: &Node, cookie: u64) -> usize
     requires id { dir.now.id < 2 ^ 64 - 1 }
@@ -87,7 +87,7 @@ fn count_behind(nodes: &Nodes, dir: &Node, cookie: u64) -> usize
     end - start - cookie as usize
 }
 
-// The entries of a directory behind a cookie, as many as fit.
+/// The entries of a directory behind a cookie, as many as fit.
 #[tactic(auto, using(crate::proofs::Pages::behind))]
 fn page_behind(
     alloc: Global,
@@ -105,7 +105,7 @@ fn page_behind(
     page(alloc, nodes, start + cookie as usize, end, cookie, room)
 }
 
-// What is answered with these entries, where so many names are left.
+/// What is answered with these entries, where so many names are left.
 fn listing_of(
     nodes: &Nodes,
     dir: &Node,
@@ -128,7 +128,7 @@ fn listing_of(
     })
 }
 
-// A page of a directory in an answer of at most so many bytes.
+/// A page of a directory in an answer of at most so many bytes.
 #[tactic(auto, using(crate::proofs::Pages::listing_ok))]
 fn listed(
     alloc: Global,

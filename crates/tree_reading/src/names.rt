@@ -7,7 +7,7 @@ ghost use Rattle.tree_reading.specs.Names.{is_misspelt, spelt, undotted, is_dot,
 use limits::NAME_MOST;
 use xdr_codec::status::Status;
 
-// Whether a slash or a zero byte is among these.
+/// Whether a slash or a zero byte is among these.
 fn has_wrong(name: &[u8]) -> bool
     ensures { result ≡ list_any (λ b. (b == 47) || (b == 0)) name.now }
 {
@@ -19,7 +19,7 @@ fn has_wrong(name: &[u8]) -> bool
     false
 }
 
-// Whether a name has no byte, or a wrong one.
+/// Whether a name has no byte, or a wrong one.
 fn is_misspelt(name: &[u8]) -> bool
     ensures { result ≡ is_misspelt name.now }
 {

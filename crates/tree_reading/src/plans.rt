@@ -16,7 +16,7 @@ use tree_nodes::node::Node;
 use tree_nodes::nodes::Nodes;
 use xdr_codec::status::Status;
 
-// What CREATE finds where no name may be taken: nothing.
+/// What CREATE finds where no name may be taken: nothing.
 fn found_guarded(found: Option<&Node>, changes: u64, held: Held) -> Result<Option<&Node>, Status>
     ensures { lent_option result ≡ create_found changes held Guarded (option_copied found.entry) }
 {
@@ -25,7 +25,7 @@ fn found_guarded(found: Option<&Node>, changes: u64, held: Held) -> Result<Optio
     Ok(None)
 }
 
-// What CREATE finds where a file that has the name stays as it is.
+/// What CREATE finds where a file that has the name stays as it is.
 fn found_unchecked(found: Option<&Node>, changes: u64, held: Held) -> Result<Option<&Node>, Status>
     ensures { lent_option result ≡ create_found changes held Unchecked (option_copied found.entry) }
 {
@@ -208,7 +208,7 @@ pub fn replace(
     Ok(node.version + 1)
 }
 
-// What RENAME comes to where the names stand for different nodes.
+/// What RENAME comes to where the names stand for different nodes.
 #[tactic(auto, using(crate::proofs::Found::id_fits))]
 fn rename_over(
     nodes: &Nodes,
@@ -235,7 +235,7 @@ fn rename_over(
     }
 }
 
-// Whether a name stands for this node.
+/// Whether a name stands for this node.
 fn is_same(node: &Node, found: Option<&Node>) -> bool
     ensures { result ≡ is_same node.now (option_copied found.entry) }
 {
@@ -245,7 +245,7 @@ fn is_same(node: &Node, found: Option<&Node>) -> bool
     }
 }
 
-// What RENAME comes to where the new name stands for a node, or for none.
+/// What RENAME comes to where the new name stands for a node, or for none.
 fn rename_found(
     nodes: &Nodes,
     changes: u64,

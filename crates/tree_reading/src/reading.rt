@@ -39,7 +39,7 @@ pub struct Standing {
     pub is_file: bool,
 }
 
-// The time that shows a version.
+/// The time that shows a version.
 fn time_of(version: u64) -> Time
     requires { version < 2 ^ 32 }
     ensures { result ≡ time_of version }
@@ -50,7 +50,7 @@ fn time_of(version: u64) -> Time
     }
 }
 
-// The attributes of a node of this kind, of so many bytes or entries.
+/// The attributes of a node of this kind, of so many bytes or entries.
 fn attr_with(kind: Kind, mode: u32, nlink: u32, id: u64, version: u64, size: u64) -> Attr
     requires { version < 2 ^ 32 }
     ensures { result ≡ record (file_attr id version size) { kind = kind; mode = mode; nlink = nlink } }
@@ -93,7 +93,7 @@ pub fn attr_of(nodes: &Nodes, node: &Node) -> Attr
     }
 }
 
-// The attributes of a node of a tree.
+/// The attributes of a node of a tree.
 #[tactic(auto, using(crate::proofs::Found::id_fits, crate::proofs::Found::version_fits))]
 fn attr_within(nodes: &Nodes, changes: u64, node: &Node) -> Attr
     requires bounded { AreBounded nodes.now changes }
@@ -121,7 +121,7 @@ pub fn version(nodes: &Nodes, id: u64) -> Result<u64, Status>
     Ok(node.version)
 }
 
-// The part of a content that a READ gives.
+/// The part of a content that a READ gives.
 fn piece_bytes(content: &[u8], offset: u64, count: u32) -> &[u8]
     ensures { result.now ≡ piece_bytes content.now offset count }
 {
@@ -131,7 +131,7 @@ fn piece_bytes(content: &[u8], offset: u64, count: u32) -> &[u8]
     &rest[..count]
 }
 
-// The bytes of a node; none of a directory.
+/// The bytes of a node; none of a directory.
 fn bytes_of(node: &Node) -> &[u8]
     ensures { result.now ≡ content_of node.now.body }
 {
@@ -141,7 +141,7 @@ fn bytes_of(node: &Node) -> &[u8]
     }
 }
 
-// What a READ gives of a file.
+/// What a READ gives of a file.
 fn piece_of(
     alloc: Global,
     nodes: &Nodes,
@@ -211,7 +211,7 @@ pub fn file_chunks(nodes: &Nodes, id: u64) -> Result<&[Chunk], Status>
     chunks_in(node)
 }
 
-// The chunks of a node, if it is a file.
+/// The chunks of a node, if it is a file.
 fn chunks_in(node: &Node) -> Result<&[Chunk], Status>
     ensures { lent_list result ≡ chunks_in node.now }
 {
@@ -248,7 +248,7 @@ pub fn content(alloc: Global, nodes: &Nodes, id: u64) -> Result<Bytes, TreeErr>
     Ok(Bytes::copy_of(alloc, bytes)?)
 }
 
-// The directory above one: the root's is the root.
+/// The directory above one: the root's is the root.
 fn above<'a>(nodes: &'a Nodes, dir: &'a Node) -> &'a Node
     ensures { result.now ≡ above dir.now (with_id nodes.now.nodes dir.now.parent) }
 {
@@ -258,7 +258,7 @@ fn above<'a>(nodes: &'a Nodes, dir: &'a Node) -> &'a Node
     }
 }
 
-// What a name stands for in a directory.
+/// What a name stands for in a directory.
 fn stands_for<'a>(nodes: &'a Nodes, dir: &'a Node, name: &[u8]) -> Result<&'a Node, Status>
     ensures { lent result ≡ looked nodes.now.nodes dir.now name.now }
 {
@@ -271,7 +271,7 @@ fn stands_for<'a>(nodes: &'a Nodes, dir: &'a Node, name: &[u8]) -> Result<&'a No
     finding::found(nodes, dir.id, name)
 }
 
-// The same in a tree.
+/// The same in a tree.
 fn stands_within<'a>(
     nodes: &'a Nodes,
     changes: u64,
