@@ -26,13 +26,14 @@ use transfer_rules::{answers, counts};
 use wire::message::{Pending, RpcRefusal, Waiting};
 use xdr_codec::status::Status;
 
-/// An operation begins only below this xid: 1,000,000 are left then.
+/// An operation begins only below this xid, while 1,000,000 of a session are left: it is 2^32 - 999,999.
 pub const XID_END: u32 = 4_293_967_297;
 
-/// A session has so many xids, with 0.
+/// How many xids a session has, with 0.
 const XIDS: u128 = 4_294_967_296;
 
-/// A walk that leads to a file may be followed by so many calls of its open.
+/// The most calls of an open that may follow its walk: a GETLEASE, and four attempts of a GETHASH and a
+/// READ for each of 32,769 chunks at most, 65,540 with two to spare; and one more to spare.
 const OPEN_CALLS_MOST: u128 = 262_162;
 
 /// A client's fields.
@@ -220,7 +221,7 @@ impl ClientState {
         }
     }
 
-    /// The same, and the file's entry in the cache is there and goes first. An `Err` changes nothing.
+    /// As `wait`, where the file's entry in the cache is there, which goes first. An `Err` changes nothing.
     pub fn wait_there(
         &mut self,
         alloc: Global,

@@ -90,9 +90,10 @@ pub enum Outcome {
 /// How a command ended, and on which call of its operation that rests.
 pub struct Ended {
     pub outcome: Outcome,
-    /// The call's xid: the first GETHASH of the last attempt for Opened, the call that was answered for
-    /// Closed, Refused, and whatever ends a command on names. 0 where it rests on no call: what the client
-    /// tells by itself, and Lost, Changed, PeerMemory, BadPeer and Memory.
+    /// The call's xid: for Opened the first GETHASH of the last attempt, or the GETLEASE where a content that
+    /// was kept is used again; the call that was answered for Closed, Refused, and whatever ends a command
+    /// on names by an answer. 0 where it rests on no call: what the client tells by itself, and Lost,
+    /// Changed, PeerMemory, BadPeer and Memory.
     pub rests_on: u32,
 }
 

@@ -99,7 +99,7 @@ fn commit(
     Ok(parts::sends(send, stores::names_counted(count)))
 }
 
-/// CONDWRITEs go out, so many, and their answers are waited for. An `Err` changes nothing.
+/// Sends CONDWRITEs and waits for their answers. An `Err` changes nothing.
 fn wait_names(
     alloc: Global,
     state: &mut ClientState,

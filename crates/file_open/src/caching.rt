@@ -61,7 +61,8 @@ fn kept_bytes<'a>(cache: &'a Cache, index: &Index, chunk: &Chunk) -> Option<&'a 
     known::with_digest(found, &chunk.digest)
 }
 
-/// A copy of them.
+/// A copy of the bytes of a chunk that the index gives, where they have its digest. The one error is
+/// want of memory.
 pub fn from_index(
     alloc: Global,
     cache: &Cache,

@@ -49,7 +49,7 @@ fn put_open(
     Ok(parts::ends(alloc, outcome, rests_on, bytes))
 }
 
-/// The same, and the content is kept. An `Err` changes nothing.
+/// As `put_open`, and the content is kept. An `Err` changes nothing.
 pub fn keep_open(
     alloc: Global,
     state: &mut ClientState,

@@ -159,7 +159,7 @@ fn change(
     Ok(parts::ends(alloc, outcome, 0, bytes))
 }
 
-/// READs go out, so many, and their answers are waited for; chunks from a place on were looked up.
+/// Sends `count` READs and waits for their answers; chunks from the place `from` on were looked up.
 /// An `Err` changes nothing.
 fn wait_reads(
     alloc: Global,

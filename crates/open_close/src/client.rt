@@ -91,8 +91,9 @@ impl Client {
         })
     }
 
-    /// A command, at a reading of the client's clock in milliseconds. Only one that sends a call or
-    /// makes a local content may run out of memory: it then ends by that, and all else is as before.
+    /// A command, at a reading of the client's clock in milliseconds (nothing depends on the reading yet:
+    /// leases will). Only one that sends a call or makes a local content may run out of memory: it then
+    /// ends by that, and all else is as before.
     pub fn command(&mut self, alloc: Global, command: Command, now: u64) -> ClientStep
         ensures exact { result.missed ≡ false → command_step self.old command now ≡ (self.new, result) }
         ensures missed { result.missed ≡ true → self.new ≡ self.old }
@@ -105,8 +106,8 @@ impl Client {
         }
     }
 
-    /// What comes from the other end, at a reading of the client's clock in milliseconds: a message, or
-    /// why a record is none. Only an answer to a call of the operation under way may run out of memory,
+    /// What comes from the other end, at a reading of the client's clock in milliseconds (which nothing
+    /// depends on yet): a message, or why a record is none. Only an answer to a call of the operation under way may run out of memory,
     /// and none once COMMITTMP was sent: the operation then ends by that, its other calls are forgotten,
     /// and all else is as before; or a fetch ended well, and the index lacks places of its chunks.
     pub fn got(

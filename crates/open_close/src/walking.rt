@@ -89,10 +89,8 @@ fn found(
         state.forget(alloc, xid);
         return Ok(finding(id, parts::ends(alloc, Outcome::AlreadyOpen, 0, 0)));
     }
-    match opening::ask_file(alloc, state, id) {
-        Ok(step) => Ok(finding(id, step)),
-        Err(error) => Err(error),
-    }
+    let step = opening::ask_file(alloc, state, id)?;
+    Ok(finding(id, step))
 }
 
 /// Whether a name is looked at.

@@ -1,4 +1,4 @@
-//! What comes of an answer (`specs/Told.antt`).
+//! What an answer makes of a walk: another call, the file it finds, or its end (`specs/Told.antt`).
 
 ghost use Rattle.std.specs.Prelude.{◌≡◌, ◌++◌, IfOk, OnOk, OnErr, map};
 ghost use Rattle.xdr_codec.specs.Handle.{file_of};

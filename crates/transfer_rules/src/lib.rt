@@ -3,9 +3,9 @@
 //! answer it is, what is counted of it, and what an evicted content leaves. What a look-up makes of an
 //! index, and whether what it found fits, is asked by both ends.
 //!
-//! They know no message and no state, so that a wrong rule is refused here, in a check of seconds.
-//! `client_cache`, `client_state`, `file_open` and `file_close` go by them, and `chunk_places` for both
-//! ends.
+//! They know no message and no state of an end (a look-up is handed its index), so that a wrong rule is
+//! refused here, in a check of seconds. `client_cache`, `client_state`, `file_open` and `file_close` go
+//! by them, and `chunk_places` for both ends.
 #![tactic(auto)]
 
 pub mod answers;

@@ -16,7 +16,7 @@ pub fn is_of_version(version: u64, told: u64) -> bool
     told == version
 }
 
-/// Where a range of so many bytes ends, if it lies in so many.
+/// Where a range of `count` bytes ends, if it lies within `len`.
 pub fn range_end(offset: u64, count: u64, len: u64) -> Option<u64>
     ensures { result ≡ range_end offset count len }
 {
