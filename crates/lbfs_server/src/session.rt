@@ -143,7 +143,7 @@ fn both_on<W: Wait, H: Turns + Drop, G: Gate + Drop, L: Link + Drop, C: Clock>(
 
 /// A session in one thread: each record is taken, a change of it that waits may be made, and what
 /// there is to say is put out. It answers as `session_in` does, and has shut the link where the session
-/// was closed before its input ended.
+/// was closed before its input ended, but where memory was wanting before the first record.
 pub fn session_both<W: Wait, H: Turns + Drop, G: Gate + Drop, L: Link + Drop, C: Clock>(
     rt: &W,
     shared: &Shared<H, G, L>,

@@ -98,7 +98,7 @@ pub enum Outcome {
         /// The version that it then met.
         last: u64,
     },
-    /// The server refused it, with this status (nfsstat3 of RFC 1813, section 2.6).
+    /// The server refused it, with this status (nfsstat3 of RFC 1813, section 2.6, or one of LBFS).
     Refused(u32),
     /// The server lacked memory.
     PeerMemory,

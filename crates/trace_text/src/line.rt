@@ -84,7 +84,7 @@ pub enum Line {
         server: u64,
         at: u64,
     },
-    /// `settle s`: the server makes the first of the waiting changes that nothing holds up.
+    /// `settle s`: the server makes the change that came first of those that wait.
     Settle {
         server: u64,
     },
