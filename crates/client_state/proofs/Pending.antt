@@ -58,7 +58,7 @@ sound_again s t h idle k e =
       base = k.base;
       calls = sym same ∙ ap (λ (o : Option Task). pending o ++ drop t.own t.waiting.calls) (sym k.task);
       own = none ∙ ap (λ (o : Option Task). length (pending o)) (sym k.task);
-      xids = subst (λ (o : Option Task). TaskHasXids t.next o) (sym k.task) tt;
+      xids = subst (λ (o : Option Task). TaskHasXids t.next_xid o) (sym k.task) tt;
       within = subst TaskIsWithin (sym k.task) tt;
       there = subst (λ (o : Option Task). TaskIsThere t.cache o) (sym k.task) tt;
     }

@@ -26,11 +26,11 @@ abbrev pub has_xids : ℕ → Bool
 has_xids next = nat_lt next 4293967297
 
 abbrev pub may_ask : State → Bool
-may_ask s = elim s.linked [ true ↦ has_xids s.next | false ↦ false ]
+may_ask s = elim s.linked [ true ↦ has_xids s.next_xid | false ↦ false ]
 
 -- a command on names begins only where each call that it may send has an xid, too
 abbrev pub may_walk : State → Walk → Bool
-may_walk s w = may_ask s && nat_lt (s.next + 1 + walk_left w) 4294967296
+may_walk s w = may_ask s && nat_lt (s.next_xid + 1 + walk_left w) 4294967296
 
 -- an operation under way comes before all else, and then that the file isn't open
 abbrev pub on_local : State → Option Task → Option Local → (Local → State × ClientStep) → State × ClientStep
@@ -91,7 +91,7 @@ drops s task xid false = unawaited s task xid
 -- ---- the connection
 
 abbrev pub joined : State → State
-joined s = record s { linked = true; next = 1; next_temp = 1; forgotten = [] }
+joined s = record s { linked = true; next_xid = 1; next_temp = 1; forgotten = [] }
 
 abbrev pub ended_by : Option Task → Ended → ClientStep
 ended_by None e = nothing_done

@@ -32,7 +32,7 @@ pub record State : Type 0 where
   -- whether a connection is joined
   pub linked : Bool
   -- the xid of the next call on it
-  pub next : ℕ
+  pub next_xid : ℕ
   -- the number of the next temporary file on it
   pub next_temp : ℕ
   -- the open files, each with its id, by rising id
@@ -47,7 +47,7 @@ pub record State : Type 0 where
   pub index : Indexed
 
 abbrev pub start : State
-start = record { linked = false; next = 1; next_temp = 1; opened = []; task = None; forgotten = []; cache = []; index = no_index }
+start = record { linked = false; next_xid = 1; next_temp = 1; opened = []; task = None; forgotten = []; cache = []; index = no_index }
 
 -- ---- what is kept
 

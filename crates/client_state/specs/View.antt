@@ -27,7 +27,7 @@ use Rattle.client_state.specs.declared.task.Way.TheVariants as way
 use Rattle.client_state.specs.declared.task.Way.{Way}
 
 abbrev pub state_of : ClientState → State
-state_of s = record { linked = s.linked; next = s.next; next_temp = s.next_temp; opened = s.opened.entries; task = s.task; forgotten = drop s.own s.waiting.calls; cache = s.cache; index = s.index }
+state_of s = record { linked = s.linked; next_xid = s.next_xid; next_temp = s.next_temp; opened = s.opened.entries; task = s.task; forgotten = drop s.own s.waiting.calls; cache = s.cache; index = s.index }
 
 -- the state, and all calls that wait
 abbrev pub whole_of : ClientState → State × List Pending
@@ -165,9 +165,9 @@ IsKeptBounded e = IsContentBounded e.1.content
 pub record IsBase (s : ClientState) : Type 0 where
   pub side : s.waiting.side ≡ side.Client
   pub own : s.own ≤ length s.waiting.calls
-  pub next : 0 < s.next
+  pub next : 0 < s.next_xid
   -- each close takes an xid for its temporary file's number
-  pub temps : (0 < s.next_temp) × (s.next_temp ≤ s.next)
+  pub temps : (0 < s.next_temp) × (s.next_temp ≤ s.next_xid)
   pub ids : IsRising s.opened.entries
   pub locals : All IsLocalBounded (values_of s.opened.entries)
   pub kept : All IsKeptBounded s.cache
@@ -181,6 +181,6 @@ pub record IsSound (s : ClientState) : Type 0 where
   pub base : IsBase s
   pub calls : s.waiting.calls ≡ pending s.task ++ drop s.own s.waiting.calls
   pub own : s.own ≡ length (pending s.task)
-  pub xids : TaskHasXids s.next s.task
+  pub xids : TaskHasXids s.next_xid s.task
   pub within : TaskIsWithin s.task
   pub there : TaskIsThere s.cache s.task

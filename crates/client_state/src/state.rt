@@ -41,7 +41,7 @@ pub struct ClientState {
     /// Whether a connection is joined.
     pub linked: bool,
     /// The xid of the next call on it.
-    pub next: u32,
+    pub next_xid: u32,
     /// The number of the next temporary file on it.
     pub next_temp: u32,
     /// The open files by their ids.
@@ -64,7 +64,7 @@ impl Drop for ClientState {
     fn drop(self) {
         let ClientState {
             linked: _,
-            next: _,
+            next_xid: _,
             next_temp: _,
             opened,
             task,
@@ -119,14 +119,14 @@ impl ClientState {
     pub fn may_ask(&self) -> bool
         ensures { result ≡ may_ask (state_of self.now) }
     {
-        self.linked && self.next < XID_END
+        self.linked && self.next_xid < XID_END
     }
 
     /// Whether a command on names may begin with this walk: each call that it may send has an xid, too.
     pub fn may_walk(&self, walk: &Walk) -> bool
         ensures { result ≡ may_walk (state_of self.now) walk.now }
     {
-        self.may_ask() && u128::from(self.next) + 1 + walk_left(walk) < XIDS
+        self.may_ask() && u128::from(self.next_xid) + 1 + walk_left(walk) < XIDS
     }
 
     /// The calls of the operation under way.
@@ -172,21 +172,21 @@ impl ClientState {
         own: usize,
         file: u64,
         stage: Stage,
-        next: u32,
+        next_xid: u32,
     )
         requires held { IsHeld self.old }
-        requires rises { self.old.next ≤ next }
-        requires xids { HasXids next stage }
+        requires rises { self.old.next_xid ≤ next_xid }
+        requires xids { HasXids next_xid stage }
         requires within { IsWithin stage }
         requires there { StageIsThere self.old.cache file stage }
         requires calls { calls ≡ pending_in stage ++ (state_of self.old).forgotten }
         requires own { own ≡ length (pending_in stage) }
-        ensures rest { state_of self.new ≡ record (state_of self.old) { next = next; task = Some (record { file = file; stage = stage }) } }
+        ensures rest { state_of self.new ≡ record (state_of self.old) { next_xid = next_xid; task = Some (record { file = file; stage = stage }) } }
         ensures sound { IsSound self.new }
     {
         self.waiting.calls = calls;
         self.own = own;
-        self.next = next;
+        self.next_xid = next_xid;
         let old = self.task.replace(Task { file, stage });
         drop(old);
     }
@@ -197,21 +197,21 @@ impl ClientState {
         alloc: Global,
         file: u64,
         stage: Stage,
-        next: u32,
+        next_xid: u32,
     ) -> Result<(), AllocError>
         requires held { IsHeld self.old }
-        requires rises { self.old.next ≤ next }
-        requires xids { HasXids next stage }
+        requires rises { self.old.next_xid ≤ next_xid }
+        requires xids { HasXids next_xid stage }
         requires within { IsWithin stage }
         requires there { StageIsThere self.old.cache file stage }
-        ensures ok { OnOk result (state_of self.new ≡ record (state_of self.old) { next = next; task = Some (record { file = file; stage = stage }) }) }
+        ensures ok { OnOk result (state_of self.new ≡ record (state_of self.old) { next_xid = next_xid; task = Some (record { file = file; stage = stage }) }) }
         ensures err { OnErr result (whole_of self.new ≡ whole_of self.old) }
         ensures sound { OnOk result (IsSound self.new) }
         ensures held { OnErr result (IsHeld self.new) }
     {
         match with_forgotten(alloc, &stage, self.forgotten()) {
             Ok((calls, own)) => {
-                self.set_waiting(calls, own, file, stage, next);
+                self.set_waiting(calls, own, file, stage, next_xid);
                 Ok(())
             }
             Err(error) => {
@@ -227,13 +227,13 @@ impl ClientState {
         alloc: Global,
         file: u64,
         stage: Stage,
-        next: u32,
+        next_xid: u32,
     ) -> Result<(), AllocError>
         requires held { IsHeld self.old }
-        requires rises { self.old.next ≤ next }
-        requires xids { HasXids next stage }
+        requires rises { self.old.next_xid ≤ next_xid }
+        requires xids { HasXids next_xid stage }
         requires within { IsWithin stage }
-        ensures ok { OnOk result (state_of self.new ≡ record (state_of self.old) { next = next; task = Some (record { file = file; stage = stage }); cache = reserved self.old.cache file }) }
+        ensures ok { OnOk result (state_of self.new ≡ record (state_of self.old) { next_xid = next_xid; task = Some (record { file = file; stage = stage }); cache = reserved self.old.cache file }) }
         ensures err { OnErr result (whole_of self.new ≡ whole_of self.old) }
         ensures sound { OnOk result (IsSound self.new) }
         ensures held { OnErr result (IsHeld self.new) }
@@ -247,7 +247,7 @@ impl ClientState {
         };
         match self.cache.reserve(file) {
             Ok(()) => {
-                self.set_waiting(calls, own, file, stage, next);
+                self.set_waiting(calls, own, file, stage, next_xid);
                 Ok(())
             }
             Err(error) => {
@@ -267,19 +267,19 @@ impl ClientState {
         xid: u32,
     ) -> Result<(), AllocError>
         requires held { IsHeld self.old }
-        requires xids { HasXids (self.old.next + 1) (stage.Hashing tries self.old.next) }
-        requires within { IsWithin (stage.Hashing tries self.old.next) }
+        requires xids { HasXids (self.old.next_xid + 1) (stage.Hashing tries self.old.next_xid) }
+        requires within { IsWithin (stage.Hashing tries self.old.next_xid) }
         requires there { IsThere self.old.cache file }
-        ensures ok { OnOk result (state_of self.new ≡ record (forgets (state_of self.old) self.old.waiting.calls xid) { next = self.old.next + 1; task = Some (record { file = file; stage = stage.Hashing tries self.old.next }) }) }
+        ensures ok { OnOk result (state_of self.new ≡ record (forgets (state_of self.old) self.old.waiting.calls xid) { next_xid = self.old.next_xid + 1; task = Some (record { file = file; stage = stage.Hashing tries self.old.next_xid }) }) }
         ensures err { OnErr result (whole_of self.new ≡ whole_of self.old) }
         ensures sound { OnOk result (IsSound self.new) }
         ensures held { OnErr result (IsHeld self.new) }
     {
-        let asked = self.next;
+        let asked = self.next_xid;
         let calls = waiting::anew(alloc, asked, self.waiting.calls.as_slice(), xid)?;
         self.waiting.calls = calls;
         self.own = 1;
-        self.next = asked + 1;
+        self.next_xid = asked + 1;
         let stage = Stage::Hashing { tries, xid: asked };
         let old = self.task.replace(Task { file, stage });
         drop(old);
@@ -308,7 +308,7 @@ impl ClientState {
         ensures task { self.new.task ≡ self.old.task }
         ensures waiting { self.new.waiting ≡ self.old.waiting }
         ensures own { self.new.own ≡ self.old.own }
-        ensures next { self.new.next ≡ self.old.next }
+        ensures next_xid { self.new.next_xid ≡ self.old.next_xid }
         ensures cache { self.new.cache ≡ self.old.cache }
         ensures index { self.new.index ≡ self.old.index }
         ensures base { IsBase self.new }
@@ -440,7 +440,7 @@ impl ClientState {
         let calls = mem::replace(&mut self.waiting.calls, Items::new(alloc));
         self.waiting.calls = waiting::first_calls(calls, self.own);
         self.linked = true;
-        self.next = 1;
+        self.next_xid = 1;
         self.next_temp = 1;
     }
 

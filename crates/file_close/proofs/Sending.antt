@@ -30,12 +30,12 @@ names_kept named next n h = by (slice_get n.store.chunks n.store.named) refl
         let lt = slice_get_within n.store.chunks n.store.named c e in
         record {
           within = record { few = k.few; lens = k.lens; named = (let le : n.store.named + 1 ≤ length n.store.chunks = omega (arith, lt) in le) };
-          xids = (let x = h.xids in let p = calls_after_push n.store.under (record { xid = n.next; index = n.store.named; way = way.Named }) in omega (arith, x, lt, p));
+          xids = (let x = h.xids in let p = calls_after_push n.store.under (record { xid = n.next_xid; index = n.store.named; way = way.Named }) in omega (arith, x, lt, p));
           rises = (let x = h.rises in omega (arith, x));
-          counted = (let x = h.counted in let p = pushed n.send (cond_call n.next n.store.temp c) in omega (arith, x, p));
+          counted = (let x = h.counted in let p = pushed n.send (cond_call n.next_xid n.store.temp c) in omega (arith, x, p));
         }
 
-pub name_xid : (named next : ℕ) (n : Names) → IsSendingNames named next n → n.next + 1 < 2 ^ 32
+pub name_xid : (named next : ℕ) (n : Names) → IsSendingNames named next n → n.next_xid + 1 < 2 ^ 32
 name_xid named next n h = let x = h.xids in omega (arith, x)
 
 pub names_step : (n : Names) (k i : ℕ) → i < k → names_more (k - (i + 1)) (names_next n (slice_get n.store.chunks n.store.named)) ≡ names_more (k - i) n

@@ -36,15 +36,15 @@ abbrev pub store_of : (temp : ℕ) → List ℕ → Store
 store_of temp content = record { temp = temp; chunks = chunks_of content; named = 0; under = [] }
 
 abbrev pub names_from : Store → ℕ → Names
-names_from st next = record { store = st; next = next; send = [] }
+names_from st next = record { store = st; next_xid = next; send = [] }
 
 -- the chunk is named, if it is there
 abbrev pub names_next : Names → Option Chunk → Names
 names_next n None = n
 names_next n (Some c) = record {
-  store = record n.store { named = n.store.named + 1; under = n.store.under ++ record { xid = n.next; index = n.store.named; way = way.Named } ∷ [] };
-  next = n.next + 1;
-  send = n.send ++ cond_call n.next n.store.temp c ∷ [];
+  store = record n.store { named = n.store.named + 1; under = n.store.under ++ record { xid = n.next_xid; index = n.store.named; way = way.Named } ∷ [] };
+  next_xid = n.next_xid + 1;
+  send = n.send ++ cond_call n.next_xid n.store.temp c ∷ [];
 }
 
 -- so many chunks, or as many as there are

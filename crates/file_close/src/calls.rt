@@ -21,14 +21,14 @@ use wire::message::Message;
 /// The chunks of a close, the next xid, and the CONDWRITEs that were sent for them by now.
 pub struct Names {
     pub store: Store,
-    pub next: u32,
+    pub next_xid: u32,
     pub send: SendList<Message>,
 }
 
 /// The next chunk is named, if there is one.
 #[tactic(auto, using(client_state::proofs::Bounds::chunk_bounded))]
 fn name_next(names: &mut Names) -> Result<(), AllocError>
-    requires xid { names.old.next + 1 < 4294967296 }
+    requires xid { names.old.next_xid + 1 < 4294967296 }
     requires lens { All IsChunkBounded names.old.store.chunks }
     ensures { OnOk result (names.new ≡ names_next names.old (slice_get names.old.store.chunks names.old.store.named)) }
 {
@@ -36,27 +36,27 @@ fn name_next(names: &mut Names) -> Result<(), AllocError>
     let Some(chunk) = next_chunk(names.store.chunks.as_slice(), index) else {
         return Ok(());
     };
-    let xid = names.next;
+    let xid = names.next_xid;
     let call = messages::cond_call(xid, names.store.temp, &chunk);
     names.send.push(call)?;
     let way = Way::Named;
     names.store.under.push(StoreCall { xid, index, way })?;
     names.store.named = index + 1;
-    names.next = xid + 1;
+    names.next_xid = xid + 1;
     Ok(())
 }
 
 /// All CONDWRITEs that may be under way beside the calls that are.
-pub fn name_all(alloc: Global, store: Store, next: u32) -> Result<Names, AllocError>
+pub fn name_all(alloc: Global, store: Store, next_xid: u32) -> Result<Names, AllocError>
     requires within { IsStore store }
-    requires xids { HasXids next (stage.Storing store) }
-    ensures all { IfOk result (λ n. n ≡ names_all store next) }
-    ensures kept { IfOk result (λ n. IsSendingNames store.named next n) }
+    requires xids { HasXids next_xid (stage.Storing store) }
+    ensures all { IfOk result (λ n. n ≡ names_all store next_xid) }
+    ensures kept { IfOk result (λ n. IsSendingNames store.named next_xid n) }
 {
     let room = room_beside(store.under.len());
     let mut names = Names {
         store,
-        next,
+        next_xid,
         send: SendList::none(alloc),
     };
     for _i in 0..room {
@@ -65,7 +65,7 @@ pub fn name_all(alloc: Global, store: Store, next: u32) -> Result<Names, AllocEr
             Err(error) => {
                 let Names {
                     store,
-                    next: _,
+                    next_xid: _,
                     send,
                 } = names;
                 drop(store);

@@ -52,13 +52,13 @@ pub fn close(alloc: Global, state: &mut ClientState, file: u64) -> Result<Client
 fn ask_temp(alloc: Global, state: &mut ClientState, file: u64) -> Result<ClientStep, AllocError>
     requires sound { IsSound state.old }
     requires idle { state.old.task ≡ None }
-    requires xids { state.old.next < 4293967297 }
+    requires xids { state.old.next_xid < 4293967297 }
     ensures ok { IfOk result (λ a. asks_temp (state_of state.old) file true ≡ (state_of state.new, a)) }
     ensures done { IfOk result (λ a. a.missed ≡ false) }
     ensures err { OnErr result (state_of state.new ≡ state_of state.old) }
     ensures sound { IsSound state.new }
 {
-    let xid = state.next;
+    let xid = state.next_xid;
     let temp = state.next_temp;
     let handle = Handle::of_file(alloc, file)?;
     state.wait(alloc, file, Stage::Making { xid, temp }, xid + 1)?;
@@ -77,8 +77,8 @@ fn commit(
     count: u64,
 ) -> Result<ClientStep, AllocError>
     requires held { IsHeld state.old }
-    requires rises { state.old.next ≤ names.next }
-    requires xid { names.next + 1 < 4294967296 }
+    requires rises { state.old.next_xid ≤ names.next_xid }
+    requires xid { names.next_xid + 1 < 4294967296 }
     requires count { count ≡ length names.send }
     ensures ok { IfOk result (λ a. goes_if (state_of state.old) file (local_bytes state.old.opened.entries file) names true ≡ (state_of state.new, a)) }
     ensures done { IfOk result (λ a. a.missed ≡ false) }
@@ -88,14 +88,14 @@ fn commit(
 {
     let Names {
         store,
-        next,
+        next_xid,
         mut send,
     } = names;
     let temp = store.temp;
     drop(store);
     let size = parts::local_bytes(&state.opened, file).len() as u64;
-    calls::send_commit(alloc, next, temp, file, size, &mut send)?;
-    state.wait_there(alloc, file, Stage::Committing(next), next + 1)?;
+    calls::send_commit(alloc, next_xid, temp, file, size, &mut send)?;
+    state.wait_there(alloc, file, Stage::Committing(next_xid), next_xid + 1)?;
     Ok(parts::sends(send, stores::names_counted(count)))
 }
 
@@ -108,9 +108,9 @@ fn wait_names(
     count: u64,
 ) -> Result<ClientStep, AllocError>
     requires held { IsHeld state.old }
-    requires rises { state.old.next ≤ names.next }
+    requires rises { state.old.next_xid ≤ names.next_xid }
     requires within { IsStore names.store }
-    requires xids { HasXids names.next (stage.Storing names.store) }
+    requires xids { HasXids names.next_xid (stage.Storing names.store) }
     requires count { count ≡ length names.send }
     ensures ok { IfOk result (λ a. goes_if (state_of state.old) file (local_bytes state.old.opened.entries file) names false ≡ (state_of state.new, a)) }
     ensures done { IfOk result (λ a. a.missed ≡ false) }
@@ -118,8 +118,12 @@ fn wait_names(
     ensures sound { OnOk result (IsSound state.new) }
     ensures held { OnErr result (IsHeld state.new) }
 {
-    let Names { store, next, send } = names;
-    state.wait(alloc, file, Stage::Storing(store), next)?;
+    let Names {
+        store,
+        next_xid,
+        send,
+    } = names;
+    state.wait(alloc, file, Stage::Storing(store), next_xid)?;
     Ok(parts::sends(send, stores::names_counted(count)))
 }
 
@@ -133,7 +137,7 @@ fn go_on(
 ) -> Result<ClientStep, AllocError>
     requires held { IsHeld state.old }
     requires within { IsStore store }
-    requires xids { HasXids state.old.next (stage.Storing store) }
+    requires xids { HasXids state.old.next_xid (stage.Storing store) }
     ensures ok { IfOk result (λ a. goes_on (state_of state.old) file (local_bytes state.old.opened.entries file) store ≡ (state_of state.new, a)) }
     ensures done { IfOk result (λ a. a.missed ≡ false) }
     ensures err { OnErr result (whole_of state.new ≡ whole_of state.old) }
@@ -141,7 +145,7 @@ fn go_on(
     ensures held { OnErr result (IsHeld state.new) }
 {
     let named = store.named;
-    let names = calls::name_all(alloc, store, state.next)?;
+    let names = calls::name_all(alloc, store, state.next_xid)?;
     let count = (names.store.named - named) as u64;
     if calls::is_stored(&names.store) {
         commit(alloc, state, file, names, count)
@@ -158,7 +162,7 @@ pub fn store(
     temp: u32,
 ) -> Result<ClientStep, AllocError>
     requires held { IsHeld state.old }
-    requires xids { HasXids state.old.next (stage.Making 0 temp) }
+    requires xids { HasXids state.old.next_xid (stage.Making 0 temp) }
     ensures ok { IfOk result (λ a. goes_on (state_of state.old) file (local_bytes state.old.opened.entries file) (store_of temp (local_bytes state.old.opened.entries file)) ≡ (state_of state.new, a)) }
     ensures done { IfOk result (λ a. a.missed ≡ false) }
     ensures err { OnErr result (whole_of state.new ≡ whole_of state.old) }
@@ -182,14 +186,14 @@ fn send_whole(
 ) -> Result<ClientStep, AllocError>
     requires held { IsHeld state.old }
     requires within { IsStore store }
-    requires xids { state.old.next + store_left store + 1 < 4294967296 }
+    requires xids { state.old.next_xid + store_left store + 1 < 4294967296 }
     ensures ok { IfOk result (λ a. sends_whole (state_of state.old) file 0 (local_bytes state.old.opened.entries file) store call (Some chunk.now) ≡ (state_of state.new, a)) }
     ensures done { IfOk result (λ a. a.missed ≡ false) }
     ensures err { OnErr result (whole_of state.new ≡ whole_of state.old) }
     ensures sound { OnOk result (IsSound state.new) }
     ensures held { OnErr result (IsHeld state.new) }
 {
-    let xid = state.next;
+    let xid = state.next_xid;
     let temp = store.temp;
     let content = parts::local_bytes(&state.opened, file);
     let bytes = stores::bytes_count(content, chunk);
@@ -211,7 +215,7 @@ fn told_named(
 ) -> Result<ClientStep, AllocError>
     requires held { IsHeld state.old }
     requires within { IsStore store }
-    requires xids { state.old.next + store_left store + 1 < 4294967296 }
+    requires xids { state.old.next_xid + store_left store + 1 < 4294967296 }
     ensures ok { IfOk result (λ a. told_named (state_of state.old) state.old.waiting.calls file xid (local_bytes state.old.opened.entries file) store call answer.now ≡ (state_of state.new, a)) }
     ensures done { IfOk result (λ a. a.missed ≡ false) }
     ensures err { OnErr result (whole_of state.new ≡ whole_of state.old) }
@@ -243,7 +247,7 @@ pub fn told_chunk(
 ) -> Result<ClientStep, AllocError>
     requires held { IsHeld state.old }
     requires within { IsStore store }
-    requires xids { state.old.next + store_left store + calls_after call.way < 4294967296 }
+    requires xids { state.old.next_xid + store_left store + calls_after call.way < 4294967296 }
     ensures ok { IfOk result (λ a. told_way (state_of state.old) state.old.waiting.calls file xid (local_bytes state.old.opened.entries file) store call call.way body.now ≡ (state_of state.new, a)) }
     ensures done { IfOk result (λ a. a.missed ≡ false) }
     ensures err { OnErr result (whole_of state.new ≡ whole_of state.old) }

@@ -57,10 +57,10 @@ reads_kept cache index file f next r h = by (slice_get r.fetch.chunks r.fetch.as
           chunks = h.chunks;
         }
         chunk None at = record {
-          within = within r.fetch.slots (r.fetch.under ++ record { xid = r.next; index = r.fetch.asked } ∷ []) h.within.1;
+          within = within r.fetch.slots (r.fetch.under ++ record { xid = r.next_xid; index = r.fetch.asked } ∷ []) h.within.1;
           xids = (let x = h.xids in omega (arith, x, lt));
           rises = (let x = h.rises in omega (arith, x));
-          counted = (let x = h.counted in let p = pushed r.send (read_call r.next file c) in let q = length-append r.fetch.under (record { xid = r.next; index = r.fetch.asked } ∷ []) in omega (arith, x, p, q));
+          counted = (let x = h.counted in let p = pushed r.send (read_call r.next_xid file c) in let q = length-append r.fetch.under (record { xid = r.next_xid; index = r.fetch.asked } ∷ []) in omega (arith, x, p, q));
           further = (let x = h.further in omega (arith, x));
           chunks = h.chunks;
         }
@@ -70,7 +70,7 @@ pub next_is : (cache : Entries) (index : Indexed) (file : ℕ) (r : Reads) (o : 
 next_is cache index file r o c kept e h = ap (reads_chunk file r c) h ∙ ap (reads_next cache index file r) (sym e)
 
 -- where there is room for one, its xid has room
-pub read_xid : (f : Fetch) (next : ℕ) (r : Reads) → IsSendingReads f next r → r.next + 1 < 2 ^ 32
+pub read_xid : (f : Fetch) (next : ℕ) (r : Reads) → IsSendingReads f next r → r.next_xid + 1 < 2 ^ 32
 read_xid f next r h = let x = h.xids in omega (arith, x)
 
 -- so many chunks, after one of them

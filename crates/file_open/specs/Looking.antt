@@ -81,7 +81,7 @@ chunks_found cache index (c ∷ cs) = found_bytes (bytes_there cache c (place_of
 -- of each chunk that is looked up
 abbrev pub looked_by : State → Option (ℕ × Fetch) → List (List ℕ)
 looked_by s None = []
-looked_by s (Some p) = chunks_found s.cache s.index (looked_up p.1 (reads_all s.cache s.index p.0 p.1 s.next))
+looked_by s (Some p) = chunks_found s.cache s.index (looked_up p.1 (reads_all s.cache s.index p.0 p.1 s.next_xid))
 
 -- ---- what enters then
 
@@ -98,7 +98,7 @@ entering_if file f r false = None
 abbrev pub entering_by : State → Option (ℕ × Fetch) → Option Entering
 entering_by s None = None
 entering_by s (Some p) =
-    let r : Reads = reads_all s.cache s.index p.0 p.1 s.next in
+    let r : Reads = reads_all s.cache s.index p.0 p.1 s.next_xid in
     entering_if p.0 p.1 r (is_here r.fetch)
 
 -- at what comes

@@ -51,15 +51,15 @@ listed f = record f { slots = replicate (length f.chunks) None }
 -- ---- their bytes
 
 abbrev pub reads_from : Fetch → ℕ → Reads
-reads_from f next = record { fetch = f; next = next; send = [] }
+reads_from f next = record { fetch = f; next_xid = next; send = [] }
 
 -- the chunk's bytes are taken from what is kept, or it is asked for
 abbrev pub reads_chunk : (file : ℕ) → Reads → Chunk → (kept : Option (List ℕ)) → Reads
 reads_chunk file r c (Some bytes) = record r { fetch = record r.fetch { asked = r.fetch.asked + 1; slots = slice_set r.fetch.slots r.fetch.asked (Some bytes) } }
 reads_chunk file r c None = record r {
-  fetch = record r.fetch { asked = r.fetch.asked + 1; under = r.fetch.under ++ record { xid = r.next; index = r.fetch.asked } ∷ [] };
-  next = r.next + 1;
-  send = r.send ++ read_call r.next file c ∷ [];
+  fetch = record r.fetch { asked = r.fetch.asked + 1; under = r.fetch.under ++ record { xid = r.next_xid; index = r.fetch.asked } ∷ [] };
+  next_xid = r.next_xid + 1;
+  send = r.send ++ read_call r.next_xid file c ∷ [];
 }
 
 -- the chunk is looked up, if it is there

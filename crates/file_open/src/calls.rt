@@ -26,7 +26,7 @@ use wire::message::Message;
 /// A fetch, the next xid, and the READs that were sent for it by now.
 pub struct Reads {
     pub fetch: Fetch,
-    pub next: u32,
+    pub next_xid: u32,
     pub send: SendList<Message>,
 }
 
@@ -38,18 +38,18 @@ fn ask_chunk(
     index: usize,
     chunk: &Chunk,
 ) -> Result<(), AllocError>
-    requires xid { reads.old.next + 1 < 4294967296 }
+    requires xid { reads.old.next_xid + 1 < 4294967296 }
     requires len { chunk.now.len < 4294967296 }
     requires index { index ≡ reads.old.fetch.asked }
     requires more { index + 1 < 18446744073709551616 }
     ensures { OnOk result (reads.new ≡ reads_chunk file reads.old chunk.now None) }
 {
-    let xid = reads.next;
+    let xid = reads.next_xid;
     let call = messages::read_call(alloc, xid, file, chunk)?;
     reads.send.push(call)?;
     reads.fetch.under.push(ReadCall { xid, index })?;
     reads.fetch.asked = index + 1;
-    reads.next = xid + 1;
+    reads.next_xid = xid + 1;
     Ok(())
 }
 
@@ -62,7 +62,7 @@ fn take_chunk(
     chunk: &Chunk,
     kept: Option<Bytes>,
 ) -> Result<(), AllocError>
-    requires xid { reads.old.next + 1 < 4294967296 }
+    requires xid { reads.old.next_xid + 1 < 4294967296 }
     requires len { chunk.now.len < 4294967296 }
     requires place { place ≡ reads.old.fetch.asked }
     requires slot { place < length reads.old.fetch.slots }
@@ -88,7 +88,7 @@ fn read_next(
     file: u64,
     reads: &mut Reads,
 ) -> Result<(), AllocError>
-    requires xid { reads.old.next + 1 < 4294967296 }
+    requires xid { reads.old.next_xid + 1 < 4294967296 }
     requires within { IsReading reads.old.fetch }
     ensures { OnOk result (reads.new ≡ reads_next cache.now index.now file reads.old (slice_get reads.old.fetch.chunks reads.old.fetch.asked)) }
 {
@@ -104,7 +104,7 @@ fn read_next(
 pub fn let_go(reads: Reads) {
     let Reads {
         fetch,
-        next: _,
+        next_xid: _,
         send,
     } = reads;
     drop(fetch);
@@ -118,17 +118,17 @@ pub fn read_all(
     index: &Index,
     file: u64,
     fetch: Fetch,
-    next: u32,
+    next_xid: u32,
 ) -> Result<Reads, AllocError>
     requires within { IsReading fetch }
-    requires xids { HasXids next (stage.Reading fetch) }
-    ensures all { IfOk result (λ r. r ≡ reads_all cache.now index.now file fetch next) }
-    ensures sending { IfOk result (λ r. IsSendingReads fetch next r) }
+    requires xids { HasXids next_xid (stage.Reading fetch) }
+    ensures all { IfOk result (λ r. r ≡ reads_all cache.now index.now file fetch next_xid) }
+    ensures sending { IfOk result (λ r. IsSendingReads fetch next_xid r) }
 {
     let left = fetch.chunks.len() - fetch.asked;
     let mut reads = Reads {
         fetch,
-        next,
+        next_xid,
         send: SendList::none(alloc),
     };
     for _i in 0..left {

@@ -109,7 +109,7 @@ pub fn told_leased(
 ) -> Result<ClientStep, AllocError>
     requires held { IsHeld state.old }
     requires there { IsThere state.old.cache file }
-    requires xids { HasXids state.old.next (stage.Asking 0) }
+    requires xids { HasXids state.old.next_xid (stage.Asking 0) }
     ensures ok { IfOk result (λ a. uses_kept (state_of state.old) state.old.waiting.calls file xid version (content_in version (content_of state.old.cache file)) ≡ (state_of state.new, a)) }
     ensures done { IfOk result (λ a. a.missed ≡ false) }
     ensures err { OnErr result (whole_of state.new ≡ whole_of state.old) }

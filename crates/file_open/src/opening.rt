@@ -52,14 +52,14 @@ pub fn open(alloc: Global, state: &mut ClientState, file: u64) -> Result<ClientS
 /// changes nothing.
 pub fn ask_file(alloc: Global, state: &mut ClientState, file: u64) -> Result<ClientStep, AllocError>
     requires held { IsHeld state.old }
-    requires xids { HasXids (state.old.next + 1) (stage.Asking 0) }
+    requires xids { HasXids (state.old.next_xid + 1) (stage.Asking 0) }
     ensures ok { IfOk result (λ a. asks_file (state_of state.old) file true ≡ (state_of state.new, a)) }
     ensures done { IfOk result (λ a. a.missed ≡ false) }
     ensures err { OnErr result (whole_of state.new ≡ whole_of state.old) }
     ensures sound { OnOk result (IsSound state.new) }
     ensures held { OnErr result (IsHeld state.new) }
 {
-    let xid = state.next;
+    let xid = state.next_xid;
     let handle = Handle::of_file(alloc, file)?;
     if caching::is_kept(&state.cache, file) {
         state.wait_there(alloc, file, Stage::Asking(xid), xid + 1)?;
@@ -113,14 +113,14 @@ pub fn retry(
     requires held { IsHeld state.old }
     requires there { IsThere state.old.cache file }
     requires tries { tries < tries_most }
-    requires xids { state.old.next + 1 + later_left tries < 4294967296 }
+    requires xids { state.old.next_xid + 1 + later_left tries < 4294967296 }
     ensures ok { IfOk result (λ a. tries_anew (forgets (state_of state.old) state.old.waiting.calls xid) file (tries + 1) bytes ≡ (state_of state.new, a)) }
     ensures done { IfOk result (λ a. a.missed ≡ false) }
     ensures err { OnErr result (whole_of state.new ≡ whole_of state.old) }
     ensures sound { OnOk result (IsSound state.new) }
     ensures held { OnErr result (IsHeld state.new) }
 {
-    let asked = state.next;
+    let asked = state.next_xid;
     let handle = Handle::of_file(alloc, file)?;
     state.wait_anew(alloc, file, tries + 1, xid)?;
     let call = messages::hash_call(asked, handle, 0);
@@ -141,7 +141,7 @@ fn change(
     requires held { IsHeld state.old }
     requires there { IsThere state.old.cache file }
     requires tries { fetch.now.tries ≤ tries_most }
-    requires xids { state.old.next + 1 + later_left fetch.now.tries < 4294967296 }
+    requires xids { state.old.next_xid + 1 + later_left fetch.now.tries < 4294967296 }
     ensures ok { IfOk result (λ a. changes (state_of state.old) state.old.waiting.calls file xid fetch.now version bytes ≡ (state_of state.new, a)) }
     ensures done { IfOk result (λ a. a.missed ≡ false) }
     ensures err { OnErr result (whole_of state.new ≡ whole_of state.old) }
@@ -173,8 +173,8 @@ fn wait_reads(
     requires held { IsHeld state.old }
     requires there { IsThere state.old.cache file }
     requires within { IsReading reads.fetch }
-    requires xids { HasXids reads.next (stage.Reading reads.fetch) }
-    requires rises { state.old.next ≤ reads.next }
+    requires xids { HasXids reads.next_xid (stage.Reading reads.fetch) }
+    requires rises { state.old.next_xid ≤ reads.next_xid }
     requires from { from ≤ reads.fetch.asked }
     requires count { count ≡ length reads.send }
     ensures ok { IfOk result (λ a. reads_if (record (state_of state.old) { index = found_all state.old.index (take (reads.fetch.asked - from) (drop from reads.fetch.chunks)) }) state.old.waiting.calls file 0 reads bytes false ≡ (state_of state.new, a)) }
@@ -183,10 +183,14 @@ fn wait_reads(
     ensures sound { OnOk result (IsSound state.new) }
     ensures held { OnErr result (IsHeld state.new) }
 {
-    let Reads { fetch, next, send } = reads;
+    let Reads {
+        fetch,
+        next_xid,
+        send,
+    } = reads;
     let (calls, own) = state.list_reads(alloc, fetch.under.as_slice())?;
     caching::find_asked(&mut state.index, &fetch, from);
-    state.set_waiting(calls, own, file, Stage::Reading(fetch), next);
+    state.set_waiting(calls, own, file, Stage::Reading(fetch), next_xid);
     Ok(calls::sends_reads(send, count, bytes))
 }
 
@@ -203,7 +207,7 @@ fn read_on(
     requires held { IsHeld state.old }
     requires there { IsThere state.old.cache file }
     requires within { IsReading fetch }
-    requires xids { HasXids state.old.next (stage.Reading fetch) }
+    requires xids { HasXids state.old.next_xid (stage.Reading fetch) }
     ensures ok { IfOk result (λ a. Comes state.old.index (entering_by (state_of state.old) (Some (file, fetch))) (reads_on (state_of state.old) state.old.waiting.calls file xid fetch bytes) (state_of state.new) a) }
     ensures err { OnErr result (whole_of state.new ≡ whole_of state.old) }
     ensures sound { OnOk result (IsSound state.new) }
@@ -211,7 +215,14 @@ fn read_on(
 {
     let from = fetch.asked;
     let under = fetch.under.len();
-    let reads = calls::read_all(alloc, &state.cache, &state.index, file, fetch, state.next)?;
+    let reads = calls::read_all(
+        alloc,
+        &state.cache,
+        &state.index,
+        file,
+        fetch,
+        state.next_xid,
+    )?;
     if calls::is_here(&reads.fetch) {
         let done = opened_with(alloc, state, file, &reads.fetch, from, xid, bytes);
         calls::let_go(reads);
@@ -232,14 +243,14 @@ fn list_on(
     requires held { IsHeld state.old }
     requires there { IsThere state.old.cache file }
     requires within { IsListing fetch }
-    requires xids { HasXids (state.old.next + 1) (stage.Listing 0 fetch) }
+    requires xids { HasXids (state.old.next_xid + 1) (stage.Listing 0 fetch) }
     ensures ok { IfOk result (λ a. lists_on (state_of state.old) state.old.waiting.calls file 0 fetch false ≡ (state_of state.new, a)) }
     ensures done { IfOk result (λ a. a.missed ≡ false) }
     ensures err { OnErr result (whole_of state.new ≡ whole_of state.old) }
     ensures sound { OnOk result (IsSound state.new) }
     ensures held { OnErr result (IsHeld state.new) }
 {
-    let xid = state.next;
+    let xid = state.next_xid;
     let offset = shape::end_of(fetch.chunks.as_slice());
     let handle = Handle::of_file(alloc, file)?;
     state.wait(alloc, file, Stage::Listing { xid, fetch }, xid + 1)?;
@@ -261,7 +272,7 @@ fn add_piece(
     requires there { IsThere state.old.cache file }
     requires within { IsListing fetch }
     requires can { broken_of fetch hashes.now ≡ None }
-    requires xids { HasXids state.old.next (stage.Listing 0 fetch) }
+    requires xids { HasXids state.old.next_xid (stage.Listing 0 fetch) }
     ensures ok { IfOk result (λ a. Comes state.old.index (entering_by (state_of state.old) (with_file file (listed_if fetch hashes.now true None hashes.now.eof))) (lists_on (state_of state.old) state.old.waiting.calls file xid (with_hashes fetch hashes.now) hashes.now.eof) (state_of state.new) a) }
     ensures err { OnErr result (whole_of state.new ≡ whole_of state.old) }
     ensures sound { OnOk result (IsSound state.new) }
@@ -289,7 +300,7 @@ pub fn told_hashes(
     requires held { IsHeld state.old }
     requires there { IsThere state.old.cache file }
     requires within { IsListing fetch }
-    requires xids { HasXids state.old.next (stage.Listing 0 fetch) }
+    requires xids { HasXids state.old.next_xid (stage.Listing 0 fetch) }
     ensures ok { IfOk result (λ a. Comes state.old.index (entering_by (state_of state.old) (with_file file (listed_by fetch hashes.now))) (told_version (state_of state.old) state.old.waiting.calls file xid fetch hashes.now (hashes.now.version == fetch.version)) (state_of state.new) a) }
     ensures err { OnErr result (whole_of state.new ≡ whole_of state.old) }
     ensures sound { OnOk result (IsSound state.new) }
@@ -321,7 +332,7 @@ fn told_bytes(
     requires held { IsHeld state.old }
     requires there { IsThere state.old.cache file }
     requires within { IsReading fetch }
-    requires xids { HasXids state.old.next (stage.Reading fetch) }
+    requires xids { HasXids state.old.next_xid (stage.Reading fetch) }
     requires chunk { slice_get fetch.chunks call.index ≡ Some chunk.now }
     ensures ok { IfOk result (λ a. Comes state.old.index (entering_by (state_of state.old) (with_file file (taken_if fetch call piece (fault_in chunk.now piece.bytes (length piece.bytes == chunk.now.len))))) (told_bytes (state_of state.old) state.old.waiting.calls file xid fetch call piece (fault_in chunk.now piece.bytes (length piece.bytes == chunk.now.len))) (state_of state.new) a) }
     ensures err { OnErr result (whole_of state.new ≡ whole_of state.old) }
@@ -362,7 +373,7 @@ pub fn told_piece(
     requires held { IsHeld state.old }
     requires there { IsThere state.old.cache file }
     requires within { IsReading fetch }
-    requires xids { HasXids state.old.next (stage.Reading fetch) }
+    requires xids { HasXids state.old.next_xid (stage.Reading fetch) }
     ensures ok { IfOk result (λ a. Comes state.old.index (entering_by (state_of state.old) (with_file file (taken_by fetch piece (read_at fetch.under xid)))) (told_piece (state_of state.old) state.old.waiting.calls file xid fetch piece (read_at fetch.under xid)) (state_of state.new) a) }
     ensures err { OnErr result (whole_of state.new ≡ whole_of state.old) }
     ensures sound { OnOk result (IsSound state.new) }

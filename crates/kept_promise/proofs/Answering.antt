@@ -45,7 +45,7 @@ AnswersBy s d r None = (r.1.ended ≡ None) × (r.0.opened ≡ s.opened) × Valu
 
 -- what else a command leaves
 abbrev pub Stays : client.State → client.State → Type 0
-Stays s r = (r.next ≤ s.next + calls_most) × (r.linked ≡ s.linked)
+Stays s r = (r.next_xid ≤ s.next_xid + calls_most) × (r.linked ≡ s.linked)
 
 abbrev pub IsAnswered : client.State → Command → client.State × ClientStep → Type 0
 IsAnswered s d r = Stays s r.0 × AnswersBy s d r (own_answer false (may_ask s) d (local_of s (file_of d)))
@@ -172,17 +172,17 @@ few_calls _ h = let few = h.0.1 in omega (arith, few)
 walk_asks : (s : client.State) (k : PathCommand) → HasNames k → may_walk s (begun k) ≡ may_ask s
 walk_asks s k names = by (may_ask s) refl
   where
-    room : (l : Bool) → elim l as (λ (x : Bool). Bool) [ true ↦ has_xids s.next | false ↦ false ] ≡ true → has_xids s.next ≡ true
+    room : (l : Bool) → elim l as (λ (x : Bool). Bool) [ true ↦ has_xids s.next_xid | false ↦ false ] ≡ true → has_xids s.next_xid ≡ true
     room true e = e
     room false e = absurd cc
 
-    by : (b : Bool) → may_ask s ≡ b → (b && nat_lt (s.next + 1 + walk_left (begun k)) 4294967296) ≡ b
+    by : (b : Bool) → may_ask s ≡ b → (b && nat_lt (s.next_xid + 1 + walk_left (begun k)) 4294967296) ≡ b
     by true e =
         let few = few_calls k names in
         let x = room s.linked e in
-        let lt : s.next < 4293967297 = grind (arith, nat_tests, x) in
-        let fits : s.next + 1 + walk_left (begun k) < 4294967296 = omega (arith, lt, few) in
-        let b : nat_lt (s.next + 1 + walk_left (begun k)) 4294967296 ≡ true = grind (arith, nat_tests, fits) in
+        let lt : s.next_xid < 4293967297 = grind (arith, nat_tests, x) in
+        let fits : s.next_xid + 1 + walk_left (begun k) < 4294967296 = omega (arith, lt, few) in
+        let b : nat_lt (s.next_xid + 1 + walk_left (begun k)) 4294967296 ≡ true = grind (arith, nat_tests, fits) in
         b
     by false e = refl
 

@@ -177,11 +177,11 @@ pub record Free (book : Book) (k : Core) (qs : List Queue) (c n : ℕ) (x : Sess
   pub free : job seat ≡ None
 
 abbrev pub begun_client : client.State → (cache : Entries) → (temp file : ℕ) → Stage → client.State
-begun_client s cache temp file g = record s { cache = cache; next = s.next + 1; next_temp = temp; task = Some (record { file = file; stage = g }) }
+begun_client s cache temp file g = record s { cache = cache; next_xid = s.next_xid + 1; next_temp = temp; task = Some (record { file = file; stage = g }) }
 
 -- what an operation shows that begins
 pub record Starts (book : Book) (k : Core) (qs : List Queue) (c n : ℕ) (x : Session) (q : Queue) (seat : Seat) (new : Op) (cache : Entries) (temp file : ℕ) (s : Stage) (a : Ask) (closing : Option ℕ) (value : List ℕ) : Type 0 where
-  pub first : First seat.client.next s a
+  pub first : First seat.client.next_xid s a
   pub of_client : new.client ≡ c
   pub word : new.word ≡ stage_word s
   pub of_file : new.file ≡ file
@@ -199,8 +199,8 @@ pub record Starts (book : Book) (k : Core) (qs : List Queue) (c n : ℕ) (x : Se
   pub fetch : (taken : List TakenCall) → FetchOf (onward book 1 (book.ops ++ new ∷ [])) taken (record { place = length book.ops; file = file; stage = s }) s
   pub closes : (contents : ℕ → List ℕ) → contents seat.client.next_temp ≡ value → CloseOf (onward book 1 (book.ops ++ new ∷ [])) closing contents temp (record { place = length book.ops; file = file; stage = s }) (client.local_bytes seat.client.opened file) s
   pub trying : (m y : ℕ) → s ≡ stage.Hashing m y → Trying (onward book 1 (book.ops ++ new ∷ [])) (record { place = length book.ops; file = file; stage = s }) m
-  pub xids : HasXids (seat.client.next + 1) s
-  pub bounded : (seat.client.next + 1 ≤ 4294967296) × (temp ≤ seat.client.next + 1)
+  pub xids : HasXids (seat.client.next_xid + 1) s
+  pub bounded : (seat.client.next_xid + 1 ≤ 4294967296) × (temp ≤ seat.client.next_xid + 1)
   pub closing_is : (closing ≡ x.closing) ⊎ (closing ≡ Some (length book.ops))
   pub place : (d : Seat) → job d ≡ Some (record { place = length book.ops; file = file; stage = s }) → InPlace (job d) (locals_of d.client) a.xid a.call
   pub begins : BeginsWith s a
@@ -255,11 +255,11 @@ kept_begins book k qs c n x q seat new cache temp file s a closing value seats s
         talk = λ u. record {
           floor = talk.floor;
           under = talk.under;
-          rising = unless_rising x.hung talk.floor q.ups a seat.client.next talk.rising w.first.xid;
-          asked = all_unless (IsAsked (Some j)) x.hung q.ups (a ∷ []) (all_map (λ (v : Ask). v.xid < seat.client.next) (IsAsked (Some j)) (λ v lt. call_first seat.client.next j s a w.first refl v.xid v.call lt) q.ups (asks_below talk.floor q.ups seat.client.next talk.rising)) (w.asked, tt);
-          answers = all_map (λ (v : Told). v.xid < seat.client.next) (IsAnswer more x.taken closing (Some j)) (λ v lt. answer_first more x.taken closing seat.client.next j s a w.first refl v.xid v.reply lt) q.downs (tolds_below n k.server.waiting q x.hung seat.client.next (client.calls_of seat.client) talk.balanced);
+          rising = unless_rising x.hung talk.floor q.ups a seat.client.next_xid talk.rising w.first.xid;
+          asked = all_unless (IsAsked (Some j)) x.hung q.ups (a ∷ []) (all_map (λ (v : Ask). v.xid < seat.client.next_xid) (IsAsked (Some j)) (λ v lt. call_first seat.client.next_xid j s a w.first refl v.xid v.call lt) q.ups (asks_below talk.floor q.ups seat.client.next_xid talk.rising)) (w.asked, tt);
+          answers = all_map (λ (v : Told). v.xid < seat.client.next_xid) (IsAnswer more x.taken closing (Some j)) (λ v lt. answer_first more x.taken closing seat.client.next_xid j s a w.first refl v.xid v.reply lt) q.downs (tolds_below n k.server.waiting q x.hung seat.client.next_xid (client.calls_of seat.client) talk.balanced);
           fetch = λ i e. subst (λ (z : Job). FetchOf more x.taken z z.stage) (some_is j i e) (w.fetch x.taken);
-          balanced = subst (IsBalanced n k.server.waiting (record { ups = ups; downs = q.downs }) x.hung (seat.client.next + 1)) (sym calls) (balanced_first n k.server.waiting q x.hung seat.client.next seat.client.forgotten a w.first.xid (subst (IsBalanced n k.server.waiting q x.hung seat.client.next) forgot talk.balanced));
+          balanced = subst (IsBalanced n k.server.waiting (record { ups = ups; downs = q.downs }) x.hung (seat.client.next_xid + 1)) (sym calls) (balanced_first n k.server.waiting q x.hung seat.client.next_xid seat.client.forgotten a w.first.xid (subst (IsBalanced n k.server.waiting q x.hung seat.client.next_xid) forgot talk.balanced));
           busy = λ i e. subst (λ (z : Job). 0 < length (client.pending_in z.stage)) (some_is j i e) (let l = ap (λ (z : List Pending). length z) w.first.pending in omega (arith, l));
         };
         contents = contents;
@@ -284,7 +284,7 @@ kept_begins book k qs c n x q seat new cache temp file s a closing value seats s
         matched = inr (j, refl);
         task = λ i e. subst (IsOf more c) (some_is j i e) new_job;
         trying = λ i m z e f. let same = some_is j i e in subst (λ (v : Job). Trying more v m) same (w.trying m z (ap (λ (v : Job). v.stage) same ∙ f));
-        xids = λ i e. subst (λ (z : Job). HasXids (seat.client.next + 1) z.stage) (some_is j i e) w.xids;
+        xids = λ i e. subst (λ (z : Job). HasXids (seat.client.next_xid + 1) z.stage) (some_is j i e) w.xids;
         next = w.bounded;
         opened = λ f l e. let o = seat_was.opened f l e in (there_later book more None None f goes.grows o.0, o.1);
         kept = cached_later book more None None cache goes.grows w.cached;

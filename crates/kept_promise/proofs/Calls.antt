@@ -142,8 +142,8 @@ place_at book k qs n now x q a us g uncut = let h = session_in book k qs n now x
 pub rest_above : (book : Book) (k : Core) (qs : List Queue) (n now : ℕ) (x : Session) (q : Queue) (a : Ask) (us : List Ask) → (g : Given book k qs n now x q a us) → x.cut ≡ false → (i : ℕ) (b : Ask) → slice_get us i ≡ Some b → b.xid ≡ a.xid → ⊥
 rest_above book k qs n now x q a us g uncut i b at e =
     let talk = (session_in book k qs n now x q a us g).talk uncut in
-    let r = (subst (λ (l : List Ask). Rising talk.floor l (session_in book k qs n now x q a us g).seat.client.next) g.first talk.rising).1 in
-    let le = above (a.xid + 1) us (session_in book k qs n now x q a us g).seat.client.next r i b at in
+    let r = (subst (λ (l : List Ask). Rising talk.floor l (session_in book k qs n now x q a us g).seat.client.next_xid) g.first talk.rising).1 in
+    let le = above (a.xid + 1) us (session_in book k qs n now x q a us g).seat.client.next_xid r i b at in
     omega (arith, le, e)
   where
     above : (n : ℕ) (us : List Ask) (top : ℕ) → Rising n us top → (i : ℕ) (b : Ask) → slice_get us i ≡ Some b → n ≤ b.xid
@@ -269,7 +269,7 @@ serve_make laws book k qs n now x q xid m f us g = by (node_of k.server.tree (ha
     unrefused : x.cut ≡ false → DownRefused ts xid → ⊥
     unrefused uncut d =
         let old = refused_before q.downs (record { xid = xid; reply = Made (Done tt) }) xid tt (subst (λ (b : Bool). DownRefused (unless b q.downs (record { xid = xid; reply = Made (Done tt) } ∷ [])) xid) uncut d) in
-        up_untold n k.server.waiting q x.hung h.seat.client.next (client.calls_of h.seat.client) 0 old.0 a (record { xid = xid; reply = Made (Failed old.1 old.2) }) (h.talk uncut).balanced (ap (λ (l : List Ask). slice_get l 0) g.first) old.3 refl
+        up_untold n k.server.waiting q x.hung h.seat.client.next_xid (client.calls_of h.seat.client) 0 old.0 a (record { xid = xid; reply = Made (Failed old.1 old.2) }) (h.talk uncut).balanced (ap (λ (l : List Ask). slice_get l 0) g.first) old.3 refl
 
     made : x.cut ≡ false → Wanted (onward book 1 book.ops) (job h.seat) xid (Made (Done tt))
     made uncut = let p = place_at book k qs n now x q a us g uncut in (p.0, m, p.1, p.2, tt)

@@ -182,7 +182,7 @@ pub forgets : (book : Book) (k : Core) (qs : List Queue) (n : ℕ) (x : Session)
 forgets book k qs n x q t ts j g =
     let h = session_at book k qs n x q t ts j g in
     let b = (h.talk g.uncut).balanced in
-    let there = told_there n k.server.waiting q x.hung h.seat.client.next (client.calls_of h.seat.client) 0 t b (ap (λ (l : List Told). slice_get l 0) g.first) in
+    let there = told_there n k.server.waiting q x.hung h.seat.client.next_xid (client.calls_of h.seat.client) 0 t b (ap (λ (l : List Told). slice_get l 0) g.first) in
     moves_ends (client.calls_of h.seat.client) there.0 t there.1 (b.once t.xid)
 
 -- ---- it was refused

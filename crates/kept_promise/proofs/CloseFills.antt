@@ -21,11 +21,11 @@ held_now book k qs n x q t ts j g s at up =
 
 -- no other call has the answer's xid
 no_up : (book : Book) (k : Core) (qs : List Queue) (n : ℕ) (x : Session) (q : Queue) (t : Told) (ts : List Told) (j : Job) (g : Here book k qs n x q t ts j) (i : ℕ) (a : Ask) → slice_get q.ups i ≡ Some a → a.xid ≡ t.xid → ⊥
-no_up book k qs n x q t ts j g i a at = let h = session_at book k qs n x q t ts j g in up_apart n k.server.waiting q x.hung h.seat.client.next (client.calls_of h.seat.client) t ts i a (h.talk g.uncut).balanced g.first at
+no_up book k qs n x q t ts j g i a at = let h = session_at book k qs n x q t ts j g in up_apart n k.server.waiting q x.hung h.seat.client.next_xid (client.calls_of h.seat.client) t ts i a (h.talk g.uncut).balanced g.first at
 
 -- nor has any other answer
 no_down : (book : Book) (k : Core) (qs : List Queue) (n : ℕ) (x : Session) (q : Queue) (t : Told) (ts : List Told) (j : Job) (g : Here book k qs n x q t ts j) → DownKnown ts t.xid → ⊥
-no_down book k qs n x q t ts j g z = let h = session_at book k qs n x q t ts j g in down_apart n k.server.waiting q x.hung h.seat.client.next (client.calls_of h.seat.client) t ts z.0 (record { xid = t.xid; reply = known_reply }) (h.talk g.uncut).balanced g.first z.1 refl
+no_down book k qs n x q t ts j g z = let h = session_at book k qs n x q t ts j g in down_apart n k.server.waiting q x.hung h.seat.client.next_xid (client.calls_of h.seat.client) t ts z.0 (record { xid = t.xid; reply = known_reply }) (h.talk g.uncut).balanced g.first z.1 refl
 
 pub filled_made : (book : Book) (k : Core) (qs : List Queue) (n : ℕ) (x : Session) (q : Queue) (t : Told) (ts : List Told) (j : Job) (g : Here book k qs n x q t ts j) (temp : ℕ) → j.stage ≡ stage.Making t.xid temp → (u : Unit {0}) → t.reply ≡ Made (Done u) → Filled book k qs n x q t ts j g q.ups (store_of temp (local_of g))
 filled_made book k qs n x q t ts j g temp waits u done up =
@@ -37,7 +37,7 @@ filled_made book k qs n x q t ts j g temp waits u done up =
 
     refused : DownRefused (t ∷ ts) t.xid → ⊥
     refused (zero, s, v, e) = apart s v (sym done ∙ ap (λ (z : Told). z.reply) (some_is t _ e))
-    refused (suc i, s, v, e) = let h = session_at book k qs n x q t ts j g in down_apart n k.server.waiting q x.hung h.seat.client.next (client.calls_of h.seat.client) t ts i (record { xid = t.xid; reply = Made (Failed s v) }) (h.talk g.uncut).balanced g.first e refl
+    refused (suc i, s, v, e) = let h = session_at book k qs n x q t ts j g in down_apart n k.server.waiting q x.hung h.seat.client.next_xid (client.calls_of h.seat.client) t ts i (record { xid = t.xid; reply = Made (Failed s v) }) (h.talk g.uncut).balanced g.first e refl
 
 stored_at : (book : Book) (k : Core) (qs : List Queue) (n : ℕ) (x : Session) (q : Queue) (t : Told) (ts : List Told) (j : Job) (g : Here book k qs n x q t ts j) (st : Store) (u : StoreCall) (w : Way) → j.stage ≡ stage.Storing st → store_at st.under t.xid ≡ Some u → u.way ≡ w → InStore (local_of g) st t.xid u
 stored_at book k qs n x q t ts j g st u w waits found by_way = let h = session_at book k qs n x q t ts j g in in_store book k.seats k.server n x q h g.uncut t.xid w (record { of = j; is = g.job_is; store = st; at = waits; call = u; found = found; way = by_way })
@@ -52,11 +52,11 @@ filled_answered book k qs n x q t ts j g st u waits found whole none up =
     (f.0, f.1, holds_answered (local_of g) q.ups ts st f.0.pieces t.xid s.place u s.there s.same whole (λ i w at e. alone (local_of g) st t.xid u s i w at e) (λ (z : UpSend q.ups t.xid). no_up book k qs n x q t ts j g z.0 (record { xid = t.xid; call = Send z.1 z.2 z.3 }) z.4 refl) (holds_heard (local_of g) q.ups t ts st f.0.pieces none f.2))
 
 pub filled_named : (book : Book) (k : Core) (qs : List Queue) (n : ℕ) (x : Session) (q : Queue) (t : Told) (ts : List Told) (j : Job) (g : Here book k qs n x q t ts j) (st : Store) (u : StoreCall) (c : Chunk) → j.stage ≡ stage.Storing st → store_at st.under t.xid ≡ Some u → u.way ≡ way.Named → TellsNone t.reply
-    → Filled book k qs n x q t ts j g (q.ups ++ sending (answered st t.xid) (seat_at g).client.next (local_of g) c) (with_whole (answered st t.xid) u (seat_at g).client.next)
+    → Filled book k qs n x q t ts j g (q.ups ++ sending (answered st t.xid) (seat_at g).client.next_xid (local_of g) c) (with_whole (answered st t.xid) u (seat_at g).client.next_xid)
 filled_named book k qs n x q t ts j g st u c waits found by_name none up =
     let f = held_now book k qs n x q t ts j g (stage.Storing st) waits up in
     let s = stored_at book k qs n x q t ts j g st u way.Named waits found by_name in
-    (f.0, f.1, holds_whole (local_of g) q.ups ts st f.0.pieces t.xid s.place (seat_at g).client.next st.temp c.start (chunk_bytes (local_of g) c) u s.there s.same by_name (λ i w at e. alone (local_of g) st t.xid u s i w at e) (λ i w at. store_older book k qs n x q t ts j g st i w waits at) (no_down book k qs n x q t ts j g) (holds_heard (local_of g) q.ups t ts st f.0.pieces none f.2))
+    (f.0, f.1, holds_whole (local_of g) q.ups ts st f.0.pieces t.xid s.place (seat_at g).client.next_xid st.temp c.start (chunk_bytes (local_of g) c) u s.there s.same by_name (λ i w at e. alone (local_of g) st t.xid u s i w at e) (λ i w at. store_older book k qs n x q t ts j g st i w waits at) (no_down book k qs n x q t ts j g) (holds_heard (local_of g) q.ups t ts st f.0.pieces none f.2))
 
 -- the server knew the chunk
 pub filled_known : (book : Book) (k : Core) (qs : List Queue) (n : ℕ) (x : Session) (q : Queue) (t : Told) (ts : List Told) (j : Job) (g : Here book k qs n x q t ts j) (st : Store) (u : StoreCall) → j.stage ≡ stage.Storing st → store_at st.under t.xid ≡ Some u → u.way ≡ way.Named → t.reply ≡ known_reply → Filled book k qs n x q t ts j g q.ups (answered st t.xid)

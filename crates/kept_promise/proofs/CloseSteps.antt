@@ -79,12 +79,12 @@ pub record Ready (book : Book) (k : Core) (qs : List Queue) (n : ℕ) (x : Sessi
   pub temp : st.temp < (seat_at g).client.next_temp
   pub storing : IsStoring (local_of g) st
   pub pend : (f : Pending → ℕ) (y : ℕ) → times y (map f (map store_pending st.under)) + times y (map f (seat_at g).client.forgotten) + times y (f (told_pending t) ∷ []) ≡ times y (map f (client.calls_of (seat_at g).client))
-  pub xids : (seat_at g).client.next + 80001 + names_in st.under ≤ 4294967296 + 2 * st.named
+  pub xids : (seat_at g).client.next_xid + 80001 + names_in st.under ≤ 4294967296 + 2 * st.named
   -- what else is on its way is of this store
   pub places : AllAsks (IsInPlace (Some (on j (stage.Storing st))) (locals_of (seat_at g).client)) q.ups
   pub wants : AllTolds (IsWanted book (Some (on j (stage.Storing st)))) ts
   pub known : WasThere book j.file
-  pub older : (i : ℕ) (w : StoreCall) → slice_get st.under i ≡ Some w → w.xid < (seat_at g).client.next
+  pub older : (i : ℕ) (w : StoreCall) → slice_get st.under i ≡ Some w → w.xid < (seat_at g).client.next_xid
 
 -- and what its temporary file holds, where the server has the connection
 abbrev pub Filled : (book : Book) (k : Core) (qs : List Queue) (n : ℕ) (x : Session) (q : Queue) (t : Told) (ts : List Told) (j : Job) (g : Here book k qs n x q t ts j) (us : List Ask) (st : Store) → Type 0
@@ -176,25 +176,25 @@ part_named v (u ∷ us) (suc m) temp a c at e = Contains-append_right (part_of_n
 part_named v (u ∷ us) zero temp a c at e = subst (λ (d : Call). Contains (part_of_named v (call_message u.xid d) ++ parts_named v (map ask_message us)) (chunk_bytes v c)) (sym (ap (λ (z : Ask). z.call) (some_is u a at) ∙ e)) (Contains-append_left (chunk_bytes v c ∷ []) (parts_named v (map ask_message us)) (chunk_bytes v c) (Contains-push [] (chunk_bytes v c)))
 
 -- so each CONDWRITE is of a part that was hashed
-names_pieces : (book : Book) (k : Core) (qs : List Queue) (n : ℕ) (x : Session) (q : Queue) (t : Told) (ts : List Told) (j : Job) (g : Here book k qs n x q t ts j) (st : Store) → Ready book k qs n x q t ts j g st → NamesNoted g (named st (seat_at g).client.next).send → AllAsks (IsPiece (hashed_of book.moments) (contents_at g)) (naming st (seat_at g).client.next)
+names_pieces : (book : Book) (k : Core) (qs : List Queue) (n : ℕ) (x : Session) (q : Queue) (t : Told) (ts : List Told) (j : Job) (g : Here book k qs n x q t ts j) (st : Store) → Ready book k qs n x q t ts j g st → NamesNoted g (named st (seat_at g).client.next_xid).send → AllAsks (IsPiece (hashed_of book.moments) (contents_at g)) (naming st (seat_at g).client.next_xid)
 names_pieces book k qs n x q t ts j g st w noted = all_at (IsPiece (hashed_of book.moments) (contents_at g)) r.asks one
   where
-    r : Ran (names_from st (seat_at g).client.next) (calls_most - length st.under) (named st (seat_at g).client.next)
-    r = run_of st (seat_at g).client.next
+    r : Ran (names_from st (seat_at g).client.next_xid) (calls_most - length st.under) (named st (seat_at g).client.next_xid)
+    r = run_of st (seat_at g).client.next_xid
 
     one : (m : ℕ) (a : Ask) → slice_get r.asks m ≡ Some a → IsPiece (hashed_of book.moments) (contents_at g) a
     one m a at =
-        let h = name_noted st.temp st.chunks (seat_at g).client.next st.named r.notes r.asks (named st (seat_at g).client.next).next m a r.named at in
+        let h = name_noted st.temp st.chunks (seat_at g).client.next_xid st.named r.notes r.asks (named st (seat_at g).client.next_xid).next_xid m a r.named at in
         let call : a.call ≡ Name st.temp h.1 = ap (λ (z : Ask). z.call) h.5 in
         let is = chunks_are_named (local_of g) h.0.index h.1 (ap (λ (l : List Chunk). slice_get l h.0.index) (sym w.storing.chunks) ∙ h.4) in
-        let own : IsNamed (hashed_of book.moments) (local_of g) h.1 = record { digest = is.0; len = is.1; there = noted (chunk_bytes (local_of g) h.1) (subst (λ (l : List Message). Contains (parts_named (local_of g) l) (chunk_bytes (local_of g) h.1)) (sym (naming_sent st (seat_at g).client.next)) (part_named (local_of g) r.asks m st.temp a h.1 at call)) } in
+        let own : IsNamed (hashed_of book.moments) (local_of g) h.1 = record { digest = is.0; len = is.1; there = noted (chunk_bytes (local_of g) h.1) (subst (λ (l : List Message). Contains (parts_named (local_of g) l) (chunk_bytes (local_of g) h.1)) (sym (naming_sent st (seat_at g).client.next_xid)) (part_named (local_of g) r.asks m st.temp a h.1 at call)) } in
         subst (PieceOf (hashed_of book.moments) (contents_at g)) (sym call) (subst (λ (l : List ℕ). IsNamed (hashed_of book.moments) l h.1) (sym w.content) own)
 
 -- the answers that are on their way are to calls that were sent
-known_below : (book : Book) (k : Core) (qs : List Queue) (n : ℕ) (x : Session) (q : Queue) (t : Told) (ts : List Told) (j : Job) (g : Here book k qs n x q t ts j) (z : ℕ) → DownKnown ts z → z < (seat_at g).client.next
+known_below : (book : Book) (k : Core) (qs : List Queue) (n : ℕ) (x : Session) (q : Queue) (t : Told) (ts : List Told) (j : Job) (g : Here book k qs n x q t ts j) (z : ℕ) → DownKnown ts z → z < (seat_at g).client.next_xid
 known_below book k qs n x q t ts j g z d =
     let h = session_at book k qs n x q t ts j g in
-    all_in (λ (u : Told). u.xid < h.seat.client.next) ts d.0 (record { xid = z; reply = known_reply }) (subst (AllTolds (λ u. u.xid < h.seat.client.next)) g.first (tolds_below n k.server.waiting q x.hung h.seat.client.next (client.calls_of h.seat.client) (h.talk g.uncut).balanced)).1 d.1
+    all_in (λ (u : Told). u.xid < h.seat.client.next_xid) ts d.0 (record { xid = z; reply = known_reply }) (subst (AllTolds (λ u. u.xid < h.seat.client.next_xid)) g.first (tolds_below n k.server.waiting q x.hung h.seat.client.next_xid (client.calls_of h.seat.client) (h.talk g.uncut).balanced)).1 d.1
 
 -- where nothing is under way all chunks were named, since one more would have been
 idle_is_stored : (n : Names) (st : Store) (notes : List StoreCall) → n.store ≡ record st { named = st.named + length notes; under = st.under ++ notes } → (length st.under < calls_most → (c : Chunk) → slice_get st.chunks st.named ≡ Some c → 0 < length notes) → st.named + length notes ≤ length st.chunks → is_stored n.store ≡ false → 0 < length n.store.under
@@ -231,15 +231,15 @@ idle_is_stored n st notes is some le off = by st.under notes refl refl
 
 pub goes_storing : (book : Book) (k : Core) (qs : List Queue) (n : ℕ) (x : Session) (q : Queue) (t : Told) (ts : List Told) (j : Job) (g : Here book k qs n x q t ts j) (st : Store) → Ready book k qs n x q t ts j g st
     → (let c = (seat_at g).client in
-    Filled book k qs n x q t ts j g q.ups st → NamesNoted g (named st c.next).send → is_stored (named st c.next).store ≡ false → GoesOn book k qs n x q t ts j g (stage.Storing (named st c.next).store) (named st c.next).next c.forgotten (naming st c.next))
+    Filled book k qs n x q t ts j g q.ups st → NamesNoted g (named st c.next_xid).send → is_stored (named st c.next_xid).store ≡ false → GoesOn book k qs n x q t ts j g (stage.Storing (named st c.next_xid).store) (named st c.next_xid).next_xid c.forgotten (naming st c.next_xid))
 goes_storing book k qs n x q t ts j g st w filled noted off =
     let h = session_at book k qs n x q t ts j g in
     let c = h.seat.client in
-    let r = run_of st c.next in
-    let more = named st c.next in
+    let r = run_of st c.next_xid in
+    let more = named st c.next_xid in
     let seat_was = g.kept.seats x.owner h.seat h.owner in
-    let counts = named_count st.temp st.chunks c.next st.named r.notes r.asks more.next r.named in
-    let inside = named_inside st.temp st.chunks c.next st.named r.notes r.asks more.next w.storing.named r.named in
+    let counts = named_count st.temp st.chunks c.next_xid st.named r.notes r.asks more.next_xid r.named in
+    let inside = named_inside st.temp st.chunks c.next_xid st.named r.notes r.asks more.next_xid w.storing.named r.named in
     let few = ap (λ (l : List Chunk). length l) w.storing.chunks in
     let short = subst (λ (l : List ℕ). length l ≤ 67108864) w.content (h.lengths st.temp) in
     let most = chunks_few (local_of g) short in
@@ -253,45 +253,45 @@ goes_storing book k qs n x q t ts j g st w filled noted off =
     record {
       quiet = w.quiet;
       word = sym w.word;
-      again = again_storing c.next j more.store;
+      again = again_storing c.next_xid j more.store;
       moves = λ f y.
           let a = ap (λ (z : Store). times y (map f (map store_pending z.under ++ c.forgotten))) r.store_is in
           let b = times_map_append f y (map store_pending (st.under ++ r.notes)) c.forgotten in
           let d = pend_both f y st.under r.notes in
-          let e = named_times f y st.temp st.chunks c.next st.named r.notes r.asks more.next r.named in
+          let e = named_times f y st.temp st.chunks c.next_xid st.named r.notes r.asks more.next_xid r.named in
           let p = w.pend f y in
           omega (arith, a, b, d, e, p);
-      rising = named_rising st.temp st.chunks c.next st.named r.notes r.asks more.next r.named;
-      asked = named_all (IsAsked (Some (on j (stage.Storing more.store)))) st.temp st.chunks c.next st.named r.notes r.asks more.next (λ z i d at le lt. tt) r.named;
-      fits = named_all (λ a. CallFits a.xid a.call) st.temp st.chunks c.next st.named r.notes r.asks more.next (λ z i d at le lt. naming_fits (local_of g) st.temp z i d short (omega (arith, temp_less, next_ok, all_ok)) (omega (arith, lt, one, two, three, room, inside, few, most)) (ap (λ (l : List Chunk). slice_get l i) (sym w.storing.chunks) ∙ at)) r.named;
-      commits = named_all (IsCommit book x.closing x.cut (Some (on j (stage.Storing more.store))) h.contents) st.temp st.chunks c.next st.named r.notes r.asks more.next (λ z i d at le lt. tt) r.named;
+      rising = named_rising st.temp st.chunks c.next_xid st.named r.notes r.asks more.next_xid r.named;
+      asked = named_all (IsAsked (Some (on j (stage.Storing more.store)))) st.temp st.chunks c.next_xid st.named r.notes r.asks more.next_xid (λ z i d at le lt. tt) r.named;
+      fits = named_all (λ a. CallFits a.xid a.call) st.temp st.chunks c.next_xid st.named r.notes r.asks more.next_xid (λ z i d at le lt. naming_fits (local_of g) st.temp z i d short (omega (arith, temp_less, next_ok, all_ok)) (omega (arith, lt, one, two, three, room, inside, few, most)) (ap (λ (l : List Chunk). slice_get l i) (sym w.storing.chunks) ∙ at)) r.named;
+      commits = named_all (IsCommit book x.closing x.cut (Some (on j (stage.Storing more.store))) h.contents) st.temp st.chunks c.next_xid st.named r.notes r.asks more.next_xid (λ z i d at le lt. tt) r.named;
       pieces = names_pieces book k qs n x q t ts j g st w noted;
-      under = named_all (λ a. TempUnder c.next_temp a.call) st.temp st.chunks c.next st.named r.notes r.asks more.next (λ z i d at le lt. w.temp) r.named;
-      few = let z = named_commits st.temp st.chunks c.next st.named r.notes r.asks more.next r.named in omega (arith, z);
+      under = named_all (λ a. TempUnder c.next_temp a.call) st.temp st.chunks c.next_xid st.named r.notes r.asks more.next_xid (λ z i d at le lt. w.temp) r.named;
+      few = let z = named_commits st.temp st.chunks c.next_xid st.named r.notes r.asks more.next_xid r.named in omega (arith, z);
       fetch = tt;
       busy = subst (λ m. 0 < m) (sym (map_count more.store.under)) (idle_is_stored more st r.notes r.store_is (λ lt d at. r.some (omega (arith, lt)) d at) inside off);
-      closes = subst (λ (z : Store). CloseOf book x.closing h.contents c.next_temp (on j (stage.Storing more.store)) (local_of g) (stage.Storing z)) (sym r.store_is) (owed_on w.owed, w.content, w.temp, record { chunks = w.storing.chunks; named = inside; inside = λ m u at. elim (of_both st.under r.notes m u at) [ inl old ↦ let lt = w.storing.inside old.0 u old.1 in omega (arith, lt) | inr new ↦ named_note st.temp st.chunks c.next st.named r.notes r.asks more.next new.0 u r.named new.1 ] });
+      closes = subst (λ (z : Store). CloseOf book x.closing h.contents c.next_temp (on j (stage.Storing more.store)) (local_of g) (stage.Storing z)) (sym r.store_is) (owed_on w.owed, w.content, w.temp, record { chunks = w.storing.chunks; named = inside; inside = λ m u at. elim (of_both st.under r.notes m u at) [ inl old ↦ let lt = w.storing.inside old.0 u old.1 in omega (arith, lt) | inr new ↦ named_note st.temp st.chunks c.next_xid st.named r.notes r.asks more.next_xid new.0 u r.named new.1 ] });
       trying = λ m y e. absurd cc;
-      xids = subst (λ (z : Store). HasXids more.next (stage.Storing z)) (sym r.store_is) (omega (arith, one, two, three, room));
+      xids = subst (λ (z : Store). HasXids more.next_xid (stage.Storing z)) (sym r.store_is) (omega (arith, one, two, three, room));
       bounded = omega (arith, one, two, three, room, inside, few, most);
-      orderly = subst (λ (z : Store). GoesInOrder book k qs n x q t ts j g (stage.Storing z) more.next c.forgotten r.asks) (sym r.store_is) (λ cache index. record {
-        asks = all_unless (IsInPlace (Some (on j (stage.Storing after))) (locals_of c)) x.hung q.ups r.asks stays.0 (all_at (IsInPlace (Some (on j (stage.Storing after))) (locals_of c)) r.asks (λ i a at. names_in_place a (name_noted st.temp st.chunks c.next st.named r.notes r.asks more.next i a r.named at)));
+      orderly = subst (λ (z : Store). GoesInOrder book k qs n x q t ts j g (stage.Storing z) more.next_xid c.forgotten r.asks) (sym r.store_is) (λ cache index. record {
+        asks = all_unless (IsInPlace (Some (on j (stage.Storing after))) (locals_of c)) x.hung q.ups r.asks stays.0 (all_at (IsInPlace (Some (on j (stage.Storing after))) (locals_of c)) r.asks (λ i a at. names_in_place a (name_noted st.temp st.chunks c.next_xid st.named r.notes r.asks more.next_xid i a r.named at)));
         tolds = stays.1;
-        holds = λ up. subst (λ (b : Bool). HeldIn k.server.temps n (unless b q.ups r.asks) ts (local_of g) (stage.Storing after)) (sym up) (let f = filled up in (f.0, f.1, holds_named (local_of g) q.ups r.asks ts st f.0.pieces c.next more.next r.notes r.named w.storing.inside (known_below book k qs n x q t ts j g) f.2));
+        holds = λ up. subst (λ (b : Bool). HeldIn k.server.temps n (unless b q.ups r.asks) ts (local_of g) (stage.Storing after)) (sym up) (let f = filled up in (f.0, f.1, holds_named (local_of g) q.ups r.asks ts st f.0.pieces c.next_xid more.next_xid r.notes r.named w.storing.inside (known_below book k qs n x q t ts j g) f.2));
         tree = λ i e z. known_on book j i (stage.Storing after) w.known e;
       });
     }
   where
     after : Store
-    after = record st { named = st.named + length (run_of st (seat_at g).client.next).notes; under = st.under ++ (run_of st (seat_at g).client.next).notes }
+    after = record st { named = st.named + length (run_of st (seat_at g).client.next_xid).notes; under = st.under ++ (run_of st (seat_at g).client.next_xid).notes }
 
     stays : AllAsks (IsInPlace (Some (on j (stage.Storing after))) (locals_of (seat_at g).client)) q.ups × AllTolds (IsWanted book (Some (on j (stage.Storing after)))) ts
-    stays = stays_in_order book k qs n x q t ts j g st after w refl refl (λ y u e. store_front st.under (run_of st (seat_at g).client.next).notes y u e)
+    stays = stays_in_order book k qs n x q t ts j g st after w refl refl (λ y u e. store_front st.under (run_of st (seat_at g).client.next_xid).notes y u e)
 
-    names_in_place : (a : Ask) → (u : StoreCall) × (c : Chunk) × (store_at (run_of st (seat_at g).client.next).notes a.xid ≡ Some u) × (u.way ≡ way.Named) × (slice_get st.chunks u.index ≡ Some c) × (a ≡ record { xid = a.xid; call = Name st.temp c }) × ((seat_at g).client.next ≤ a.xid) → IsInPlace (Some (on j (stage.Storing after))) (locals_of (seat_at g).client) a
+    names_in_place : (a : Ask) → (u : StoreCall) × (c : Chunk) × (store_at (run_of st (seat_at g).client.next_xid).notes a.xid ≡ Some u) × (u.way ≡ way.Named) × (slice_get st.chunks u.index ≡ Some c) × (a ≡ record { xid = a.xid; call = Name st.temp c }) × ((seat_at g).client.next_xid ≤ a.xid) → IsInPlace (Some (on j (stage.Storing after))) (locals_of (seat_at g).client) a
     names_in_place a h =
         let le = h.6 in
-        let found : store_at (st.under ++ (run_of st (seat_at g).client.next).notes) a.xid ≡ Some h.0 = store_behind st.under (run_of st (seat_at g).client.next).notes a.xid (λ i z at e. let lt = w.older i z at in omega (arith, lt, le, e)) ∙ h.2 in
+        let found : store_at (st.under ++ (run_of st (seat_at g).client.next_xid).notes) a.xid ≡ Some h.0 = store_behind st.under (run_of st (seat_at g).client.next_xid).notes a.xid (λ i z at e. let lt = w.older i z at in omega (arith, lt, le, e)) ∙ h.2 in
         let call : Call.Name st.temp h.1 ≡ a.call = ap (λ (z : Ask). z.call) (sym h.5) in
         let s : IsStore (Some (on j (stage.Storing after))) a.xid way.Named = record { of = on j (stage.Storing after); is = refl; store = after; at = refl; call = h.0; found = found; way = h.3 } in
         subst (InPlace (Some (on j (stage.Storing after))) (locals_of (seat_at g).client) a.xid) call (s, refl, h.4)
@@ -303,16 +303,16 @@ goes_storing book k qs n x q t ts j g st w filled noted off =
     map_count [] = refl
     map_count (u ∷ us) = ap suc (map_count us)
 
-    owed_on : IsOwed book x.closing j (local_of g) → IsOwed book x.closing (on j (stage.Storing (named st (seat_at g).client.next).store)) (local_of g)
+    owed_on : IsOwed book x.closing j (local_of g) → IsOwed book x.closing (on j (stage.Storing (named st (seat_at g).client.next_xid).store)) (local_of g)
     owed_on o = record { known = o.known; op = o.op; there = o.there; unmade = o.unmade; word_is = o.word_is; value_is = o.value_is; small = o.small }
 
 -- ---- all chunks are stored, and the commit goes out
 
 abbrev pub committing : (st : Store) (next file : ℕ) → (size : ℕ) → List Ask
-committing st next file size = naming st next ++ record { xid = (named st next).next; call = Commit (named st next).store.temp file size } ∷ []
+committing st next file size = naming st next ++ record { xid = (named st next).next_xid; call = Commit (named st next).store.temp file size } ∷ []
 
-pub committing_sent : (st : Store) (next file size : ℕ) → (named st next).send ++ commit_call (named st next).next (named st next).store.temp file size ∷ [] ≡ map ask_message (committing st next file size)
-committing_sent st next file size = ap (λ l. l ++ commit_call (named st next).next (named st next).store.temp file size ∷ []) (naming_sent st next) ∙ sym (map_one (naming st next) (record { xid = (named st next).next; call = Commit (named st next).store.temp file size }))
+pub committing_sent : (st : Store) (next file size : ℕ) → (named st next).send ++ commit_call (named st next).next_xid (named st next).store.temp file size ∷ [] ≡ map ask_message (committing st next file size)
+committing_sent st next file size = ap (λ l. l ++ commit_call (named st next).next_xid (named st next).store.temp file size ∷ []) (naming_sent st next) ∙ sym (map_one (naming st next) (record { xid = (named st next).next_xid; call = Commit (named st next).store.temp file size }))
   where
     map_one : (us : List Ask) (a : Ask) → map ask_message (us ++ a ∷ []) ≡ map ask_message us ++ ask_message a ∷ []
     map_one [] a = refl
@@ -332,17 +332,17 @@ commits_more us a e = let both = commits_both us (a ∷ []) in let one = change_
 
 pub goes_committing : (book : Book) (k : Core) (qs : List Queue) (n : ℕ) (x : Session) (q : Queue) (t : Told) (ts : List Told) (j : Job) (g : Here book k qs n x q t ts j) (st : Store) → j.file < 18446744073709551616 → Ready book k qs n x q t ts j g st
     → (let c = (seat_at g).client in
-    Filled book k qs n x q t ts j g q.ups st → NamesNoted g (named st c.next).send → is_stored (named st c.next).store ≡ true → GoesOn book k qs n x q t ts j g (stage.Committing (named st c.next).next) ((named st c.next).next + 1) c.forgotten (committing st c.next j.file (length (local_of g))))
+    Filled book k qs n x q t ts j g q.ups st → NamesNoted g (named st c.next_xid).send → is_stored (named st c.next_xid).store ≡ true → GoesOn book k qs n x q t ts j g (stage.Committing (named st c.next_xid).next_xid) ((named st c.next_xid).next_xid + 1) c.forgotten (committing st c.next_xid j.file (length (local_of g))))
 goes_committing book k qs n x q t ts j g st fits_file w filled noted on_ =
     let h = session_at book k qs n x q t ts j g in
     let c = h.seat.client in
-    let r = run_of st c.next in
-    let more = named st c.next in
-    let s : Stage = stage.Committing more.next in
-    let a : Ask = record { xid = more.next; call = Commit more.store.temp j.file (length (local_of g)) } in
+    let r = run_of st c.next_xid in
+    let more = named st c.next_xid in
+    let s : Stage = stage.Committing more.next_xid in
+    let a : Ask = record { xid = more.next_xid; call = Commit more.store.temp j.file (length (local_of g)) } in
     let seat_was = g.kept.seats x.owner h.seat h.owner in
-    let counts = named_count st.temp st.chunks c.next st.named r.notes r.asks more.next r.named in
-    let inside = named_inside st.temp st.chunks c.next st.named r.notes r.asks more.next w.storing.named r.named in
+    let counts = named_count st.temp st.chunks c.next_xid st.named r.notes r.asks more.next_xid r.named in
+    let inside = named_inside st.temp st.chunks c.next_xid st.named r.notes r.asks more.next_xid w.storing.named r.named in
     let few = ap (λ (l : List Chunk). length l) w.storing.chunks in
     let short = subst (λ (l : List ℕ). length l ≤ 67108864) w.content (h.lengths st.temp) in
     let most = chunks_few (local_of g) short in
@@ -355,25 +355,25 @@ goes_committing book k qs n x q t ts j g st fits_file w filled noted on_ =
     let all_ok = seat_was.next.0 in
     let same_temp : more.store.temp ≡ st.temp = ap (λ (z : Store). z.temp) r.store_is in
     let idle = stored_idle more st r.notes r.store_is on_ in
-    let bound : more.next + 1 ≤ 4294967296 = omega (arith, one, two, three, room, inside, few, most) in
+    let bound : more.next_xid + 1 ≤ 4294967296 = omega (arith, one, two, three, room, inside, few, most) in
     let of = job_op book k qs x h.seat j g.kept h.owner g.job_is in
     let same_op : w.owed.op ≡ of.op = some_is w.owed.op of.op (sym w.owed.there ∙ of.there) in
     record {
       quiet = w.quiet;
       word = sym w.word;
-      again = again_committing c.next j more.next (named_bound st.temp st.chunks c.next st.named r.notes r.asks more.next r.named);
+      again = again_committing c.next_xid j more.next_xid (named_bound st.temp st.chunks c.next_xid st.named r.notes r.asks more.next_xid r.named);
       moves = λ f y.
-          let e = named_times f y st.temp st.chunks c.next st.named r.notes r.asks more.next r.named in
+          let e = named_times f y st.temp st.chunks c.next_xid st.named r.notes r.asks more.next_xid r.named in
           let p = w.pend f y in
           let d = ap (λ (l : List StoreCall). times y (map f (map store_pending l))) idle.0 in
           let m = ap (λ (l : List StoreCall). times y (map f (map store_pending l))) idle.1 in
           let u = times_map_append (λ (b : Ask). f (ask_pending b)) y r.asks (a ∷ []) in
           let v = times_append y (f (ask_pending a) ∷ []) (map f c.forgotten) in
           omega (arith, e, p, d, m, u, v);
-      rising = rising_append c.next r.asks (a ∷ []) more.next (more.next + 1) (named_rising st.temp st.chunks c.next st.named r.notes r.asks more.next r.named) (omega arith, omega arith);
-      asked = all_append (IsAsked (Some (on j s))) r.asks (a ∷ []) (named_all (IsAsked (Some (on j s))) st.temp st.chunks c.next st.named r.notes r.asks more.next (λ z i d at le lt. tt) r.named) (tt, tt);
-      fits = all_append (λ (b : Ask). CallFits b.xid b.call) r.asks (a ∷ []) (named_all (λ b. CallFits b.xid b.call) st.temp st.chunks c.next st.named r.notes r.asks more.next (λ z i d at le lt. naming_fits (local_of g) st.temp z i d short (omega (arith, temp_less, next_ok, all_ok)) (omega (arith, lt, bound)) (ap (λ (l : List Chunk). slice_get l i) (sym w.storing.chunks) ∙ at)) r.named) ((omega (arith, bound), omega (arith, same_temp, temp_less, next_ok, all_ok), fits_file, short), tt);
-      commits = all_append (IsCommit book x.closing x.cut (Some (on j s)) h.contents) r.asks (a ∷ []) (named_all (IsCommit book x.closing x.cut (Some (on j s)) h.contents) st.temp st.chunks c.next st.named r.notes r.asks more.next (λ z i d at le lt. tt) r.named) (
+      rising = rising_append c.next_xid r.asks (a ∷ []) more.next_xid (more.next_xid + 1) (named_rising st.temp st.chunks c.next_xid st.named r.notes r.asks more.next_xid r.named) (omega arith, omega arith);
+      asked = all_append (IsAsked (Some (on j s))) r.asks (a ∷ []) (named_all (IsAsked (Some (on j s))) st.temp st.chunks c.next_xid st.named r.notes r.asks more.next_xid (λ z i d at le lt. tt) r.named) (tt, tt);
+      fits = all_append (λ (b : Ask). CallFits b.xid b.call) r.asks (a ∷ []) (named_all (λ b. CallFits b.xid b.call) st.temp st.chunks c.next_xid st.named r.notes r.asks more.next_xid (λ z i d at le lt. naming_fits (local_of g) st.temp z i d short (omega (arith, temp_less, next_ok, all_ok)) (omega (arith, lt, bound)) (ap (λ (l : List Chunk). slice_get l i) (sym w.storing.chunks) ∙ at)) r.named) ((omega (arith, bound), omega (arith, same_temp, temp_less, next_ok, all_ok), fits_file, short), tt);
+      commits = all_append (IsCommit book x.closing x.cut (Some (on j s)) h.contents) r.asks (a ∷ []) (named_all (IsCommit book x.closing x.cut (Some (on j s)) h.contents) st.temp st.chunks c.next_xid st.named r.notes r.asks more.next_xid (λ z i d at le lt. tt) r.named) (
         (
           record {
             place = j.place;
@@ -392,8 +392,8 @@ goes_committing book k qs n x q t ts j g st fits_file w filled noted on_ =
         tt,
       );
       pieces = all_append (IsPiece (hashed_of book.moments) h.contents) r.asks (a ∷ []) (names_pieces book k qs n x q t ts j g st w noted) (tt, tt);
-      under = all_append (λ (b : Ask). TempUnder c.next_temp b.call) r.asks (a ∷ []) (named_all (λ b. TempUnder c.next_temp b.call) st.temp st.chunks c.next st.named r.notes r.asks more.next (λ z i d at le lt. w.temp) r.named) (subst (λ (m : ℕ). m < c.next_temp) (sym same_temp) w.temp, tt);
-      few = commits_more r.asks a (named_commits st.temp st.chunks c.next st.named r.notes r.asks more.next r.named);
+      under = all_append (λ (b : Ask). TempUnder c.next_temp b.call) r.asks (a ∷ []) (named_all (λ b. TempUnder c.next_temp b.call) st.temp st.chunks c.next_xid st.named r.notes r.asks more.next_xid (λ z i d at le lt. w.temp) r.named) (subst (λ (m : ℕ). m < c.next_temp) (sym same_temp) w.temp, tt);
+      few = commits_more r.asks a (named_commits st.temp st.chunks c.next_xid st.named r.notes r.asks more.next_xid r.named);
       fetch = tt;
       busy = omega arith;
       closes = (w.owed.op, w.owed.there, w.owed.word_is, w.owed.value_is);
@@ -401,7 +401,7 @@ goes_committing book k qs n x q t ts j g st fits_file w filled noted on_ =
       xids = bound;
       bounded = bound;
       orderly = λ cache index. record {
-        asks = all_unless (IsInPlace (Some (on j s)) (locals_of c)) x.hung q.ups (r.asks ++ a ∷ []) (fetching_place (Some (on j s)) (locals_of c) q.ups (idle_ups idle.0)) (all_append (IsInPlace (Some (on j s)) (locals_of c)) r.asks (a ∷ []) (subst (AllAsks (IsInPlace (Some (on j s)) (locals_of c))) (sym (no_asks st.temp st.chunks c.next st.named r.notes r.asks more.next idle.1 r.named)) tt) ((on j s, refl, refl, refl, refl), tt));
+        asks = all_unless (IsInPlace (Some (on j s)) (locals_of c)) x.hung q.ups (r.asks ++ a ∷ []) (fetching_place (Some (on j s)) (locals_of c) q.ups (idle_ups idle.0)) (all_append (IsInPlace (Some (on j s)) (locals_of c)) r.asks (a ∷ []) (subst (AllAsks (IsInPlace (Some (on j s)) (locals_of c))) (sym (no_asks st.temp st.chunks c.next_xid st.named r.notes r.asks more.next_xid idle.1 r.named)) tt) ((on j s, refl, refl, refl, refl), tt));
         tolds = fetched_wanted book (Some (on j s)) ts (idle_downs idle.0);
         holds = λ up. subst (λ (b : Bool). HeldIn k.server.temps n (unless b q.ups (r.asks ++ a ∷ [])) ts (local_of g) s) (sym up) (λ u. full (filled up) idle.0 idle.1 u, λ gone. absurd (gone (length (q.ups ++ r.asks), more.store.temp, j.file, length (local_of g), ap (λ (l : List Ask). slice_get l (length (q.ups ++ r.asks))) (sym (append_assoc q.ups r.asks (a ∷ []))) ∙ at_end (q.ups ++ r.asks) a)));
         tree = λ i e z. known_on book j i s w.known e;
@@ -418,13 +418,13 @@ goes_committing book k qs n x q t ts j g st fits_file w filled noted on_ =
     no_commit us h i y m f size at = all_in (λ (b : Ask). IsFetching b.call) us i (record { xid = y; call = Commit m f size }) h at
 
     -- the temporary file holds all
-    full : (f : (z : Temp) × OneTemp k.server.temps n st.temp z × Holds (local_of g) q.ups ts st z.pieces) → st.under ≡ [] → (run_of st (seat_at g).client.next).notes ≡ [] → (u : UpCommit (q.ups ++ committing st (seat_at g).client.next j.file (length (local_of g))) (named st (seat_at g).client.next).next) → (z : Temp) × OneTemp k.server.temps n u.1 z × SameShape z.pieces (PiecesOf (local_of g) (λ c. true) (chunks_of (local_of g)))
+    full : (f : (z : Temp) × OneTemp k.server.temps n st.temp z × Holds (local_of g) q.ups ts st z.pieces) → st.under ≡ [] → (run_of st (seat_at g).client.next_xid).notes ≡ [] → (u : UpCommit (q.ups ++ committing st (seat_at g).client.next_xid j.file (length (local_of g))) (named st (seat_at g).client.next_xid).next_xid) → (z : Temp) × OneTemp k.server.temps n u.1 z × SameShape z.pieces (PiecesOf (local_of g) (λ c. true) (chunks_of (local_of g)))
     full f none ended u =
-        let r = run_of st (seat_at g).client.next in
-        let same_temp : (named st (seat_at g).client.next).store.temp ≡ st.temp = ap (λ (z : Store). z.temp) r.store_is in
-        let nothing = no_asks st.temp st.chunks (seat_at g).client.next st.named r.notes r.asks (named st (seat_at g).client.next).next ended r.named in
-        let at = ap (λ (l : List Ask). slice_get (q.ups ++ (l ++ record { xid = (named st (seat_at g).client.next).next; call = Commit (named st (seat_at g).client.next).store.temp j.file (length (local_of g)) } ∷ [])) u.0) (sym nothing) ∙ u.4 in
-        elim (of_appended q.ups (record { xid = (named st (seat_at g).client.next).next; call = Commit (named st (seat_at g).client.next).store.temp j.file (length (local_of g)) }) u.0 _ at) [
+        let r = run_of st (seat_at g).client.next_xid in
+        let same_temp : (named st (seat_at g).client.next_xid).store.temp ≡ st.temp = ap (λ (z : Store). z.temp) r.store_is in
+        let nothing = no_asks st.temp st.chunks (seat_at g).client.next_xid st.named r.notes r.asks (named st (seat_at g).client.next_xid).next_xid ended r.named in
+        let at = ap (λ (l : List Ask). slice_get (q.ups ++ (l ++ record { xid = (named st (seat_at g).client.next_xid).next_xid; call = Commit (named st (seat_at g).client.next_xid).store.temp j.file (length (local_of g)) } ∷ [])) u.0) (sym nothing) ∙ u.4 in
+        elim (of_appended q.ups (record { xid = (named st (seat_at g).client.next_xid).next_xid; call = Commit (named st (seat_at g).client.next_xid).store.temp j.file (length (local_of g)) }) u.0 _ at) [
           | inl last ↦
               let m : u.1 ≡ st.temp = commit_temp (ap (λ (z : Ask). z.call) last.1) ∙ same_temp in
               (f.0, subst (λ (z : ℕ). OneTemp k.server.temps n z f.0) (sym m) f.1, holds_all (local_of g) q.ups ts st f.0.pieces none (all_named none ended) f.2)
@@ -434,9 +434,9 @@ goes_committing book k qs n x q t ts j g st fits_file w filled noted on_ =
         commit_temp : {m f s p h z : ℕ} → Commit m f s ≡ Commit p h z → m ≡ p
         commit_temp e = cc
 
-        all_named : st.under ≡ [] → (run_of st (seat_at g).client.next).notes ≡ [] → length (chunks_of (local_of g)) ≤ st.named
+        all_named : st.under ≡ [] → (run_of st (seat_at g).client.next_xid).notes ≡ [] → length (chunks_of (local_of g)) ≤ st.named
         all_named a b =
-            let r = run_of st (seat_at g).client.next in
+            let r = run_of st (seat_at g).client.next_xid in
             let e = ap is_stored (sym r.store_is) ∙ on_ in
             let few = ap (λ (l : List Chunk). length l) w.storing.chunks in
             let none = ap (λ (l : List StoreCall). length l) b in
@@ -454,13 +454,13 @@ sending st next content c = record { xid = next; call = Send st.temp c.start (ch
 
 pub goes_whole : (book : Book) (k : Core) (qs : List Queue) (n : ℕ) (x : Session) (q : Queue) (t : Told) (ts : List Told) (j : Job) (g : Here book k qs n x q t ts j) (st : Store) (u : StoreCall) (d : Chunk) → Ready book k qs n x q t ts j g st → u.index < st.named → slice_get st.chunks u.index ≡ Some d
     → (let c = (seat_at g).client in
-    Filled book k qs n x q t ts j g (q.ups ++ sending st c.next (local_of g) d) (with_whole st u c.next) → c.next + 1 + 80001 + names_in st.under ≤ 4294967296 + 2 * st.named → GoesOn book k qs n x q t ts j g (stage.Storing (with_whole st u c.next)) (c.next + 1) c.forgotten (sending st c.next (local_of g) d))
+    Filled book k qs n x q t ts j g (q.ups ++ sending st c.next_xid (local_of g) d) (with_whole st u c.next_xid) → c.next_xid + 1 + 80001 + names_in st.under ≤ 4294967296 + 2 * st.named → GoesOn book k qs n x q t ts j g (stage.Storing (with_whole st u c.next_xid)) (c.next_xid + 1) c.forgotten (sending st c.next_xid (local_of g) d))
 goes_whole book k qs n x q t ts j g st u d w inside at filled room =
     let h = session_at book k qs n x q t ts j g in
     let c = h.seat.client in
-    let note : StoreCall = record { xid = c.next; index = u.index; way = way.Whole } in
-    let s : Stage = stage.Storing (with_whole st u c.next) in
-    let a : Ask = record { xid = c.next; call = Send st.temp d.start (chunk_bytes (local_of g) d) } in
+    let note : StoreCall = record { xid = c.next_xid; index = u.index; way = way.Whole } in
+    let s : Stage = stage.Storing (with_whole st u c.next_xid) in
+    let a : Ask = record { xid = c.next_xid; call = Send st.temp d.start (chunk_bytes (local_of g) d) } in
     let seat_was = g.kept.seats x.owner h.seat h.owner in
     let few = ap (λ (l : List Chunk). length l) w.storing.chunks in
     let short = subst (λ (l : List ℕ). length l ≤ 67108864) w.content (h.lengths st.temp) in
@@ -474,12 +474,12 @@ goes_whole book k qs n x q t ts j g st u d w inside at filled room =
     let chunk = chunks_are_named (local_of g) u.index d there in
     let whole = chunk.2 in
     let len = chunk.1 in
-    let fits = naming_fits (local_of g) st.temp c.next u.index d short (omega (arith, temp_less, next_ok, all_ok)) (omega (arith, room, named_le, few, most)) there in
+    let fits = naming_fits (local_of g) st.temp c.next_xid u.index d short (omega (arith, temp_less, next_ok, all_ok)) (omega (arith, room, named_le, few, most)) there in
     let len_ok = fits.3 in
     record {
       quiet = w.quiet;
       word = sym w.word;
-      again = again_storing c.next j (with_whole st u c.next);
+      again = again_storing c.next_xid j (with_whole st u c.next_xid);
       moves = λ f y.
           let b = times_map_append f y (map store_pending (st.under ++ note ∷ [])) c.forgotten in
           let e = ap (λ l. times y (map f l)) (pendings_both st.under (note ∷ [])) ∙ times_map_append f y (map store_pending st.under) (store_pending note ∷ []) in
@@ -507,19 +507,19 @@ goes_whole book k qs n x q t ts j g st u d w inside at filled room =
     }
   where
     more : Store
-    more = with_whole st u (seat_at g).client.next
+    more = with_whole st u (seat_at g).client.next_xid
 
     stays : AllAsks (IsInPlace (Some (on j (stage.Storing more))) (locals_of (seat_at g).client)) q.ups × AllTolds (IsWanted book (Some (on j (stage.Storing more)))) ts
-    stays = stays_in_order book k qs n x q t ts j g st more w refl refl (λ y v e. store_front st.under (record { xid = (seat_at g).client.next; index = u.index; way = way.Whole } ∷ []) y v e)
+    stays = stays_in_order book k qs n x q t ts j g st more w refl refl (λ y v e. store_front st.under (record { xid = (seat_at g).client.next_xid; index = u.index; way = way.Whole } ∷ []) y v e)
 
-    sent : IsStore (Some (on j (stage.Storing more))) (seat_at g).client.next way.Whole
+    sent : IsStore (Some (on j (stage.Storing more))) (seat_at g).client.next_xid way.Whole
     sent = record {
       of = on j (stage.Storing more);
       is = refl;
       store = more;
       at = refl;
-      call = record { xid = (seat_at g).client.next; index = u.index; way = way.Whole };
-      found = store_behind st.under (record { xid = (seat_at g).client.next; index = u.index; way = way.Whole } ∷ []) (seat_at g).client.next (λ i z f e. let lt = w.older i z f in omega (arith, lt, e)) ∙ ap (λ b. cond b (Some (record { xid = (seat_at g).client.next; index = u.index; way = way.Whole })) None) (eq-eqb (seat_at g).client.next (seat_at g).client.next refl);
+      call = record { xid = (seat_at g).client.next_xid; index = u.index; way = way.Whole };
+      found = store_behind st.under (record { xid = (seat_at g).client.next_xid; index = u.index; way = way.Whole } ∷ []) (seat_at g).client.next_xid (λ i z f e. let lt = w.older i z f in omega (arith, lt, e)) ∙ ap (λ b. cond b (Some (record { xid = (seat_at g).client.next_xid; index = u.index; way = way.Whole })) None) (eq-eqb (seat_at g).client.next_xid (seat_at g).client.next_xid refl);
       way = refl;
     }
 
@@ -536,7 +536,7 @@ ready_made book k qs n x q t ts j g temp waits answers quiet =
     let c = h.seat.client in
     let seat_was = g.kept.seats x.owner h.seat h.owner in
     let close = subst (CloseOf book x.closing h.contents c.next_temp j (local_of g)) waits (h.closes g.uncut j g.job_is) in
-    let room = subst (HasXids c.next) waits (seat_was.xids j g.job_is) in
+    let room = subst (HasXids c.next_xid) waits (seat_was.xids j g.job_is) in
     record {
       quiet = quiet;
       word = ap stage_word waits;
@@ -559,7 +559,7 @@ ready_made book k qs n x q t ts j g temp waits answers quiet =
     }
   where
     alone : AllFetching q.ups × AllFetched ts
-    alone = let h = session_at book k qs n x q t ts j g in others_fetch book n k.server.temps k.server.waiting q x.hung h.seat.client.next (client.calls_of h.seat.client) t ts h.seat j (h.talk g.uncut).balanced g.first g.job_is (subst (λ (s : Stage). WaitsFor s t.xid) (sym waits) refl) (h.orderly g.uncut)
+    alone = let h = session_at book k qs n x q t ts j g in others_fetch book n k.server.temps k.server.waiting q x.hung h.seat.client.next_xid (client.calls_of h.seat.client) t ts h.seat j (h.talk g.uncut).balanced g.first g.job_is (subst (λ (s : Stage). WaitsFor s t.xid) (sym waits) refl) (h.orderly g.uncut)
 
 -- a call under way, found by its xid
 pub store_found : (under : List StoreCall) (x : ℕ) (u : StoreCall) → store_at under x ≡ Some u → (i : ℕ) × (slice_get under i ≡ Some u) × (u.xid ≡ x)
@@ -622,8 +622,8 @@ names_one_less (v ∷ vs) x (suc i) u at same way_is = by (v.xid == x) v.way (na
     by false way.Whole le = le
 
 -- a call that is under way was sent before
-pub store_older : (book : Book) (k : Core) (qs : List Queue) (n : ℕ) (x : Session) (q : Queue) (t : Told) (ts : List Told) (j : Job) (g : Here book k qs n x q t ts j) (st : Store) (i : ℕ) (w : StoreCall) → j.stage ≡ stage.Storing st → slice_get st.under i ≡ Some w → w.xid < (seat_at g).client.next
-store_older book k qs n x q t ts j g st i w waits at = by (nat_le c.next w.xid) refl
+pub store_older : (book : Book) (k : Core) (qs : List Queue) (n : ℕ) (x : Session) (q : Queue) (t : Told) (ts : List Told) (j : Job) (g : Here book k qs n x q t ts j) (st : Store) (i : ℕ) (w : StoreCall) → j.stage ≡ stage.Storing st → slice_get st.under i ≡ Some w → w.xid < (seat_at g).client.next_xid
+store_older book k qs n x q t ts j g st i w waits at = by (nat_le c.next_xid w.xid) refl
   where
     h : IsSession book k.seats k.server n x q
     h = session_at book k qs n x q t ts j g
@@ -631,7 +631,7 @@ store_older book k qs n x q t ts j g st i w waits at = by (nat_le c.next w.xid) 
     c : client.State
     c = h.seat.client
 
-    by : (b : Bool) → nat_le c.next w.xid ≡ b → w.xid < c.next
+    by : (b : Bool) → nat_le c.next_xid w.xid ≡ b → w.xid < c.next_xid
     by false lt = grind (arith, nat_tests, lt)
     by true le =
         let none = (h.talk g.uncut).balanced.below w.xid (grind (arith, nat_tests, le)) in
@@ -648,7 +648,7 @@ ready_answered book k qs n x q t ts j g st u waits found answers quiet =
     let c = h.seat.client in
     let seat_was = g.kept.seats x.owner h.seat h.owner in
     let close = subst (CloseOf book x.closing h.contents c.next_temp j (local_of g)) waits (h.closes g.uncut j g.job_is) in
-    let room = subst (HasXids c.next) waits (seat_was.xids j g.job_is) in
+    let room = subst (HasXids c.next_xid) waits (seat_was.xids j g.job_is) in
     let less = names_less st.under t.xid in
     let f = store_found st.under t.xid u found in
     let once = (h.talk g.uncut).balanced.once t.xid in
@@ -672,8 +672,8 @@ ready_answered book k qs n x q t ts j g st u waits found answers quiet =
           let i = ap (λ (z : Pending). times y (p z ∷ [])) answers in
           omega (arith, a, b, d, e, m, i);
       xids = omega (arith, room, less);
-      places = all_at (IsInPlace (Some (on j (stage.Storing (answered st t.xid)))) (locals_of c)) q.ups (λ i a at. place_over j (on j (stage.Storing (answered st t.xid))) (locals_of c) st (answered st t.xid) a.xid a.call (over a.xid (λ e. up_apart n k.server.waiting q x.hung c.next (client.calls_of c) t ts i a (h.talk g.uncut).balanced g.first at e)) (all_in (IsInPlace (Some j) (locals_of c)) q.ups i a (subst (λ (o : Option Job). AllAsks (IsInPlace o (locals_of c)) q.ups) g.job_is (h.orderly g.uncut).asks) at));
-      wants = all_at (IsWanted book (Some (on j (stage.Storing (answered st t.xid))))) ts (λ i v at. want_over book j (on j (stage.Storing (answered st t.xid))) st (answered st t.xid) v.xid v.reply (over v.xid (λ e. down_apart n k.server.waiting q x.hung c.next (client.calls_of c) t ts i v (h.talk g.uncut).balanced g.first at e)) (all_in (IsWanted book (Some j)) ts i v (subst (AllTolds (IsWanted book (Some j))) g.first (subst (λ (o : Option Job). AllTolds (IsWanted book o) q.downs) g.job_is (h.orderly g.uncut).tolds)).1 at));
+      places = all_at (IsInPlace (Some (on j (stage.Storing (answered st t.xid)))) (locals_of c)) q.ups (λ i a at. place_over j (on j (stage.Storing (answered st t.xid))) (locals_of c) st (answered st t.xid) a.xid a.call (over a.xid (λ e. up_apart n k.server.waiting q x.hung c.next_xid (client.calls_of c) t ts i a (h.talk g.uncut).balanced g.first at e)) (all_in (IsInPlace (Some j) (locals_of c)) q.ups i a (subst (λ (o : Option Job). AllAsks (IsInPlace o (locals_of c)) q.ups) g.job_is (h.orderly g.uncut).asks) at));
+      wants = all_at (IsWanted book (Some (on j (stage.Storing (answered st t.xid))))) ts (λ i v at. want_over book j (on j (stage.Storing (answered st t.xid))) st (answered st t.xid) v.xid v.reply (over v.xid (λ e. down_apart n k.server.waiting q x.hung c.next_xid (client.calls_of c) t ts i v (h.talk g.uncut).balanced g.first at e)) (all_in (IsWanted book (Some j)) ts i v (subst (AllTolds (IsWanted book (Some j))) g.first (subst (λ (o : Option Job). AllTolds (IsWanted book o) q.downs) g.job_is (h.orderly g.uncut).tolds)).1 at));
       known = (h.orderly g.uncut).tree j g.job_is (ap stage_word waits);
       older = λ i w at. let o = was_under st.under t.xid i w at in store_older book k qs n x q t ts j g st o.0 w waits o.1;
     }
@@ -682,11 +682,11 @@ ready_answered book k qs n x q t ts j g st u waits found answers quiet =
     over y apart = record { was = waits; is = refl; file = refl; temp = refl; chunks = refl; found = λ v e. store_still st.under t.xid y apart ∙ e }
 
 -- and where a name was answered, one more call may go out
-pub ready_named : (book : Book) (k : Core) (qs : List Queue) (n : ℕ) (x : Session) (q : Queue) (t : Told) (ts : List Told) (j : Job) (g : Here book k qs n x q t ts j) (st : Store) (u : StoreCall) → j.stage ≡ stage.Storing st → store_at st.under t.xid ≡ Some u → u.way ≡ way.Named → (seat_at g).client.next + 1 + 80001 + names_in (answered st t.xid).under ≤ 4294967296 + 2 * (answered st t.xid).named
+pub ready_named : (book : Book) (k : Core) (qs : List Queue) (n : ℕ) (x : Session) (q : Queue) (t : Told) (ts : List Told) (j : Job) (g : Here book k qs n x q t ts j) (st : Store) (u : StoreCall) → j.stage ≡ stage.Storing st → store_at st.under t.xid ≡ Some u → u.way ≡ way.Named → (seat_at g).client.next_xid + 1 + 80001 + names_in (answered st t.xid).under ≤ 4294967296 + 2 * (answered st t.xid).named
 ready_named book k qs n x q t ts j g st u waits found way_is =
     let h = session_at book k qs n x q t ts j g in
     let seat_was = g.kept.seats x.owner h.seat h.owner in
-    let room = subst (HasXids h.seat.client.next) waits (seat_was.xids j g.job_is) in
+    let room = subst (HasXids h.seat.client.next_xid) waits (seat_was.xids j g.job_is) in
     let f = store_found st.under t.xid u found in
     let less = names_one_less st.under t.xid f.0 u f.1 f.2 way_is in
     omega (arith, room, less)

@@ -119,7 +119,7 @@ names_go v log w next h = names_keep (Naming v log w.chunks (owing_at (asked_of 
     more : (n : Names) (c : Chunk) → Naming v log w.chunks (owing_at (asked_of w.chunks w.under)) n → slice_get n.store.chunks n.store.named ≡ Some c → Naming v log w.chunks (owing_at (asked_of w.chunks w.under)) (Rattle.kept_promise.proofs.Common.names_next n (Some c))
     more n c h e =
         let cs : List Chunk = w.chunks in
-        let m : Message = cond_call n.next n.store.temp c in
+        let m : Message = cond_call n.next_xid n.store.temp c in
         let start : Owing = owing_at (asked_of w.chunks w.under) in
         let all : map Sent (n.send ++ m ∷ []) ≡ map Sent n.send ++ Sent m ∷ [] = sent_more n.send m in
         let there : slice_get cs n.store.named ≡ Some c = ap (λ (l : List Chunk). slice_get l n.store.named) (sym h.chunks) ∙ e in
@@ -133,7 +133,7 @@ names_go v log w next h = names_keep (Naming v log w.chunks (owing_at (asked_of 
           chunks = h.chunks;
           named = ap (λ l. named_in log ++ named_in l) all ∙ ap (λ l. named_in log ++ l) (named_join (map Sent n.send) (Sent m ∷ [])) ∙ sym (joined_one (named_in log) (named_in (map Sent n.send)) (take n.store.named cs) c (sym h.named)) ∙ sym (ap (λ k. take k cs) (let e : n.store.named + 1 ≡ suc n.store.named = omega arith in e) ∙ take_more cs n.store.named c there);
           pays = subst (PaysAll v start) (sym all) (pays_join v start (map Sent n.send) (Sent m ∷ []) h.pays (subst (λ (o : Owing). PaysAll v o (Sent m ∷ [])) (sym h.owes) (tt, tt, refl)));
-          owes = ap (owing_from start) all ∙ owing_join start (map Sent n.send) (Sent m ∷ []) ∙ ap (λ (o : Owing). owing_with o (Sent m)) h.owes ∙ ap owing_at (sym (asked_more cs n.store.under n.next n.store.named c there));
+          owes = ap (owing_from start) all ∙ owing_join start (map Sent n.send) (Sent m ∷ []) ∙ ap (λ (o : Owing). owing_with o (Sent m)) h.owes ∙ ap owing_at (sym (asked_more cs n.store.under n.next_xid n.store.named c there));
           made = omega (arith, two, b, q);
           commits = omega (arith, three, d, r);
         }
@@ -199,8 +199,8 @@ leaves_cases log s file v st x b h value = record {
   );
   names = λ w at known none is.
       let r = ready log file x v (client.local_bytes s.opened file) st w h value at in
-      let go = names_go v log w s.next r.0.named in
-      let n = names_all w s.next in
+      let go = names_go v log w s.next_xid r.0.named in
+      let n = names_all w s.next_xid in
       let log2 : List Deal = log ++ Took (message.Answer x b) ∷ map Sent n.send in
       let now : HasNamed v log2 n.store.named 1 0 w.chunks = went v log x b n.send w.chunks w.named n.store.named 1 0 0 r.0 (ready_pays v log x b w n.send r known go.pays) none go.named go.made go.commits in
       let asked : Asked log2 (asked_of w.chunks n.store.under) = ready_asked v log x b w n.send (asked_of w.chunks n.store.under) r known go.owes in (
@@ -209,9 +209,9 @@ leaves_cases log s file v st x b h value = record {
       );
   commits = λ w at known none is.
       let r = ready log file x v (client.local_bytes s.opened file) st w h value at in
-      let go = names_go v log w s.next r.0.named in
-      let n = names_all w s.next in
-      let m : Message = commit_call n.next n.store.temp file (length (client.local_bytes s.opened file)) in
+      let go = names_go v log w s.next_xid r.0.named in
+      let n = names_all w s.next_xid in
+      let m : Message = commit_call n.next_xid n.store.temp file (length (client.local_bytes s.opened file)) in
       let start : Owing = owing_at (asked_of w.chunks w.under) in
       let all = sent_more n.send m in
       let two = made_join (map Sent n.send) (Sent m ∷ []) in
@@ -231,16 +231,16 @@ leaves_cases log s file v st x b h value = record {
   whole = λ old c k at unknown none found name chunk.
       let had : HasNamed v log old.named 1 0 old.chunks × (old.chunks ≡ chunks_of v) × Asked log (asked_of old.chunks old.under) = subst (ClosesBy log file v) at h in
       let owing : Owing = owing_from owes_nothing log in
-      let m : Message = temp_call s.next old.temp (client.local_bytes s.opened file) k in
+      let m : Message = temp_call s.next_xid old.temp (client.local_bytes s.opened file) k in
       let log2 : List Deal = log ++ Took (message.Answer x b) ∷ Sent m ∷ [] in
       let mine : asked_at owing.asked x ≡ Some k = ap (λ l. asked_at l x) had.2 ∙ asked_found old.chunks old.under x c k found name chunk in
-      let pays : PaysAll v owing (Took (message.Answer x b) ∷ Sent m ∷ []) = subst (λ z. PaysAll v owing (Took (message.Answer x b) ∷ Sent (temp_call s.next old.temp z k) ∷ [])) (value (ap stage_word at)) (whole_pays v owing x b s.next old.temp k (pays_end v owes_nothing log had.0.paid) unknown mine) in
+      let pays : PaysAll v owing (Took (message.Answer x b) ∷ Sent m ∷ []) = subst (λ z. PaysAll v owing (Took (message.Answer x b) ∷ Sent (temp_call s.next_xid old.temp z k) ∷ [])) (value (ap stage_word at)) (whole_pays v owing x b s.next_xid old.temp k (pays_end v owes_nothing log had.0.paid) unknown mine) in
       let now : HasNamed v log2 old.named 1 0 old.chunks = went v log x b (m ∷ []) old.chunks old.named old.named 1 0 0 had.0 pays none (append-nil (named_in log) ∙ had.0.named) refl refl in
-      let asked : Asked log2 (asked_of old.chunks (without_store old.under x ++ record { xid = s.next; index = c.index; way = way.Whole } ∷ [])) =
+      let asked : Asked log2 (asked_of old.chunks (without_store old.under x ++ record { xid = s.next_xid; index = c.index; way = way.Whole } ∷ [])) =
       ap (λ (o : Owing). o.asked) (owing_join owes_nothing log (Took (message.Answer x b) ∷ Sent m ∷ []))
       ∙ ap (λ l. without_asked l x) had.2
       ∙ asked_without old.chunks old.under x
-      ∙ sym (asked_whole old.chunks (without_store old.under x) s.next c.index) in (
+      ∙ sym (asked_whole old.chunks (without_store old.under x) s.next_xid c.index) in (
         λ f y running is of. subst (λ (t : Task). ClosesBy log2 f v t.stage) (some_is _ y is) (now, had.1, asked),
         λ close. inr (record { count = old.named; made = 1; commits = 0; named = subst (HasNamed v log2 old.named 1 0) had.1 now; few = (omega arith, omega arith); all = λ lt. absurd (omega (arith, lt)) }),
       );

@@ -240,21 +240,21 @@ leads_begins book k qs c seat w file value cache temp s a acts g l send ended no
 
 -- ---- an open
 
-open_begins : (book : Book) (k : Core) (qs : List Queue) (c : ℕ) (seat : Seat) (file : ℕ) → file < 18446744073709551616 → (g : Idle book k qs c seat) → Linked book k qs c seat → seat.client.next < 4293967297 → Answers book k qs c seat words.Open file [] (tries_anew (record seat.client { cache = reserved seat.client.cache file }) file 1 0)
+open_begins : (book : Book) (k : Core) (qs : List Queue) (c : ℕ) (seat : Seat) (file : ℕ) → file < 18446744073709551616 → (g : Idle book k qs c seat) → Linked book k qs c seat → seat.client.next_xid < 4293967297 → Answers book k qs c seat words.Open file [] (tries_anew (record seat.client { cache = reserved seat.client.cache file }) file 1 0)
 open_begins book k qs c seat file fits g l room =
     let s = seat.client in
-    let a : Ask = record { xid = s.next; call = Hash file 0 } in
+    let a : Ask = record { xid = s.next_xid; call = Hash file 0 } in
     let was = (g.kept.seats c seat g.here).next in
     let steps = g.kept.steps in
-    leads_begins book k qs c seat words.Open file [] (reserved s.cache file) s.next_temp (stage.Hashing 1 s.next) a (tries_anew (record s { cache = reserved s.cache file }) file 1 0).1 g l refl refl refl refl (λ closing is. record {
-      first = hash_first s.next file;
+    leads_begins book k qs c seat words.Open file [] (reserved s.cache file) s.next_temp (stage.Hashing 1 s.next_xid) a (tries_anew (record s { cache = reserved s.cache file }) file 1 0).1 g l refl refl refl refl (λ closing is. record {
+      first = hash_first s.next_xid file;
       of_client = refl;
       word = refl;
       of_file = refl;
       running = refl;
       pointless = refl;
       right = begun_right (onward book 1 (book.ops ++ begun c words.Open file [] (k.steps + 1) ∷ [])) c words.Open file [] (k.steps + 1) refl (ap (λ z. z + 1) steps);
-      asked = λ i o e w. (ap (λ (z : Job). z.file) (sym (some_is (record { place = length book.ops; file = file; stage = stage.Hashing 1 s.next }) i e)) ∙ refl_file, sym (some_is 0 o (hash_now i o e w)));
+      asked = λ i o e w. (ap (λ (z : Job). z.file) (sym (some_is (record { place = length book.ops; file = file; stage = stage.Hashing 1 s.next_xid }) i e)) ∙ refl_file, sym (some_is 0 o (hash_now i o e w)));
       commit = λ contents. tt;
       fits = (omega (arith, room), fits, omega arith);
       under = tt;
@@ -276,10 +276,10 @@ open_begins book k qs c seat file fits g l room =
     refl_file : file ≡ file
     refl_file = refl
 
-    hash_now : (i : Job) (o : ℕ) → Some (record { place = length book.ops; file = file; stage = stage.Hashing 1 seat.client.next }) ≡ Some i → Rattle.kept_promise.proofs.Messages.hash_offset i.stage seat.client.next ≡ Some o → Some 0 ≡ Some o
-    hash_now i o e w = sym (ap (λ b. cond b (Some 0) None) (eq-eqb seat.client.next seat.client.next refl)) ∙ ap (λ (z : Job). Rattle.kept_promise.proofs.Messages.hash_offset z.stage seat.client.next) (some_is (record { place = length book.ops; file = file; stage = stage.Hashing 1 seat.client.next }) i e) ∙ w
+    hash_now : (i : Job) (o : ℕ) → Some (record { place = length book.ops; file = file; stage = stage.Hashing 1 seat.client.next_xid }) ≡ Some i → Rattle.kept_promise.proofs.Messages.hash_offset i.stage seat.client.next_xid ≡ Some o → Some 0 ≡ Some o
+    hash_now i o e w = sym (ap (λ b. cond b (Some 0) None) (eq-eqb seat.client.next_xid seat.client.next_xid refl)) ∙ ap (λ (z : Job). Rattle.kept_promise.proofs.Messages.hash_offset z.stage seat.client.next_xid) (some_is (record { place = length book.ops; file = file; stage = stage.Hashing 1 seat.client.next_xid }) i e) ∙ w
 
-    tries_are : (m y : ℕ) → stage.Hashing 1 seat.client.next ≡ stage.Hashing m y → 1 ≡ m
+    tries_are : (m y : ℕ) → stage.Hashing 1 seat.client.next_xid ≡ stage.Hashing m y → 1 ≡ m
     tries_are m y e = ap tries_of e
       where
         tries_of : Stage → ℕ
@@ -287,22 +287,22 @@ open_begins book k qs c seat file fits g l room =
         tries_of s = 0
 
 -- of a file whose content is kept
-lease_begins : (book : Book) (k : Core) (qs : List Queue) (c : ℕ) (seat : Seat) (file : ℕ) (v : Content) → file < 18446744073709551616 → (g : Idle book k qs c seat) → Linked book k qs c seat → seat.client.next < 4293967297
+lease_begins : (book : Book) (k : Core) (qs : List Queue) (c : ℕ) (seat : Seat) (file : ℕ) (v : Content) → file < 18446744073709551616 → (g : Idle book k qs c seat) → Linked book k qs c seat → seat.client.next_xid < 4293967297
     → Answers book k qs c seat words.Open file [] (asks_kept (record seat.client { cache = reserved seat.client.cache file }) file (Some v))
 lease_begins book k qs c seat file v fits g l room =
     let s = seat.client in
-    let a : Ask = record { xid = s.next; call = Lease file } in
+    let a : Ask = record { xid = s.next_xid; call = Lease file } in
     let was = (g.kept.seats c seat g.here).next in
     let steps = g.kept.steps in
-    leads_begins book k qs c seat words.Open file [] (reserved s.cache file) s.next_temp (stage.Asking s.next) a (asks_kept (record s { cache = reserved s.cache file }) file (Some v)).1 g l refl refl refl refl (λ closing is. record {
-      first = lease_first s.next file;
+    leads_begins book k qs c seat words.Open file [] (reserved s.cache file) s.next_temp (stage.Asking s.next_xid) a (asks_kept (record s { cache = reserved s.cache file }) file (Some v)).1 g l refl refl refl refl (λ closing is. record {
+      first = lease_first s.next_xid file;
       of_client = refl;
       word = refl;
       of_file = refl;
       running = refl;
       pointless = refl;
       right = begun_right (onward book 1 (book.ops ++ begun c words.Open file [] (k.steps + 1) ∷ [])) c words.Open file [] (k.steps + 1) refl (ap (λ z. z + 1) steps);
-      asked = λ i e w. ap (λ (z : Job). z.file) (sym (some_is (record { place = length book.ops; file = file; stage = stage.Asking s.next }) i e));
+      asked = λ i e w. ap (λ (z : Job). z.file) (sym (some_is (record { place = length book.ops; file = file; stage = stage.Asking s.next_xid }) i e));
       commit = λ contents. tt;
       fits = (omega (arith, room), fits);
       under = tt;
@@ -321,17 +321,17 @@ lease_begins book k qs c seat file v fits g l room =
       tree = λ e. absurd cc;
     })
 
-may : (s : client.State) → may_ask s ≡ true → (s.linked ≡ true) × (s.next < 4293967297)
+may : (s : client.State) → may_ask s ≡ true → (s.linked ≡ true) × (s.next_xid < 4293967297)
 may s e = by s.linked refl e
   where
-    by : (b : Bool) → s.linked ≡ b → elim b as (λ (x : Bool). Bool) [ true ↦ has_xids s.next | false ↦ false ] ≡ true → (s.linked ≡ true) × (s.next < 4293967297)
+    by : (b : Bool) → s.linked ≡ b → elim b as (λ (x : Bool). Bool) [ true ↦ has_xids s.next_xid | false ↦ false ] ≡ true → (s.linked ≡ true) × (s.next_xid < 4293967297)
     by true is e = (is, grind (arith, nat_tests, e))
     by false is e = absurd cc
 
 opened_new : (book : Book) (k : Core) (qs : List Queue) (c : ℕ) (seat : Seat) (file : ℕ) → file < 18446744073709551616 → Idle book k qs c seat → Answers book k qs c seat words.Open file [] (opens seat.client file seat.client.task)
 opened_new book k qs c seat file fits g = subst (λ (t : Option Task). Answers book k qs c seat words.Open file [] (opens seat.client file t)) (sym g.task) (by (is_open seat.client.opened file))
   where
-    asked : (o : Option Content) → (seat.client.linked ≡ true) × (seat.client.next < 4293967297) → Answers book k qs c seat words.Open file [] (asks_kept (record seat.client { cache = reserved seat.client.cache file }) file o)
+    asked : (o : Option Content) → (seat.client.linked ≡ true) × (seat.client.next_xid < 4293967297) → Answers book k qs c seat words.Open file [] (asks_kept (record seat.client { cache = reserved seat.client.cache file }) file o)
     asked None m = open_begins book k qs c seat file fits g (linked book k qs c seat g m.0) m.1
     asked (Some v) m = lease_begins book k qs c seat file v fits g (linked book k qs c seat g m.0) m.1
 
@@ -376,25 +376,25 @@ walk_remote : (k : PathCommand) → Rattle.kept_promise.proofs.Rights.is_remote 
 walk_remote (path.Find s) = refl
 walk_remote _ = refl
 
-walk_begins : (book : Book) (k : Core) (qs : List Queue) (c : ℕ) (seat : Seat) (p : PathCommand) → HasNames p → (g : Idle book k qs c seat) → Linked book k qs c seat → seat.client.next < 4293967297
+walk_begins : (book : Book) (k : Core) (qs : List Queue) (c : ℕ) (seat : Seat) (p : PathCommand) → HasNames p → (g : Idle book k qs c seat) → Linked book k qs c seat → seat.client.next_xid < 4293967297
     → Answers book k qs c seat (path_word p) 0 [] (asks_next seat.client (walk_begun p))
 walk_begins book k qs c seat p names g l room =
     let s = seat.client in
     let w = walk_begun p in
-    let a : Ask = record { xid = s.next; call = Walks w } in
+    let a : Ask = record { xid = s.next_xid; call = Walks w } in
     let was = (g.kept.seats c seat g.here).next in
     let steps = g.kept.steps in
     let short = walk_calls_short w (begun_named p names) in
     let new = begun c (path_word p) 0 [] (k.steps + 1) in
-    leads_begins book k qs c seat (path_word p) 0 [] s.cache s.next_temp (stage.Walking s.next w) a (asks_next s w).1 g l refl refl refl refl (λ closing is. record {
-      first = walk_first s.next w;
+    leads_begins book k qs c seat (path_word p) 0 [] s.cache s.next_temp (stage.Walking s.next_xid w) a (asks_next s w).1 g l refl refl refl refl (λ closing is. record {
+      first = walk_first s.next_xid w;
       of_client = refl;
       word = begun_word p;
       of_file = refl;
       running = refl;
       pointless = refl;
       right = begun_right (onward book 1 (book.ops ++ begun c (path_word p) 0 [] (k.steps + 1) ∷ [])) c (path_word p) 0 [] (k.steps + 1) (walk_remote p) (ap (λ z. z + 1) steps);
-      asked = λ i v e at. sym (walk_is s.next s.next w v (ap (λ (z : Job). z.stage) (some_is (record { place = length book.ops; file = 0; stage = stage.Walking s.next w }) i e) ∙ at));
+      asked = λ i v e at. sym (walk_is s.next_xid s.next_xid w v (ap (λ (z : Job). z.stage) (some_is (record { place = length book.ops; file = 0; stage = stage.Walking s.next_xid w }) i e) ∙ at));
       commit = λ contents making.
           let may : changes (path_word p) ≡ true = ap changes (begun_word p) ∙ creates_changes w.left w.goal making in
           record { place = length book.ops; known = is ∙ changing_closing (path_word p) l.session.closing (length book.ops) may; op = new; there = at_end book.ops new; unmade = (may, refl, refl); word_is = begun_word p; file_is = refl; waited = λ u. refl };
@@ -430,10 +430,10 @@ walked_new book k qs c seat p names g = subst (λ (t : Option Task). Answers boo
 
 -- ---- a close
 
-close_begins : (book : Book) (k : Core) (qs : List Queue) (c : ℕ) (seat : Seat) (file : ℕ) (v : Local) → (g : Idle book k qs c seat) → Linked book k qs c seat → client.local_at seat.client.opened file ≡ Some v → seat.client.next < 4293967297 → Answers book k qs c seat words.Close file (client.local_bytes seat.client.opened file) (asks_temp seat.client file true)
+close_begins : (book : Book) (k : Core) (qs : List Queue) (c : ℕ) (seat : Seat) (file : ℕ) (v : Local) → (g : Idle book k qs c seat) → Linked book k qs c seat → client.local_at seat.client.opened file ≡ Some v → seat.client.next_xid < 4293967297 → Answers book k qs c seat words.Close file (client.local_bytes seat.client.opened file) (asks_temp seat.client file true)
 close_begins book k qs c seat file v g l at room =
     let s = seat.client in
-    let a : Ask = record { xid = s.next; call = Make s.next_temp file } in
+    let a : Ask = record { xid = s.next_xid; call = Make s.next_temp file } in
     let was = (g.kept.seats c seat g.here).next in
     let le = was.1 in
     let steps = g.kept.steps in
@@ -441,8 +441,8 @@ close_begins book k qs c seat file v g l at room =
     let value = client.local_bytes s.opened file in
     let new = begun c words.Close file value (k.steps + 1) in
     let bytes : value ≡ v.bytes = ap (λ (o : Option Local). Rattle.std.specs.Prelude.unwrap_or (Rattle.std.specs.Prelude.option_map (λ z. z.bytes) o) []) at in
-    leads_begins book k qs c seat words.Close file value s.cache (s.next_temp + 1) (stage.Making s.next s.next_temp) a (asks_temp s file true).1 g l refl refl refl refl (λ closing is. record {
-      first = make_first s.next s.next_temp file;
+    leads_begins book k qs c seat words.Close file value s.cache (s.next_temp + 1) (stage.Making s.next_xid s.next_temp) a (asks_temp s file true).1 g l refl refl refl refl (λ closing is. record {
+      first = make_first s.next_xid s.next_temp file;
       of_client = refl;
       word = refl;
       of_file = refl;

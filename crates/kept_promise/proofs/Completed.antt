@@ -90,10 +90,10 @@ not_alone fits w all qs c seat j t kept carry rested here is task alone = by sea
         let same : h.seat ≡ seat = some_is h.seat seat (sym h.owner ∙ ap (numbered w.core.seats) owner ∙ here) in
         let lone = alone seat n here l.2 in
         let talk = subst (IsTalk (book_of w all) n w.core.server.waiting x q.0) same (h.talk l.4) in
-        let balanced : IsBalanced n w.core.server.waiting q.0 false seat.client.next (client.pending seat.client.task ++ seat.client.forgotten) = subst (λ (z : Bool). IsBalanced n w.core.server.waiting q.0 z seat.client.next (client.calls_of seat.client)) (lone.stands x l.3) talk.balanced in
+        let balanced : IsBalanced n w.core.server.waiting q.0 false seat.client.next_xid (client.pending seat.client.task ++ seat.client.forgotten) = subst (λ (z : Bool). IsBalanced n w.core.server.waiting q.0 z seat.client.next_xid (client.calls_of seat.client)) (lone.stands x l.3) talk.balanced in
         let busy : 0 < length (client.pending_in t.stage) = subst (λ (z : Stage). 0 < length (client.pending_in z)) (stage_of seat.place seat.client.task j t is task) (talk.busy j is) in
         let some : 0 < length (client.pending seat.client.task) = subst (λ (z : Option Task). 0 < length (client.pending z)) (sym task) busy in
-        nobody_waits w.core.server.waiting n q.0 seat.client.next (client.pending seat.client.task) seat.client.forgotten balanced (nothing_waits fits w all qs n x q.0 kept carry rested l.3 q.1 lone) some
+        nobody_waits w.core.server.waiting n q.0 seat.client.next_xid (client.pending seat.client.task) seat.client.forgotten balanced (nothing_waits fits w all qs n x q.0 kept carry rested l.3 q.1 lone) some
 
 pub completes : FitLaws → (w : World) (all : List Moment) (qs : List Queue) → IsKept (book_of w all) w.core qs → CarryAll w.wires qs → AreRested w.wires → (k : ℕ) (o : Op) → slice_get w.core.ops k ≡ Some o → IsLeftAlone w o.client → IsSome o.end
 completes fits w all qs kept carry rested k o at alone = by o.end refl

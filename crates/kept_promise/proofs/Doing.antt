@@ -67,17 +67,17 @@ is_occupied book k qs c seat j new kept ops steps here is mine begins =
 -- ---- whether it may ask
 
 -- as the calls that it sent on its connection say
-pub asks_by : (s : client.State) (joined : Bool) (calls : ℕ) → s.linked ≡ joined → s.next ≡ calls + 1 → can_ask joined calls ≡ may_ask s
+pub asks_by : (s : client.State) (joined : Bool) (calls : ℕ) → s.linked ≡ joined → s.next_xid ≡ calls + 1 → can_ask joined calls ≡ may_ask s
 asks_by s joined calls link next = ap (λ b. can_ask b calls) (sym link) ∙ by s.linked
   where
-    room : (a b : Bool) → nat_le (calls + 1000000) 4294967295 ≡ a → has_xids s.next ≡ b → a ≡ b
+    room : (a b : Bool) → nat_le (calls + 1000000) 4294967295 ≡ a → has_xids s.next_xid ≡ b → a ≡ b
     room true true p q = refl
     room false false p q = refl
-    room true false p q = let le : calls + 1000000 ≤ 4294967295 = grind (arith, nat_tests, p) in let ge : 4293967297 ≤ s.next = grind (arith, nat_tests, q) in absurd (omega (arith, le, ge, next))
-    room false true p q = let gt : 4294967295 < calls + 1000000 = grind (arith, nat_tests, p) in let lt : s.next < 4293967297 = grind (arith, nat_tests, q) in absurd (omega (arith, gt, lt, next))
+    room true false p q = let le : calls + 1000000 ≤ 4294967295 = grind (arith, nat_tests, p) in let ge : 4293967297 ≤ s.next_xid = grind (arith, nat_tests, q) in absurd (omega (arith, le, ge, next))
+    room false true p q = let gt : 4294967295 < calls + 1000000 = grind (arith, nat_tests, p) in let lt : s.next_xid < 4293967297 = grind (arith, nat_tests, q) in absurd (omega (arith, gt, lt, next))
 
-    by : (b : Bool) → can_ask b calls ≡ elim b [ true ↦ has_xids s.next | false ↦ false ]
-    by true = room (nat_le (calls + 1000000) 4294967295) (has_xids s.next) refl refl
+    by : (b : Bool) → can_ask b calls ≡ elim b [ true ↦ has_xids s.next_xid | false ↦ false ]
+    by true = room (nat_le (calls + 1000000) 4294967295) (has_xids s.next_xid) refl refl
     by false = refl
 
 -- ---- the operation

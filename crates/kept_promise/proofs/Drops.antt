@@ -49,7 +49,7 @@ dropped c xid = record c { forgotten = without_call c.forgotten xid }
 pub forgotten_there : (book : Book) (k : Core) (qs : List Queue) (n : ℕ) (x : Session) (q : Queue) (t : Told) (ts : List Told) → (h : IsSession book k.seats k.server n x q) → q.downs ≡ t ∷ ts → x.cut ≡ false → has_call (client.pending h.seat.client.task) t.xid ≡ false → (i : ℕ) × (slice_get h.seat.client.forgotten i ≡ Some (told_pending t))
 forgotten_there book k qs n x q t ts h first uncut none =
     let c = h.seat.client in
-    let there = told_there n k.server.waiting q x.hung c.next (client.calls_of c) 0 t (h.talk uncut).balanced (ap (λ (l : List Told). slice_get l 0) first) in
+    let there = told_there n k.server.waiting q x.hung c.next_xid (client.calls_of c) 0 t (h.talk uncut).balanced (ap (λ (l : List Told). slice_get l 0) first) in
     in_either (client.pending c.task) c.forgotten there.0 (told_pending t) there.1 none
 
 moves_drops : (mine forgotten : List Pending) (i : ℕ) (t : Told) → slice_get forgotten i ≡ Some (told_pending t) → times t.xid (map (λ c. c.xid) (mine ++ forgotten)) ≤ 1 → Moves (mine ++ forgotten) (mine ++ without_call forgotten t.xid) t []

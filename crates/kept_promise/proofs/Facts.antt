@@ -55,11 +55,11 @@ pub record IsBalanced (n : ℕ) (waiting : List Change) (q : Queue) (hung : Bool
 pub record IsTalk (book : Book) (n : ℕ) (waiting : List Change) (x : Session) (q : Queue) (seat : Seat) : Type 0 where
   pub floor : ℕ
   pub under : AllUnder floor x.taken
-  pub rising : Rising floor q.ups seat.client.next
+  pub rising : Rising floor q.ups seat.client.next_xid
   pub asked : AllAsks (IsAsked (job seat)) q.ups
   pub answers : AllTolds (IsAnswer book x.taken x.closing (job seat)) q.downs
   pub fetch : HasFetch book x.taken (job seat)
-  pub balanced : IsBalanced n waiting q x.hung seat.client.next (client.calls_of seat.client)
+  pub balanced : IsBalanced n waiting q x.hung seat.client.next_xid (client.calls_of seat.client)
   -- where the owner waits, something is under way
   pub busy : (j : Job) → job seat ≡ Some j → 0 < length (client.pending_in j.stage)
 
@@ -129,8 +129,8 @@ pub record IsSeat (book : Book) (sessions : List Session) (i : ℕ) (seat : Seat
   pub matched : IsMatched seat
   pub task : (j : Job) → job seat ≡ Some j → IsOf book i j
   pub trying : IsTrying book (job seat)
-  pub xids : (j : Job) → job seat ≡ Some j → HasXids seat.client.next j.stage
-  pub next : (seat.client.next ≤ 4294967296) × (seat.client.next_temp ≤ seat.client.next)
+  pub xids : (j : Job) → job seat ≡ Some j → HasXids seat.client.next_xid j.stage
+  pub next : (seat.client.next_xid ≤ 4294967296) × (seat.client.next_temp ≤ seat.client.next_xid)
   -- what is open is a file of the tree, and within the limit
   pub opened : (f : ℕ) (l : Local) → client.local_at seat.client.opened f ≡ Some l → WasThere book f × (length l.bytes ≤ 67108864)
   pub kept : Cached book seat.client.cache

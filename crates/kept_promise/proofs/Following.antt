@@ -39,8 +39,8 @@ use Rattle.kept_promise.proofs.Rights.{gets_file}
 pub record IsFollowed (past : List Moment) (k : Core) : Type 0 where
   pub deeds : HasDeeds (deeds_of past) k.ops k.seats
   pub joined : (c : ℕ) (seat : Seat) → numbered k.seats c ≡ Some seat → seat.client.linked ≡ joined_from c false past
-  pub next : (c : ℕ) (seat : Seat) → numbered k.seats c ≡ Some seat → seat.client.next ≤ calls_most * k.steps + 1
-  pub calls : (c : ℕ) (seat : Seat) → numbered k.seats c ≡ Some seat → seat.client.next ≡ calls_from c 0 past + 1
+  pub next : (c : ℕ) (seat : Seat) → numbered k.seats c ≡ Some seat → seat.client.next_xid ≤ calls_most * k.steps + 1
+  pub calls : (c : ℕ) (seat : Seat) → numbered k.seats c ≡ Some seat → seat.client.next_xid ≡ calls_from c 0 past + 1
   pub few : (i : ℕ) (d : Deed) → slice_get (deeds_of past) i ≡ Some d → d.calls ≤ calls_most * d.begin
   pub ways : HasWays (deeds_of past) k.seats
 
@@ -76,8 +76,8 @@ followed_first tree count = record {
     locals = λ c seat at f. ap (λ (x : Seat). local_of x.client f) (seat_first count c seat at);
   };
   joined = λ c seat at. ap (λ (x : Seat). x.client.linked) (seat_first count c seat at);
-  next = λ c seat at. let n = ap (λ (x : Seat). x.client.next) (seat_first count c seat at) in omega (arith, n);
-  calls = λ c seat at. ap (λ (x : Seat). x.client.next) (seat_first count c seat at);
+  next = λ c seat at. let n = ap (λ (x : Seat). x.client.next_xid) (seat_first count c seat at) in omega (arith, n);
+  calls = λ c seat at. ap (λ (x : Seat). x.client.next_xid) (seat_first count c seat at);
   few = λ i d at. nothing_there d at;
   ways = λ c seat j d at is there. nothing_there d there;
 }
@@ -92,8 +92,8 @@ begins opening k all qs kept i o at = let le = (kept.sound.rights i o at).begun 
 
 goes_by : (past : List Moment) (k : Core) (e : Event) (after : Core) → IsFollowed past k → deed_by past (k.steps + 1) e ≡ [] → AllMoved (k.steps + 1) k.ops after.ops → HasDeeds (deeds_of past) after.ops after.seats → HasWays (deeds_of past) after.seats → k.steps ≤ after.steps
     → ((c : ℕ) (seat : Seat) → numbered after.seats c ≡ Some seat → seat.client.linked ≡ joined_by c (joined_from c false past) e)
-    → ((c : ℕ) (seat : Seat) → numbered after.seats c ≡ Some seat → seat.client.next ≤ calls_most * after.steps + 1)
-    → ((c : ℕ) (seat : Seat) → numbered after.seats c ≡ Some seat → seat.client.next ≡ calls_by c (calls_from c 0 past) (moment k e) + 1)
+    → ((c : ℕ) (seat : Seat) → numbered after.seats c ≡ Some seat → seat.client.next_xid ≤ calls_most * after.steps + 1)
+    → ((c : ℕ) (seat : Seat) → numbered after.seats c ≡ Some seat → seat.client.next_xid ≡ calls_by c (calls_from c 0 past) (moment k e) + 1)
     → Goes past k e after
 goes_by past k e after h none moved deeds ways passes links nexts calls = record {
   followed = record {
@@ -148,11 +148,11 @@ goes_joins past opening all k qs c seat kept h at made few =
       | inr apart ↦ h.joined z e (sym (around.others z apart) ∙ is) ∙ sym (ap (λ b. elim b as (λ (y : Bool). Bool) [ true ↦ true | false ↦ joined_from z false past ]) (ne_eqb c z (λ q. apart (sym q))))
     ])
     (λ z e is. elim (same_or_not z c) [
-      | inl own ↦ let n = ap (λ (x : Seat). x.client.next) (there z e own is) in omega (arith, n)
+      | inl own ↦ let n = ap (λ (x : Seat). x.client.next_xid) (there z e own is) in omega (arith, n)
       | inr apart ↦ let n = h.next z e (sym (around.others z apart) ∙ is) in omega (arith, n)
     ])
     (λ z e is. elim (same_or_not z c) [
-      | inl own ↦ ap (λ (x : Seat). x.client.next) (there z e own is) ∙ sym (ap (λ b. elim b as (λ (y : Bool). ℕ) [ true ↦ 0 | false ↦ calls_from z 0 past ] + 1) (eq-eqb c z (sym own)))
+      | inl own ↦ ap (λ (x : Seat). x.client.next_xid) (there z e own is) ∙ sym (ap (λ b. elim b as (λ (y : Bool). ℕ) [ true ↦ 0 | false ↦ calls_from z 0 past ] + 1) (eq-eqb c z (sym own)))
       | inr apart ↦ h.calls z e (sym (around.others z apart) ∙ is) ∙ sym (ap (λ b. elim b as (λ (y : Bool). ℕ) [ true ↦ 0 | false ↦ calls_from z 0 past ] + 1) (ne_eqb c z (λ q. apart (sym q))))
     ])))
   where
@@ -302,11 +302,11 @@ goes_cuts past opening all k qs after c seat kept h here true e left =
     let now : Seat = record seat { client = r.0; place = Rattle.trace_ends.specs.Ops.place_after seat.place r.1.ended } in
     goes_by past k (Cuts c) (cuts_if k c seat true).core h refl f.moved f.deeds (ways_acted (deeds_of past) k.seats c seat r.0 r.1 h.ways here (occupied seat (kept.seats c seat here).matched) (λ t u e known at. nothing_there u at)) (omega arith) (cuts_off past c k.seats seat now h.joined here refl)
     (λ z x is. elim (same_or_not z c) [
-      | inl own ↦ let n = h.next c seat here in let m = ap (λ (y : Seat). y.client.next) (some_is x now (sym is ∙ ap (numbered (with_numbered k.seats c now)) own ∙ (around_with k.seats c seat now here).there)) in omega (arith, n, m)
+      | inl own ↦ let n = h.next c seat here in let m = ap (λ (y : Seat). y.client.next_xid) (some_is x now (sym is ∙ ap (numbered (with_numbered k.seats c now)) own ∙ (around_with k.seats c seat now here).there)) in omega (arith, n, m)
       | inr apart ↦ let n = h.next z x (sym ((around_with k.seats c seat now here).others z apart) ∙ is) in omega (arith, n)
     ])
     (λ z x is. elim (same_or_not z c) [
-      | inl own ↦ ap (λ (y : Seat). y.client.next) (some_is x now (sym is ∙ ap (numbered (with_numbered k.seats c now)) own ∙ (around_with k.seats c seat now here).there)) ∙ h.calls c seat here ∙ ap (λ y. calls_from y 0 past + 1) (sym own) ∙ silent z
+      | inl own ↦ ap (λ (y : Seat). y.client.next_xid) (some_is x now (sym is ∙ ap (numbered (with_numbered k.seats c now)) own ∙ (around_with k.seats c seat now here).there)) ∙ h.calls c seat here ∙ ap (λ y. calls_from y 0 past + 1) (sym own) ∙ silent z
       | inr apart ↦ h.calls z x (sym ((around_with k.seats c seat now here).others z apart) ∙ is) ∙ silent z
     ])
   where
@@ -357,14 +357,14 @@ heard_by past opening all k qs after n now c bytes seat kept h here owner is_by 
       | inr apart ↦ h.joined z x (sym (around.others z apart) ∙ is)
     ])
     (λ z x is. elim (same_or_not z c) [
-      | inl mine ↦ let n = h.next c seat here in let q = more m seat.client.task refl in let o = ap (λ (y : Seat). y.client.next) (some_is x then (sym is ∙ ap (numbered (with_numbered k.seats c then)) mine ∙ around.there)) in omega (arith, n, q, o)
+      | inl mine ↦ let n = h.next c seat here in let q = more m seat.client.task refl in let o = ap (λ (y : Seat). y.client.next_xid) (some_is x then (sym is ∙ ap (numbered (with_numbered k.seats c then)) mine ∙ around.there)) in omega (arith, n, q, o)
       | inr apart ↦ let n = h.next z x (sym (around.others z apart) ∙ is) in omega (arith, n)
     ])
     (λ z x is. elim (same_or_not z c) [
       | inl mine ↦
           let n = h.calls c seat here in
           let q = got_number seat.client m now in
-          let o = ap (λ (y : Seat). y.client.next) (some_is x then (sym is ∙ ap (numbered (with_numbered k.seats c then)) mine ∙ around.there)) in
+          let o = ap (λ (y : Seat). y.client.next_xid) (some_is x then (sym is ∙ ap (numbered (with_numbered k.seats c then)) mine ∙ around.there)) in
           let p = own_calls z c (calls_from z 0 past) r.1.send mine ∙ ap (λ y. calls_from y 0 past + calls_among r.1.send) mine in
           let s = sent z in
           omega (arith, n, q, o, p, s)
@@ -374,11 +374,11 @@ heard_by past opening all k qs after n now c bytes seat kept h here owner is_by 
     sent : (z : ℕ) → calls_by z (calls_from z 0 past) (moment k (Hears n now bytes)) ≡ calls_from z 0 past + sent_if (c == z) (got_step seat.client (parse_of (client.waiting_of seat.client) bytes) now).1.send
     sent z = ap (λ i. calls_from z 0 past + sent_if (i == z) (happens k (Hears n now bytes)).up) owner ∙ ap (λ (t : CoreStep). calls_from z 0 past + sent_if (c == z) t.up) is_by
 
-    more : (m : Result Message WireFault) (task : Option Task) → seat.client.task ≡ task → (got_step seat.client m now).0.next ≤ seat.client.next + calls_most
+    more : (m : Result Message WireFault) (task : Option Task) → seat.client.task ≡ task → (got_step seat.client m now).0.next_xid ≤ seat.client.next_xid + calls_most
     more m None e = let i = (step_idle seat.client m now e).0 in omega (arith, i)
     more m (Some t) e = by (stage_case t.stage)
       where
-        by : IsOfFile t.stage ⊎ ((y : ℕ) × (w : Walk) × (t.stage ≡ stage.Walking y w)) → (got_step seat.client m now).0.next ≤ seat.client.next + calls_most
+        by : IsOfFile t.stage ⊎ ((y : ℕ) × (w : Walk) × (t.stage ≡ stage.Walking y w)) → (got_step seat.client m now).0.next_xid ≤ seat.client.next_xid + calls_most
         by (inl known) = (step_left seat.client m now t e known).0
         by (inr walk) = (walk_left seat.client m now t walk.0 walk.1 e walk.2).0
 
@@ -437,23 +437,23 @@ goes_does past opening all k qs c now d seat small kept h here =
           | inr apart ↦ h.joined z x (sym (around.others z apart) ∙ is) ∙ sym (joined_more z false past (moment k (Does c now d)))
         ];
         next = λ z x is. elim (same_or_not z c) [
-          | inl mine ↦ let n = h.next c seat here in let o = ap (λ (y : Seat). y.client.next) (some_is x then (sym is ∙ ap (numbered (with_numbered k.seats c then)) mine ∙ around.there)) in omega (arith, n, nexts, o)
+          | inl mine ↦ let n = h.next c seat here in let o = ap (λ (y : Seat). y.client.next_xid) (some_is x then (sym is ∙ ap (numbered (with_numbered k.seats c then)) mine ∙ around.there)) in omega (arith, n, nexts, o)
           | inr apart ↦ let n = h.next z x (sym (around.others z apart) ∙ is) in omega (arith, n)
         ];
         calls = λ z x is. (elim (same_or_not z c) [
           | inl mine ↦
               let n = h.calls c seat here in
               let q = command_number seat.client d now in
-              let o = ap (λ (y : Seat). y.client.next) (some_is x then (sym is ∙ ap (numbered (with_numbered k.seats c then)) mine ∙ around.there)) in
+              let o = ap (λ (y : Seat). y.client.next_xid) (some_is x then (sym is ∙ ap (numbered (with_numbered k.seats c then)) mine ∙ around.there)) in
               let p = own_calls z c (calls_from z 0 past) r.1.send mine ∙ ap (λ y. calls_from y 0 past + calls_among r.1.send) mine in
               let s = sent z in
-              let m : x.client.next ≡ calls_by z (calls_from z 0 past) (moment k (Does c now d)) + 1 = omega (arith, n, q, o, p, s) in
+              let m : x.client.next_xid ≡ calls_by z (calls_from z 0 past) (moment k (Does c now d)) + 1 = omega (arith, n, q, o, p, s) in
               m
           | inr apart ↦
               let n = h.calls z x (sym (around.others z apart) ∙ is) in
               let p = other_calls z c (calls_from z 0 past) r.1.send apart in
               let s = sent z in
-              let m : x.client.next ≡ calls_by z (calls_from z 0 past) (moment k (Does c now d)) + 1 = omega (arith, n, p, s) in
+              let m : x.client.next_xid ≡ calls_by z (calls_from z 0 past) (moment k (Does c now d)) + 1 = omega (arith, n, p, s) in
               m
         ]) ∙ ap (λ n. n + 1) (sym (calls_more z 0 past (moment k (Does c now d))));
         few = subst (λ (ds : List Deed). (i : ℕ) (e : Deed) → slice_get ds i ≡ Some e → e.calls ≤ calls_most * e.begin) (sym (deeds_more past (moment k (Does c now d)))) (λ i e at. elim (of_appended (deeds_of past) deed i e at) [
@@ -490,8 +490,8 @@ pub followed_adjusted : (past : List Moment) (k : Core) (index : Indexed) (seats
 followed_adjusted past k index seats same h = record {
   deeds = record { count = h.deeds.count; rising = h.deeds.rising; each = h.deeds.each; locals = λ c e at f. let w = same.was c e at in ap (λ (z : Seat). local_of z.client f) w.4 ∙ h.deeds.locals c w.0 w.3 f };
   joined = λ c e at. let w = same.was c e at in ap (λ (z : Seat). z.client.linked) w.4 ∙ h.joined c w.0 w.3;
-  next = λ c e at. let w = same.was c e at in subst (λ (z : Seat). z.client.next ≤ calls_most * k.steps + 1) (sym w.4) (h.next c w.0 w.3);
-  calls = λ c e at. let w = same.was c e at in ap (λ (z : Seat). z.client.next) w.4 ∙ h.calls c w.0 w.3;
+  next = λ c e at. let w = same.was c e at in subst (λ (z : Seat). z.client.next_xid ≤ calls_most * k.steps + 1) (sym w.4) (h.next c w.0 w.3);
+  calls = λ c e at. let w = same.was c e at in ap (λ (z : Seat). z.client.next_xid) w.4 ∙ h.calls c w.0 w.3;
   few = h.few;
   ways = λ c e j d at is there. let w = same.was c e at in h.ways c w.0 j d w.3 (ap job (sym w.4) ∙ is) there;
 }

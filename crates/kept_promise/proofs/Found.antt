@@ -120,9 +120,9 @@ retries_none s calls file xid f version bytes = by (nat_lt f.tries tries_most)
     by false = refl
 
 reads_none : (s : State) (calls : List Pending) (file xid : ℕ) (f : Fetch) (bytes : ℕ) → FindsNone (reads_on s calls file xid f bytes)
-reads_none s calls file xid f bytes = by (is_here (reads_all s.cache s.index file f s.next).fetch)
+reads_none s calls file xid f bytes = by (is_here (reads_all s.cache s.index file f s.next_xid).fetch)
   where
-    by : (b : Bool) → FindsNone (reads_if (record s { index = found_all s.index (looked_up f (reads_all s.cache s.index file f s.next)) }) calls file xid (reads_all s.cache s.index file f s.next) bytes b)
+    by : (b : Bool) → FindsNone (reads_if (record s { index = found_all s.index (looked_up f (reads_all s.cache s.index file f s.next_xid)) }) calls file xid (reads_all s.cache s.index file f s.next_xid) bytes b)
     by true = refl
     by false = refl
 
@@ -173,9 +173,9 @@ piece_none s calls file xid f p (Some c) = chunk (slice_get f.chunks c.index)
 -- ---- an answer to a close
 
 goes_none : (s : State) (file : ℕ) (content : List ℕ) (st : Store) → FindsNone (goes_on s file content st)
-goes_none s file content st = by (is_stored (names_all st s.next).store)
+goes_none s file content st = by (is_stored (names_all st s.next_xid).store)
   where
-    by : (b : Bool) → FindsNone (goes_if s file content (names_all st s.next) b)
+    by : (b : Bool) → FindsNone (goes_if s file content (names_all st s.next_xid) b)
     by true = refl
     by false = refl
 

@@ -227,7 +227,7 @@ module _ (book more : Book) (k : Core) (qs : List Queue) (now : ℕ) (c : Change
     fits = shows.fits;
     answers = λ uncut.
         let talk = subst (λ (l : List Change). IsTalk book c.session l x q its.seat) waits (its.talk uncut) in
-        tolds_at (IsAnswer book x.taken x.closing (job its.seat)) (IsAnswer more x.taken x.closing (job its.seat)) q.downs (λ i u at f. unwaited book more x.taken x.taken x.closing (job its.seat) c.xid (walk_for a) u (waits_here uncut) (λ same. waits_untold c.session (c ∷ cs) q x.hung its.seat.client.next (client.calls_of its.seat.client) 0 i c u talk.balanced (ap (λ (l : List Change). slice_get l 0) (first_own c cs)) at (sym same)) f) talk.answers;
+        tolds_at (IsAnswer book x.taken x.closing (job its.seat)) (IsAnswer more x.taken x.closing (job its.seat)) q.downs (λ i u at f. unwaited book more x.taken x.taken x.closing (job its.seat) c.xid (walk_for a) u (waits_here uncut) (λ same. waits_untold c.session (c ∷ cs) q x.hung its.seat.client.next_xid (client.calls_of its.seat.client) 0 i c u talk.balanced (ap (λ (l : List Change). slice_get l 0) (first_own c cs)) at (sym same)) f) talk.answers;
     answer = shows.answer;
     closes = λ uncut j f. subst (CloseOf more x.closing its.contents its.seat.client.next_temp j (client.local_bytes its.seat.client.opened j.file)) (sym (waits_here uncut j f)) (λ later. absurd (none_later a later));
     plain = tt;

@@ -120,7 +120,7 @@ talk_hung book s n x q c t =
       busy = t.busy;
     }
   where
-    top : (k : ℕ) (us : List Ask) → Rising k us c.client.next → k ≤ c.client.next
+    top : (k : ℕ) (us : List Ask) → Rising k us c.client.next_xid → k ≤ c.client.next_xid
     top k [] h = h
     top k (a ∷ us) h = let r = top (a.xid + 1) us h.1 in omega (arith, h.0, r)
 

@@ -60,10 +60,10 @@ unwalking_at xid y p e = absurd (lb_not_nfs p lb_proc.GetHash (by e))
 
 -- a GETHASH goes out
 pub goes_hash : (book : Book) (k : Core) (qs : List Queue) (n : ℕ) (x : Session) (q : Queue) (t : Told) (ts : List Told) (j : Job) (g : Here book k qs n x q t ts j) (s : Stage) (offset : ℕ) (forgotten : List Pending) → (let c = client_at book k qs n x q t ts j g in
-    Quiet k n q → stage_word s ≡ stage_word j.stage → ((y : ℕ) → hash_offset s y ≡ cond (c.next == y) (Some offset) None) → ((y : ℕ) → s ≡ stage.Committing y → ⊥) → ((y : ℕ) → s ≡ stage.Asking y → ⊥) → ((f : Fetch) → s ≡ stage.Reading f → ⊥) → client.pending_in s ≡ client.lb_pending lb_proc.GetHash c.next
-    → Moves (client.calls_of c) (client.pending_in s ++ forgotten) t (hash_ask c.next j.file offset ∷ []) → j.file < 18446744073709551616 → offset ≤ 67108864 → FetchOf book x.taken (on j s) s
+    Quiet k n q → stage_word s ≡ stage_word j.stage → ((y : ℕ) → hash_offset s y ≡ cond (c.next_xid == y) (Some offset) None) → ((y : ℕ) → s ≡ stage.Committing y → ⊥) → ((y : ℕ) → s ≡ stage.Asking y → ⊥) → ((f : Fetch) → s ≡ stage.Reading f → ⊥) → client.pending_in s ≡ client.lb_pending lb_proc.GetHash c.next_xid
+    → Moves (client.calls_of c) (client.pending_in s ++ forgotten) t (hash_ask c.next_xid j.file offset ∷ []) → j.file < 18446744073709551616 → offset ≤ 67108864 → FetchOf book x.taken (on j s) s
     → CloseOf book x.closing (session_at book k qs n x q t ts j g).contents c.next_temp (on j s) (client.local_bytes c.opened j.file) s
-    → ((m y : ℕ) → s ≡ stage.Hashing m y → Trying book (on j s) m) → HasXids (c.next + 1) s → c.next + 1 ≤ 4294967296 → stage_word j.stage ≡ words.Open → GoesOn book k qs n x q t ts j g s (c.next + 1) forgotten (hash_ask c.next j.file offset ∷ []))
+    → ((m y : ℕ) → s ≡ stage.Hashing m y → Trying book (on j s) m) → HasXids (c.next_xid + 1) s → c.next_xid + 1 ≤ 4294967296 → stage_word j.stage ≡ words.Open → GoesOn book k qs n x q t ts j g s (c.next_xid + 1) forgotten (hash_ask c.next_xid j.file offset ∷ []))
 goes_hash book k qs n x q t ts j g s offset forgotten quiet word waits uncommitting unasking unreading pends moves small le fetch closes trying xids bound opens =
     let c = client_at book k qs n x q t ts j g in
     record {
@@ -72,13 +72,13 @@ goes_hash book k qs n x q t ts j g s offset forgotten quiet word waits uncommitt
       again = record {
         lease = λ y lt e. unasking y e;
         walk = λ y w lt e. unwalking_at _ y _ (sym (ap client.pending_in e) ∙ pends);
-        hash = λ y o lt e. apart_call c.next y offset o lt (sym (waits y) ∙ e);
+        hash = λ y o lt e. apart_call c.next_xid y offset o lt (sym (waits y) ∙ e);
         commit = λ y lt e. uncommitting y e;
         read = λ y d f lt e at. absurd (unreading f e);
       };
       moves = moves;
       rising = (omega arith, omega arith);
-      asked = (λ i o e w. let same = some_is (on j s) i e in (sym (ap (λ (z : Job). z.file) same), same_call c.next c.next offset o (sym (waits c.next) ∙ subst (λ (z : Job). hash_offset z.stage c.next ≡ Some o) (sym same) w)), tt);
+      asked = (λ i o e w. let same = some_is (on j s) i e in (sym (ap (λ (z : Job). z.file) same), same_call c.next_xid c.next_xid offset o (sym (waits c.next_xid) ∙ subst (λ (z : Job). hash_offset z.stage c.next_xid ≡ Some o) (sym same) w)), tt);
       fits = ((omega (arith, bound), small, le), tt);
       commits = (tt, tt);
       pieces = (tt, tt);
@@ -90,7 +90,7 @@ goes_hash book k qs n x q t ts j g s offset forgotten quiet word waits uncommitt
       trying = trying;
       xids = xids;
       bounded = bound;
-      orderly = opens_in_order book k qs n x q t ts j g s (c.next + 1) forgotten (hash_ask c.next j.file offset ∷ []) opens (word ∙ opens) (tt, tt);
+      orderly = opens_in_order book k qs n x q t ts j g s (c.next_xid + 1) forgotten (hash_ask c.next_xid j.file offset ∷ []) opens (word ∙ opens) (tt, tt);
     }
 
 -- ---- another version
@@ -100,7 +100,7 @@ abbrev pub Left : (next tries : ℕ) → Type 0
 Left next tries = (spare : ℕ) × (tries + spare ≡ 4) × (next + 100000 * spare + 40000 ≤ 4294967296 + 32769)
 
 pub comes_changed : (book : Book) (k : Core) (qs : List Queue) (n : ℕ) (x : Session) (q : Queue) (t : Told) (ts : List Told) (j : Job) (g : Here book k qs n x q t ts j) (f : Fetch) (last version bytes : ℕ) → (fact : IsFetch book x.taken j f) → stage_word j.stage ≡ words.Open → Quiet k n q
-    → fact.told.moment < last → last ≤ book.steps → version_at book j.file last ≡ version → (version ≡ f.version → ⊥) → Left (client_at book k qs n x q t ts j g).next f.tries
+    → fact.told.moment < last → last ≤ book.steps → version_at book j.file last ≡ version → (version ≡ f.version → ⊥) → Left (client_at book k qs n x q t ts j g).next_xid f.tries
     → Comes book k qs n x q t ts j g (changes (idle (client_at book k qs n x q t ts j g)) (client.calls_of (client_at book k qs n x q t ts j g)) j.file t.xid f version bytes)
 comes_changed book k qs n x q t ts j g f last version bytes fact word quiet lt le is apart left = by (nat_lt f.tries tries_most) refl
   where
@@ -120,16 +120,16 @@ comes_changed book k qs n x q t ts j g f last version bytes fact word quiet lt l
     small = file_small book k qs j.file g.kept fact.known
 
     s : Stage
-    s = stage.Hashing (f.tries + 1) c.next
+    s = stage.Hashing (f.tries + 1) c.next_xid
 
     forgotten : List Pending
     forgotten = client.without_call (client.calls_of c) t.xid
 
-    moves : Moves (client.calls_of c) (client.pending_in s ++ forgotten) t (hash_ask c.next j.file 0 ∷ [])
+    moves : Moves (client.calls_of c) (client.pending_in s ++ forgotten) t (hash_ask c.next_xid j.file 0 ∷ [])
     moves =
         let b = (h.talk g.uncut).balanced in
-        let there = told_there n k.server.waiting q x.hung c.next (client.calls_of c) 0 t b (ap (λ (l : List Told). slice_get l 0) g.first) in
-        moves_retries (client.calls_of c) there.0 t (hash_ask c.next j.file 0) there.1 (b.once t.xid)
+        let there = told_there n k.server.waiting q x.hung c.next_xid (client.calls_of c) 0 t b (ap (λ (l : List Told). slice_get l 0) g.first) in
+        moves_retries (client.calls_of c) there.0 t (hash_ask c.next_xid j.file 0) there.1 (b.once t.xid)
 
     began : fact.told.moment ≤ book.steps
     began = fact.told.past
@@ -138,10 +138,10 @@ comes_changed book k qs n x q t ts j g f last version bytes fact word quiet lt l
     tries_of (stage.Hashing m y) = m
     tries_of z = 0
 
-    xids : f.tries < 4 → HasXids (c.next + 1) s
+    xids : f.tries < 4 → HasXids (c.next_xid + 1) s
     xids less = spared left.0 left.1 left.2
       where
-        spared : (spare : ℕ) → f.tries + spare ≡ 4 → c.next + 100000 * spare + 40000 ≤ 4294967296 + 32769 → HasXids (c.next + 1) s
+        spared : (spare : ℕ) → f.tries + spare ≡ 4 → c.next_xid + 100000 * spare + 40000 ≤ 4294967296 + 32769 → HasXids (c.next_xid + 1) s
         spared zero e b = absurd (omega (arith, e, less))
         spared (suc z) e b = (z, omega (arith, e), omega (arith, b))
 
@@ -169,11 +169,11 @@ comes_changed book k qs n x q t ts j g f last version bytes fact word quiet lt l
     by : (b : Bool) → nat_lt f.tries tries_most ≡ b → Comes book k qs n x q t ts j g (retries (idle c) (client.calls_of c) j.file t.xid b f version bytes)
     by true less = inl (record {
       to = s;
-      next = c.next + 1;
+      next = c.next_xid + 1;
       forgotten = forgotten;
       cache = c.cache;
       index = c.index;
-      asks = hash_ask c.next j.file 0 ∷ [];
+      asks = hash_ask c.next_xid j.file 0 ∷ [];
       shows = goes_hash book k qs n x q t ts j g s 0 forgotten quiet (sym word) (λ y. refl) (λ y e. absurd cc) (λ y e. absurd cc) (λ f e. absurd cc) refl moves small (omega arith) tt tt
           (λ m y e. subst (λ v. Trying book (on j s) v) (ap tries_of e) (tried_again book x.taken j s f last fact lt le (λ same. apart (sym is ∙ same)))) (xids (grind (arith, nat_tests, less))) (let b = left.2 in let z = left.0 in omega (arith, b)) word;
       cached = (g.kept.seats x.owner h.seat h.owner).kept;

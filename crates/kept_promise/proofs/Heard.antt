@@ -64,7 +64,7 @@ pub record Hearing (book : Book) (ops : List Op) (k : Core) (n : ℕ) (x : Sessi
   pub old_pending : (i : ℕ) (d : Change) → slice_get (own n k.server.waiting) i ≡ Some d → WaitsFor (onward book 1 ops) d.session x.closing x.cut (job_of place c.task) d.xid d.file d.what
   -- what goes up
   pub moves : Moves (client.calls_of h.seat.client) (client.calls_of c) t asks
-  pub rising : Rising h.seat.client.next asks c.next
+  pub rising : Rising h.seat.client.next_xid asks c.next_xid
   pub asked : AllAsks (IsAsked (job_of place c.task)) asks
   pub fits : AllAsks (λ a. CallFits a.xid a.call) asks
   pub commits : AllAsks (IsCommit (onward book 1 ops) x.closing x.cut (job_of place c.task) h.contents) asks
@@ -172,7 +172,7 @@ kept_heard book ops k qs n x q t ts c place asks made ended seats after kept at 
     let more = onward book 1 ops in
     let d : Seat = record h.seat { client = c; place = place } in
     let first_down : (P : Told → Type 0) → AllTolds P q.downs → AllTolds P ts = λ P all. (subst (AllTolds P) e all).1 in
-    let top_le = rising_to h.seat.client.next asks c.next shows.rising in
+    let top_le = rising_to h.seat.client.next_xid asks c.next_xid shows.rising in
     let single = shows.few in
     let less = commits_unless x.hung q.ups asks in
     kept_turn book more k qs k.server seats k.sessions after n x x (put_up q x.hung asks ts) h.seat d made ended (record {
@@ -204,11 +204,11 @@ kept_heard book ops k qs n x q t ts c place asks made ended seats after kept at 
             record {
               floor = talk.floor;
               under = talk.under;
-              rising = rising_unless x.hung talk.floor q.ups asks h.seat.client.next c.next talk.rising shows.rising;
+              rising = rising_unless x.hung talk.floor q.ups asks h.seat.client.next_xid c.next_xid talk.rising shows.rising;
               asked = all_unless (IsAsked (job_of place c.task)) x.hung q.ups asks shows.old_asks shows.asked;
               answers = shows.old_tolds;
               fetch = shows.fetch;
-              balanced = balanced_heard n k.server.waiting q x.hung h.seat.client.next c.next (client.calls_of h.seat.client) (client.calls_of c) t ts asks e shows.moves shows.rising talk.balanced;
+              balanced = balanced_heard n k.server.waiting q x.hung h.seat.client.next_xid c.next_xid (client.calls_of h.seat.client) (client.calls_of c) t ts asks e shows.moves shows.rising talk.balanced;
               busy = shows.busy;
             };
         contents = h.contents;

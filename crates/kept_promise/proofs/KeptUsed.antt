@@ -85,7 +85,7 @@ kept_ends q s calls file x version step taken file_is none (Some bytes) = (refl,
   where
     value : client.local_bytes (client.with_local s.opened file (record { version = version; bytes = bytes })) file ≡ bytes
     value = ap (λ (o : Option Local). unwrap_or (option_map (λ (z : Local). z.bytes) o) []) (local_at_itself s.opened file (record { version = version; bytes = bytes }))
-kept_ends q s calls file x version step taken file_is none None = (s.next, ap (λ f. hash_call s.next f 0 ∷ []) (sym file_is))
+kept_ends q s calls file x version step taken file_is none None = (s.next_xid, ap (λ f. hash_call s.next_xid f 0 ∷ []) (sym file_is))
 
 -- ---- an answer is heard
 

@@ -269,7 +269,7 @@ talk_later book more made ended n w v x q seat g spares e h = record {
   asked = h.asked;
   answers = all_map (IsAnswer book x.taken x.closing (job seat)) (IsAnswer more x.taken x.closing (job seat)) (λ t a. answer_later book more made ended x.taken x.closing (job seat) t g spares a) q.downs h.answers;
   fetch = has_fetch_later book more made ended x.taken (job seat) g h.fetch;
-  balanced = balanced_later n w v q x.hung seat.client.next (client.calls_of seat.client) e h.balanced;
+  balanced = balanced_later n w v q x.hung seat.client.next_xid (client.calls_of seat.client) e h.balanced;
   busy = h.busy;
 }
 

@@ -40,7 +40,7 @@ Leaves opened after file None = after ≡ opened
 Leaves opened after file (Some e) = EndsWith opened after file e.outcome
 
 abbrev pub IsLeft : client.State → (file : ℕ) → client.State × ClientStep → Type 0
-IsLeft s file r = (r.0.next ≤ s.next + calls_most) × Leaves s.opened r.0.opened file r.1.ended
+IsLeft s file r = (r.0.next_xid ≤ s.next_xid + calls_most) × Leaves s.opened r.0.opened file r.1.ended
 
 -- ---- how many calls go out
 
@@ -48,34 +48,34 @@ less_by : (a b : ℕ) → a - b ≤ a
 less_by (suc a) (suc b) = let h = less_by a b in omega (arith, h)
 less_by _ _ = omega arith
 
-reads_more_most : (k : ℕ) (cache : Entries) (index : Indexed) (file : ℕ) (r : Reads) (most : ℕ) → calls_most ≤ length r.fetch.under + most → (reads_more k cache index file r).next ≤ r.next + most
+reads_more_most : (k : ℕ) (cache : Entries) (index : Indexed) (file : ℕ) (r : Reads) (most : ℕ) → calls_most ≤ length r.fetch.under + most → (reads_more k cache index file r).next_xid ≤ r.next_xid + most
 reads_more_most zero cache index file r most le = omega arith
 reads_more_most (suc k) cache index file r most le = by (nat_lt (length r.fetch.under) calls_most) refl (λ q n. reads_more_most k cache index file q n)
   where
-    chunk : (c : Chunk) (o : Option (List ℕ)) → length r.fetch.under < calls_most → ((q : Reads) (n : ℕ) → calls_most ≤ length q.fetch.under + n → (reads_more k cache index file q).next ≤ q.next + n) → (reads_more k cache index file (reads_chunk file r c o)).next ≤ r.next + most
+    chunk : (c : Chunk) (o : Option (List ℕ)) → length r.fetch.under < calls_most → ((q : Reads) (n : ℕ) → calls_most ≤ length q.fetch.under + n → (reads_more k cache index file q).next_xid ≤ q.next_xid + n) → (reads_more k cache index file (reads_chunk file r c o)).next_xid ≤ r.next_xid + most
     chunk c (Some bytes) less go = go (reads_chunk file r c (Some bytes)) most le
     chunk c None less go = one most le
       where
-        one : (n : ℕ) → calls_most ≤ length r.fetch.under + n → (reads_more k cache index file (reads_chunk file r c None)).next ≤ r.next + n
+        one : (n : ℕ) → calls_most ≤ length r.fetch.under + n → (reads_more k cache index file (reads_chunk file r c None)).next_xid ≤ r.next_xid + n
         one zero full = absurd (omega (arith, less, full))
         one (suc n) room =
-            let l = length-append r.fetch.under (record { xid = r.next; index = r.fetch.asked } ∷ []) in
+            let l = length-append r.fetch.under (record { xid = r.next_xid; index = r.fetch.asked } ∷ []) in
             let h = go (reads_chunk file r c None) n (omega (arith, room, l)) in
             omega (arith, h)
 
-    next : (o : Option Chunk) → length r.fetch.under < calls_most → ((q : Reads) (n : ℕ) → calls_most ≤ length q.fetch.under + n → (reads_more k cache index file q).next ≤ q.next + n) → (reads_more k cache index file (reads_next cache index file r o)).next ≤ r.next + most
+    next : (o : Option Chunk) → length r.fetch.under < calls_most → ((q : Reads) (n : ℕ) → calls_most ≤ length q.fetch.under + n → (reads_more k cache index file q).next_xid ≤ q.next_xid + n) → (reads_more k cache index file (reads_next cache index file r o)).next_xid ≤ r.next_xid + most
     next None less go = go r most le
     next (Some c) less go = chunk c (from_index cache index c) less go
 
-    by : (b : Bool) → nat_lt (length r.fetch.under) calls_most ≡ b → ((q : Reads) (n : ℕ) → calls_most ≤ length q.fetch.under + n → (reads_more k cache index file q).next ≤ q.next + n) → (if b then reads_more k cache index file (reads_next cache index file r (slice_get r.fetch.chunks r.fetch.asked)) else r).next ≤ r.next + most
+    by : (b : Bool) → nat_lt (length r.fetch.under) calls_most ≡ b → ((q : Reads) (n : ℕ) → calls_most ≤ length q.fetch.under + n → (reads_more k cache index file q).next_xid ≤ q.next_xid + n) → (if b then reads_more k cache index file (reads_next cache index file r (slice_get r.fetch.chunks r.fetch.asked)) else r).next_xid ≤ r.next_xid + most
     by true lt go = next (slice_get r.fetch.chunks r.fetch.asked) (grind (arith, nat_tests, lt)) go
     by false lt go = omega arith
 
-names_next_most : (n : Names) (o : Option Chunk) → ((names_next n o).next ≤ n.next + 1) × ((names_next n o).next + length n.store.under ≡ n.next + length (names_next n o).store.under)
+names_next_most : (n : Names) (o : Option Chunk) → ((names_next n o).next_xid ≤ n.next_xid + 1) × ((names_next n o).next_xid + length n.store.under ≡ n.next_xid + length (names_next n o).store.under)
 names_next_most n None = (omega arith, refl)
-names_next_most n (Some c) = let l = length-append n.store.under (record { xid = n.next; index = n.store.named; way = way.Named } ∷ []) in (omega arith, omega (arith, l))
+names_next_most n (Some c) = let l = length-append n.store.under (record { xid = n.next_xid; index = n.store.named; way = way.Named } ∷ []) in (omega arith, omega (arith, l))
 
-names_more_most : (k : ℕ) (n : Names) → ((names_more k n).next ≤ n.next + k) × ((names_more k n).next + length n.store.under ≡ n.next + length (names_more k n).store.under)
+names_more_most : (k : ℕ) (n : Names) → ((names_more k n).next_xid ≤ n.next_xid + k) × ((names_more k n).next_xid + length n.store.under ≡ n.next_xid + length (names_more k n).store.under)
 names_more_most zero n = (omega arith, refl)
 names_more_most (suc k) n =
     let m = names_next n (slice_get n.store.chunks n.store.named) in
@@ -87,17 +87,17 @@ names_more_most (suc k) n =
     let b1 = b.1 in
     (omega (arith, a0, b0), omega (arith, a1, b1))
 
-reads_most : (cache : Entries) (index : Indexed) (file : ℕ) (f : Fetch) (next : ℕ) → (reads_all cache index file f next).next ≤ next + calls_most
+reads_most : (cache : Entries) (index : Indexed) (file : ℕ) (f : Fetch) (next : ℕ) → (reads_all cache index file f next).next_xid ≤ next + calls_most
 reads_most cache index file f next = reads_more_most (length f.chunks - f.asked) cache index file (reads_from f next) calls_most (omega arith)
 
-names_most : (st : Store) (next : ℕ) → (names_all st next).next ≤ next + calls_most
+names_most : (st : Store) (next : ℕ) → (names_all st next).next_xid ≤ next + calls_most
 names_most st next = let a = (names_more_most (calls_most - length st.under) (names_from st next)).0 in let b = less_by calls_most (length st.under) in omega (arith, a, b)
 
 -- where nothing is under way none went out
-none_named : (st : Store) (next : ℕ) → is_stored (names_all st next).store ≡ true → (names_all st next).next ≤ next
+none_named : (st : Store) (next : ℕ) → is_stored (names_all st next).store ≡ true → (names_all st next).next_xid ≤ next
 none_named st next e = by (names_all st next).store.under e (names_more_most (calls_most - length st.under) (names_from st next)).1
   where
-    by : (us : List StoreCall) → (is_none us && (names_all st next).store.named == length (names_all st next).store.chunks) ≡ true → (names_all st next).next + length st.under ≡ next + length us → (names_all st next).next ≤ next
+    by : (us : List StoreCall) → (is_none us && (names_all st next).store.named == length (names_all st next).store.chunks) ≡ true → (names_all st next).next_xid + length st.under ≡ next + length us → (names_all st next).next_xid ≤ next
     by [] e n = omega (arith, n)
     by (u ∷ us) e n = absurd cc
 
@@ -106,12 +106,12 @@ none_named st next e = by (names_all st next).store.under e (names_more_most (ca
 refused_left : (s : client.State) (calls : List Pending) (file xid : ℕ) (t : Status) → IsLeft s file (refused s calls xid t)
 refused_left s calls file xid t = (omega arith, refl)
 
-reads_if_left : (s : client.State) (calls : List Pending) (file xid : ℕ) (r : Reads) (bytes : ℕ) (b : Bool) → r.next ≤ s.next + calls_most → IsLeft s file (reads_if s calls file xid r bytes b)
+reads_if_left : (s : client.State) (calls : List Pending) (file xid : ℕ) (r : Reads) (bytes : ℕ) (b : Bool) → r.next_xid ≤ s.next_xid + calls_most → IsLeft s file (reads_if s calls file xid r bytes b)
 reads_if_left s calls file xid r bytes true le = (omega arith, (refl, (_, refl)))
 reads_if_left s calls file xid r bytes false le = (le, refl)
 
 reads_on_left : (s : client.State) (calls : List Pending) (file xid : ℕ) (f : Fetch) (bytes : ℕ) → IsLeft s file (reads_on s calls file xid f bytes)
-reads_on_left s calls file xid f bytes = let r = reads_all s.cache s.index file f s.next in reads_if_left (record s { index = found_all s.index (looked_up f r) }) calls file xid r bytes (is_here r.fetch) (reads_most s.cache s.index file f s.next)
+reads_on_left s calls file xid f bytes = let r = reads_all s.cache s.index file f s.next_xid in reads_if_left (record s { index = found_all s.index (looked_up f r) }) calls file xid r bytes (is_here r.fetch) (reads_most s.cache s.index file f s.next_xid)
 
 lists_on_left : (s : client.State) (calls : List Pending) (file xid : ℕ) (f : Fetch) (eof : Bool) → IsLeft s file (lists_on s calls file xid f eof)
 lists_on_left s calls file xid f true = reads_on_left s calls file xid (listed f) 0
@@ -163,12 +163,12 @@ told_piece_left s calls file xid f piece (Some c) = told_chunk_left s calls file
 
 -- ---- a close's answers
 
-goes_if_left : (s : client.State) (file : ℕ) (content : List ℕ) (st : Store) (b : Bool) → is_stored (names_all st s.next).store ≡ b → IsLeft s file (goes_if s file content (names_all st s.next) b)
-goes_if_left s file content st true e = (let n = none_named st s.next e in let o = some_call in omega (arith, n, o), refl)
-goes_if_left s file content st false e = (names_most st s.next, refl)
+goes_if_left : (s : client.State) (file : ℕ) (content : List ℕ) (st : Store) (b : Bool) → is_stored (names_all st s.next_xid).store ≡ b → IsLeft s file (goes_if s file content (names_all st s.next_xid) b)
+goes_if_left s file content st true e = (let n = none_named st s.next_xid e in let o = some_call in omega (arith, n, o), refl)
+goes_if_left s file content st false e = (names_most st s.next_xid, refl)
 
 goes_on_left : (s : client.State) (file : ℕ) (content : List ℕ) (st : Store) → IsLeft s file (goes_on s file content st)
-goes_on_left s file content st = goes_if_left s file content st (is_stored (names_all st s.next).store) refl
+goes_on_left s file content st = goes_if_left s file content st (is_stored (names_all st s.next_xid).store) refl
 
 told_temp_left : (s : client.State) (calls : List Pending) (file xid temp : ℕ) (content : List ℕ) (a : Answer Unit Unit) → IsLeft s file (told_temp s calls file xid temp content a)
 told_temp_left s calls file xid temp content (Failed t u) = refused_left s calls file xid t
@@ -225,9 +225,9 @@ step_left s m now t at known = got_cases (IsLeft s t.file) s m now (record {
 
 -- with nothing under way nothing ends by it
 abbrev IsIdle : client.State → client.State × ClientStep → Type 0
-IsIdle s r = (r.0.next ≡ s.next) × (r.0.opened ≡ s.opened) × (r.1.ended ≡ None)
+IsIdle s r = (r.0.next_xid ≡ s.next_xid) × (r.0.opened ≡ s.opened) × (r.1.ended ≡ None)
 
-pub step_idle : (s : client.State) (m : Result Message WireFault) (now : ℕ) → s.task ≡ None → (let r = got_step s m now in (r.0.next ≡ s.next) × (r.0.opened ≡ s.opened) × (r.1.ended ≡ None))
+pub step_idle : (s : client.State) (m : Result Message WireFault) (now : ℕ) → s.task ≡ None → (let r = got_step s m now in (r.0.next_xid ≡ s.next_xid) × (r.0.opened ≡ s.opened) × (r.1.ended ≡ None))
 step_idle s m now none = got_cases (IsIdle s) s m now (record {
   took = λ t is xid b. nothing_there t (sym none ∙ is);
   memory = λ t is xid. nothing_there t (sym none ∙ is);

@@ -110,7 +110,7 @@ abbrev IsSilent : client.State × ClientStep → Type 0
 IsSilent r = (r.1.send ≡ []) × ((e : Ended) × (r.1.ended ≡ Some e))
 
 not_joined : (s : client.State) → s.linked ≡ false → may_ask s ≡ false
-not_joined s e = ap (λ (b : Bool). elim b as (λ (x : Bool). Bool) [ true ↦ Rattle.client_state.specs.Ending.has_xids s.next | false ↦ false ]) e
+not_joined s e = ap (λ (b : Bool). elim b as (λ (x : Bool). Bool) [ true ↦ Rattle.client_state.specs.Ending.has_xids s.next_xid | false ↦ false ]) e
 
 both_first : (a b : Bool) → (a && b) ≡ true → a ≡ true
 both_first true b e = refl
@@ -122,7 +122,7 @@ command_silent s d now off = command_cases IsSilent s d now (record {
   answers = λ free opened o plain. (refl, (_, refl));
   fetches = λ file is free may. absurd (true_and_false (may_ask s) may (not_joined s off));
   asks = λ file c is free may at. absurd (true_and_false (may_ask s) may (not_joined s off));
-  walks = λ c is free may. absurd (true_and_false (may_ask s) (both_first (may_ask s) (nat_lt (s.next + 1 + walk_left (begun c)) 4294967296) may) (not_joined s off));
+  walks = λ c is free may. absurd (true_and_false (may_ask s) (both_first (may_ask s) (nat_lt (s.next_xid + 1 + walk_left (begun c)) 4294967296) may) (not_joined s off));
   closes = λ file l is free may at. absurd (true_and_false (may_ask s) may (not_joined s off));
 })
 

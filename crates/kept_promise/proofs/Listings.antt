@@ -53,7 +53,7 @@ fetch_on book taken j s f h = record {
 
 -- the READs that go out for an attempt
 abbrev pub reads_at : client.State → (file : ℕ) → Fetch → Reads
-reads_at c file f = reads_all c.cache c.index file f c.next
+reads_at c file f = reads_all c.cache c.index file f c.next_xid
 
 -- whatever is found then, of a chunk's length, is noted
 abbrev pub Looked : (hashed : List (List ℕ)) → client.State → (file : ℕ) → Fetch → Type 0
@@ -155,7 +155,7 @@ reading_more book v c file f hashed h looked = all.reading (noted_to (hashed_of 
     more : (r : Reads) (d : Chunk) (o : Option (List ℕ)) → Going book v c.cache c.index f r → slice_get r.fetch.chunks r.fetch.asked ≡ Some d → from_index c.cache c.index d ≡ o → Going book v c.cache c.index f (reads_chunk file r d o)
     more r d None g at found =
         let le = g.further in
-        record { chunks = g.chunks; further = omega (arith, le); reading = λ noted. one_asked book v r.fetch d r.next at (g.reading (λ i e b lo hi. noted i e b lo (omega (arith, hi)))) }
+        record { chunks = g.chunks; further = omega (arith, le); reading = λ noted. one_asked book v r.fetch d r.next_xid at (g.reading (λ i e b lo hi. noted i e b lo (omega (arith, hi)))) }
     more r d (Some bytes) g at found =
         let le = g.further in
         let is = given_is c.cache c.index d bytes found in
@@ -170,7 +170,7 @@ reading_more book v c file f hashed h looked = all.reading (noted_to (hashed_of 
         }
 
     all : Going book v c.cache c.index f (reads_at c file f)
-    all = reads_keep (Going book v c.cache c.index f) c.cache c.index file more (length f.chunks - f.asked) (reads_from f c.next) (record { chunks = refl; further = omega arith; reading = λ noted. h })
+    all = reads_keep (Going book v c.cache c.index f) c.cache c.index file more (length f.chunks - f.asked) (reads_from f c.next_xid) (record { chunks = refl; further = omega arith; reading = λ noted. h })
 
 -- what the READs under way of an attempt are, of which the answer was taken
 pub record MayRead (book : Book) (k : Core) (qs : List Queue) (n : ℕ) (x : Session) (q : Queue) (t : Told) (ts : List Told) (j : Job) (g : Here book k qs n x q t ts j) (f : Fetch) (fact : IsFetch book x.taken j f) : Type 0 where
@@ -179,9 +179,9 @@ pub record MayRead (book : Book) (k : Core) (qs : List Queue) (n : ℕ) (x : Ses
   pub reading : IsReading book fact.file.content f
   pub looked : Looked (hashed_of book.moments) (client_at book k qs n x q t ts j g) j.file f
   pub moves : (m : Pending → ℕ) (y : ℕ) → times y (map m (map read_pending f.under)) + times y (m (told_pending t) ∷ []) ≡ times y (map m (client.pending_in j.stage))
-  pub below : (y : ℕ) (r : ReadCall) → read_at f.under y ≡ Some r → y < (client_at book k qs n x q t ts j g).next
+  pub below : (y : ℕ) (r : ReadCall) → read_at f.under y ≡ Some r → y < (client_at book k qs n x q t ts j g).next_xid
   pub again : (y : ℕ) (r : ReadCall) (c : Chunk) → read_at f.under y ≡ Some r → slice_get f.chunks r.index ≡ Some c → (u : Fetch) × (j.stage ≡ stage.Reading u) × (read_chunk j.stage y ≡ Some c) × (u.first ≡ f.first)
-  pub xids : (spare : ℕ) × (f.tries + spare ≡ 4) × ((client_at book k qs n x q t ts j g).next + 100000 * spare + 40000 ≤ 4294967296 + f.asked)
+  pub xids : (spare : ℕ) × (f.tries + spare ≡ 4) × ((client_at book k qs n x q t ts j g).next_xid + 100000 * spare + 40000 ≤ 4294967296 + f.asked)
 
 pendings_both : (us vs : List ReadCall) → map read_pending (us ++ vs) ≡ map read_pending us ++ map read_pending vs
 pendings_both [] vs = refl
@@ -349,10 +349,10 @@ comes_reading book k qs n x q t ts j g f bytes fact may = by (is_here r.fetch) r
     c = h.seat.client
 
     r : Reads
-    r = reads_all c.cache c.index j.file f c.next
+    r = reads_all c.cache c.index j.file f c.next_xid
 
-    ran : Ran j.file (reads_from f c.next) r
-    ran = reads_run c.cache c.index j.file (length f.chunks - f.asked) (reads_from f c.next)
+    ran : Ran j.file (reads_from f c.next_xid) r
+    ran = reads_run c.cache c.index j.file (length f.chunks - f.asked) (reads_from f c.next_xid)
 
     reading : IsReading book fact.file.content (read_fetch f r ran.notes)
     reading = subst (IsReading book fact.file.content) ran.fetch_is (reading_more book fact.file.content c j.file f fact.hashed may.reading may.looked)
@@ -363,10 +363,10 @@ comes_reading book k qs n x q t ts j g f bytes fact may = by (is_here r.fetch) r
     s : Stage
     s = stage.Reading (read_fetch f r ran.notes)
 
-    bound : r.next ≤ 4294967296
+    bound : r.next_xid ≤ 4294967296
     bound =
         let v = may.xids.2 in
-        let a = sent_count j.file f.chunks c.next ran.notes ran.asks r.next ran.sent in
+        let a = sent_count j.file f.chunks c.next_xid ran.notes ran.asks r.next_xid ran.sent in
         let b = reading.asked in
         let d = fetch_few book x.taken j f fact in
         let e = ran.further in
@@ -375,7 +375,7 @@ comes_reading book k qs n x q t ts j g f bytes fact may = by (is_here r.fetch) r
     front_or : (y : ℕ) (p : Chunk) → read_chunk s y ≡ Some p → (u : ReadCall) × (slice_get f.chunks u.index ≡ Some p) × ((read_at f.under y ≡ Some u) ⊎ (read_at ran.notes y ≡ Some u))
     front_or y p e = let v = chunk_found f.chunks (read_at (f.under ++ ran.notes) y) p e in (v.0, v.2, read_front f.under ran.notes y v.0 v.1)
 
-    ask_of : (m : ℕ) (u : ReadCall) (d : Chunk) → slice_get ran.notes m ≡ Some u → slice_get f.chunks u.index ≡ Some d → c.next ≤ u.xid → IsAsked (Some (on j s)) (record { xid = u.xid; call = Read j.file d })
+    ask_of : (m : ℕ) (u : ReadCall) (d : Chunk) → slice_get ran.notes m ≡ Some u → slice_get f.chunks u.index ≡ Some d → c.next_xid ≤ u.xid → IsAsked (Some (on j s)) (record { xid = u.xid; call = Read j.file d })
     ask_of m u d at chunk le = λ i p e w.
         let is = some_is (on j s) i e in
         let o = front_or u.xid p (subst (λ (v : Job). read_chunk v.stage u.xid ≡ Some p) (sym is) w) in (
@@ -384,12 +384,12 @@ comes_reading book k qs n x q t ts j g f bytes fact may = by (is_here r.fetch) r
             | inl old ↦ let lt = may.below u.xid o.0 old in absurd (omega (arith, lt, le))
             | inr new ↦
                 let found = read_found ran.notes u.xid o.0 new in
-                let same = sent_same j.file f.chunks c.next ran.notes ran.asks r.next m found.0 u o.0 ran.sent at found.1 (sym found.2) in
+                let same = sent_same j.file f.chunks c.next_xid ran.notes ran.asks r.next_xid m found.0 u o.0 ran.sent at found.1 (sym found.2) in
                 some_is p d (sym o.1 ∙ ap (λ (v : ReadCall). slice_get f.chunks v.index) (sym same) ∙ chunk)
           ],
         )
 
-    fits_of : (u : ReadCall) (d : Chunk) → slice_get f.chunks u.index ≡ Some d → u.xid < r.next → CallFits u.xid (Read j.file d)
+    fits_of : (u : ReadCall) (d : Chunk) → slice_get f.chunks u.index ≡ Some d → u.xid < r.next_xid → CallFits u.xid (Read j.file d)
     fits_of u d at lt =
         let l = link_at fact.file.content 0 (chunks_of fact.file.content) u.index d (row_of fact.file.content) (ap (λ v. slice_get v u.index) (sym may.reading.whole) ∙ at) in
         let b = bound in
@@ -398,7 +398,7 @@ comes_reading book k qs n x q t ts j g f bytes fact may = by (is_here r.fetch) r
         let short = fact.short in
         (omega (arith, lt, b), file_small book k qs j.file g.kept fact.known, omega (arith, wi, st, short), l.1.most)
 
-    goes : 0 < length (f.under ++ ran.notes) → GoesOn book k qs n x q t ts j g s r.next c.forgotten ran.asks
+    goes : 0 < length (f.under ++ ran.notes) → GoesOn book k qs n x q t ts j g s r.next_xid c.forgotten ran.asks
     goes some = record {
       quiet = may.quiet;
       word = sym may.word;
@@ -411,34 +411,34 @@ comes_reading book k qs n x q t ts j g f bytes fact may = by (is_here r.fetch) r
             let o = front_or y d at in
             elim o.2 [
               | inl old ↦ let a = may.again y o.0 d old o.1 in (a.0, a.1, a.2, a.3 ∙ ap first_of e)
-              | inr new ↦ let found = read_found ran.notes y o.0 new in let xid = found.2 in let le = sent_from j.file f.chunks c.next ran.notes ran.asks r.next found.0 o.0 ran.sent found.1 in absurd (omega (arith, le, xid, lt))
+              | inr new ↦ let found = read_found ran.notes y o.0 new in let xid = found.2 in let le = sent_from j.file f.chunks c.next_xid ran.notes ran.asks r.next_xid found.0 o.0 ran.sent found.1 in absurd (omega (arith, le, xid, lt))
             ];
       };
       moves = λ m y.
           let a = times_map_append m y (map read_pending (f.under ++ ran.notes)) c.forgotten in
           let b = ap (λ l. times y (map m l)) (pendings_both f.under ran.notes) ∙ times_map_append m y (map read_pending f.under) (map read_pending ran.notes) in
-          let d = sent_times m y j.file f.chunks c.next ran.notes ran.asks r.next ran.sent in
+          let d = sent_times m y j.file f.chunks c.next_xid ran.notes ran.asks r.next_xid ran.sent in
           let e = may.moves m y in
           let v = ap (λ l. times y (map m l)) (calls_are h.seat j g.job_is) ∙ times_map_append m y (client.pending_in j.stage) c.forgotten in
           omega (arith, a, b, d, e, v);
-      rising = sent_rising j.file f.chunks c.next ran.notes ran.asks r.next ran.sent;
-      asked = sent_all (IsAsked (Some (on j s))) j.file f.chunks c.next ran.notes ran.asks r.next (λ m u d at chunk le lt. ask_of m u d at chunk le) ran.sent;
-      fits = sent_all (λ a. CallFits a.xid a.call) j.file f.chunks c.next ran.notes ran.asks r.next (λ m u d at chunk le lt. fits_of u d chunk lt) ran.sent;
-      commits = sent_all (IsCommit book x.closing x.cut (Some (on j s)) h.contents) j.file f.chunks c.next ran.notes ran.asks r.next (λ m u d at chunk le lt. tt) ran.sent;
-      pieces = sent_all (IsPiece (hashed_of book.moments) h.contents) j.file f.chunks c.next ran.notes ran.asks r.next (λ m u d at chunk le lt. tt) ran.sent;
-      under = sent_all (λ a. TempUnder c.next_temp a.call) j.file f.chunks c.next ran.notes ran.asks r.next (λ m u d at chunk le lt. tt) ran.sent;
-      few = let v = sent_commits j.file f.chunks c.next ran.notes ran.asks r.next ran.sent in omega (arith, v);
+      rising = sent_rising j.file f.chunks c.next_xid ran.notes ran.asks r.next_xid ran.sent;
+      asked = sent_all (IsAsked (Some (on j s))) j.file f.chunks c.next_xid ran.notes ran.asks r.next_xid (λ m u d at chunk le lt. ask_of m u d at chunk le) ran.sent;
+      fits = sent_all (λ a. CallFits a.xid a.call) j.file f.chunks c.next_xid ran.notes ran.asks r.next_xid (λ m u d at chunk le lt. fits_of u d chunk lt) ran.sent;
+      commits = sent_all (IsCommit book x.closing x.cut (Some (on j s)) h.contents) j.file f.chunks c.next_xid ran.notes ran.asks r.next_xid (λ m u d at chunk le lt. tt) ran.sent;
+      pieces = sent_all (IsPiece (hashed_of book.moments) h.contents) j.file f.chunks c.next_xid ran.notes ran.asks r.next_xid (λ m u d at chunk le lt. tt) ran.sent;
+      under = sent_all (λ a. TempUnder c.next_temp a.call) j.file f.chunks c.next_xid ran.notes ran.asks r.next_xid (λ m u d at chunk le lt. tt) ran.sent;
+      few = let v = sent_commits j.file f.chunks c.next_xid ran.notes ran.asks r.next_xid ran.sent in omega (arith, v);
       fetch = (fetch_on book x.taken j s (read_fetch f r ran.notes) fetched, reading);
       busy = mapped (f.under ++ ran.notes) some;
       closes = tt;
       trying = λ m y e. absurd cc;
       xids =
           let v = may.xids.2 in
-          let a = sent_count j.file f.chunks c.next ran.notes ran.asks r.next ran.sent in
+          let a = sent_count j.file f.chunks c.next_xid ran.notes ran.asks r.next_xid ran.sent in
           let e = ran.further in
           (may.xids.0, may.xids.1, omega (arith, v, a, e));
       bounded = bound;
-      orderly = opens_in_order book k qs n x q t ts j g s r.next c.forgotten ran.asks may.word refl (sent_all (λ a. IsFetching a.call) j.file f.chunks c.next ran.notes ran.asks r.next (λ m u d at chunk le lt. tt) ran.sent);
+      orderly = opens_in_order book k qs n x q t ts j g s r.next_xid c.forgotten ran.asks may.word refl (sent_all (λ a. IsFetching a.call) j.file f.chunks c.next_xid ran.notes ran.asks r.next_xid (λ m u d at chunk le lt. tt) ran.sent);
     }
       where
         first_of : Stage → ℕ
@@ -455,7 +455,7 @@ comes_reading book k qs n x q t ts j g f bytes fact may = by (is_here r.fetch) r
       | inl some ↦ some
       | inr none ↦
           let gone : r.fetch.under ≡ [] = ap (λ (v : Fetch). v.under) ran.fetch_is ∙ none in
-          let end = reads_end c.cache c.index j.file (length f.chunks - f.asked) (reads_from f c.next) (omega arith) gone in
+          let end = reads_end c.cache c.index j.file (length f.chunks - f.asked) (reads_from f c.next_xid) (omega arith) gone in
           let chunks = ap (λ (v : Fetch). length v.chunks) ran.fetch_is in
           let asked = reading.asked in
           let all : r.fetch.asked ≡ length r.fetch.chunks = omega (arith, end, chunks, asked) in
@@ -474,14 +474,14 @@ comes_reading book k qs n x q t ts j g f bytes fact may = by (is_here r.fetch) r
         (fetch_opened book k qs n x q t ts j g (read_fetch f r ran.notes) bytes (found_all c.index (looked_up f r)) fetched may.word may.quiet reading (ap (λ (v : Fetch). v.under) (sym ran.fetch_is) ∙ here.0) (eqb-true r.fetch.asked (length r.fetch.chunks) here.1 ∙ ap (λ (v : Fetch). length v.chunks) ran.fetch_is))
     by false e = inl (record {
       to = s;
-      next = r.next;
+      next = r.next_xid;
       forgotten = c.forgotten;
       cache = c.cache;
       index = found_all c.index (looked_up f r);
       asks = ran.asks;
       shows = goes (some_sent e);
       cached = (g.kept.seats x.owner h.seat h.owner).kept;
-      state_is = ap (λ (v : Fetch). record c { next = r.next; task = Some (record { file = j.file; stage = stage.Reading v }); index = found_all c.index (looked_up f r) }) ran.fetch_is;
+      state_is = ap (λ (v : Fetch). record c { next_xid = r.next_xid; task = Some (record { file = j.file; stage = stage.Reading v }); index = found_all c.index (looked_up f r) }) ran.fetch_is;
       send_is = ran.send_is;
       ended_is = refl;
     })

@@ -333,10 +333,10 @@ begins_free : (s : client.State) (d : Command) (now : ℕ) → IsSmall d → s.t
 begins_free s d now small free = command_cases (λ r. Answers r ⊎ Asks d r) s d now (record {
   busy = λ t is. nothing_there t (sym free ∙ is);
   answers = λ un opened o plain. inl (refl, (_, refl));
-  fetches = λ file is un may. subst (λ (c : Command). let r = asks_kept (fronts s file) file None in Answers r ⊎ Asks c r) (sym is) (inr (hash_call s.next file 0, stage.Hashing 1 s.next, refl, refl, refl, refl, (refl, refl)));
-  asks = λ file kept is un may at. subst (λ (c : Command). let r = asks_kept (fronts s file) file (Some kept) in Answers r ⊎ Asks c r) (sym is) (inr (lease_call s.next file, stage.Asking s.next, refl, refl, refl, refl, refl));
-  walks = λ c is un may. subst (λ (z : Command). let r = asks_next s (walk_begun c) in Answers r ⊎ Asks z r) (sym is) (inr (message.Call s.next (body.Nfs (next_call (walk_begun c))), stage.Walking s.next (walk_begun c), refl, refl, refl, sym (begun_word c), call_named s.next (walk_begun c).dir (walk_begun c).left (walk_begun c).goal));
-  closes = λ file l is un may at. subst (λ (c : Command). let r = asks_temp s file true in Answers r ⊎ Asks c r) (sym is) (inr (make_call s.next s.next_temp file, stage.Making s.next s.next_temp, refl, refl, refl, refl, refl));
+  fetches = λ file is un may. subst (λ (c : Command). let r = asks_kept (fronts s file) file None in Answers r ⊎ Asks c r) (sym is) (inr (hash_call s.next_xid file 0, stage.Hashing 1 s.next_xid, refl, refl, refl, refl, (refl, refl)));
+  asks = λ file kept is un may at. subst (λ (c : Command). let r = asks_kept (fronts s file) file (Some kept) in Answers r ⊎ Asks c r) (sym is) (inr (lease_call s.next_xid file, stage.Asking s.next_xid, refl, refl, refl, refl, refl));
+  walks = λ c is un may. subst (λ (z : Command). let r = asks_next s (walk_begun c) in Answers r ⊎ Asks z r) (sym is) (inr (message.Call s.next_xid (body.Nfs (next_call (walk_begun c))), stage.Walking s.next_xid (walk_begun c), refl, refl, refl, sym (begun_word c), call_named s.next_xid (walk_begun c).dir (walk_begun c).left (walk_begun c).goal));
+  closes = λ file l is un may at. subst (λ (c : Command). let r = asks_temp s file true in Answers r ⊎ Asks c r) (sym is) (inr (make_call s.next_xid s.next_temp file, stage.Making s.next_xid s.next_temp, refl, refl, refl, refl, refl));
 })
 
 first_said : (P : Going) (E : Ending) (all : List Moment) → LogLaws all P E → (file : ℕ) (v : List ℕ) (m : Message) (st : Stage) → IsFirst file m st → P (Sent m ∷ []) file v st
@@ -518,16 +518,16 @@ walk_after : (P : Going) (E : Ending) (all : List Moment) → LogLaws all P E �
     → WalkAfter P E more taken step o x b log (took s calls file (stage.Walking y w) x b)
 walk_after P E all laws more taken step o s calls file y w x b log names word running = walk_cases (WalkAfter P E more taken step o x b log) s calls file y w x b (record {
   fault = λ f untold right. (let r = bad_peer s f 0 in absurd (no_fault_after more o r.0 taken step r.1 right (f, refl)));
-  asks = λ v k right. (let all_named = names_join log (Took (message.Answer x b) ∷ Sent (message.Call s.next (body.Nfs (next_call v))) ∷ []) names (took_named (leading.Asks v) k, (call_named s.next v.dir v.left v.goal, tt)) in record {
-    stage = λ u going is. subst (λ (t : Task). P (log ++ Took (message.Answer x b) ∷ Sent (message.Call s.next (body.Nfs (next_call v))) ∷ []) o.file o.value t.stage) (some_is (record { file = 0; stage = stage.Walking s.next v }) u is) (laws.walks (log ++ Took (message.Answer x b) ∷ Sent (message.Call s.next (body.Nfs (next_call v))) ∷ []) o.file o.value s.next v all_named);
-    each = laws.none o.word o.file o.value o.outcome (unopened_running o.outcome running) (unchanged_running o.outcome running) (log ++ Took (message.Answer x b) ∷ Sent (message.Call s.next (body.Nfs (next_call v))) ∷ []) all_named;
+  asks = λ v k right. (let all_named = names_join log (Took (message.Answer x b) ∷ Sent (message.Call s.next_xid (body.Nfs (next_call v))) ∷ []) names (took_named (leading.Asks v) k, (call_named s.next_xid v.dir v.left v.goal, tt)) in record {
+    stage = λ u going is. subst (λ (t : Task). P (log ++ Took (message.Answer x b) ∷ Sent (message.Call s.next_xid (body.Nfs (next_call v))) ∷ []) o.file o.value t.stage) (some_is (record { file = 0; stage = stage.Walking s.next_xid v }) u is) (laws.walks (log ++ Took (message.Answer x b) ∷ Sent (message.Call s.next_xid (body.Nfs (next_call v))) ∷ []) o.file o.value s.next_xid v all_named);
+    each = laws.none o.word o.file o.value o.outcome (unopened_running o.outcome running) (unchanged_running o.outcome running) (log ++ Took (message.Answer x b) ∷ Sent (message.Call s.next_xid (body.Nfs (next_call v))) ∷ []) all_named;
   });
   open_already = λ id k is right. record {
     stage = λ u going. nothing_there _ (sym going);
     each = laws.none o.word id o.value told.AlreadyOpen (λ len digest e. absurd (already_opened len digest e)) (λ first last e. absurd (already_changed first last e)) (log ++ Took (message.Answer x b) ∷ []) (one_more (leading.Finds id) k);
   };
-  fetches = λ id k shut none right. (let r = asks_kept (fronts s id) id None in found id (stage.Hashing 1 s.next) (hash_call s.next id 0) r.0 (record r.1 { found = Some id }) tt (sym (stage_word_open id k)) refl) (subst (λ (l : List Deal). P l id o.value (stage.Hashing 1 s.next)) (joined log (Took (message.Answer x b) ∷ []) (Sent (hash_call s.next id 0) ∷ [])) (laws.opens (log ++ Took (message.Answer x b) ∷ []) (one_more (leading.Finds id) k) s.next id o.value));
-  leases = λ id v k shut some right. (let r = asks_kept (fronts s id) id (Some v) in found id (stage.Asking s.next) (lease_call s.next id) r.0 (record r.1 { found = Some id }) tt (sym (stage_word_open id k)) refl) (subst (λ (l : List Deal). P l id o.value (stage.Asking s.next)) (joined log (Took (message.Answer x b) ∷ []) (Sent (lease_call s.next id) ∷ [])) (laws.asks (log ++ Took (message.Answer x b) ∷ []) (one_more (leading.Finds id) k) s.next id o.value));
+  fetches = λ id k shut none right. (let r = asks_kept (fronts s id) id None in found id (stage.Hashing 1 s.next_xid) (hash_call s.next_xid id 0) r.0 (record r.1 { found = Some id }) tt (sym (stage_word_open id k)) refl) (subst (λ (l : List Deal). P l id o.value (stage.Hashing 1 s.next_xid)) (joined log (Took (message.Answer x b) ∷ []) (Sent (hash_call s.next_xid id 0) ∷ [])) (laws.opens (log ++ Took (message.Answer x b) ∷ []) (one_more (leading.Finds id) k) s.next_xid id o.value));
+  leases = λ id v k shut some right. (let r = asks_kept (fronts s id) id (Some v) in found id (stage.Asking s.next_xid) (lease_call s.next_xid id) r.0 (record r.1 { found = Some id }) tt (sym (stage_word_open id k)) refl) (subst (λ (l : List Deal). P l id o.value (stage.Asking s.next_xid)) (joined log (Took (message.Answer x b) ∷ []) (Sent (lease_call s.next_xid id) ∷ [])) (laws.asks (log ++ Took (message.Answer x b) ∷ []) (one_more (leading.Finds id) k) s.next_xid id o.value));
   ends = λ v e k same right. record {
     stage = λ u going. nothing_there _ (sym going);
     each = laws.none o.word (file_with o.file (seen_in (is_look v.goal) e)) (value_of o.value (forgets_of s calls x) (outcome_of e)) (told_of (outcome_of e)) (ended_unopened e) (ended_unchanged e) (log ++ Took (message.Answer x b) ∷ []) (one_more (leading.Ends e) k);

@@ -356,7 +356,7 @@ module _ (laws : FitLaws) (book : Book) (k : Core) (qs : List Queue) (n now : �
 
   -- so no other answer is waited for
   old_answers : (c : IsCreating book x.closing x.cut (job h.seat) xid w) (more : Book) (taken : List TakenCall) → x.cut ≡ false → (i : ℕ) (u : Told) → slice_get q.downs i ≡ Some u → IsAnswer book x.taken x.closing (job h.seat) u → IsAnswer more taken x.closing (job h.seat) u
-  old_answers c more taken uncut i u at f = unwaited book more x.taken taken x.closing (job h.seat) xid w u (λ j is. (waits_here c uncut j is).1) (λ same. up_untold n k.server.waiting q x.hung h.seat.client.next (client.calls_of h.seat.client) 0 i a u (h.talk uncut).balanced (ap (λ (l : List Ask). slice_get l 0) g.first) at (sym same)) f
+  old_answers c more taken uncut i u at f = unwaited book more x.taken taken x.closing (job h.seat) xid w u (λ j is. (waits_here c uncut j is).1) (λ same. up_untold n k.server.waiting q x.hung h.seat.client.next_xid (client.calls_of h.seat.client) 0 i a u (h.talk uncut).balanced (ap (λ (l : List Ask). slice_get l 0) g.first) at (sym same)) f
 
   -- it's the one change of its session that is on its way
   alone : is_creating w ≡ true → (commits_in us ≡ 0) × (length (own n k.server.waiting) ≡ 0)

@@ -73,10 +73,10 @@ record Quiet (t : Attempts) (f : Fetch) (r : Reads) : Type 0 where
   version : r.fetch.version ≡ f.version
 
 reads_quiet : (t : Attempts) (s : client.State) (file : ℕ) (f : Fetch) → Quiet t f (reads_of s file f)
-reads_quiet t s file f = reads_keep (Quiet t f) s.cache s.index file (λ r c o h at found. by r c h o) (length f.chunks - f.asked) (reads_from f s.next) (record { none = refl; tries = refl; version = refl })
+reads_quiet t s file f = reads_keep (Quiet t f) s.cache s.index file (λ r c o h at found. by r c h o) (length f.chunks - f.asked) (reads_from f s.next_xid) (record { none = refl; tries = refl; version = refl })
   where
     by : (r : Reads) (c : Chunk) → Quiet t f r → (o : Option (List ℕ)) → Quiet t f (reads_chunk file r c o)
-    by r c h None = record { none = ap (attempts_from t) (sent_more r.send (read_call r.next file c)) ∙ attempts_join t (map Sent r.send) (Sent (read_call r.next file c) ∷ []) ∙ h.none; tries = h.tries; version = h.version }
+    by r c h None = record { none = ap (attempts_from t) (sent_more r.send (read_call r.next_xid file c)) ∙ attempts_join t (map Sent r.send) (Sent (read_call r.next_xid file c) ∷ []) ∙ h.none; tries = h.tries; version = h.version }
     by r c h (Some bytes) = record { none = h.none; tries = h.tries; version = h.version }
 
 -- ---- an answer
@@ -231,17 +231,17 @@ meets_cases log s calls file v st x b p = record {
   );
   fetches = λ y l at is.
       let was : attempts_in log ≡ no_attempt = subst (MeetsBy log file v) at p in
-      let now : Tries (attempts_in (log ++ deals_with (message.Answer x b ∷ []) [] (hash_call s.next file 0 ∷ []))) 1 new_attempt = subst (λ (t : Attempts). Tries t 1 new_attempt) (sym (joined_log log x b [] (hash_call s.next file 0 ∷ []) ∙ ap (λ (c : Body). begun_anew (attempts_with (attempts_in log) (Took (message.Answer x c)))) is ∙ ap begun_anew was)) (refl, refl, tt, omega arith) in (
-        λ h w u running task. subst (λ (z : Task). MeetsBy (log ++ deals_with (message.Answer x b ∷ []) [] (hash_call s.next file 0 ∷ [])) h w z.stage) (some_is _ u task) now,
+      let now : Tries (attempts_in (log ++ deals_with (message.Answer x b ∷ []) [] (hash_call s.next_xid file 0 ∷ []))) 1 new_attempt = subst (λ (t : Attempts). Tries t 1 new_attempt) (sym (joined_log log x b [] (hash_call s.next_xid file 0 ∷ []) ∙ ap (λ (c : Body). begun_anew (attempts_with (attempts_in log) (Took (message.Answer x c)))) is ∙ ap begun_anew was)) (refl, refl, tt, omega arith) in (
+        λ h w u running task. subst (λ (z : Task). MeetsBy (log ++ deals_with (message.Answer x b ∷ []) [] (hash_call s.next_xid file 0 ∷ [])) h w z.stage) (some_is _ u task) now,
         λ first last (e, ended, z). nothing_there e ended,
-        λ w. tries_fine (attempts_in (log ++ deals_with (message.Answer x b ∷ []) [] (hash_call s.next file 0 ∷ []))) 1 new_attempt now,
+        λ w. tries_fine (attempts_in (log ++ deals_with (message.Answer x b ∷ []) [] (hash_call s.next_xid file 0 ∷ []))) 1 new_attempt now,
       );
   anew = λ f version bytes open_ gave few came.
       let g = gave_up log file v st x b f version p gave in
-      let now : Tries (attempts_in (log ++ deals_with (message.Answer x b ∷ []) [] (hash_call s.next file 0 ∷ []))) (f.tries + 1) new_attempt = subst (λ (t : Attempts). Tries t (f.tries + 1) new_attempt) (sym (joined_log log x b [] (hash_call s.next file 0 ∷ []))) (given_more (attempts_with (attempts_in log) (Took (message.Answer x b))) f.tries f.version version g.0 g.1 (below f.tries few)) in (
-        λ h w u running is. subst (λ (z : Task). MeetsBy (log ++ deals_with (message.Answer x b ∷ []) [] (hash_call s.next file 0 ∷ [])) h w z.stage) (some_is _ u is) now,
+      let now : Tries (attempts_in (log ++ deals_with (message.Answer x b ∷ []) [] (hash_call s.next_xid file 0 ∷ []))) (f.tries + 1) new_attempt = subst (λ (t : Attempts). Tries t (f.tries + 1) new_attempt) (sym (joined_log log x b [] (hash_call s.next_xid file 0 ∷ []))) (given_more (attempts_with (attempts_in log) (Took (message.Answer x b))) f.tries f.version version g.0 g.1 (below f.tries few)) in (
+        λ h w u running is. subst (λ (z : Task). MeetsBy (log ++ deals_with (message.Answer x b ∷ []) [] (hash_call s.next_xid file 0 ∷ [])) h w z.stage) (some_is _ u is) now,
         λ first last (e, is, z). nothing_there e is,
-        λ w. tries_fine (attempts_in (log ++ deals_with (message.Answer x b ∷ []) [] (hash_call s.next file 0 ∷ []))) (f.tries + 1) new_attempt now,
+        λ w. tries_fine (attempts_in (log ++ deals_with (message.Answer x b ∷ []) [] (hash_call s.next_xid file 0 ∷ []))) (f.tries + 1) new_attempt now,
       );
   changed = λ r f version e open_ gave many is.
       let g = gave_up log file v st x b f version p gave in
@@ -258,7 +258,7 @@ meets_cases log s calls file v st x b p = record {
       );
   lists = λ f h is at same far.
       let told = told_in log file v st x b h f p is at in
-      let m : Message = hash_call s.next file (end_of (with_hashes f h).chunks) in
+      let m : Message = hash_call s.next_xid file (end_of (with_hashes f h).chunks) in
       let quiet : attempts_from (attempts_with (attempts_in log) (Took (message.Answer x b))) (map Sent (m ∷ [])) ≡ attempts_with (attempts_in log) (Took (message.Answer x b)) = ap (λ t. begun_if t (attempts_with (attempts_in log) (Took (message.Answer x b)))) far in
       let now : Told (attempts_in (log ++ deals_with (message.Answer x b ∷ []) [] (m ∷ []))) f.tries f.version = subst (λ (t : Attempts). Told t f.tries f.version) (sym (joined_log log x b [] (m ∷ []) ∙ quiet)) told in (
         λ g w u running task. subst (λ (z : Task). MeetsBy (log ++ deals_with (message.Answer x b ∷ []) [] (m ∷ [])) g w z.stage) (some_is _ u task) now,

@@ -72,9 +72,9 @@ body_program : (r : Reply) → program_of (reply_body r) ≡ reply_program r
 body_program (Hashed a) = refl
 body_program r = refl
 
-pub expected : (n : ℕ) (w : List Change) (q : Queue) (hung : Bool) (c : client.State) (i : ℕ) (t : Told) → IsBalanced n w q hung c.next (client.calls_of c) → slice_get q.downs i ≡ Some t → IsExpected (client.waiting_of c) (told_message t)
+pub expected : (n : ℕ) (w : List Change) (q : Queue) (hung : Bool) (c : client.State) (i : ℕ) (t : Told) → IsBalanced n w q hung c.next_xid (client.calls_of c) → slice_get q.downs i ≡ Some t → IsExpected (client.waiting_of c) (told_message t)
 expected n w q hung c i t h at =
-    let p = told_there n w q hung c.next (client.calls_of c) i t h at in
+    let p = told_there n w q hung c.next_xid (client.calls_of c) i t h at in
     waits_under (client.calls_of c) p.0 (told_pending t) p.1 (h.once t.xid) ∙ ap (λ z. Some z) (sym (body_program t.reply))
 
 -- ---- one less

@@ -18,7 +18,7 @@ Named temp chunks x i us b y = ⊥
 pub record Ran (start : Names) (most : ℕ) (n : Names) : Type 0 where
   pub notes : List StoreCall
   pub asks : List Ask
-  pub named : Named start.store.temp start.store.chunks start.next start.store.named notes asks n.next
+  pub named : Named start.store.temp start.store.chunks start.next_xid start.store.named notes asks n.next_xid
   pub store_is : n.store ≡ record start.store { named = start.store.named + length notes; under = start.store.under ++ notes }
   pub send_is : n.send ≡ start.send ++ map ask_message asks
   -- some are sent where some may be, and a chunk is left
@@ -41,8 +41,8 @@ names_run (suc most) n = by (slice_get n.store.chunks n.store.named) refl (names
     by : (o : Option Chunk) → slice_get n.store.chunks n.store.named ≡ o → ((n : Names) → Ran n most (names_more most n)) → Ran n (suc most) (names_more most (names_next n o))
     by None e later = let h = later n in record { notes = h.notes; asks = h.asks; named = h.named; store_is = h.store_is; send_is = h.send_is; some = λ lt c at. nothing_there c (sym e ∙ at) }
     by (Some c) e later =
-        let u : StoreCall = record { xid = n.next; index = n.store.named; way = way.Named } in
-        let a : Ask = record { xid = n.next; call = Name n.store.temp c } in
+        let u : StoreCall = record { xid = n.next_xid; index = n.store.named; way = way.Named } in
+        let a : Ask = record { xid = n.next_xid; call = Name n.store.temp c } in
         let one : Names = names_next n (Some c) in
         let h = later one in
         record {

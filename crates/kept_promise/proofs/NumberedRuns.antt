@@ -46,31 +46,31 @@ sends_more from next ms b h =
     let e = h.1 in
     (subst (CountOn from) (sym all) (count_join from (numbers_among ms) (next ∷ []) h.0 (e, tt)), omega (arith, l, n, e))
 
-reads_sent : (s : client.State) (file : ℕ) (f : Fetch) → Sends s.next (reads_of s file f).next (reads_of s file f).send
-reads_sent s file f = reads_keep (λ r. Sends s.next r.next r.send) s.cache s.index file (λ r c o h at is. by r c o h) (length f.chunks - f.asked) (reads_from f s.next) (tt, omega arith)
+reads_sent : (s : client.State) (file : ℕ) (f : Fetch) → Sends s.next_xid (reads_of s file f).next_xid (reads_of s file f).send
+reads_sent s file f = reads_keep (λ r. Sends s.next_xid r.next_xid r.send) s.cache s.index file (λ r c o h at is. by r c o h) (length f.chunks - f.asked) (reads_from f s.next_xid) (tt, omega arith)
   where
-    by : (r : Reads) (c : Chunk) (o : Option (List ℕ)) → Sends s.next r.next r.send → Sends s.next (reads_chunk file r c o).next (reads_chunk file r c o).send
+    by : (r : Reads) (c : Chunk) (o : Option (List ℕ)) → Sends s.next_xid r.next_xid r.send → Sends s.next_xid (reads_chunk file r c o).next_xid (reads_chunk file r c o).send
     by r c (Some bytes) h = h
-    by r c None h = sends_more s.next r.next r.send _ h
+    by r c None h = sends_more s.next_xid r.next_xid r.send _ h
 
-names_sent : (w : Store) (next : ℕ) → Sends next (names_all w next).next (names_all w next).send
-names_sent w next = names_keep (λ n. Sends next n.next n.send) (λ n c h at. sends_more next n.next n.send _ h) (calls_most - length w.under) (names_from w next) (tt, omega arith)
+names_sent : (w : Store) (next : ℕ) → Sends next (names_all w next).next_xid (names_all w next).send
+names_sent w next = names_keep (λ n. Sends next n.next_xid n.send) (λ n c h at. sends_more next n.next_xid n.send _ h) (calls_most - length w.under) (names_from w next) (tt, omega arith)
 
 abbrev Numbers : client.State → client.State × ClientStep → Type 0
-Numbers s r = CountOn s.next (numbers_among r.1.send)
+Numbers s r = CountOn s.next_xid (numbers_among r.1.send)
 
 took_numbers : (s : client.State) (calls : List Pending) (file : ℕ) (st : Stage) (x : ℕ) (b : Body) → Cases (λ found r. Numbers s r) s calls file st x b
 took_numbers s calls file st x b = record {
-  ends = λ r e unchanged came. subst (λ ms. CountOn s.next (numbers_among ms)) (sym e.sent) tt;
-  changed = λ r f version e open_ gave last is. subst (λ ms. CountOn s.next (numbers_among ms)) (sym e.sent) tt;
+  ends = λ r e unchanged came. subst (λ ms. CountOn s.next_xid (numbers_among ms)) (sym e.sent) tt;
+  changed = λ r f version e open_ gave last is. subst (λ ms. CountOn s.next_xid (numbers_among ms)) (sym e.sent) tt;
   uses = λ y l bytes at is kept. tt;
   fetches = λ y l at is. (refl, tt);
   anew = λ f version bytes open_ gave few came. (refl, tt);
   lists = λ f g is at same far. (refl, tt);
   reads = λ f bytes now here. (reads_sent s file f).0;
   opens = λ f bytes now here. tt;
-  names = λ w at known none is. (names_sent w s.next).0;
-  commits = λ w at known none is. (sends_more s.next (names_all w s.next).next (names_all w s.next).send _ (names_sent w s.next)).0;
+  names = λ w at known none is. (names_sent w s.next_xid).0;
+  commits = λ w at known none is. (sends_more s.next_xid (names_all w s.next_xid).next_xid (names_all w s.next_xid).send _ (names_sent w s.next_xid)).0;
   whole = λ old c k at unknown none found name chunk. (refl, tt);
 }
 
@@ -110,7 +110,7 @@ command_numbers s d now = command_cases (Numbers s) s d now (record {
 
 pub record AreNumbered (past : List Moment) (seats : List Seat) (made : ℕ) : Type 0 where
   pub each : (n : ℕ) → CountOn 1 (numbers_of n past)
-  pub next : (i n : ℕ) (seat : Seat) → numbered seats i ≡ Some seat → seat.session ≡ Some n → seat.client.next ≡ 1 + length (numbers_of n past)
+  pub next : (i n : ℕ) (seat : Seat) → numbered seats i ≡ Some seat → seat.session ≡ Some n → seat.client.next_xid ≡ 1 + length (numbers_of n past)
   pub none : (n : ℕ) → made < n → numbers_of n past ≡ []
 
 abbrev At : List Moment → Core → Type 0
@@ -134,7 +134,7 @@ same_of : (n : ℕ) (past : List Moment) (m : Moment) → (happens m.before m.ev
 same_of n past m silent = of_more n past m ∙ ap (λ l. numbers_of n past ++ l) (ap (numbers_if (is_newest (happens m.before m.event).session n)) silent ∙ none_by (is_newest (happens m.before m.event).session n)) ∙ append-nil (numbers_of n past)
 
 quiet : (past : List Moment) (m : Moment) (seats after : List Seat) (made more : ℕ) → (happens m.before m.event).up ≡ [] → more ≡ made
-    → ((i n : ℕ) (seat : Seat) → numbered after i ≡ Some seat → seat.session ≡ Some n → (j : ℕ) × (old : Seat) × (numbered seats j ≡ Some old) × (old.session ≡ Some n) × (seat.client.next ≡ old.client.next))
+    → ((i n : ℕ) (seat : Seat) → numbered after i ≡ Some seat → seat.session ≡ Some n → (j : ℕ) × (old : Seat) × (numbered seats j ≡ Some old) × (old.session ≡ Some n) × (seat.client.next_xid ≡ old.client.next_xid))
     → AreNumbered past seats made → AreNumbered (past ++ m ∷ []) after more
 quiet past m seats after made more silent count was h = record {
   each = λ n. subst (CountOn 1) (sym (same_of n past m silent)) (h.each n);
@@ -142,7 +142,7 @@ quiet past m seats after made more silent count was h = record {
   none = λ n lt. same_of n past m silent ∙ h.none n (omega (arith, lt, count));
 }
 
-same_seat : (seats : List Seat) (i n : ℕ) (seat : Seat) → numbered seats i ≡ Some seat → seat.session ≡ Some n → (j : ℕ) × (old : Seat) × (numbered seats j ≡ Some old) × (old.session ≡ Some n) × (seat.client.next ≡ old.client.next)
+same_seat : (seats : List Seat) (i n : ℕ) (seat : Seat) → numbered seats i ≡ Some seat → seat.session ≡ Some n → (j : ℕ) × (old : Seat) × (numbered seats j ≡ Some old) × (old.session ≡ Some n) × (seat.client.next_xid ≡ old.client.next_xid)
 same_seat seats i n seat at on = (i, seat, at, on, refl)
 
 -- ---- a client acts
@@ -154,14 +154,14 @@ on_newest (Some m) n e = ap (λ z. Some z) (let q : m ≡ n = grind (arith, nat_
 acts : (past : List Moment) (m : Moment) (seats : List Seat) (made more i : ℕ) (seat : Seat) (c : client.State) (place : Option ℕ) (step : CoreStep) → happens m.before m.event ≡ step → step.session ≡ seat.session → numbered seats i ≡ Some seat → more ≡ made
     → ((n : ℕ) → seat.session ≡ Some n → n < made + 1)
     → ((j n : ℕ) (other : Seat) → numbered seats j ≡ Some other → other.session ≡ Some n → seat.session ≡ Some n → j ≡ i)
-    → CountOn seat.client.next (numbers_among step.up) → c.next ≡ seat.client.next + calls_among step.up
+    → CountOn seat.client.next_xid (numbers_among step.up) → c.next_xid ≡ seat.client.next_xid + calls_among step.up
     → AreNumbered past seats made → AreNumbered (past ++ m ∷ []) (with_numbered seats i (record seat { client = c; place = place })) more
 acts past m seats made more i seat c place step is on here count within alone sends next h = record {
   each = λ n. subst (CountOn 1) (sym (all n)) (each n (is_newest seat.session n) refl);
   next = λ j n other at there. elim (of_numbered seats i (record seat { client = c; place = place }) j other at) [
     | inl mine ↦
         let mine_on : seat.session ≡ Some n = ap (λ (z : Seat). z.session) (sym mine.1) ∙ there in
-        let e = ap (λ (z : Seat). z.client.next) mine.1 in
+        let e = ap (λ (z : Seat). z.client.next_xid) mine.1 in
         let was = h.next i n seat here mine_on in
         let l = ap (λ (z : List ℕ). length z) (all n ∙ ap (λ b. numbers_of n past ++ numbers_if b step.up) (newest seat.session n mine_on)) in
         let k = length-append (numbers_of n past) (numbers_among step.up) in
@@ -226,7 +226,7 @@ numbers_join past k c seat true made here h = record {
   next = λ j n other at there. elim (of_numbered k.seats c now j other at) [
     | inl mine ↦
         let e : n ≡ k.server.sessions_made + 1 = some_is n (k.server.sessions_made + 1) (sym there ∙ ap (λ (z : Seat). z.session) mine.1) in
-        let z = ap (λ (z : Seat). z.client.next) mine.1 in
+        let z = ap (λ (z : Seat). z.client.next_xid) mine.1 in
         let l = ap (λ (z : List ℕ). length z) (same n ∙ h.none n (omega (arith, e, made))) in
         omega (arith, z, l)
     | inr away ↦ h.next j n other away.1 there ∙ ap (λ (l : List ℕ). 1 + length l) (sym (same n))
@@ -270,9 +270,9 @@ numbers_event all past rest opening k qs (Cuts c) mid after s h = subst (λ (o :
     gone : (p : Option ℕ) → Seat
     gone p = record s.finds.0 { client = record s.finds.0.client { linked = false; task = None; forgotten = [] }; place = p }
 
-    was : (p : Option ℕ) (i n : ℕ) (seat : Seat) → numbered (with_numbered k.seats c (gone p)) i ≡ Some seat → seat.session ≡ Some n → (j : ℕ) × (old : Seat) × (numbered k.seats j ≡ Some old) × (old.session ≡ Some n) × (seat.client.next ≡ old.client.next)
+    was : (p : Option ℕ) (i n : ℕ) (seat : Seat) → numbered (with_numbered k.seats c (gone p)) i ≡ Some seat → seat.session ≡ Some n → (j : ℕ) × (old : Seat) × (numbered k.seats j ≡ Some old) × (old.session ≡ Some n) × (seat.client.next_xid ≡ old.client.next_xid)
     was p i n seat at on = elim (of_numbered k.seats c (gone p) i seat at) [
-      | inl mine ↦ (c, s.finds.0, s.finds.1, ap (λ (z : Seat). z.session) (sym mine.1) ∙ on, ap (λ (z : Seat). z.client.next) mine.1)
+      | inl mine ↦ (c, s.finds.0, s.finds.1, ap (λ (z : Seat). z.session) (sym mine.1) ∙ on, ap (λ (z : Seat). z.client.next_xid) mine.1)
       | inr away ↦ (i, seat, away.1, on, refl)
     ]
 
@@ -300,7 +300,7 @@ carried_numbered = record {
   steps = λ all past rest opening k qs e mid after s h. numbers_event all past rest opening k qs e mid after s h;
   adjusts = λ all past opening k qs index seats same h. record {
     each = h.each;
-    next = λ i n seat at on. let w = same.was i seat at in ap (λ (z : Seat). z.client.next) w.4 ∙ h.next i n w.0 w.3 (ap (λ (z : Seat). z.session) (sym w.4) ∙ on);
+    next = λ i n seat at on. let w = same.was i seat at in ap (λ (z : Seat). z.client.next_xid) w.4 ∙ h.next i n w.0 w.3 (ap (λ (z : Seat). z.session) (sym w.4) ∙ on);
     none = h.none;
   };
 }
@@ -311,6 +311,6 @@ carried_numbered = record {
     at_none (suc count) zero seat at = ap (λ (z : Seat). z.session) (sym (some_is new_seat seat at))
     at_none (suc count) (suc k) seat at = at_none count k seat at
 
-    nothing_on : (i n : ℕ) (seat : Seat) (count : ℕ) → numbered (replicate count new_seat) i ≡ Some seat → seat.session ≡ Some n → seat.client.next ≡ 1 + length (numbers_of n [])
+    nothing_on : (i n : ℕ) (seat : Seat) (count : ℕ) → numbered (replicate count new_seat) i ≡ Some seat → seat.session ≡ Some n → seat.client.next_xid ≡ 1 + length (numbers_of n [])
     nothing_on zero n seat count at on = nothing_there seat at
     nothing_on (suc i) n seat count at on = nothing_there n (sym (at_none count i seat at) ∙ on)

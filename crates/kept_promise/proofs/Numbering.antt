@@ -27,7 +27,7 @@ use Rattle.kept_promise.proofs.StepCases.{reads_keep, walk_cases, got_cases}
 
 -- its next number goes on by the calls that it sends
 abbrev pub Numbers : client.State → client.State × ClientStep → Type 0
-Numbers s r = r.0.next ≡ s.next + calls_among r.1.send
+Numbers s r = r.0.next_xid ≡ s.next_xid + calls_among r.1.send
 
 among_more : (ms : List Message) (m : Message) → calls_among (ms ++ m ∷ []) ≡ calls_among ms + call_number m
 among_more [] m = omega arith
@@ -35,35 +35,35 @@ among_more (x ∷ ms) m = let h = among_more ms m in omega (arith, h)
 
 -- so many READs went out as numbers were used
 abbrev Asks : (next : ℕ) → Reads → Type 0
-Asks next r = r.next ≡ next + calls_among r.send
+Asks next r = r.next_xid ≡ next + calls_among r.send
 
 reads_number : (cache : Entries) (index : Indexed) (k file next : ℕ) (r : Reads) → Asks next r → Asks next (reads_more k cache index file r)
 reads_number cache index k file next r h = reads_keep (Asks next) cache index file (λ q c o g at is. one q c o g) k r h
   where
     one : (q : Reads) (c : Chunk) (o : Option (List ℕ)) → Asks next q → Asks next (reads_chunk file q c o)
     one q c (Some bytes) g = g
-    one q c None g = let m = among_more q.send (Rattle.file_open.specs.Opening.read_call q.next file c) in omega (arith, g, m)
+    one q c None g = let m = among_more q.send (Rattle.file_open.specs.Opening.read_call q.next_xid file c) in omega (arith, g, m)
 
-names_number : (k : ℕ) (n : Names) → (names_more k n).next + calls_among n.send ≡ n.next + calls_among (names_more k n).send
+names_number : (k : ℕ) (n : Names) → (names_more k n).next_xid + calls_among n.send ≡ n.next_xid + calls_among (names_more k n).send
 names_number zero n = refl
 names_number (suc k) n = by (slice_get n.store.chunks n.store.named) (λ q. names_number k q)
   where
-    by : (o : Option Chunk) → ((q : Names) → (names_more k q).next + calls_among q.send ≡ q.next + calls_among (names_more k q).send) → (names_more k (names_next n o)).next + calls_among n.send ≡ n.next + calls_among (names_more k (names_next n o)).send
+    by : (o : Option Chunk) → ((q : Names) → (names_more k q).next_xid + calls_among q.send ≡ q.next_xid + calls_among (names_more k q).send) → (names_more k (names_next n o)).next_xid + calls_among n.send ≡ n.next_xid + calls_among (names_more k (names_next n o)).send
     by None go = go n
     by (Some c) go =
         let h = go (names_next n (Some c)) in
-        let m = among_more n.send (Rattle.file_close.specs.Closing.cond_call n.next n.store.temp c) in
+        let m = among_more n.send (Rattle.file_close.specs.Closing.cond_call n.next_xid n.store.temp c) in
         omega (arith, h, m)
 
 reads_on_number : (s : client.State) (calls : List Pending) (file xid : ℕ) (f : Fetch) (bytes : ℕ) → Numbers s (reads_on s calls file xid f bytes)
 reads_on_number s calls file xid f bytes = by (is_here r.fetch)
   where
     r : Reads
-    r = reads_all s.cache s.index file f s.next
+    r = reads_all s.cache s.index file f s.next_xid
 
     by : (b : Bool) → Numbers s (reads_if (record s { index = found_all s.index (looked_up f r) }) calls file xid r bytes b)
     by true = omega arith
-    by false = reads_number s.cache s.index (length f.chunks - f.asked) file s.next (reads_from f s.next) (omega arith)
+    by false = reads_number s.cache s.index (length f.chunks - f.asked) file s.next_xid (reads_from f s.next_xid) (omega arith)
 
 lists_number : (s : client.State) (calls : List Pending) (file xid : ℕ) (f : Fetch) (eof : Bool) → Numbers s (lists_on s calls file xid f eof)
 lists_number s calls file xid f true = reads_on_number s calls file xid (listed f) 0
@@ -114,15 +114,15 @@ piece_number s calls file xid f piece None = omega arith
 piece_number s calls file xid f piece (Some c) = chunk_number s calls file xid f c piece (slice_get f.chunks c.index)
 
 goes_number : (s : client.State) (file : ℕ) (content : List ℕ) (st : Store) → Numbers s (goes_on s file content st)
-goes_number s file content st = by (is_stored (names_all st s.next).store)
+goes_number s file content st = by (is_stored (names_all st s.next_xid).store)
   where
-    by : (b : Bool) → Numbers s (goes_if s file content (names_all st s.next) b)
+    by : (b : Bool) → Numbers s (goes_if s file content (names_all st s.next_xid) b)
     by true =
-        let n : Names = names_all st s.next in
-        let h = names_number (calls_most - length st.under) (names_from st s.next) in
-        let m = among_more n.send (Rattle.file_close.specs.Closing.commit_call n.next n.store.temp file (length content)) in
+        let n : Names = names_all st s.next_xid in
+        let h = names_number (calls_most - length st.under) (names_from st s.next_xid) in
+        let m = among_more n.send (Rattle.file_close.specs.Closing.commit_call n.next_xid n.store.temp file (length content)) in
         omega (arith, h, m)
-    by false = let h = names_number (calls_most - length st.under) (names_from st s.next) in omega (arith, h)
+    by false = let h = names_number (calls_most - length st.under) (names_from st s.next_xid) in omega (arith, h)
 
 temp_number : (s : client.State) (calls : List Pending) (file xid temp : ℕ) (content : List ℕ) (a : Answer Unit Unit) → Numbers s (told_temp s calls file xid temp content a)
 temp_number s calls file xid temp content (Failed t u) = omega arith

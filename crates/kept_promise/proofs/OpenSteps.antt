@@ -46,7 +46,7 @@ pub record MayList (book : Book) (k : Core) (qs : List Queue) (n : ℕ) (x : Ses
   pub told : IsHashed book x.taken j t.xid (end_of f.chunks) h
   pub same : h.version ≡ f.version
   pub looked : (u : Fetch) → listed_by f h ≡ Some u → Looked (hashed_of book.moments) (client_at book k qs n x q t ts j g) j.file u
-  pub xids : (spare : ℕ) × (f.tries + spare ≡ 4) × ((client_at book k qs n x q t ts j g).next + 100000 * spare + 80000 ≤ 4294967296 + length f.chunks)
+  pub xids : (spare : ℕ) × (f.tries + spare ≡ 4) × ((client_at book k qs n x q t ts j g).next_xid + 100000 * spare + 80000 ≤ 4294967296 + length f.chunks)
 
 -- the further chunks are asked for, or their bytes
 lists_come : (book : Book) (k : Core) (qs : List Queue) (n : ℕ) (x : Session) (q : Queue) (t : Told) (ts : List Told) (j : Job) (g : Here book k qs n x q t ts j) (f : Fetch) (h : Hashes) → MayList book k qs n x q t ts j g f h
@@ -66,13 +66,13 @@ lists_come book k qs n x q t ts j g f h may = subst (λ b. Comes book k qs n x q
     after = with_hashes f h
 
     s : Stage
-    s = stage.Listing c.next after
+    s = stage.Listing c.next_xid after
 
     small : j.file < 18446744073709551616
     small = file_small book k qs j.file g.kept may.fact.known
 
-    moves : Moves (client.calls_of c) (client.pending_in s ++ c.forgotten) t (hash_ask c.next j.file (end_of after.chunks) ∷ [])
-    moves = subst (λ l. Moves l (client.pending_in s ++ c.forgotten) t (hash_ask c.next j.file (end_of after.chunks) ∷ [])) (sym (calls_are is.seat j g.job_is)) (moves_single (client.pending_in j.stage) (client.pending_in s) c.forgotten t (hash_ask c.next j.file (end_of after.chunks) ∷ []) may.pends (λ m y. refl))
+    moves : Moves (client.calls_of c) (client.pending_in s ++ c.forgotten) t (hash_ask c.next_xid j.file (end_of after.chunks) ∷ [])
+    moves = subst (λ l. Moves l (client.pending_in s ++ c.forgotten) t (hash_ask c.next_xid j.file (end_of after.chunks) ∷ [])) (sym (calls_are is.seat j g.job_is)) (moves_single (client.pending_in j.stage) (client.pending_in s) c.forgotten t (hash_ask c.next_xid j.file (end_of after.chunks) ∷ []) may.pends (λ m y. refl))
 
     ends : end_of after.chunks ≤ 67108864
     ends =
@@ -84,10 +84,10 @@ lists_come book k qs n x q t ts j g f h may = subst (λ b. Comes book k qs n x q
     chunks_few : length after.chunks ≤ 32769
     chunks_few = fetch_few book x.taken j after next.fetch
 
-    xids : length f.chunks < length after.chunks → HasXids (c.next + 1) s
+    xids : length f.chunks < length after.chunks → HasXids (c.next_xid + 1) s
     xids lt = let z = may.xids.2 in (may.xids.0, may.xids.1, omega (arith, z, lt))
 
-    bound : c.next + 1 ≤ 4294967296
+    bound : c.next_xid + 1 ≤ 4294967296
     bound = let z = may.xids.2 in let d = fetch_few book x.taken j f may.fact in omega (arith, z, d)
 
     -- all are told
@@ -124,11 +124,11 @@ lists_come book k qs n x q t ts j g f h may = subst (λ b. Comes book k qs n x q
     by true e = comes_reading book k qs n x q t ts j g whole 0 fetched (may_read e)
     by false e = inl (record {
       to = s;
-      next = c.next + 1;
+      next = c.next_xid + 1;
       forgotten = c.forgotten;
       cache = c.cache;
       index = c.index;
-      asks = hash_ask c.next j.file (end_of after.chunks) ∷ [];
+      asks = hash_ask c.next_xid j.file (end_of after.chunks) ∷ [];
       shows = goes_hash book k qs n x q t ts j g s (end_of after.chunks) c.forgotten may.quiet (sym may.word) (λ y. refl) (λ y e2. absurd cc) (λ y e2. absurd cc) (λ u e2. absurd cc) refl moves small ends (fetch_on book x.taken j s after next.fetch, may.bare.0, may.bare.1) tt (λ m y e2. absurd cc) (xids (next.more e)) bound may.word;
       cached = (g.kept.seats x.owner is.seat is.owner).kept;
       state_is = refl;
@@ -151,8 +151,8 @@ answer_at book k qs n x q t ts j g a o e waits = subst (AnswerOf book x.taken x.
 abbrev pub Finds : (book : Book) (k : Core) (qs : List Queue) (n : ℕ) (x : Session) (q : Queue) (t : Told) (ts : List Told) (j : Job) → Here book k qs n x q t ts j → Type 0
 Finds book k qs n x q t ts j g = (u : Fetch) → reading_by j.stage t.xid (reply_body t.reply) ≡ Some u → Looked (hashed_of book.moments) (client_at book k qs n x q t ts j g) j.file u
 
-pub xids_at : (book : Book) (k : Core) (qs : List Queue) (n : ℕ) (x : Session) (q : Queue) (t : Told) (ts : List Told) (j : Job) (g : Here book k qs n x q t ts j) (s : Stage) → j.stage ≡ s → HasXids (client_at book k qs n x q t ts j g).next s
-xids_at book k qs n x q t ts j g s at = let h = session_at book k qs n x q t ts j g in subst (HasXids h.seat.client.next) at ((g.kept.seats x.owner h.seat h.owner).xids j g.job_is)
+pub xids_at : (book : Book) (k : Core) (qs : List Queue) (n : ℕ) (x : Session) (q : Queue) (t : Told) (ts : List Told) (j : Job) (g : Here book k qs n x q t ts j) (s : Stage) → j.stage ≡ s → HasXids (client_at book k qs n x q t ts j g).next_xid s
+xids_at book k qs n x q t ts j g s at = let h = session_at book k qs n x q t ts j g in subst (HasXids h.seat.client.next_xid) at ((g.kept.seats x.owner h.seat h.owner).xids j g.job_is)
 
 same_xid : (y v : ℕ) → cond (y == y) (Some v) None ≡ Some v
 same_xid y v = ap (λ b. cond b (Some v) None) (eq-eqb y y refl)
@@ -218,7 +218,7 @@ comes_listing book k qs n x q t ts j g f a at e looked = by a e (answer_at book 
     pends : client.pending_in j.stage ≡ told_pending t ∷ []
     pends = ap client.pending_in at ∙ ap (λ r. record { xid = t.xid; program = reply_program r } ∷ []) (sym e)
 
-    left : (spare : ℕ) × (f.tries + spare ≡ 4) × (c.next + 100000 * spare + 80000 ≤ 4294967296 + length f.chunks)
+    left : (spare : ℕ) × (f.tries + spare ≡ 4) × (c.next_xid + 100000 * spare + 80000 ≤ 4294967296 + length f.chunks)
     left = xids_at book k qs n x q t ts j g (stage.Listing t.xid f) at
 
     by : (a : Answer Hashes Unit) → t.reply ≡ Hashed a → HashTold book x.taken j t.xid (end_of f.chunks) a → Comes book k qs n x q t ts j g (told_hashes (idle c) (client.calls_of c) j.file t.xid f a)
@@ -272,18 +272,18 @@ comes_leased book k qs n x q t ts j g a at e = by a (subst (AnswerOf book x.take
     word = ap stage_word at
 
     s : Stage
-    s = stage.Hashing 1 c.next
+    s = stage.Hashing 1 c.next_xid
 
     forgotten : List Pending
     forgotten = client.without_call (client.calls_of c) t.xid
 
-    moves : Moves (client.calls_of c) (client.pending_in s ++ forgotten) t (hash_ask c.next j.file 0 ∷ [])
+    moves : Moves (client.calls_of c) (client.pending_in s ++ forgotten) t (hash_ask c.next_xid j.file 0 ∷ [])
     moves =
         let b = (h.talk g.uncut).balanced in
-        let there = told_there n k.server.waiting q x.hung c.next (client.calls_of c) 0 t b (ap (λ (l : List Told). slice_get l 0) g.first) in
-        moves_retries (client.calls_of c) there.0 t (hash_ask c.next j.file 0) there.1 (b.once t.xid)
+        let there = told_there n k.server.waiting q x.hung c.next_xid (client.calls_of c) 0 t b (ap (λ (l : List Told). slice_get l 0) g.first) in
+        moves_retries (client.calls_of c) there.0 t (hash_ask c.next_xid j.file 0) there.1 (b.once t.xid)
 
-    room : c.next + 380001 ≤ 4294967296
+    room : c.next_xid + 380001 ≤ 4294967296
     room = xids_at book k qs n x q t ts j g (stage.Asking t.xid) at
 
     tries_of : Stage → ℕ
@@ -312,11 +312,11 @@ comes_leased book k qs n x q t ts j g a at e = by a (subst (AnswerOf book x.take
     used l told (Some bytes) is = comes_opened book k qs n x q t ts j g t.xid l.version bytes 0 c.cache c.index (uses_kept (idle c) (client.calls_of c) j.file t.xid l.version (Some bytes)) (kept l told bytes is) (g.kept.seats x.owner h.seat h.owner).kept (record { state = refl; acts = refl })
     used l told None is = inl (record {
       to = s;
-      next = c.next + 1;
+      next = c.next_xid + 1;
       forgotten = forgotten;
       cache = c.cache;
       index = c.index;
-      asks = hash_ask c.next j.file 0 ∷ [];
+      asks = hash_ask c.next_xid j.file 0 ∷ [];
       shows = goes_hash book k qs n x q t ts j g s 0 forgotten quiet (sym word) (λ y. refl) (λ y e. absurd cc) (λ y e. absurd cc) (λ f e. absurd cc) refl moves (file_small book k qs j.file g.kept told.known) (omega arith) tt tt (λ m y e. begun m (ap tries_of e)) (3, refl, (let r = room in omega (arith, r))) (let r = room in omega (arith, r)) word;
       cached = (g.kept.seats x.owner h.seat h.owner).kept;
       state_is = refl;

@@ -210,11 +210,11 @@ gets_cases log s calls file v st x b p apart = record {
       );
   fetches = λ y l at is.
       let was : IsBare log × (last_fetch log ≡ no_fetch) × AllReach (over_from no_fetch log) = subst (OpensBy log file v) at p in
-      let m : Message = hash_call s.next file 0 in
+      let m : Message = hash_call s.next_xid file 0 in
       let z = ap (bytes_came x) is in
       let log2 : List Deal = log ++ Took (message.Answer x b) ∷ Sent m ∷ [] in
       let last : last_fetch log2 ≡ no_fetch = fetch_join no_fetch log (Took (message.Answer x b) ∷ Sent m ∷ []) in
-      let over : AllReach (over_from no_fetch log2) = over_begins log x b s.next file (any_reached log file v st p (ap stage_word at)) in
+      let over : AllReach (over_from no_fetch log2) = over_begins log x b s.next_xid file (any_reached log file v st p (ap stage_word at)) in
       let a = sum_join Rattle.kept_promise.proofs.Common.first_number log (Took (message.Answer x b) ∷ Sent m ∷ []) in
       let c = sum_join read_number log (Took (message.Answer x b) ∷ Sent m ∷ []) in
       let d = came_join log (Took (message.Answer x b) ∷ Sent m ∷ []) in
@@ -228,13 +228,13 @@ gets_cases log s calls file v st x b p apart = record {
         λ open_. (over, first_told (last_fetch log2) [] last),
       );
   anew = λ f version bytes open_ gave few came.
-      let m : Message = hash_call s.next file 0 in
+      let m : Message = hash_call s.next_xid file 0 in
       let log2 : List Deal = log ++ Took (message.Answer x b) ∷ Sent m ∷ [] in
       let one = one_gave log file v st x b f version p gave in
       let a = sum_join Rattle.kept_promise.proofs.Common.first_number log (Took (message.Answer x b) ∷ Sent m ∷ []) in
       let i = one.begun in
       let last : last_fetch log2 ≡ no_fetch = fetch_join no_fetch log (Took (message.Answer x b) ∷ Sent m ∷ []) in
-      let over : AllReach (over_from no_fetch log2) = over_begins log x b s.next file (any_reached log file v st p open_) in (
+      let over : AllReach (over_from no_fetch log2) = over_begins log x b s.next_xid file (any_reached log file v st p open_) in (
         λ g w u running task. subst (λ (z : Task). OpensBy log2 g w z.stage) (some_is _ u task) (last, record { over = over; begun = omega (arith, a, i); few = λ few. absurd (omega (arith, few, a, i)) }),
         λ e ended. nothing_there e ended,
         λ open_. (over, first_told (last_fetch log2) [] last),
@@ -242,11 +242,11 @@ gets_cases log s calls file v st x b p apart = record {
   lists = λ f h is at same far.
       let n = none_yet log file v st x h f p at in
       let offset = Rattle.chunk_cut.specs.Places.end_of (with_hashes f h).chunks in
-      let m : Message = hash_call s.next file offset in
+      let m : Message = hash_call s.next_xid file offset in
       let log2 : List Deal = log ++ Took (message.Answer x b) ∷ Sent m ∷ [] in
       let z = ap (bytes_came x) is in
       let last : last_fetch log2 ≡ told_only (with_hashes f h).chunks = fetch_join no_fetch log (Took (message.Answer x b) ∷ Sent m ∷ []) ∙ ap (λ t. fetch_if t (fetch_with (last_fetch log) (Took (message.Answer x b)))) far ∙ ap (λ (y : Fetched). fetch_with y (Took (message.Answer x b))) n.0 ∙ ap (λ c. fetch_with (told_only f.chunks) (Took (message.Answer x c))) is in
-      let over : AllReach (over_from no_fetch log2) = subst AllReach (sym (over_lists log x b s.next file offset far)) n.1.over in
+      let over : AllReach (over_from no_fetch log2) = subst AllReach (sym (over_lists log x b s.next_xid file offset far)) n.1.over in
       let a = sum_join Rattle.kept_promise.proofs.Common.first_number log (Took (message.Answer x b) ∷ Sent m ∷ []) in
       let t = ap (λ y. Rattle.kept_promise.proofs.Common.number_if y 1) far in
       let c = sum_join read_number log (Took (message.Answer x b) ∷ Sent m ∷ []) in

@@ -103,14 +103,14 @@ near_found w file v (z ∷ ps) = (tt, near_found w file v ps)
 -- ---- what goes out
 
 pub reads_own : (s : client.State) (file : ℕ) (v : List ℕ) (f : Fetch) → AreOwn words.Open file v (map Sent (reads_of s file f).send)
-reads_own s file v f = reads_keep (λ r. AreOwn words.Open file v (map Sent r.send)) s.cache s.index file (λ r c o h at found. by r c h o) (length f.chunks - f.asked) (reads_from f s.next) tt
+reads_own s file v f = reads_keep (λ r. AreOwn words.Open file v (map Sent r.send)) s.cache s.index file (λ r c o h at found. by r c h o) (length f.chunks - f.asked) (reads_from f s.next_xid) tt
   where
     by : (r : Reads) (c : Chunk) → AreOwn words.Open file v (map Sent r.send) → (o : Option (List ℕ)) → AreOwn words.Open file v (map Sent (reads_chunk file r c o).send)
-    by r c h None = subst (AreOwn words.Open file v) (sym (sent_more r.send (read_call r.next file c))) (own_join words.Open file v (map Sent r.send) (Sent (read_call r.next file c) ∷ []) h (refl, tt))
+    by r c h None = subst (AreOwn words.Open file v) (sym (sent_more r.send (read_call r.next_xid file c))) (own_join words.Open file v (map Sent r.send) (Sent (read_call r.next_xid file c) ∷ []) h (refl, tt))
     by r c h (Some bytes) = h
 
 pub names_own : (file : ℕ) (v : List ℕ) (w : Store) (next : ℕ) → AreOwn words.Close file v (map Sent (names_all w next).send) × ((names_all w next).store.chunks ≡ w.chunks)
-names_own file v w next = names_keep (λ n. AreOwn words.Close file v (map Sent n.send) × (n.store.chunks ≡ w.chunks)) (λ n c h at. (subst (AreOwn words.Close file v) (sym (sent_more n.send (cond_call n.next n.store.temp c))) (own_join words.Close file v (map Sent n.send) (Sent (cond_call n.next n.store.temp c) ∷ []) h.0 (tt, tt)), h.1)) (calls_most - length w.under) (names_from w next) (tt, refl)
+names_own file v w next = names_keep (λ n. AreOwn words.Close file v (map Sent n.send) × (n.store.chunks ≡ w.chunks)) (λ n c h at. (subst (AreOwn words.Close file v) (sym (sent_more n.send (cond_call n.next_xid n.store.temp c))) (own_join words.Close file v (map Sent n.send) (Sent (cond_call n.next_xid n.store.temp c) ∷ []) h.0 (tt, tt)), h.1)) (calls_most - length w.under) (names_from w next) (tt, refl)
 
 -- ---- an answer
 
@@ -134,14 +134,14 @@ sends_cases s calls file v st x b h same = record {
   opens = λ f bytes now here. ((λ u running. nothing_there _ (sym running)), tt);
   names = λ w at known none is.
       let k = store_is st x v (client.local_bytes s.opened file) w at h same in
-      let own = names_own file v w s.next in
-      closing k.0 (goes_if s file (client.local_bytes s.opened file) (names_all w s.next) false) ((λ u running task. subst (λ (z : Task). (stage_word z.stage ≡ words.Close) × StageChunks z.stage v) (some_is _ u task) (refl, own.1 ∙ k.2)), own.0);
+      let own = names_own file v w s.next_xid in
+      closing k.0 (goes_if s file (client.local_bytes s.opened file) (names_all w s.next_xid) false) ((λ u running task. subst (λ (z : Task). (stage_word z.stage ≡ words.Close) × StageChunks z.stage v) (some_is _ u task) (refl, own.1 ∙ k.2)), own.0);
   commits = λ w at known none is.
       let k = store_is st x v (client.local_bytes s.opened file) w at h same in
-      let own = names_own file v w s.next in
-      let n = names_all w s.next in
-      let commit : Message = commit_call n.next n.store.temp file (length (client.local_bytes s.opened file)) in
-      closing k.0 (goes_if s file (client.local_bytes s.opened file) (names_all w s.next) true) (
+      let own = names_own file v w s.next_xid in
+      let n = names_all w s.next_xid in
+      let commit : Message = commit_call n.next_xid n.store.temp file (length (client.local_bytes s.opened file)) in
+      closing k.0 (goes_if s file (client.local_bytes s.opened file) (names_all w s.next_xid) true) (
         (λ u running task. subst (λ (z : Task). (stage_word z.stage ≡ words.Close) × StageChunks z.stage v) (some_is _ u task) (refl, tt)),
         subst (AreOwn words.Close file v) (sym (sent_more n.send commit)) (own_join words.Close file v (map Sent n.send) (Sent commit ∷ []) own.0 ((refl, ap length (sym k.1)), tt)),
       );

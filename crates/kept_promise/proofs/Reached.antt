@@ -235,7 +235,7 @@ none_more [] x e = absurd cc
 none_more (y ∷ ys) x e = absurd cc
 
 pub reads_ask : (s : client.State) (file : ℕ) (f : Fetch) → f.asked ≤ length f.chunks → Asks s.cache s.index f (drop f.asked f.chunks) (reads_of s file f)
-reads_ask s file f le = reads_keep (Asks s.cache s.index f xs) s.cache s.index file (λ r c o h at is. more r c h at o is) (length f.chunks - f.asked) (reads_from f s.next) (record {
+reads_ask s file f le = reads_keep (Asks s.cache s.index f xs) s.cache s.index file (λ r c o h at is. more r c h at o is) (length f.chunks - f.asked) (reads_from f s.next_xid) (record {
   flags = [];
   asked = omega arith;
   chunks = refl;
@@ -296,7 +296,7 @@ reads_ask s file f le = reads_keep (Asks s.cache s.index f xs) s.cache s.index f
               inside = omega (arith, lt);
             }
         by None is =
-            let m : Message = read_call r.next file c in
+            let m : Message = read_call r.next_xid file c in
             let a = h.asked in
             let k = count_more h.flags false in
             let g = chosen_more true h.flags false (drop f.asked f.chunks) c here in
@@ -305,7 +305,7 @@ reads_ask s file f le = reads_keep (Asks s.cache s.index f xs) s.cache s.index f
             let w = h.count in
             let v = h.none in
             let all = sent_more r.send m in
-            let l = lens_more f.chunks r.fetch.under (record { xid = r.next; index = r.fetch.asked }) in
+            let l = lens_more f.chunks r.fetch.under (record { xid = r.next_xid; index = r.fetch.asked }) in
             let z = len_is f.chunks r.fetch.asked c there in
             let p = ap lengths_of e in
             let y = lengths_join (chosen false h.flags (drop f.asked f.chunks)) (place_of c ∷ []) in

@@ -27,7 +27,7 @@ messages_more (d ∷ b) a = ap (λ l. ask_message d ∷ l) (messages_more b a)
 pub record Ran (file : ℕ) (start r : Reads) : Type 0 where
   pub notes : List ReadCall
   pub asks : List Ask
-  pub sent : Sent file start.fetch.chunks start.next notes asks r.next
+  pub sent : Sent file start.fetch.chunks start.next_xid notes asks r.next_xid
   pub fetch_is : r.fetch ≡ record start.fetch { asked = r.fetch.asked; slots = r.fetch.slots; under = start.fetch.under ++ notes }
   pub further : start.fetch.asked + length notes ≤ r.fetch.asked
   pub indexes : (k : ℕ) (u : ReadCall) → slice_get notes k ≡ Some u → (start.fetch.asked ≤ u.index) × (u.index < r.fetch.asked)
@@ -57,15 +57,15 @@ reads_run cache index file k start = reads_keep (Ran file start) cache index fil
           send_is = h.send_is;
         }
     more r c None h at found =
-        let u : ReadCall = record { xid = r.next; index = r.fetch.asked } in
-        let a : Ask = record { xid = r.next; call = Read file c } in
+        let u : ReadCall = record { xid = r.next_xid; index = r.fetch.asked } in
+        let a : Ask = record { xid = r.next_xid; call = Read file c } in
         let chunk : slice_get start.fetch.chunks r.fetch.asked ≡ Some c = ap (λ (z : Fetch). slice_get z.chunks r.fetch.asked) (sym h.fetch_is) ∙ at in
         let le = h.further in
         let n = count_more h.notes u in
         record {
           notes = h.notes ++ u ∷ [];
           asks = h.asks ++ a ∷ [];
-          sent = sent_more file start.fetch.chunks start.next h.notes h.asks r.next r.fetch.asked c chunk h.sent;
+          sent = sent_more file start.fetch.chunks start.next_xid h.notes h.asks r.next_xid r.fetch.asked c chunk h.sent;
           fetch_is = ap (λ (z : Fetch). record z { asked = r.fetch.asked + 1; slots = r.fetch.slots; under = r.fetch.under ++ u ∷ [] }) h.fetch_is
               ∙ ap (λ (l : List ReadCall). record start.fetch { asked = r.fetch.asked + 1; slots = r.fetch.slots; under = l }) (ap (λ (z : Fetch). z.under ++ u ∷ []) h.fetch_is ∙ append_assoc start.fetch.under h.notes (u ∷ []));
           further = omega (arith, le, n);

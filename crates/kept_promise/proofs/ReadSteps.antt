@@ -141,14 +141,14 @@ comes_read book k qs n x q t ts j g f p r d is =
         let a = ap (λ l. times y (map (λ (z : Pending). z.xid) l)) calls ∙ times_map_append (λ (z : Pending). z.xid) y (map read_pending f.under) c.forgotten in
         omega (arith, o, a)
 
-    before : (y : ℕ) (u : ReadCall) → read_at f.under y ≡ Some u → y < c.next
+    before : (y : ℕ) (u : ReadCall) → read_at f.under y ≡ Some u → y < c.next_xid
     before y u e =
         let z = read_found f.under y u e in
         let there = subst (λ v. 0 < times v (map (λ (w : Pending). w.xid) (map read_pending f.under))) z.2 (there_by (λ (w : Pending). w.xid) (map read_pending f.under) z.0 (read_pending u) (mapped_at f.under z.0 u z.1)) in
         let a = ap (λ l. times y (map (λ (w : Pending). w.xid) l)) calls ∙ times_map_append (λ (w : Pending). w.xid) y (map read_pending f.under) c.forgotten in
-        under_next (nat_le c.next y) refl (λ le. let b = (h.talk g.uncut).balanced.below y le in omega (arith, b, a, there))
+        under_next (nat_le c.next_xid y) refl (λ le. let b = (h.talk g.uncut).balanced.below y le in omega (arith, b, a, there))
       where
-        under_next : (b : Bool) → nat_le c.next y ≡ b → (c.next ≤ y → ⊥) → y < c.next
+        under_next : (b : Bool) → nat_le c.next_xid y ≡ b → (c.next_xid ≤ y → ⊥) → y < c.next_xid
         under_next true e late = absurd (late (grind (arith, nat_tests, e)))
         under_next false e late = grind (arith, nat_tests, e)
 

@@ -82,7 +82,7 @@ holds_messages P fits all past w h number q at =
           let t = of_ask m.ups i a one in
           let u = of_ask m.ups j b two in
           let talk = s.talk uncut in
-          place_once (λ (z : Ask). z.xid) m.ups i j t.0 u.0 t.1 u.1 (t.2 ∙ same ∙ sym u.2) (rising_times talk.floor m.ups s.seat.client.next u.0.xid talk.rising);
+          place_once (λ (z : Ask). z.xid) m.ups i j t.0 u.0 t.1 u.1 (t.2 ∙ same ∙ sym u.2) (rising_times talk.floor m.ups s.seat.client.next_xid u.0.xid talk.rising);
       downs = map told_message m.downs;
       down = record { sound = c.down_sound; read = downs x.0 m s x.0.cut refl; bytes = c.down };
       answered = answers x.0 m s x.0.cut refl;
@@ -98,8 +98,8 @@ holds_messages P fits all past w h number q at =
 
     answers : (x : Session) (m : Queue) → (s : IsSession (book_of w all) w.core.seats w.core.server number x m) → (b : Bool) → x.cut ≡ b → All (IsAnswered (calls_of s.seat.client)) (map told_message m.downs)
     answers x m s true cut = subst (λ (ts : List Told). All (IsAnswered (calls_of s.seat.client)) (map told_message ts)) (sym (s.shut cut)) (All-nil (IsAnswered (calls_of s.seat.client)))
-    answers x m s false uncut = tolds_answered (calls_of s.seat.client) m.downs (λ i t there. told_there number w.core.server.waiting m x.hung s.seat.client.next (calls_of s.seat.client) i t (s.talk uncut).balanced there)
+    answers x m s false uncut = tolds_answered (calls_of s.seat.client) m.downs (λ i t there. told_there number w.core.server.waiting m x.hung s.seat.client.next_xid (calls_of s.seat.client) i t (s.talk uncut).balanced there)
 
     once : (x : Session) (m : Queue) → (s : IsSession (book_of w all) w.core.seats w.core.server number x m) → (b : Bool) → x.cut ≡ b → (i j : ℕ) (t u : Told) → slice_get m.downs i ≡ Some t → slice_get m.downs j ≡ Some u → t.xid ≡ u.xid → i ≡ j
     once x m s true cut i j t u a b same = nothing_there t (ap (λ (l : List Told). slice_get l i) (sym (s.shut cut)) ∙ a)
-    once x m s false uncut i j t u a b same = answers_apart number w.core.server.waiting m x.hung s.seat.client.next (calls_of s.seat.client) i j t u (s.talk uncut).balanced a b same
+    once x m s false uncut i j t u a b same = answers_apart number w.core.server.waiting m x.hung s.seat.client.next_xid (calls_of s.seat.client) i j t u (s.talk uncut).balanced a b same

@@ -190,8 +190,8 @@ asks_first : (s : client.State) (file now : ℕ) → ((command_step s (command.O
 asks_first s file now = by s.task
   where
     kept : (o : Option Content) → ((xid : ℕ) × ((asks_kept (record s { cache = reserved s.cache file }) file o).1.send ≡ first_call xid file o ∷ []))
-    kept None = (s.next, refl)
-    kept (Some c) = (s.next, refl)
+    kept None = (s.next_xid, refl)
+    kept (Some c) = (s.next_xid, refl)
 
     asks : (b : Bool) → ((asks_file s file b).1.send ≡ []) ⊎ ((xid : ℕ) × ((asks_file s file b).1.send ≡ first_call xid file (content_of s.cache file) ∷ []))
     asks false = inl refl

@@ -61,7 +61,7 @@ took_now Q st x b f bytes q (all_told g h is eof at same f_is none) = subst (λ 
 took_now Q st x b f bytes q (one_came g c k p is at found chunk fits f_is len) = subst (λ (z : Fetch). Q z.version z.first) (sym f_is) (subst (TookIn Q (stage.Reading g) x) is (subst (λ z. TookIn Q z x b) at q))
 
 good_fetch : (Q : ℕ → ℕ → Type 0) (s : State) (file : ℕ) (f : Fetch) → Q f.version f.first → Q (reads_of s file f).fetch.version (reads_of s file f).fetch.first
-good_fetch Q s file f h = reads_keep (λ r. Q r.fetch.version r.fetch.first) s.cache s.index file (λ r c o q at found. by r c q o) (length f.chunks - f.asked) (reads_from f s.next) h
+good_fetch Q s file f h = reads_keep (λ r. Q r.fetch.version r.fetch.first) s.cache s.index file (λ r c o q at found. by r c q o) (length f.chunks - f.asked) (reads_from f s.next_xid) h
   where
     by : (r : Reads) (c : Chunk) → Q r.fetch.version r.fetch.first → (o : Option (List ℕ)) → Q (reads_chunk file r c o).fetch.version (reads_chunk file r c o).fetch.first
     by r c q None = q
@@ -75,7 +75,7 @@ good_ends Q R x b r e = (subst (TaskGood Q R) (sym e.task) tt, subst (EndGood Q)
     by (outcome.Opened file len digest) un = absurd (un tt)
     by o un = tt
 
-good_took : (Q : ℕ → ℕ → Type 0) (R : ℕ → Type 0) (s : State) (fresh : R s.next) (calls : List Pending) (file : ℕ) (st : Stage) (xid : ℕ) (b : Body) → TookIn Q st xid b → Good Q R (took s calls file st xid b)
+good_took : (Q : ℕ → ℕ → Type 0) (R : ℕ → Type 0) (s : State) (fresh : R s.next_xid) (calls : List Pending) (file : ℕ) (st : Stage) (xid : ℕ) (b : Body) → TookIn Q st xid b → Good Q R (took s calls file st xid b)
 good_took Q R s fresh calls file (stage.Walking y w) x b q = walk_cases (Good Q R) s calls file y w x b (record {
   fault = λ f bad. (tt, tt);
   asks = λ v k. (tt, tt);
@@ -107,7 +107,7 @@ good_drops Q R s task xid true q = (q, tt)
 good_drops Q R s (Some t) xid false q = (tt, tt)
 good_drops Q R s None xid false q = (q, tt)
 
-pub good_answer : (Q : ℕ → ℕ → Type 0) (R : ℕ → Type 0) (s : State) (fresh : R s.next) (xid : ℕ) (b : Body) → (has_call (pending s.task) xid ≡ false → TaskGood Q R s.task) → (has_call (pending s.task) xid ≡ true → TaskTook Q s.task xid b) → Good Q R (got_message s s.task (message.Answer xid b))
+pub good_answer : (Q : ℕ → ℕ → Type 0) (R : ℕ → Type 0) (s : State) (fresh : R s.next_xid) (xid : ℕ) (b : Body) → (has_call (pending s.task) xid ≡ false → TaskGood Q R s.task) → (has_call (pending s.task) xid ≡ true → TaskTook Q s.task xid b) → Good Q R (got_message s s.task (message.Answer xid b))
 good_answer Q R s fresh xid b dropped taken = by s.task refl (has_call (pending s.task) xid) refl
   where
     by : (task : Option Task) → s.task ≡ task → (own : Bool) → has_call (pending s.task) xid ≡ own → Good Q R (took_if s task xid b own)
@@ -117,7 +117,7 @@ good_answer Q R s fresh xid b dropped taken = by s.task refl (has_call (pending 
 
 -- ---- a command
 
-pub good_command : (Q : ℕ → ℕ → Type 0) (R : ℕ → Type 0) (s : State) (fresh : R s.next) (d : Command) (now : ℕ) → TaskGood Q R s.task → Good Q R (command_step s d now)
+pub good_command : (Q : ℕ → ℕ → Type 0) (R : ℕ → Type 0) (s : State) (fresh : R s.next_xid) (d : Command) (now : ℕ) → TaskGood Q R s.task → Good Q R (command_step s d now)
 good_command Q R s fresh d now q = command_cases (Good Q R) s d now (record {
   busy = λ t is. (q, tt);
   answers = λ free opened o plain. (q, by o plain);

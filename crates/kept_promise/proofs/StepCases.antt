@@ -195,7 +195,7 @@ GaveUp st x b f version =
 
 -- the READs that go out for a fetch, and the places of the chunks that the index gives
 abbrev pub reads_of : State → (file : ℕ) → Fetch → Reads
-reads_of s file f = reads_all s.cache s.index file f s.next
+reads_of s file f = reads_all s.cache s.index file f s.next_xid
 
 abbrev pub given : State → (file : ℕ) → Fetch → List (ℕ × ℕ)
 given s file f = given_in s (Some (file, f))
@@ -218,8 +218,8 @@ pub record Cases (Z : List (ℕ × ℕ) → State × ClientStep → Type 0) (s :
   pub reads : (f : Fetch) (bytes : ℕ) → FetchNow st x b f bytes → is_here (reads_of s file f).fetch ≡ false → Z (given s file f) (reads_if (looked s file f) calls file x (reads_of s file f) bytes false)
   pub opens : (f : Fetch) (bytes : ℕ) → FetchNow st x b f bytes → is_here (reads_of s file f).fetch ≡ true → Z (given s file f) (reads_if (looked s file f) calls file x (reads_of s file f) bytes true)
   -- further chunks are named, or all are stored, or one is sent whole
-  pub names : (w : Store) → StoreIn st x (local_bytes s.opened file) w → (IsUnknown b → ⊥) → bytes_came x b ≡ 0 → is_stored (names_all w s.next).store ≡ false → Z [] (goes_if s file (local_bytes s.opened file) (names_all w s.next) false)
-  pub commits : (w : Store) → StoreIn st x (local_bytes s.opened file) w → (IsUnknown b → ⊥) → bytes_came x b ≡ 0 → is_stored (names_all w s.next).store ≡ true → Z [] (goes_if s file (local_bytes s.opened file) (names_all w s.next) true)
+  pub names : (w : Store) → StoreIn st x (local_bytes s.opened file) w → (IsUnknown b → ⊥) → bytes_came x b ≡ 0 → is_stored (names_all w s.next_xid).store ≡ false → Z [] (goes_if s file (local_bytes s.opened file) (names_all w s.next_xid) false)
+  pub commits : (w : Store) → StoreIn st x (local_bytes s.opened file) w → (IsUnknown b → ⊥) → bytes_came x b ≡ 0 → is_stored (names_all w s.next_xid).store ≡ true → Z [] (goes_if s file (local_bytes s.opened file) (names_all w s.next_xid) true)
   pub whole : (old : Store) (c : StoreCall) (k : Chunk) → st ≡ stage.Storing old → IsUnknown b → bytes_came x b ≡ 0 → store_at old.under x ≡ Some c → c.way ≡ way.Named → slice_get old.chunks c.index ≡ Some k → Z [] (sends_whole s file x (local_bytes s.opened file) (answered old x) c (Some k))
 
 -- of a client with nothing under way as well
@@ -296,9 +296,9 @@ read Z s calls file f x p cases = by (read_at f.under x) refl
     by (Some c) e = chunk c e (slice_get f.chunks c.index) refl
 
 goes : (Z : List (ℕ × ℕ) → State × ClientStep → Type 0) (s : State) (calls : List Pending) (file : ℕ) (st : Stage) (x : ℕ) (b : Body) → Cases Z s calls file st x b → (w : Store) → StoreIn st x (local_bytes s.opened file) w → (IsUnknown b → ⊥) → bytes_came x b ≡ 0 → Z [] (goes_on s file (local_bytes s.opened file) w)
-goes Z s calls file st x b cases w at known none = by (is_stored (names_all w s.next).store) refl
+goes Z s calls file st x b cases w at known none = by (is_stored (names_all w s.next_xid).store) refl
   where
-    by : (t : Bool) → is_stored (names_all w s.next).store ≡ t → Z [] (goes_if s file (local_bytes s.opened file) (names_all w s.next) t)
+    by : (t : Bool) → is_stored (names_all w s.next_xid).store ≡ t → Z [] (goes_if s file (local_bytes s.opened file) (names_all w s.next_xid) t)
     by true e = cases.commits w at known none e
     by false e = cases.names w at known none e
 
@@ -478,8 +478,8 @@ goes_none w r e is u running at = nothing_there e (sym running ∙ is)
 pub record OfCloses (Z : List (ℕ × ℕ) → State × ClientStep → Type 0) (s : State) (file : ℕ) (st : Stage) (x : ℕ) (b : Body) : Type 0 where
   pub opens : stage_word st ≡ words.Open → (found : List (ℕ × ℕ)) (r : State × ClientStep) → GoesOn words.Open r → Z found r
   pub ends : stage_word st ≡ words.Close → (r : State × ClientStep) → JustEnds x b r → IsFault r.1.ended ⊎ (bytes_came x b ≡ 0) → Z [] r
-  pub names : (w : Store) → StoreIn st x (local_bytes s.opened file) w → (IsUnknown b → ⊥) → bytes_came x b ≡ 0 → is_stored (names_all w s.next).store ≡ false → Z [] (goes_if s file (local_bytes s.opened file) (names_all w s.next) false)
-  pub commits : (w : Store) → StoreIn st x (local_bytes s.opened file) w → (IsUnknown b → ⊥) → bytes_came x b ≡ 0 → is_stored (names_all w s.next).store ≡ true → Z [] (goes_if s file (local_bytes s.opened file) (names_all w s.next) true)
+  pub names : (w : Store) → StoreIn st x (local_bytes s.opened file) w → (IsUnknown b → ⊥) → bytes_came x b ≡ 0 → is_stored (names_all w s.next_xid).store ≡ false → Z [] (goes_if s file (local_bytes s.opened file) (names_all w s.next_xid) false)
+  pub commits : (w : Store) → StoreIn st x (local_bytes s.opened file) w → (IsUnknown b → ⊥) → bytes_came x b ≡ 0 → is_stored (names_all w s.next_xid).store ≡ true → Z [] (goes_if s file (local_bytes s.opened file) (names_all w s.next_xid) true)
   pub whole : (old : Store) (c : StoreCall) (k : Chunk) → st ≡ stage.Storing old → IsUnknown b → bytes_came x b ≡ 0 → store_at old.under x ≡ Some c → c.way ≡ way.Named → slice_get old.chunks c.index ≡ Some k → Z [] (sends_whole s file x (local_bytes s.opened file) (answered old x) c (Some k))
 
 pub either_word : (st : Stage) → IsOfFile st → (stage_word st ≡ words.Open) ⊎ (stage_word st ≡ words.Close)
@@ -529,8 +529,8 @@ of_opens Z s calls file st x b known h = record {
   lists = h.lists;
   reads = h.reads;
   opens = h.opens;
-  names = λ w at known none is. let r = goes_if s file (local_bytes s.opened file) (names_all w s.next) false in h.closes (in_close st x (local_bytes s.opened file) w at) r (goes_with words.Close r _ refl refl) (λ e ended opened. nothing_there e ended) (λ first last c. nothing_there c.0 c.1);
-  commits = λ w at known none is. let r = goes_if s file (local_bytes s.opened file) (names_all w s.next) true in h.closes (in_close st x (local_bytes s.opened file) w at) r (goes_with words.Close r _ refl refl) (λ e ended opened. nothing_there e ended) (λ first last c. nothing_there c.0 c.1);
+  names = λ w at known none is. let r = goes_if s file (local_bytes s.opened file) (names_all w s.next_xid) false in h.closes (in_close st x (local_bytes s.opened file) w at) r (goes_with words.Close r _ refl refl) (λ e ended opened. nothing_there e ended) (λ first last c. nothing_there c.0 c.1);
+  commits = λ w at known none is. let r = goes_if s file (local_bytes s.opened file) (names_all w s.next_xid) true in h.closes (in_close st x (local_bytes s.opened file) w at) r (goes_with words.Close r _ refl refl) (λ e ended opened. nothing_there e ended) (λ first last c. nothing_there c.0 c.1);
   whole = λ old c k at unknown none found name chunk. let r = sends_whole s file x (local_bytes s.opened file) (answered old x) c (Some k) in h.closes (ap stage_word at) r (goes_with words.Close r _ refl refl) (λ e ended opened. nothing_there e ended) (λ first last c. nothing_there c.0 c.1);
 }
 

@@ -172,7 +172,7 @@ pub record Quiet (k : Core) (n : ℕ) (q : Queue) : Type 0 where
   pub waiting : own n k.server.waiting ≡ []
 
 abbrev pub gone_on : client.State → (file next : ℕ) → Stage → List Pending → Entries → Indexed → client.State
-gone_on c file next s forgotten cache index = record c { next = next; task = Some (record { file = file; stage = s }); forgotten = forgotten; cache = cache; index = index }
+gone_on c file next s forgotten cache index = record c { next_xid = next; task = Some (record { file = file; stage = s }); forgotten = forgotten; cache = cache; index = index }
 
 pub goal_not_close : (g : Goal) → goal_word g ≡ words.Close → ⊥
 goal_not_close (goal.Find n) e = absurd cc
@@ -209,7 +209,7 @@ pub others_in_order : (book : Book) (k : Core) (qs : List Queue) (n : ℕ) (x : 
 others_in_order book k qs n x q t ts j g s next forgotten asks was is fetch cache index =
     let h = session_at book k qs n x q t ts j g in
     let d : Seat = record h.seat { client = gone_on h.seat.client j.file next s forgotten cache index; place = Some j.place } in
-    orderly_ends book book n k.server.temps k.server.waiting q x.hung h.seat.client.next (client.calls_of h.seat.client) t ts h.seat d j asks (h.talk g.uncut).balanced g.first g.job_is (inl was) (h.orderly g.uncut) (free_on d (on j s) refl is) fetch
+    orderly_ends book book n k.server.temps k.server.waiting q x.hung h.seat.client.next_xid (client.calls_of h.seat.client) t ts h.seat d j asks (h.talk g.uncut).balanced g.first g.job_is (inl was) (h.orderly g.uncut) (free_on d (on j s) refl is) fetch
 
 pub opens_in_order : (book : Book) (k : Core) (qs : List Queue) (n : ℕ) (x : Session) (q : Queue) (t : Told) (ts : List Told) (j : Job) (g : Here book k qs n x q t ts j) (s : Stage) (next : ℕ) (forgotten : List Pending) (asks : List Ask) → stage_word j.stage ≡ words.Open → stage_word s ≡ words.Open → AllFetching asks → GoesInOrder book k qs n x q t ts j g s next forgotten asks
 opens_in_order book k qs n x q t ts j g s next forgotten asks was is fetch = others_in_order book k qs n x q t ts j g s next forgotten asks (open_no_close j.stage was) (open_no_close s is) fetch
@@ -218,9 +218,9 @@ opens_in_order book k qs n x q t ts j g s next forgotten asks was is fetch = oth
 pub record GoesOn (book : Book) (k : Core) (qs : List Queue) (n : ℕ) (x : Session) (q : Queue) (t : Told) (ts : List Told) (j : Job) (g : Here book k qs n x q t ts j) (s : Stage) (next : ℕ) (forgotten : List Pending) (asks : List Ask) : Type 0 where
   pub quiet : Quiet k n q
   pub word : stage_word s ≡ stage_word j.stage
-  pub again : Again (session_at book k qs n x q t ts j g).seat.client.next j s
+  pub again : Again (session_at book k qs n x q t ts j g).seat.client.next_xid j s
   pub moves : Moves (client.calls_of (session_at book k qs n x q t ts j g).seat.client) (client.pending_in s ++ forgotten) t asks
-  pub rising : Rising (session_at book k qs n x q t ts j g).seat.client.next asks next
+  pub rising : Rising (session_at book k qs n x q t ts j g).seat.client.next_xid asks next
   pub asked : AllAsks (IsAsked (Some (on j s))) asks
   pub fits : AllAsks (λ a. CallFits a.xid a.call) asks
   pub commits : AllAsks (IsCommit book x.closing x.cut (Some (on j s)) (session_at book k qs n x q t ts j g).contents) asks
@@ -253,15 +253,15 @@ kept_goes book k qs n x q t ts j g s next forgotten asks cache index tr seats af
     let spares : Spares x.closing None = λ p u v. nothing_there p v in
     let old_asks = subst (λ (o : Option Job). AllAsks (IsAsked o) q.ups) g.job_is talk.asked in
     let old_tolds = subst (λ (o : Option Job). AllTolds (IsAnswer book x.taken x.closing o) q.downs) g.job_is talk.answers in
-    let bound = tolds_below n k.server.waiting q x.hung h.seat.client.next (client.calls_of h.seat.client) talk.balanced in
+    let bound = tolds_below n k.server.waiting q x.hung h.seat.client.next_xid (client.calls_of h.seat.client) talk.balanced in
     let moved : IsOf more x.owner (on j s) = record { op = counting of.op tr; there = at_replaced book.ops j.place (counting of.op tr) of.op of.there; client = of.client; word = of.word ∙ sym w.word; file = λ n. of.file (naming_same s j.stage w.word n); running = of.running } in
     kept_heard book ops k qs n x q t ts c (Some j.place) asks None None seats after g.kept g.at g.is g.first g.uncut around queues (record {
       goes = goes;
       still = still_becomes book 1 None None j.place of.op (counting of.op tr) of.there (becomes_counting book x.owner j tr of g.kept.sound) g.kept.sound;
       made_here = λ p f. nothing_there p f;
       ended_here = λ p o f. nothing_there p f;
-      old_asks = all_both (λ (a : Ask). a.xid < h.seat.client.next) (IsAsked (Some j)) (IsAsked (Some (on j s))) (λ a lt old. call_anew h.seat.client.next j s a.xid a.call w.again lt old) q.ups (asks_below talk.floor q.ups h.seat.client.next talk.rising) old_asks;
-      old_tolds = (subst (AllTolds (IsAnswer more x.taken x.closing (Some (on j s)))) g.first (all_both (λ (u : Told). u.xid < h.seat.client.next) (IsAnswer book x.taken x.closing (Some j)) (IsAnswer more x.taken x.closing (Some (on j s))) (λ u lt old. answer_anew more x.taken x.closing h.seat.client.next j s u.xid u.reply w.again lt (answer_later book more None None x.taken x.closing (Some j) u goes.grows spares old)) q.downs bound old_tolds)).1;
+      old_asks = all_both (λ (a : Ask). a.xid < h.seat.client.next_xid) (IsAsked (Some j)) (IsAsked (Some (on j s))) (λ a lt old. call_anew h.seat.client.next_xid j s a.xid a.call w.again lt old) q.ups (asks_below talk.floor q.ups h.seat.client.next_xid talk.rising) old_asks;
+      old_tolds = (subst (AllTolds (IsAnswer more x.taken x.closing (Some (on j s)))) g.first (all_both (λ (u : Told). u.xid < h.seat.client.next_xid) (IsAnswer book x.taken x.closing (Some j)) (IsAnswer more x.taken x.closing (Some (on j s))) (λ u lt old. answer_anew more x.taken x.closing h.seat.client.next_xid j s u.xid u.reply w.again lt (answer_later book more None None x.taken x.closing (Some j) u goes.grows spares old)) q.downs bound old_tolds)).1;
       old_commits = no_commits more x.closing x.cut (Some (on j s)) h.contents q.ups w.quiet.ups;
       old_pending = λ i d f. nothing_there d (ap (λ (l : List Change). slice_get l i) (sym w.quiet.waiting) ∙ f);
       moves = w.moves;
@@ -285,7 +285,7 @@ kept_goes book k qs n x q t ts j g s next forgotten asks cache index tr seats af
         task = λ i f. subst (IsOf more x.owner) (some_is (on j s) i f) moved;
         trying = λ i m y f e. let same = some_is (on j s) i f in subst (λ (z : Job). Trying more z m) same (trying_later book more None None (on j s) m goes.grows (w.trying m y (ap (λ (z : Job). z.stage) same ∙ e)));
         xids = λ i f. subst (λ (z : Job). HasXids next z.stage) (some_is (on j s) i f) w.xids;
-        next = (w.bounded, let a = seat_was.next.1 in let b = rising_to h.seat.client.next asks next w.rising in omega (arith, a, b));
+        next = (w.bounded, let a = seat_was.next.1 in let b = rising_to h.seat.client.next_xid asks next w.rising in omega (arith, a, b));
         opened = λ f l e. let o = seat_was.opened f l e in (there_later book more None None f goes.grows o.0, o.1);
         kept = cached_later book more None None cache goes.grows cached;
       };
@@ -389,7 +389,7 @@ kept_stops book k qs n x q t ts j g r made opened forgotten cache index seats af
         opened = λ f l e. let o = w.opened_ok f l e in (there_later book more made (Some j.place) f goes.grows o.0, o.1);
         kept = cached;
       };
-      orderly = orderly_ends book more n k.server.temps k.server.waiting q x.hung h.seat.client.next (client.calls_of h.seat.client) t ts h.seat (record h.seat { client = c; place = None }) j [] (h.talk g.uncut).balanced g.first g.job_is w.over (h.orderly g.uncut) (none_free None refl) tt;
+      orderly = orderly_ends book more n k.server.temps k.server.waiting q x.hung h.seat.client.next_xid (client.calls_of h.seat.client) t ts h.seat (record h.seat { client = c; place = None }) j [] (h.talk g.uncut).balanced g.first g.job_is w.over (h.orderly g.uncut) (none_free None refl) tt;
       running = λ others round p o at run. elim (of_replaced book.ops j.place r p o at) [
         | inl here ↦ absurd (w.stops (ap (λ (z : Op). z.outcome) (sym here.1) ∙ run))
         | inr there ↦

@@ -172,7 +172,7 @@ kept_taken book more k qs n moment tree journal temps index x q a us r made sess
         let t : Told = record { xid = a.xid; reply = r } in
         let z : TakenCall = record { xid = a.xid; step = book.steps + 1 } in
         let finds = finds_more x.taken z in
-        let rising = subst (λ (l : List Ask). Rising talk.floor l h.seat.client.next) e talk.rising in
+        let rising = subst (λ (l : List Ask). Rising talk.floor l h.seat.client.next_xid) e talk.rising in
         let keys : told_key t ≡ ask_key a = ap (key a.xid) shows.program in
         record {
           floor = a.xid + 1;

@@ -26,7 +26,7 @@ own_of book k qs n x q t ts j g has =
     let h = session_at book k qs n x q t ts j g in
     let b = (h.talk g.uncut).balanced in
     let calls = calls_are h.seat j g.job_is in
-    let there = told_there n k.server.waiting q x.hung h.seat.client.next (client.calls_of h.seat.client) 0 t b (ap (λ (l : List Told). slice_get l 0) g.first) in
+    let there = told_there n k.server.waiting q x.hung h.seat.client.next_xid (client.calls_of h.seat.client) 0 t b (ap (λ (l : List Told). slice_get l 0) g.first) in
     own_call (client.pending_in j.stage) h.seat.client.forgotten there.0 t (ap (λ l. slice_get l there.0) (sym calls) ∙ there.1) (subst (λ l. times t.xid (map (λ (c : Pending). c.xid) l) ≤ 1) calls (b.once t.xid)) has
 
 code_is : (p : Pending) (t : Told) → p ≡ told_pending t → code_of p.program ≡ code_of (reply_program t.reply)

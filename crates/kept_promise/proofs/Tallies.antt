@@ -96,14 +96,14 @@ one_name ms xid temp c h =
     record { cond = omega (arith, a, p, n); tmp = omega (arith, b, q); read = omega (arith, d, r); data_is = omega (arith, e, s) }
 
 pub all_reads : (s : State) (file : ℕ) (f : Fetch) → AreReads (reads_of s file f).send
-all_reads s file f = reads_keep (λ r. AreReads r.send) s.cache s.index file (λ r c o h at found. by r c h o) (length f.chunks - f.asked) (reads_from f s.next) (record { cond = refl; tmp = refl; read = refl; data_is = refl })
+all_reads s file f = reads_keep (λ r. AreReads r.send) s.cache s.index file (λ r c o h at found. by r c h o) (length f.chunks - f.asked) (reads_from f s.next_xid) (record { cond = refl; tmp = refl; read = refl; data_is = refl })
   where
     by : (r : Reads) (c : Chunk) → AreReads r.send → (o : Option (List ℕ)) → AreReads (reads_chunk file r c o).send
-    by r c h None = one_read r.send r.next file c h
+    by r c h None = one_read r.send r.next_xid file c h
     by r c h (Some bytes) = h
 
 pub all_names : (st : Store) (next : ℕ) → AreNames (names_all st next).send
-all_names st next = names_keep (λ n. AreNames n.send) (λ n c h at. one_name n.send n.next n.store.temp c h) (calls_most - length st.under) (names_from st next) (record { cond = refl; tmp = refl; read = refl; data_is = refl })
+all_names st next = names_keep (λ n. AreNames n.send) (λ n c h at. one_name n.send n.next_xid n.store.temp c h) (calls_most - length st.under) (names_from st next) (record { cond = refl; tmp = refl; read = refl; data_is = refl })
 
 -- ---- an answer
 
@@ -143,13 +143,13 @@ tally_cases s calls file st x b = record {
       inl (record { cond = sym h.cond; tmp = sym h.tmp; read = sym h.read; data_is = omega (arith, a, z) });
   opens = λ f bytes now here. let z = came_now st x b f bytes now in inl (record { cond = refl; tmp = refl; read = refl; data_is = omega (arith, z) });
   names = λ w at known none is.
-      let h = all_names w s.next in
+      let h = all_names w s.next_xid in
       let a = h.data_is in
       inl (record { cond = sym h.cond; tmp = sym h.tmp; read = sym h.read; data_is = omega (arith, a, none) });
   commits = λ w at known none is.
-      let n = names_all w s.next in
-      let h = all_names w s.next in
-      let m : Message = commit_call n.next n.store.temp file (length (local_bytes s.opened file)) in
+      let n = names_all w s.next_xid in
+      let h = all_names w s.next_xid in
+      let m : Message = commit_call n.next_xid n.store.temp file (length (local_bytes s.opened file)) in
       let a = h.cond in
       let c = h.tmp in
       let d = h.read in
@@ -172,8 +172,8 @@ walk_answer s calls file y w x b = walk_cases (Tallies (bytes_came x b)) s calls
   fault = λ f bad. inr (f, refl);
   asks = λ v k.
       let z = came (walk_told_as.Asks v) k in
-      let e = call_counts s.next v in
-      let d : (sent_traffic (message.Call s.next (body.Nfs (next_call v)))).«data» ≡ 0 = ap (λ (t : Traffic). t.«data») e in
+      let e = call_counts s.next_xid v in
+      let d : (sent_traffic (message.Call s.next_xid (body.Nfs (next_call v)))).«data» ≡ 0 = ap (λ (t : Traffic). t.«data») e in
       inl (record {
         cond = sym (ap (λ (t : Traffic). (both t no_traffic).cond) e);
         tmp = sym (ap (λ (t : Traffic). (both t no_traffic).tmp) e);

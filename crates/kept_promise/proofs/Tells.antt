@@ -61,7 +61,7 @@ told_now book k qs n x q a us c j v version kept was talk e is value versions =
     let of = (kept.seats x.owner c was).task j is in
     let g = grows_same book 1 in
     let begun = (kept.sound.rights j.place of.op of.there).begun in
-    let rising = subst (λ (l : List Ask). Rising talk.floor l c.client.next) e talk.rising in
+    let rising = subst (λ (l : List Ask). Rising talk.floor l c.client.next_xid) e talk.rising in
     record {
       moment = book.steps + 1;
       was = finds_last x.taken talk.floor (record { xid = a.xid; step = book.steps + 1 }) talk.under rising.0;
@@ -115,7 +115,7 @@ tried_now : (book : Book) (k : Core) (qs : List Queue) (n : ℕ) (x : Session) (
 tried_now book k qs n x q a us c j (stage.Hashing tries y) o waits call kept was talk e is at =
     let h = (kept.seats x.owner c was).trying j tries y is at in
     let g = grows_same book 1 in
-    let rising = subst (λ (l : List Ask). Rising talk.floor l c.client.next) e talk.rising in
+    let rising = subst (λ (l : List Ask). Rising talk.floor l c.client.next_xid) e talk.rising in
     record {
       moment = book.steps + 1;
       was = finds_last x.taken talk.floor (record { xid = a.xid; step = book.steps + 1 }) talk.under rising.0;
@@ -140,7 +140,7 @@ tried_now book k qs n x q a us c j (stage.Hashing tries y) o waits call kept was
 tried_now book k qs n x q a us c j (stage.Listing y f) o waits call kept was talk e is at =
     let h = (subst (FetchOf book x.taken j) at (talk.fetch j is)).0 in
     let past = h.told.past in
-    let rising = subst (λ (l : List Ask). Rising talk.floor l c.client.next) e talk.rising in
+    let rising = subst (λ (l : List Ask). Rising talk.floor l c.client.next_xid) e talk.rising in
     record {
       began = h.told.moment;
       was = finds_more x.taken (record { xid = a.xid; step = book.steps + 1 }) f.first h.told.moment h.told.was;
@@ -161,7 +161,7 @@ directory_told book k qs n now x q a f us c j d kept was talk e is noted same th
     let of = (kept.seats x.owner c was).task j is in
     let begun = (kept.sound.rights j.place of.op of.there).begun in
     let steps = kept.steps in
-    let rising = subst (λ (l : List Ask). Rising talk.floor l c.client.next) e talk.rising in
+    let rising = subst (λ (l : List Ask). Rising talk.floor l c.client.next_xid) e talk.rising in
     inl (
       refl,
       record {
@@ -223,7 +223,7 @@ lease_told laws book k qs n now x q xid f us c kept was here talk e fits noted =
           call = (
               let of = (kept.seats x.owner c was).task j is in
               let own : client.has_call (client.pending_in j.stage) xid ≡ true = ap (λ (s : Stage). client.has_call (client.pending_in s) xid) asks ∙ ap (λ b. b || false) (eq-eqb xid xid refl) in
-              let rising = subst (λ (l : List Ask). Rising talk.floor l c.client.next) e talk.rising in
+              let rising = subst (λ (l : List Ask). Rising talk.floor l c.client.next_xid) e talk.rising in
               record {
                 moment = book.steps + 1;
                 was = finds_last x.taken talk.floor (record { xid = xid; step = book.steps + 1 }) talk.under rising.0;
@@ -300,7 +300,7 @@ pub walk_came : (book more : Book) (k : Core) (qs : List Queue) (n now : ℕ) (x
     → ((j : Job) (o : Op) → job c ≡ Some j → j.stage ≡ stage.Walking xid w → slice_get book.ops j.place ≡ Some o → (z : Op) × (slice_get more.ops j.place ≡ Some z) × (z.begin ≡ o.begin) × (z.client ≡ o.client) × WalkCame more (record { before = k; event = Serves n now (message_spell (ask_message (record { xid = xid; call = Walks w }))) }) (book.steps + 1) x.closing j z w (name_answer r))
     → AnswerOf more (with_taken x xid (book.steps + 1)) x.closing (job c) xid (Walked r)
 walk_came book more k qs n now x q xid w us c r kept was here talk e noted sent moments steps came = λ j v is at.
-    let rising = subst (λ (l : List Ask). Rising talk.floor l c.client.next) e talk.rising in
+    let rising = subst (λ (l : List Ask). Rising talk.floor l c.client.next_xid) e talk.rising in
     let same : v ≡ w = (subst (AllAsks (IsAsked (job c))) e talk.asked).0 j v is at in
     subst (λ (u : Walk). WalkTold more (with_taken x xid (book.steps + 1)) x.closing j xid u (name_answer r)) (sym same)
     (came_told book more k qs n x (with_taken x xid (book.steps + 1)) xid w c r (Serves n now (message_spell (ask_message (record { xid = xid; call = Walks w })))) kept was here noted sent moments steps j is (λ none. finds_last x.taken talk.floor (record { xid = xid; step = book.steps + 1 }) talk.under rising.0)

@@ -500,7 +500,7 @@ versions_does book more past k qs after c now d seat kept here left counted h =
     OwnJob s acts = (j : Job) (r : Op) → job_of (place_with seat.place (length k.ops) acts.ended) s.task ≡ Some j → slice_get (k.ops ++ made_by k c now d seat s acts ∷ []) j.place ≡ Some r
         → JobCame (early_of book.opening) k.steps (taken_of past) (taken_of past) k.sessions (commanded_sessions k.sessions seat.session (session_of k.sessions seat.session) seat.place (length k.ops) (word_of d) acts) k.seats k.ops (k.ops ++ made_by k c now d seat s acts ∷ []) c (record seat { client = s; place = place_with seat.place (length k.ops) acts.ended }) j r
 
-    own_job : (s : client.State) (acts : ClientStep) → IsMatched seat → ((Q : ℕ → ℕ → Type 0) (R : ℕ → Type 0) → R seat.client.next → TaskGood Q R seat.client.task → TaskGood Q R s.task) → ((t : Task) → seat.client.task ≡ Some t → s ≡ seat.client)
+    own_job : (s : client.State) (acts : ClientStep) → IsMatched seat → ((Q : ℕ → ℕ → Type 0) (R : ℕ → Type 0) → R seat.client.next_xid → TaskGood Q R seat.client.task → TaskGood Q R s.task) → ((t : Task) → seat.client.task ≡ Some t → s ≡ seat.client)
         → (j : Job) (r : Op) → job_of (place_with seat.place (length k.ops) acts.ended) s.task ≡ Some j → slice_get (k.ops ++ made_by k c now d seat s acts ∷ []) j.place ≡ Some r
         → JobCame (early_of book.opening) k.steps (taken_of past) (taken_of past) k.sessions (commanded_sessions k.sessions seat.session (session_of k.sessions seat.session) seat.place (length k.ops) (word_of d) acts) k.seats k.ops (k.ops ++ made_by k c now d seat s acts ∷ []) c (record seat { client = s; place = place_with seat.place (length k.ops) acts.ended }) j r
     own_job s acts (inl (no_place, free)) good busy j r is at = by acts.ended (subst (λ l. job_of (place_with l (length k.ops) acts.ended) s.task ≡ Some j) no_place is)
@@ -516,7 +516,7 @@ versions_does book more past k qs after c now d seat kept here left counted h =
         by None is =
             let place : length k.ops ≡ j.place = some_is (length k.ops) j.place (job_place (Some (length k.ops)) s.task j is) in
             let same : new s acts ≡ r = some_is (new s acts) r (sym (at_end k.ops (new s acts)) ∙ ap (slice_get (k.ops ++ new s acts ∷ [])) place ∙ at) in
-            let on = subst (TaskGood (Attempt (early_of book.opening) (taken_of past) all taken (new s acts)) (Untold (taken_of past) taken (new s acts))) (job_task (Some (length k.ops)) s.task j is) (good (Attempt (early_of book.opening) (taken_of past) all taken (new s acts)) (Untold (taken_of past) taken (new s acts)) (fresh s acts taken seat.client.next) (subst (TaskGood (Attempt (early_of book.opening) (taken_of past) all taken (new s acts)) (Untold (taken_of past) taken (new s acts))) (sym free) tt)) in
+            let on = subst (TaskGood (Attempt (early_of book.opening) (taken_of past) all taken (new s acts)) (Untold (taken_of past) taken (new s acts))) (job_task (Some (length k.ops)) s.task j is) (good (Attempt (early_of book.opening) (taken_of past) all taken (new s acts)) (Untold (taken_of past) taken (new s acts)) (fresh s acts taken seat.client.next_xid) (subst (TaskGood (Attempt (early_of book.opening) (taken_of past) all taken (new s acts)) (Untold (taken_of past) taken (new s acts))) (sym free) tt)) in
             inr (subst (λ (z : Op). JobVersion (early_of book.opening) (taken_of past) all taken z j.stage) same on)
     own_job s acts (inr (i, was)) good busy j r is at =
         let place = job_place seat.place seat.client.task i was in
@@ -678,8 +678,8 @@ versions_hears laws book more past k qs after n now bytes mid kept h left counte
         let talk = s.talk h.uncut in
         let answer = subst (λ z. AnswerOf book z h.session.closing (Some j) h.told.xid h.told.reply) taken_is (subst (λ z. AnswerOf book h.session.taken h.session.closing z h.told.xid h.told.reply) job_is (subst (AllTolds (IsAnswer book h.session.taken h.session.closing (job s.seat))) h.first talk.answers).0) in
         let old = before.jobs h.session.owner h.seat j o h.owner w.1 (ap (slice_get k.ops) w.2 ∙ at) in
-        let floor = rising_to talk.floor h.queue.ups s.seat.client.next talk.rising in
-        let fresh : Untold said taken o h.seat.client.next = λ q was. absurd (not_taken talk.floor h.session.taken h.seat.client.next q talk.under (subst (λ (z : Seat). talk.floor ≤ z.client.next) same_seat floor) (ap (λ l. taken_at l h.seat.client.next) taken_is ∙ was)) in
+        let floor = rising_to talk.floor h.queue.ups s.seat.client.next_xid talk.rising in
+        let fresh : Untold said taken o h.seat.client.next_xid = λ q was. absurd (not_taken talk.floor h.session.taken h.seat.client.next_xid q talk.under (subst (λ (z : Seat). talk.floor ≤ z.client.next_xid) same_seat floor) (ap (λ l. taken_at l h.seat.client.next_xid) taken_is ∙ was)) in
         good_answer (Attempt (early_of book.opening) said k.ops taken o) (Untold said taken o) h.seat.client fresh h.told.xid (reply_body h.told.reply)
         (λ free. subst (TaskGood (Attempt (early_of book.opening) said k.ops taken o) (Untold said taken o)) (sym task) (job_alike (early_of book.opening) k.steps (taken_of past) said k.ops k.ops taken taken o o j.stage counted.taken_by (alike_none (taken_of past) (all_said (k.steps + 1) h.session.owner (wanted_by h.seat.client (Ok (told_message h.told)))) o (ap (λ b. all_said (k.steps + 1) h.session.owner (wanted_if b (told_message h.told))) free)) (extends_same k.steps taken) (λ f q le. refl) old))
         (λ has. subst (λ (l : List Message). TaskTook (Attempt (early_of book.opening) (taken_of past ++ all_said (k.steps + 1) h.session.owner l) k.ops taken o) h.seat.client.task h.told.xid (reply_body h.told.reply)) (sym (ap (λ b. wanted_if b (told_message h.told)) has))

@@ -143,7 +143,7 @@ kept_coming book k qs n now x q a us temps d sessions after g comes around queue
             let talk = h.talk uncut in
             let z : TakenCall = record { xid = a.xid; step = book.steps + 1 } in
             let finds = finds_more x.taken z in
-            let rising = subst (λ (l : List Ask). Rising talk.floor l c.client.next) g.first talk.rising in
+            let rising = subst (λ (l : List Ask). Rising talk.floor l c.client.next_xid) g.first talk.rising in
             record {
               floor = a.xid + 1;
               under = under_more talk.floor x.taken z talk.under rising.0;

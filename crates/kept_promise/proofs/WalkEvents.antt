@@ -367,7 +367,7 @@ walk_begun all s c None e none u at o n begin file pointless word = by (may_walk
     plain _ = (file, pointless)
 
     by : (b : Bool) → (walks_if s (begun c) b).0.task ≡ Some u → OnWay all c o u.stage n
-    by true at = subst (λ (z : Task). OnWay all c o z.stage n) (some_is (record { file = 0; stage = stage.Walking s.next (begun c) }) u at) (o.begin, walk_begins (bare all) o.begin c, omega (arith, begin), plain c, word)
+    by true at = subst (λ (z : Task). OnWay all c o z.stage n) (some_is (record { file = 0; stage = stage.Walking s.next_xid (begun c) }) u at) (o.begin, walk_begins (bare all) o.begin c, omega (arith, begin), plain c, word)
     by false at = nothing_there u (sym none ∙ at)
 
 command_begins : (all : List Moment) (s : client.State) (d : Command) (now : ℕ) → s.task ≡ None → (u : Task) → (command_step s d now).0.task ≡ Some u → (o : Op) (n : ℕ) → n ≡ o.begin → o.file ≡ file_of d → o.point ≡ None → o.word ≡ word_of d → IsOn all d o u.stage n

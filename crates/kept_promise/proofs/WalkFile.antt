@@ -106,7 +106,7 @@ FiledOn n file p log x b r = (IsFault r.1.ended → ⊥) → n.file ≡ file_wit
 pub walk_filed : (n : Op) (file : ℕ) (p : Part) (log : List Deal) (was : ℕ) (s : client.State) (calls : List Pending) (task y : ℕ) (w : Walk) (x : ℕ) (b : Body) → x ≡ y → IsUnder p log was (stage.Walking y w) → FiledOn n file p log x b (took s calls task (stage.Walking y w) x b)
 walk_filed n file p log was s calls task y w x b same h = walk_cases (FiledOn n file p log x b) s calls task y w x b (record {
   fault = λ f bad no is un. absurd (no (f, refl));
-  asks = λ v k no is un. filed_more n p log was y w h (Took (message.Answer x b) ∷ Sent (message.Call s.next (body.Nfs (next_call v))) ∷ []) (takes (λ (m : Deal). HasWalkFile n (waits y w) (m ∷ Sent (message.Call s.next (body.Nfs (next_call v))) ∷ [])) k (told_filed n w k.answer y (Sent (message.Call s.next (body.Nfs (next_call v))) ∷ []) (leading.Asks v) (told_by k) (un refl refl)));
+  asks = λ v k no is un. filed_more n p log was y w h (Took (message.Answer x b) ∷ Sent (message.Call s.next_xid (body.Nfs (next_call v))) ∷ []) (takes (λ (m : Deal). HasWalkFile n (waits y w) (m ∷ Sent (message.Call s.next_xid (body.Nfs (next_call v))) ∷ [])) k (told_filed n w k.answer y (Sent (message.Call s.next_xid (body.Nfs (next_call v))) ∷ []) (leading.Asks v) (told_by k) (un refl refl)));
   open_already = λ id k already no is un. filed_more n p log was y w h (Took (message.Answer x b) ∷ []) (takes (λ (m : Deal). HasWalkFile n (waits y w) (m ∷ [])) k (told_filed n w k.answer y [] (leading.Finds id) (told_by k) is));
   fetches = λ id k shut none no is un. filed_more n p log was y w h (Took (message.Answer x b) ∷ map Sent (asks_kept (fronts s id) id None).1.send) (takes (λ (m : Deal). HasWalkFile n (waits y w) (m ∷ map Sent (asks_kept (fronts s id) id None).1.send)) k (told_filed n w k.answer y (map Sent (asks_kept (fronts s id) id None).1.send) (leading.Finds id) (told_by k) is));
   leases = λ id c k shut there no is un. filed_more n p log was y w h (Took (message.Answer x b) ∷ map Sent (asks_kept (fronts s id) id (Some c)).1.send) (takes (λ (m : Deal). HasWalkFile n (waits y w) (m ∷ map Sent (asks_kept (fronts s id) id (Some c)).1.send)) k (told_filed n w k.answer y (map Sent (asks_kept (fronts s id) id (Some c)).1.send) (leading.Finds id) (told_by k) is));

@@ -68,7 +68,7 @@ pub record FindsOn (book : Book) (k : Core) (qs : List Queue) (n : ℕ) (x : Ses
   pub was : stage_word j.stage ≡ words.Open
   pub word : stage_word s ≡ words.Open
   pub none : commits_in (a ∷ []) ≡ 0
-  pub first : First (session_at book k qs n x q t ts j g).seat.client.next s a
+  pub first : First (session_at book k qs n x q t ts j g).seat.client.next_xid s a
   pub moves : Moves (client.calls_of (session_at book k qs n x q t ts j g).seat.client) (client.pending_in s ++ (session_at book k qs n x q t ts j g).seat.client.forgotten) t (a ∷ [])
   pub asked : IsAsked (Some (of_file j id s)) a
   pub fits : CallFits a.xid a.call
@@ -78,18 +78,18 @@ pub record FindsOn (book : Book) (k : Core) (qs : List Queue) (n : ℕ) (x : Ses
   pub fetch : (more : Book) → FetchOf more x.taken (of_file j id s) s
   pub closes : (more : Book) → CloseOf more x.closing (session_at book k qs n x q t ts j g).contents (session_at book k qs n x q t ts j g).seat.client.next_temp (of_file j id s) (client.local_bytes (session_at book k qs n x q t ts j g).seat.client.opened id) s
   pub tries : (m y : ℕ) → s ≡ stage.Hashing m y → m ≡ 1
-  pub xids : HasXids ((session_at book k qs n x q t ts j g).seat.client.next + 1) s
-  pub bounded : (session_at book k qs n x q t ts j g).seat.client.next + 1 ≤ 4294967296
+  pub xids : HasXids ((session_at book k qs n x q t ts j g).seat.client.next_xid + 1) s
+  pub bounded : (session_at book k qs n x q t ts j g).seat.client.next_xid + 1 ≤ 4294967296
 
 pub kept_finds : (book : Book) (k : Core) (qs : List Queue) (n : ℕ) (x : Session) (q : Queue) (t : Told) (ts : List Told) (j : Job) (g : Here book k qs n x q t ts j) (id : ℕ) (s : Stage) (a : Ask) (cache : Entries) (tr : Traffic) (seats : List Seat) (after : List Queue) → FindsOn book k qs n x q t ts j g id s a → Cached book cache
     → (let h = session_at book k qs n x q t ts j g in
-    let c = gone_on h.seat.client id (h.seat.client.next + 1) s h.seat.client.forgotten cache h.seat.client.index in
+    let c = gone_on h.seat.client id (h.seat.client.next_xid + 1) s h.seat.client.forgotten cache h.seat.client.index in
     let of = job_op book k qs x h.seat j g.kept h.owner g.job_is in
     let ops = slice_set book.ops j.place (finding_op of.op tr id) in
     Around k.seats seats x.owner (record h.seat { client = c; place = Some j.place }) → Around qs after n (put_up q x.hung (a ∷ []) ts) → IsKept (onward book 1 ops) (turned_core (onward book 1 ops) k.server seats k.sessions) after)
 kept_finds book k qs n x q t ts j g id s a cache tr seats after w cached around queues =
     let h = session_at book k qs n x q t ts j g in
-    let c = gone_on h.seat.client id (h.seat.client.next + 1) s h.seat.client.forgotten cache h.seat.client.index in
+    let c = gone_on h.seat.client id (h.seat.client.next_xid + 1) s h.seat.client.forgotten cache h.seat.client.index in
     let of = job_op book k qs x h.seat j g.kept h.owner g.job_is in
     let r = finding_op of.op tr id in
     let ops = slice_set book.ops j.place r in
@@ -101,15 +101,15 @@ kept_finds book k qs n x q t ts j g id s a cache tr seats after w cached around 
     let goes = goes_becomes book 1 None (Some j.place) j.place of.op r of.there became (right_finding book more of.op tr id (of.word ∙ w.was) right of.running (omega arith)) g.kept.sound in
     let talk = h.talk g.uncut in
     let seat_was = g.kept.seats x.owner h.seat h.owner in
-    let bound = tolds_below n k.server.waiting q x.hung h.seat.client.next (client.calls_of h.seat.client) talk.balanced in
+    let bound = tolds_below n k.server.waiting q x.hung h.seat.client.next_xid (client.calls_of h.seat.client) talk.balanced in
     let moved : IsOf more x.owner i = record { op = r; there = at_replaced book.ops j.place r of.op of.there; client = of.client; word = of.word ∙ w.was ∙ sym w.word; file = λ n. refl; running = of.running } in
     kept_heard book ops k qs n x q t ts c (Some j.place) (a ∷ []) None (Some j.place) seats after g.kept g.at g.is g.first g.uncut around queues (record {
       goes = goes;
       still = still_becomes book 1 None (Some j.place) j.place of.op r of.there became g.kept.sound;
       made_here = λ p f. nothing_there p f;
       ended_here = λ p o e there. ap (λ (z : Op). z.client) (some_is o of.op (sym there ∙ ap (slice_get book.ops) (sym (some_is j.place p e)) ∙ of.there)) ∙ of.client;
-      old_asks = all_map (λ (v : Ask). v.xid < h.seat.client.next) (IsAsked (Some i)) (λ v lt. call_first h.seat.client.next i s a w.first refl v.xid v.call lt) q.ups (asks_below talk.floor q.ups h.seat.client.next talk.rising);
-      old_tolds = (subst (AllTolds (IsAnswer more x.taken x.closing (Some i))) g.first (all_map (λ (v : Told). v.xid < h.seat.client.next) (IsAnswer more x.taken x.closing (Some i)) (λ v lt. answer_first more x.taken x.closing h.seat.client.next i s a w.first refl v.xid v.reply lt) q.downs bound)).1;
+      old_asks = all_map (λ (v : Ask). v.xid < h.seat.client.next_xid) (IsAsked (Some i)) (λ v lt. call_first h.seat.client.next_xid i s a w.first refl v.xid v.call lt) q.ups (asks_below talk.floor q.ups h.seat.client.next_xid talk.rising);
+      old_tolds = (subst (AllTolds (IsAnswer more x.taken x.closing (Some i))) g.first (all_map (λ (v : Told). v.xid < h.seat.client.next_xid) (IsAnswer more x.taken x.closing (Some i)) (λ v lt. answer_first more x.taken x.closing h.seat.client.next_xid i s a w.first refl v.xid v.reply lt) q.downs bound)).1;
       old_commits = no_commits more x.closing x.cut (Some i) h.contents q.ups w.quiet.ups;
       old_pending = λ m z f. nothing_there z (ap (λ (l : List Change). slice_get l m) (sym w.quiet.waiting) ∙ f);
       moves = w.moves;
@@ -132,12 +132,12 @@ kept_finds book k qs n x q t ts j g id s a cache tr seats after w cached around 
         matched = inr (i, refl);
         task = λ m f. subst (IsOf more x.owner) (some_is i m f) moved;
         trying = λ v m y f e. let same = some_is i v f in subst (λ (z : Job). Trying more z m) same (let one = w.tries m y (ap (λ (z : Job). z.stage) same ∙ e) in record { op = r; there = at_replaced book.ops j.place r of.op of.there; count = 0; tries_is = one; tried = let b = right.begun in omega (arith, b) });
-        xids = λ m f. subst (λ (z : Job). HasXids (h.seat.client.next + 1) z.stage) (some_is i m f) w.xids;
+        xids = λ m f. subst (λ (z : Job). HasXids (h.seat.client.next_xid + 1) z.stage) (some_is i m f) w.xids;
         next = (w.bounded, let b = seat_was.next.1 in omega (arith, b));
         opened = λ f l e. let o = seat_was.opened f l e in (there_later book more None (Some j.place) f goes.grows o.0, o.1);
         kept = cached_later book more None (Some j.place) cache goes.grows cached;
       };
-      orderly = orderly_ends book more n k.server.temps k.server.waiting q x.hung h.seat.client.next (client.calls_of h.seat.client) t ts h.seat d j (a ∷ []) talk.balanced g.first g.job_is (inl (open_no_close j.stage w.was)) (h.orderly g.uncut) (free_on d i refl (open_no_close s w.word)) w.fetching;
+      orderly = orderly_ends book more n k.server.temps k.server.waiting q x.hung h.seat.client.next_xid (client.calls_of h.seat.client) t ts h.seat d j (a ∷ []) talk.balanced g.first g.job_is (inl (open_no_close j.stage w.was)) (h.orderly g.uncut) (free_on d i refl (open_no_close s w.word)) w.fetching;
       running = λ others round p o at run. elim (of_replaced book.ops j.place r p o at) [
         | inl here ↦ (d, i, ap (λ (z : Op). numbered others z.client) here.1 ∙ ap (numbered others) of.client ∙ round.there, refl, sym here.0)
         | inr there ↦

@@ -25,7 +25,7 @@ EndsNeither None = Unit {0}
 EndsNeither (Some e) = IsNeither e.outcome
 
 abbrev pub IsWalkLeft : client.State → client.State × ClientStep → Type 0
-IsWalkLeft s r = (r.0.next ≤ s.next + calls_most) × (r.0.opened ≡ s.opened) × EndsNeither r.1.ended
+IsWalkLeft s r = (r.0.next_xid ≤ s.next_xid + calls_most) × (r.0.opened ≡ s.opened) × EndsNeither r.1.ended
 
 -- ---- an answer
 

@@ -218,19 +218,19 @@ pub walk_said : (p : Part) (log : List Deal) (file : ℕ) (s : client.State) (ca
 walk_said p log file s calls task y w x b same h = walk_cases (SaidBy p log file x b) s calls task y w x b (record {
   fault = λ f bad no. absurd (no (f, refl));
   asks = λ v k no. record {
-    stage = λ u running is. subst (λ (t : Task). IsUnder p (log ++ Took (message.Answer x b) ∷ Sent (message.Call s.next (body.Nfs (next_call v))) ∷ []) file t.stage) (some_is (record { file = 0; stage = stage.Walking s.next v }) u is) (under_more p log file y w h (Took (message.Answer x b) ∷ Sent (message.Call s.next (body.Nfs (next_call v))) ∷ []) file (stage.Walking s.next v) (takes (λ (m : Deal). IsUnder (waits y w) (m ∷ Sent (message.Call s.next (body.Nfs (next_call v))) ∷ []) file (stage.Walking s.next v)) k (told_to w k.answer y file (Sent (message.Call s.next (body.Nfs (next_call v))) ∷ []) (stage.Walking s.next v) (leading.Asks v) (its k) (told_by k) (refl, refl))));
-    each = over_more told.Running p log file y w h (Took (message.Answer x b) ∷ Sent (message.Call s.next (body.Nfs (next_call v))) ∷ []) (takes (λ (m : Deal). IsWalk told.Running (waits y w) (m ∷ Sent (message.Call s.next (body.Nfs (next_call v))) ∷ [])) k (told_walk told.Running w k.answer y (Sent (message.Call s.next (body.Nfs (next_call v))) ∷ []) (leading.Asks v) (told_by k) (refl, inl refl)));
+    stage = λ u running is. subst (λ (t : Task). IsUnder p (log ++ Took (message.Answer x b) ∷ Sent (message.Call s.next_xid (body.Nfs (next_call v))) ∷ []) file t.stage) (some_is (record { file = 0; stage = stage.Walking s.next_xid v }) u is) (under_more p log file y w h (Took (message.Answer x b) ∷ Sent (message.Call s.next_xid (body.Nfs (next_call v))) ∷ []) file (stage.Walking s.next_xid v) (takes (λ (m : Deal). IsUnder (waits y w) (m ∷ Sent (message.Call s.next_xid (body.Nfs (next_call v))) ∷ []) file (stage.Walking s.next_xid v)) k (told_to w k.answer y file (Sent (message.Call s.next_xid (body.Nfs (next_call v))) ∷ []) (stage.Walking s.next_xid v) (leading.Asks v) (its k) (told_by k) (refl, refl))));
+    each = over_more told.Running p log file y w h (Took (message.Answer x b) ∷ Sent (message.Call s.next_xid (body.Nfs (next_call v))) ∷ []) (takes (λ (m : Deal). IsWalk told.Running (waits y w) (m ∷ Sent (message.Call s.next_xid (body.Nfs (next_call v))) ∷ [])) k (told_walk told.Running w k.answer y (Sent (message.Call s.next_xid (body.Nfs (next_call v))) ∷ []) (leading.Asks v) (told_by k) (refl, inl refl)));
   };
   open_already = λ id k is no. record {
     stage = λ u running. nothing_there _ (sym running);
     each = over_more told.AlreadyOpen p log file y w h (Took (message.Answer x b) ∷ []) (takes (λ (m : Deal). IsWalk told.AlreadyOpen (waits y w) (m ∷ [])) k (told_walk told.AlreadyOpen w k.answer y [] (leading.Finds id) (told_by k) tt));
   };
   fetches = λ id k shut none no. record {
-    stage = λ u running is. subst (λ (t : Task). IsUnder p (log ++ Took (message.Answer x b) ∷ map Sent (asks_kept (fronts s id) id None).1.send) id t.stage) (some_is (record { file = id; stage = stage.Hashing 1 s.next }) u is) (under_more p log file y w h (Took (message.Answer x b) ∷ map Sent (asks_kept (fronts s id) id None).1.send) id (stage.Hashing 1 s.next) (takes (λ (m : Deal). IsUnder (waits y w) (m ∷ map Sent (asks_kept (fronts s id) id None).1.send) id (stage.Hashing 1 s.next)) k (told_to w k.answer y id (map Sent (asks_kept (fronts s id) id None).1.send) (stage.Hashing 1 s.next) (leading.Finds id) (its k) (told_by k) (refl, (refl, tt), tt, refl))));
+    stage = λ u running is. subst (λ (t : Task). IsUnder p (log ++ Took (message.Answer x b) ∷ map Sent (asks_kept (fronts s id) id None).1.send) id t.stage) (some_is (record { file = id; stage = stage.Hashing 1 s.next_xid }) u is) (under_more p log file y w h (Took (message.Answer x b) ∷ map Sent (asks_kept (fronts s id) id None).1.send) id (stage.Hashing 1 s.next_xid) (takes (λ (m : Deal). IsUnder (waits y w) (m ∷ map Sent (asks_kept (fronts s id) id None).1.send) id (stage.Hashing 1 s.next_xid)) k (told_to w k.answer y id (map Sent (asks_kept (fronts s id) id None).1.send) (stage.Hashing 1 s.next_xid) (leading.Finds id) (its k) (told_by k) (refl, (refl, tt), tt, refl))));
     each = over_more told.Running p log file y w h (Took (message.Answer x b) ∷ map Sent (asks_kept (fronts s id) id None).1.send) (takes (λ (m : Deal). IsWalk told.Running (waits y w) (m ∷ map Sent (asks_kept (fronts s id) id None).1.send)) k (told_walk told.Running w k.answer y (map Sent (asks_kept (fronts s id) id None).1.send) (leading.Finds id) (told_by k) (refl, tt)));
   };
   leases = λ id c k shut there no. record {
-    stage = λ u running is. subst (λ (t : Task). IsUnder p (log ++ Took (message.Answer x b) ∷ map Sent (asks_kept (fronts s id) id (Some c)).1.send) id t.stage) (some_is (record { file = id; stage = stage.Asking s.next }) u is) (under_more p log file y w h (Took (message.Answer x b) ∷ map Sent (asks_kept (fronts s id) id (Some c)).1.send) id (stage.Asking s.next) (takes (λ (m : Deal). IsUnder (waits y w) (m ∷ map Sent (asks_kept (fronts s id) id (Some c)).1.send) id (stage.Asking s.next)) k (told_to w k.answer y id (map Sent (asks_kept (fronts s id) id (Some c)).1.send) (stage.Asking s.next) (leading.Finds id) (its k) (told_by k) (refl, (refl, tt), tt, refl))));
+    stage = λ u running is. subst (λ (t : Task). IsUnder p (log ++ Took (message.Answer x b) ∷ map Sent (asks_kept (fronts s id) id (Some c)).1.send) id t.stage) (some_is (record { file = id; stage = stage.Asking s.next_xid }) u is) (under_more p log file y w h (Took (message.Answer x b) ∷ map Sent (asks_kept (fronts s id) id (Some c)).1.send) id (stage.Asking s.next_xid) (takes (λ (m : Deal). IsUnder (waits y w) (m ∷ map Sent (asks_kept (fronts s id) id (Some c)).1.send) id (stage.Asking s.next_xid)) k (told_to w k.answer y id (map Sent (asks_kept (fronts s id) id (Some c)).1.send) (stage.Asking s.next_xid) (leading.Finds id) (its k) (told_by k) (refl, (refl, tt), tt, refl))));
     each = over_more told.Running p log file y w h (Took (message.Answer x b) ∷ map Sent (asks_kept (fronts s id) id (Some c)).1.send) (takes (λ (m : Deal). IsWalk told.Running (waits y w) (m ∷ map Sent (asks_kept (fronts s id) id (Some c)).1.send)) k (told_walk told.Running w k.answer y (map Sent (asks_kept (fronts s id) id (Some c)).1.send) (leading.Finds id) (told_by k) (refl, tt)));
   };
   ends = λ v e k is no. record {
@@ -337,11 +337,11 @@ file_none s calls file st x b of = took_cases (λ found r. SendsNone (map Sent r
   lists = λ f g is at told far. tt;
   reads = λ f bytes now here. own_none words.Open file [] (map Sent (reads_of s file f).send) (reads_own s file [] f);
   opens = λ f bytes now here. tt;
-  names = λ w at known none is. own_none words.Close file (client.local_bytes s.opened file) (map Sent (names_all w s.next).send) (names_own file (client.local_bytes s.opened file) w s.next).0;
+  names = λ w at known none is. own_none words.Close file (client.local_bytes s.opened file) (map Sent (names_all w s.next_xid).send) (names_own file (client.local_bytes s.opened file) w s.next_xid).0;
   commits = λ w at known none is.
-      let n = names_all w s.next in
-      let commit : Message = commit_call n.next n.store.temp file (length (client.local_bytes s.opened file)) in
-      own_none words.Close file (client.local_bytes s.opened file) (map Sent (n.send ++ commit ∷ [])) (subst (AreOwn words.Close file (client.local_bytes s.opened file)) (sym (sent_more n.send commit)) (own_join words.Close file (client.local_bytes s.opened file) (map Sent n.send) (Sent commit ∷ []) (names_own file (client.local_bytes s.opened file) w s.next).0 ((refl, refl), tt)));
+      let n = names_all w s.next_xid in
+      let commit : Message = commit_call n.next_xid n.store.temp file (length (client.local_bytes s.opened file)) in
+      own_none words.Close file (client.local_bytes s.opened file) (map Sent (n.send ++ commit ∷ [])) (subst (AreOwn words.Close file (client.local_bytes s.opened file)) (sym (sent_more n.send commit)) (own_join words.Close file (client.local_bytes s.opened file) (map Sent n.send) (Sent commit ∷ []) (names_own file (client.local_bytes s.opened file) w s.next_xid).0 ((refl, refl), tt)));
   whole = λ old c k at unknown none found name chunk. tt;
 })
   where

@@ -338,15 +338,15 @@ module _ (all : List Moment) (book : Book) (are : book.moments ≡ all) (order :
   refusal s calls false e is = record { way = λ none u at. some_none _ none; ends = λ z at. refused_as c (become (walked s calls x false (leading.Ends (walk_end.Refused e)))) (status_number e) (bare_file c refl) (refused_is (become (walked s calls x false (leading.Ends (walk_end.Refused e)))) e refl refl refl is) (refused_pointless c refl word e is (walked s calls x false (leading.Ends (walk_end.Refused e))) refl refl) (named e is) }
 
   asks_on : (s : client.State) (calls : List Pending) (l : Bool) (k : PathCommand) (v : Walk) → o.word ≡ path_word k → IsBare k o → HasWalk (bare all) o.begin k v (step_of h.at) → Comes s calls l k (leading.Asks v)
-  asks_on s calls l k v w plain has = record { way = λ none u at. subst (λ (t : Task). OnWay all k (become (walked s calls x l (leading.Asks v))) t.stage now) (some_is (record { file = 0; stage = stage.Walking s.next v }) u at) (step_of h.at, has, at_le, bare_same k o (become (walked s calls x l (leading.Asks v))) refl refl plain, w); ends = λ e at. none_some e at }
+  asks_on s calls l k v w plain has = record { way = λ none u at. subst (λ (t : Task). OnWay all k (become (walked s calls x l (leading.Asks v))) t.stage now) (some_is (record { file = 0; stage = stage.Walking s.next_xid v }) u at) (step_of h.at, has, at_le, bare_same k o (become (walked s calls x l (leading.Asks v))) refl refl plain, w); ends = λ e at. none_some e at }
 
   finds_of : (s : client.State) (calls : List Pending) (spot : Spot) (id : ℕ) → o.word ≡ words.Open → o.point ≡ None → Leads (bare all) o.begin ROOT (all_names spot) id (step_of h.at) → (is_open : Bool) → (let r = finds_if s calls x id is_open in Onward all (path.Find spot) r (op_after o r.0 taken now r.1) now)
   finds_of s calls spot id w pointless leads true = record { way = λ none u at. some_none _ none; ends = λ e at. inl (record { step = step_of h.at; found = leads; inside = inside (become (finds_if s calls x id true)) refl o.begin begun }, λ is. ap (λ (z : Word). point_if (has_point z outcome.AlreadyOpen) taken 0 o.point) w ∙ pointless, tt) }
   finds_of s calls spot id w pointless leads false = by (content_of s.cache id)
     where
       by : (kept : Option Content) → (let r = finding id (asks_kept (record s { cache = reserved s.cache id }) id kept) in Onward all (path.Find spot) r (op_after o r.0 taken now r.1) now)
-      by None = record { way = λ none u at. subst (λ (t : Task). OnWay all (path.Find spot) (become (finding id (asks_kept (record s { cache = reserved s.cache id }) id None))) t.stage now) (some_is (record { file = id; stage = stage.Hashing 1 s.next }) u at) ((spot, refl, (step_of h.at, leads, at_le)), pointless, w); ends = λ e at. none_some e at }
-      by (Some kept) = record { way = λ none u at. subst (λ (t : Task). OnWay all (path.Find spot) (become (finding id (asks_kept (record s { cache = reserved s.cache id }) id (Some kept)))) t.stage now) (some_is (record { file = id; stage = stage.Asking s.next }) u at) ((spot, refl, (step_of h.at, leads, at_le)), pointless, w); ends = λ e at. none_some e at }
+      by None = record { way = λ none u at. subst (λ (t : Task). OnWay all (path.Find spot) (become (finding id (asks_kept (record s { cache = reserved s.cache id }) id None))) t.stage now) (some_is (record { file = id; stage = stage.Hashing 1 s.next_xid }) u at) ((spot, refl, (step_of h.at, leads, at_le)), pointless, w); ends = λ e at. none_some e at }
+      by (Some kept) = record { way = λ none u at. subst (λ (t : Task). OnWay all (path.Find spot) (become (finding id (asks_kept (record s { cache = reserved s.cache id }) id (Some kept)))) t.stage now) (some_is (record { file = id; stage = stage.Asking s.next_xid }) u at) ((spot, refl, (step_of h.at, leads, at_le)), pointless, w); ends = λ e at. none_some e at }
 
   ends_by : (s : client.State) (calls : List Pending) (k : PathCommand) → o.word ≡ path_word k → IsBare k o → HasWalk (bare all) o.begin k w step → (t : Leading) → WalkEnds (bare all) o.begin step h.at k w t → Comes s calls (is_look w.goal) k t
   ends_by s calls (path.Find spot) wd plain has t (found, is, leads) = subst (Comes s calls (is_look w.goal) (path.Find spot)) (sym is) (finds_of s calls spot found.id wd plain.1 leads (is_open s.opened found.id))

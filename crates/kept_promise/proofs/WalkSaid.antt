@@ -369,7 +369,7 @@ walk_first s c (Some t) e none u at file = nothing_there t (sym none ∙ sym e)
 walk_first s c None e none u at file = by (may_walk s (begun c)) at
   where
     by : (b : Bool) → (walks_if s (begun c) b).0.task ≡ Some u → IsUnder (asks (begun c)) (map Sent (walks_if s (begun c) b).1.send) file u.stage
-    by true at = subst (λ (z : Task). IsUnder (asks (begun c)) (map Sent (walks_if s (begun c) true).1.send) file z.stage) (some_is (record { file = 0; stage = stage.Walking s.next (begun c) }) u at) (first_said s.next (begun c) file)
+    by true at = subst (λ (z : Task). IsUnder (asks (begun c)) (map Sent (walks_if s (begun c) true).1.send) file z.stage) (some_is (record { file = 0; stage = stage.Walking s.next_xid (begun c) }) u at) (first_said s.next_xid (begun c) file)
     by false at = nothing_there u (sym none ∙ at)
 
 command_first : (s : client.State) (d : Command) (now : ℕ) → s.task ≡ None → (u : Task) → (command_step s d now).0.task ≡ Some u → (file : ℕ) → IsSaid d (map Sent (command_step s d now).1.send) file u.stage

@@ -230,8 +230,8 @@ module _ (book : Book) (k : Core) (qs : List Queue) (n : ℕ) (x : Session) (q :
       program_of [] = reply_program t.reply
       program_of (p ∷ ps) = p.program
 
-  xids : HasXids c.next (stage.Walking t.xid w)
-  xids = subst (HasXids c.next) at ((g.kept.seats x.owner h.seat h.owner).xids j g.job_is)
+  xids : HasXids c.next_xid (stage.Walking t.xid w)
+  xids = subst (HasXids c.next_xid) at ((g.kept.seats x.owner h.seat h.owner).xids j g.job_is)
 
   op_file : of.op.word ≡ words.Open → of.op.file ≡ 0
   op_file e = of.file (ap is_naming at ∙ ap changes (sym word_is ∙ sym of.word ∙ e)) ∙ fact.0
@@ -299,13 +299,13 @@ module _ (book : Book) (k : Core) (qs : List Queue) (n : ℕ) (x : Session) (q :
 
   goes_on : (v : Walk) → IsWalkSmall v → walk_calls v + 1 ≤ walk_calls w → goal_word v.goal ≡ goal_word w.goal → (changes (goal_word v.goal) ≡ true → makes_later w.left w.goal ≡ true) → Leads_to book k qs n x q t ts j g (asks_next (idle c) v)
   goes_on v small less same later =
-      let s = stage.Walking c.next v in
-      let a : Ask = record { xid = c.next; call = Walks v } in
+      let s = stage.Walking c.next_xid v in
+      let a : Ask = record { xid = c.next_xid; call = Walks v } in
       let next = (g.kept.seats x.owner h.seat h.owner).next.0 in
       let room = xids in
       leads_goes book k qs n x q t ts j g (asks_next (idle c) v).0 (asks_next (idle c) v).1 refl (record {
         to = s;
-        next = c.next + 1;
+        next = c.next_xid + 1;
         forgotten = c.forgotten;
         cache = c.cache;
         index = c.index;
@@ -317,12 +317,12 @@ module _ (book : Book) (k : Core) (qs : List Queue) (n : ℕ) (x : Session) (q :
             lease = λ y lt e. absurd cc;
             hash = λ y o lt e. nothing_there o e;
             commit = λ y lt e. absurd cc;
-            walk = λ y u lt e. (let z = xid_is c.next y v u e in omega (arith, z, lt));
+            walk = λ y u lt e. (let z = xid_is c.next_xid y v u e in omega (arith, z, lt));
             read = λ y d f lt e. absurd cc;
           };
           moves = moves s a refl;
           rising = (omega arith, omega arith);
-          asked = (λ i u e f. sym (walk_is c.next c.next v u (ap (λ (z : Job). z.stage) (some_is (on j s) i e) ∙ f)), tt);
+          asked = (λ i u e f. sym (walk_is c.next_xid c.next_xid v u (ap (λ (z : Job). z.stage) (some_is (on j s) i e) ∙ f)), tt);
           fits = ((omega (arith, room, less), small), tt);
           commits = ((λ making. let o = owed (later (creates_changes v.left v.goal making)) in record { place = j.place; known = o.known; op = o.op; there = o.there; unmade = o.unmade; word_is = o.word_is ∙ sym same; file_is = o.file_is; waited = λ u. ap (λ (z : ℕ). Some (record { place = j.place; file = z; stage = s })) fact.0 }), tt);
           pieces = (tt, tt);
@@ -334,10 +334,10 @@ module _ (book : Book) (k : Core) (qs : List Queue) (n : ℕ) (x : Session) (q :
           trying = λ m y e. absurd cc;
           xids = omega (arith, room, less);
           bounded = omega (arith, room, less);
-          orderly = others_in_order book k qs n x q t ts j g s (c.next + 1) c.forgotten (a ∷ []) word.0 (goal_not_close v.goal) (tt, tt);
+          orderly = others_in_order book k qs n x q t ts j g s (c.next_xid + 1) c.forgotten (a ∷ []) word.0 (goal_not_close v.goal) (tt, tt);
         };
         cached = (g.kept.seats x.owner h.seat h.owner).kept;
-        state_is = ap (λ (z : ℕ). record c { next = c.next + 1; task = Some (record { file = z; stage = s }) }) (sym fact.0);
+        state_is = ap (λ (z : ℕ). record c { next_xid = c.next_xid + 1; task = Some (record { file = z; stage = s }) }) (sym fact.0);
         send_is = refl;
         ended_is = refl;
       })
@@ -558,9 +558,9 @@ module _ (book : Book) (k : Core) (qs : List Queue) (n : ℕ) (x : Session) (q :
 
   -- ---- a file was found
 
-  finds_on : (id : ℕ) (s : Stage) (a : Ask) (acts : ClientStep) → FindsOn book k qs n x q t ts j g id s a → acts.found ≡ Some id → acts.ended ≡ None → acts.send ≡ map ask_message (a ∷ []) → Leads_to book k qs n x q t ts j g (record c { cache = reserved c.cache id; next = c.next + 1; task = Some (record { file = id; stage = s }) }, acts)
+  finds_on : (id : ℕ) (s : Stage) (a : Ask) (acts : ClientStep) → FindsOn book k qs n x q t ts j g id s a → acts.found ≡ Some id → acts.ended ≡ None → acts.send ≡ map ask_message (a ∷ []) → Leads_to book k qs n x q t ts j g (record c { cache = reserved c.cache id; next_xid = c.next_xid + 1; task = Some (record { file = id; stage = s }) }, acts)
   finds_on id s a acts shows found ended send =
-      let state = record c { cache = reserved c.cache id; next = c.next + 1; task = Some (record { file = id; stage = s }) } in
+      let state = record c { cache = reserved c.cache id; next_xid = c.next_xid + 1; task = Some (record { file = id; stage = s }) } in
       let tr = counted of.op.traffic acts.counts in
       let op_is : op_after of.op state x.taken (book.steps + 1) acts ≡ finding_op of.op tr id =
       ap (λ (z : Option ℕ). op_ended (record of.op { file = file_with of.op.file z; traffic = tr }) state x.taken (book.steps + 1) acts.ended) found
@@ -570,9 +570,9 @@ module _ (book : Book) (k : Core) (qs : List Queue) (n : ℕ) (x : Session) (q :
       (ops_now book x.owner h.seat j of state x.taken acts g.job_is ∙ ap (slice_set book.ops j.place) op_is) send
       (λ seats after around queues. kept_finds book k qs n x q t ts j g id s a (reserved c.cache id) tr seats after shows (cached_reserved book c.cache id (g.kept.seats x.owner h.seat h.owner).kept) around queues)
 
-  fetches_on : (id : ℕ) → id < 18446744073709551616 → goal_word w.goal ≡ words.Open → 380002 ≤ walk_calls w → FindsOn book k qs n x q t ts j g id (stage.Hashing 1 c.next) (record { xid = c.next; call = Hash id 0 })
+  fetches_on : (id : ℕ) → id < 18446744073709551616 → goal_word w.goal ≡ words.Open → 380002 ≤ walk_calls w → FindsOn book k qs n x q t ts j g id (stage.Hashing 1 c.next_xid) (record { xid = c.next_xid; call = Hash id 0 })
   fetches_on id small opens room =
-      let first = hash_first c.next id in
+      let first = hash_first c.next_xid id in
       let has = xids in
       record {
         quiet = quiet;
@@ -580,8 +580,8 @@ module _ (book : Book) (k : Core) (qs : List Queue) (n : ℕ) (x : Session) (q :
         word = refl;
         none = omega arith;
         first = first;
-        moves = moves (stage.Hashing 1 c.next) (record { xid = c.next; call = Hash id 0 }) first.pending;
-        asked = λ i o e w. (ap (λ (z : Job). z.file) (sym (some_is (of_file j id (stage.Hashing 1 c.next)) i e)), sym (some_is 0 o (sym (ap (λ b. cond b (Some 0) None) (eq-eqb c.next c.next refl)) ∙ ap (λ (z : Job). hash_offset z.stage c.next) (some_is (of_file j id (stage.Hashing 1 c.next)) i e) ∙ w)));
+        moves = moves (stage.Hashing 1 c.next_xid) (record { xid = c.next_xid; call = Hash id 0 }) first.pending;
+        asked = λ i o e w. (ap (λ (z : Job). z.file) (sym (some_is (of_file j id (stage.Hashing 1 c.next_xid)) i e)), sym (some_is 0 o (sym (ap (λ b. cond b (Some 0) None) (eq-eqb c.next_xid c.next_xid refl)) ∙ ap (λ (z : Job). hash_offset z.stage c.next_xid) (some_is (of_file j id (stage.Hashing 1 c.next_xid)) i e) ∙ w)));
         fits = (omega (arith, has, room), small, omega arith);
         piece = tt;
         under = tt;
@@ -593,16 +593,16 @@ module _ (book : Book) (k : Core) (qs : List Queue) (n : ℕ) (x : Session) (q :
         bounded = omega (arith, has, room);
       }
     where
-      tries_are : (m y : ℕ) → stage.Hashing 1 c.next ≡ stage.Hashing m y → 1 ≡ m
+      tries_are : (m y : ℕ) → stage.Hashing 1 c.next_xid ≡ stage.Hashing m y → 1 ≡ m
       tries_are m y e = ap tries_of e
         where
           tries_of : Stage → ℕ
           tries_of (stage.Hashing n z) = n
           tries_of s = 0
 
-  leases_on : (id : ℕ) → id < 18446744073709551616 → goal_word w.goal ≡ words.Open → 380002 ≤ walk_calls w → FindsOn book k qs n x q t ts j g id (stage.Asking c.next) (record { xid = c.next; call = Lease id })
+  leases_on : (id : ℕ) → id < 18446744073709551616 → goal_word w.goal ≡ words.Open → 380002 ≤ walk_calls w → FindsOn book k qs n x q t ts j g id (stage.Asking c.next_xid) (record { xid = c.next_xid; call = Lease id })
   leases_on id small opens room =
-      let first = lease_first c.next id in
+      let first = lease_first c.next_xid id in
       let has = xids in
       record {
         quiet = quiet;
@@ -610,8 +610,8 @@ module _ (book : Book) (k : Core) (qs : List Queue) (n : ℕ) (x : Session) (q :
         word = refl;
         none = omega arith;
         first = first;
-        moves = moves (stage.Asking c.next) (record { xid = c.next; call = Lease id }) first.pending;
-        asked = λ i e w. ap (λ (z : Job). z.file) (sym (some_is (of_file j id (stage.Asking c.next)) i e));
+        moves = moves (stage.Asking c.next_xid) (record { xid = c.next_xid; call = Lease id }) first.pending;
+        asked = λ i e w. ap (λ (z : Job). z.file) (sym (some_is (of_file j id (stage.Asking c.next_xid)) i e));
         fits = (omega (arith, has, room), small);
         piece = tt;
         under = tt;
@@ -672,7 +672,7 @@ module _ (book : Book) (k : Core) (qs : List Queue) (n : ℕ) (x : Session) (q :
     fault = λ f bad. absurd (sound bad);
     asks = λ v k. asks_as v (its_told k.asked k.walk k.answer (leading.Asks v) k.stage_is k.body_is k.told_is) step;
     open_already = λ id k is. already id (finds_as id (its_told k.asked k.walk k.answer (leading.Finds id) k.stage_is k.body_is k.told_is) step).1;
-    fetches = λ id k shut none. (let f = finds_as id (its_told k.asked k.walk k.answer (leading.Finds id) k.stage_is k.body_is k.told_is) step in finds_on id (stage.Hashing 1 c.next) (record { xid = c.next; call = Hash id 0 }) (finding id (asks_kept (record (idle c) { cache = reserved c.cache id }) id None)).1 (fetches_on id f.0 f.1 f.2) refl refl refl);
-    leases = λ id v k shut some. (let f = finds_as id (its_told k.asked k.walk k.answer (leading.Finds id) k.stage_is k.body_is k.told_is) step in finds_on id (stage.Asking c.next) (record { xid = c.next; call = Lease id }) (finding id (asks_kept (record (idle c) { cache = reserved c.cache id }) id (Some v))).1 (leases_on id f.0 f.1 f.2) refl refl refl);
+    fetches = λ id k shut none. (let f = finds_as id (its_told k.asked k.walk k.answer (leading.Finds id) k.stage_is k.body_is k.told_is) step in finds_on id (stage.Hashing 1 c.next_xid) (record { xid = c.next_xid; call = Hash id 0 }) (finding id (asks_kept (record (idle c) { cache = reserved c.cache id }) id None)).1 (fetches_on id f.0 f.1 f.2) refl refl refl);
+    leases = λ id v k shut some. (let f = finds_as id (its_told k.asked k.walk k.answer (leading.Finds id) k.stage_is k.body_is k.told_is) step in finds_on id (stage.Asking c.next_xid) (record { xid = c.next_xid; call = Lease id }) (finding id (asks_kept (record (idle c) { cache = reserved c.cache id }) id (Some v))).1 (leases_on id f.0 f.1 f.2) refl refl refl);
     ends = λ v e b same. subst (λ (z : Walk). Leads_to book k qs n x q t ts j g (forgets_of (idle c) (client.calls_of c) t.xid, record (ends (outcome_of e) t.xid 0) { found = seen_in (is_look z.goal) e })) (walk_is t.xid b.asked w b.walk b.stage_is ∙ same) (let told = its_told b.asked b.walk b.answer (leading.Ends e) b.stage_is b.body_is b.told_is in ends_in e told (ends_as e told step));
   })

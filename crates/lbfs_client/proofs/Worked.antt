@@ -69,7 +69,7 @@ joined_row = refl
 -- ---- with a connection, and an open file
 
 abbrev open_file : State
-open_file = record start { linked = true; next = 5; opened = (2, record { version = 1; bytes = codes "xyzw" }) ∷ [] }
+open_file = record start { linked = true; next_xid = 5; opened = (2, record { version = 1; bytes = codes "xyzw" }) ∷ [] }
 
 abbrev content : List Part
 content = part.Bytes (codes "abc") ∷ []

@@ -131,7 +131,7 @@ abbrev fetch_in : (tries : ℕ) → Fetch
 fetch_in tries = record { tries = tries; first = 4; version = 5; size = 3; chunks = chunks; slots = None ∷ None ∷ []; asked = 2; under = record { xid = 5; index = 0 } ∷ record { xid = 6; index = 1 } ∷ [] }
 
 abbrev fetching : (tries : ℕ) → State
-fetching tries = record (joined start) { next = 7; task = Some (record { file = 2; stage = stage.Reading (fetch_in tries) }) }
+fetching tries = record (joined start) { next_xid = 7; task = Some (record { file = 2; stage = stage.Reading (fetch_in tries) }) }
 
 -- the answers come in any order, and bytes that fit are taken of any version
 any_order : steps (fetching 3) (bytes_are 6 9 (codes "c") ∷ bytes_are 5 5 (codes "ab") ∷ []) ≡ (sends_reads [] 1 ∷ ends (outcome.Opened 2 3 (sha1 (codes "abc"))) 4 2 ∷ [])
@@ -142,7 +142,7 @@ any_order = refl
 ended_attempt : steps (fetching 3) (bytes_are 5 9 (codes "x") ∷ bytes_are 6 5 (codes "c") ∷ bytes_are 6 5 (codes "c") ∷ []) ≡ (sends_one (hash_call 7 2 0) 1 ∷ nothing_done ∷ ends (outcome.BadPeer (bad.UnknownXid 6)) 0 0 ∷ [])
 ended_attempt = refl
 
-ended_state : after (fetching 3) (bytes_are 5 9 (codes "x") ∷ []) ≡ record (fetching 3) { next = 8; task = Some (record { file = 2; stage = stage.Hashing 4 7 }); forgotten = read_pending (record { xid = 6; index = 1 }) ∷ [] }
+ended_state : after (fetching 3) (bytes_are 5 9 (codes "x") ∷ []) ≡ record (fetching 3) { next_xid = 8; task = Some (record { file = 2; stage = stage.Hashing 4 7 }); forgotten = read_pending (record { xid = 6; index = 1 }) ∷ [] }
 ended_state = refl
 
 -- the fourth attempt is the last
@@ -163,7 +163,7 @@ two_versions = refl
 refused_one : steps (fetching 1) (Gets (message.Answer 5 (body.Nfs (nfs.ReadAnswer (Failed status.Stale None)))) ∷ Gets (message.Refuse 6 refusal.SystemErr) ∷ []) ≡ (ends (outcome.Refused status.Stale) 5 0 ∷ nothing_done ∷ [])
 refused_one = refl
 
-cut_one : after (fetching 3) (bytes_are 5 9 (codes "x") ∷ Cut ∷ []) ≡ record start { next = 8 }
+cut_one : after (fetching 3) (bytes_are 5 9 (codes "x") ∷ Cut ∷ []) ≡ record start { next_xid = 8 }
 cut_one = refl
 
 -- ---- closes
@@ -314,7 +314,7 @@ abbrev finds : (id : ℕ) → ClientStep → ClientStep
 finds id a = record a { found = Some id }
 
 abbrev walking : (xid : ℕ) → Walk → State
-walking xid w = record (joined start) { next = xid + 1; task = Some (record { file = 0; stage = stage.Walking xid w }) }
+walking xid w = record (joined start) { next_xid = xid + 1; task = Some (record { file = 0; stage = stage.Walking xid w }) }
 
 -- each name is looked up in the one before it, and the file of the last is fetched as one of its id
 opens_path : steps (joined start) (named (path.Find (below (codes "f"))) ∷ found_is 1 2 ∷ found_is 2 5 ∷ hashes_are 3 1 0 [] true ∷ []) ≡ (calls 1 (nfs.Lookup (place 1 (codes "d"))) ∷ calls 2 (nfs.Lookup (place 2 (codes "f"))) ∷ finds 5 (sends_one (hash_call 3 5 0) 0) ∷ ends (outcome.Opened 5 0 (sha1 [])) 3 0 ∷ [])
@@ -367,5 +367,5 @@ lost_names : steps (joined start) (named (path.List (codes "d" ∷ [])) ∷ Cut 
 lost_names = refl
 
 -- it begins only where 1,000,000 xids are left, and as many as it may need
-few_xids : steps (record (joined start) { next = 4293967297 }) (named path.LookRoot ∷ []) ≡ (ends outcome.NoLink 0 0 ∷ [])
+few_xids : steps (record (joined start) { next_xid = 4293967297 }) (named path.LookRoot ∷ []) ≡ (ends outcome.NoLink 0 0 ∷ [])
 few_xids = refl

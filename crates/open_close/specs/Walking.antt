@@ -31,7 +31,7 @@ use Rattle.file_open.specs.Fetching.{asks_file}
 
 -- the next call of a walk goes out; no file is known yet
 abbrev pub asks_next : State → Walk → State × ClientStep
-asks_next s w = (record s { next = s.next + 1; task = Some (record { file = 0; stage = stage.Walking s.next w }) }, sends_one (message.Call s.next (body.Nfs (next_call w))) 0)
+asks_next s w = (record s { next_xid = s.next_xid + 1; task = Some (record { file = 0; stage = stage.Walking s.next_xid w }) }, sends_one (message.Call s.next_xid (body.Nfs (next_call w))) 0)
 
 abbrev pub walks_if : State → Walk → (may_walk : Bool) → State × ClientStep
 walks_if s w true = asks_next s w

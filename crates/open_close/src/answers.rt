@@ -30,7 +30,7 @@ pub fn took_lease(
 ) -> Result<ClientStep, AllocError>
     requires held { IsHeld state.old }
     requires there { IsThere state.old.cache file }
-    requires xids { HasXids state.old.next (stage.Asking 0) }
+    requires xids { HasXids state.old.next_xid (stage.Asking 0) }
     ensures ok { IfOk result (λ a. took (state_of state.old) state.old.waiting.calls file (stage.Asking 0) xid body.now ≡ (state_of state.new, a)) }
     ensures done { IfOk result (λ a. a.missed ≡ false) }
     ensures err { OnErr result (whole_of state.new ≡ whole_of state.old) }
@@ -59,7 +59,7 @@ pub fn took_first(
     requires held { IsHeld state.old }
     requires there { IsThere state.old.cache file }
     requires tries { tries ≤ tries_most }
-    requires xids { HasXids state.old.next (stage.Hashing tries 0) }
+    requires xids { HasXids state.old.next_xid (stage.Hashing tries 0) }
     ensures ok { IfOk result (λ a. Comes state.old.index (entering_by (state_of state.old) (with_file file (reading_by (stage.Hashing tries 0) xid body.now))) (took (state_of state.old) state.old.waiting.calls file (stage.Hashing tries 0) xid body.now) (state_of state.new) a) }
     ensures err { OnErr result (whole_of state.new ≡ whole_of state.old) }
     ensures sound { OnOk result (IsSound state.new) }
@@ -89,7 +89,7 @@ pub fn took_piece(
     requires held { IsHeld state.old }
     requires there { IsThere state.old.cache file }
     requires within { IsListing fetch }
-    requires xids { HasXids state.old.next (stage.Listing 0 fetch) }
+    requires xids { HasXids state.old.next_xid (stage.Listing 0 fetch) }
     ensures ok { IfOk result (λ a. Comes state.old.index (entering_by (state_of state.old) (with_file file (reading_by (stage.Listing 0 fetch) xid body.now))) (took (state_of state.old) state.old.waiting.calls file (stage.Listing 0 fetch) xid body.now) (state_of state.new) a) }
     ensures err { OnErr result (whole_of state.new ≡ whole_of state.old) }
     ensures sound { OnOk result (IsSound state.new) }
@@ -116,7 +116,7 @@ pub fn took_bytes(
     requires held { IsHeld state.old }
     requires there { IsThere state.old.cache file }
     requires within { IsReading fetch }
-    requires xids { HasXids state.old.next (stage.Reading fetch) }
+    requires xids { HasXids state.old.next_xid (stage.Reading fetch) }
     ensures ok { IfOk result (λ a. Comes state.old.index (entering_by (state_of state.old) (with_file file (reading_by (stage.Reading fetch) xid body.old))) (took (state_of state.old) state.old.waiting.calls file (stage.Reading fetch) xid body.old) (state_of state.new) a) }
     ensures err { OnErr result (whole_of state.new ≡ whole_of state.old) }
     ensures sound { OnOk result (IsSound state.new) }
@@ -144,7 +144,7 @@ pub fn took_temp(
     body: &Body,
 ) -> Result<ClientStep, AllocError>
     requires held { IsHeld state.old }
-    requires xids { HasXids state.old.next (stage.Making 0 temp) }
+    requires xids { HasXids state.old.next_xid (stage.Making 0 temp) }
     ensures ok { IfOk result (λ a. took (state_of state.old) state.old.waiting.calls file (stage.Making 0 temp) xid body.now ≡ (state_of state.new, a)) }
     ensures done { IfOk result (λ a. a.missed ≡ false) }
     ensures err { OnErr result (whole_of state.new ≡ whole_of state.old) }
@@ -172,7 +172,7 @@ pub fn took_stored(
 ) -> Result<ClientStep, AllocError>
     requires held { IsHeld state.old }
     requires within { IsStore store }
-    requires xids { HasXids state.old.next (stage.Storing store) }
+    requires xids { HasXids state.old.next_xid (stage.Storing store) }
     ensures ok { IfOk result (λ a. took (state_of state.old) state.old.waiting.calls file (stage.Storing store) xid body.now ≡ (state_of state.new, a)) }
     ensures done { IfOk result (λ a. a.missed ≡ false) }
     ensures err { OnErr result (whole_of state.new ≡ whole_of state.old) }

@@ -76,7 +76,7 @@ impl Client {
         Ok(Client {
             state: ClientState {
                 linked: false,
-                next: 1,
+                next_xid: 1,
                 next_temp: 1,
                 opened: BTreeMap::new(alloc),
                 task: None,

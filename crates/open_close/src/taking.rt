@@ -79,7 +79,7 @@ fn took(
     body: &mut Body,
 ) -> Result<ClientStep, AllocError>
     requires held { IsHeld state.old }
-    requires xids { HasXids state.old.next task.stage }
+    requires xids { HasXids state.old.next_xid task.stage }
     requires within { IsWithin task.stage }
     requires there { StageIsThere state.old.cache task.file task.stage }
     ensures ok { IfOk result (λ a. Comes state.old.index (entering_by (state_of state.old) (with_file task.file (reading_by task.stage xid body.old))) (took (state_of state.old) state.old.waiting.calls task.file task.stage xid body.old) (state_of state.new) a) }
@@ -115,7 +115,7 @@ fn take_own(
     mut body: Body,
 ) -> Result<ClientStep, AllocError>
     requires held { IsHeld state.old }
-    requires xids { HasXids state.old.next task.stage }
+    requires xids { HasXids state.old.next_xid task.stage }
     requires within { IsWithin task.stage }
     requires there { StageIsThere state.old.cache task.file task.stage }
     ensures ok { IfOk result (λ a. Comes state.old.index (entering_by (state_of state.old) (with_file task.file (reading_by task.stage xid body))) (took (state_of state.old) state.old.waiting.calls task.file task.stage xid body) (state_of state.new) a) }

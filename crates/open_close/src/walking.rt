@@ -23,14 +23,14 @@ use wire::message::{Body, Message};
 /// The next call of a walk goes out. An `Err` changes nothing.
 fn ask_next(alloc: Global, state: &mut ClientState, walk: Walk) -> Result<ClientStep, AllocError>
     requires held { IsHeld state.old }
-    requires xids { HasXids (state.old.next + 1) (stage.Walking 0 walk) }
+    requires xids { HasXids (state.old.next_xid + 1) (stage.Walking 0 walk) }
     ensures ok { IfOk result (λ a. asks_next (state_of state.old) walk ≡ (state_of state.new, a)) }
     ensures done { IfOk result (λ a. a.missed ≡ false) }
     ensures err { OnErr result (whole_of state.new ≡ whole_of state.old) }
     ensures sound { OnOk result (IsSound state.new) }
     ensures held { OnErr result (IsHeld state.new) }
 {
-    let xid = state.next;
+    let xid = state.next_xid;
     let call = walk.next_call(alloc)?;
     state.wait(alloc, 0, Stage::Walking { xid, walk }, xid + 1)?;
     Ok(parts::sends_one(alloc, Message::Call(xid, Body::Nfs(call)), 0))
@@ -78,7 +78,7 @@ fn found(
     id: u64,
 ) -> Result<ClientStep, AllocError>
     requires held { IsHeld state.old }
-    requires xids { HasXids (state.old.next + 1) (stage.Asking 0) }
+    requires xids { HasXids (state.old.next_xid + 1) (stage.Asking 0) }
     ensures ok { IfOk result (λ a. finds_if (state_of state.old) state.old.waiting.calls xid id (is_open state.old.opened.entries id) ≡ (state_of state.new, a)) }
     ensures done { IfOk result (λ a. a.missed ≡ false) }
     ensures err { OnErr result (whole_of state.new ≡ whole_of state.old) }
@@ -159,7 +159,7 @@ fn walked(
     told: Told,
 ) -> Result<ClientStep, AllocError>
     requires held { IsHeld state.old }
-    requires xids { HasXidsFor state.old.next told }
+    requires xids { HasXidsFor state.old.next_xid told }
     ensures ok { IfOk result (λ a. walked (state_of state.old) state.old.waiting.calls xid looks told ≡ (state_of state.new, a)) }
     ensures done { IfOk result (λ a. a.missed ≡ false) }
     ensures err { OnErr result (whole_of state.new ≡ whole_of state.old) }
@@ -189,7 +189,7 @@ pub fn took_walk(
     body: &Body,
 ) -> Result<ClientStep, AllocError>
     requires held { IsHeld state.old }
-    requires xids { HasXids state.old.next (stage.Walking 0 walk) }
+    requires xids { HasXids state.old.next_xid (stage.Walking 0 walk) }
     ensures ok { IfOk result (λ a. took (state_of state.old) state.old.waiting.calls _file (stage.Walking 0 walk) xid body.now ≡ (state_of state.new, a)) }
     ensures done { IfOk result (λ a. a.missed ≡ false) }
     ensures err { OnErr result (whole_of state.new ≡ whole_of state.old) }

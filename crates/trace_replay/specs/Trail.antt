@@ -278,7 +278,7 @@ given_of cache index (c ∷ cs) = given_if (is_some (from_index cache index c)) 
 -- of those that are looked up in an attempt as it goes on
 abbrev pub given_in : State → Option (ℕ × Fetch) → List (ℕ × ℕ)
 given_in s None = []
-given_in s (Some p) = given_of s.cache s.index (looked_up p.1 (reads_all s.cache s.index p.0 p.1 s.next))
+given_in s (Some p) = given_of s.cache s.index (looked_up p.1 (reads_all s.cache s.index p.0 p.1 s.next_xid))
 
 abbrev pub given_by_message : State → Result Message WireFault → List (ℕ × ℕ)
 given_by_message s (Ok m) = given_in s (reading s.task m)

@@ -13,7 +13,7 @@ loop-i-preserved c =
     let e : c.name_next.new.names ≡ names_next n (slice_get n.store.chunks n.store.named) = c.in-Ok.ensures in
     record {
       same = ap (λ (x : Names). names_more (room - (i + 1)) x) e ∙ (names_step n room i c.loop-i-test.true ∙ c.loop-i.invariant.same);
-      kept = subst (λ (x : Names). IsSendingNames c.args.store.named c.args.next x) (sym e) (names_kept c.args.store.named c.args.next n c.loop-i.invariant.kept);
+      kept = subst (λ (x : Names). IsSendingNames c.args.store.named c.args.next_xid x) (sym e) (names_kept c.args.store.named c.args.next_xid n c.loop-i.invariant.kept);
     }
 
 pub returns-clause-all : goal.returns-clause-all

@@ -6,5 +6,5 @@ use Rattle.file_close.proofs.closing.send_whole.Goals as goal
 
 pub wait-requires-clause-xids : goal.wait-requires-clause-xids
 wait-requires-clause-xids c =
-    let next = c.args.state.now.next in
+    let next = c.args.state.now.next_xid in
     subst (λ (st : Store). next + 1 + store_left st < 4294967296) (sym c.in_ok-store.ensures) (whole_xids c.args.store c.args.call next next c.requires.xids)

@@ -10,11 +10,11 @@ use Rattle.file_open.proofs.calls.read_all.Goals as goal
 pub loop-i-init : goal.loop-i-init
 loop-i-init c =
     let f = c.args.fetch in
-    let reads : List Message → Reads = λ send. record { fetch = f; next = c.args.next; send = send } in
+    let reads : List Message → Reads = λ send. record { fetch = f; next_xid = c.args.next_xid; send = send } in
     let left : (c.len.result - f.asked) - 0 ≡ length f.chunks - f.asked = omega (arith, c.len.ensures) in
     record {
       same = ap (λ (ms : List Message). reads_more ((c.len.result - f.asked) - 0) c.args.cache.now c.args.index.now c.args.file (reads ms)) c.none.ensures ∙ ap (λ (n : ℕ). reads_more n c.args.cache.now c.args.index.now c.args.file (reads [])) left;
-      sending = subst (λ (ms : List Message). IsSendingReads f c.args.next (reads ms)) (sym c.none.ensures) (sending_first f c.args.next c.requires.within c.requires.xids);
+      sending = subst (λ (ms : List Message). IsSendingReads f c.args.next_xid (reads ms)) (sym c.none.ensures) (sending_first f c.args.next_xid c.requires.within c.requires.xids);
     }
 
 pub loop-i-preserved : goal.loop-i-preserved
@@ -28,7 +28,7 @@ loop-i-preserved c =
     let e : c.read_next.new.reads ≡ reads_next cache index c.args.file r (slice_get r.fetch.chunks r.fetch.asked) = c.in-Ok.ensures in
     record {
       same = ap (λ (x : Reads). reads_more (left - (i + 1)) cache index c.args.file x) e ∙ (reads_step cache index c.args.file r left i c.loop-i-test.true room ∙ c.loop-i.invariant.same);
-      sending = subst (λ (x : Reads). IsSendingReads c.args.fetch c.args.next x) (sym e) (reads_kept cache index c.args.file c.args.fetch c.args.next r c.loop-i.invariant.sending);
+      sending = subst (λ (x : Reads). IsSendingReads c.args.fetch c.args.next_xid x) (sym e) (reads_kept cache index c.args.file c.args.fetch c.args.next_xid r c.loop-i.invariant.sending);
     }
 
 pub returns-then-not-has_room-clause-all : goal.returns-then-not-has_room-clause-all

@@ -18,14 +18,14 @@ read_on-requires-clause-within c =
 
 pub read_on-requires-clause-xids : goal.read_on-requires-clause-xids
 read_on-requires-clause-xids c =
-    let next = c.args.state.now.next in
+    let next = c.args.state.now.next_xid in
     subst (λ (f : Fetch). HasXids next (stage.Reading f)) (sym c.in_ok-whole.ensures) (subst (λ (f : Fetch). HasXids next (stage.Reading f)) (sym c.in_ok-fetch.ensures) (read_xids c.args.fetch c.args.hashes.now next c.requires.within c.requires.can c.requires.xids))
 
 pub list_on-requires-clause-within : goal.list_on-requires-clause-within
 list_on-requires-clause-within c = subst IsListing (sym c.in_ok-fetch.ensures) (goes_on c.args.fetch c.args.hashes.now c.requires.within c.requires.can c.if-hashes.false)
 
 pub list_on-requires-clause-xids : goal.list_on-requires-clause-xids
-list_on-requires-clause-xids c = subst (λ (f : Fetch). HasXids (c.args.state.now.next + 1) (stage.Listing 0 f)) (sym c.in_ok-fetch.ensures) (more_xids c.args.fetch c.args.hashes.now c.args.state.now.next c.requires.within c.requires.can c.if-hashes.false c.requires.xids)
+list_on-requires-clause-xids c = subst (λ (f : Fetch). HasXids (c.args.state.now.next_xid + 1) (stage.Listing 0 f)) (sym c.in_ok-fetch.ensures) (more_xids c.args.fetch c.args.hashes.now c.args.state.now.next_xid c.requires.within c.requires.can c.if-hashes.false c.requires.xids)
 
 pub returns-else-hashes-clause-ok : goal.returns-else-hashes-clause-ok
 returns-else-hashes-clause-ok c =

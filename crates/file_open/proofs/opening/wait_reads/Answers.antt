@@ -17,5 +17,5 @@ returns-clause-ok c =
     let s = c.args.state.now in
     let r = c.args.reads in
     let looked = take (r.fetch.asked - c.args.from) (drop c.args.from r.fetch.chunks) in
-    let after : Indexed → State = λ i. record (state_of s) { next = r.next; task = Some (record { file = c.args.file; stage = stage.Reading r.fetch }); index = i } in
+    let after : Indexed → State = λ i. record (state_of s) { next_xid = r.next_xid; task = Some (record { file = c.args.file; stage = stage.Reading r.fetch }); index = i } in
     sym (ap (λ (t : State). (t, c.sends_reads.result)) (c.set_waiting.ensures.rest ∙ ap after c.find_asked.ensures) ∙ ap (λ (a : ClientStep). (after (found_all s.index looked), a)) c.sends_reads.ensures)

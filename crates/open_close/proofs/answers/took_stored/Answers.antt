@@ -8,4 +8,4 @@ use Rattle.open_close.proofs.answers.took_stored.Goals as goal
 
 pub told_chunk-requires-clause-xids : goal.told_chunk-requires-clause-xids
 told_chunk-requires-clause-xids c =
-    subst (λ (st : Store). c.args.state.now.next + store_left st + calls_after c.in-Some.call.way < 4294967296) (sym c.answered-store.ensures) (calls_after_answer c.args.store c.args.state.now.next c.args.xid c.in-Some.call (ap (λ (us : List StoreCall). store_at us c.args.xid) (sym c.as_slice.ensures) ∙ sym c.in-Some.ensures) c.requires.xids)
+    subst (λ (st : Store). c.args.state.now.next_xid + store_left st + calls_after c.in-Some.call.way < 4294967296) (sym c.answered-store.ensures) (calls_after_answer c.args.store c.args.state.now.next_xid c.args.xid c.in-Some.call (ap (λ (us : List StoreCall). store_at us c.args.xid) (sym c.as_slice.ensures) ∙ sym c.in-Some.ensures) c.requires.xids)

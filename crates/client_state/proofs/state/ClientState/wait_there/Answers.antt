@@ -17,4 +17,4 @@ set_waiting-requires-clause-there c = entry_there c.reserve.new.self c.args.file
 
 pub returns-in-Ok-reserve-clause-ok : goal.returns-in-Ok-reserve-clause-ok
 returns-in-Ok-reserve-clause-ok c =
-    c.set_waiting.ensures.rest ∙ ap (λ (es : Entries). record (state_of c.args.self.now) { next = c.args.next; task = Some (record { file = c.args.file; stage = c.args.stage }); cache = es }) c.in-Ok-reserve.ensures.ok
+    c.set_waiting.ensures.rest ∙ ap (λ (es : Entries). record (state_of c.args.self.now) { next_xid = c.args.next_xid; task = Some (record { file = c.args.file; stage = c.args.stage }); cache = es }) c.in-Ok-reserve.ensures.ok
