@@ -6,4 +6,4 @@ use Rattle.lbfs_client.proofs.Leadings.{receives_is}
 use Rattle.lbfs_client.proofs.walking.receive.Goals as goal
 
 pub returns : goal.returns
-returns g c = IfOk-weaker c.hear.result _ _ (λ said p. receives_is _ _ _ _ _ _ (c.in_ok-message.ensures ∙ ap (λ (w : Waiting). parse_of w c.args.bytes.now) c.waiting.ensures) p) c.hear.ensures
+returns g c = IfOk-weaker c.hear.result _ _ (λ said p. receives_is _ _ _ _ _ _ (c.in_ok-message.ensures.told ∙ ap (λ (w : Waiting). parse_of w c.args.bytes.now) c.waiting.ensures) p) c.hear.ensures
