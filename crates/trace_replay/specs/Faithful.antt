@@ -160,12 +160,12 @@ IsKind w k = ⊥
 abbrev pub left_by : Op → List ℕ
 left_by o = unwrap_or (value_from o.word o.value) []
 
--- the changes of files in the server's journal are those of the operations that have a point as a change, one for one and in order
 -- An entry of this step tells a change: that of an operation whose point it is, of its file, with what that left of it, in the version after that
 -- of the file before.
 abbrev pub Tells : Book → (step : ℕ) → Entry → Type 0
 Tells book p e = (k : ℕ) × (o : Op) × (slice_get book.ops k ≡ Some o) × IsKind o.word e.kind × (o.point ≡ Some p) × (o.file ≡ e.file) × (length (left_by o) ≡ e.len) × Or book (sha1 (left_by o) ≡ e.sha1) × (e.version ≡ version_at book e.file p + 1)
 
+-- the changes of files in the server's journal are those of the operations that have a point as a change, one for one and in order
 pub record HasJournal (book : Book) : Type 0 where
   -- each entry has its step, and the steps rise; of the entries of one step one at most is of a file
   pub count : length book.entries ≡ length book.journal

@@ -1,5 +1,5 @@
 -- What the replay of a trace answers, and what is promised of its history.
-use Rattle.std.specs.Prelude.{true, false, ◌≡◌, ℕ, ◌+◌, ◌⊎◌, List, ◌++◌, length, All, Result, Ok, Err, Option, Some, None, slice_get}
+use Rattle.std.specs.Prelude.{[], true, false, ◌≡◌, ℕ, ◌+◌, ◌⊎◌, List, ◌++◌, length, All, Result, Ok, Err, Option, Some, None, slice_get}
 use Rattle.rpc_record.specs.Records.{Unread}
 use Rattle.wire.specs.Message.{MessageFits, message_spell}
 use Rattle.wire.specs.Parse.{parse_of}

@@ -1,6 +1,6 @@
 -- Worked traces: which events and commands their lines tell, how their steps and the calls of a connection count, which numbers calls have, which messages
 -- begin an attempt, what attempts read and which versions they met, what a close names and sends whole, and which close has a value.
-use Rattle.std.specs.Prelude.{◌≡◌, ℕ, ◌<◌, List, [], ◌∷◌, ◌++◌, map, Bool, true, false, Some, codes, refl}
+use Rattle.std.specs.Prelude.{◌≡◌, ℕ, ◌<◌, List, [], ◌∷◌, ◌++◌, map, Bool, true, false, Some, None, codes, refl}
 use Rattle.std.proofs.Common.{arith, ap}
 use Rattle.chunk_cut.specs.declared.chunk.Chunk.{Chunk}
 use Rattle.command_text.specs.Parts.{lines_of}

@@ -25,7 +25,7 @@ pub enum TraceErr {
 }
 
 /// The refusal of the line of this number.
-pub fn refused(line: u64, fault: LineFault) -> TraceErr
+pub fn refusal(line: u64, fault: LineFault) -> TraceErr
     ensures { result ≡ errors.Refused (record { line = line; fault = fault }) }
 {
     TraceErr::Refused(Refused { line, fault })

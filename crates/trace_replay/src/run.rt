@@ -6,7 +6,7 @@ ghost use Rattle.trace_replay.specs.Timed.{accepted};
 ghost use Rattle.trace_replay.specs.Lines.{applied_from, AreApplied, ComesTo};
 ghost use Rattle.trace_replay.specs.Traces.{Gives};
 
-use crate::fault::{TraceErr, refused};
+use crate::fault::{TraceErr, refusal};
 use crate::world::World;
 use command_text::line_err::LineErr;
 use command_text::parts::first_line;
@@ -27,7 +27,7 @@ pub fn run_lines(alloc: Global, world: &mut World, first: u64, text: &[u8]) -> R
     'lines: while let Some((line, left)) = first_line(rest) {
         let line = match Line::read(alloc, line) {
             Ok(line) => line,
-            Err(LineErr::BadLine) => return Err(refused(number, LineFault::Grammar)),
+            Err(LineErr::BadLine) => return Err(refusal(number, LineFault::Grammar)),
             Err(LineErr::Memory) => return Err(TraceErr::Memory),
         };
         world.apply(alloc, number, line)?;
@@ -46,7 +46,7 @@ pub fn run(alloc: Global, input: &[u8]) -> Result<World, TraceErr>
     let mut world = World::new(alloc)?;
     let next = run_lines(alloc, &mut world, 1, input)?;
     if world.in_header() {
-        return Err(refused(next, LineFault::Grammar));
+        return Err(refusal(next, LineFault::Grammar));
     }
     Ok(world)
 }

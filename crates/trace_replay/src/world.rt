@@ -8,7 +8,7 @@ ghost use Rattle.trace_replay.specs.World.{history_of};
 ghost use Rattle.trace_replay.specs.Run.{in_header};
 ghost use Rattle.trace_replay.specs.Turns.{IsApplied, IsRefused};
 
-use crate::fault::{TraceErr, refused};
+use crate::fault::{TraceErr, refusal};
 use crate::stage::Stage;
 use crate::state::WorldState;
 use crate::timing::{Times, timing_of};
@@ -71,13 +71,13 @@ impl World {
         let timing = timing_of(&self.state.core.sessions, &line);
         let turn = match asked(&self.state, number, line) {
             Ok(turn) => turn,
-            Err(fault) => return Err(refused(number, fault)),
+            Err(fault) => return Err(refusal(number, fault)),
         };
         match self.times.take(alloc, timing) {
             Ok(()) => {}
             Err(NoteErr::Fault(fault)) => {
                 drop(turn);
-                return Err(refused(number, LineFault::Clock(fault)));
+                return Err(refusal(number, LineFault::Clock(fault)));
             }
             Err(NoteErr::Memory) => {
                 drop(turn);
