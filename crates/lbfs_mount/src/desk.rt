@@ -149,7 +149,7 @@ impl<F: Files + Drop, L: Link + Drop> Turns for Desk<F, L> {
 
     /// The line of what ended. The error says that memory ran out.
     fn take_line(&mut self) -> Result<AnswerLine, AllocError>
-        ensures { self.new.mounted ≡ self.old.mounted }
+        ensures { (self.new.mounted ≡ self.old.mounted) × (self.new.connection ≡ self.old.connection) }
     {
         if self.starved {
             return Err(AllocError);
@@ -164,6 +164,7 @@ impl<F: Files + Drop, L: Link + Drop> Turns for Desk<F, L> {
     fn run(&mut self, alloc: Global, line: MountLine, now: u64) -> bool
         ensures turn { self.new.starved ≡ false → Turns (λ m said. Runs self.old.mounted line now m said) now self.new.mounted }
         ensures wants { result ≡ wants_link line self.old.mounted.client.linked }
+        ensures number { self.new.connection ≡ self.old.connection }
     {
         let wants = matches!(line, MountLine::Join) && !self.mounted.linked();
         let said = self.mounted.line(alloc, line, now);
@@ -189,6 +190,7 @@ impl<F: Files + Drop, L: Link + Drop> Turns for Desk<F, L> {
     fn hear(&mut self, alloc: Global, connection: u64, record: &[u8], now: u64) -> bool
         ensures other { (self.old.connection == connection) ≡ false → self.new ≡ self.old }
         ensures turn { self.new.starved ≡ false → (self.new.mounted ≡ self.old.mounted) ⊎ Turns (λ m said. Receives self.old.mounted record.now now m said) now self.new.mounted }
+        ensures number { self.new.connection ≡ self.old.connection }
     {
         if !self.is_open(connection) {
             return false;
@@ -203,6 +205,7 @@ impl<F: Files + Drop, L: Link + Drop> Turns for Desk<F, L> {
     fn stop(&mut self, alloc: Global, connection: u64, end: End, now: u64)
         ensures other { (self.old.connection == connection) ≡ false → self.new ≡ self.old }
         ensures turn { self.new.starved ≡ false → (self.new.mounted ≡ self.old.mounted) ⊎ Loses self.old.mounted end now self.new.mounted }
+        ensures number { self.new.connection ≡ self.old.connection }
     {
         if self.is_open(connection) {
             self.lose(alloc, end, now);
@@ -211,7 +214,7 @@ impl<F: Files + Drop, L: Link + Drop> Turns for Desk<F, L> {
 
     /// The link is shut, where there is one.
     fn close(&mut self)
-        ensures { (self.new.mounted ≡ self.old.mounted) × (self.new.starved ≡ self.old.starved) }
+        ensures { (self.new.mounted ≡ self.old.mounted) × (self.new.starved ≡ self.old.starved) × (self.new.connection ≡ self.old.connection) }
     {
         close(&mut self.link);
     }
