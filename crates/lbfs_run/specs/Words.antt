@@ -2,5 +2,5 @@
 use Rattle.std.specs.Prelude.{ℕ, List, String, map, string_bytes}
 
 -- their bytes
-abbrev pub words_of : {Z : Type 0} → List (String Z) → List (List ℕ)
-words_of words = map (λ w. string_bytes w) words
+abbrev pub words_as_bytes : {Z : Type 0} → List (String Z) → List (List ℕ)
+words_as_bytes words = map (λ w. string_bytes w) words

@@ -19,7 +19,7 @@ ghost use Rattle.lbfs_mount.specs.Mounts.{IsFaulty};
 ghost use Rattle.lbfs_run.specs.Ends.{StoreFails, takes_input};
 ghost use Rattle.lbfs_run.specs.Mounting.{MountEnds};
 ghost use Rattle.lbfs_run.specs.Serving.{ServeEnds};
-ghost use Rattle.lbfs_run.specs.Words.{words_of};
+ghost use Rattle.lbfs_run.specs.Words.{words_as_bytes};
 
 use crate::mounting::run_mount;
 use crate::outside::Outside;
@@ -178,29 +178,29 @@ pub fn run<
 ) -> (u8, Outside<S, K, D, F, N, C, R>, Option<N::L>)
 where
     N::L: Drop + Send,
-    ensures headline { words_of words.now ≡ codes "replay" ∷ [] → result.0 ≡ 0 → (input : List ℕ) → S.left out.source ≡ Some input → IsReplayed (K.held out.sink) (K.held result.1.sink) input }
-    ensures replayed { (view : View) → command_of (words_of words.now) ≡ Some (OfInput (input.Replay view)) → result.0 ≡ 0 → (trace : List ℕ) → S.left out.source ≡ Some trace → IsRun view (K.held out.sink) (K.held result.1.sink) trace }
-    ensures generated { (view : View) (seed blocks : ℕ) → command_of (words_of words.now) ≡ Some (OfSeed seed blocks (seeded.Replay view)) → result.0 ≡ 0 → IsRun view (K.held out.sink) (K.held result.1.sink) (generated_text seed blocks) }
-    ensures accepted { (seed blocks : ℕ) (made : SeedCommand) → command_of (words_of words.now) ≡ Some (OfSeed seed blocks made) → result.0 ≡ 5 → ⊥ }
-    ensures read_again { (view : View) (seed blocks : ℕ) → command_of (words_of words.now) ≡ Some (OfInput (input.Replay view)) → blocks ≤ BLOCKS_MOST → S.left out.source ≡ Some (generated_text seed blocks) → result.0 ≡ 5 → ⊥ }
-    ensures answered { is_alone (asked_of (words_of words.now)) ≡ true → (result.0 ≡ 0) ⊎ (result.0 ≡ 2) ⊎ (result.0 ≡ 5) → IsAnswered (command_of (words_of words.now)) (S.left out.source) (K.held out.sink) (K.held result.1.sink) result.0 }
-    ensures taken { is_alone (asked_of (words_of words.now)) ≡ true → (result.0 ≡ 0) ⊎ (result.0 ≡ 2) ⊎ (result.0 ≡ 5) → IsAnsweredFrom (command_of (words_of words.now)) (S.left out.source) (S.left result.1.source) (K.held out.sink) (K.held result.1.sink) result.0 }
-    ensures unread { takes_input (asked_of (words_of words.now)) ≡ false → result.1.source ≡ out.source }
+    ensures headline { words_as_bytes words.now ≡ codes "replay" ∷ [] → result.0 ≡ 0 → (input : List ℕ) → S.left out.source ≡ Some input → IsReplayed (K.held out.sink) (K.held result.1.sink) input }
+    ensures replayed { (view : View) → command_of (words_as_bytes words.now) ≡ Some (OfInput (input.Replay view)) → result.0 ≡ 0 → (trace : List ℕ) → S.left out.source ≡ Some trace → IsRun view (K.held out.sink) (K.held result.1.sink) trace }
+    ensures generated { (view : View) (seed blocks : ℕ) → command_of (words_as_bytes words.now) ≡ Some (OfSeed seed blocks (seeded.Replay view)) → result.0 ≡ 0 → IsRun view (K.held out.sink) (K.held result.1.sink) (generated_text seed blocks) }
+    ensures accepted { (seed blocks : ℕ) (made : SeedCommand) → command_of (words_as_bytes words.now) ≡ Some (OfSeed seed blocks made) → result.0 ≡ 5 → ⊥ }
+    ensures read_again { (view : View) (seed blocks : ℕ) → command_of (words_as_bytes words.now) ≡ Some (OfInput (input.Replay view)) → blocks ≤ BLOCKS_MOST → S.left out.source ≡ Some (generated_text seed blocks) → result.0 ≡ 5 → ⊥ }
+    ensures answered { is_alone (asked_of (words_as_bytes words.now)) ≡ true → (result.0 ≡ 0) ⊎ (result.0 ≡ 2) ⊎ (result.0 ≡ 5) → IsAnswered (command_of (words_as_bytes words.now)) (S.left out.source) (K.held out.sink) (K.held result.1.sink) result.0 }
+    ensures taken { is_alone (asked_of (words_as_bytes words.now)) ≡ true → (result.0 ≡ 0) ⊎ (result.0 ≡ 2) ⊎ (result.0 ≡ 5) → IsAnsweredFrom (command_of (words_as_bytes words.now)) (S.left out.source) (S.left result.1.source) (K.held out.sink) (K.held result.1.sink) result.0 }
+    ensures unread { takes_input (asked_of (words_as_bytes words.now)) ≡ false → result.1.source ≡ out.source }
     ensures read_later { S.faults out.source ≤ S.faults result.1.source }
     ensures write_later { K.faults out.sink ≤ K.faults result.1.sink }
     ensures read_fault { result.0 ≡ 3 → Rose (S.faults out.source) (S.faults result.1.source) }
-    ensures nothing { is_alone (asked_of (words_of words.now)) ≡ true → result.0 ≡ 3 → result.1.sink ≡ out.sink }
+    ensures nothing { is_alone (asked_of (words_as_bytes words.now)) ≡ true → result.0 ≡ 3 → result.1.sink ≡ out.sink }
     ensures write_fault { result.0 ≡ 4 → Rose (K.faults out.sink) (K.faults result.1.sink) }
-    ensures broken { is_alone (asked_of (words_of words.now)) ≡ true → result.0 ≡ 4 → IsBroken (command_of (words_of words.now)) (S.left out.source) (K.held out.sink) (K.held result.1.sink) }
-    ensures broken_off { is_alone (asked_of (words_of words.now)) ≡ true → result.0 ≡ 4 → IsBrokenFrom (command_of (words_of words.now)) (S.left out.source) (S.left result.1.source) (K.held out.sink) (K.held result.1.sink) }
-    ensures starved { is_alone (asked_of (words_of words.now)) ≡ true → result.0 ≡ 6 → IsBegun (command_of (words_of words.now)) (S.left out.source) (K.held out.sink) (K.held result.1.sink) }
-    ensures starved_off { is_alone (asked_of (words_of words.now)) ≡ true → result.0 ≡ 6 → (result.1.sink ≡ out.sink) ⊎ IsBegunFrom (command_of (words_of words.now)) (S.left out.source) (S.left result.1.source) (K.held out.sink) (K.held result.1.sink) }
-    ensures known { is_alone (asked_of (words_of words.now)) ≡ true → (result.0 ≡ 0) ⊎ (result.0 ≡ 2) ⊎ (result.0 ≡ 3) ⊎ (result.0 ≡ 4) ⊎ (result.0 ≡ 5) ⊎ (result.0 ≡ 6) }
-    ensures apart { is_alone (asked_of (words_of words.now)) ≡ true → (result.1.store ≡ out.store) × (result.1.files ≡ out.files) × (result.1.network ≡ out.network) }
-    ensures serves { (o : ServeOptions) → asked_of (words_of words.now) ≡ Some (ask.Serve o) → ServeEnds o (N.accepted out.network) (N.accepted result.1.network) (N.faults out.network) (N.faults result.1.network) (D.faults out.store) (D.faults result.1.store) (D.records out.store) (K.held out.sink) (K.held result.1.sink) result.0 }
-    ensures unfiled { (o : ServeOptions) → asked_of (words_of words.now) ≡ Some (ask.Serve o) → result.1.files ≡ out.files }
-    ensures mounts { (o : MountOptions) → asked_of (words_of words.now) ≡ Some (ask.Mount o) → MountEnds (S.left out.source) (S.left result.1.source) (K.held out.sink) (K.held result.1.sink) (S.faults out.source) (S.faults result.1.source) (K.faults out.sink) (N.faults out.network) (N.faults result.1.network) (IsFaulty N.L.faults result.2) result.0 }
-    ensures unstored { (o : MountOptions) → asked_of (words_of words.now) ≡ Some (ask.Mount o) → result.1.store ≡ out.store }
+    ensures broken { is_alone (asked_of (words_as_bytes words.now)) ≡ true → result.0 ≡ 4 → IsBroken (command_of (words_as_bytes words.now)) (S.left out.source) (K.held out.sink) (K.held result.1.sink) }
+    ensures broken_off { is_alone (asked_of (words_as_bytes words.now)) ≡ true → result.0 ≡ 4 → IsBrokenFrom (command_of (words_as_bytes words.now)) (S.left out.source) (S.left result.1.source) (K.held out.sink) (K.held result.1.sink) }
+    ensures starved { is_alone (asked_of (words_as_bytes words.now)) ≡ true → result.0 ≡ 6 → IsBegun (command_of (words_as_bytes words.now)) (S.left out.source) (K.held out.sink) (K.held result.1.sink) }
+    ensures starved_off { is_alone (asked_of (words_as_bytes words.now)) ≡ true → result.0 ≡ 6 → (result.1.sink ≡ out.sink) ⊎ IsBegunFrom (command_of (words_as_bytes words.now)) (S.left out.source) (S.left result.1.source) (K.held out.sink) (K.held result.1.sink) }
+    ensures known { is_alone (asked_of (words_as_bytes words.now)) ≡ true → (result.0 ≡ 0) ⊎ (result.0 ≡ 2) ⊎ (result.0 ≡ 3) ⊎ (result.0 ≡ 4) ⊎ (result.0 ≡ 5) ⊎ (result.0 ≡ 6) }
+    ensures apart { is_alone (asked_of (words_as_bytes words.now)) ≡ true → (result.1.store ≡ out.store) × (result.1.files ≡ out.files) × (result.1.network ≡ out.network) }
+    ensures serves { (o : ServeOptions) → asked_of (words_as_bytes words.now) ≡ Some (ask.Serve o) → ServeEnds o (N.accepted out.network) (N.accepted result.1.network) (N.faults out.network) (N.faults result.1.network) (D.faults out.store) (D.faults result.1.store) (D.records out.store) (K.held out.sink) (K.held result.1.sink) result.0 }
+    ensures unfiled { (o : ServeOptions) → asked_of (words_as_bytes words.now) ≡ Some (ask.Serve o) → result.1.files ≡ out.files }
+    ensures mounts { (o : MountOptions) → asked_of (words_as_bytes words.now) ≡ Some (ask.Mount o) → MountEnds (S.left out.source) (S.left result.1.source) (K.held out.sink) (K.held result.1.sink) (S.faults out.source) (S.faults result.1.source) (K.faults out.sink) (N.faults out.network) (N.faults result.1.network) (IsFaulty N.L.faults result.2) result.0 }
+    ensures unstored { (o : MountOptions) → asked_of (words_as_bytes words.now) ≡ Some (ask.Mount o) → result.1.store ≡ out.store }
     ensures network_fault { result.0 ≡ 7 → Rose (N.faults out.network) (N.faults result.1.network) ⊎ IsFaulty N.L.faults result.2 }
     ensures store_fault { result.0 ≡ 8 → StoreFails (D.faults out.store) (D.faults result.1.store) (D.records out.store) (K.held out.sink) (K.held result.1.sink) }
     ensures told { (result.0 ≡ 0) ⊎ (result.0 ≡ 2) ⊎ (result.0 ≡ 3) ⊎ (result.0 ≡ 4) ⊎ (result.0 ≡ 5) ⊎ (result.0 ≡ 6) ⊎ (result.0 ≡ 7) ⊎ (result.0 ≡ 8) }
