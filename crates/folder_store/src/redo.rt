@@ -150,8 +150,32 @@ fn carry_out_line<R: Files>(rt: &R, paths: &mut Paths, line: &[u8]) -> io::Resul
     }
 }
 
-/// Carries out a list that is made, and takes it away; it stays where a line of it fails.
+/// Whether a line is one that `carry_out_line` can carry out.
+fn is_line(line: &[u8]) -> bool {
+    match line.split_first() {
+        None => true,
+        Some((b'+', text)) => held_by(text).is_some(),
+        Some((b'-', text)) => number(text).is_some(),
+        Some(_) => false,
+    }
+}
+
+/// Whether all lines of a list are such.
+fn are_lines(list: &[u8]) -> bool {
+    for line in list.split(|byte| *byte == b'\n') {
+        if !is_line(line) {
+            return false;
+        }
+    }
+    true
+}
+
+/// Carries out a list that is made, and takes it away; it stays where a line of it fails. Of a list with
+/// a line that no change has nothing is carried out.
 pub fn carry_out<R: Files>(rt: &R, paths: &mut Paths, list: &[u8]) -> io::Result<()> {
+    if !are_lines(list) {
+        return Err(no_line());
+    }
     for line in list.split(|byte| *byte == b'\n') {
         carry_out_line(rt, paths, line)?;
     }
