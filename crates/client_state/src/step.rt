@@ -91,9 +91,9 @@ pub enum Outcome {
 pub struct Ended {
     pub outcome: Outcome,
     /// The call's xid: for Opened the first GETHASH of the last attempt, or the GETLEASE where a content that
-    /// was kept is used again; the call that was answered for Closed, Refused, and whatever ends a command
-    /// on names by an answer. 0 where it rests on no call: what the client tells by itself, and Lost,
-    /// Changed, PeerMemory, BadPeer and Memory.
+    /// was kept is used again; the call that was answered for Closed, Refused, and whatever else ends a
+    /// command on names by an answer. 0 where it rests on no call: what the client tells by itself
+    /// (AlreadyOpen of a path too), and Lost, Changed, PeerMemory, BadPeer and Memory.
     pub rests_on: u32,
 }
 

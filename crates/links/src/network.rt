@@ -1,5 +1,4 @@
-//! The network, which gives links. `Causes.antt` of `lb_base` states when a fault
-//! may be answered.
+//! The network, which gives links. `Causes.antt` of `lb_base` states when a fault may be answered.
 
 ghost use Rattle.std.specs.Prelude.{◌≡◌, ℕ, ◌+◌, ◌-◌, ◌^◌, ◌≤◌, min, OnOk, OnErr};
 ghost use Rattle.lb_base.specs.Causes.{Rose};

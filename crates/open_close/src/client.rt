@@ -107,9 +107,10 @@ impl Client {
     }
 
     /// What comes from the other end, at a reading of the client's clock in milliseconds (which nothing
-    /// depends on yet): a message, or why a record is none. Only an answer to a call of the operation under way may run out of memory,
-    /// and none once COMMITTMP was sent: the operation then ends by that, its other calls are forgotten,
-    /// and all else is as before; or a fetch ended well, and the index lacks places of its chunks.
+    /// depends on yet): a message, or why a record is none. Only an answer to a call of the operation
+    /// under way may run out of memory, and none once COMMITTMP was sent: the operation then ends by
+    /// that, its other calls are forgotten, and all else is as before; or a fetch ended well, and the
+    /// index lacks places of its chunks.
     pub fn got(
         &mut self,
         alloc: Global,

@@ -1,5 +1,5 @@
 //! Why a call failed: those statuses of NFS version 3 (RFC 1813, section 2.6: nfsstat3) that the
-//! server here answers with, and those of LBFS. OK, the number 0, is none: it is what an
+//! calls here may be answered with, and those of LBFS. OK, the number 0, is none: it is what an
 //! answer has that was done. `specs/Status.antt` states their numbers.
 
 ghost use Rattle.std.specs.Prelude.{◌≡◌};
