@@ -71,12 +71,11 @@ abbrev pub settled_as : Told → Went
 settled_as (told.Settled session xid) = went.Open session
 settled_as t = went.NotReady
 
--- what may be said where a session is to be made
-abbrev pub IsOfMaking : Went → Type 0
-IsOfMaking (went.Open session) = Unit {0}
-IsOfMaking went.Full = Unit {0}
-IsOfMaking went.Memory = Unit {0}
-IsOfMaking said = ⊥
+-- what is said where a session was to be made, and these were lost: that it is open, unless it was lost
+abbrev pub joined_as : Told → List ℕ → Went
+joined_as (told.Session session) [] = went.Open session
+joined_as told.Full lost = went.Full
+joined_as t lost = went.Memory
 
 module _ {S : Type 0} where
   -- what is said of a session that an event was of: whether it stands then
@@ -115,28 +114,20 @@ module _ {S : Type 0} (records : S → Option (List Kept)) (faults : S → ℕ) 
     pub answer : Answers e step new said
     pub store : StoreKeeps records faults old.kept new.kept
 
-  -- The session has an empty box. Where memory was wanting for it this session was hung, and no other.
-  pub record Welcomed (old : Held S) (session : ℕ) (said : Went) (new : Held S) : Type 0 where
-    pub lost : List ℕ
-    pub hangs : new.kept.server ≡ hung old.kept.server lost
-    pub opened : (k : ℕ) → said ≡ went.Open k → (k ≡ session) × (lost ≡ []) × Holds new.boxes session []
-    pub others : KeepsOthers old.boxes new.boxes session
-    pub known : (said ≡ went.Open session) ⊎ (said ≡ went.Memory)
-    pub own : (lost ≡ []) ⊎ (lost ≡ session ∷ [])
-    pub store : StoreKeeps records faults old.kept new.kept
-
-  -- A session was made, which has an empty box; or none was. Where memory was wanting for the box that session was hung, and no other.
+  -- A session was made, which is open and has an empty box; where memory was wanting for the box it was hung, and no other. Or none was made, and no box changed.
   pub record Joined (old : Held S) (said : Went) (new : Held S) : Type 0 where
     pub step : ServerStep
     pub between : State
     pub lost : List ℕ
     pub stepped : Steps (faults old.kept.store) (faults new.kept.store) old.kept.server event.Connect between step
     pub hangs : new.kept.server ≡ hung between lost
-    pub opened : (session : ℕ) → said ≡ went.Open session → (step.told ≡ told.Session session) × (lost ≡ []) × Holds new.boxes session []
-    pub others : KeepsOthers old.boxes new.boxes between.sessions_made
-    pub full : said ≡ went.Full → (step.told ≡ told.Full) × (new.kept.server ≡ old.kept.server) × (new.boxes ≡ old.boxes)
-    pub known : IsOfMaking said
     pub own : (lost ≡ []) ⊎ (session : ℕ) × (step.told ≡ told.Session session) × (lost ≡ session ∷ [])
+    pub answer : said ≡ joined_as step.told lost
+    pub opened : (session : ℕ) → said ≡ went.Open session → Holds new.boxes session []
+    pub gone : AllLack new.boxes lost
+    pub others : KeepsOthers old.boxes new.boxes between.sessions_made
+    pub none : ((session : ℕ) → ¬ (step.told ≡ told.Session session)) → new.boxes ≡ old.boxes
+    pub full : said ≡ went.Full → new.kept.server ≡ old.kept.server
     pub store : StoreKeeps records faults old.kept new.kept
 
   -- the session was hung, and its box went

@@ -7,7 +7,7 @@ use Rattle.wire.specs.declared.message.RpcRefusal.TheVariants as refusal
 use Rattle.server_core.specs.declared.event.Sent.{Sent}
 use Rattle.server_rules.specs.declared.told.Told.TheVariants as told
 use Rattle.lbfs_server.specs.declared.held.Went.TheVariants as went
-use Rattle.lbfs_server.specs.Held.{messages_to, settled_as}
+use Rattle.lbfs_server.specs.Held.{messages_to, settled_as, joined_as}
 
 abbrev refused : ℕ → Message
 refused xid = message.Refuse xid refusal.SystemErr
@@ -27,3 +27,9 @@ settled_row = refl
 
 waits_row : settled_as told.NotReady ≡ went.NotReady
 waits_row = refl
+
+made_row : joined_as (told.Session 3) [] ≡ went.Open 3
+made_row = refl
+
+lost_row : joined_as (told.Session 3) (3 ∷ []) ≡ went.Memory
+lost_row = refl

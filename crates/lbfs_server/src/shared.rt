@@ -2,7 +2,9 @@
 //! a call is what its contract says is proved of `Held`; of a turn no clause speaks, since another
 //! thread's may stand before and behind it.
 
-ghost use Rattle.std.specs.Prelude.{◌<◌, ◌^◌};
+ghost use Rattle.std.specs.Prelude.{◌≡◌, ◌<◌, ◌^◌, ◌∷◌, All, Contains};
+ghost use Rattle.std.specs.List.Sorted.{IsPermutation};
+ghost use Rattle.lbfs_server.specs.declared.shared.SessionLink.{SessionLink};
 ghost use Rattle.server_core.specs.Step.{IsTimed};
 
 use crate::gate::Gate;
@@ -61,9 +63,12 @@ pub struct Outgoing {
     pub stands: bool,
 }
 
-/// Lets a session's link go, where there is one. A session's link is kept once (`keep_link`), and its
-/// number is no later session's, so there is no second one.
-fn remove_link<L: Drop>(links: &mut Vec<SessionLink<L>>, session: u32) {
+/// Lets a session's link go, where there is one; all others stay. A session's link is kept once
+/// (`keep_link`), and its number is no later session's, so there is no second one.
+fn remove_link<L: Drop>(links: &mut Vec<SessionLink<L>>, session: u32)
+    ensures gone { (one : SessionLink L) → Contains links.old.items one → one.session ≡ session → (gone : SessionLink L) × (gone.session ≡ session) × IsPermutation links.old.items (gone ∷ links.new.items) }
+    ensures none { All (λ one. ¬ (one.session ≡ session)) links.old.items → links.new.items ≡ links.old.items }
+{
     let mut at = 0;
     while at < links.len() && links[at].session != session {
         at += 1;
