@@ -12,7 +12,7 @@ use Rattle.command_text.specs.declared.command.Command.TheVariants.{Open, Write,
 use Rattle.command_text.specs.declared.content.Part.{Part}
 use Rattle.command_text.specs.declared.content.Part.TheVariants.{Bytes, Random}
 use Rattle.command_text.specs.Fields.{◌>>=◌, number_of, number_within, is_letter, is_text, text_of, count_of, random_of, part_of, parts_of, content_of, id_of}
-use Rattle.command_text.specs.Parts.{cut_at, words_as_bytes}
+use Rattle.command_text.specs.Parts.{cut_at, words_of}
 use Rattle.command_text.specs.Paths.{spot_of}
 use Rattle.command_text.specs.declared.path.Spot.{Spot}
 use Rattle.command_text.proofs.Decimals.{number_again}
@@ -66,8 +66,8 @@ plain x xs e =
     ap (λ (b : Bool). b || bytes_eq (x ∷ []) (codes "#")) some ∙ e
 
 -- what is said of words, where the line is not skipped
-says : (text : List ℕ) (words : List (List ℕ)) → is_skipped text ≡ false → words_as_bytes text ≡ words → line_of text ≡ said_by words
-says text words plain e = ap (λ (b : Bool). cond b (Some line.Skipped) (said_by (words_as_bytes text))) plain ∙ ap said_by e
+says : (text : List ℕ) (words : List (List ℕ)) → is_skipped text ≡ false → words_of text ≡ words → line_of text ≡ said_by words
+says text words plain e = ap (λ (b : Bool). cond b (Some line.Skipped) (said_by (words_of text))) plain ∙ ap said_by e
 
 -- ---- numbers
 
@@ -82,9 +82,9 @@ id_again n fits = number_again n fits
 
 -- ---- rounds, and a settling
 
-pass_words : (session rounds time : ℕ) → session < 2 ^ 64 → rounds < 2 ^ 64 → time < 2 ^ 64 → words_as_bytes (pass_line session rounds time) ≡ codes "pass" ∷ decimal session ∷ decimal rounds ∷ decimal time ∷ decimal time ∷ []
+pass_words : (session rounds time : ℕ) → session < 2 ^ 64 → rounds < 2 ^ 64 → time < 2 ^ 64 → words_of (pass_line session rounds time) ≡ codes "pass" ∷ decimal session ∷ decimal rounds ∷ decimal time ∷ decimal time ∷ []
 pass_words session rounds time s r t =
-    ap words_as_bytes (pass_pieces session rounds time)
+    ap words_of (pass_pieces session rounds time)
     ∙ ap (λ ws. codes "pass" ∷ ws)
     (word_then session _ s ∙ ap (λ ws. decimal session ∷ ws)
     (word_then rounds _ r ∙ ap (λ ws. decimal rounds ∷ ws)
@@ -107,9 +107,9 @@ settle_said time t =
 
 -- ---- commands
 
-do_words : (client time : ℕ) (command : List ℕ) (words : List (List ℕ)) → client < 2 ^ 64 → time < 2 ^ 64 → words_as_bytes command ≡ words → words_as_bytes (do_line client time command) ≡ codes "do" ∷ decimal client ∷ decimal time ∷ words
+do_words : (client time : ℕ) (command : List ℕ) (words : List (List ℕ)) → client < 2 ^ 64 → time < 2 ^ 64 → words_of command ≡ words → words_of (do_line client time command) ≡ codes "do" ∷ decimal client ∷ decimal time ∷ words
 do_words client time command words c t e =
-    ap words_as_bytes (do_pieces client time command)
+    ap words_of (do_pieces client time command)
     ∙ ap (λ ws. codes "do" ∷ ws)
     (word_then client _ c ∙ ap (λ ws. decimal client ∷ ws)
     (word_then time _ t ∙ ap (λ ws. decimal time ∷ ws) e))
@@ -117,14 +117,14 @@ do_words client time command words c t e =
 abbrev done_with : Option ℕ → Option ℕ → Option Command → Option Line
 done_with client at command = client >>= λ c. at >>= λ a. do_with c a command
 
-do_said : (client time : ℕ) (command word : List ℕ) (words : List (List ℕ)) (k : Command) → client < 2 ^ 64 → time < 2 ^ 63 → words_as_bytes command ≡ word ∷ words → command_of word words ≡ Some k → line_of (do_line client time command) ≡ Some (line.Do client time k)
+do_said : (client time : ℕ) (command word : List ℕ) (words : List (List ℕ)) (k : Command) → client < 2 ^ 64 → time < 2 ^ 63 → words_of command ≡ word ∷ words → command_of word words ≡ Some k → line_of (do_line client time command) ≡ Some (line.Do client time k)
 do_said client time command word words k c t e is =
     says (do_line client time command) (codes "do" ∷ decimal client ∷ decimal time ∷ word ∷ words) (ap is_skipped (do_pieces client time command) ∙ plain 100 (codes "o " ++ (decimal client ++ 32 ∷ (decimal time ++ 32 ∷ command))) refl) (do_words client time command (word ∷ words) c (omega (arith, t)) e)
     ∙ ap (λ (o : Option ℕ). done_with o (reading_of (decimal time)) (command_of word words)) (number_again client c)
     ∙ ap (λ (o : Option ℕ). done_with (Some client) o (command_of word words)) (reading_again time t)
     ∙ ap (done_with (Some client) (Some time)) is
 
-file_word : (file : ℕ) → file < 2 ^ 64 → words_as_bytes (35 ∷ decimal file) ≡ (35 ∷ decimal file) ∷ []
+file_word : (file : ℕ) → file < 2 ^ 64 → words_of (35 ∷ decimal file) ≡ (35 ∷ decimal file) ∷ []
 file_word file f = ap (onto_first 35) (word_last file f)
 
 pub open_said : (client time file : ℕ) → client < 2 ^ 64 → time < 2 ^ 63 → file < 2 ^ 64 → line_of (do_line client time (on_file (codes "open") file)) ≡ Some (line.Do client time (Open file))
@@ -162,9 +162,9 @@ content_again n fits =
     ap (λ (ws : List (List ℕ)). parts_of (onto_text ws)) (one_part n fits)
     ∙ ap parts_with (text_again n fits)
 
-write_words : (file offset block : ℕ) → file < 2 ^ 64 → offset < 2 ^ 64 → block < 2 ^ 64 → words_as_bytes (write_command file offset block) ≡ codes "write" ∷ (35 ∷ decimal file) ∷ decimal offset ∷ (codes "t:" ++ decimal block) ∷ []
+write_words : (file offset block : ℕ) → file < 2 ^ 64 → offset < 2 ^ 64 → block < 2 ^ 64 → words_of (write_command file offset block) ≡ codes "write" ∷ (35 ∷ decimal file) ∷ decimal offset ∷ (codes "t:" ++ decimal block) ∷ []
 write_words file offset block f o b =
-    ap words_as_bytes (write_pieces file offset block)
+    ap words_of (write_pieces file offset block)
     ∙ ap (λ ws. codes "write" ∷ ws)
     (ap (onto_first 35) (word_then file _ f)
     ∙ ap (λ ws. (35 ∷ decimal file) ∷ ws)
@@ -205,8 +205,8 @@ random_content n fits =
     ap (λ (ws : List (List ℕ)). parts_of (onto_seed ws)) (one_part_with n (codes ":9000") fits no_plus)
     ∙ ap parts_with (random_again n fits)
 
-file_words : (number seed : ℕ) → number < 2 ^ 64 → seed < 2 ^ 64 → words_as_bytes (file_text number seed) ≡ codes "file" ∷ (102 ∷ decimal number) ∷ (codes "r:" ++ (decimal seed ++ codes ":9000")) ∷ []
-file_words number seed m s = ap words_as_bytes (file_pieces number seed) ∙ ap (λ ws. codes "file" ∷ ws) (ap (onto_first 102) (word_then number _ m) ∙ ap (λ ws. (102 ∷ decimal number) ∷ ws) (ap onto_seed (word_with seed (codes ":9000") s no_space)))
+file_words : (number seed : ℕ) → number < 2 ^ 64 → seed < 2 ^ 64 → words_of (file_text number seed) ≡ codes "file" ∷ (102 ∷ decimal number) ∷ (codes "r:" ++ (decimal seed ++ codes ":9000")) ∷ []
+file_words number seed m s = ap words_of (file_pieces number seed) ∙ ap (λ ws. codes "file" ∷ ws) (ap (onto_first 102) (word_then number _ m) ∙ ap (λ ws. (102 ∷ decimal number) ∷ ws) (ap onto_seed (word_with seed (codes ":9000") s no_space)))
 
 abbrev file_with : Option Spot → Option (List Part) → Option Line
 file_with spot content = spot >>= λ s. content >>= λ c. Some (line.File s c)

@@ -8,7 +8,7 @@ use Rattle.std.proofs.lemmas.Fmt.{decimal_by_steps, decimal_nonempty}
 use Rattle.std.proofs.lemmas.List.Elements.{All-append, All-weaker}
 use Rattle.std.proofs.lemmas.List.Folds.{list_any-append, list_any_none}
 use Rattle.std.proofs.lemmas.List.Splits.{slice_split_at, slice_split_none}
-use Rattle.command_text.specs.Parts.{cut_at, words_as_bytes}
+use Rattle.command_text.specs.Parts.{cut_at, words_of}
 
 abbrev pub IsDigit : ℕ → Type 0
 IsDigit b = (48 ≤ b) × (b ≤ 57)
@@ -30,14 +30,14 @@ no_colon : (n : ℕ) → n < 2 ^ 64 → All (λ b. (b == 58) ≡ false) (decimal
 no_colon n fits = All-weaker IsDigit (λ b. (b == 58) ≡ false) (λ b h. grind (arith, nat_tests, h.1)) (decimal n) (digits_in n fits)
 
 -- a number is a word, with others behind it or not
-pub word_then : (n : ℕ) (rest : List ℕ) → n < 2 ^ 64 → words_as_bytes (decimal n ++ 32 ∷ rest) ≡ decimal n ∷ words_as_bytes rest
+pub word_then : (n : ℕ) (rest : List ℕ) → n < 2 ^ 64 → words_of (decimal n ++ 32 ∷ rest) ≡ decimal n ∷ words_of rest
 word_then n rest fits = slice_split_at (λ b. b == 32) (decimal n) 32 rest (no_digit 32 n (omega arith) fits) refl
 
-pub word_last : (n : ℕ) → n < 2 ^ 64 → words_as_bytes (decimal n) ≡ decimal n ∷ []
+pub word_last : (n : ℕ) → n < 2 ^ 64 → words_of (decimal n) ≡ decimal n ∷ []
 word_last n fits = slice_split_none (λ b. b == 32) (decimal n) (no_digit 32 n (omega arith) fits)
 
 -- a number with letters behind it that hold no space
-pub word_with : (n : ℕ) (more : List ℕ) → n < 2 ^ 64 → All (λ b. (b == 32) ≡ false) more → words_as_bytes (decimal n ++ more) ≡ (decimal n ++ more) ∷ []
+pub word_with : (n : ℕ) (more : List ℕ) → n < 2 ^ 64 → All (λ b. (b == 32) ≡ false) more → words_of (decimal n ++ more) ≡ (decimal n ++ more) ∷ []
 word_with n more fits plain = slice_split_none (λ b. b == 32) (decimal n ++ more) (All-append (λ b. (b == 32) ≡ false) (decimal n) more (no_digit 32 n (omega arith) fits) plain)
 
 -- no `+` stands in it
