@@ -9,8 +9,8 @@ pub use Rattle.lease_rules.specs.Changes.{asker_of, asker, is_about, meets, wait
 pub use Rattle.lease_rules.specs.Places.{places_of}
 use Rattle.lease_rules.specs.declared.change.Change.{Change}
 use Rattle.lease_rules.specs.declared.change.Recall.{Recall}
-use Rattle.lease_rules.specs.declared.change.AskErr.{AskErr}
-use Rattle.lease_rules.specs.declared.change.AskErr.TheVariants.{Jukebox, Memory}
+use Rattle.lease_rules.specs.declared.change.AskError.{AskError}
+use Rattle.lease_rules.specs.declared.change.AskError.TheVariants.{Jukebox, Memory}
 
 -- the session is asked for its lease on the file
 abbrev pub recall_of : (file session : ℕ) → Recall
@@ -91,7 +91,7 @@ module _ {P : Type 0} where
     pub bytes : bytes_of waits < 2 ^ 64
 
 -- A change may not wait exactly where its session has one that waits; want of memory comes after that.
-abbrev pub IsAnswered : {T : Type 0} → Result T AskErr → (has : Bool) → Type 0
+abbrev pub IsAnswered : {T : Type 0} → Result T AskError → (has : Bool) → Type 0
 IsAnswered (Ok _) has = has ≡ false
 IsAnswered (Err Jukebox) has = has ≡ true
 IsAnswered (Err Memory) has = has ≡ false

@@ -6,7 +6,7 @@ ghost use Rattle.callback_core.specs.Waits.{recall_of, recalls_due, has_wait, en
 
 use crate::ready::has;
 use lb_base::items::Items;
-use lease_rules::change::{AskErr, Change, Recall};
+use lease_rules::change::{AskError, Change, Recall};
 use lease_table::table::Leases;
 use std::alloc::{AllocError, Global};
 
@@ -101,7 +101,7 @@ pub fn ask<P: Drop>(
     waits: &mut Vec<Change<P>>,
     change: Change<P>,
     now: u64,
-) -> Result<Items<Recall>, AskErr>
+) -> Result<Items<Recall>, AskError>
     requires bounded { AreBounded waits.old.items leases.old.room }
     requires entries { entries_of waits.old.items + change.entries < 2 ^ 64 }
     requires bytes { bytes_of waits.old.items + change.bytes < 2 ^ 64 }
@@ -117,7 +117,7 @@ pub fn ask<P: Drop>(
     ensures bounded { AreBounded waits.new.items leases.new.room }
 {
     if has(waits, change.session) {
-        return Err(AskErr::Jukebox);
+        return Err(AskError::Jukebox);
     }
     let recalls = recalls_due(alloc, leases, &change, now)?;
     add(leases, waits, change)?;

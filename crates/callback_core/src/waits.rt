@@ -7,7 +7,7 @@ ghost use Rattle.callback_core.specs.Waits.{recalls_due, ready, change_of, has_w
 
 use crate::{asking, ready, sizes};
 use lb_base::items::Items;
-use lease_rules::change::{AskErr, Change, Recall};
+use lease_rules::change::{AskError, Change, Recall};
 use lease_rules::leaving::{KeepsLeases, hang, take_out};
 use lease_table::table::Leases;
 use std::alloc::{AllocError, Global};
@@ -55,7 +55,7 @@ impl<P: Drop> Waits<P> {
         alloc: Global,
         change: Change<P>,
         now: u64,
-    ) -> Result<Items<Recall>, AskErr>
+    ) -> Result<Items<Recall>, AskError>
         requires entries { entries_of self.old.waits + change.entries < 2 ^ 64 }
         requires bytes { bytes_of self.old.waits + change.bytes < 2 ^ 64 }
         ensures answered { IsAnswered result (has_wait self.old.waits change.session) }

@@ -15,13 +15,13 @@ use lb_base::items::Bytes;
 use limits::PIECE_MOST;
 use std::alloc::{AllocError, Global};
 use std::mem;
-use temp_files::fault::TempErr;
+use temp_files::fault::TempError;
 use temp_files::temps::Temps;
 use xdr_codec::answer::Answer;
 use xdr_codec::status::Status;
 
 /// The status of a call that the temporary files refuse. The one error is want of memory.
-fn status_of(refusal: TempErr) -> Result<Status, AllocError>
+fn status_of(refusal: TempError) -> Result<Status, AllocError>
     ensures ok { IfOk result (λ status. status_of refusal ≡ Some status) }
     ensures err { OnErr result (status_of refusal ≡ None) }
 {

@@ -8,8 +8,8 @@ use Rattle.clock_rule.specs.declared.rule.ClockFault.{ClockFault}
 use Rattle.clock_rule.specs.declared.rule.ClockFault.TheVariants.{Server, Client, Drift}
 use Rattle.clock_rule.specs.declared.rule.Reading.{Reading}
 use Rattle.clock_rule.specs.declared.rule.Reading.TheVariants as reads
-use Rattle.clock_rule.specs.declared.rule.NoteErr.{NoteErr}
-use Rattle.clock_rule.specs.declared.rule.NoteErr.TheVariants.{Fault, Memory}
+use Rattle.clock_rule.specs.declared.rule.NoteError.{NoteError}
+use Rattle.clock_rule.specs.declared.rule.NoteError.TheVariants.{Fault, Memory}
 
 -- the term and the drift, the last server reading (0 at first), and what was noted, in order
 pub record Clocked : Type 0 where
@@ -58,7 +58,7 @@ fault_at clocks client reading =
     fault_of clocks.term clocks.drift clocks.notes (event_of clocks client reading)
 
 -- the fault is answered, and want of memory only where there is none
-abbrev pub Answers : {T : Type 0} → Result T NoteErr → Option ClockFault → Type 0
+abbrev pub Answers : {T : Type 0} → Result T NoteError → Option ClockFault → Type 0
 Answers (Ok _) fault = fault ≡ None
 Answers (Err (Fault f)) fault = fault ≡ Some f
 Answers (Err Memory) fault = fault ≡ None
@@ -92,7 +92,7 @@ read_at clocks (reads.Client client at) = client_read clocks client at
 read_at clocks (reads.Both server client at) = then_client (server_read clocks server) client at
 
 -- what reading a line answers and leaves: a fault, or want of memory, leaves all as it was
-abbrev pub IsRead : {T : Type 0} → Result T NoteErr → Result Clocked ClockFault → (old new : Clocked) → Type 0
+abbrev pub IsRead : {T : Type 0} → Result T NoteError → Result Clocked ClockFault → (old new : Clocked) → Type 0
 IsRead (Ok _) ran old new = ran ≡ Ok new
 IsRead (Err (Fault f)) ran old new = (ran ≡ Err f) × (new ≡ old)
 IsRead (Err Memory) ran old new = new ≡ old

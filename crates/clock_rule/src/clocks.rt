@@ -3,11 +3,11 @@
 
 ghost use Rattle.std.specs.Prelude.{◌≡◌, ◌<◌, ◌≤◌, [], ◌∷◌, ◌++◌, OnOk, OnErr, IfErr};
 ghost use Rattle.clock_rule.specs.declared.rule.ClockFault.TheVariants.{Server};
-ghost use Rattle.clock_rule.specs.declared.rule.NoteErr.TheVariants.{Fault};
+ghost use Rattle.clock_rule.specs.declared.rule.NoteError.TheVariants.{Fault};
 ghost use Rattle.clock_rule.specs.Clocks.{fault_of, server_read, client_read, then_client, read_at, IsRead, Answers};
 ghost use Rattle.clock_rule.specs.Windows.{AreKept};
 
-use crate::rule::{ClockFault, Note, NoteErr, Reading};
+use crate::rule::{ClockFault, Note, NoteError, Reading};
 use crate::window::{self, Window};
 use std::alloc::Global;
 use std::marker::Model;
@@ -70,7 +70,7 @@ impl Clocks {
 
     /// Reads what a line reads. The errors are the first fault by the rule, and want of memory, and
     /// after either all is as before.
-    pub fn read(&mut self, alloc: Global, reading: Reading) -> Result<(), NoteErr>
+    pub fn read(&mut self, alloc: Global, reading: Reading) -> Result<(), NoteError>
         ensures { IsRead result (read_at self.old reading) self.old self.new }
     {
         match reading {
@@ -81,7 +81,7 @@ impl Clocks {
     }
 
     /// Reads the server's clock. It takes no memory.
-    fn read_server(&mut self, server: u64) -> Result<(), NoteErr>
+    fn read_server(&mut self, server: u64) -> Result<(), NoteError>
         ensures { IsRead result (server_read self.old server) self.old self.new }
     {
         fall(self.server, server)?;
@@ -90,7 +90,7 @@ impl Clocks {
     }
 
     /// Reads a client's clock.
-    fn read_client(&mut self, alloc: Global, client: u64, at: u64) -> Result<(), NoteErr>
+    fn read_client(&mut self, alloc: Global, client: u64, at: u64) -> Result<(), NoteError>
         ensures { IsRead result (client_read self.old client at) self.old self.new }
     {
         let later = Note {
@@ -103,7 +103,13 @@ impl Clocks {
 
     /// Reads the server's clock, and then a client's. The server stands where it did if the event is
     /// not noted.
-    fn read_both(&mut self, alloc: Global, server: u64, client: u64, at: u64) -> Result<(), NoteErr>
+    fn read_both(
+        &mut self,
+        alloc: Global,
+        server: u64,
+        client: u64,
+        at: u64,
+    ) -> Result<(), NoteError>
         ensures { IsRead result (then_client (server_read self.old server) client at) self.old self.new }
     {
         fall(self.server, server)?;
@@ -120,7 +126,7 @@ impl Clocks {
     /// Notes an event. It is refused exactly where its reading is below the client's last one, or
     /// else where it breaks the rule with an earlier event of the client, of which the fault then
     /// names the earliest. The other error is want of memory. After either all is as before.
-    fn note(&mut self, alloc: Global, later: Note) -> Result<(), NoteErr>
+    fn note(&mut self, alloc: Global, later: Note) -> Result<(), NoteError>
         ensures fault { Answers result (fault_of self.old.term self.old.drift self.old.notes later) }
         ensures ok { OnOk result (self.new ≡ record self.old { notes = self.old.notes ++ later ∷ [] }) }
         ensures err { OnErr result (self.new ≡ self.old) }
@@ -137,13 +143,13 @@ impl Clocks {
 }
 
 /// Whether the server's reading fell, by its last one and the next.
-fn fall(last: u64, next: u64) -> Result<(), NoteErr>
+fn fall(last: u64, next: u64) -> Result<(), NoteError>
     ensures ok { OnOk result (last ≤ next) }
     ensures fell { OnErr result (next < last) }
     ensures fault { IfErr result (λ e. e ≡ Fault (Server last next)) }
 {
     if next < last {
-        return Err(NoteErr::Fault(ClockFault::Server {
+        return Err(NoteError::Fault(ClockFault::Server {
             from: last,
             to: next,
         }));
@@ -159,7 +165,7 @@ fn note_in(
     notes: &mut Vec<Note>,
     windows: &mut Vec<Window>,
     later: Note,
-) -> Result<(), NoteErr>
+) -> Result<(), NoteError>
     requires kept { AreKept term notes.old.items windows.old.items }
     ensures kept { AreKept term notes.new.items windows.new.items }
     ensures fault { Answers result (fault_of term drift notes.old.items later) }

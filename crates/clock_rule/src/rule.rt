@@ -2,7 +2,7 @@
 //! `specs/Clocks.antt`.
 
 ghost use Rattle.std.specs.Prelude.{◌≡◌};
-ghost use Rattle.clock_rule.specs.declared.rule.NoteErr.TheVariants as errors;
+ghost use Rattle.clock_rule.specs.declared.rule.NoteError.TheVariants as errors;
 ghost use Rattle.clock_rule.specs.Clocks.{breaks, first_broken};
 
 use std::alloc::{AllocError, AllocFailed};
@@ -77,7 +77,7 @@ pub enum Reading {
 
 /// Why a reading was not taken: the server's, or a client's at an event, which is then not noted.
 #[derive(Clone, Copy, Debug, Drop)]
-pub enum NoteErr {
+pub enum NoteError {
     /// It breaks the rule: the server's reading fell, the client's did, or the server's clock went on
     /// too far.
     Fault(ClockFault),
@@ -85,11 +85,11 @@ pub enum NoteErr {
     Memory,
 }
 
-impl From<AllocError> for NoteErr {
+impl From<AllocError> for NoteError {
     ghost from_gives = { λ _ e. e ≡ errors.Memory };
 
-    fn from(_e: AllocError) -> NoteErr {
-        NoteErr::Memory
+    fn from(_e: AllocError) -> NoteError {
+        NoteError::Memory
     }
 }
 

@@ -8,7 +8,7 @@ ghost use Rattle.std.specs.List.{AllWithin};
 ghost use Rattle.clock_rule.specs.Clocks.{breaks, fault_of, drift_fault, Answers};
 ghost use Rattle.clock_rule.specs.Windows.{Covers, Rises, ArePassed, IsReach, AreLeast, Fits, IsWindowOf, HasNoWindow, IsWithWindow};
 
-use crate::rule::{ClockFault, Note, NoteErr, breaks, first_broken};
+use crate::rule::{ClockFault, Note, NoteError, breaks, first_broken};
 use std::alloc::{AllocError, Global};
 
 /// What is kept of a client: the least notes, as a window over the term behind its next event.
@@ -164,7 +164,7 @@ pub fn note(
     notes: &mut Vec<Note>,
     window: &mut Window,
     later: Note,
-) -> Result<(), NoteErr>
+) -> Result<(), NoteError>
     requires fits { Fits term notes.old.items window.old }
     requires client { window.old.client ≡ later.client }
     ensures fits { Fits term notes.new.items window.new }
@@ -174,7 +174,7 @@ pub fn note(
     ensures err { OnErr result (notes.new.items ≡ notes.old.items) }
 {
     match judge(term, drift, notes, window, later) {
-        Err(fault) => Err(NoteErr::Fault(fault)),
+        Err(fault) => Err(NoteError::Fault(fault)),
         Ok(at) => Ok(add(term, notes, window, at, later)?),
     }
 }

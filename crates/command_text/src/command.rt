@@ -6,7 +6,7 @@ ghost use Rattle.command_text.specs.Fields.{content_of};
 ghost use Rattle.command_text.specs.Reading.{Gives};
 
 use crate::content::Content;
-use crate::line_err::LineErr;
+use crate::line_error::LineError;
 use crate::parts::Words;
 use crate::path::PathCommand;
 use crate::words::{is, one, three, two};
@@ -57,11 +57,11 @@ fn write_words<'a>(words: &mut Words<'a>) -> Option<(u64, u64, &'a [u8])>
 }
 
 /// `write #ID OFFSET CONTENT`.
-fn write(alloc: Global, words: &mut Words) -> Result<Command, LineErr>
+fn write(alloc: Global, words: &mut Words) -> Result<Command, LineError>
     ensures { Gives result (write_of words.old) }
 {
     let Some((file, offset, content)) = write_words(words) else {
-        return Err(LineErr::BadLine);
+        return Err(LineError::BadLine);
     };
     Ok(Command::Write {
         file,
@@ -119,7 +119,7 @@ fn abandon(words: &mut Words) -> Option<Command>
 impl Command {
     /// Reads a command that begins with this word, in time linear in the length of its words. The
     /// error is `BadLine` where it is not in the grammar, or `Memory`.
-    pub fn read(alloc: Global, word: &[u8], words: &mut Words) -> Result<Command, LineErr>
+    pub fn read(alloc: Global, word: &[u8], words: &mut Words) -> Result<Command, LineError>
         ensures { Gives result (command_of word.now words.old) }
     {
         if is(word, b"open") {
@@ -127,13 +127,13 @@ impl Command {
         } else if is(word, b"write") {
             write(alloc, words)
         } else if is(word, b"trunc") {
-            trunc(words).ok_or(LineErr::BadLine)
+            trunc(words).ok_or(LineError::BadLine)
         } else if is(word, b"read") {
-            read(words).ok_or(LineErr::BadLine)
+            read(words).ok_or(LineError::BadLine)
         } else if is(word, b"close") {
-            close(words).ok_or(LineErr::BadLine)
+            close(words).ok_or(LineError::BadLine)
         } else if is(word, b"abandon") {
-            abandon(words).ok_or(LineErr::BadLine)
+            abandon(words).ok_or(LineError::BadLine)
         } else {
             naming::command(alloc, word, words)
         }

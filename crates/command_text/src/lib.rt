@@ -10,7 +10,7 @@ pub mod command;
 pub mod content;
 pub mod fields;
 pub mod laws;
-pub mod line_err;
+pub mod line_error;
 mod naming;
 pub mod parts;
 pub mod path;

@@ -6,25 +6,25 @@ ghost use Rattle.command_text.specs.Reading.{Gives};
 
 use crate::command::Command;
 use crate::fields;
-use crate::line_err::LineErr;
+use crate::line_error::LineError;
 use crate::parts::Words;
 use crate::path::{self, PathCommand};
 use crate::words::{is, one, two};
 use std::alloc::Global;
 
 /// `open PATH`.
-fn find(alloc: Global, word: &[u8]) -> Result<Command, LineErr>
+fn find(alloc: Global, word: &[u8]) -> Result<Command, LineError>
     ensures { Gives result (find_of word.now) }
 {
     Ok(Command::Named(PathCommand::Find(path::read_spot(alloc, word)?)))
 }
 
 /// `open #ID`, or `open PATH`.
-pub fn open(alloc: Global, words: &mut Words) -> Result<Command, LineErr>
+pub fn open(alloc: Global, words: &mut Words) -> Result<Command, LineError>
     ensures { Gives result (open_of words.old) }
 {
     let Some(word) = one(words) else {
-        return Err(LineErr::BadLine);
+        return Err(LineError::BadLine);
     };
     match fields::id(word) {
         Some(file) => Ok(Command::Open(file)),
@@ -42,11 +42,11 @@ enum Deed {
 }
 
 /// A command on one name.
-fn on_spot(alloc: Global, deed: Deed, words: &mut Words) -> Result<Command, LineErr>
+fn on_spot(alloc: Global, deed: Deed, words: &mut Words) -> Result<Command, LineError>
     ensures { Gives result (spot_command (command_on deed) words.old) }
 {
     let Some(word) = one(words) else {
-        return Err(LineErr::BadLine);
+        return Err(LineError::BadLine);
     };
     let spot = path::read_spot(alloc, word)?;
     Ok(Command::Named(match deed {
@@ -58,11 +58,11 @@ fn on_spot(alloc: Global, deed: Deed, words: &mut Words) -> Result<Command, Line
 }
 
 /// `rename PATH PATH`.
-fn rename(alloc: Global, words: &mut Words) -> Result<Command, LineErr>
+fn rename(alloc: Global, words: &mut Words) -> Result<Command, LineError>
     ensures { Gives result (rename_of words.old) }
 {
     let Some((from, to)) = two(words) else {
-        return Err(LineErr::BadLine);
+        return Err(LineError::BadLine);
     };
     let from = path::read_spot(alloc, from)?;
     let to = path::read_spot(alloc, to)?;
@@ -70,21 +70,21 @@ fn rename(alloc: Global, words: &mut Words) -> Result<Command, LineErr>
 }
 
 /// `list PATH`.
-fn list(alloc: Global, words: &mut Words) -> Result<Command, LineErr>
+fn list(alloc: Global, words: &mut Words) -> Result<Command, LineError>
     ensures { Gives result (list_of words.old) }
 {
     let Some(word) = one(words) else {
-        return Err(LineErr::BadLine);
+        return Err(LineError::BadLine);
     };
     Ok(Command::Named(PathCommand::List(path::read_path(alloc, word)?)))
 }
 
 /// `look PATH`.
-fn look(alloc: Global, words: &mut Words) -> Result<Command, LineErr>
+fn look(alloc: Global, words: &mut Words) -> Result<Command, LineError>
     ensures { Gives result (look_of words.old) }
 {
     let Some(word) = one(words) else {
-        return Err(LineErr::BadLine);
+        return Err(LineError::BadLine);
     };
     if is(word, b"/") {
         return Ok(Command::Named(PathCommand::LookRoot));
@@ -93,7 +93,7 @@ fn look(alloc: Global, words: &mut Words) -> Result<Command, LineErr>
 }
 
 /// A command on names that begins with this word.
-pub fn command(alloc: Global, word: &[u8], words: &mut Words) -> Result<Command, LineErr>
+pub fn command(alloc: Global, word: &[u8], words: &mut Words) -> Result<Command, LineError>
     ensures { Gives result (path_command_of word.now words.old) }
 {
     if is(word, b"make") {
@@ -111,6 +111,6 @@ pub fn command(alloc: Global, word: &[u8], words: &mut Words) -> Result<Command,
     } else if is(word, b"look") {
         look(alloc, words)
     } else {
-        Err(LineErr::BadLine)
+        Err(LineError::BadLine)
     }
 }

@@ -7,7 +7,7 @@ ghost use Rattle.command_text.specs.Paths.{names_of, within_path, names_in, spot
 ghost use Rattle.command_text.specs.Reading.{Gives};
 
 use crate::fields;
-use crate::line_err::LineErr;
+use crate::line_error::LineError;
 use crate::parts::first_part;
 use crate::words::is;
 use lb_base::items::{Items, Name};
@@ -49,18 +49,18 @@ pub enum PathCommand {
 }
 
 /// A name.
-fn name(alloc: Global, word: &[u8]) -> Result<Name, LineErr>
+fn name(alloc: Global, word: &[u8]) -> Result<Name, LineError>
     ensures { Gives result (name_of word.now) }
 {
     if fields::is_name(word) {
         Ok(Name::copy_of(alloc, word)?)
     } else {
-        Err(LineErr::BadLine)
+        Err(LineError::BadLine)
     }
 }
 
 /// Names joined by `/`, any number of them.
-fn joined_names(alloc: Global, word: &[u8]) -> Result<Path, LineErr>
+fn joined_names(alloc: Global, word: &[u8]) -> Result<Path, LineError>
     ensures { Gives result (names_of (cut_at 47 word.now)) }
 {
     let mut names = Items::new(alloc);
@@ -74,14 +74,14 @@ fn joined_names(alloc: Global, word: &[u8]) -> Result<Path, LineErr>
 }
 
 /// A path other than the root.
-fn names(alloc: Global, word: &[u8]) -> Result<Path, LineErr>
+fn names(alloc: Global, word: &[u8]) -> Result<Path, LineError>
     ensures { Gives result (names_in word.now) }
 {
     let names = joined_names(alloc, word)?;
     if names.len() <= PATH_NAMES_MOST {
         Ok(names)
     } else {
-        Err(LineErr::BadLine)
+        Err(LineError::BadLine)
     }
 }
 
@@ -96,18 +96,18 @@ fn spot_at(mut names: Path) -> Spot
 }
 
 /// A path other than the root, as a name in a directory.
-pub fn read_spot(alloc: Global, word: &[u8]) -> Result<Spot, LineErr>
+pub fn read_spot(alloc: Global, word: &[u8]) -> Result<Spot, LineError>
     ensures { Gives result (spot_of word.now) }
 {
     let names = names(alloc, word)?;
     if names.is_empty() {
-        return Err(LineErr::BadLine);
+        return Err(LineError::BadLine);
     }
     Ok(spot_at(names))
 }
 
 /// Any path.
-pub fn read_path(alloc: Global, word: &[u8]) -> Result<Path, LineErr>
+pub fn read_path(alloc: Global, word: &[u8]) -> Result<Path, LineError>
     ensures { Gives result (path_of word.now) }
 {
     if is(word, b"/") {

@@ -8,7 +8,7 @@ ghost use Rattle.command_text.specs.Reading.{Gives};
 
 use crate::content::{Content, Part};
 use crate::fields;
-use crate::line_err::LineErr;
+use crate::line_error::LineError;
 use crate::parts::{cut, first_part};
 use crate::words::is;
 use hex::FromHexError;
@@ -16,13 +16,13 @@ use lb_base::items::{Bytes, Items};
 use std::alloc::Global;
 
 /// `t:TEXT`.
-fn text(alloc: Global, text: &[u8]) -> Result<Part, LineErr>
+fn text(alloc: Global, text: &[u8]) -> Result<Part, LineError>
     ensures { Gives result (text_of text.now) }
 {
     if fields::is_text(text) {
         Ok(Part::Bytes(Bytes::copy_of(alloc, text)?))
     } else {
-        Err(LineErr::BadLine)
+        Err(LineError::BadLine)
     }
 }
 
@@ -39,24 +39,24 @@ fn are_lower_digits(text: &[u8]) -> bool
 }
 
 /// The bytes of pairs of hex digits.
-fn pairs(alloc: Global, text: &[u8]) -> Result<Part, LineErr>
+fn pairs(alloc: Global, text: &[u8]) -> Result<Part, LineError>
     ensures { Gives result (pairs_of text.now) }
 {
     match hex::decode(alloc, text) {
         Ok(bytes) => Ok(Part::Bytes(Items::from_vec(bytes))),
-        Err(FromHexError::OutOfMemory) => Err(LineErr::Memory),
-        Err(_) => Err(LineErr::BadLine),
+        Err(FromHexError::OutOfMemory) => Err(LineError::Memory),
+        Err(_) => Err(LineError::BadLine),
     }
 }
 
 /// `x:HEX`. The crate `hex` takes upper-case digits too, so they are refused first.
-fn hex_pairs(alloc: Global, text: &[u8]) -> Result<Part, LineErr>
+fn hex_pairs(alloc: Global, text: &[u8]) -> Result<Part, LineError>
     ensures { Gives result (hex_of text.now) }
 {
     if !text.is_empty() && are_lower_digits(text) {
         pairs(alloc, text)
     } else {
-        Err(LineErr::BadLine)
+        Err(LineError::BadLine)
     }
 }
 
@@ -94,7 +94,7 @@ fn small_part(word: &[u8]) -> Option<Part>
 }
 
 /// A part.
-fn part(alloc: Global, word: &[u8]) -> Result<Part, LineErr>
+fn part(alloc: Global, word: &[u8]) -> Result<Part, LineError>
     ensures { Gives result (part_of word.now) }
 {
     if let Some(letters) = word.strip_prefix(b"t:") {
@@ -102,12 +102,12 @@ fn part(alloc: Global, word: &[u8]) -> Result<Part, LineErr>
     } else if let Some(digits) = word.strip_prefix(b"x:") {
         hex_pairs(alloc, digits)
     } else {
-        small_part(word).ok_or(LineErr::BadLine)
+        small_part(word).ok_or(LineError::BadLine)
     }
 }
 
 /// Parts joined by `+`.
-fn parts(alloc: Global, word: &[u8]) -> Result<Content, LineErr>
+fn parts(alloc: Global, word: &[u8]) -> Result<Content, LineError>
     ensures { Gives result (parts_of (cut_at 43 word.now)) }
 {
     let mut parts = Items::new(alloc);
@@ -121,7 +121,7 @@ fn parts(alloc: Global, word: &[u8]) -> Result<Content, LineErr>
 }
 
 /// A content.
-pub fn content(alloc: Global, word: &[u8]) -> Result<Content, LineErr>
+pub fn content(alloc: Global, word: &[u8]) -> Result<Content, LineError>
     ensures { Gives result (content_of word.now) }
 {
     if is(word, b"-") {

@@ -25,7 +25,7 @@ use tree_nodes::content::Content;
 use tree_nodes::node::{Body, Node};
 use tree_nodes::nodes::Nodes;
 use tree_reading::call::{Call, Changed, CreateMode, Held, Planned};
-use tree_reading::error::TreeErr;
+use tree_reading::error::TreeError;
 use tree_reading::reading::{self, Looked, Standing};
 use tree_reading::{answers, listing, plans};
 use xdr_codec::attr::Attr;
@@ -362,7 +362,7 @@ impl Tree {
     }
 
     /// A copy of a file's content.
-    pub fn content(&self, id: u64) -> Result<Bytes, TreeErr>
+    pub fn content(&self, id: u64) -> Result<Bytes, TreeError>
         ensures { Answers (content self.now.tree.nodes id) result }
     {
         reading::content(self.state.alloc, &self.state.nodes, id)
@@ -370,7 +370,7 @@ impl Tree {
 
     /// READ: a copy of the bytes of a file from an offset on, at most `count` and at most 65,536.
     #[tactic(auto, using(crate::proofs::Limits::bounds))]
-    pub fn read(&self, id: u64, offset: u64, count: u32) -> Result<Piece, TreeErr>
+    pub fn read(&self, id: u64, offset: u64, count: u32) -> Result<Piece, TreeError>
         ensures { Answers (read self.now.tree.nodes id offset count) result }
     {
         let state = &self.state;
@@ -379,7 +379,13 @@ impl Tree {
 
     /// READDIR: copies of the entries behind a cookie, in an answer of at most `count` bytes.
     #[tactic(auto, using(crate::proofs::Limits::bounds))]
-    pub fn list(&self, dir: u64, cookie: u64, verifier: u64, count: u32) -> Result<Listing, TreeErr>
+    pub fn list(
+        &self,
+        dir: u64,
+        cookie: u64,
+        verifier: u64,
+        count: u32,
+    ) -> Result<Listing, TreeError>
         ensures { Answers (list self.now.tree.nodes dir cookie verifier count) result }
     {
         let state = &self.state;

@@ -17,7 +17,7 @@ use std::io::{ErrorKind, Write};
 use std::rt::Files;
 use std::{fs, io};
 use store::record::{Change, Head, Kept};
-use store::store::{Store, StoreErr};
+use store::store::{Store, StoreError};
 
 /// The most bytes of a file of the folder: a content, and its version.
 const READ_MOST: usize = FILE_MOST as usize + 8;
@@ -89,25 +89,29 @@ impl<R> FolderStore<R> {
 }
 
 /// Why the host failed, as a store tells it.
-fn store_err(error: io::Error) -> StoreErr {
+fn store_error(error: io::Error) -> StoreError {
     if error.kind() == ErrorKind::OutOfMemory {
-        return StoreErr::Memory;
+        return StoreError::Memory;
     }
-    StoreErr::Failed
+    StoreError::Failed
 }
 
 /// The bytes of the file that is named, if it is there.
-fn read_named<R: Files>(rt: &R, alloc: Global, paths: &Paths) -> Result<Option<Vec<u8>>, StoreErr> {
+fn read_named<R: Files>(
+    rt: &R,
+    alloc: Global,
+    paths: &Paths,
+) -> Result<Option<Vec<u8>>, StoreError> {
     let file = match fs::open(rt, paths.at()) {
         Ok(file) => file,
         Err(error) if error.kind() == ErrorKind::NotFound => return Ok(None),
-        Err(error) => return Err(store_err(error)),
+        Err(error) => return Err(store_error(error)),
     };
     let mut source = StreamSource::new(file);
     match read_all(alloc, READ_MOST, &mut source) {
         Ok(bytes) => Ok(Some(bytes)),
-        Err(ReadError::Memory) => Err(StoreErr::Memory),
-        Err(ReadError::Fault | ReadError::TooLong) => Err(StoreErr::Failed),
+        Err(ReadError::Memory) => Err(StoreError::Memory),
+        Err(ReadError::Fault | ReadError::TooLong) => Err(StoreError::Failed),
     }
 }
 
@@ -132,14 +136,14 @@ fn read_record<R: Files>(
     alloc: Global,
     paths: &mut Paths,
     which: Which,
-) -> Result<Kept, StoreErr> {
+) -> Result<Kept, StoreError> {
     paths.name(which)?;
     let Some(bytes) = read_named(rt, alloc, paths)? else {
-        return Err(StoreErr::Failed);
+        return Err(StoreError::Failed);
     };
     match record_in(alloc, which, bytes)? {
         Some(record) => Ok(record),
-        None => Err(StoreErr::Failed),
+        None => Err(StoreError::Failed),
     }
 }
 
@@ -161,25 +165,25 @@ fn records_there<R: Files + AllocGlobal + Clone + Drop>(
 }
 
 /// Carries out a change that was made when the program ended.
-fn finish<R: Files>(rt: &R, alloc: Global, paths: &mut Paths) -> Result<(), StoreErr> {
+fn finish<R: Files>(rt: &R, alloc: Global, paths: &mut Paths) -> Result<(), StoreError> {
     paths.name_list()?;
     let Some(list) = read_named(rt, alloc, paths)? else {
         return Ok(());
     };
     match carry_out(rt, paths, &list) {
         Ok(()) => Ok(()),
-        Err(error) => Err(store_err(error)),
+        Err(error) => Err(store_error(error)),
     }
 }
 
 /// Locks a folder, which no other program may have locked.
-fn lock_folder<R: Files<File = File>>(rt: &R, folder: &str) -> Result<File, StoreErr> {
+fn lock_folder<R: Files<File = File>>(rt: &R, folder: &str) -> Result<File, StoreError> {
     let Ok(file) = fs::open(rt, folder) else {
-        return Err(StoreErr::Failed);
+        return Err(StoreError::Failed);
     };
     match file.try_lock() {
         Ok(()) => Ok(file),
-        Err(_) => Err(StoreErr::Failed),
+        Err(_) => Err(StoreError::Failed),
     }
 }
 
@@ -190,11 +194,11 @@ fn add_record<R: Files>(
     alloc: Global,
     paths: &mut Paths,
     which: Which,
-) -> Result<(), StoreErr> {
+) -> Result<(), StoreError> {
     let record = read_record(rt, alloc, paths, which)?;
     match records.push(record) {
         Ok(()) => Ok(()),
-        Err(_) => Err(StoreErr::Memory),
+        Err(_) => Err(StoreError::Memory),
     }
 }
 
@@ -203,11 +207,11 @@ fn records_of<R: Files + AllocGlobal + Clone + Drop>(
     rt: &R,
     alloc: Global,
     paths: &mut Paths,
-) -> Result<Vec<Kept>, StoreErr> {
+) -> Result<Vec<Kept>, StoreError> {
     finish(rt, alloc, paths)?;
     let there = match records_there(rt, alloc, paths.folder()) {
         Ok(there) => there,
-        Err(error) => return Err(store_err(error)),
+        Err(error) => return Err(store_error(error)),
     };
     let mut records = Vec::new(alloc);
     for which in there.iter() {
@@ -221,7 +225,7 @@ fn load_folder<R: Files<File = File> + AllocGlobal + Clone + Drop>(
     rt: &R,
     alloc: Global,
     place: &str,
-) -> Result<(Folder, Vec<Kept>), StoreErr> {
+) -> Result<(Folder, Vec<Kept>), StoreError> {
     let mut folder = Folder::open(rt, alloc, place)?;
     let records = records_of(rt, alloc, &mut folder.paths)?;
     Ok((folder, records))
@@ -229,7 +233,11 @@ fn load_folder<R: Files<File = File> + AllocGlobal + Clone + Drop>(
 
 impl Folder {
     /// A folder that is locked, and of which nothing was read.
-    fn open<R: Files<File = File>>(rt: &R, alloc: Global, place: &str) -> Result<Folder, StoreErr> {
+    fn open<R: Files<File = File>>(
+        rt: &R,
+        alloc: Global,
+        place: &str,
+    ) -> Result<Folder, StoreError> {
         let list = String::with_capacity(alloc, LIST_ROOM)?;
         let paths = Paths::new(alloc, place)?;
         let lock = lock_folder(rt, place)?;
@@ -323,7 +331,7 @@ impl<R: Files<File = File> + AllocGlobal + Clone + Drop> Store for FolderStore<R
 
     ghost faults = { λ s. s.faults };
 
-    fn load(&mut self, alloc: Global, place: &str) -> Result<Vec<Kept>, StoreErr> {
+    fn load(&mut self, alloc: Global, place: &str) -> Result<Vec<Kept>, StoreError> {
         // The folder that was loaded before is let go, so that it may be this one.
         self.folder = None;
         match load_folder(&self.rt, alloc, place) {
@@ -331,11 +339,11 @@ impl<R: Files<File = File> + AllocGlobal + Clone + Drop> Store for FolderStore<R
                 self.folder = Some(folder);
                 Ok(records)
             }
-            Err(StoreErr::Failed) => {
+            Err(StoreError::Failed) => {
                 self.faults = one_more(self.faults);
-                Err(StoreErr::Failed)
+                Err(StoreError::Failed)
             }
-            Err(StoreErr::Memory) => Err(StoreErr::Memory),
+            Err(StoreError::Memory) => Err(StoreError::Memory),
         }
     }
 

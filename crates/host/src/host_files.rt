@@ -2,15 +2,15 @@
 
 ghost use Rattle.std.specs.Prelude.{◌≡◌, ℕ, ◌≤◌, ◌<◌, length, Err, None, IfOk};
 ghost use Rattle.limits.specs.declared.TheConstants.{FILE_MOST};
-ghost use Rattle.links.specs.declared.files.FilesErr.TheVariants as errors;
+ghost use Rattle.links.specs.declared.files.FilesError.TheVariants as errors;
 
 use lb_base::faults::one_more;
 use lb_base::items::{Bytes, Items};
-use lb_base::sink::GiveErr;
+use lb_base::sink::GiveError;
 use lb_base::source::{ReadError, read_all};
 use lb_base::streams::StreamSource;
 use limits::FILE_MOST;
-use links::files::{Files, FilesErr};
+use links::files::{Files, FilesError};
 use std::alloc::Global;
 use std::fs::OpenFile;
 use std::io::Write;
@@ -40,25 +40,25 @@ impl<R> HostFiles<R> {
 }
 
 /// The bytes of a file, where it has at most `FILE_MOST`.
-fn read_file<R: HostDisk>(rt: &R, alloc: Global, name: &str) -> Result<Bytes, FilesErr>
+fn read_file<R: HostDisk>(rt: &R, alloc: Global, name: &str) -> Result<Bytes, FilesError>
     ensures within { IfOk result (λ bytes. length bytes ≤ FILE_MOST) }
     ensures big { (len : ℕ) → result ≡ Err (errors.TooBig len) → FILE_MOST < len }
 {
     let Ok(file) = fs::open(rt, name) else {
-        return Err(FilesErr::Failed);
+        return Err(FilesError::Failed);
     };
     let Ok(facts) = file.metadata() else {
-        return Err(FilesErr::Failed);
+        return Err(FilesError::Failed);
     };
     let len = facts.len();
     if FILE_MOST < len {
-        return Err(FilesErr::TooBig { len });
+        return Err(FilesError::TooBig { len });
     }
     let mut source = StreamSource::new(file);
     match read_all(alloc, FILE_MOST as usize, &mut source) {
         Ok(bytes) => Ok(Items::from_vec(bytes)),
-        Err(ReadError::Memory) => Err(FilesErr::Memory),
-        Err(ReadError::Fault | ReadError::TooLong) => Err(FilesErr::Failed),
+        Err(ReadError::Memory) => Err(FilesError::Memory),
+        Err(ReadError::Fault | ReadError::TooLong) => Err(FilesError::Failed),
     }
 }
 
@@ -75,18 +75,18 @@ impl<R: HostDisk> Files for HostFiles<R> {
 
     ghost faults = { λ f. f.faults };
 
-    fn get(&mut self, alloc: Global, name: &str) -> Result<Bytes, FilesErr> {
+    fn get(&mut self, alloc: Global, name: &str) -> Result<Bytes, FilesError> {
         match read_file(&self.rt, alloc, name) {
             Ok(bytes) => Ok(bytes),
-            Err(FilesErr::Failed) => {
+            Err(FilesError::Failed) => {
                 self.faults = one_more(self.faults);
-                Err(FilesErr::Failed)
+                Err(FilesError::Failed)
             }
             Err(error) => Err(error),
         }
     }
 
-    fn put(&mut self, alloc: Global, name: &str, bytes: &[u8]) -> Result<(), GiveErr> {
+    fn put(&mut self, alloc: Global, name: &str, bytes: &[u8]) -> Result<(), GiveError> {
         let mark = self.mark;
         let beside = format!(in alloc; "~{mark}")?;
         match write_file(&self.rt, beside.as_str(), name, bytes) {
@@ -94,7 +94,7 @@ impl<R: HostDisk> Files for HostFiles<R> {
             Err(_) => {
                 let _gone = fs::remove_file(&self.rt, beside.as_str());
                 self.faults = one_more(self.faults);
-                Err(GiveErr::Failed)
+                Err(GiveError::Failed)
             }
         }
     }

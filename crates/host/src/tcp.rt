@@ -3,10 +3,10 @@
 
 ghost use Rattle.std.specs.Prelude.{◌≡◌, ℕ, ◌+◌, ◌-◌, ◌^◌, ◌≤◌, ◌<◌, List, length, min, Option, None, IfOk, OnOk, OnErr, IsErrOf};
 ghost use Rattle.lb_base.specs.Causes.{Rose};
-ghost use Rattle.lb_base.specs.declared.sink.GiveErr.TheVariants as errors;
+ghost use Rattle.lb_base.specs.declared.sink.GiveError.TheVariants as errors;
 
 use lb_base::faults::one_more;
-use lb_base::sink::GiveErr;
+use lb_base::sink::GiveError;
 use lb_base::source::Failed;
 use links::link::Link;
 use links::network::Network;
@@ -52,7 +52,7 @@ impl Link for TcpLink {
         Err(Failed)
     }
 
-    fn give(&mut self, from: &[u8]) -> Result<usize, GiveErr> {
+    fn give(&mut self, from: &[u8]) -> Result<usize, GiveError> {
         for _ in 0..RETRIES {
             match self.stream.write(from) {
                 Ok(0) if !from.is_empty() => break,
@@ -62,7 +62,7 @@ impl Link for TcpLink {
             }
         }
         self.faults = one_more(self.faults);
-        Err(GiveErr::Failed)
+        Err(GiveError::Failed)
     }
 
     fn shut(&mut self) {

@@ -4,11 +4,11 @@
 ghost use Rattle.std.specs.Prelude.{◌≡◌, ℕ, ◌+◌, ◌-◌, ◌^◌, ◌≤◌, ◌<◌, ◌↔◌, List, [], length, min, Contains, Option, Some, IfOk, OnOk, OnErr, IsErrOf, IsErr};
 ghost use Rattle.std.specs.Io.KnownBytes.{WriteAppends};
 ghost use Rattle.lb_base.specs.Causes.{Rose};
-ghost use Rattle.lb_base.specs.declared.sink.GiveErr.TheVariants as errors;
+ghost use Rattle.lb_base.specs.declared.sink.GiveError.TheVariants as errors;
 
 use crate::faults::one_more;
 use crate::items::{Bytes, Items};
-use crate::sink::{GiveErr, Sink};
+use crate::sink::{GiveError, Sink};
 use std::alloc::Global;
 use std::marker::Model;
 
@@ -55,7 +55,7 @@ impl Sink for SureSink {
 
     ghost faults = { λ _. 0 };
 
-    fn give(&mut self, from: &[u8]) -> Result<usize, GiveErr>
+    fn give(&mut self, from: &[u8]) -> Result<usize, GiveError>
         ensures within { IfOk result (λ n. n ≤ length from.now) }
         ensures some { IfOk result (λ n. 0 < length from.now → 0 < n) }
         ensures bytes { WriteAppends (Some self.old.held) (Some self.new.held) result from.now }
@@ -123,7 +123,7 @@ impl Sink for MemSink {
 
     ghost faults = { λ s. s.faults };
 
-    fn give(&mut self, from: &[u8]) -> Result<usize, GiveErr>
+    fn give(&mut self, from: &[u8]) -> Result<usize, GiveError>
         ensures within { IfOk result (λ n. n ≤ length from.now) }
         ensures some { IfOk result (λ n. 0 < length from.now → 0 < n) }
         ensures bytes { WriteAppends (Some self.old.held) (Some self.new.held) result from.now }
@@ -145,10 +145,10 @@ impl Sink for MemSink {
         self.calls = one_more(self.calls);
         if fails {
             self.faults = one_more(self.faults);
-            return Err(GiveErr::Failed);
+            return Err(GiveError::Failed);
         }
         if starves {
-            return Err(GiveErr::Memory);
+            return Err(GiveError::Memory);
         }
         self.bytes.give(from)
     }

@@ -5,10 +5,10 @@
 ghost use Rattle.std.specs.Prelude.{◌≡◌, ℕ, ◌+◌, ◌-◌, ◌^◌, ◌≤◌, ◌<◌, length, min, IfOk, OnOk, OnErr, IsErrOf};
 ghost use Rattle.std.specs.Io.KnownBytes.{ReadConsumes, WriteAppends};
 ghost use Rattle.lb_base.specs.Causes.{Rose};
-ghost use Rattle.lb_base.specs.declared.sink.GiveErr.TheVariants as errors;
+ghost use Rattle.lb_base.specs.declared.sink.GiveError.TheVariants as errors;
 
 use crate::faults::one_more;
-use crate::sink::{GiveErr, Sink};
+use crate::sink::{GiveError, Sink};
 use crate::source::{Failed, Source};
 use std::io::{ErrorKind, Read, Write};
 
@@ -92,7 +92,7 @@ impl<W: Write> Sink for StreamSink<W> {
 
     ghost faults = { λ s. s.faults };
 
-    fn give(&mut self, from: &[u8]) -> Result<usize, GiveErr>
+    fn give(&mut self, from: &[u8]) -> Result<usize, GiveError>
         ensures within { IfOk result (λ n. n ≤ length from.now) }
         ensures some { IfOk result (λ n. 0 < length from.now → 0 < n) }
         ensures bytes { WriteAppends (W.contents self.old.output) (W.contents self.new.output) result from.now }
@@ -111,6 +111,6 @@ impl<W: Write> Sink for StreamSink<W> {
             }
         }
         self.faults = one_more(self.faults);
-        Err(GiveErr::Failed)
+        Err(GiveError::Failed)
     }
 }

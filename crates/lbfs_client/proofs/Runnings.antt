@@ -2,7 +2,7 @@
 use Rattle.std.proofs.Common.{◌≡◌, ℕ, List, [], ◌++◌, true, false, refl, sym, subst, Bool, ap, ◌∙◌}
 use Rattle.std.specs.Prelude.{Option, Some, None, Result, Ok, Err, IfOk, is_some}
 use Rattle.command_text.specs.declared.command.Command.{Command}
-use Rattle.links.specs.declared.files.FilesErr.{FilesErr}
+use Rattle.links.specs.declared.files.FilesError.{FilesError}
 use Rattle.wire.specs.declared.message.Message.{Message}
 use Rattle.client_state.specs.State.{State}
 use Rattle.client_state.specs.declared.step.Ended.{Ended}
@@ -40,7 +40,7 @@ pub put_busy : (h : Host) (c : State) (w : Option Walk) (name : List ℕ) (place
 put_busy h c None name place now said is e = cc
 put_busy h c (Some w) name place now said is e = (refl, e)
 
-pub put_free : (h : Host) (c : State) (w : Option Walk) (name : List ℕ) (place : Place) (now : ℕ) (h1 : Host) (read : Result (List ℕ) FilesErr) (m' : Mount) (said : Said) → is_some w ≡ false → HasRead h name read h1 → PutsRead (mount_of h1 c w) place read now m' said → PutLine (mount_of h c w) w name place now m' said
+pub put_free : (h : Host) (c : State) (w : Option Walk) (name : List ℕ) (place : Place) (now : ℕ) (h1 : Host) (read : Result (List ℕ) FilesError) (m' : Mount) (said : Said) → is_some w ≡ false → HasRead h name read h1 → PutsRead (mount_of h1 c w) place read now m' said → PutLine (mount_of h c w) w name place now m' said
 put_free h c None name place now h1 read m' said is reads p = record { host = h1; read = read; reads = reads; goes_on = p }
 put_free h c (Some w) name place now h1 read m' said is reads p = cc
 

@@ -5,7 +5,7 @@ use Rattle.command_text.specs.declared.command.Command.{Command}
 use Rattle.command_text.specs.declared.command.Command.TheVariants as command
 use Rattle.command_text.specs.declared.content.Part.{Part}
 use Rattle.command_text.specs.declared.content.Part.TheVariants as part
-use Rattle.links.specs.declared.files.FilesErr.TheVariants as errors
+use Rattle.links.specs.declared.files.FilesError.TheVariants as errors
 use Rattle.wire.specs.declared.message.Message.{Message}
 use Rattle.xdr_codec.specs.declared.status.Status.TheVariants as status
 use Rattle.client_state.specs.State.{State, start, local_bytes}

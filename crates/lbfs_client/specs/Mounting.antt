@@ -2,8 +2,8 @@
 use Rattle.std.specs.Prelude.{◌≡◌, ℕ, List, [], ◌∷◌, Option, Some, None, Result, Ok, Err, Bool, true, false}
 use Rattle.command_text.specs.declared.command.Command.{Command}
 use Rattle.command_text.specs.declared.content.Part.TheVariants as part
-use Rattle.links.specs.declared.files.FilesErr.{FilesErr}
-use Rattle.links.specs.declared.files.FilesErr.TheVariants as errors
+use Rattle.links.specs.declared.files.FilesError.{FilesError}
+use Rattle.links.specs.declared.files.FilesError.TheVariants as errors
 use Rattle.record_ends.specs.declared.end.End.{End}
 use Rattle.record_ends.specs.declared.end.End.TheVariants as ends
 use Rattle.wire.specs.Parse.{parse_of}
@@ -70,19 +70,19 @@ pub record Begins (m : Mount) (w : Walk) (place : Place) (now : ℕ) (m' : Mount
   pub leads : Leads (record m { client = client; walk = Some w }) ended now sent m' said
 
 -- what is said where a file of the host wasn't read
-abbrev pub unread_answer : FilesErr → Answer
+abbrev pub unread_answer : FilesError → Answer
 unread_answer errors.Failed = answer.LocalFault
 unread_answer (errors.TooBig len) = answer_of (outcome.TooBig len)
 unread_answer errors.Memory = answer_of outcome.Memory
 
 -- the file of the host was read first
-abbrev pub PutsRead : Mount → Place → Result (List ℕ) FilesErr → (now : ℕ) → Mount → Said → Type 0
+abbrev pub PutsRead : Mount → Place → Result (List ℕ) FilesError → (now : ℕ) → Mount → Said → Type 0
 PutsRead m place (Ok bytes) now m' said = Begins m (walk.Opens (part.Bytes bytes ∷ [])) place now m' said
 PutsRead m place (Err e) now m' said = (m' ≡ m) × (said ≡ says [] (Some (unread_answer e)))
 
 pub record ReadsFirst (m : Mount) (name : List ℕ) (place : Place) (now : ℕ) (m' : Mount) (said : Said) : Type 0 where
   pub host : Host
-  pub read : Result (List ℕ) FilesErr
+  pub read : Result (List ℕ) FilesError
   pub reads : HasRead m.host name read host
   pub goes_on : PutsRead (record m { host = host }) place read now m' said
 

@@ -1,8 +1,8 @@
 -- What a `put` and a `get` do, one operation of the client after the other, and what is then said.
 use Rattle.std.specs.Prelude.{◌≡◌, ℕ, List, Option, Some, None, Result, Ok, Err, Bool, true, false}
 use Rattle.std.specs.Option.{option_map}
-use Rattle.lb_base.specs.declared.sink.GiveErr.{GiveErr}
-use Rattle.lb_base.specs.declared.sink.GiveErr.TheVariants as give
+use Rattle.lb_base.specs.declared.sink.GiveError.{GiveError}
+use Rattle.lb_base.specs.declared.sink.GiveError.TheVariants as give
 use Rattle.command_text.specs.declared.command.Command.TheVariants as command
 use Rattle.command_text.specs.declared.content.Part.{Part}
 use Rattle.wire.specs.declared.message.Message.{Message}
@@ -104,14 +104,14 @@ Opened c content o now send c' w said = PutsIf c content (opened_file o) o now s
 -- ---- get
 
 -- the open is told, unless the file of the host wasn't written
-abbrev pub kept_answer : Outcome → Result Unit GiveErr → Answer
+abbrev pub kept_answer : Outcome → Result Unit GiveError → Answer
 kept_answer o (Ok u) = answer_of o
 kept_answer o (Err give.Failed) = answer.LocalFault
 kept_answer o (Err give.Memory) = answer_of outcome.Memory
 
 -- the bytes of the open file are put into one of the host, and it is abandoned
 pub record Keeps (h : Host) (c : State) (file : ℕ) (name : List ℕ) (o : Outcome) (now : ℕ) (send : List Message) (h' : Host) (c' : State) (said : Said) : Type 0 where
-  pub wrote : Result Unit GiveErr
+  pub wrote : Result Unit GiveError
   pub writes : HasWritten h name (local_bytes c.opened file) wrote h'
   pub leaves : Abandons c file (kept_answer o wrote) now send c' said
 

@@ -13,8 +13,8 @@ use crate::said::{Said, answer_of, says_end};
 use crate::storing::abandon;
 use client_state::step::Outcome;
 use lb_base::items::{Bytes, Items};
-use lb_base::sink::GiveErr;
-use links::files::{Files, FilesErr};
+use lb_base::sink::GiveError;
+use links::files::{Files, FilesError};
 use open_close::client::Client;
 use register_model::op::Outcome as Told;
 use std::alloc::{AllocError, Global};
@@ -25,7 +25,7 @@ pub(crate) fn read<F: Files>(
     alloc: Global,
     files: &mut F,
     name: &LocalName,
-) -> Result<Bytes, FilesErr>
+) -> Result<Bytes, FilesError>
     ensures { HasRead (record { files = F.files files.old; faults = F.faults files.old }) name.now result (record { files = F.files files.new; faults = F.faults files.new }) }
 {
     files.get(alloc, name.as_str())
@@ -37,7 +37,7 @@ fn write<F: Files>(
     files: &mut F,
     name: &LocalName,
     bytes: &[u8],
-) -> Result<(), GiveErr>
+) -> Result<(), GiveError>
     ensures { HasWritten (record { files = F.files files.old; faults = F.faults files.old }) name.now bytes.now result (record { files = F.files files.new; faults = F.faults files.new }) }
 {
     files.put(alloc, name.as_str(), bytes)
@@ -57,14 +57,14 @@ fn local(client: &Client, file: u64) -> &[u8]
 fn kept_answer(
     alloc: Global,
     outcome: &Outcome,
-    wrote: Result<(), GiveErr>,
+    wrote: Result<(), GiveError>,
 ) -> Result<Answer, AllocError>
     ensures { IfOk result (λ answer. answer ≡ kept_answer outcome.now wrote) }
 {
     match wrote {
         Ok(()) => answer_of(alloc, outcome),
-        Err(GiveErr::Failed) => Ok(Answer::LocalFault),
-        Err(GiveErr::Memory) => Ok(Answer::Ended(Told::Memory)),
+        Err(GiveError::Failed) => Ok(Answer::LocalFault),
+        Err(GiveError::Memory) => Ok(Answer::Ended(Told::Memory)),
     }
 }
 

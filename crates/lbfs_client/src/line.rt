@@ -7,7 +7,7 @@ ghost use Rattle.lbfs_client.specs.Lines.{place_of, AreNotTwo, put_of, get_of, j
 use crate::local::LocalName;
 use command_text::command::Command;
 use command_text::fields;
-use command_text::line_err::LineErr;
+use command_text::line_error::LineError;
 use command_text::parts::Words;
 use command_text::path::{self, PathCommand, Spot};
 use std::alloc::Global;
@@ -37,7 +37,7 @@ pub enum MountLine {
 }
 
 /// A file of the tree.
-fn read_place(alloc: Global, word: &[u8]) -> Result<Place, LineErr>
+fn read_place(alloc: Global, word: &[u8]) -> Result<Place, LineError>
     ensures { Gives result (place_of word.now) }
 {
     match fields::id(word) {
@@ -57,11 +57,11 @@ fn two<'a>(words: &mut Words<'a>) -> Option<(&'a [u8], &'a [u8])>
 }
 
 /// `put LOCAL PLACE`.
-fn put(alloc: Global, words: &mut Words) -> Result<MountLine, LineErr>
+fn put(alloc: Global, words: &mut Words) -> Result<MountLine, LineError>
     ensures { Gives result (put_of words.old) }
 {
     let Some((name, word)) = two(words) else {
-        return Err(LineErr::BadLine);
+        return Err(LineError::BadLine);
     };
     let local = LocalName::read(alloc, name)?;
     let place = read_place(alloc, word)?;
@@ -69,11 +69,11 @@ fn put(alloc: Global, words: &mut Words) -> Result<MountLine, LineErr>
 }
 
 /// `get PLACE LOCAL`.
-fn get(alloc: Global, words: &mut Words) -> Result<MountLine, LineErr>
+fn get(alloc: Global, words: &mut Words) -> Result<MountLine, LineError>
     ensures { Gives result (get_of words.old) }
 {
     let Some((word, name)) = two(words) else {
-        return Err(LineErr::BadLine);
+        return Err(LineError::BadLine);
     };
     let place = read_place(alloc, word)?;
     let local = LocalName::read(alloc, name)?;
@@ -91,7 +91,7 @@ fn join(words: &mut Words) -> Option<MountLine>
 }
 
 /// A line that begins with this word.
-fn read_kind(alloc: Global, kind: &[u8], words: &mut Words) -> Result<MountLine, LineErr>
+fn read_kind(alloc: Global, kind: &[u8], words: &mut Words) -> Result<MountLine, LineError>
     ensures { Gives result (line_from kind.now words.old) }
 {
     if kind == b"put".as_slice() {
@@ -99,7 +99,7 @@ fn read_kind(alloc: Global, kind: &[u8], words: &mut Words) -> Result<MountLine,
     } else if kind == b"get".as_slice() {
         get(alloc, words)
     } else if kind == b"join".as_slice() {
-        join(words).ok_or(LineErr::BadLine)
+        join(words).ok_or(LineError::BadLine)
     } else {
         let command = Command::read(alloc, kind, words)?;
         Ok(MountLine::Plain(command))
@@ -116,14 +116,14 @@ pub fn is_skipped(line: &[u8]) -> bool
 impl MountLine {
     /// Reads a line, which stands here without its line feed, in time linear in its length. The
     /// error is `BadLine` where the line is not in the grammar, or `Memory`.
-    pub fn read(alloc: Global, line: &[u8]) -> Result<MountLine, LineErr>
+    pub fn read(alloc: Global, line: &[u8]) -> Result<MountLine, LineError>
         ensures { Gives result (line_of line.now) }
     {
         if is_skipped(line) {
             return Ok(MountLine::Skipped);
         }
         let mut words = Words::new(line);
-        let kind = words.next().ok_or(LineErr::BadLine)?;
+        let kind = words.next().ok_or(LineError::BadLine)?;
         read_kind(alloc, kind, &mut words)
     }
 }

@@ -5,7 +5,7 @@ ghost use Rattle.command_text.specs.Reading.{Gives};
 ghost use Rattle.lbfs_client.specs.Lines.{is_local, local_of};
 
 use command_text::fields;
-use command_text::line_err::LineErr;
+use command_text::line_error::LineError;
 use limits::NAME_MOST;
 use std::alloc::{AllocError, Global};
 use std::marker::Model;
@@ -50,14 +50,14 @@ fn text_of(alloc: Global, word: &[u8]) -> Result<String, AllocError>
 
 impl LocalName {
     /// Reads a name. The error is `BadLine` where the word is none, or `Memory`.
-    pub fn read(alloc: Global, word: &[u8]) -> Result<LocalName, LineErr>
+    pub fn read(alloc: Global, word: &[u8]) -> Result<LocalName, LineError>
         ensures { Gives result (local_of word.now) }
     {
         if is_local(word) {
             let text = text_of(alloc, word)?;
             Ok(LocalName { text })
         } else {
-            Err(LineErr::BadLine)
+            Err(LineError::BadLine)
         }
     }
 

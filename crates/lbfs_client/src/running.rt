@@ -17,7 +17,7 @@ use crate::walking::lead;
 use command_text::command::Command;
 use command_text::content::{Content, Part};
 use lb_base::items::{Bytes, Items};
-use links::files::{Files, FilesErr};
+use links::files::{Files, FilesError};
 use open_close::client::Client;
 use register_model::op::Outcome;
 use std::alloc::{AllocError, Global};
@@ -71,13 +71,13 @@ fn content_of(alloc: Global, bytes: Bytes) -> Result<Content, AllocError>
 }
 
 /// What is said where a file of the host wasn't read.
-fn unread_answer(error: FilesErr) -> Answer
+fn unread_answer(error: FilesError) -> Answer
     ensures { result ≡ unread_answer error }
 {
     match error {
-        FilesErr::Failed => Answer::LocalFault,
-        FilesErr::TooBig { len } => Answer::Ended(Outcome::TooBig(u128::from(len))),
-        FilesErr::Memory => Answer::Ended(Outcome::Memory),
+        FilesError::Failed => Answer::LocalFault,
+        FilesError::TooBig { len } => Answer::Ended(Outcome::TooBig(u128::from(len))),
+        FilesError::Memory => Answer::Ended(Outcome::Memory),
     }
 }
 
@@ -88,7 +88,7 @@ fn put_read<F: Files>(
     client: &mut Client,
     walk: &mut Option<Walk>,
     place: Place,
-    read: Result<Bytes, FilesErr>,
+    read: Result<Bytes, FilesError>,
     now: u64,
 ) -> Result<Said, AllocError>
     ensures { IfOk result (λ said. PutsRead (record { host = record { files = F.files files.old; faults = F.faults files.old }; client = client.old; walk = walk.old }) place read now (record { host = record { files = F.files files.new; faults = F.faults files.new }; client = client.new; walk = walk.new }) said) }

@@ -5,8 +5,8 @@ use Rattle.std.proofs.lemmas.List.{append-nil}
 use Rattle.std.specs.Io.KnownBytes.{Appends, Consumes, IsAtEnd}
 use Rattle.lb_base.specs.Causes.{Rose}
 use Rattle.lb_base.specs.Known.{AppendsPart, AppendsPrefix}
-use Rattle.lb_base.specs.declared.sink.GiveErr.{GiveErr}
-use Rattle.lb_base.specs.declared.sink.GiveErr.TheVariants as give
+use Rattle.lb_base.specs.declared.sink.GiveError.{GiveError}
+use Rattle.lb_base.specs.declared.sink.GiveError.TheVariants as give
 use Rattle.lb_base.specs.declared.source.ReadError.{ReadError}
 use Rattle.lb_base.specs.declared.source.ReadError.TheVariants as read
 use Rattle.limits.specs.declared.TheConstants.{INPUT_MOST}
@@ -15,8 +15,8 @@ use Rattle.lbfs_client.specs.Answers.{answer_line}
 use Rattle.lbfs_client.specs.Lines.{line_of}
 use Rattle.lbfs_client.specs.declared.answer.Answer.TheVariants as answer
 use Rattle.lbfs_client.specs.declared.line.MountLine.{MountLine}
-use Rattle.lbfs_mount.specs.declared.mount_err.MountErr.{MountErr}
-use Rattle.lbfs_mount.specs.declared.mount_err.MountErr.TheVariants as errors
+use Rattle.lbfs_mount.specs.declared.mount_error.MountError.{MountError}
+use Rattle.lbfs_mount.specs.declared.mount_error.MountError.TheVariants as errors
 use Rattle.lbfs_mount.specs.Script.{Coming, nothing_yet, coming, MayFollow, Takes, Gives}
 use Rattle.lbfs_mount.proofs.Coming.{apart, consumes_more}
 use Rattle.lbfs_mount.specs.Mounts.{IsAnswer, TellsIf, is_skip, IsDone, Tells, TellsLine, Writes, WritesPart, Outside, Unjoined, Untold, WriteEnds, AnswerEnds, TextFails, TextEnds, Fails, Ends, written_as, read_end}
@@ -61,12 +61,12 @@ rose_later a b c rose later = omega (arith, rose, later)
 part_of : (a b : Option (List ℕ)) (bytes : List ℕ) → AppendsPart a b bytes → AppendsPrefix a b bytes
 part_of a b bytes p = (p.0, p.1, p.2, p.3)
 
-pub write_ends : (r : Result Unit GiveErr) (held held' : Option (List ℕ)) (writes writes' : ℕ) (bytes : List ℕ) → IsAnswer bytes → OnOk r (Appends held held' bytes) → OnErr r (AppendsPart held held' bytes) → (IsErrOf r give.Failed → Rose writes writes') → WriteEnds held held' writes writes' (written_as r)
+pub write_ends : (r : Result Unit GiveError) (held held' : Option (List ℕ)) (writes writes' : ℕ) (bytes : List ℕ) → IsAnswer bytes → OnOk r (Appends held held' bytes) → OnErr r (AppendsPart held held' bytes) → (IsErrOf r give.Failed → Rose writes writes') → WriteEnds held held' writes writes' (written_as r)
 write_ends (Ok u) held held' writes writes' bytes is all part rose = (bytes, is, all)
 write_ends (Err give.Failed) held held' writes writes' bytes is all part rose = ((bytes, is, part_of held held' bytes part), rose refl)
 write_ends (Err give.Memory) held held' writes writes' bytes is all part rose = ((bytes, is, part_of held held' bytes part), tt)
 
-untold_of : (link_fails : Type 0) (writes dials dials' : ℕ) (e : MountErr) → Unjoined link_fails dials dials' e → Untold link_fails writes writes dials dials' e
+untold_of : (link_fails : Type 0) (writes dials dials' : ℕ) (e : MountError) → Unjoined link_fails dials dials' e → Untold link_fails writes writes dials dials' e
 untold_of link_fails writes dials dials' errors.ReadFault p = absurd p
 untold_of link_fails writes dials dials' errors.WriteFault p = absurd p
 untold_of link_fails writes dials dials' (errors.BadLine n) p = absurd p
@@ -75,11 +75,11 @@ untold_of link_fails writes dials dials' errors.Memory p = tt
 untold_of link_fails writes dials dials' errors.TooLong p = absurd p
 
 -- the line didn't run to its end
-pub unjoined_ends : (link_fails : Type 0) (held : Option (List ℕ)) (writes dials dials' : ℕ) (e : MountErr) → Unjoined link_fails dials dials' e → AnswerEnds link_fails held held writes writes dials dials' (Err e)
+pub unjoined_ends : (link_fails : Type 0) (held : Option (List ℕ)) (writes dials dials' : ℕ) (e : MountError) → Unjoined link_fails dials dials' e → AnswerEnds link_fails held held writes writes dials dials' (Err e)
 unjoined_ends link_fails held writes dials dials' e p = (prefix_none held, untold_of link_fails writes dials dials' e p)
 
 -- it did
-pub answer_ends : (link_fails : Type 0) (held held' : Option (List ℕ)) (writes writes' dials dials' : ℕ) (r : Result Unit MountErr) → WriteEnds held held' writes writes' r → AnswerEnds link_fails held held' writes writes' dials dials' r
+pub answer_ends : (link_fails : Type 0) (held held' : Option (List ℕ)) (writes writes' dials dials' : ℕ) (r : Result Unit MountError) → WriteEnds held held' writes writes' r → AnswerEnds link_fails held held' writes writes' dials dials' r
 answer_ends link_fails held held' writes writes' dials dials' (Ok u) p = p
 answer_ends link_fails held held' writes writes' dials dials' (Err errors.ReadFault) p = absurd p.1
 answer_ends link_fails held held' writes writes' dials dials' (Err errors.WriteFault) p = p
@@ -94,7 +94,7 @@ tells_if b told is p = subst (λ (x : Bool). TellsIf x told) (sym is) p
 tells_some : (o : Option MountLine) (l : MountLine) (told : List ℕ) → o ≡ Some l → TellsIf (is_skip l) told → TellsLine o told
 tells_some o l told is p = subst (λ (x : Option MountLine). TellsLine x told) (sym is) p
 
-untold_fails : (link_fails : Type 0) (l : Option MountLine) (number : ℕ) (held held' : Option (List ℕ)) (writes writes' dials dials' : ℕ) (e : MountErr) → Untold link_fails writes writes' dials dials' e → TextFails link_fails l number held held' writes writes' dials dials' e
+untold_fails : (link_fails : Type 0) (l : Option MountLine) (number : ℕ) (held held' : Option (List ℕ)) (writes writes' dials dials' : ℕ) (e : MountError) → Untold link_fails writes writes' dials dials' e → TextFails link_fails l number held held' writes writes' dials dials' e
 untold_fails link_fails l number held held' writes writes' dials dials' errors.ReadFault p = absurd p
 untold_fails link_fails l number held held' writes writes' dials dials' errors.WriteFault p = p
 untold_fails link_fails l number held held' writes writes' dials dials' (errors.BadLine n) p = absurd p
@@ -103,7 +103,7 @@ untold_fails link_fails l number held held' writes writes' dials dials' errors.M
 untold_fails link_fails l number held held' writes writes' dials dials' errors.TooLong p = absurd p
 
 -- a line that isn't skipped
-pub text_ends : (link_fails : Type 0) (o : Option MountLine) (l : MountLine) (number : ℕ) (held held' : Option (List ℕ)) (writes writes' dials dials' : ℕ) (r : Result Unit MountErr) → o ≡ Some l → is_skip l ≡ false → AnswerEnds link_fails held held' writes writes' dials dials' r → TextEnds link_fails o number held held' writes writes' dials dials' r
+pub text_ends : (link_fails : Type 0) (o : Option MountLine) (l : MountLine) (number : ℕ) (held held' : Option (List ℕ)) (writes writes' dials dials' : ℕ) (r : Result Unit MountError) → o ≡ Some l → is_skip l ≡ false → AnswerEnds link_fails held held' writes writes' dials dials' r → TextEnds link_fails o number held held' writes writes' dials dials' r
 text_ends link_fails o l number held held' writes writes' dials dials' (Ok u) is runs p = (p.0, tells_some o l p.0 is (tells_if (is_skip l) p.0 runs p.1), p.2)
 text_ends link_fails o l number held held' writes writes' dials dials' (Err e) is runs ((t, tells, out), why) = (inr (t, tells_some o l t is (tells_if (is_skip l) t runs tells), out), untold_fails link_fails o number held held' writes writes' dials dials' e why)
 
@@ -220,11 +220,11 @@ given_some left o s s' reads reads' held writes dials k k' count came text p is 
     let took : (b : List ℕ) × Consumes (left s) (left s') b × Gives k b text k' = subst (λ (x : Option (List ℕ)). IfSome x (λ line. (b : List ℕ) × Consumes (left s) (left s') b × Gives k b line k')) is some in
     given left o s s' reads reads' held writes dials k k' count took.0 text p took.1 took.2 still ended later
 
-told_by : (link_fails : Type 0) (r : Result Unit MountErr) (slice text : List ℕ) (number : ℕ) (held held' : Option (List ℕ)) (writes writes' dials dials' : ℕ) (u : Unit {0}) → r ≡ Ok u → slice ≡ text → TextEnds link_fails (line_of slice) number held held' writes writes' dials dials' r → (t : List ℕ) × TellsLine (line_of text) t × Appends held held' t
-told_by link_fails r slice text number held held' writes writes' dials dials' u is same p = subst (λ (z : List ℕ). (t : List ℕ) × TellsLine (line_of z) t × Appends held held' t) same (subst (λ (x : Result Unit MountErr). TextEnds link_fails (line_of slice) number held held' writes writes' dials dials' x) is p)
+told_by : (link_fails : Type 0) (r : Result Unit MountError) (slice text : List ℕ) (number : ℕ) (held held' : Option (List ℕ)) (writes writes' dials dials' : ℕ) (u : Unit {0}) → r ≡ Ok u → slice ≡ text → TextEnds link_fails (line_of slice) number held held' writes writes' dials dials' r → (t : List ℕ) × TellsLine (line_of text) t × Appends held held' t
+told_by link_fails r slice text number held held' writes writes' dials dials' u is same p = subst (λ (z : List ℕ). (t : List ℕ) × TellsLine (line_of z) t × Appends held held' t) same (subst (λ (x : Result Unit MountError). TextEnds link_fails (line_of slice) number held held' writes writes' dials dials' x) is p)
 
 -- it was told
-pub told : (link_fails : Type 0) (o : Outside) (left : Option (List ℕ)) (reads : ℕ) (held held' : Option (List ℕ)) (writes writes' dials dials' : ℕ) (k : Coming) (count number : ℕ) (text slice : List ℕ) (r : Result Unit MountErr) (u : Unit {0}) → Given o (outside left reads held writes dials) k count text → r ≡ Ok u → slice ≡ text → TextEnds link_fails (line_of slice) number held held' writes writes' dials dials' r → writes ≤ writes' → dials ≤ dials' → Progress o (outside left reads held' writes' dials') k (count + 1)
+pub told : (link_fails : Type 0) (o : Outside) (left : Option (List ℕ)) (reads : ℕ) (held held' : Option (List ℕ)) (writes writes' dials dials' : ℕ) (k : Coming) (count number : ℕ) (text slice : List ℕ) (r : Result Unit MountError) (u : Unit {0}) → Given o (outside left reads held writes dials) k count text → r ≡ Ok u → slice ≡ text → TextEnds link_fails (line_of slice) number held held' writes writes' dials dials' r → writes ≤ writes' → dials ≤ dials' → Progress o (outside left reads held' writes' dials') k (count + 1)
 told link_fails o left reads held held' writes writes' dials dials' k count number text slice r u g is same ends more_writes more_dials =
     let t : (t : List ℕ) × TellsLine (line_of text) t × Appends held held' t = told_by link_fails r slice text number held held' writes writes' dials dials' u is same ends in
     record {
@@ -278,7 +278,7 @@ part : (o s : Outside) (held' : Option (List ℕ)) (k : Coming) (count : ℕ) (t
 part o s held' k count text g (inl none) = (g.lines, g.written, g.told, prefix_all o.held held' g.written (appends_nothing o.held s.held held' g.written g.out none))
 part o s held' k count text g (inr (t, tells, out)) = (g.lines ++ text ∷ [], g.written ++ t, Tells.more g.lines g.written text t g.told tells, prefix_more o.held s.held held' g.written t g.out out)
 
-fails : (link_fails : Type 0) (o : Outside) (left : Option (List ℕ)) (reads : ℕ) (held held' : Option (List ℕ)) (writes writes' dials dials' : ℕ) (k : Coming) (count number : ℕ) (text : List ℕ) (e : MountErr) → Given o (outside left reads held writes dials) k count text → number ≡ count + 1 → TextFails link_fails (line_of text) number held held' writes writes' dials dials' e → Fails link_fails o (outside left reads held' writes' dials') e
+fails : (link_fails : Type 0) (o : Outside) (left : Option (List ℕ)) (reads : ℕ) (held held' : Option (List ℕ)) (writes writes' dials dials' : ℕ) (k : Coming) (count number : ℕ) (text : List ℕ) (e : MountError) → Given o (outside left reads held writes dials) k count text → number ≡ count + 1 → TextFails link_fails (line_of text) number held held' writes writes' dials dials' e → Fails link_fails o (outside left reads held' writes' dials') e
 fails link_fails o left reads held held' writes writes' dials dials' k count number text errors.ReadFault g is p = absurd p
 fails link_fails o left reads held held' writes writes' dials dials' k count number text errors.WriteFault g is p = rose_more o.writes writes writes' g.writes p
 fails link_fails o left reads held held' writes writes' dials dials' k count number text (errors.BadLine n) g is p = record {
@@ -301,9 +301,9 @@ fails link_fails o left reads held held' writes writes' dials dials' k count num
 fails link_fails o left reads held held' writes writes' dials dials' k count number text errors.TooLong g is p = absurd p
 
 -- a line wasn't run, or told
-pub untold : (link_fails : Type 0) (o : Outside) (left : Option (List ℕ)) (reads : ℕ) (held held' : Option (List ℕ)) (writes writes' dials dials' : ℕ) (k : Coming) (count number : ℕ) (text slice : List ℕ) (r : Result Unit MountErr) (e : MountErr) → Given o (outside left reads held writes dials) k count text → number ≡ count + 1 → r ≡ Err e → slice ≡ text → TextEnds link_fails (line_of slice) number held held' writes writes' dials dials' r → Ends link_fails o (outside left reads held' writes' dials') (Err e)
+pub untold : (link_fails : Type 0) (o : Outside) (left : Option (List ℕ)) (reads : ℕ) (held held' : Option (List ℕ)) (writes writes' dials dials' : ℕ) (k : Coming) (count number : ℕ) (text slice : List ℕ) (r : Result Unit MountError) (e : MountError) → Given o (outside left reads held writes dials) k count text → number ≡ count + 1 → r ≡ Err e → slice ≡ text → TextEnds link_fails (line_of slice) number held held' writes writes' dials dials' r → Ends link_fails o (outside left reads held' writes' dials') (Err e)
 untold link_fails o left reads held held' writes writes' dials dials' k count number text slice r e g counts is same ends =
-    let p : TextEnds link_fails (line_of text) number held held' writes writes' dials dials' (Err e) = subst (λ (z : List ℕ). TextEnds link_fails (line_of z) number held held' writes writes' dials dials' (Err e)) same (subst (λ (x : Result Unit MountErr). TextEnds link_fails (line_of slice) number held held' writes writes' dials dials' x) is ends) in
+    let p : TextEnds link_fails (line_of text) number held held' writes writes' dials dials' (Err e) = subst (λ (z : List ℕ). TextEnds link_fails (line_of z) number held held' writes writes' dials dials' (Err e)) same (subst (λ (x : Result Unit MountError). TextEnds link_fails (line_of slice) number held held' writes writes' dials dials' x) is ends) in
     (part o (outside left reads held writes dials) held' k count text g p.0, fails link_fails o left reads held held' writes writes' dials dials' k count number text e g counts p.1)
 
 -- memory ran out
@@ -313,7 +313,7 @@ starved link_fails o s k count p = ((p.lines, p.written, p.told, prefix_all o.he
 pub starved_first : (link_fails : Type 0) (o : Outside) → Ends link_fails o o (Err errors.Memory)
 starved_first link_fails o = (([], [], Tells.nothing, prefix_all o.held o.held [] (appends_none o.held)), tt)
 
-unjoined_fails : (link_fails : Type 0) (o : Outside) (dials' : ℕ) (e : MountErr) → Unjoined link_fails o.dials dials' e → Fails link_fails o (record o { dials = dials' }) e
+unjoined_fails : (link_fails : Type 0) (o : Outside) (dials' : ℕ) (e : MountError) → Unjoined link_fails o.dials dials' e → Fails link_fails o (record o { dials = dials' }) e
 unjoined_fails link_fails o dials' errors.ReadFault p = absurd p
 unjoined_fails link_fails o dials' errors.WriteFault p = absurd p
 unjoined_fails link_fails o dials' (errors.BadLine n) p = absurd p
@@ -321,7 +321,7 @@ unjoined_fails link_fails o dials' errors.Network p = p
 unjoined_fails link_fails o dials' errors.Memory p = tt
 unjoined_fails link_fails o dials' errors.TooLong p = absurd p
 
-unjoined_more : (link_fails : Type 0) (dials dials' : ℕ) (e : MountErr) → dials ≤ dials' → Unjoined link_fails dials' dials' e → Unjoined link_fails dials dials' e
+unjoined_more : (link_fails : Type 0) (dials dials' : ℕ) (e : MountError) → dials ≤ dials' → Unjoined link_fails dials' dials' e → Unjoined link_fails dials dials' e
 unjoined_more link_fails dials dials' errors.ReadFault later p = absurd p
 unjoined_more link_fails dials dials' errors.WriteFault later p = absurd p
 unjoined_more link_fails dials dials' (errors.BadLine n) later p = absurd p
@@ -331,15 +331,15 @@ unjoined_more link_fails dials dials' errors.Memory later p = tt
 unjoined_more link_fails dials dials' errors.TooLong later p = absurd p
 
 -- a link that has no twin
-pub unpaired : {A : Type 0} (r : Result A MountErr) (link_fails : Type 0) (dials dials' : ℕ) → dials ≤ dials' → IfErr r (λ e. Unjoined link_fails dials' dials' e) → IfErr r (λ e. Unjoined link_fails dials dials' e)
+pub unpaired : {A : Type 0} (r : Result A MountError) (link_fails : Type 0) (dials dials' : ℕ) → dials ≤ dials' → IfErr r (λ e. Unjoined link_fails dials' dials' e) → IfErr r (λ e. Unjoined link_fails dials dials' e)
 unpaired (Ok x) link_fails dials dials' later p = tt
 unpaired (Err e) link_fails dials dials' later p = unjoined_more link_fails dials dials' e later p
 
 -- no connection was joined
-pub unjoined : (link_fails : Type 0) (o : Outside) (dials' : ℕ) (e : MountErr) → Unjoined link_fails o.dials dials' e → Ends link_fails o (record o { dials = dials' }) (Err e)
+pub unjoined : (link_fails : Type 0) (o : Outside) (dials' : ℕ) (e : MountError) → Unjoined link_fails o.dials dials' e → Ends link_fails o (record o { dials = dials' }) (Err e)
 unjoined link_fails o dials' e p = (([], [], Tells.nothing, prefix_all o.held o.held [] (appends_none o.held)), unjoined_fails link_fails o dials' e p)
 
-later_fails : (link_fails : Type 0) (o : Outside) (dials : ℕ) (s : Outside) (e : MountErr) → o.dials ≤ dials → Fails link_fails (record o { dials = dials }) s e → Fails link_fails o s e
+later_fails : (link_fails : Type 0) (o : Outside) (dials : ℕ) (s : Outside) (e : MountError) → o.dials ≤ dials → Fails link_fails (record o { dials = dials }) s e → Fails link_fails o s e
 later_fails link_fails o dials s errors.ReadFault later p = p
 later_fails link_fails o dials s errors.WriteFault later p = p
 later_fails link_fails o dials s (errors.BadLine n) later p = p
@@ -349,24 +349,24 @@ later_fails link_fails o dials s errors.Memory later p = tt
 later_fails link_fails o dials s errors.TooLong later p = p
 
 -- one was
-pub joined : (link_fails : Type 0) (o : Outside) (dials : ℕ) (s : Outside) (r : Result Unit MountErr) → o.dials ≤ dials → Ends link_fails (record o { dials = dials }) s r → Ends link_fails o s r
+pub joined : (link_fails : Type 0) (o : Outside) (dials : ℕ) (s : Outside) (r : Result Unit MountError) → o.dials ≤ dials → Ends link_fails (record o { dials = dials }) s r → Ends link_fails o s r
 joined link_fails o dials s (Ok u) later p = p
 joined link_fails o dials s (Err e) later p = (p.0, later_fails link_fails o dials s e later p.1)
 
 -- ---- by the answer
 
-pub ends_done : (link_fails : Type 0) (o s : Outside) (r : Result Unit MountErr) → Ends link_fails o s r → OnOk r (IsDone o.left s.left o.held s.held)
+pub ends_done : (link_fails : Type 0) (o s : Outside) (r : Result Unit MountError) → Ends link_fails o s r → OnOk r (IsDone o.left s.left o.held s.held)
 ends_done link_fails o s (Ok u) p = p
 ends_done link_fails o s (Err e) p = tt
 
-pub ends_writes : (link_fails : Type 0) (o s : Outside) (r : Result Unit MountErr) → Ends link_fails o s r → Writes o.held s.held
+pub ends_writes : (link_fails : Type 0) (o s : Outside) (r : Result Unit MountError) → Ends link_fails o s r → Writes o.held s.held
 ends_writes link_fails o s (Ok u) p =
     let script = p.0 in let written = p.1 in
     (lines_of script, written, p.4, prefix_all o.held s.held written p.5)
 ends_writes link_fails o s (Err e) p = p.0
 
-pub ends_fails : (link_fails : Type 0) (o s : Outside) (r : Result Unit MountErr) (e : MountErr) → Ends link_fails o s r → r ≡ Err e → Fails link_fails o s e
-ends_fails link_fails o s r e p is = (subst (λ (x : Result Unit MountErr). Ends link_fails o s x) is p).1
+pub ends_fails : (link_fails : Type 0) (o s : Outside) (r : Result Unit MountError) (e : MountError) → Ends link_fails o s r → r ≡ Err e → Fails link_fails o s e
+ends_fails link_fails o s r e p is = (subst (λ (x : Result Unit MountError). Ends link_fails o s x) is p).1
 
 pub writes_nothing : (held : Option (List ℕ)) → Writes held held
 writes_nothing held = ([], [], Tells.nothing, prefix_all held held [] (appends_none held))

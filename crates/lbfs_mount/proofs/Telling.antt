@@ -1,7 +1,7 @@
 -- What a mounted client says of an operation that ended is the line of an answer.
 use Rattle.std.proofs.Common.{◌≡◌, ℕ, List, [], Bool, true, false, refl, sym, subst}
 use Rattle.std.specs.Prelude.{Option, Some, None, Result, Ok, Err, IfOk, IsOk}
-use Rattle.links.specs.declared.files.FilesErr.{FilesErr}
+use Rattle.links.specs.declared.files.FilesError.{FilesError}
 use Rattle.record_ends.specs.declared.end.End.{End}
 use Rattle.record_ends.specs.declared.end.End.TheVariants as ends
 use Rattle.wire.specs.declared.fault.WireFault.{WireFault}
@@ -69,7 +69,7 @@ leads_told m (Some e) now send m' said p = walks_told m m.walk e.outcome now sen
 begins_told : (m : Mount) (w : Walk) (place : Place) (now : ℕ) (m' : Mount) (said : Said) → Begins m w place now m' said → IsTold said.line
 begins_told m w place now m' said p = leads_told (record m { client = p.client; walk = Some w }) p.ended now p.sent m' said p.leads
 
-read_told : (m : Mount) (place : Place) (read : Result (List ℕ) FilesErr) (now : ℕ) (m' : Mount) (said : Said) → PutsRead m place read now m' said → IsTold said.line
+read_told : (m : Mount) (place : Place) (read : Result (List ℕ) FilesError) (now : ℕ) (m' : Mount) (said : Said) → PutsRead m place read now m' said → IsTold said.line
 read_told m place (Ok bytes) now m' said p = begins_told m _ place now m' said p
 read_told m place (Err e) now m' said p = told [] (Some (unread_answer e)) said p.1
 

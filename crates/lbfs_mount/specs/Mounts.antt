@@ -3,8 +3,8 @@ use Rattle.std.specs.Prelude.{◌≡◌, ◌⊎◌, ℕ, ◌+◌, ◌<◌, List,
 use Rattle.std.specs.Io.KnownBytes.{Appends, Consumes, IsAtEnd}
 use Rattle.lb_base.specs.Causes.{Rose}
 use Rattle.lb_base.specs.Known.{AppendsPrefix}
-use Rattle.lb_base.specs.declared.sink.GiveErr.{GiveErr}
-use Rattle.lb_base.specs.declared.sink.GiveErr.TheVariants as give
+use Rattle.lb_base.specs.declared.sink.GiveError.{GiveError}
+use Rattle.lb_base.specs.declared.sink.GiveError.TheVariants as give
 use Rattle.lb_base.specs.declared.source.ReadError.{ReadError}
 use Rattle.lb_base.specs.declared.source.ReadError.TheVariants as read
 use Rattle.limits.specs.declared.TheConstants.{INPUT_MOST}
@@ -14,8 +14,8 @@ use Rattle.lbfs_client.specs.Lines.{line_of}
 use Rattle.lbfs_client.specs.declared.answer.Answer.{Answer}
 use Rattle.lbfs_client.specs.declared.line.MountLine.{MountLine}
 use Rattle.lbfs_client.specs.declared.line.MountLine.TheVariants as line
-use Rattle.lbfs_mount.specs.declared.mount_err.MountErr.{MountErr}
-use Rattle.lbfs_mount.specs.declared.mount_err.MountErr.TheVariants as errors
+use Rattle.lbfs_mount.specs.declared.mount_error.MountError.{MountError}
+use Rattle.lbfs_mount.specs.declared.mount_error.MountError.TheVariants as errors
 
 -- ---- what is written
 
@@ -91,47 +91,47 @@ pub record Outside : Type 0 where
   pub dials : ℕ
 
 -- why a connection isn't joined
-abbrev pub Unjoined : (link_fails : Type 0) → (dials dials' : ℕ) → MountErr → Type 0
+abbrev pub Unjoined : (link_fails : Type 0) → (dials dials' : ℕ) → MountError → Type 0
 Unjoined link_fails dials dials' errors.Network = Rose dials dials' ⊎ link_fails
 Unjoined link_fails dials dials' errors.Memory = Unit {0}
 Unjoined link_fails dials dials' e = ⊥
 
 -- why an answer wasn't written
-abbrev pub Unwritten : (writes writes' : ℕ) → MountErr → Type 0
+abbrev pub Unwritten : (writes writes' : ℕ) → MountError → Type 0
 Unwritten writes writes' errors.WriteFault = Rose writes writes'
 Unwritten writes writes' errors.Memory = Unit {0}
 Unwritten writes writes' e = ⊥
 
 -- why a line wasn't told
-abbrev pub Untold : (link_fails : Type 0) → (writes writes' dials dials' : ℕ) → MountErr → Type 0
+abbrev pub Untold : (link_fails : Type 0) → (writes writes' dials dials' : ℕ) → MountError → Type 0
 Untold link_fails writes writes' dials dials' errors.WriteFault = Rose writes writes'
 Untold link_fails writes writes' dials dials' errors.Network = Rose dials dials' ⊎ link_fails
 Untold link_fails writes writes' dials dials' errors.Memory = Unit {0}
 Untold link_fails writes writes' dials dials' e = ⊥
 
 -- a sink's errors, and a source's
-abbrev pub written_as : Result Unit GiveErr → Result Unit MountErr
+abbrev pub written_as : Result Unit GiveError → Result Unit MountError
 written_as (Ok u) = Ok u
 written_as (Err give.Failed) = Err errors.WriteFault
 written_as (Err give.Memory) = Err errors.Memory
 
-abbrev pub read_end : ReadError → MountErr
+abbrev pub read_end : ReadError → MountError
 read_end read.Fault = errors.ReadFault
 read_end read.TooLong = errors.TooLong
 read_end read.Memory = errors.Memory
 
 -- an answer was written, or a front of one and why not all
-abbrev pub WriteEnds : (held held' : Option (List ℕ)) → (writes writes' : ℕ) → Result Unit MountErr → Type 0
+abbrev pub WriteEnds : (held held' : Option (List ℕ)) → (writes writes' : ℕ) → Result Unit MountError → Type 0
 WriteEnds held held' writes writes' (Ok u) = (told : List ℕ) × IsAnswer told × Appends held held' told
 WriteEnds held held' writes writes' (Err e) = ((told : List ℕ) × IsAnswer told × AppendsPrefix held held' told) × Unwritten writes writes' e
 
 -- the same, where its line ran first
-abbrev pub AnswerEnds : (link_fails : Type 0) → (held held' : Option (List ℕ)) → (writes writes' dials dials' : ℕ) → Result Unit MountErr → Type 0
+abbrev pub AnswerEnds : (link_fails : Type 0) → (held held' : Option (List ℕ)) → (writes writes' dials dials' : ℕ) → Result Unit MountError → Type 0
 AnswerEnds link_fails held held' writes writes' dials dials' (Ok u) = (told : List ℕ) × IsAnswer told × Appends held held' told
 AnswerEnds link_fails held held' writes writes' dials dials' (Err e) = ((told : List ℕ) × IsAnswer told × AppendsPrefix held held' told) × Untold link_fails writes writes' dials dials' e
 
 -- why a line of this number, read so, wasn't run or told
-abbrev pub TextFails : (link_fails : Type 0) → Option MountLine → (number : ℕ) → (held held' : Option (List ℕ)) → (writes writes' dials dials' : ℕ) → MountErr → Type 0
+abbrev pub TextFails : (link_fails : Type 0) → Option MountLine → (number : ℕ) → (held held' : Option (List ℕ)) → (writes writes' dials dials' : ℕ) → MountError → Type 0
 TextFails link_fails l number held held' writes writes' dials dials' errors.ReadFault = ⊥
 TextFails link_fails l number held held' writes writes' dials dials' errors.TooLong = ⊥
 TextFails link_fails l number held held' writes writes' dials dials' (errors.BadLine n) = (n ≡ number) × (l ≡ None) × Appends held held' []
@@ -143,12 +143,12 @@ TextFails link_fails l number held held' writes writes' dials dials' errors.Memo
 abbrev pub WritesPart : Option MountLine → (held held' : Option (List ℕ)) → Type 0
 WritesPart l held held' = Appends held held' [] ⊎ ((told : List ℕ) × TellsLine l told × AppendsPrefix held held' told)
 
-abbrev pub TextEnds : (link_fails : Type 0) → Option MountLine → (number : ℕ) → (held held' : Option (List ℕ)) → (writes writes' dials dials' : ℕ) → Result Unit MountErr → Type 0
+abbrev pub TextEnds : (link_fails : Type 0) → Option MountLine → (number : ℕ) → (held held' : Option (List ℕ)) → (writes writes' dials dials' : ℕ) → Result Unit MountError → Type 0
 TextEnds link_fails l number held held' writes writes' dials dials' (Ok u) = (told : List ℕ) × TellsLine l told × Appends held held' told
 TextEnds link_fails l number held held' writes writes' dials dials' (Err e) = WritesPart l held held' × TextFails link_fails l number held held' writes writes' dials dials' e
 
 -- why a mount ended before its script did
-abbrev pub Fails : (link_fails : Type 0) → (old new : Outside) → MountErr → Type 0
+abbrev pub Fails : (link_fails : Type 0) → (old new : Outside) → MountError → Type 0
 Fails link_fails o s errors.ReadFault = Rose o.reads s.reads
 Fails link_fails o s errors.WriteFault = Rose o.writes s.writes
 Fails link_fails o s errors.Network = Rose o.dials s.dials ⊎ link_fails
@@ -156,6 +156,6 @@ Fails link_fails o s (errors.BadLine n) = IsBadLine o.left s.left o.held s.held 
 Fails link_fails o s errors.TooLong = IsTooLong o.left s.left
 Fails link_fails o s errors.Memory = Unit {0}
 
-abbrev pub Ends : (link_fails : Type 0) → (old new : Outside) → Result Unit MountErr → Type 0
+abbrev pub Ends : (link_fails : Type 0) → (old new : Outside) → Result Unit MountError → Type 0
 Ends link_fails o s (Ok u) = IsDone o.left s.left o.held s.held
 Ends link_fails o s (Err e) = Writes o.held s.held × Fails link_fails o s e

@@ -4,7 +4,7 @@ ghost use Rattle.std.specs.Prelude.{ℕ, ◌≤◌, IfErr};
 ghost use Rattle.lbfs_mount.specs.Mounts.{IsFaulty, Unjoined};
 
 use crate::hearing::hear_all;
-use crate::mount_err::MountErr;
+use crate::mount_error::MountError;
 use crate::shared::Shared;
 use crate::turns::Turns;
 use lb_base::source::Failed;
@@ -42,7 +42,7 @@ fn pair<L: Link + Drop>(
     link: L,
     inbox: Inbox,
     unpaired: &mut Option<L>,
-) -> Result<Dialled<L>, MountErr>
+) -> Result<Dialled<L>, MountError>
     ensures { (dials : ℕ) → IfErr result (λ e. Unjoined (IsFaulty L.faults unpaired.new) dials dials e) }
 {
     let mut link = link;
@@ -51,7 +51,7 @@ fn pair<L: Link + Drop>(
         Err(Failed) => {
             link.shut();
             *unpaired = Some(link);
-            Err(MountErr::Network)
+            Err(MountError::Network)
         }
     }
 }
@@ -60,7 +60,7 @@ fn pair<L: Link + Drop>(
 fn dial<N: Network>(
     alloc: Global,
     dialler: &mut Dialler<N, N::L>,
-) -> Result<Dialled<N::L>, MountErr>
+) -> Result<Dialled<N::L>, MountError>
 where
     N::L: Drop,
     ensures why { IfErr result (λ e. Unjoined (IsFaulty N.L.faults dialler.new.unpaired) (N.faults dialler.old.net) (N.faults dialler.new.net) e) }
@@ -71,10 +71,10 @@ where
             Ok(link) => pair(link, inbox, &mut dialler.unpaired),
             Err(Failed) => {
                 drop(inbox);
-                Err(MountErr::Network)
+                Err(MountError::Network)
             }
         },
-        Err(_want) => Err(MountErr::Memory),
+        Err(_want) => Err(MountError::Memory),
     }
 }
 
@@ -93,7 +93,7 @@ pub(crate) fn connect<
     shared: &'e Shared<D>,
     dialler: &mut Dialler<N, N::L>,
     clock: &'e C,
-) -> Result<(), MountErr>
+) -> Result<(), MountError>
 where
     N::L: Drop + Send + 's,
     ensures why { IfErr result (λ e. Unjoined (IsFaulty N.L.faults dialler.new.unpaired) (N.faults dialler.old.net) (N.faults dialler.new.net) e) }
@@ -107,7 +107,7 @@ where
             let hear = move || hear_all(rt, shared, connection, twin, inbox, clock);
             match scope.spawn(hear) {
                 Ok(_thread) => Ok(()),
-                Err(_refused) => Err(MountErr::Memory),
+                Err(_refused) => Err(MountError::Memory),
             }
         }
         Err(why) => Err(why),

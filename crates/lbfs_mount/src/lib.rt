@@ -11,7 +11,7 @@ mod connecting;
 mod desk;
 mod hearing;
 pub mod mount;
-pub mod mount_err;
+pub mod mount_error;
 mod running;
 pub mod script;
 mod shared;

@@ -3,11 +3,11 @@
 ghost use Rattle.std.specs.Prelude.{ℕ, ◌≤◌, ◌⊎◌, OnOk, IsErrOf};
 ghost use Rattle.lb_base.specs.Causes.{Rose};
 ghost use Rattle.lbfs_mount.specs.Mounts.{Ends, IsBadLine, IsDone, IsFaulty, IsTooLong, Writes};
-ghost use Rattle.lbfs_mount.specs.declared.mount_err.MountErr.TheVariants as errors;
+ghost use Rattle.lbfs_mount.specs.declared.mount_error.MountError.TheVariants as errors;
 
 use crate::connecting::Dialler;
 use crate::desk::Desk;
-use crate::mount_err::MountErr;
+use crate::mount_error::MountError;
 use crate::running::run_lines;
 use crate::shared::Shared;
 use crate::turns::Turns;
@@ -38,7 +38,7 @@ fn run_shared<
     sink: K,
     dialler: Dialler<N, N::L>,
     clock: &'x C,
-) -> (Result<(), MountErr>, S, K, Dialler<N, N::L>)
+) -> (Result<(), MountError>, S, K, Dialler<N, N::L>)
 where
     N::L: Drop + Send,
     ensures ends { Ends (IsFaulty N.L.faults result.3.unpaired) (record { left = S.left script; reads = S.faults script; held = K.held sink; writes = K.faults sink; dials = N.faults dialler.net }) (record { left = S.left result.1; reads = S.faults result.1; held = K.held result.2; writes = K.faults result.2; dials = N.faults result.3.net }) result.0 }
@@ -47,7 +47,7 @@ where
     thread::scope(
         thread::scope_env(),
         rt,
-        move |scope| -> (Result<(), MountErr>, S, K, Dialler<N, N::L>)
+        move |scope| -> (Result<(), MountError>, S, K, Dialler<N, N::L>)
             ensures ends { Ends (IsFaulty N.L.faults result.3.unpaired) (record { left = S.left script; reads = S.faults script; held = K.held sink; writes = K.faults sink; dials = N.faults dialler.net }) (record { left = S.left result.1; reads = S.faults result.1; held = K.held result.2; writes = K.faults result.2; dials = N.faults result.3.net }) result.0 }
             ensures later { (S.faults script ≤ S.faults result.1) × (K.faults sink ≤ K.faults result.2) }
         {
@@ -96,7 +96,7 @@ pub fn mount<
     net: N,
     clock: &C,
     port: u16,
-) -> (Result<(), MountErr>, S, K, F, N, Option<N::L>)
+) -> (Result<(), MountError>, S, K, F, N, Option<N::L>)
 where
     N::L: Drop + Send,
     ensures done { OnOk result.0 (IsDone (S.left script) (S.left result.1) (K.held sink) (K.held result.2)) }
@@ -111,7 +111,7 @@ where
 {
     let mounted = match Mounted::new(alloc, files) {
         Ok(mounted) => mounted,
-        Err(files) => return (Err(MountErr::Memory), script, sink, files, net, None),
+        Err(files) => return (Err(MountError::Memory), script, sink, files, net, None),
     };
     let shared = Shared::new(alloc, Desk::new(mounted));
     let dialler = Dialler {

@@ -7,12 +7,12 @@ ghost use Rattle.lbfs_mount.specs.Mounts.{AnswerEnds, Ends, IsFaulty, TextEnds, 
 
 use crate::answer_line::AnswerLine;
 use crate::connecting::{Dialler, connect};
-use crate::mount_err::MountErr;
+use crate::mount_error::MountError;
 use crate::script::Script;
 use crate::shared::Shared;
 use crate::turns::Turns;
-use command_text::line_err::LineErr;
-use lb_base::sink::{GiveErr, Sink, give_all};
+use command_text::line_error::LineError;
+use lb_base::sink::{GiveError, Sink, give_all};
 use lb_base::source::{ReadError, Source};
 use lbfs_client::line::{MountLine, is_skipped};
 use links::clock::Clock;
@@ -21,29 +21,29 @@ use std::sync::Wait;
 use std::thread::{Scope, Threads};
 
 /// What came of writing.
-fn written_as(given: Result<(), GiveErr>) -> Result<(), MountErr>
+fn written_as(given: Result<(), GiveError>) -> Result<(), MountError>
     ensures { result ≡ written_as given }
 {
     match given {
         Ok(()) => Ok(()),
-        Err(GiveErr::Failed) => Err(MountErr::WriteFault),
-        Err(GiveErr::Memory) => Err(MountErr::Memory),
+        Err(GiveError::Failed) => Err(MountError::WriteFault),
+        Err(GiveError::Memory) => Err(MountError::Memory),
     }
 }
 
 /// The end of a mount whose script wasn't read.
-fn read_end(why: ReadError) -> MountErr
+fn read_end(why: ReadError) -> MountError
     ensures { result ≡ read_end why }
 {
     match why {
-        ReadError::Fault => MountErr::ReadFault,
-        ReadError::TooLong => MountErr::TooLong,
-        ReadError::Memory => MountErr::Memory,
+        ReadError::Fault => MountError::ReadFault,
+        ReadError::TooLong => MountError::TooLong,
+        ReadError::Memory => MountError::Memory,
     }
 }
 
 /// Writes the line of what ended.
-fn write_answer<K: Sink>(sink: &mut K, answer: &AnswerLine) -> Result<(), MountErr>
+fn write_answer<K: Sink>(sink: &mut K, answer: &AnswerLine) -> Result<(), MountError>
     ensures ends { WriteEnds (K.held sink.old) (K.held sink.new) (K.faults sink.old) (K.faults sink.new) result }
     ensures later { K.faults sink.old ≤ K.faults sink.new }
 {
@@ -66,7 +66,7 @@ fn run_line<
     dialler: &mut Dialler<N, N::L>,
     clock: &'e C,
     line: MountLine,
-) -> Result<AnswerLine, MountErr>
+) -> Result<AnswerLine, MountError>
 where
     N::L: Drop + Send + 's,
     ensures why { IfErr result (λ e. Unjoined (IsFaulty N.L.faults dialler.new.unpaired) (N.faults dialler.old.net) (N.faults dialler.new.net) e) }
@@ -77,7 +77,7 @@ where
     }
     match shared.await_line(rt) {
         Ok(answer) => Ok(answer),
-        Err(_want) => Err(MountErr::Memory),
+        Err(_want) => Err(MountError::Memory),
     }
 }
 
@@ -98,7 +98,7 @@ fn tell_line<
     clock: &'e C,
     sink: &mut K,
     line: MountLine,
-) -> Result<(), MountErr>
+) -> Result<(), MountError>
 where
     N::L: Drop + Send + 's,
     ensures ends { AnswerEnds (IsFaulty N.L.faults dialler.new.unpaired) (K.held sink.old) (K.held sink.new) (K.faults sink.old) (K.faults sink.new) (N.faults dialler.old.net) (N.faults dialler.new.net) result }
@@ -129,7 +129,7 @@ fn run_text<
     sink: &mut K,
     text: &[u8],
     number: u64,
-) -> Result<(), MountErr>
+) -> Result<(), MountError>
 where
     N::L: Drop + Send + 's,
     ensures ends { TextEnds (IsFaulty N.L.faults dialler.new.unpaired) (line_of text.now) number (K.held sink.old) (K.held sink.new) (K.faults sink.old) (K.faults sink.new) (N.faults dialler.old.net) (N.faults dialler.new.net) result }
@@ -141,8 +141,8 @@ where
     }
     match MountLine::read(shared.alloc(), text) {
         Ok(line) => tell_line(scope, rt, shared, dialler, clock, sink, line),
-        Err(LineErr::BadLine) => Err(MountErr::BadLine { number }),
-        Err(LineErr::Memory) => Err(MountErr::Memory),
+        Err(LineError::BadLine) => Err(MountError::BadLine { number }),
+        Err(LineError::Memory) => Err(MountError::Memory),
     }
 }
 
@@ -164,7 +164,7 @@ fn run_on<
     clock: &'e C,
     script: &mut S,
     sink: &mut K,
-) -> Result<(), MountErr>
+) -> Result<(), MountError>
 where
     N::L: Drop + Send + 's,
     ensures ends { Ends (IsFaulty N.L.faults dialler.new.unpaired) (record { left = S.left script.old; reads = S.faults script.old; held = K.held sink.old; writes = K.faults sink.old; dials = N.faults dialler.old.net }) (record { left = S.left script.new; reads = S.faults script.new; held = K.held sink.new; writes = K.faults sink.new; dials = N.faults dialler.new.net }) result }
@@ -172,7 +172,7 @@ where
 {
     let mut lines = match Script::new(shared.alloc()) {
         Ok(lines) => lines,
-        Err(_want) => return Err(MountErr::Memory),
+        Err(_want) => return Err(MountError::Memory),
     };
     for at in 0..u64::MAX {
         match lines.next(shared.alloc(), script) {
@@ -199,7 +199,7 @@ where
             Err(why) => return Err(read_end(why)),
         }
     }
-    Err(MountErr::Memory)
+    Err(MountError::Memory)
 }
 
 /// Joins a connection and runs the lines of the script to its end.
@@ -220,7 +220,7 @@ pub(crate) fn run_lines<
     clock: &'e C,
     script: &mut S,
     sink: &mut K,
-) -> Result<(), MountErr>
+) -> Result<(), MountError>
 where
     N::L: Drop + Send + 's,
     ensures ends { Ends (IsFaulty N.L.faults dialler.new.unpaired) (record { left = S.left script.old; reads = S.faults script.old; held = K.held sink.old; writes = K.faults sink.old; dials = N.faults dialler.old.net }) (record { left = S.left script.new; reads = S.faults script.new; held = K.held sink.new; writes = K.faults sink.new; dials = N.faults dialler.new.net }) result }

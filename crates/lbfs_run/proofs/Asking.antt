@@ -4,8 +4,8 @@ use Rattle.std.specs.Io.KnownBytes.{Appends}
 use Rattle.lb_base.specs.Known.{AppendsPrefix}
 use Rattle.store.specs.declared.record.Kept.{Kept}
 use Rattle.lbfs_mount.specs.Mounts.{Tells, Writes}
-use Rattle.lbfs_mount.specs.declared.mount_err.MountErr.TheVariants as mount_errors
-use Rattle.lbfs_server.specs.declared.serve.ServeErr.TheVariants as serve_errors
+use Rattle.lbfs_mount.specs.declared.mount_error.MountError.TheVariants as mount_errors
+use Rattle.lbfs_server.specs.declared.serve.ServeError.TheVariants as serve_errors
 use Rattle.program_words.specs.declared.asked.Command.{Command}
 use Rattle.program_words.specs.declared.asked.Asked.{Asked}
 use Rattle.program_words.specs.declared.asked.Asked.TheVariants as ask

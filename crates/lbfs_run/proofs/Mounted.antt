@@ -3,8 +3,8 @@ use Rattle.std.proofs.Common.{◌≡◌, ◌⊎◌, ℕ, ◌≤◌, ◌<◌, Lis
 use Rattle.std.specs.Prelude.{OnOk, IsErrOf}
 use Rattle.lb_base.specs.Causes.{Rose}
 use Rattle.lbfs_mount.specs.Mounts.{IsBadLine, IsDone, IsTooLong, Writes}
-use Rattle.lbfs_mount.specs.declared.mount_err.MountErr.{MountErr}
-use Rattle.lbfs_mount.specs.declared.mount_err.MountErr.TheVariants as errors
+use Rattle.lbfs_mount.specs.declared.mount_error.MountError.{MountError}
+use Rattle.lbfs_mount.specs.declared.mount_error.MountError.TheVariants as errors
 use Rattle.lbfs_run.specs.Mounting.{MountCause, mount_output}
 use Rattle.lbfs_run.specs.Telling.{Tells}
 
@@ -14,7 +14,7 @@ below code m n h e f = absurd (omega (arith, h, e, f))
 above : {A : Type 0} (code m n : ℕ) → n < m → code ≡ m → code ≡ n → A
 above code m n h e f = absurd (omega (arith, h, e, f))
 
-pub cause : (left left' held held' : Option (List ℕ)) (read read' write write' net net' : ℕ) (link_fails : Type 0) (ended : Result Unit MountErr)
+pub cause : (left left' held held' : Option (List ℕ)) (read read' write write' net net' : ℕ) (link_fails : Type 0) (ended : Result Unit MountError)
     → OnOk ended (IsDone left left' held held') → Writes held held'
     → (IsErrOf ended errors.ReadFault → Rose read read') → (IsErrOf ended errors.WriteFault → Rose write write')
     → (IsErrOf ended errors.Network → Rose net net' ⊎ link_fails)
@@ -31,7 +31,7 @@ cause left left' held held' read read' write write' net net' link_fails (Err err
 
 -- ---- by the status
 
-pub read_rose : (held held' : Option (List ℕ)) (code read read' : ℕ) (ended : Result Unit MountErr) → (IsErrOf ended errors.ReadFault → Rose read read')
+pub read_rose : (held held' : Option (List ℕ)) (code read read' : ℕ) (ended : Result Unit MountError) → (IsErrOf ended errors.ReadFault → Rose read read')
     → Tells code held held' (mount_output ended) → code ≡ 3 → Rose read read'
 read_rose held held' code read read' (Ok u) h (inl told) three = below code 0 3 (omega arith) told.0 three
 read_rose held held' code read read' (Err errors.ReadFault) h (inl told) three = h refl
@@ -43,7 +43,7 @@ read_rose held held' code read read' (Err errors.TooLong) h (inl told) three = a
 read_rose held held' code read read' ended h (inr (inl told)) three = above code 4 3 (omega arith) told.0 three
 read_rose held held' code read read' ended h (inr (inr told)) three = above code 6 3 (omega arith) told.0 three
 
-pub network_rose : (held held' : Option (List ℕ)) (code net net' : ℕ) (link_fails : Type 0) (ended : Result Unit MountErr) → (IsErrOf ended errors.Network → Rose net net' ⊎ link_fails)
+pub network_rose : (held held' : Option (List ℕ)) (code net net' : ℕ) (link_fails : Type 0) (ended : Result Unit MountError) → (IsErrOf ended errors.Network → Rose net net' ⊎ link_fails)
     → Tells code held held' (mount_output ended) → code ≡ 7 → Rose net net' ⊎ link_fails
 network_rose held held' code net net' link_fails (Ok u) h (inl told) seven = below code 0 7 (omega arith) told.0 seven
 network_rose held held' code net net' link_fails (Err errors.ReadFault) h (inl told) seven = below code 3 7 (omega arith) told.0 seven
@@ -60,7 +60,7 @@ pub write_rose : (write between write' : ℕ) → write ≤ between → between 
 write_rose write between write' first second (inl h) = search (arith, first, second, h)
 write_rose write between write' first second (inr h) = search (arith, first, second, h)
 
-pub known : (held held' : Option (List ℕ)) (code : ℕ) (ended : Result Unit MountErr) → Tells code held held' (mount_output ended)
+pub known : (held held' : Option (List ℕ)) (code : ℕ) (ended : Result Unit MountError) → Tells code held held' (mount_output ended)
     → (code ≡ 0) ⊎ (code ≡ 3) ⊎ (code ≡ 4) ⊎ (code ≡ 5) ⊎ (code ≡ 6) ⊎ (code ≡ 7)
 known held held' code (Ok u) (inl told) = inl told.0
 known held held' code (Err errors.ReadFault) (inl told) = inr (inl told.0)

@@ -6,8 +6,8 @@ use Rattle.store.specs.declared.record.Kept.{Kept}
 use Rattle.lbfs_server.specs.Ends.{CountsMore}
 use Rattle.lbfs_server.specs.Serve.{IsBad}
 use Rattle.lbfs_server.specs.declared.serve.Served.{Served}
-use Rattle.lbfs_server.specs.declared.serve.ServeErr.{ServeErr}
-use Rattle.lbfs_server.specs.declared.serve.ServeErr.TheVariants as errors
+use Rattle.lbfs_server.specs.declared.serve.ServeError.{ServeError}
+use Rattle.lbfs_server.specs.declared.serve.ServeError.TheVariants as errors
 use Rattle.program_words.specs.declared.asked.ServeOptions.{ServeOptions}
 use Rattle.lbfs_run.specs.Ends.{StoreFails}
 use Rattle.lbfs_run.specs.Serving.{ServeCause, serve_output}
@@ -19,7 +19,7 @@ below code m n h e f = absurd (omega (arith, h, e, f))
 above : {A : Type 0} (code m n : ℕ) → n < m → code ≡ m → code ≡ n → A
 above code m n h e f = absurd (omega (arith, h, e, f))
 
-pub cause : (o : ServeOptions) (accepted accepted' net net' store store' : ℕ) (records : Option (List Kept)) (ended : Result Served ServeErr)
+pub cause : (o : ServeOptions) (accepted accepted' net net' store store' : ℕ) (records : Option (List Kept)) (ended : Result Served ServeError)
     → IfOk ended (λ s. (s.sessions ≡ o.sessions) × CountsMore accepted o.sessions accepted')
     → (IsErrOf ended errors.Network → Rose net net') → (IsErrOf ended errors.Store → Rose store store')
     → ((which : ℕ) → IsErrOf ended (errors.BadRecord which) → IsBad records which)
@@ -30,7 +30,7 @@ cause o accepted accepted' net net' store store' records (Err errors.Store) ok n
 cause o accepted accepted' net net' store store' records (Err (errors.BadRecord which)) ok network stored bad = bad which refl
 cause o accepted accepted' net net' store store' records (Err errors.Memory) ok network stored bad = tt
 
-pub network_rose : (o : ServeOptions) (accepted accepted' net net' store store' : ℕ) (records : Option (List Kept)) (held held' : Option (List ℕ)) (code : ℕ) (ended : Result Served ServeErr)
+pub network_rose : (o : ServeOptions) (accepted accepted' net net' store store' : ℕ) (records : Option (List Kept)) (held held' : Option (List ℕ)) (code : ℕ) (ended : Result Served ServeError)
     → ServeCause o accepted accepted' net net' store store' records ended → Tells code held held' (serve_output ended) → code ≡ 7 → Rose net net'
 network_rose o accepted accepted' net net' store store' records held held' code (Ok s) h (inl told) seven = below code 0 7 (omega arith) told.0 seven
 network_rose o accepted accepted' net net' store store' records held held' code (Err errors.Network) h (inl told) seven = h
@@ -40,7 +40,7 @@ network_rose o accepted accepted' net net' store store' records held held' code 
 network_rose o accepted accepted' net net' store store' records held held' code ended h (inr (inl told)) seven = below code 4 7 (omega arith) told.0 seven
 network_rose o accepted accepted' net net' store store' records held held' code ended h (inr (inr told)) seven = below code 6 7 (omega arith) told.0 seven
 
-pub store_failed : (o : ServeOptions) (accepted accepted' net net' store store' : ℕ) (records : Option (List Kept)) (held held' : Option (List ℕ)) (code : ℕ) (ended : Result Served ServeErr)
+pub store_failed : (o : ServeOptions) (accepted accepted' net net' store store' : ℕ) (records : Option (List Kept)) (held held' : Option (List ℕ)) (code : ℕ) (ended : Result Served ServeError)
     → ServeCause o accepted accepted' net net' store store' records ended → Tells code held held' (serve_output ended) → code ≡ 8 → StoreFails store store' records held held'
 store_failed o accepted accepted' net net' store store' records held held' code (Ok s) h (inl told) eight = below code 0 8 (omega arith) told.0 eight
 store_failed o accepted accepted' net net' store store' records held held' code (Err errors.Network) h (inl told) eight = below code 7 8 (omega arith) told.0 eight
@@ -50,7 +50,7 @@ store_failed o accepted accepted' net net' store store' records held held' code 
 store_failed o accepted accepted' net net' store store' records held held' code ended h (inr (inl told)) eight = below code 4 8 (omega arith) told.0 eight
 store_failed o accepted accepted' net net' store store' records held held' code ended h (inr (inr told)) eight = below code 6 8 (omega arith) told.0 eight
 
-pub known : (held held' : Option (List ℕ)) (code : ℕ) (ended : Result Served ServeErr) → Tells code held held' (serve_output ended)
+pub known : (held held' : Option (List ℕ)) (code : ℕ) (ended : Result Served ServeError) → Tells code held held' (serve_output ended)
     → (code ≡ 0) ⊎ (code ≡ 4) ⊎ (code ≡ 6) ⊎ (code ≡ 7) ⊎ (code ≡ 8)
 known held held' code (Ok s) (inl told) = inl told.0
 known held held' code (Err errors.Network) (inl told) = inr (inr (inr (inl told.0)))

@@ -5,14 +5,14 @@ use Rattle.trace_text.specs.Refusals.{refusal_of}
 use Rattle.trace_text.specs.declared.refusal.LineFault.TheVariants.{Grammar}
 use Rattle.trace_text.specs.declared.refusal.Refusal.TheVariants.{LimitBytes, Line}
 use Rattle.lbfs_mount.specs.Mounts.{IsBadLine, IsDone, IsTooLong, Writes}
-use Rattle.lbfs_mount.specs.declared.mount_err.MountErr.{MountErr}
-use Rattle.lbfs_mount.specs.declared.mount_err.MountErr.TheVariants as errors
+use Rattle.lbfs_mount.specs.declared.mount_error.MountError.{MountError}
+use Rattle.lbfs_mount.specs.declared.mount_error.MountError.TheVariants as errors
 use Rattle.exit_status.specs.declared.status.Status.{Status}
 use Rattle.exit_status.specs.declared.status.Status.TheVariants as status
 use Rattle.lbfs_run.specs.Telling.{Tells}
 
 -- the status, and what is written behind the operations' lines
-abbrev pub mount_output : Result Unit MountErr → Status × List ℕ
+abbrev pub mount_output : Result Unit MountError → Status × List ℕ
 mount_output (Ok done) = (status.Done, [])
 mount_output (Err errors.ReadFault) = (status.ReadFault, [])
 mount_output (Err errors.WriteFault) = (status.WriteFault, [])
@@ -24,7 +24,7 @@ mount_output (Err errors.TooLong) = (status.Refused, refusal_of LimitBytes)
 -- why a mount ended so, with what was written for its lines: the script was read to its end, and all of its lines were
 -- told; or a front of what tells some lines was written, and a count of faults rose (the source's, the sink's, the
 -- network's or a link's), a line is none of a script, or the script is longer than an input may be
-abbrev pub MountCause : (left left' held held' : Option (List ℕ)) → (read read' write write' net net' : ℕ) → (link_fails : Type 0) → Result Unit MountErr → Type 0
+abbrev pub MountCause : (left left' held held' : Option (List ℕ)) → (read read' write write' net net' : ℕ) → (link_fails : Type 0) → Result Unit MountError → Type 0
 MountCause left left' held held' read read' write write' net net' link_fails (Ok done) = IsDone left left' held held'
 MountCause left left' held held' read read' write write' net net' link_fails (Err errors.ReadFault) = Writes held held' × Rose read read'
 MountCause left left' held held' read read' write write' net net' link_fails (Err errors.WriteFault) = Writes held held' × Rose write write'
@@ -36,4 +36,4 @@ MountCause left left' held held' read read' write write' net net' link_fails (Er
 -- a mount ended in one of these ways, with its cause, and that was written behind its operations' lines, with its status
 abbrev pub MountEnds : (left left' held held' : Option (List ℕ)) → (read read' write net net' : ℕ) → (link_fails : Type 0) → (code : ℕ) → Type 0
 MountEnds left left' held held' read read' write net net' link_fails code =
-    (ended : Result Unit MountErr) × (between : Option (List ℕ)) × (write' : ℕ) × MountCause left left' held between read read' write write' net net' link_fails ended × Tells code between held' (mount_output ended)
+    (ended : Result Unit MountError) × (between : Option (List ℕ)) × (write' : ℕ) × MountCause left left' held between read read' write write' net net' link_fails ended × Tells code between held' (mount_output ended)

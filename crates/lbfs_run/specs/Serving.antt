@@ -5,8 +5,8 @@ use Rattle.store.specs.declared.record.Kept.{Kept}
 use Rattle.lbfs_server.specs.Ends.{CountsMore}
 use Rattle.lbfs_server.specs.Serve.{IsBad}
 use Rattle.lbfs_server.specs.declared.serve.Served.{Served}
-use Rattle.lbfs_server.specs.declared.serve.ServeErr.{ServeErr}
-use Rattle.lbfs_server.specs.declared.serve.ServeErr.TheVariants as errors
+use Rattle.lbfs_server.specs.declared.serve.ServeError.{ServeError}
+use Rattle.lbfs_server.specs.declared.serve.ServeError.TheVariants as errors
 use Rattle.program_words.specs.declared.asked.ServeOptions.{ServeOptions}
 use Rattle.exit_status.specs.declared.status.Status.{Status}
 use Rattle.exit_status.specs.declared.status.Status.TheVariants as status
@@ -23,7 +23,7 @@ abbrev pub fault_text : List ℕ
 fault_text = codes "store fault\n"
 
 -- the status, and what is written
-abbrev pub serve_output : Result Served ServeErr → Status × List ℕ
+abbrev pub serve_output : Result Served ServeError → Status × List ℕ
 serve_output (Ok s) = (status.Done, served_text s.sessions s.changes)
 serve_output (Err errors.Network) = (status.Network, [])
 serve_output (Err errors.Store) = (status.Store, fault_text)
@@ -32,7 +32,7 @@ serve_output (Err errors.Memory) = (status.Memory, [])
 
 -- why serving ended so: at least as many links were accepted as sessions were asked for; the network's count of faults rose; the
 -- store's did; this record is the first that breaks a rule
-abbrev pub ServeCause : ServeOptions → (accepted accepted' net net' store store' : ℕ) → Option (List Kept) → Result Served ServeErr → Type 0
+abbrev pub ServeCause : ServeOptions → (accepted accepted' net net' store store' : ℕ) → Option (List Kept) → Result Served ServeError → Type 0
 ServeCause o accepted accepted' net net' store store' records (Ok s) = (s.sessions ≡ o.sessions) × CountsMore accepted o.sessions accepted'
 ServeCause o accepted accepted' net net' store store' records (Err errors.Network) = Rose net net'
 ServeCause o accepted accepted' net net' store store' records (Err errors.Store) = Rose store store'
@@ -42,4 +42,4 @@ ServeCause o accepted accepted' net net' store store' records (Err errors.Memory
 -- serving ended in one of these ways, with its cause, and that was written with its status
 abbrev pub ServeEnds : ServeOptions → (accepted accepted' net net' store store' : ℕ) → Option (List Kept) → (held held' : Option (List ℕ)) → (code : ℕ) → Type 0
 ServeEnds o accepted accepted' net net' store store' records held held' code =
-    (ended : Result Served ServeErr) × ServeCause o accepted accepted' net net' store store' records ended × Tells code held held' (serve_output ended)
+    (ended : Result Served ServeError) × ServeCause o accepted accepted' net net' store store' records ended × Tells code held held' (serve_output ended)

@@ -4,7 +4,7 @@
 ghost use Rattle.std.specs.Prelude.{◌≡◌, ◌≤◌, ◌⊎◌, [], IfOk, IsErrOf};
 ghost use Rattle.lb_base.specs.Causes.{Rose};
 ghost use Rattle.lbfs_mount.specs.Mounts.{IsFaulty};
-ghost use Rattle.lbfs_mount.specs.declared.mount_err.MountErr.TheVariants as errors;
+ghost use Rattle.lbfs_mount.specs.declared.mount_error.MountError.TheVariants as errors;
 ghost use Rattle.lbfs_run.specs.Mounting.{MountEnds, mount_output};
 ghost use Rattle.lbfs_run.specs.Telling.{Tells};
 
@@ -16,7 +16,7 @@ use lb_base::items::Items;
 use lb_base::sink::Sink;
 use lb_base::source::Source;
 use lbfs_mount::mount::mount;
-use lbfs_mount::mount_err::MountErr;
+use lbfs_mount::mount_error::MountError;
 use links::clock::Clock;
 use links::files::Files;
 use links::network::Network;
@@ -37,14 +37,14 @@ fn untold(alloc: Global, status: Status) -> Output
 }
 
 /// What is written of how a mount ended, and the status then. The one error is want of memory.
-fn mount_output(alloc: Global, ended: Result<(), MountErr>) -> Result<Output, AllocError>
+fn mount_output(alloc: Global, ended: Result<(), MountError>) -> Result<Output, AllocError>
     ensures { IfOk result (λ out. (out.status, out.text) ≡ mount_output ended) }
 {
     match ended {
         Ok(()) => Ok(untold(alloc, Status::Done)),
-        Err(MountErr::ReadFault) => Ok(untold(alloc, Status::ReadFault)),
-        Err(MountErr::WriteFault) => Ok(untold(alloc, Status::WriteFault)),
-        Err(MountErr::BadLine { number }) => refused(
+        Err(MountError::ReadFault) => Ok(untold(alloc, Status::ReadFault)),
+        Err(MountError::WriteFault) => Ok(untold(alloc, Status::WriteFault)),
+        Err(MountError::BadLine { number }) => refused(
             alloc,
             Status::Refused,
             Refusal::Line {
@@ -52,14 +52,14 @@ fn mount_output(alloc: Global, ended: Result<(), MountErr>) -> Result<Output, Al
                 fault: LineFault::Grammar,
             },
         ),
-        Err(MountErr::Network) => Ok(untold(alloc, Status::Network)),
-        Err(MountErr::Memory) => Ok(untold(alloc, Status::Memory)),
-        Err(MountErr::TooLong) => refused(alloc, Status::Refused, Refusal::LimitBytes),
+        Err(MountError::Network) => Ok(untold(alloc, Status::Network)),
+        Err(MountError::Memory) => Ok(untold(alloc, Status::Memory)),
+        Err(MountError::TooLong) => refused(alloc, Status::Refused, Refusal::LimitBytes),
     }
 }
 
 /// Writes how a mount ended, and answers the status.
-fn tell_mounted<K: Sink>(alloc: Global, ended: Result<(), MountErr>, sink: &mut K) -> u8
+fn tell_mounted<K: Sink>(alloc: Global, ended: Result<(), MountError>, sink: &mut K) -> u8
     ensures told { Tells result (K.held sink.old) (K.held sink.new) (mount_output ended) }
     ensures later { K.faults sink.old ≤ K.faults sink.new }
     ensures fault { result ≡ 4 → IsErrOf ended errors.WriteFault ⊎ Rose (K.faults sink.old) (K.faults sink.new) }

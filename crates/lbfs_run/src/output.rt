@@ -15,7 +15,7 @@ use program_words::asked::{InputCommand, SeedCommand, View};
 use record_show::show::shown;
 use register_model::text;
 use std::alloc::{AllocError, Global};
-use trace_replay::fault::{Refused, TraceErr};
+use trace_replay::fault::{Refused, TraceError};
 use trace_replay::run::run;
 use trace_replay::world::World;
 use trace_text::refusal::Refusal;
@@ -69,7 +69,7 @@ fn ran(alloc: Global, view: View, trace: &[u8]) -> Result<Output, AllocError>
 {
     match run(alloc, trace) {
         Ok(world) => done(alloc, view, world),
-        Err(TraceErr::Refused(Refused { line, fault })) => refused(
+        Err(TraceError::Refused(Refused { line, fault })) => refused(
             alloc,
             Status::Refused,
             Refusal::Line {
@@ -77,7 +77,7 @@ fn ran(alloc: Global, view: View, trace: &[u8]) -> Result<Output, AllocError>
                 fault,
             },
         ),
-        Err(TraceErr::Memory) => Err(AllocError),
+        Err(TraceError::Memory) => Err(AllocError),
     }
 }
 

@@ -21,7 +21,7 @@ use crate::law::generated_traces_are_accepted;
 use crate::output::{Output, input_output, refused, seed_output};
 use exit_status::status::Status;
 use kept_promise::law::promise_is_kept;
-use lb_base::sink::{GiveErr, Sink, give_all};
+use lb_base::sink::{GiveError, Sink, give_all};
 use lb_base::source::{ReadError, Source, read_all};
 use program_words::asked::{Command, InputCommand};
 use std::alloc::{AllocError, Global};
@@ -141,8 +141,8 @@ fn run_on<S: Source, K: Sink>(
     };
     match give_all(sink, output.text.as_slice()) {
         Ok(()) => output.status.code(),
-        Err(GiveErr::Failed) => Status::WriteFault.code(),
-        Err(GiveErr::Memory) => Status::Memory.code(),
+        Err(GiveError::Failed) => Status::WriteFault.code(),
+        Err(GiveError::Memory) => Status::Memory.code(),
     }
 }
 

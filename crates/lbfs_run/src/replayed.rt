@@ -12,7 +12,7 @@ use std::alloc::{AllocError, Global};
 use trace_generator::BLOCKS_MOST;
 use trace_generator::blocks::put_block;
 use trace_generator::text::put_opening;
-use trace_replay::fault::TraceErr;
+use trace_replay::fault::TraceError;
 use trace_replay::run::run_lines;
 use trace_replay::world::World;
 
@@ -25,8 +25,8 @@ fn run_taken(alloc: Global, world: &mut World, first: u64, text: &[u8]) -> Resul
 {
     match run_lines(alloc, world, first, text) {
         Ok(next) => Ok(next),
-        Err(TraceErr::Memory) => Err(AllocError),
-        Err(TraceErr::Refused(_)) => unreachable!(),
+        Err(TraceError::Memory) => Err(AllocError),
+        Err(TraceError::Refused(_)) => unreachable!(),
     }
 }
 

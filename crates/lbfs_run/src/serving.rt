@@ -14,7 +14,7 @@ use exit_status::status::Status;
 use lb_base::items::{Bytes, Items};
 use lb_base::sink::Sink;
 use lbfs_server::gate::OpenGate;
-use lbfs_server::serve::{ServeErr, Served, serve};
+use lbfs_server::serve::{ServeError, Served, serve};
 use links::clock::Clock;
 use links::network::Network;
 use links::rest::Rest;
@@ -45,21 +45,21 @@ fn record_text(alloc: Global, which: usize) -> Result<Bytes, AllocError>
 }
 
 /// What is written of how serving ended, and the status then. The one error is want of memory.
-fn serve_output(alloc: Global, ended: Result<Served, ServeErr>) -> Result<Output, AllocError>
+fn serve_output(alloc: Global, ended: Result<Served, ServeError>) -> Result<Output, AllocError>
     ensures { IfOk result (λ out. (out.status, out.text) ≡ serve_output ended) }
 {
     let (status, text) = match ended {
         Ok(served) => (Status::Done, served_text(alloc, served)?),
-        Err(ServeErr::Network) => (Status::Network, Items::new(alloc)),
-        Err(ServeErr::Store) => (Status::Store, Items::copy_of(alloc, b"store fault\n")?),
-        Err(ServeErr::BadRecord { which }) => (Status::Store, record_text(alloc, which)?),
-        Err(ServeErr::Memory) => (Status::Memory, Items::new(alloc)),
+        Err(ServeError::Network) => (Status::Network, Items::new(alloc)),
+        Err(ServeError::Store) => (Status::Store, Items::copy_of(alloc, b"store fault\n")?),
+        Err(ServeError::BadRecord { which }) => (Status::Store, record_text(alloc, which)?),
+        Err(ServeError::Memory) => (Status::Memory, Items::new(alloc)),
     };
     Ok(Output { status, text })
 }
 
 /// Writes how serving ended, and answers the status.
-fn tell_served<K: Sink>(alloc: Global, ended: Result<Served, ServeErr>, sink: &mut K) -> u8
+fn tell_served<K: Sink>(alloc: Global, ended: Result<Served, ServeError>, sink: &mut K) -> u8
     ensures told { Tells result (K.held sink.old) (K.held sink.new) (serve_output ended) }
     ensures later { K.faults sink.old ≤ K.faults sink.new }
     ensures fault { result ≡ 4 → Rose (K.faults sink.old) (K.faults sink.new) }

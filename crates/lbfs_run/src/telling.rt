@@ -7,7 +7,7 @@ ghost use Rattle.lbfs_run.specs.Telling.{Tells};
 
 use crate::output::Output;
 use exit_status::status::Status;
-use lb_base::sink::{GiveErr, Sink, give_all};
+use lb_base::sink::{GiveError, Sink, give_all};
 
 /// Writes the output, and answers its status, or that of what went wrong.
 pub(crate) fn tell<K: Sink>(output: &Output, sink: &mut K) -> u8
@@ -17,7 +17,7 @@ pub(crate) fn tell<K: Sink>(output: &Output, sink: &mut K) -> u8
 {
     match give_all(sink, output.text.as_slice()) {
         Ok(()) => output.status.code(),
-        Err(GiveErr::Failed) => Status::WriteFault.code(),
-        Err(GiveErr::Memory) => Status::Memory.code(),
+        Err(GiveError::Failed) => Status::WriteFault.code(),
+        Err(GiveError::Memory) => Status::Memory.code(),
     }
 }

@@ -2,8 +2,8 @@
 use Rattle.std.specs.Prelude.{◌≡◌, ◌⊎◌, ℕ, List, Result, Ok, Err, Option}
 use Rattle.std.proofs.Common.{inl, inr, refl, sym, subst}
 use Rattle.wire.specs.Parse.{IsParsed}
-use Rattle.wire.specs.declared.fault.WireErr.{WireErr}
-use Rattle.wire.specs.declared.fault.WireErr.TheVariants as errors
+use Rattle.wire.specs.declared.fault.WireError.{WireError}
+use Rattle.wire.specs.declared.fault.WireError.TheVariants as errors
 use Rattle.wire.specs.declared.fault.WireFault.{WireFault}
 use Rattle.wire.specs.declared.fault.WireFault.TheVariants.{NotRpc, Garbage}
 use Rattle.wire.specs.declared.message.Message.{Message}
@@ -22,6 +22,6 @@ module _ {S : Type 0} (records : S → Option (List Kept)) (faults : S → ℕ) 
   pub heard_ok : (old : Held S) (session now : ℕ) (parsed : Result Message WireFault) (message : Message) (said : Went) (new : Held S) → parsed ≡ Ok message → Took records faults old (event.Got session message now) said new → HeardOrLeft records faults old session now parsed said new
   heard_ok old session now parsed message said new is took = inl (subst (λ p. Heard records faults old session now p said new) (sym is) took)
 
-  pub heard_err : (old : Held S) (session now : ℕ) (parsed : Result Message WireFault) (error : WireErr) (said : Went) (new : Held S) → IsParsed (Err error) parsed → Unread records faults old session error said new → HeardOrLeft records faults old session now parsed said new
+  pub heard_err : (old : Held S) (session now : ℕ) (parsed : Result Message WireFault) (error : WireError) (said : Went) (new : Held S) → IsParsed (Err error) parsed → Unread records faults old session error said new → HeardOrLeft records faults old session now parsed said new
   heard_err old session now parsed errors.Memory said new is unread = inr unread
   heard_err old session now parsed (errors.Fault fault) said new is unread = inl (subst (λ p. Heard records faults old session now p said new) (sym is) unread)

@@ -3,8 +3,8 @@ use Rattle.std.specs.Prelude.{◌≡◌, ◌⊎◌, ℕ, List, [], ◌∷◌, �
 use Rattle.slab.specs.Slab.{Slab}
 use Rattle.lbfs_server.specs.declared.boxes.Outbox.{Outbox}
 use Rattle.lbfs_server.specs.Boxes.{Holds, Lacks, KeepsOthers}
-use Rattle.wire.specs.declared.fault.WireErr.{WireErr}
-use Rattle.wire.specs.declared.fault.WireErr.TheVariants as errors
+use Rattle.wire.specs.declared.fault.WireError.{WireError}
+use Rattle.wire.specs.declared.fault.WireError.TheVariants as errors
 use Rattle.wire.specs.declared.fault.WireFault.{WireFault}
 use Rattle.wire.specs.declared.fault.WireFault.TheVariants.{NotRpc, UnknownXid, Garbage}
 use Rattle.wire.specs.declared.message.Message.{Message}
@@ -151,7 +151,7 @@ module _ {S : Type 0} (records : S → Option (List Kept)) (faults : S → ℕ) 
   Unheard old session (Garbage at) said new = Left old session new × (said ≡ went.Closed)
 
   -- the same; or memory was wanting for the message, and the session was hung
-  abbrev pub Unread : Held S → (session : ℕ) → WireErr → Went → Held S → Type 0
+  abbrev pub Unread : Held S → (session : ℕ) → WireError → Went → Held S → Type 0
   Unread old session errors.Memory said new = Left old session new × (said ≡ went.Memory)
   Unread old session (errors.Fault fault) said new = Unheard old session fault said new
 

@@ -26,7 +26,7 @@ use shared_bytes::SharedBytes;
 use std::alloc::Global;
 use store::store::Store;
 use tree_nodes::content::Content;
-use wire::fault::{WireErr, WireFault};
+use wire::fault::{WireError, WireFault};
 use wire::message::{Message, Side, Waiting};
 use wire::parse::parse;
 
@@ -74,7 +74,7 @@ fn both(one: bool, other: bool) -> bool
 
 /// The message that a record to a server is, or why it is none. The server has asked its clients for
 /// nothing, so no answer may come.
-pub fn read_record(alloc: Global, bytes: &[u8]) -> Result<Message, WireErr>
+pub fn read_record(alloc: Global, bytes: &[u8]) -> Result<Message, WireError>
     ensures { IsParsed result (parse_of server_waits bytes.now) }
 {
     let waiting = Waiting {
@@ -232,18 +232,18 @@ impl<S: Store + Drop> Held<S> {
     }
 
     /// A record came of which no message was read.
-    fn unread(&mut self, alloc: Global, session: u32, error: WireErr) -> Went
+    fn unread(&mut self, alloc: Global, session: u32, error: WireError) -> Went
         ensures { Unread S.records S.faults self.old session error result self.new }
     {
         match error {
-            WireErr::Fault(fault) => match fault {
+            WireError::Fault(fault) => match fault {
                 WireFault::UnknownXid { .. } => self.standing(session),
                 WireFault::NotRpc { .. } | WireFault::Garbage { .. } => {
                     self.hang(alloc, session);
                     Went::Closed
                 }
             },
-            WireErr::Memory => {
+            WireError::Memory => {
                 self.hang(alloc, session);
                 Went::Memory
             }
@@ -317,7 +317,7 @@ impl<S: Store + Drop> Turns for Held<S> {
         &mut self,
         alloc: Global,
         session: u32,
-        read: Result<Message, WireErr>,
+        read: Result<Message, WireError>,
         now: u64,
     ) -> Went
         requires { now < 2 ^ 63 }

@@ -5,7 +5,7 @@ ghost use Rattle.std.specs.Prelude.{◌≡◌, ℕ, IfOk, IsErrOf};
 ghost use Rattle.lb_base.specs.Causes.{Rose};
 ghost use Rattle.lbfs_server.specs.Ends.{CountsMore};
 ghost use Rattle.lbfs_server.specs.Serve.{IsServerOf, IsBad};
-ghost use Rattle.lbfs_server.specs.declared.serve.ServeErr.TheVariants as errors;
+ghost use Rattle.lbfs_server.specs.declared.serve.ServeError.TheVariants as errors;
 
 use crate::gate::Gate;
 use crate::held::Held;
@@ -19,7 +19,7 @@ use server_core::server::Server;
 use std::alloc::Global;
 use std::sync::Wait;
 use std::thread::Threads;
-use store::store::{Store, StoreErr};
+use store::store::{Store, StoreError};
 use tree_load::error::LoadError;
 use tree_load::load::load;
 
@@ -34,7 +34,7 @@ pub struct Served {
 
 /// Why nothing more is served.
 #[derive(Clone, Copy)]
-pub enum ServeErr {
+pub enum ServeError {
     /// The network failed.
     Network,
     /// The store failed as its records were to be given.
@@ -47,7 +47,7 @@ pub enum ServeErr {
 
 /// A server of the tree of a store's records.
 #[tactic(auto, using(crate::proofs::Serving::is_server_of, crate::proofs::Serving::is_bad))]
-fn opened<S: Store>(alloc: Global, store: &mut S, place: &str) -> Result<Server, ServeErr>
+fn opened<S: Store>(alloc: Global, store: &mut S, place: &str) -> Result<Server, ServeError>
     ensures tree { IfOk result (IsServerOf (S.records store.old)) }
     ensures store { IsErrOf result errors.Store → Rose (S.faults store.old) (S.faults store.new) }
     ensures record { (which : ℕ) → IsErrOf result (errors.BadRecord which) → IsBad (S.records store.old) which }
@@ -55,17 +55,17 @@ fn opened<S: Store>(alloc: Global, store: &mut S, place: &str) -> Result<Server,
 {
     let records = match store.load(alloc, place) {
         Ok(records) => records,
-        Err(StoreErr::Failed) => return Err(ServeErr::Store),
-        Err(StoreErr::Memory) => return Err(ServeErr::Memory),
+        Err(StoreError::Failed) => return Err(ServeError::Store),
+        Err(StoreError::Memory) => return Err(ServeError::Memory),
     };
     let tree = match load(alloc, records) {
         Ok(tree) => tree,
-        Err(LoadError::BadRecord { which }) => return Err(ServeErr::BadRecord { which }),
-        Err(LoadError::Memory) => return Err(ServeErr::Memory),
+        Err(LoadError::BadRecord { which }) => return Err(ServeError::BadRecord { which }),
+        Err(LoadError::Memory) => return Err(ServeError::Memory),
     };
     match Server::with_tree(alloc, tree) {
         Ok(server) => Ok(server),
-        Err(_) => Err(ServeErr::Memory),
+        Err(_) => Err(ServeError::Memory),
     }
 }
 
@@ -94,7 +94,7 @@ pub fn serve<
     gate: G,
     port: u16,
     sessions: u32,
-) -> (Result<Served, ServeErr>, S, N)
+) -> (Result<Served, ServeError>, S, N)
 where
     N::L: Drop + Send,
     ensures sessions { IfOk result.0 (λ s. (s.sessions ≡ sessions) × CountsMore (N.accepted net) sessions (N.accepted result.2)) }
@@ -114,6 +114,6 @@ where
     let store = held.into_store();
     match served {
         Ok(()) => (Ok(Served { sessions, changes }), store, net),
-        Err(Failed) => (Err(ServeErr::Network), store, net),
+        Err(Failed) => (Err(ServeError::Network), store, net),
     }
 }

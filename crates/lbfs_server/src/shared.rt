@@ -17,7 +17,7 @@ use server_core::event::Event;
 use std::alloc::Global;
 use std::sync::{Condvar, Mutex, Wait};
 use tree_nodes::content::Content;
-use wire::fault::WireErr;
+use wire::fault::WireError;
 use wire::message::{Body, Message};
 
 /// What the threads of a server share, and by what those are woken that have nothing to say.
@@ -79,7 +79,7 @@ fn remove_link<L: Drop>(links: &mut Vec<SessionLink<L>>, session: u32)
 }
 
 /// The COMMITTMP that a record is, if it is one.
-fn commit_in(read: &Result<Message, WireErr>) -> Option<&Commit> {
+fn commit_in(read: &Result<Message, WireError>) -> Option<&Commit> {
     match read {
         Ok(message) => match message {
             Message::Call(_, body) => match body {
@@ -146,7 +146,7 @@ impl<H: Turns + Drop, G: Gate + Drop, L: Link + Drop> Shared<H, G, L> {
         &self,
         rt: &W,
         session: u32,
-        read: &Result<Message, WireErr>,
+        read: &Result<Message, WireError>,
     ) -> Option<Content> {
         let commit = commit_in(read)?;
         let mut held = self.held.lock(rt);

@@ -10,7 +10,7 @@ use server_core::event::Event;
 use shared_bytes::SharedBytes;
 use std::alloc::Global;
 use tree_nodes::content::Content;
-use wire::fault::WireErr;
+use wire::fault::WireError;
 use wire::message::Message;
 
 /// What a turn asks; `Held` says what each call does.
@@ -36,7 +36,7 @@ pub trait Turns {
         &mut self,
         alloc: Global,
         session: u32,
-        read: Result<Message, WireErr>,
+        read: Result<Message, WireError>,
         now: u64,
     ) -> Went
         requires { now < 2 ^ 63 };

@@ -3,7 +3,7 @@
 
 ghost use Rattle.std.specs.Prelude.{◌≡◌};
 ghost use Rattle.lease_rules.specs.Changes.{asker_of, asker, is_about, meets, waits_behind};
-ghost use Rattle.lease_rules.specs.declared.change.AskErr.TheVariants as errors;
+ghost use Rattle.lease_rules.specs.declared.change.AskError.TheVariants as errors;
 
 use std::alloc::AllocError;
 
@@ -84,18 +84,18 @@ pub struct Recall {
 
 /// Why a change may not wait.
 #[derive(Clone, Copy)]
-pub enum AskErr {
+pub enum AskError {
     /// A change of the session waits already.
     Jukebox,
     /// Memory ran out.
     Memory,
 }
 
-impl From<AllocError> for AskErr {
+impl From<AllocError> for AskError {
     ghost from_gives = { λ _ e. e ≡ errors.Memory };
 
-    fn from(_e: AllocError) -> AskErr {
-        AskErr::Memory
+    fn from(_e: AllocError) -> AskError {
+        AskError::Memory
     }
 }
 

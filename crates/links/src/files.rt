@@ -3,14 +3,14 @@
 ghost use Rattle.std.specs.Prelude.{◌≡◌, ℕ, ◌≤◌, ◌<◌, List, length, Option, Some, Err, IfOk, OnOk, OnErr, IsErrOf};
 ghost use Rattle.std.specs.Option.{option_map};
 ghost use Rattle.lb_base.specs.Causes.{Rose};
-ghost use Rattle.lb_base.specs.declared.sink.GiveErr.TheVariants as give_errors;
+ghost use Rattle.lb_base.specs.declared.sink.GiveError.TheVariants as give_errors;
 ghost use Rattle.limits.specs.declared.TheConstants.{FILE_MOST};
 ghost use Rattle.links.specs.Files.{bytes_of, with_file};
 ghost use Rattle.links.specs.declared.files.HostFile.{HostFile};
-ghost use Rattle.links.specs.declared.files.FilesErr.TheVariants as errors;
+ghost use Rattle.links.specs.declared.files.FilesError.TheVariants as errors;
 
 use lb_base::items::{Bytes, Name};
-use lb_base::sink::GiveErr;
+use lb_base::sink::GiveError;
 use lb_base::source::Failed;
 use std::alloc::{AllocError, Global};
 
@@ -31,7 +31,7 @@ impl Drop for HostFile {
 
 /// Why a file's bytes were not given.
 #[derive(Clone, Copy)]
-pub enum FilesErr {
+pub enum FilesError {
     /// The outside failed, as where there is no file of the name; the count of faults rose.
     Failed,
     /// The file has so many bytes, which are more than `FILE_MOST`.
@@ -43,19 +43,19 @@ pub enum FilesErr {
     Memory,
 }
 
-impl From<Failed> for FilesErr {
+impl From<Failed> for FilesError {
     ghost from_gives = { λ _ e. e ≡ errors.Failed };
 
-    fn from(_failed: Failed) -> FilesErr {
-        FilesErr::Failed
+    fn from(_failed: Failed) -> FilesError {
+        FilesError::Failed
     }
 }
 
-impl From<AllocError> for FilesErr {
+impl From<AllocError> for FilesError {
     ghost from_gives = { λ _ e. e ≡ errors.Memory };
 
-    fn from(_want: AllocError) -> FilesErr {
-        FilesErr::Memory
+    fn from(_want: AllocError) -> FilesError {
+        FilesError::Memory
     }
 }
 
@@ -69,7 +69,7 @@ pub trait Files {
 
     /// The bytes of a file, where it has at most `FILE_MOST`. `Failed` comes only where the count of
     /// faults rose, `TooBig` only where the file has more bytes.
-    fn get(&mut self, alloc: Global, name: &str) -> Result<Bytes, FilesErr>
+    fn get(&mut self, alloc: Global, name: &str) -> Result<Bytes, FilesError>
         ensures told { IfOk result (λ bytes. (held : List HostFile) → files self.old ≡ Some held → bytes ≡ bytes_of name.now held) }
         ensures within { IfOk result (λ bytes. length bytes ≤ FILE_MOST) }
         ensures big { (len : ℕ) → result ≡ Err (errors.TooBig len) → FILE_MOST < len }
@@ -81,7 +81,7 @@ pub trait Files {
 
     /// Makes a file of this name, or puts these bytes in the place of the one that there is. `Failed`
     /// comes only where the count of faults rose. After an `Err` all files are as before.
-    fn put(&mut self, alloc: Global, name: &str, bytes: &[u8]) -> Result<(), GiveErr>
+    fn put(&mut self, alloc: Global, name: &str, bytes: &[u8]) -> Result<(), GiveError>
         ensures ok { OnOk result (files self.new ≡ option_map (with_file name.now bytes.now) (files self.old)) }
         ensures err { OnErr result (files self.new ≡ files self.old) }
         ensures later { faults self.old ≤ faults self.new }

@@ -6,9 +6,9 @@ ghost use Rattle.std.specs.Prelude.{◌≡◌, ℕ, ◌≤◌, ◌<◌, List, le
 ghost use Rattle.std.specs.Io.KnownBytes.{ReadConsumes, WriteAppends, Appends};
 ghost use Rattle.lb_base.specs.Causes.{Rose};
 ghost use Rattle.lb_base.specs.Known.{AppendsPart};
-ghost use Rattle.lb_base.specs.declared.sink.GiveErr.TheVariants as errors;
+ghost use Rattle.lb_base.specs.declared.sink.GiveError.TheVariants as errors;
 
-use lb_base::sink::GiveErr;
+use lb_base::sink::GiveError;
 use lb_base::source::Failed;
 
 /// A link to a peer.
@@ -33,7 +33,7 @@ pub trait Link {
 
     /// Gives the bytes at the front of `from`, and answers how many it took: at least one where
     /// there is one. After an `Err` nothing was taken.
-    fn give(&mut self, from: &[u8]) -> Result<usize, GiveErr>
+    fn give(&mut self, from: &[u8]) -> Result<usize, GiveError>
         ensures within { IfOk result (λ n. n ≤ length from.now) }
         ensures some { IfOk result (λ n. 0 < length from.now → 0 < n) }
         ensures bytes { WriteAppends (held self.old) (held self.new) result from.now }
@@ -60,7 +60,7 @@ pub trait Link {
 /// Gives the bytes in as many calls as it takes. Of a link that tells what it was given, `Ok` says
 /// that all of them were, in order, and `Err` that a front of them was, and not all. `Failed` comes
 /// only where the link's count rose.
-pub fn send_all<L: Link>(link: &mut L, bytes: &[u8]) -> Result<(), GiveErr>
+pub fn send_all<L: Link>(link: &mut L, bytes: &[u8]) -> Result<(), GiveError>
     ensures ok { OnOk result (Appends (L.held link.old) (L.held link.new) bytes.now) }
     ensures err { OnErr result (AppendsPart (L.held link.old) (L.held link.new) bytes.now) }
     ensures come { L.left link.new ≡ L.left link.old }

@@ -7,17 +7,17 @@ ghost use Rattle.std.specs.List.{filter};
 ghost use Rattle.std.specs.Vec.{vec_capacity};
 ghost use Rattle.std.specs.Option.{option_map};
 ghost use Rattle.lb_base.specs.Causes.{Rose};
-ghost use Rattle.lb_base.specs.declared.sink.GiveErr.TheVariants as give_errors;
+ghost use Rattle.lb_base.specs.declared.sink.GiveError.TheVariants as give_errors;
 ghost use Rattle.limits.specs.declared.TheConstants.{FILE_MOST};
 ghost use Rattle.links.specs.Files.{is_of, is_there, bytes_of, with_file};
 ghost use Rattle.links.specs.declared.files.HostFile.{HostFile};
-ghost use Rattle.links.specs.declared.files.FilesErr.TheVariants as errors;
+ghost use Rattle.links.specs.declared.files.FilesError.TheVariants as errors;
 
 use crate::calls::Calls;
-use crate::files::{Files, FilesErr, HostFile};
+use crate::files::{Files, FilesError, HostFile};
 use lb_base::faults::one_more;
 use lb_base::items::{Bytes, Items};
-use lb_base::sink::GiveErr;
+use lb_base::sink::GiveError;
 use limits::FILE_MOST;
 use std::alloc::{AllocError, Global};
 use std::marker::Model;
@@ -59,14 +59,14 @@ fn bytes_of<'a>(files: &'a Vec<HostFile>, name: &[u8]) -> &'a [u8]
 }
 
 /// A copy of a file's bytes, where they are not too many.
-fn copy_within(alloc: Global, bytes: &[u8]) -> Result<Bytes, FilesErr>
+fn copy_within(alloc: Global, bytes: &[u8]) -> Result<Bytes, FilesError>
     ensures copy { IfOk result (λ copy. (copy ≡ bytes.now) × (length copy ≤ FILE_MOST)) }
     ensures big { (len : ℕ) → result ≡ Err (errors.TooBig len) → (length bytes.now ≡ len) × (FILE_MOST < len) }
     ensures fits { IsErrOf result errors.Failed → ⊥ }
 {
     let len = bytes.len() as u64;
     if FILE_MOST < len {
-        return Err(FilesErr::TooBig { len });
+        return Err(FilesError::TooBig { len });
     }
     let copy = Items::copy_of(alloc, bytes)?;
     Ok(copy)
@@ -147,7 +147,7 @@ impl Files for SureFiles {
 
     ghost faults = { λ _. 0 };
 
-    fn get(&mut self, alloc: Global, name: &str) -> Result<Bytes, FilesErr>
+    fn get(&mut self, alloc: Global, name: &str) -> Result<Bytes, FilesError>
         ensures told { IfOk result (λ bytes. bytes ≡ bytes_of name.now self.old) }
         ensures within { IfOk result (λ bytes. length bytes ≤ FILE_MOST) }
         ensures big { (len : ℕ) → result ≡ Err (errors.TooBig len) → (length (bytes_of name.now self.old) ≡ len) × (FILE_MOST < len) }
@@ -157,7 +157,7 @@ impl Files for SureFiles {
         copy_within(alloc, bytes_of(&self.files, name.as_bytes()))
     }
 
-    fn put(&mut self, alloc: Global, name: &str, bytes: &[u8]) -> Result<(), GiveErr>
+    fn put(&mut self, alloc: Global, name: &str, bytes: &[u8]) -> Result<(), GiveError>
         ensures ok { OnOk result (self.new ≡ with_file name.now bytes.now self.old) }
         ensures err { OnErr result (self.new ≡ self.old) }
         ensures sure { IsErrOf result give_errors.Failed → ⊥ }
@@ -228,7 +228,7 @@ impl Files for MemFiles {
 
     ghost faults = { λ f. f.faults };
 
-    fn get(&mut self, alloc: Global, name: &str) -> Result<Bytes, FilesErr>
+    fn get(&mut self, alloc: Global, name: &str) -> Result<Bytes, FilesError>
         ensures told { IfOk result (λ bytes. bytes ≡ bytes_of name.now self.old.files) }
         ensures within { IfOk result (λ bytes. length bytes ≤ FILE_MOST) }
         ensures big { (len : ℕ) → result ≡ Err (errors.TooBig len) → (length (bytes_of name.now self.old.files) ≡ len) × (FILE_MOST < len) }
@@ -243,12 +243,12 @@ impl Files for MemFiles {
         let fails = self.calls.next();
         if fails || !is_there(&self.files.files, name.as_bytes()) {
             self.faults = one_more(self.faults);
-            return Err(FilesErr::Failed);
+            return Err(FilesError::Failed);
         }
         self.files.get(alloc, name)
     }
 
-    fn put(&mut self, alloc: Global, name: &str, bytes: &[u8]) -> Result<(), GiveErr>
+    fn put(&mut self, alloc: Global, name: &str, bytes: &[u8]) -> Result<(), GiveError>
         ensures ok { OnOk result (self.new.files ≡ with_file name.now bytes.now self.old.files) }
         ensures err { OnErr result (self.new.files ≡ self.old.files) }
         ensures later { self.old.faults ≤ self.new.faults }
@@ -260,7 +260,7 @@ impl Files for MemFiles {
     {
         if self.calls.next() {
             self.faults = one_more(self.faults);
-            return Err(GiveErr::Failed);
+            return Err(GiveError::Failed);
         }
         self.files.put(alloc, name, bytes)
     }

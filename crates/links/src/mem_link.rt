@@ -5,7 +5,7 @@ ghost use Rattle.std.specs.Prelude.{◌≡◌, ℕ, ◌+◌, ◌-◌, ◌^◌, �
 ghost use Rattle.std.specs.Io.KnownBytes.{ReadConsumes, WriteAppends};
 ghost use Rattle.lb_base.specs.Causes.{Rose};
 ghost use Rattle.lb_base.specs.Memory.{SourceState, SinkState};
-ghost use Rattle.lb_base.specs.declared.sink.GiveErr.TheVariants as errors;
+ghost use Rattle.lb_base.specs.declared.sink.GiveError.TheVariants as errors;
 ghost use Rattle.links.specs.Memory.{no_source, no_sink, fresh_twin, sure_twin};
 
 use crate::calls::Calls;
@@ -14,7 +14,7 @@ use lb_base::faults::one_more;
 use lb_base::items::{Bytes, Items};
 use lb_base::mem_sink::{MemSink, SureSink};
 use lb_base::mem_source::{MemSource, SureSource};
-use lb_base::sink::{GiveErr, Sink};
+use lb_base::sink::{GiveError, Sink};
 use lb_base::source::{Failed, Source};
 use std::alloc::Global;
 use std::marker::Model;
@@ -97,7 +97,7 @@ impl Link for SureLink {
         self.incoming.take(into)
     }
 
-    fn give(&mut self, from: &[u8]) -> Result<usize, GiveErr>
+    fn give(&mut self, from: &[u8]) -> Result<usize, GiveError>
         ensures within { IfOk result (λ n. n ≤ length from.now) }
         ensures some { IfOk result (λ n. 0 < length from.now → 0 < n) }
         ensures bytes { WriteAppends (Some self.old.outgoing.held) (Some self.new.outgoing.held) result from.now }
@@ -251,7 +251,7 @@ impl Link for MemLink {
         }
     }
 
-    fn give(&mut self, from: &[u8]) -> Result<usize, GiveErr>
+    fn give(&mut self, from: &[u8]) -> Result<usize, GiveError>
         ensures within { IfOk result (λ n. n ≤ length from.now) }
         ensures some { IfOk result (λ n. 0 < length from.now → 0 < n) }
         ensures bytes { WriteAppends (Some self.old.outgoing.held) (Some self.new.outgoing.held) result from.now }
@@ -270,10 +270,10 @@ impl Link for MemLink {
     {
         match self.outgoing.give(from) {
             Ok(count) => Ok(count),
-            Err(GiveErr::Memory) => Err(GiveErr::Memory),
-            Err(GiveErr::Failed) => {
+            Err(GiveError::Memory) => Err(GiveError::Memory),
+            Err(GiveError::Failed) => {
                 self.faults = one_more(self.faults);
-                Err(GiveErr::Failed)
+                Err(GiveError::Failed)
             }
         }
     }

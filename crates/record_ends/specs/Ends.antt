@@ -4,8 +4,8 @@ use Rattle.rpc_record.specs.Records.{Unread, Parts, nothing_read, fed, stream}
 use Rattle.rpc_record.specs.declared.records.Fed.{Fed}
 use Rattle.wire.specs.Message.{message_spell}
 use Rattle.wire.specs.declared.message.Message.{Message}
-use Rattle.lb_base.specs.declared.sink.GiveErr.{GiveErr}
-use Rattle.lb_base.specs.declared.sink.GiveErr.TheVariants as give
+use Rattle.lb_base.specs.declared.sink.GiveError.{GiveError}
+use Rattle.lb_base.specs.declared.sink.GiveError.TheVariants as give
 use Rattle.record_ends.specs.declared.end.End.{End}
 use Rattle.record_ends.specs.declared.end.End.TheVariants as ends
 
@@ -39,6 +39,6 @@ Gives old bytes r new = (more : List ℕ) → coming old (bytes ++ more) ≡ rec
 abbrev pub out_bytes : List Message → List ℕ
 out_bytes messages = stream (map message_spell messages)
 
-abbrev pub end_of_give : GiveErr → End
+abbrev pub end_of_give : GiveError → End
 end_of_give give.Failed = ends.Failed
 end_of_give give.Memory = ends.Memory

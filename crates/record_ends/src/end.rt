@@ -4,7 +4,7 @@ ghost use Rattle.std.specs.Prelude.{◌≡◌};
 ghost use Rattle.record_ends.specs.Ends.{end_of_give};
 ghost use Rattle.record_ends.specs.declared.end.End.TheVariants as ends;
 
-use lb_base::sink::GiveErr;
+use lb_base::sink::GiveError;
 use lb_base::source::Failed;
 use rpc_record::refusal::MarkError;
 use std::alloc::AllocError;
@@ -38,13 +38,13 @@ impl From<AllocError> for End {
     }
 }
 
-impl From<GiveErr> for End {
+impl From<GiveError> for End {
     ghost from_gives = { λ why e. e ≡ end_of_give why };
 
-    fn from(why: GiveErr) -> End {
+    fn from(why: GiveError) -> End {
         match why {
-            GiveErr::Failed => End::Failed,
-            GiveErr::Memory => End::Memory,
+            GiveError::Failed => End::Failed,
+            GiveError::Memory => End::Memory,
         }
     }
 }

@@ -6,15 +6,15 @@ use Rattle.wire.specs.declared.message.Message.{Message}
 use Rattle.wire.specs.declared.message.Message.TheVariants as message
 use Rattle.wire.specs.declared.fault.WireFault.{WireFault}
 use Rattle.wire.specs.declared.fault.WireFault.TheVariants as fault
-use Rattle.wire.specs.declared.fault.WireErr.{WireErr}
-use Rattle.wire.specs.declared.fault.WireErr.TheVariants as wire
+use Rattle.wire.specs.declared.fault.WireError.{WireError}
+use Rattle.wire.specs.declared.fault.WireError.TheVariants as wire
 use Rattle.record_show.specs.Line.{read_line}
 use Rattle.record_show.specs.declared.line.Line.{Line}
 use Rattle.record_show.specs.declared.reading.Said.{Said}
 use Rattle.record_show.specs.declared.reading.Said.TheVariants.{Call, Unfit, NoMessage, NoCall, Unknown}
 
 -- what was read
-abbrev pub said_of : Result Message WireErr → Said
+abbrev pub said_of : Result Message WireError → Said
 said_of (Ok (message.Call xid b)) = Call xid (program_of b)
 said_of (Ok (message.Unfit xid why)) = Unfit xid why
 said_of (Err (wire.Fault (fault.NotRpc at))) = NoMessage at

@@ -14,7 +14,7 @@ use crate::stat::read_answer;
 use lb_base::items::Items;
 use rpc_record::messages::Call;
 use std::alloc::{AllocError, Global};
-use wire::fault::{WireErr, WireFault, place};
+use wire::fault::{WireError, WireFault, place};
 use wire::message::{Message, Program, RpcRefusal, Side, Waiting};
 use wire::parse::parse;
 use xdr_codec::fault::ReadError;
@@ -63,7 +63,7 @@ enum Said {
     Unknown,
 }
 
-fn said_by(read: &Result<Message, WireErr>) -> Said
+fn said_by(read: &Result<Message, WireError>) -> Said
     ensures { result ≡ said_of read.now }
 {
     match read {
@@ -75,10 +75,10 @@ fn said_by(read: &Result<Message, WireErr>) -> Said
             xid: *xid,
             refusal: *refusal,
         },
-        Err(WireErr::Fault(WireFault::NotRpc { at })) => Said::NoMessage { at: *at },
-        Err(WireErr::Memory) => Said::Unknown,
+        Err(WireError::Fault(WireFault::NotRpc { at })) => Said::NoMessage { at: *at },
+        Err(WireError::Memory) => Said::Unknown,
         Ok(Message::Answer(_, _) | Message::Refuse(_, _))
-        | Err(WireErr::Fault(WireFault::UnknownXid { .. } | WireFault::Garbage { .. })) => {
+        | Err(WireError::Fault(WireFault::UnknownXid { .. } | WireFault::Garbage { .. })) => {
             Said::NoCall
         }
     }

@@ -7,7 +7,7 @@ use lb_base::items::Items;
 use row_text::out::Out;
 use row_text::text::split;
 use std::alloc::Global;
-use wire::fault::WireErr;
+use wire::fault::WireError;
 use wire::message::{Body, Message, Pending, RpcRefusal, Side, Waiting};
 use wire::parse::parse;
 use wire::spell::spell;
@@ -115,7 +115,7 @@ fn put_message(out: &mut Out, message: &Message) {
 }
 
 /// What was read, and what is sent of it: the same, or other bytes.
-fn put_read(alloc: Global, read: &Result<Message, WireErr>, record: &[u8], out: &mut Out) {
+fn put_read(alloc: Global, read: &Result<Message, WireError>, record: &[u8], out: &mut Out) {
     match read {
         Ok(message) => {
             put_message(out, message);
@@ -124,8 +124,8 @@ fn put_read(alloc: Global, read: &Result<Message, WireErr>, record: &[u8], out: 
                 Err(_) => out.lack(),
             }
         }
-        Err(WireErr::Fault(fault)) => put_name(out, fault),
-        Err(WireErr::Memory) => out.lack(),
+        Err(WireError::Fault(fault)) => put_name(out, fault),
+        Err(WireError::Memory) => out.lack(),
     }
 }
 

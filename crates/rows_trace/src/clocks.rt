@@ -2,7 +2,7 @@
 
 use crate::readings::Series;
 use clock_rule::clocks::Clocks;
-use clock_rule::rule::NoteErr;
+use clock_rule::rule::NoteError;
 use row_text::out::Out;
 use row_text::text::{first, number};
 use std::alloc::Global;
@@ -13,11 +13,11 @@ fn put_series(alloc: Global, clocks: &mut Clocks, series: Series, out: &mut Out)
     for place in 0..series.count {
         match clocks.read(alloc, series.at(place)) {
             Ok(()) => taken = taken.saturating_add(1),
-            Err(NoteErr::Fault(fault)) => {
+            Err(NoteError::Fault(fault)) => {
                 out.text(" ");
                 out.value(&fault)
             }
-            Err(NoteErr::Memory) => out.lack(),
+            Err(NoteError::Memory) => out.lack(),
         }
     }
     if taken > 0 {

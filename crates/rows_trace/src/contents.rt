@@ -1,7 +1,7 @@
 //! Contents: how many bytes they have, and which.
 
 use command_text::content::{Content, build, length, length_within};
-use command_text::line_err::LineErr;
+use command_text::line_error::LineError;
 use lb_base::items::Bytes;
 use row_text::out::Out;
 use row_text::text::{first, number, put_bytes};
@@ -32,21 +32,21 @@ pub fn put_content(alloc: Global, out: &mut Out, content: &Content) {
 }
 
 /// A line of a trace that has the word for its content.
-fn line_of(alloc: Global, word: &str) -> Result<Line, LineErr> {
+fn line_of(alloc: Global, word: &str) -> Result<Line, LineError> {
     let mut line = Out::new(alloc);
     line.text("file a ");
     line.text(word);
     match line.done() {
         Ok(line) => Line::read(alloc, line.as_bytes()),
-        Err(_) => Err(LineErr::Memory),
+        Err(_) => Err(LineError::Memory),
     }
 }
 
 /// The content of the line, if it has one.
-fn content_in<'a>(line: &'a Result<Line, LineErr>, out: &mut Out) -> Option<&'a Content> {
+fn content_in<'a>(line: &'a Result<Line, LineError>, out: &mut Out) -> Option<&'a Content> {
     match line {
         Ok(Line::File { content, .. }) => Some(content),
-        Err(LineErr::Memory) => {
+        Err(LineError::Memory) => {
             out.lack();
             None
         }

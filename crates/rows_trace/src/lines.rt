@@ -3,7 +3,7 @@
 use crate::contents::put_content;
 use crate::escaped::unescaped;
 use command_text::command::Command;
-use command_text::line_err::LineErr;
+use command_text::line_error::LineError;
 use command_text::path::Spot;
 use row_text::out::Out;
 use row_text::text::put_bytes;
@@ -215,8 +215,8 @@ pub fn put(alloc: Global, row: &str, out: &mut Out) {
     let line = Line::read(alloc, bytes.as_slice());
     match &line {
         Ok(line) => put_line(alloc, line, out),
-        Err(LineErr::BadLine) => out.text("refused"),
-        Err(LineErr::Memory) => out.lack(),
+        Err(LineError::BadLine) => out.text("refused"),
+        Err(LineError::Memory) => out.lack(),
     }
     drop(line)
 }

@@ -5,12 +5,12 @@ ghost use Rattle.std.specs.Option.{option_map};
 ghost use Rattle.lb_base.specs.Causes.{Rose};
 ghost use Rattle.store.specs.Records.{applied, places};
 ghost use Rattle.store.specs.declared.record.Kept.{Kept};
-ghost use Rattle.store.specs.declared.store.StoreErr.TheVariants as errors;
+ghost use Rattle.store.specs.declared.store.StoreError.TheVariants as errors;
 
 use lb_base::source::Failed;
 use std::alloc::{AllocError, Global};
 use store::record::{Change, Head, Kept};
-use store::store::{Store, StoreErr};
+use store::store::{Store, StoreError};
 
 /// A store that keeps nothing.
 #[derive(Drop)]
@@ -23,7 +23,7 @@ impl Store for NoStore {
 
     ghost faults = { λ s. 0 };
 
-    fn load(&mut self, alloc: Global, _place: &str) -> Result<Vec<Kept>, StoreErr> {
+    fn load(&mut self, alloc: Global, _place: &str) -> Result<Vec<Kept>, StoreError> {
         Ok(Vec::new(alloc))
     }
 

@@ -7,11 +7,11 @@ ghost use Rattle.std.specs.Option.{option_map};
 ghost use Rattle.lb_base.specs.Causes.{Rose};
 ghost use Rattle.store.specs.Records.{applied, places};
 ghost use Rattle.store.specs.declared.record.Kept.{Kept};
-ghost use Rattle.store.specs.declared.store.StoreErr.TheVariants as errors;
+ghost use Rattle.store.specs.declared.store.StoreError.TheVariants as errors;
 
 use crate::edits;
 use crate::record::{Change, Head, Kept};
-use crate::store::{Store, StoreErr};
+use crate::store::{Store, StoreError};
 use lb_base::faults::one_more;
 use lb_base::items::Items;
 use lb_base::source::Failed;
@@ -69,7 +69,7 @@ impl Store for SureStore {
 
     ghost faults = { λ _. 0 };
 
-    fn load(&mut self, alloc: Global, _place: &str) -> Result<Vec<Kept>, StoreErr>
+    fn load(&mut self, alloc: Global, _place: &str) -> Result<Vec<Kept>, StoreError>
         ensures told { IfOk result (λ v. (held : List Kept) → Some self.old.records ≡ Some held → v.items ≡ held) }
         ensures unchanged { self.new ≡ self.old }
         ensures sure { IsErrOf result errors.Failed → ⊥ }
@@ -178,7 +178,7 @@ impl Store for MemStore {
 
     ghost faults = { λ s. s.faults };
 
-    fn load(&mut self, alloc: Global, place: &str) -> Result<Vec<Kept>, StoreErr>
+    fn load(&mut self, alloc: Global, place: &str) -> Result<Vec<Kept>, StoreError>
         ensures told { IfOk result (λ v. (held : List Kept) → Some self.old.records ≡ Some held → v.items ≡ held) }
         ensures kept { Some self.new.records ≡ Some self.old.records }
         ensures spare { self.old.spare ≤ self.new.spare }
@@ -189,7 +189,7 @@ impl Store for MemStore {
         ensures rest { self.new ≡ record self.old { calls = self.new.calls; faults = self.new.faults } }
     {
         if self.call() {
-            return Err(StoreErr::Failed);
+            return Err(StoreError::Failed);
         }
         self.store.load(alloc, place)
     }

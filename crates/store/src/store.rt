@@ -6,7 +6,7 @@ ghost use Rattle.std.specs.Option.{option_map};
 ghost use Rattle.lb_base.specs.Causes.{Rose};
 ghost use Rattle.store.specs.Records.{applied, places};
 ghost use Rattle.store.specs.declared.record.Kept.{Kept};
-ghost use Rattle.store.specs.declared.store.StoreErr.TheVariants as errors;
+ghost use Rattle.store.specs.declared.store.StoreError.TheVariants as errors;
 
 use crate::record::{Change, Head, Kept};
 use lb_base::source::Failed;
@@ -14,18 +14,18 @@ use std::alloc::{AllocError, Global};
 
 /// Why a store's records were not given.
 #[derive(Clone, Copy)]
-pub enum StoreErr {
+pub enum StoreError {
     /// The store failed.
     Failed,
     /// Memory ran out.
     Memory,
 }
 
-impl From<AllocError> for StoreErr {
+impl From<AllocError> for StoreError {
     ghost from_gives = { λ _ e. e ≡ errors.Memory };
 
-    fn from(_want: AllocError) -> StoreErr {
-        StoreErr::Memory
+    fn from(_want: AllocError) -> StoreError {
+        StoreError::Memory
     }
 }
 
@@ -42,7 +42,7 @@ pub trait Store {
 
     /// Gives the records of the store at a place of the outside; a store in memory has but one.
     /// `Failed` comes only where the count of faults rose. What is kept stays, whatever is answered.
-    fn load(&mut self, alloc: Global, place: &str) -> Result<Vec<Kept>, StoreErr>
+    fn load(&mut self, alloc: Global, place: &str) -> Result<Vec<Kept>, StoreError>
         ensures told { IfOk result (λ v. (held : List Kept) → records self.old ≡ Some held → v.items ≡ held) }
         ensures kept { records self.new ≡ records self.old }
         ensures spare { spare self.old ≤ spare self.new }

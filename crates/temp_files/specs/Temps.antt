@@ -6,8 +6,8 @@ use Rattle.std.specs.Map.{lookup, remove_entry, values_of}
 use Rattle.std.specs.Ordering.{nat_cmp}
 use Rattle.xdr_codec.specs.declared.status.Status.{Status}
 use Rattle.xdr_codec.specs.declared.status.Status.TheVariants as status
-use Rattle.temp_files.specs.declared.fault.TempErr.{TempErr}
-use Rattle.temp_files.specs.declared.fault.TempErr.TheVariants as refusal
+use Rattle.temp_files.specs.declared.fault.TempError.{TempError}
+use Rattle.temp_files.specs.declared.fault.TempError.TheVariants as refusal
 use Rattle.temp_files.specs.Pieces.{Piece, range_fault, and_piece, joined, size_most}
 
 -- a temporary file: pieces under a number that the client picked, within its session
@@ -103,7 +103,7 @@ pieces_of (Some t) = t.pieces
 -- ---- what is told
 
 -- the status that a refusal is answered with; want of memory has none
-abbrev pub status_of : TempErr → Option Status
+abbrev pub status_of : TempError → Option Status
 status_of refusal.FdInUse = Some status.FdInUse
 status_of refusal.BadFd = Some status.BadFd
 status_of refusal.TooManyTemps = Some status.TooManyTemps
@@ -112,6 +112,6 @@ status_of refusal.FBig = Some status.FBig
 status_of refusal.Memory = None
 
 -- the fault is told, exactly where there is one, and want of memory only where there is none
-abbrev pub Tells : {T : Type 0} → Result T TempErr → Option Status → Type 0
+abbrev pub Tells : {T : Type 0} → Result T TempError → Option Status → Type 0
 Tells (Ok _) fault = fault ≡ None
 Tells (Err e) fault = fault ≡ status_of e

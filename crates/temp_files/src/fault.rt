@@ -2,14 +2,14 @@
 //! stands for it.
 
 ghost use Rattle.std.specs.Prelude.{◌≡◌};
-ghost use Rattle.temp_files.specs.declared.fault.TempErr.TheVariants as refusal;
+ghost use Rattle.temp_files.specs.declared.fault.TempError.TheVariants as refusal;
 
 use std::alloc::{AllocError, AllocFailed};
 use xdr_codec::status::Status;
 
 /// Why a call is refused.
 #[derive(Clone, Copy, Debug)]
-pub enum TempErr {
+pub enum TempError {
     /// The session has a temporary file under this number.
     FdInUse,
     /// The session has no temporary file under this number.
@@ -24,7 +24,7 @@ pub enum TempErr {
     Memory,
 }
 
-impl TempErr {
+impl TempError {
     ghost use Rattle.temp_files.specs.Temps.{status_of};
 
     /// The status that the refusal is answered with; want of memory has none.
@@ -32,28 +32,28 @@ impl TempErr {
         ensures { result ≡ status_of self }
     {
         match self {
-            TempErr::FdInUse => Some(Status::FdInUse),
-            TempErr::BadFd => Some(Status::BadFd),
-            TempErr::TooManyTemps => Some(Status::TooManyTemps),
-            TempErr::Inval => Some(Status::Inval),
-            TempErr::FBig => Some(Status::FBig),
-            TempErr::Memory => None,
+            TempError::FdInUse => Some(Status::FdInUse),
+            TempError::BadFd => Some(Status::BadFd),
+            TempError::TooManyTemps => Some(Status::TooManyTemps),
+            TempError::Inval => Some(Status::Inval),
+            TempError::FBig => Some(Status::FBig),
+            TempError::Memory => None,
         }
     }
 }
 
-impl From<AllocError> for TempErr {
+impl From<AllocError> for TempError {
     ghost from_gives = { λ _ e. e ≡ refusal.Memory };
 
-    fn from(_error: AllocError) -> TempErr {
-        TempErr::Memory
+    fn from(_error: AllocError) -> TempError {
+        TempError::Memory
     }
 }
 
-impl<T: Drop> From<AllocFailed<T>> for TempErr {
+impl<T: Drop> From<AllocFailed<T>> for TempError {
     ghost from_gives = { λ _ e. e ≡ refusal.Memory };
 
-    fn from(_error: AllocFailed<T>) -> TempErr {
-        TempErr::Memory
+    fn from(_error: AllocFailed<T>) -> TempError {
+        TempError::Memory
     }
 }

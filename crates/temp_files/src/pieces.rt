@@ -3,11 +3,11 @@
 
 ghost use Rattle.std.specs.Prelude.{◌≡◌, ◌<◌, ◌++◌, [], None, IfOk, OnOk, OnErr, IsErrOf, length, is_some};
 ghost use Rattle.std.specs.List.{list_any};
-ghost use Rattle.temp_files.specs.declared.fault.TempErr.TheVariants as refusal;
+ghost use Rattle.temp_files.specs.declared.fault.TempError.TheVariants as refusal;
 ghost use Rattle.temp_files.specs.Pieces.{StandApart, overlaps, range_fault, and_piece, joined, all_bytes};
 ghost use Rattle.temp_files.specs.Temps.{Tells};
 
-use crate::fault::TempErr;
+use crate::fault::TempError;
 use crate::front::Front;
 use crate::gathering::Placed;
 use lb_base::items::Bytes;
@@ -101,21 +101,21 @@ impl Pieces {
     }
 
     /// Why a piece of so many bytes can't be put at this place. It takes no memory.
-    pub fn check(&self, offset: u64, count: u64) -> Result<(), TempErr>
+    pub fn check(&self, offset: u64, count: u64) -> Result<(), TempError>
         ensures told { Tells result (range_fault self.now offset count) }
         ensures sure { ¬ IsErrOf result refusal.Memory }
     {
         if count == 0 {
-            return Err(TempErr::Inval);
+            return Err(TempError::Inval);
         }
         let Some(end) = offset.checked_add(count) else {
-            return Err(TempErr::Inval);
+            return Err(TempError::Inval);
         };
         if end > SIZE_MOST {
-            return Err(TempErr::FBig);
+            return Err(TempError::FBig);
         }
         if self.is_met(offset, end) {
-            return Err(TempErr::Inval);
+            return Err(TempError::Inval);
         }
         Ok(())
     }

@@ -2,11 +2,11 @@
 //! put, and what all of them come to.
 
 ghost use Rattle.std.specs.Prelude.{◌≡◌, ◌++◌, None, IfOk, OnOk, OnErr, IsErrOf, length, is_some};
-ghost use Rattle.temp_files.specs.declared.fault.TempErr.TheVariants as refusal;
+ghost use Rattle.temp_files.specs.declared.fault.TempError.TheVariants as refusal;
 ghost use Rattle.temp_files.specs.Pieces.{StandApart, range_fault, all_bytes};
 ghost use Rattle.temp_files.specs.Temps.{assembled, empty_temp, with_piece, Tells};
 
-use crate::fault::TempErr;
+use crate::fault::TempError;
 use crate::gathering::Placed;
 use crate::pieces::Pieces;
 use lb_base::items::Bytes;
@@ -56,7 +56,7 @@ impl Temp {
     }
 
     /// Why a piece of so many bytes can't be put at this place. It takes no memory.
-    pub fn check(&self, offset: u64, count: u64) -> Result<(), TempErr>
+    pub fn check(&self, offset: u64, count: u64) -> Result<(), TempError>
         ensures told { Tells result (range_fault self.now.pieces offset count) }
         ensures sure { ¬ IsErrOf result refusal.Memory }
     {

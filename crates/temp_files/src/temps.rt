@@ -7,12 +7,12 @@ ghost use Rattle.std.specs.declared.ops.Bound.TheVariants.{Included};
 ghost use Rattle.std.specs.List.{All};
 ghost use Rattle.std.specs.Ordering.{nat_cmp};
 ghost use Rattle.std.specs.Option.{option_copied, option_map};
-ghost use Rattle.temp_files.specs.declared.fault.TempErr.TheVariants as refusal;
+ghost use Rattle.temp_files.specs.declared.fault.TempError.TheVariants as refusal;
 ghost use Rattle.temp_files.specs.Covered.{ComesTo};
 ghost use Rattle.temp_files.specs.Pieces.{StandApart};
 ghost use Rattle.temp_files.specs.Temps.{key_of, temp_at, with_temp, without_temp, without_session, temps_of, temps_most, empty_temp, room_fault, piece_fault, with_more, size_fault, whole_of, pieces_of, IsTempKeyed, Tells};
 
-use crate::fault::TempErr;
+use crate::fault::TempError;
 use crate::pieces::SIZE_MOST;
 use crate::temp::Temp;
 use lb_base::items::Bytes;
@@ -60,27 +60,33 @@ fn count_of(temps: &Keyed, session: u32) -> usize
 }
 
 /// Why the session can't have a further temporary file under this number. It takes no memory.
-fn room_fault(temps: &Keyed, session: u32, fd: u32) -> Result<(), TempErr>
+fn room_fault(temps: &Keyed, session: u32, fd: u32) -> Result<(), TempError>
     requires { All IsTempKeyed temps.now.entries }
     ensures { Tells result (room_fault temps.now.entries session fd) }
 {
     if temps.contains_key(&key_of(session, fd)) {
-        return Err(TempErr::FdInUse);
+        return Err(TempError::FdInUse);
     }
     if count_of(temps, session) >= TEMPS_MOST {
-        return Err(TempErr::TooManyTemps);
+        return Err(TempError::TooManyTemps);
     }
     Ok(())
 }
 
 /// Why a piece of so many bytes can't be put at this place of a temporary file. It takes no memory.
-fn piece_fault(temps: &Keyed, session: u32, fd: u32, offset: u64, count: u64) -> Result<(), TempErr>
+fn piece_fault(
+    temps: &Keyed,
+    session: u32,
+    fd: u32,
+    offset: u64,
+    count: u64,
+) -> Result<(), TempError>
     ensures told { Tells result (piece_fault (temp_at temps.now.entries session fd) offset count) }
     ensures sure { ¬ IsErrOf result refusal.Memory }
 {
     match find(temps, session, fd) {
         Some(temp) => temp.check(offset, count),
-        None => Err(TempErr::BadFd),
+        None => Err(TempError::BadFd),
     }
 }
 
@@ -106,18 +112,18 @@ fn put(
 }
 
 /// Whether the pieces of a temporary file cover 0 to the size once each and nothing beyond.
-fn covers(temps: &Keyed, session: u32, fd: u32, size: u64) -> Result<bool, TempErr>
+fn covers(temps: &Keyed, session: u32, fd: u32, size: u64) -> Result<bool, TempError>
     ensures told { Tells result (size_fault (temp_at temps.now.entries session fd) size) }
     ensures sure { ¬ IsErrOf result refusal.Memory }
     ensures exact { IfOk result (λ b. b ≡ is_some (whole_of (temp_at temps.now.entries session fd) size)) }
     ensures apart { StandApart 0 (pieces_of (temp_at temps.now.entries session fd)) }
 {
     match find(temps, session, fd) {
-        None => Err(TempErr::BadFd),
+        None => Err(TempError::BadFd),
         Some(temp) => {
             let covers = temp.covers(size);
             if size > SIZE_MOST {
-                return Err(TempErr::FBig);
+                return Err(TempError::FBig);
             }
             Ok(covers)
         }
@@ -171,7 +177,7 @@ fn share(
     session: u32,
     fd: u32,
     size: u64,
-) -> Result<Option<SharedBytes>, TempErr>
+) -> Result<Option<SharedBytes>, TempError>
     ensures exact { IfOk result (λ whole. IfSome whole (λ bytes. Some bytes ≡ whole_of (temp_at temps.old.entries session fd) size)) }
     ensures same { temps.new.entries ≡ temps.old.entries }
 {
@@ -190,7 +196,7 @@ fn take(
     session: u32,
     fd: u32,
     size: u64,
-) -> Result<Option<(SharedBytes, SharedBytes)>, TempErr>
+) -> Result<Option<(SharedBytes, SharedBytes)>, TempError>
     requires { All IsTempKeyed temps.old.entries }
     ensures told { Tells result (size_fault (temp_at temps.old.entries session fd) size) }
     ensures exact { IfOk result (λ whole. option_map (λ p. p.0) whole ≡ whole_of (temp_at temps.old.entries session fd) size) }
@@ -258,7 +264,7 @@ impl Temps {
     /// Makes a temporary file with nothing in it, for the file with the id `target`: `FdInUse` where
     /// the session has one under the number, `TooManyTemps` where it has sixteen, `Memory` where that
     /// runs out. All stays as it was where the call is refused.
-    pub fn make(&mut self, session: u32, fd: u32, target: u64) -> Result<(), TempErr>
+    pub fn make(&mut self, session: u32, fd: u32, target: u64) -> Result<(), TempError>
         ensures told { Tells result (room_fault self.old session fd) }
         ensures ok { OnOk result (self.new ≡ with_temp self.old (empty_temp session fd target)) }
         ensures err { OnErr result (self.new ≡ self.old) }
@@ -271,7 +277,7 @@ impl Temps {
 
     /// The refusal that putting so many bytes at a place would meet, want of memory left aside. It
     /// takes no memory.
-    pub fn check(&self, session: u32, fd: u32, offset: u64, count: u64) -> Result<(), TempErr>
+    pub fn check(&self, session: u32, fd: u32, offset: u64, count: u64) -> Result<(), TempError>
         ensures told { Tells result (piece_fault (temp_at self.now session fd) offset count) }
         ensures sure { ¬ IsErrOf result refusal.Memory }
     {
@@ -282,7 +288,7 @@ impl Temps {
     /// where the piece is empty or ends beyond 2 ^ 64 - 1, `FBig` where it ends beyond 67,108,864
     /// bytes, `Inval` where it meets another piece, `Memory` where that runs out. All stays as it was
     /// where the call is refused.
-    pub fn put(&mut self, session: u32, fd: u32, offset: u64, bytes: Bytes) -> Result<(), TempErr>
+    pub fn put(&mut self, session: u32, fd: u32, offset: u64, bytes: Bytes) -> Result<(), TempError>
         ensures told { Tells result (piece_fault (temp_at self.old session fd) offset (length bytes)) }
         ensures ok { OnOk result (self.new ≡ with_more self.old (temp_at self.old session fd) offset bytes) }
         ensures err { OnErr result (self.new ≡ self.old) }
@@ -302,7 +308,7 @@ impl Temps {
         session: u32,
         fd: u32,
         size: u64,
-    ) -> Result<Option<(SharedBytes, SharedBytes)>, TempErr>
+    ) -> Result<Option<(SharedBytes, SharedBytes)>, TempError>
         ensures told { Tells result (size_fault (temp_at self.old session fd) size) }
         ensures exact { IfOk result (λ whole. option_map (λ p. p.0) whole ≡ whole_of (temp_at self.old session fd) size) }
         ensures again { IfOk result (λ whole. option_map (λ p. p.1) whole ≡ option_map (λ p. p.0) whole) }

@@ -6,8 +6,8 @@ use Rattle.trace_text.specs.Grammar.{line_of}
 use Rattle.trace_text.specs.declared.refusal.LineFault.{LineFault}
 use Rattle.trace_text.specs.declared.refusal.LineFault.TheVariants.{Grammar}
 use Rattle.trace_replay.specs.declared.fault.Refused.{Refused}
-use Rattle.trace_replay.specs.declared.fault.TraceErr.{TraceErr}
-use Rattle.trace_replay.specs.declared.fault.TraceErr.TheVariants as errors
+use Rattle.trace_replay.specs.declared.fault.TraceError.{TraceError}
+use Rattle.trace_replay.specs.declared.fault.TraceError.TheVariants as errors
 use Rattle.trace_replay.specs.declared.turn.Turn.{Turn}
 use Rattle.trace_replay.specs.World.{World}
 use Rattle.trace_replay.specs.Run.{refused, in_header, ended}
@@ -31,8 +31,8 @@ at_end input first r start ran = accepted_at_end timed_start 1 (lines_of input) 
 pub runs_through : (input : List ℕ) (first new : Timed) (next : ℕ) → first ≡ timed_start → applied_from first 1 (lines_of input) ≡ Ok (new, next) → in_header new.world.stage ≡ false → accepted input ≡ Ok new.world
 runs_through input first new next start ran last = at_end input first (Ok (new, next)) start ran ∙ ap (ended new.world next) last
 
-pub stops_short : (input : List ℕ) (first new : Timed) (next : ℕ) (e : TraceErr) → first ≡ timed_start → applied_from first 1 (lines_of input) ≡ Ok (new, next) → in_header new.world.stage ≡ true → e ≡ errors.Refused (refused next Grammar) → ComesTo (Err e) (accepted input)
-stops_short input first new next e start ran wanted is = subst (λ (x : TraceErr). ComesTo (Err x) (accepted input)) (sym is) (at_end input first (Ok (new, next)) start ran ∙ ap (ended new.world next) wanted)
+pub stops_short : (input : List ℕ) (first new : Timed) (next : ℕ) (e : TraceError) → first ≡ timed_start → applied_from first 1 (lines_of input) ≡ Ok (new, next) → in_header new.world.stage ≡ true → e ≡ errors.Refused (refused next Grammar) → ComesTo (Err e) (accepted input)
+stops_short input first new next e start ran wanted is = subst (λ (x : TraceError). ComesTo (Err x) (accepted input)) (sym is) (at_end input first (Ok (new, next)) start ran ∙ ap (ended new.world next) wanted)
 
 abbrev these : Timed × ℕ → Result (Timed × ℕ) Refused
 these p = Ok p

@@ -2,8 +2,8 @@
 use Rattle.std.specs.Prelude.{◌≡◌, ℕ, ◌+◌, List, [], ◌∷◌, Result, Ok, Err}
 use Rattle.trace_text.specs.Grammar.{line_of}
 use Rattle.trace_replay.specs.declared.fault.Refused.{Refused}
-use Rattle.trace_replay.specs.declared.fault.TraceErr.{TraceErr}
-use Rattle.trace_replay.specs.declared.fault.TraceErr.TheVariants as errors
+use Rattle.trace_replay.specs.declared.fault.TraceError.{TraceError}
+use Rattle.trace_replay.specs.declared.fault.TraceError.TheVariants as errors
 use Rattle.trace_replay.specs.World.{World}
 use Rattle.trace_replay.specs.Run.{refused, in_header, ended}
 use Rattle.trace_replay.specs.Timed.{Timed, timed_by, timed_turn}
@@ -19,13 +19,13 @@ ended_at (Ok p) = ended p.0.world p.1 (in_header p.0.world.stage)
 ended_at (Err r) = Err r
 
 -- what running lines answers and leaves; where memory ran out, nothing is said
-abbrev pub AreApplied : Result ℕ TraceErr → Result (Timed × ℕ) Refused → Timed → Type 0
+abbrev pub AreApplied : Result ℕ TraceError → Result (Timed × ℕ) Refused → Timed → Type 0
 AreApplied (Ok next) ran new = ran ≡ Ok (new, next)
 AreApplied (Err errors.Memory) ran new = Unit {0}
 AreApplied (Err (errors.Refused r)) ran new = ran ≡ Err r
 
 -- the world that a trace comes to, or the first line that is refused
-abbrev pub ComesTo : Result Timed TraceErr → Result World Refused → Type 0
+abbrev pub ComesTo : Result Timed TraceError → Result World Refused → Type 0
 ComesTo (Ok v) ran = ran ≡ Ok v.world
 ComesTo (Err errors.Memory) ran = Unit {0}
 ComesTo (Err (errors.Refused r)) ran = ran ≡ Err r

@@ -3,8 +3,8 @@ use Rattle.std.specs.Prelude.{◌≡◌, ℕ, ◌+◌, List, [], ◌∷◌, map,
 use Rattle.clock_rule.specs.Clocks.{Clocked, read_at}
 use Rattle.clock_rule.specs.Keeping.{at_first}
 use Rattle.clock_rule.specs.declared.rule.ClockFault.{ClockFault}
-use Rattle.clock_rule.specs.declared.rule.NoteErr.{NoteErr}
-use Rattle.clock_rule.specs.declared.rule.NoteErr.TheVariants.{Fault, Memory}
+use Rattle.clock_rule.specs.declared.rule.NoteError.{NoteError}
+use Rattle.clock_rule.specs.declared.rule.NoteError.TheVariants.{Fault, Memory}
 use Rattle.clock_rule.specs.declared.rule.Reading.TheVariants as reads
 use Rattle.command_text.specs.Parts.{lines_of}
 use Rattle.trace_text.specs.Grammar.{line_of}
@@ -74,7 +74,7 @@ times_with t (timing.Drift drift) = Ok (record t { clocks = at_first t.term drif
 times_with t (timing.Reads r) = read_by t (read_at t.clocks r)
 
 -- what a line answers and leaves of the clocks: a fault, or want of memory, leaves all as it was
-abbrev pub IsTaken : {T : Type 0} → Result T NoteErr → Result Times ClockFault → (old new : Times) → Type 0
+abbrev pub IsTaken : {T : Type 0} → Result T NoteError → Result Times ClockFault → (old new : Times) → Type 0
 IsTaken (Ok _) ran old new = ran ≡ Ok new
 IsTaken (Err (Fault f)) ran old new = (ran ≡ Err f) × (new ≡ old)
 IsTaken (Err Memory) ran old new = new ≡ old

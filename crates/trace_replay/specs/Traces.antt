@@ -23,8 +23,8 @@ use Rattle.server_core.specs.declared.change.Wanted.{Wanted}
 use Rattle.server_core.specs.declared.change.Wanted.TheVariants as wanted
 use Rattle.tree_calls.specs.declared.asked.Asked.TheVariants as asked
 use Rattle.trace_replay.specs.declared.fault.Refused.{Refused}
-use Rattle.trace_replay.specs.declared.fault.TraceErr.{TraceErr}
-use Rattle.trace_replay.specs.declared.fault.TraceErr.TheVariants as errors
+use Rattle.trace_replay.specs.declared.fault.TraceError.{TraceError}
+use Rattle.trace_replay.specs.declared.fault.TraceError.TheVariants as errors
 use Rattle.trace_ends.specs.Session.{Seat, Session}
 use Rattle.trace_ends.specs.Numbers.{numbered}
 use Rattle.trace_ends.specs.Core.{server_waiting}
@@ -37,12 +37,12 @@ use Rattle.trace_replay.specs.Faithful.{IsFaithful}
 use Rattle.trace_replay.specs.Complete.{IsComplete}
 use Rattle.trace_replay.specs.Saving.{IsSaving}
 
-abbrev pub Fails : TraceErr → Result World Refused → Type 0
+abbrev pub Fails : TraceError → Result World Refused → Type 0
 Fails errors.Memory ran = Unit {0}
 Fails (errors.Refused r) ran = ran ≡ Err r
 
 -- the history of the world that the lines end in, or the first line that is refused, unless memory runs out
-abbrev pub Gives : Result History TraceErr → Result World Refused → Type 0
+abbrev pub Gives : Result History TraceError → Result World Refused → Type 0
 Gives (Ok h) ran = (w : World) × (ran ≡ Ok w) × (h ≡ history_of w)
 Gives (Err e) ran = Fails e ran
 

@@ -2,8 +2,8 @@
 use Rattle.std.specs.Prelude.{◌≡◌, ℕ, ◌<◌, ◌^◌, Ok, Err, Bool, true, false}
 use Rattle.trace_text.specs.declared.line.Line.{Line}
 use Rattle.trace_text.specs.declared.line.Line.TheVariants as line
-use Rattle.trace_replay.specs.declared.fault.TraceErr.{TraceErr}
-use Rattle.trace_replay.specs.declared.fault.TraceErr.TheVariants as errors
+use Rattle.trace_replay.specs.declared.fault.TraceError.{TraceError}
+use Rattle.trace_replay.specs.declared.fault.TraceError.TheVariants as errors
 use Rattle.trace_replay.specs.declared.stage.Stage.{Stage}
 use Rattle.trace_replay.specs.declared.stage.Stage.TheVariants as stage
 use Rattle.trace_replay.specs.declared.turn.Turn.{Turn}
@@ -42,6 +42,6 @@ abbrev pub IsApplied : Timed → ℕ → Line → Timed → Type 0
 IsApplied old n l new = (t : Turn × Times) × (timed_asked old n l ≡ Ok t) × (new ≡ timed_turn old t)
 
 -- a line that is refused changed nothing; where memory ran out, nothing is said
-abbrev pub IsRefused : TraceErr → Timed → ℕ → Line → Timed → Type 0
+abbrev pub IsRefused : TraceError → Timed → ℕ → Line → Timed → Type 0
 IsRefused errors.Memory old n l new = Unit {0}
 IsRefused (errors.Refused r) old n l new = (r.line ≡ n) × (timed_asked old n l ≡ Err r.fault) × (new ≡ old)

@@ -1,7 +1,7 @@
 //! Why a trace is not run. `specs/Run.antt` says which line is refused.
 
 ghost use Rattle.std.specs.Prelude.{◌≡◌};
-ghost use Rattle.trace_replay.specs.declared.fault.TraceErr.TheVariants as errors;
+ghost use Rattle.trace_replay.specs.declared.fault.TraceError.TheVariants as errors;
 
 use std::alloc::AllocError;
 use trace_text::refusal::LineFault;
@@ -17,7 +17,7 @@ pub struct Refused {
 
 /// Why a trace is not run.
 #[derive(Clone, Copy)]
-pub enum TraceErr {
+pub enum TraceError {
     /// The first line that is refused.
     Refused(Refused),
     /// Memory ran out.
@@ -25,16 +25,16 @@ pub enum TraceErr {
 }
 
 /// The refusal of the line of this number.
-pub fn refusal(line: u64, fault: LineFault) -> TraceErr
+pub fn refusal(line: u64, fault: LineFault) -> TraceError
     ensures { result ≡ errors.Refused (record { line = line; fault = fault }) }
 {
-    TraceErr::Refused(Refused { line, fault })
+    TraceError::Refused(Refused { line, fault })
 }
 
-impl From<AllocError> for TraceErr {
+impl From<AllocError> for TraceError {
     ghost from_gives = { λ _ e. e ≡ errors.Memory };
 
-    fn from(_e: AllocError) -> TraceErr {
-        TraceErr::Memory
+    fn from(_e: AllocError) -> TraceError {
+        TraceError::Memory
     }
 }

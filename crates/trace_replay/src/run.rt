@@ -6,9 +6,9 @@ ghost use Rattle.trace_replay.specs.Timed.{accepted};
 ghost use Rattle.trace_replay.specs.Lines.{applied_from, AreApplied, ComesTo};
 ghost use Rattle.trace_replay.specs.Traces.{Gives};
 
-use crate::fault::{TraceErr, refusal};
+use crate::fault::{TraceError, refusal};
 use crate::world::World;
-use command_text::line_err::LineErr;
+use command_text::line_error::LineError;
 use command_text::parts::first_line;
 use register_model::history::History;
 use std::alloc::Global;
@@ -18,7 +18,12 @@ use trace_text::refusal::LineFault;
 /// Runs the lines of a text, of which the first has this number, and gives the number of the line
 /// behind them. `Refused`: the first line that is outside the grammar, out of place, past a limit, or
 /// against the clock rule. After an error the world is of no further use.
-pub fn run_lines(alloc: Global, world: &mut World, first: u64, text: &[u8]) -> Result<u64, TraceErr>
+pub fn run_lines(
+    alloc: Global,
+    world: &mut World,
+    first: u64,
+    text: &[u8],
+) -> Result<u64, TraceError>
     requires { first < 2 ^ 63 }
     ensures { AreApplied result (applied_from world.old first (lines_of text.now)) world.new }
 {
@@ -27,8 +32,8 @@ pub fn run_lines(alloc: Global, world: &mut World, first: u64, text: &[u8]) -> R
     'lines: while let Some((line, left)) = first_line(rest) {
         let line = match Line::read(alloc, line) {
             Ok(line) => line,
-            Err(LineErr::BadLine) => return Err(refusal(number, LineFault::Grammar)),
-            Err(LineErr::Memory) => return Err(TraceErr::Memory),
+            Err(LineError::BadLine) => return Err(refusal(number, LineFault::Grammar)),
+            Err(LineError::Memory) => return Err(TraceError::Memory),
         };
         world.apply(alloc, number, line)?;
         number += 1;
@@ -40,7 +45,7 @@ pub fn run_lines(alloc: Global, world: &mut World, first: u64, text: &[u8]) -> R
 /// The world that a trace comes to. `Refused`: the first line that is refused, or the one behind the
 /// last where the header is not whole.
 #[tactic(auto, using(crate::proofs::Going::accepted_at_end))]
-pub fn run(alloc: Global, input: &[u8]) -> Result<World, TraceErr>
+pub fn run(alloc: Global, input: &[u8]) -> Result<World, TraceError>
     ensures { ComesTo result (accepted input.now) }
 {
     let mut world = World::new(alloc)?;
@@ -52,7 +57,7 @@ pub fn run(alloc: Global, input: &[u8]) -> Result<World, TraceErr>
 }
 
 /// The history that a trace comes to, or the first line that is refused.
-pub fn replay(alloc: Global, input: &[u8]) -> Result<History, TraceErr>
+pub fn replay(alloc: Global, input: &[u8]) -> Result<History, TraceError>
     ensures { Gives result (accepted input.now) }
 {
     let world = run(alloc, input)?;

@@ -6,7 +6,7 @@ ghost use Rattle.trace_replay.specs.Timed.{no_times, down_timing, pass_timing, t
 ghost use Rattle.trace_replay.specs.WorldView.{times_of};
 
 use clock_rule::clocks::Clocks;
-use clock_rule::rule::{NoteErr, Reading};
+use clock_rule::rule::{NoteError, Reading};
 use session_rules::numbers::place_of;
 use session_rules::session::Session;
 use std::alloc::Global;
@@ -108,7 +108,7 @@ impl Times {
 
     /// What a line says of the clocks is taken. The errors are the first fault by the clock rule, and
     /// want of memory, and after either all is as before.
-    pub fn take(&mut self, alloc: Global, timing: Timing) -> Result<(), NoteErr>
+    pub fn take(&mut self, alloc: Global, timing: Timing) -> Result<(), NoteError>
         ensures { IsTaken result (times_with (times_of self.old) timing) (times_of self.old) (times_of self.new) }
     {
         match timing {

@@ -8,12 +8,12 @@ ghost use Rattle.trace_replay.specs.World.{history_of};
 ghost use Rattle.trace_replay.specs.Run.{in_header};
 ghost use Rattle.trace_replay.specs.Turns.{IsApplied, IsRefused};
 
-use crate::fault::{TraceErr, refusal};
+use crate::fault::{TraceError, refusal};
 use crate::stage::Stage;
 use crate::state::WorldState;
 use crate::timing::{Times, timing_of};
 use crate::turn::asked;
-use clock_rule::rule::NoteErr;
+use clock_rule::rule::NoteError;
 use register_model::history::History;
 use std::alloc::{AllocError, Global};
 use std::marker::Model;
@@ -63,7 +63,7 @@ impl World {
     /// grammar or stands out of place, or breaks a limit, or else its readings break the clock rule,
     /// and the world stays as it was. `Memory`: the world may be left half-way, and is of no further
     /// use.
-    pub fn apply(&mut self, alloc: Global, number: u64, line: Line) -> Result<(), TraceErr>
+    pub fn apply(&mut self, alloc: Global, number: u64, line: Line) -> Result<(), TraceError>
         requires { IsTimely line }
         ensures ok { OnOk result (IsApplied self.old number line self.new) }
         ensures err { IfErr result (λ e. IsRefused e self.old number line self.new) }
@@ -75,13 +75,13 @@ impl World {
         };
         match self.times.take(alloc, timing) {
             Ok(()) => {}
-            Err(NoteErr::Fault(fault)) => {
+            Err(NoteError::Fault(fault)) => {
                 drop(turn);
                 return Err(refusal(number, LineFault::Clock(fault)));
             }
-            Err(NoteErr::Memory) => {
+            Err(NoteError::Memory) => {
                 drop(turn);
-                return Err(TraceErr::Memory);
+                return Err(TraceError::Memory);
             }
         }
         self.state.take(alloc, turn)?;

@@ -10,7 +10,7 @@ use Rattle.trace_text.specs.Fields.{reading_of, amount_of, who_of, key_of}
 use Rattle.trace_text.specs.Grammar.{version_of, term_of, drift_of, clients_of, dir_of, file_of, join_of, do_of, up_of, down_of, pass_of, settle_of, cut_of, hang_of, forge_of, clear_of, evict_of, event_from, line_from, said_by, is_skipped, line_of}
 use Rattle.command_text.specs.Parts.{words_of}
 use Rattle.trace_text.specs.Reading.{IsTimely}
-use Rattle.command_text.specs.declared.line_err.LineErr.{LineErr}
+use Rattle.command_text.specs.declared.line_error.LineError.{LineError}
 use Rattle.command_text.specs.declared.command.Command.{Command}
 use Rattle.command_text.specs.declared.command.Command.TheVariants.{Open, Write, Trunc, Read, Close, Abandon, Named}
 use Rattle.command_text.specs.declared.path.PathCommand.{PathCommand}
@@ -283,6 +283,6 @@ timely said h = h
 pub timely_line : (line : List ℕ) (said : Line) → line_of line ≡ Some said → IsTimely said
 timely_line line said e = timely said (fit_line line said e)
 
-pub gives_timely : (line : List ℕ) (r : Result Line LineErr) → Gives r (line_of line) → IfOk r IsTimely
+pub gives_timely : (line : List ℕ) (r : Result Line LineError) → Gives r (line_of line) → IfOk r IsTimely
 gives_timely line (Ok said) g = timely_line line said g
 gives_timely line (Err e) g = tt

@@ -9,7 +9,7 @@ use crate::fields;
 use crate::line::Line;
 use command_text::command::Command;
 use command_text::fields::number;
-use command_text::line_err::LineErr;
+use command_text::line_error::LineError;
 use command_text::parts::Words;
 use command_text::words::{is, one, three, two};
 use std::alloc::Global;
@@ -39,11 +39,11 @@ fn command_words<'a>(words: &mut Words<'a>) -> Option<(u64, u64, &'a [u8])>
 }
 
 /// `do C c COMMAND`.
-pub(crate) fn command_line(alloc: Global, words: &mut Words) -> Result<Line, LineErr>
+pub(crate) fn command_line(alloc: Global, words: &mut Words) -> Result<Line, LineError>
     ensures { Gives result (do_of words.old) }
 {
     let Some((client, at, word)) = command_words(words) else {
-        return Err(LineErr::BadLine);
+        return Err(LineError::BadLine);
     };
     Ok(Line::Do {
         client,

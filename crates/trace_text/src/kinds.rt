@@ -7,7 +7,7 @@ ghost use Rattle.trace_text.specs.Grammar.{version_of, term_of, drift_of, client
 
 use crate::events::{command_line, event};
 use crate::line::Line;
-use command_text::line_err::LineErr;
+use command_text::line_error::LineError;
 use command_text::parts::Words;
 use command_text::words::{is, one, two};
 use command_text::{fields, path, pieces};
@@ -51,21 +51,21 @@ fn clients(words: &mut Words) -> Option<Line>
 }
 
 /// `dir PATH`.
-fn dir(alloc: Global, words: &mut Words) -> Result<Line, LineErr>
+fn dir(alloc: Global, words: &mut Words) -> Result<Line, LineError>
     ensures { Gives result (dir_of words.old) }
 {
     let Some(path) = one(words) else {
-        return Err(LineErr::BadLine);
+        return Err(LineError::BadLine);
     };
     Ok(Line::Dir(path::read_spot(alloc, path)?))
 }
 
 /// `file PATH CONTENT`.
-fn file(alloc: Global, words: &mut Words) -> Result<Line, LineErr>
+fn file(alloc: Global, words: &mut Words) -> Result<Line, LineError>
     ensures { Gives result (file_of words.old) }
 {
     let Some((path, content)) = two(words) else {
-        return Err(LineErr::BadLine);
+        return Err(LineError::BadLine);
     };
     let spot = path::read_spot(alloc, path)?;
     let content = pieces::content(alloc, content)?;
@@ -93,7 +93,7 @@ fn read_small(kind: &[u8], words: &mut Words) -> Option<Line>
 }
 
 /// A line that begins with this word.
-pub(crate) fn read_kind(alloc: Global, kind: &[u8], words: &mut Words) -> Result<Line, LineErr>
+pub(crate) fn read_kind(alloc: Global, kind: &[u8], words: &mut Words) -> Result<Line, LineError>
     ensures { Gives result (line_from kind.now words.old) }
 {
     if is(kind, b"dir") {
@@ -103,6 +103,6 @@ pub(crate) fn read_kind(alloc: Global, kind: &[u8], words: &mut Words) -> Result
     } else if is(kind, b"do") {
         command_line(alloc, words)
     } else {
-        read_small(kind, words).ok_or(LineErr::BadLine)
+        read_small(kind, words).ok_or(LineError::BadLine)
     }
 }

@@ -8,7 +8,7 @@ ghost use Rattle.trace_text.specs.Reading.{IsTimely};
 use crate::kinds::read_kind;
 use command_text::command::Command;
 use command_text::content::Content;
-use command_text::line_err::LineErr;
+use command_text::line_error::LineError;
 use command_text::parts::Words;
 use command_text::path::Spot;
 use std::alloc::Global;
@@ -126,7 +126,7 @@ fn is_skipped(line: &[u8]) -> bool
 }
 
 /// What a line says, where it is in the grammar.
-fn said_by(alloc: Global, line: &[u8]) -> Result<Line, LineErr>
+fn said_by(alloc: Global, line: &[u8]) -> Result<Line, LineError>
     ensures { Gives result (line_of line.now) }
 {
     if is_skipped(line) {
@@ -134,7 +134,7 @@ fn said_by(alloc: Global, line: &[u8]) -> Result<Line, LineErr>
     }
     let mut words = Words::new(line);
     let Some(kind) = words.next() else {
-        return Err(LineErr::BadLine);
+        return Err(LineError::BadLine);
     };
     read_kind(alloc, kind, &mut words)
 }
@@ -143,7 +143,7 @@ impl Line {
     /// Reads a line, which stands here without its line feed, in time linear in its length. Every
     /// reading of a clock in it has at most 63 bits. The error is `BadLine` where the line is not
     /// in the grammar, or `Memory`.
-    pub fn read(alloc: Global, line: &[u8]) -> Result<Line, LineErr>
+    pub fn read(alloc: Global, line: &[u8]) -> Result<Line, LineError>
         ensures read { Gives result (line_of line.now) }
         ensures timely { IfOk result IsTimely }
     {

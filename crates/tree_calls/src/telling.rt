@@ -14,7 +14,7 @@ use nfs3_calls::listing::{ListRange, Listing};
 use nfs3_calls::message::Nfs;
 use nfs3_calls::place::{Found, Place};
 use std::alloc::{AllocError, Global};
-use tree_reading::error::TreeErr;
+use tree_reading::error::TreeError;
 use xdr_codec::answer::Answer;
 use xdr_codec::attr::{Attr, Time};
 use xdr_codec::handle::Handle;
@@ -33,7 +33,7 @@ fn getattr(tree: &Tree, handle: &Handle) -> Result<Attr, Status>
     tree.attr(id)
 }
 
-fn found(alloc: Global, tree: &Tree, place: &Place) -> Result<Found, TreeErr>
+fn found(alloc: Global, tree: &Tree, place: &Place) -> Result<Found, TreeError>
     ensures { Answers (found tree.now.tree.nodes place.now) result }
 {
     let dir = id_of(&place.dir)?;
@@ -56,14 +56,14 @@ fn granted(tree: &Tree, access: &Access) -> Result<Granted, Status>
     })
 }
 
-fn piece(tree: &Tree, range: &Range) -> Result<Piece, TreeErr>
+fn piece(tree: &Tree, range: &Range) -> Result<Piece, TreeError>
     ensures { Answers (piece tree.now.tree.nodes range.now) result }
 {
     let id = id_of(&range.handle)?;
     tree.read(id, range.offset, range.count)
 }
 
-fn listing(tree: &Tree, range: &ListRange) -> Result<Listing, TreeErr>
+fn listing(tree: &Tree, range: &ListRange) -> Result<Listing, TreeError>
     ensures { Answers (listing tree.now.tree.nodes range.now) result }
 {
     let dir = id_of(&range.dir)?;
@@ -112,8 +112,8 @@ fn tell_found(alloc: Global, tree: &Tree, place: &Place) -> Result<Nfs, AllocErr
 {
     match found(alloc, tree, place) {
         Ok(found) => Ok(Nfs::LookupAnswer(Answer::Done(found))),
-        Err(TreeErr::Refused(status)) => Ok(Nfs::LookupAnswer(Answer::Failed(status, None))),
-        Err(TreeErr::Memory) => Err(AllocError),
+        Err(TreeError::Refused(status)) => Ok(Nfs::LookupAnswer(Answer::Failed(status, None))),
+        Err(TreeError::Memory) => Err(AllocError),
     }
 }
 
@@ -134,8 +134,8 @@ fn tell_piece(tree: &Tree, range: &Range) -> Result<Nfs, AllocError>
 {
     match piece(tree, range) {
         Ok(piece) => Ok(Nfs::ReadAnswer(Answer::Done(piece))),
-        Err(TreeErr::Refused(status)) => Ok(Nfs::ReadAnswer(Answer::Failed(status, None))),
-        Err(TreeErr::Memory) => Err(AllocError),
+        Err(TreeError::Refused(status)) => Ok(Nfs::ReadAnswer(Answer::Failed(status, None))),
+        Err(TreeError::Memory) => Err(AllocError),
     }
 }
 
@@ -146,8 +146,8 @@ fn tell_listing(tree: &Tree, range: &ListRange) -> Result<Nfs, AllocError>
 {
     match listing(tree, range) {
         Ok(listing) => Ok(Nfs::ReadDirAnswer(Answer::Done(listing))),
-        Err(TreeErr::Refused(status)) => Ok(Nfs::ReadDirAnswer(Answer::Failed(status, None))),
-        Err(TreeErr::Memory) => Err(AllocError),
+        Err(TreeError::Refused(status)) => Ok(Nfs::ReadDirAnswer(Answer::Failed(status, None))),
+        Err(TreeError::Memory) => Err(AllocError),
     }
 }
 

@@ -17,8 +17,8 @@ use Rattle.tree_nodes.specs.declared.node.Node.{Node}
 use Rattle.tree_nodes.specs.declared.node.Body.{Body}
 use Rattle.tree_nodes.specs.declared.node.Body.TheVariants.{Directory, File}
 use Rattle.tree_nodes.specs.Nodes.{with_id, named, names}
-use Rattle.tree_reading.specs.declared.error.TreeErr.{TreeErr}
-use Rattle.tree_reading.specs.declared.error.TreeErr.TheVariants as tree_err
+use Rattle.tree_reading.specs.declared.error.TreeError.{TreeError}
+use Rattle.tree_reading.specs.declared.error.TreeError.TheVariants as tree_err
 use Rattle.tree_reading.specs.declared.reading.Standing.{Standing}
 use Rattle.tree_reading.specs.declared.reading.Looked.{Looked}
 use Rattle.tree_reading.specs.Names.{is_dot, is_dot_dot, spelt}
@@ -141,7 +141,7 @@ list nodes dir cookie verifier count =
 
 -- ---- what is answered, where memory may run out: never where the call is refused
 
-abbrev pub Answers : {A : Type 0} → Result A Status → Result A TreeErr → Type 0
+abbrev pub Answers : {A : Type 0} → Result A Status → Result A TreeError → Type 0
 Answers {A} r (Ok x) = ◌≡◌ {A = Result A Status} r (Ok x)
 Answers {A} r (Err (tree_err.Refused s)) = ◌≡◌ {A = Result A Status} r (Err s)
 Answers r (Err tree_err.Memory) = IsOk r

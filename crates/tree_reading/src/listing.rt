@@ -6,7 +6,7 @@ ghost use Rattle.tree_nodes.specs.declared.node.Node.{Node};
 ghost use Rattle.tree_reading.specs.View.{AreBounded};
 ghost use Rattle.tree_reading.specs.Reading.{entry_size, page, listing_of, listed, is_bad_cookie, list, Answers};
 
-use crate::error::TreeErr;
+use crate::error::TreeError;
 use crate::{finding, reading};
 use lb_base::items::Items;
 use limits::LISTING_MOST;
@@ -136,14 +136,14 @@ fn listed(
     dir: &Node,
     cookie: u64,
     room: u32,
-) -> Result<Listing, TreeErr>
+) -> Result<Listing, TreeError>
     requires id { dir.now.id < 2 ^ 64 - 1 }
     requires version { dir.now.version < 2 ^ 32 }
     requires cookie { cookie ≤ length (names nodes.now.nodes dir.now.id) }
     ensures { Answers (listed nodes.now.nodes dir.now cookie room) result }
 {
     if room < LIST_LEAST {
-        return Err(TreeErr::Refused(Status::TooSmall));
+        return Err(TreeError::Refused(Status::TooSmall));
     }
     let left = count_behind(nodes, dir, cookie);
     let entries = page_behind(alloc, nodes, dir, cookie, (room - LIST_LEAST) as usize)?;
@@ -161,13 +161,13 @@ pub fn list(
     cookie: u64,
     verifier: u64,
     count: u32,
-) -> Result<Listing, TreeErr>
+) -> Result<Listing, TreeError>
     requires { AreBounded nodes.now changes }
     ensures { Answers (list nodes.now.nodes dir cookie verifier count) result }
 {
     let dir = finding::directory_within(nodes, changes, dir)?;
     if is_bad_cookie(nodes, dir, cookie, verifier) {
-        return Err(TreeErr::Refused(Status::BadCookie));
+        return Err(TreeError::Refused(Status::BadCookie));
     }
     listed(alloc, nodes, dir, cookie, count.min(LISTING_MOST))
 }

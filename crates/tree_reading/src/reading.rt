@@ -7,7 +7,7 @@ ghost use Rattle.tree_reading.specs.Tree.{content_of, node_of, file_most};
 ghost use Rattle.tree_reading.specs.View.{lent, lent_list, AreBounded, IsNodeBounded};
 ghost use Rattle.tree_reading.specs.Reading.{time_of, file_attr, attr_of, attr, above, looked, lookup, piece_bytes, piece_of, read, content, chunks_in, chunks, version, standing_of, stands_for, Answers};
 
-use crate::error::TreeErr;
+use crate::error::TreeError;
 use crate::finding::{self, directory_within, known};
 use crate::names::{is_dot, is_dot_dot, spelt};
 use chunk_cut::chunk::Chunk;
@@ -149,7 +149,7 @@ fn piece_of(
     node: &Node,
     offset: u64,
     count: u32,
-) -> Result<Piece, TreeErr>
+) -> Result<Piece, TreeError>
     requires bounded { AreBounded nodes.now changes }
     requires node { IsNodeBounded nodes.now.next changes node.now }
     ensures { Answers (Ok (piece_of nodes.now.nodes node.now offset count)) result }
@@ -175,7 +175,7 @@ pub fn read(
     id: u64,
     offset: u64,
     count: u32,
-) -> Result<Piece, TreeErr>
+) -> Result<Piece, TreeError>
     requires { AreBounded nodes.now changes }
     ensures { Answers (read nodes.now.nodes id offset count) result }
 {
@@ -241,7 +241,7 @@ pub fn at_name(nodes: &Nodes, dir: u64, name: &[u8]) -> Option<Standing>
 }
 
 /// A copy of a file's content.
-pub fn content(alloc: Global, nodes: &Nodes, id: u64) -> Result<Bytes, TreeErr>
+pub fn content(alloc: Global, nodes: &Nodes, id: u64) -> Result<Bytes, TreeError>
     ensures { Answers (content nodes.now.nodes id) result }
 {
     let bytes = file_bytes(nodes, id)?;

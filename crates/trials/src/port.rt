@@ -10,7 +10,7 @@ use crate::line::{
 };
 use crate::trial::Trial;
 use lb_base::faults::one_more;
-use lb_base::sink::GiveErr;
+use lb_base::sink::GiveError;
 use lb_base::source::Failed;
 use links::link::Link;
 use links::network::Network;
@@ -119,19 +119,19 @@ impl<R: Wait + Copy> Link for PortLink<R> {
         Ok(count.min(into.len()))
     }
 
-    fn give(&mut self, from: &[u8]) -> Result<usize, GiveErr> {
+    fn give(&mut self, from: &[u8]) -> Result<usize, GiveError> {
         let mut lines = self.port.lines.lock(&self.rt);
         let given = give_at(&mut lines, self.at, self.side, from);
         drop(lines);
         self.port.news.notify_all();
         match given {
             Given::Taken => return Ok(from.len()),
-            Given::Memory => return Err(GiveErr::Memory),
+            Given::Memory => return Err(GiveError::Memory),
             Given::Failed => {}
             Given::Waits => drop(self.port.held(&self.rt, self.at, Until::Shut)),
         }
         self.faults = one_more(self.faults);
-        Err(GiveErr::Failed)
+        Err(GiveError::Failed)
     }
 
     fn shut(&mut self) {

@@ -5,7 +5,7 @@ ghost use Rattle.std.specs.Prelude.{◌≡◌, None};
 
 use crate::trial::Trial;
 use lb_base::faults::one_more;
-use lb_base::sink::{GiveErr, Sink};
+use lb_base::sink::{GiveError, Sink};
 use lb_base::source::{Failed, Source};
 use std::alloc::Global;
 use std::sync::atomic::{AtomicU64, Ordering};
@@ -152,15 +152,15 @@ impl<'a> Sink for Screen<'a> {
 
     ghost faults = { λ s. s.faults };
 
-    fn give(&mut self, from: &[u8]) -> Result<usize, GiveErr> {
+    fn give(&mut self, from: &[u8]) -> Result<usize, GiveError> {
         let call = self.calls;
         self.calls = one_more(call);
         if self.failing == Some(call) {
             self.faults = one_more(self.faults);
-            return Err(GiveErr::Failed);
+            return Err(GiveError::Failed);
         }
         if self.starved == Some(call) {
-            return Err(GiveErr::Memory);
+            return Err(GiveError::Memory);
         }
         let count = from.len().min(self.piece.max(1));
         self.text.extend_from_slice(&from[..count])?;

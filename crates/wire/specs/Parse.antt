@@ -31,8 +31,8 @@ use Rattle.wire.specs.declared.message.Message.{Message}
 use Rattle.wire.specs.declared.message.Message.TheVariants.{Call, Answer, Refuse, Unfit}
 use Rattle.wire.specs.declared.fault.WireFault.{WireFault}
 use Rattle.wire.specs.declared.fault.WireFault.TheVariants.{NotRpc, UnknownXid, Garbage}
-use Rattle.wire.specs.declared.fault.WireErr.{WireErr}
-use Rattle.wire.specs.declared.fault.WireErr.TheVariants as wire_errors
+use Rattle.wire.specs.declared.fault.WireError.{WireError}
+use Rattle.wire.specs.declared.fault.WireError.TheVariants as wire_errors
 
 -- ---- what is expected
 
@@ -79,11 +79,11 @@ fault_at (Trailing at) = at
 fault_at (BadValue at value) = at
 
 -- what a reader's refusal is called in a header, and in an answer
-abbrev pub not_rpc : ReadError → WireErr
+abbrev pub not_rpc : ReadError → WireError
 not_rpc errors.Memory = wire_errors.Memory
 not_rpc (errors.Fault fault) = wire_errors.Fault (NotRpc (fault_at fault))
 
-abbrev pub garbage : ReadError → WireErr
+abbrev pub garbage : ReadError → WireError
 garbage errors.Memory = wire_errors.Memory
 garbage (errors.Fault fault) = wire_errors.Fault (Garbage (fault_at fault))
 
@@ -163,7 +163,7 @@ abbrev pub parse_of : Waiting → List ℕ → Result Message WireFault
 parse_of w bytes = read_or NotRpc (front_form.read (record { at = 0; rest = bytes })) (λ front. parse_by w front.0.xid front.0.direction front.1)
 
 -- what a function returned is the message that the record is, or what is wrong with it, unless memory ran out
-abbrev pub IsParsed : Result Message WireErr → Result Message WireFault → Type 0
+abbrev pub IsParsed : Result Message WireError → Result Message WireFault → Type 0
 IsParsed (Ok m) parsed = parsed ≡ Ok m
 IsParsed (Err wire_errors.Memory) parsed = Unit {0}
 IsParsed (Err (wire_errors.Fault fault)) parsed = parsed ≡ Err fault

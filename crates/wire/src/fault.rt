@@ -22,7 +22,7 @@ pub enum WireFault {
 
 /// Why no message was read.
 #[derive(Clone, Copy, Debug, Drop)]
-pub enum WireErr {
+pub enum WireError {
     /// Memory ran out; the record may be a message.
     Memory,
     /// The record is no message, for this fault.
@@ -44,21 +44,21 @@ pub fn place(fault: Fault) -> usize
 }
 
 /// A header that could not be read.
-pub fn not_rpc(error: ReadError) -> WireErr
+pub fn not_rpc(error: ReadError) -> WireError
     ensures { result ≡ not_rpc error }
 {
     match error {
-        ReadError::Memory => WireErr::Memory,
-        ReadError::Fault(fault) => WireErr::Fault(WireFault::NotRpc { at: place(fault) }),
+        ReadError::Memory => WireError::Memory,
+        ReadError::Fault(fault) => WireError::Fault(WireFault::NotRpc { at: place(fault) }),
     }
 }
 
 /// An answer that could not be read.
-pub fn garbage(error: ReadError) -> WireErr
+pub fn garbage(error: ReadError) -> WireError
     ensures { result ≡ garbage error }
 {
     match error {
-        ReadError::Memory => WireErr::Memory,
-        ReadError::Fault(fault) => WireErr::Fault(WireFault::Garbage { at: place(fault) }),
+        ReadError::Memory => WireError::Memory,
+        ReadError::Fault(fault) => WireError::Fault(WireFault::Garbage { at: place(fault) }),
     }
 }

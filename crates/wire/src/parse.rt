@@ -6,7 +6,7 @@ ghost use Rattle.wire.specs.Parse.{IsParsed, parse_of, parse_call, parse_call_bo
 ghost use Rattle.wire.specs.Message.{args_of, result_of};
 ghost use Rattle.xdr_codec.specs.Format.{GivesAll, whole_at};
 
-use crate::fault::{WireErr, WireFault, garbage, not_rpc};
+use crate::fault::{WireError, WireFault, garbage, not_rpc};
 use crate::message::{
     BACK_PROGRAM, BACK_VERSION, Body, LBFS_PROGRAM, LBFS_VERSION, Message, NFS_PROGRAM,
     NFS_VERSION, Pending, Program, RPC_VERSION, RpcRefusal, Side, Waiting,
@@ -28,7 +28,7 @@ use xdr_codec::reader::Reader;
 /// authentication item out of its grammar, `NotRpc`; a program that isn't served, its version, the
 /// procedure, the arguments, `Unfit`. An answer: an xid under which nothing waits, `UnknownXid`;
 /// outside its grammar, `Garbage`. Places count from the record's first byte.
-pub fn parse(alloc: Global, bytes: &[u8], expected: &Waiting) -> Result<Message, WireErr>
+pub fn parse(alloc: Global, bytes: &[u8], expected: &Waiting) -> Result<Message, WireError>
     ensures exact { IsParsed result (parse_of expected.now bytes.now) }
 {
     let mut reader = Reader::new(bytes);
@@ -55,8 +55,8 @@ pub fn message_of(
 {
     match parse(alloc, bytes, expected) {
         Ok(message) => Ok(Ok(message)),
-        Err(WireErr::Fault(fault)) => Ok(Err(fault)),
-        Err(WireErr::Memory) => Err(AllocError),
+        Err(WireError::Fault(fault)) => Ok(Err(fault)),
+        Err(WireError::Memory) => Err(AllocError),
     }
 }
 
@@ -108,7 +108,7 @@ fn called(side: Side, head: &CallHead) -> Result<Program, RpcRefusal>
 }
 
 /// A call, from the version of RPC on.
-fn call(alloc: Global, side: Side, xid: u32, reader: &mut Reader) -> Result<Message, WireErr>
+fn call(alloc: Global, side: Side, xid: u32, reader: &mut Reader) -> Result<Message, WireError>
     ensures { IsParsed result (parse_call side xid reader.old) }
 {
     match reader.u32() {
@@ -130,7 +130,7 @@ fn call(alloc: Global, side: Side, xid: u32, reader: &mut Reader) -> Result<Mess
 }
 
 /// A call behind the version of RPC.
-fn call_body(alloc: Global, side: Side, xid: u32, reader: &mut Reader) -> Result<Message, WireErr>
+fn call_body(alloc: Global, side: Side, xid: u32, reader: &mut Reader) -> Result<Message, WireError>
     ensures { IsParsed result (parse_call_body side xid reader.old) }
 {
     match CallHead::read(alloc, reader) {
@@ -147,12 +147,12 @@ fn arguments(
     xid: u32,
     program: Program,
     reader: &mut Reader,
-) -> Result<Message, WireErr>
+) -> Result<Message, WireError>
     ensures { IsParsed result (Ok (with_args xid (whole_at reader.old.at (args_of program) reader.old.rest))) }
 {
     match read_call(alloc, program, reader) {
         Ok(body) => Ok(Message::Call(xid, body)),
-        Err(ReadError::Memory) => Err(WireErr::Memory),
+        Err(ReadError::Memory) => Err(WireError::Memory),
         Err(ReadError::Fault(_)) => Ok(Message::Unfit(xid, RpcRefusal::GarbageArgs)),
     }
 }
@@ -183,11 +183,11 @@ fn reply(
     xid: u32,
     program: Option<Program>,
     reader: &mut Reader,
-) -> Result<Message, WireErr>
+) -> Result<Message, WireError>
     ensures { IsParsed result (parse_reply xid program reader.old) }
 {
     let Some(program) = program else {
-        return Err(WireErr::Fault(WireFault::UnknownXid { xid }));
+        return Err(WireError::Fault(WireFault::UnknownXid { xid }));
     };
     match ReplyHead::read(alloc, reader) {
         Err(error) => Err(garbage(error)),
@@ -206,7 +206,7 @@ fn answer(
     xid: u32,
     program: Program,
     reader: &mut Reader,
-) -> Result<Message, WireErr>
+) -> Result<Message, WireError>
     ensures { IsParsed result (replied xid program None reader.old) }
 {
     match read_result(alloc, program, reader) {

@@ -1,4 +1,4 @@
-use Rattle.lbfs_mount.specs.declared.mount_err.MountErr.TheVariants as errors
+use Rattle.lbfs_mount.specs.declared.mount_error.MountError.TheVariants as errors
 use Rattle.lbfs_mount.specs.Mounts.{IsFaulty}
 use Rattle.lbfs_mount.proofs.Progress.{ends_done, ends_fails, ends_writes, outside, writes_nothing}
 use Rattle.lbfs_mount.proofs.mount.mount.Goals as goal

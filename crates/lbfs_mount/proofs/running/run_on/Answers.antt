@@ -1,7 +1,7 @@
 use Rattle.std.proofs.Common.{rules, refl, sym, ap, subst, ◌∙◌}
 use Rattle.std.specs.Prelude.{Ok, Err}
 use Rattle.lbfs_mount.specs.Mounts.{Ends, IsFaulty}
-use Rattle.lbfs_mount.specs.declared.mount_err.MountErr.{MountErr}
+use Rattle.lbfs_mount.specs.declared.mount_error.MountError.{MountError}
 use Rattle.lbfs_mount.proofs.Progress.{begun, done, given_some, outside, starved, starved_first, told, unread, untold}
 use Rattle.lbfs_mount.proofs.running.run_on.Goals as goal
 
@@ -36,7 +36,7 @@ returns-in-None-clause-ends g c =
 
 pub returns-in-Err-next-clause-ends : goal.returns-in-Err-next-clause-ends
 returns-in-Err-next-clause-ends g c =
-    subst (λ (e : MountErr). Ends (IsFaulty g.N.L.Link.faults c.loop-at.dialler.unpaired) (outside (g.S.Source.left c.args.script.now) (g.S.Source.faults c.args.script.now) (g.K.Sink.held c.args.sink.now) (g.K.Sink.faults c.args.sink.now) (g.N.Network.faults c.args.dialler.now.net)) (outside (g.S.Source.left c.next.new.source) (g.S.Source.faults c.next.new.source) (g.K.Sink.held c.loop-at.sink) (g.K.Sink.faults c.loop-at.sink) (g.N.Network.faults c.loop-at.dialler.net)) (Err e)) (sym c.read_end.ensures) (unread (IsFaulty g.N.L.Link.faults c.loop-at.dialler.unpaired) (outside (g.S.Source.left c.args.script.now) (g.S.Source.faults c.args.script.now) (g.K.Sink.held c.args.sink.now) (g.K.Sink.faults c.args.sink.now) (g.N.Network.faults c.args.dialler.now.net)) (outside (g.S.Source.left c.loop-at.script) (g.S.Source.faults c.loop-at.script) (g.K.Sink.held c.loop-at.sink) (g.K.Sink.faults c.loop-at.sink) (g.N.Network.faults c.loop-at.dialler.net)) (g.S.Source.left c.next.new.source) (g.S.Source.faults c.next.new.source) c.loop-at.lines c.loop-at.at c.in-Err-next.why c.loop-at.invariant.progress (λ is. c.next.ensures.fault (c.in-Err-next.is ∙ ap Err is)) (λ is. c.next.ensures.too_long (c.in-Err-next.is ∙ ap Err is)))
+    subst (λ (e : MountError). Ends (IsFaulty g.N.L.Link.faults c.loop-at.dialler.unpaired) (outside (g.S.Source.left c.args.script.now) (g.S.Source.faults c.args.script.now) (g.K.Sink.held c.args.sink.now) (g.K.Sink.faults c.args.sink.now) (g.N.Network.faults c.args.dialler.now.net)) (outside (g.S.Source.left c.next.new.source) (g.S.Source.faults c.next.new.source) (g.K.Sink.held c.loop-at.sink) (g.K.Sink.faults c.loop-at.sink) (g.N.Network.faults c.loop-at.dialler.net)) (Err e)) (sym c.read_end.ensures) (unread (IsFaulty g.N.L.Link.faults c.loop-at.dialler.unpaired) (outside (g.S.Source.left c.args.script.now) (g.S.Source.faults c.args.script.now) (g.K.Sink.held c.args.sink.now) (g.K.Sink.faults c.args.sink.now) (g.N.Network.faults c.args.dialler.now.net)) (outside (g.S.Source.left c.loop-at.script) (g.S.Source.faults c.loop-at.script) (g.K.Sink.held c.loop-at.sink) (g.K.Sink.faults c.loop-at.sink) (g.N.Network.faults c.loop-at.dialler.net)) (g.S.Source.left c.next.new.source) (g.S.Source.faults c.next.new.source) c.loop-at.lines c.loop-at.at c.in-Err-next.why c.loop-at.invariant.progress (λ is. c.next.ensures.fault (c.in-Err-next.is ∙ ap Err is)) (λ is. c.next.ensures.too_long (c.in-Err-next.is ∙ ap Err is)))
 
 pub returns-clause-ends : goal.returns-clause-ends
 returns-clause-ends g c = starved (IsFaulty g.N.L.Link.faults c.loop-at.dialler.unpaired) (outside (g.S.Source.left c.args.script.now) (g.S.Source.faults c.args.script.now) (g.K.Sink.held c.args.sink.now) (g.K.Sink.faults c.args.sink.now) (g.N.Network.faults c.args.dialler.now.net)) _ c.loop-at.lines c.loop-at.at c.loop-at.invariant.progress

@@ -1,6 +1,6 @@
 use Rattle.std.proofs.Common.{refl, sym, ◌∙◌, subst}
 use Rattle.command_text.specs.Reading.{Fails}
-use Rattle.command_text.specs.declared.line_err.LineErr.{LineErr}
+use Rattle.command_text.specs.declared.line_error.LineError.{LineError}
 use Rattle.lbfs_client.specs.Lines.{line_of}
 use Rattle.lbfs_client.specs.declared.line.MountLine.TheVariants as line
 use Rattle.lbfs_mount.specs.Mounts.{IsFaulty}
@@ -15,7 +15,7 @@ pub returns-in-Ok-clause-ends : goal.returns-in-Ok-clause-ends
 returns-in-Ok-clause-ends g c = text_ends (IsFaulty g.N.L.Link.faults c.tell_line.new.dialler.unpaired) (line_of c.args.text.now) c.in-Ok.line c.args.number (g.K.Sink.held c.args.sink.now) (g.K.Sink.held c.tell_line.new.sink) (g.K.Sink.faults c.args.sink.now) (g.K.Sink.faults c.tell_line.new.sink) (g.N.Network.faults c.args.dialler.now.net) (g.N.Network.faults c.tell_line.new.dialler.net) c.tell_line.result c.in-Ok.ensures (says_something c.args.text.now c.in-Ok.line (sym c.is_skipped.ensures ∙ c.if-is_skipped.false) c.in-Ok.ensures) c.tell_line.ensures.ends
 
 pub returns-in-Err-BadLine-clause-ends : goal.returns-in-Err-BadLine-clause-ends
-returns-in-Err-BadLine-clause-ends g c = bad_ends (IsFaulty g.N.L.Link.faults c.args.dialler.now.unpaired) (line_of c.args.text.now) c.args.number (g.K.Sink.held c.args.sink.now) (g.K.Sink.faults c.args.sink.now) (g.N.Network.faults c.args.dialler.now.net) (subst (λ (e : LineErr). Fails e (line_of c.args.text.now)) c.in-Err-BadLine.field-0-is c.in-Err-BadLine.ensures)
+returns-in-Err-BadLine-clause-ends g c = bad_ends (IsFaulty g.N.L.Link.faults c.args.dialler.now.unpaired) (line_of c.args.text.now) c.args.number (g.K.Sink.held c.args.sink.now) (g.K.Sink.faults c.args.sink.now) (g.N.Network.faults c.args.dialler.now.net) (subst (λ (e : LineError). Fails e (line_of c.args.text.now)) c.in-Err-BadLine.field-0-is c.in-Err-BadLine.ensures)
 
 pub returns-in-Err-Memory-clause-ends : goal.returns-in-Err-Memory-clause-ends
 returns-in-Err-Memory-clause-ends g c = starved_ends (IsFaulty g.N.L.Link.faults c.args.dialler.now.unpaired) (line_of c.args.text.now) c.args.number (g.K.Sink.held c.args.sink.now) (g.K.Sink.faults c.args.sink.now) (g.N.Network.faults c.args.dialler.now.net)

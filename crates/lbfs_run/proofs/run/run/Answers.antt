@@ -1,6 +1,6 @@
 use Rattle.std.proofs.Common.{◌≡◌, Option, Some, None, Result, Err, refl, sym, ap, ◌∙◌, inl, inr, arith}
-use Rattle.lbfs_mount.specs.declared.mount_err.MountErr.TheVariants as mount_errors
-use Rattle.lbfs_server.specs.declared.serve.ServeErr.TheVariants as serve_errors
+use Rattle.lbfs_mount.specs.declared.mount_error.MountError.TheVariants as mount_errors
+use Rattle.lbfs_server.specs.declared.serve.ServeError.TheVariants as serve_errors
 use Rattle.program_words.specs.declared.asked.View.TheVariants.{History}
 use Rattle.program_words.specs.Rows.{replay_alone}
 use Rattle.program_words.specs.Words.{asked_of, command_in, command_of, is_alone}

@@ -1,31 +1,31 @@
 //! Why a line was not read: what `Gives` of `specs/Reading.antt` says of a reader's answer.
 
 ghost use Rattle.std.specs.Prelude.{◌≡◌};
-ghost use Rattle.command_text.specs.declared.line_err.LineErr.TheVariants as errors;
+ghost use Rattle.command_text.specs.declared.line_error.LineError.TheVariants as errors;
 
 use std::alloc::{AllocError, AllocFailed};
 
 /// Why a line was not read.
 #[derive(Clone, Copy, Debug, Drop)]
-pub enum LineErr {
+pub enum LineError {
     /// It is not in the grammar.
     BadLine,
     /// Memory ran out.
     Memory,
 }
 
-impl From<AllocError> for LineErr {
+impl From<AllocError> for LineError {
     ghost from_gives = { λ _ e. e ≡ errors.Memory };
 
-    fn from(_e: AllocError) -> LineErr {
-        LineErr::Memory
+    fn from(_e: AllocError) -> LineError {
+        LineError::Memory
     }
 }
 
-impl<T: Drop> From<AllocFailed<T>> for LineErr {
+impl<T: Drop> From<AllocFailed<T>> for LineError {
     ghost from_gives = { λ _ e. e ≡ errors.Memory };
 
-    fn from(_e: AllocFailed<T>) -> LineErr {
-        LineErr::Memory
+    fn from(_e: AllocFailed<T>) -> LineError {
+        LineError::Memory
     }
 }

@@ -2,7 +2,7 @@
 
 /// Why a mount ended before its script did.
 #[derive(Clone, Copy)]
-pub enum MountErr {
+pub enum MountError {
     /// The script's source failed; its count of faults rose.
     ReadFault,
     /// The sink failed; its count of faults rose.
