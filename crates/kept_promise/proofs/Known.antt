@@ -10,7 +10,7 @@ use Rattle.trace_replay.specs.Causes.{NamedCause, IsPathRefused}
 use Rattle.trace_replay.specs.Complete.{EndsNamed}
 use Rattle.trace_ends.specs.Commands.{path_word, word_of}
 use Rattle.trace_replay.specs.Trail.{step_of}
-use Rattle.trace_replay.specs.declared.opening.TheConstants.{ROOT}
+use Rattle.xdr_codec.specs.declared.handle.TheConstants.{ROOT}
 use Rattle.xdr_codec.specs.declared.status.Status.{Status}
 use Rattle.tree_reading.specs.Tree.{Tree}
 use Rattle.file_tree.specs.Step.{create, mkdir, remove, rmdir, rename}

@@ -21,7 +21,7 @@ use Rattle.kept_promise.proofs.PathNames.{IsNamed, IsPlain, IsSmall, find_named,
 use Rattle.kept_promise.proofs.RunsResults.{asking, turn_is, refused_line}
 use Rattle.kept_promise.proofs.Lists.{some_is, nothing_there}
 use Rattle.tree_reading.specs.Tree.{Tree}
-use Rattle.trace_replay.specs.declared.opening.TheConstants.{ROOT}
+use Rattle.xdr_codec.specs.declared.handle.TheConstants.{ROOT}
 
 -- ---- numbers of a text
 

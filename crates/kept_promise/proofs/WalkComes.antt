@@ -22,7 +22,7 @@ use Rattle.path_calls.specs.declared.walk.Pages.{Pages}
 use Rattle.path_calls.specs.declared.walk.Walk.{Walk}
 use Rattle.path_calls.specs.Walk.{pages_most, arrives, call_at, goal_call, next_call}
 use Rattle.path_calls.specs.Told.{with_page, asks_page, more_pages, lists_on, walk_told}
-use Rattle.trace_replay.specs.declared.opening.TheConstants.{ROOT}
+use Rattle.xdr_codec.specs.declared.handle.TheConstants.{ROOT}
 use Rattle.trace_replay.specs.Trail.{Moment, step_of}
 use Rattle.trace_replay.specs.Book.{Book}
 use Rattle.trace_replay.specs.Naming.{tree_at, Leads, all_names}

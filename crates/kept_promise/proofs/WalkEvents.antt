@@ -4,7 +4,7 @@ use Rattle.command_text.specs.declared.command.Command.TheVariants as command
 use Rattle.command_text.specs.declared.path.PathCommand.{PathCommand}
 use Rattle.command_text.specs.declared.path.Spot.{Spot}
 use Rattle.client_state.specs.Ending.{unknown}
-use Rattle.trace_replay.specs.declared.opening.TheConstants.{ROOT}
+use Rattle.xdr_codec.specs.declared.handle.TheConstants.{ROOT}
 use Rattle.trace_replay.specs.Causes.{HasNeither}
 use Rattle.trace_replay.specs.Naming.{Leads, all_names}
 use Rattle.command_text.specs.declared.path.PathCommand.TheVariants as path

@@ -22,7 +22,7 @@ use Rattle.path_calls.specs.declared.walk.Pages.{Pages}
 use Rattle.path_calls.specs.declared.walk.Walk.{Walk}
 use Rattle.path_calls.specs.Walk.{place, call_at, goal_call, next_call}
 use Rattle.register_model.specs.declared.op.Outcome.TheVariants as told
-use Rattle.trace_replay.specs.declared.opening.TheConstants.{ROOT}
+use Rattle.xdr_codec.specs.declared.handle.TheConstants.{ROOT}
 use Rattle.trace_replay.specs.Book.{Book}
 use Rattle.trace_replay.specs.Complete.{IsPathRefused, IsNameRefused, EndsNamed}
 use Rattle.trace_replay.specs.Naming.{Leads, refusal_of}

@@ -21,7 +21,7 @@ use Rattle.path_calls.specs.declared.walk.Pages.{Pages}
 use Rattle.path_calls.specs.declared.walk.Walk.{Walk}
 use Rattle.path_calls.specs.Walk.{no_pages, arrives, begun}
 use Rattle.path_calls.specs.Told.{with_page}
-use Rattle.trace_replay.specs.declared.opening.TheConstants.{ROOT}
+use Rattle.xdr_codec.specs.declared.handle.TheConstants.{ROOT}
 use Rattle.trace_replay.specs.Trail.{Moment, step_of}
 use Rattle.trace_replay.specs.Book.{Book}
 use Rattle.trace_replay.specs.Naming.{tree_at, Leads, all_names}

@@ -21,7 +21,7 @@ use Rattle.tree_reading.specs.Tree.{Tree, empty}
 use Rattle.tree_nodes.specs.declared.node.Body.TheVariants.{File}
 use Rattle.server_core.specs.State as server
 use Rattle.server_core.specs.Step.{has_room, connect}
-use Rattle.trace_replay.specs.declared.opening.TheConstants.{ROOT}
+use Rattle.xdr_codec.specs.declared.handle.TheConstants.{ROOT}
 use Rattle.trace_replay.specs.declared.stage.Stage.{Stage}
 use Rattle.trace_replay.specs.declared.stage.Stage.TheVariants as stage
 use Rattle.trace_replay.specs.declared.turn.Turn.{Turn}

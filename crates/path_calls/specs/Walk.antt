@@ -2,6 +2,7 @@
 use Rattle.std.specs.Prelude.{ℕ, ◌+◌, ◌-◌, List, [], ◌∷◌, length, None}
 use Rattle.limits.specs.declared.TheConstants.{LISTING_MOST}
 use Rattle.xdr_codec.specs.Handle.{handle_bytes}
+use Rattle.xdr_codec.specs.declared.handle.TheConstants.{ROOT}
 use Rattle.nfs3_calls.specs.declared.message.Nfs.{Nfs}
 use Rattle.nfs3_calls.specs.declared.message.Nfs.TheVariants as nfs
 use Rattle.nfs3_calls.specs.declared.place.Place.{Place}
@@ -15,21 +16,17 @@ use Rattle.path_calls.specs.declared.walk.Goal.TheVariants as goal
 use Rattle.path_calls.specs.declared.walk.Pages.{Pages}
 use Rattle.path_calls.specs.declared.walk.Walk.{Walk}
 
--- the id of the root directory
-abbrev pub root : ℕ
-root = 1
-
 -- ---- where a command begins
 
 abbrev pub from_root : List (List ℕ) → Goal → Walk
-from_root left g = record { dir = root; left = left; goal = g }
+from_root left g = record { dir = ROOT; left = left; goal = g }
 
 abbrev pub no_pages : Pages
 no_pages = record { names = []; count = 0; cookie = 0; verifier = 0 }
 
 -- Where all names before a first name of a RENAME are looked up, those before the second are, from the root on.
 abbrev pub arrived : (dir : ℕ) → Goal → Walk
-arrived dir (goal.RenameFrom name to) = record { dir = root; left = to.dirs; goal = goal.RenameTo dir name to.name }
+arrived dir (goal.RenameFrom name to) = record { dir = ROOT; left = to.dirs; goal = goal.RenameTo dir name to.name }
 arrived dir g = record { dir = dir; left = []; goal = g }
 
 abbrev pub arrives : (dir : ℕ) → (left : List (List ℕ)) → Goal → Walk
@@ -45,7 +42,7 @@ begun (command.Make s) = from_root s.dirs (goal.Make s.name)
 begun (command.MakeDir s) = from_root s.dirs (goal.MakeDir s.name)
 begun (command.Remove s) = from_root s.dirs (goal.Remove s.name)
 begun (command.RemoveDir s) = from_root s.dirs (goal.RemoveDir s.name)
-begun (command.Rename s to) = arrives root s.dirs (goal.RenameFrom s.name to)
+begun (command.Rename s to) = arrives ROOT s.dirs (goal.RenameFrom s.name to)
 
 -- ---- its next call (RFC 1813, section 3.3)
 

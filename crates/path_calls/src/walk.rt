@@ -7,9 +7,7 @@ use crate::answers;
 use command_text::path::{Path, PathCommand, Spot};
 use lb_base::items::{Items, Name};
 use std::alloc::Global;
-
-/// The id of the root directory.
-pub const ROOT: u64 = 1;
+use xdr_codec::handle::ROOT;
 
 /// What is done where the directory has been reached.
 #[derive(Drop)]

@@ -26,7 +26,7 @@ use Rattle.tree_reading.specs.declared.entry.Entry.{Entry}
 use Rattle.path_calls.specs.Walk.{pages_most, place, create_call, make_dir_call, rename_call}
 use Rattle.server_core.specs.Closing.{entries_by}
 use Rattle.register_model.specs.declared.op.Op.{Op}
-use Rattle.trace_replay.specs.declared.opening.TheConstants.{ROOT}
+use Rattle.xdr_codec.specs.declared.handle.TheConstants.{ROOT}
 use Rattle.trace_ends.specs.Core.{is_of_file, Event.Hears, happens}
 use Rattle.trace_replay.specs.Trail.{Moment, step_of, taken_by}
 use Rattle.trace_replay.specs.Traffic.{Deal, Deal.Sent, deals_of}

@@ -9,7 +9,7 @@ use Rattle.file_open.specs.Opening.{lease_call, hash_call}
 use Rattle.server_core.specs.State as server
 use Rattle.server_core.specs.Step.{opens_with}
 use Rattle.tree_nodes.specs.declared.node.Body.TheVariants.{File}
-use Rattle.trace_replay.specs.declared.opening.TheConstants.{ROOT}
+use Rattle.xdr_codec.specs.declared.handle.TheConstants.{ROOT}
 use Rattle.trace_ends.specs.Session.{new_seat}
 use Rattle.trace_ends.specs.Core.{Event.Settles}
 use Rattle.trace_replay.specs.Trail.{Moment, heard_hashed}

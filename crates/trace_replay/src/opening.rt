@@ -11,9 +11,6 @@ use register_model::op::Opening;
 use std::alloc::{AllocError, Global};
 use std::marker::Model;
 
-/// The id of the root directory.
-pub const ROOT: u64 = 1;
-
 /// A file that a trace opens with. Contracts see its bytes.
 #[derive(Drop)]
 pub struct OpeningFile {

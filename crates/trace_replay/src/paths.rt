@@ -4,10 +4,10 @@
 ghost use Rattle.std.specs.Prelude.{◌≡◌};
 ghost use Rattle.trace_replay.specs.Run.{led_to, place_for};
 
-use crate::opening::ROOT;
 use command_text::path::Spot;
 use lb_base::items::Name;
 use server_core::server::Server;
+use xdr_codec::handle::ROOT;
 
 /// The id of what these names lead to, from a directory on, if there is such a file or directory.
 fn led_to(server: &Server, dir: u64, names: &[Name]) -> Option<u64>

@@ -37,6 +37,9 @@ impl Model for Handle {
     ghost inverse_ok = { λ h is i. record { held = held_back h.len h.held is i; len = len_back h.len h.held is i } };
 }
 
+/// The number of the root directory, which a client knows without asking.
+pub const ROOT: u64 = 1;
+
 /// How the handles of this file system begin: "LB01", and four zeros.
 const MARK: [u8; 8] = [0x4c, 0x42, 0x30, 0x31, 0, 0, 0, 0];
 
