@@ -55,11 +55,11 @@ impl From<AllocError> for ReadError {
     }
 }
 
-/// How many bytes `read_all` asks for at once.
-const AT_ONCE: usize = 65536;
+/// How many bytes are asked for at once.
+pub const AT_ONCE: usize = 65536;
 
-/// Room for one piece, on the heap.
-fn piece_room(alloc: Global) -> Result<Vec<u8>, AllocError>
+/// Room for the bytes that are asked for at once, on the heap. The one error is want of memory.
+pub fn piece_room(alloc: Global) -> Result<Vec<u8>, AllocError>
     ensures { IfOk result (λ room. length room.items ≡ AT_ONCE) }
 {
     vec![in alloc; 0u8; AT_ONCE]

@@ -9,14 +9,11 @@ ghost use Rattle.lbfs_mount.specs.Script.{Coming, nothing_yet, coming, Takes, Gi
 
 use crate::splitting::{end_input, split};
 use lb_base::items::Bytes;
-use lb_base::source::{ReadError, Source};
+use lb_base::source::{ReadError, Source, piece_room};
 use limits::INPUT_MOST;
 use std::alloc::{AllocError, Global};
 use std::collections::VecDeque;
 use std::marker::Model;
-
-/// How many bytes are asked for at once.
-const AT_ONCE: usize = 65536;
 
 /// The lines that come from a source.
 #[derive(Drop)]
@@ -43,13 +40,6 @@ impl Model for Script {
     ghost view = { λ s. record { lines = s.lines.items; rest = s.rest.items; taken = s.taken; ended = s.ended } };
 
     ghost invariant = { λ s. (has_feed s.rest.items ≡ false) × (s.ended ≡ true → s.rest.items ≡ []) × (s.taken ≤ INPUT_MOST) × (0 < length s.room.items) };
-}
-
-/// Room for one piece, on the heap.
-fn piece_room(alloc: Global) -> Result<Vec<u8>, AllocError>
-    ensures { IfOk result (λ room. length room.items ≡ AT_ONCE) }
-{
-    vec![in alloc; 0u8; AT_ONCE]
 }
 
 impl Script {

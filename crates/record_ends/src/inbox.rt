@@ -8,15 +8,13 @@ ghost use Rattle.record_ends.specs.Ends.{Kept, nothing_kept, Gives, Takes};
 ghost use Rattle.record_ends.specs.declared.end.End.TheVariants as ends;
 
 use crate::end::End;
+use lb_base::source::piece_room;
 use links::link::Link;
 use rpc_record::record::Record;
 use rpc_record::records::{Fed, Records};
 use std::alloc::{AllocError, Global};
 use std::collections::VecDeque;
 use std::marker::Model;
-
-/// How many bytes are asked for at once.
-const AT_ONCE: usize = 65536;
 
 /// The end of a link at which records come out of its bytes.
 pub struct Inbox {
@@ -55,13 +53,6 @@ impl Model for Inbox {
     ghost view = { λ i. record { waiting = i.waiting.items; unread = i.end } };
 
     ghost invariant = { λ i. (i.spoilt ≡ is_some i.end.spoilt) × (0 < length i.room.items) };
-}
-
-/// Room for one piece, on the heap.
-fn piece_room(alloc: Global) -> Result<Vec<u8>, AllocError>
-    ensures { IfOk result (λ room. length room.items ≡ AT_ONCE) }
-{
-    vec![in alloc; 0u8; AT_ONCE]
 }
 
 /// Takes a piece of what comes into the room, and feeds it to the end.
