@@ -13,7 +13,7 @@ use std::alloc::{AllocError, Global};
 use wire::message::Message;
 
 /// Puts messages on their way up a session, unless the server saw it lost.
-fn put_up(
+fn up_put_in(
     alloc: Global,
     sessions: &[Session],
     wires: &mut Vec<Wire>,
@@ -43,12 +43,12 @@ pub fn up_put(
 {
     match number {
         None => Ok(()),
-        Some(number) => put_up(alloc, sessions, wires, number, messages),
+        Some(number) => up_put_in(alloc, sessions, wires, number, messages),
     }
 }
 
 /// Puts a message of the server on its way down its session, unless the client saw it lost.
-pub fn put_down(
+pub fn message_put_in(
     alloc: Global,
     sessions: &[Session],
     wires: &mut Vec<Wire>,

@@ -14,7 +14,7 @@ use trace_ends::sending;
 
 /// Puts a message of the server on its way down its session, unless the client saw it lost.
 #[tactic(auto, using(crate::proofs::SentDown::message_in))]
-fn put_down(
+fn down_put_in(
     alloc: Global,
     sessions: &[Session],
     wires: &mut Vec<Wire>,
@@ -22,7 +22,7 @@ fn put_down(
 ) -> Result<(), AllocError>
     ensures { OnOk result (wires.new.items ≡ down_put_in wires.old.items sent.now (numbered sessions.now sent.now.session) (numbered wires.old.items sent.now.session)) }
 {
-    sending::put_down(alloc, sessions, wires, sent.session, &sent.message)
+    sending::message_put_in(alloc, sessions, wires, sent.session, &sent.message)
 }
 
 /// Puts messages of the server on their way, in order.
@@ -35,7 +35,7 @@ fn put_rest(
     ensures { OnOk result (wires.new.items ≡ down_put sessions.now wires.old.items sent.now) }
 {
     for one in sent {
-        put_down(alloc, sessions, wires, one)?;
+        down_put_in(alloc, sessions, wires, one)?;
     }
     Ok(())
 }
@@ -51,7 +51,7 @@ pub fn down_put(
 {
     let (first, rest) = sent.as_pair();
     if let Some(one) = first {
-        put_down(alloc, sessions, wires, one)?;
+        down_put_in(alloc, sessions, wires, one)?;
     }
     put_rest(alloc, sessions, wires, rest)
 }
