@@ -4,11 +4,13 @@ ghost use Rattle.std.specs.Prelude.{◌≡◌, ◌+◌, IfOk, OnOk, length};
 ghost use Rattle.command_text.specs.Content.{content_bytes};
 ghost use Rattle.trace_replay.specs.Run.{with_file, with_directory, with_clients, turned};
 ghost use Rattle.trace_replay.specs.Turns.{IsTurnBounded};
+ghost use Rattle.trace_replay.specs.declared.state.Event.TheVariants as event;
 ghost use Rattle.trace_replay.specs.WorldView.{world_of};
 
 use crate::opening::OpeningFile;
 use crate::state::{Event, WorldState};
 use crate::turn::{Turn, stage_after};
+use command_text::command::Command;
 use command_text::content::{Content, build};
 use lb_base::items::Name;
 use shared_bytes::SharedBytes;
@@ -25,6 +27,17 @@ fn size_and_content(alloc: Global, size: u64, content: &Content) -> Result<(u64,
     let size = size.checked_add(bytes.len() as u64).ok_or(AllocError)?;
     let whole = Whole::new(alloc, SharedBytes::new(alloc, bytes)?)?;
     Ok((size, whole))
+}
+
+/// The event in which a client is given a command.
+fn does(client: u64, now: u64, command: Command) -> Event
+    ensures { result ≡ event.Does client now command }
+{
+    Event::Does {
+        client,
+        now,
+        command,
+    }
 }
 
 impl WorldState {
@@ -62,14 +75,7 @@ impl WorldState {
                 client,
                 now,
                 command,
-            } => {
-                let does = Event::Does {
-                    client,
-                    now,
-                    command,
-                };
-                self.happens(alloc, does)
-            }
+            } => self.happens(alloc, does(client, now, command)),
             Turn::Up {
                 session,
                 amount,
