@@ -6,8 +6,9 @@ use Rattle.tree_calls.specs.declared.asked.Outcome.TheVariants.{Answered, Waits}
 use Rattle.server_core.specs.Closing.{tree_most, count_of}
 use Rattle.server_core.specs.State.{State, waiting_size}
 
+-- the two parts of the sessions stand apart in a state: a hang changes the one, and what was made stays
 abbrev pub state_of : ServerState → State
-state_of s = record { tree = s.tree.tree; journal = s.journal.items; temps = s.temps; index = s.index; waiting = s.waiting.items; sessions = s.sessions.items; sessions_made = s.sessions_made; moment = s.moment }
+state_of s = record { tree = s.tree.tree; journal = s.journal.items; temps = s.temps; index = s.index; waiting = s.waiting.items; sessions = s.sessions.standing; sessions_made = s.sessions.made; moment = s.moment }
 
 -- What always holds of the tree and of temporary files stands with them.
 pub record IsBounded (s : ServerState) : Type 0 where

@@ -7,17 +7,10 @@ ghost use Rattle.server_core.specs.View.{state_of, IsBounded};
 
 use crate::change::Change;
 use crate::event::ServerStep;
-use crate::state::{ServerState, stands};
+use crate::state::ServerState;
 use crate::steps;
 use server_rules::sessions::stays;
 use std::alloc::Global;
-
-/// The session no longer stands.
-fn leave(sessions: &mut Vec<u32>, session: u32)
-    ensures { sessions.new.items ≡ filter (λ k. not (k == session)) sessions.old.items }
-{
-    sessions.retain(|k| stays(*k, session));
-}
 
 /// The session's changes wait no longer.
 fn withdraw(waiting: &mut Vec<Change>, session: u32)
@@ -37,12 +30,12 @@ impl ServerState {
         ensures tree { self.new.tree ≡ self.old.tree }
         ensures fewer { entries_held self.new.waiting.items ≤ entries_held self.old.waiting.items }
     {
-        if !stands(&self.sessions, session) {
+        if !self.sessions.stands(session) {
             return steps::nothing(alloc);
         }
         withdraw(&mut self.waiting, session);
         self.temps.drop_session(session);
-        leave(&mut self.sessions, session);
+        self.sessions.leave(session);
         steps::nothing(alloc)
     }
 }

@@ -19,6 +19,7 @@ use chunk_index::place::Place;
 use file_tree::tree::Tree;
 use hash_calls::call::Commit;
 use lb_base::items::Name;
+use server_rules::sessions::Sessions;
 use shared_bytes::SharedBytes;
 use std::alloc::{AllocError, Global};
 use std::marker::Model;
@@ -73,8 +74,7 @@ impl Server {
                 temps: Temps::new(alloc),
                 index,
                 waiting: Vec::new(alloc),
-                sessions: Vec::new(alloc),
-                sessions_made: 0,
+                sessions: Sessions::new(alloc),
                 moment: 0,
                 ahead: None,
             },

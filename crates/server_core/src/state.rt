@@ -1,8 +1,7 @@
 //! The server's fields, and one event on them. `specs/View.antt` says which state they are, and
 //! `specs/Step.antt` what an event does.
 
-ghost use Rattle.std.specs.Prelude.{◌≡◌, ◌==◌, ◌<◌, ◌≤◌, ◌^◌, [], ◌∷◌, ◌++◌, OnOk, OnErr, IfOk, false, true};
-ghost use Rattle.std.specs.List.{list_any};
+ghost use Rattle.std.specs.Prelude.{◌≡◌, ◌<◌, ◌≤◌, ◌^◌, [], ◌∷◌, ◌++◌, OnOk, OnErr, IfOk, false, true};
 ghost use Rattle.hash_calls.specs.declared.message.Lb.TheVariants as lb;
 ghost use Rattle.wire.specs.declared.message.Body.TheVariants as body;
 ghost use Rattle.wire.specs.declared.message.Message.TheVariants as message;
@@ -27,7 +26,7 @@ use chunk_index::index::Index;
 use file_tree::tree::Tree;
 use hash_calls::message::Lb;
 use lb_base::items::Name;
-use server_rules::sessions::next_session;
+use server_rules::sessions::Sessions;
 use server_rules::told::Told;
 use std::alloc::{AllocError, Global};
 use store::store::Store;
@@ -49,23 +48,14 @@ pub struct ServerState {
     pub index: Index,
     /// The changes that wait, in the order of their arrival.
     pub waiting: Vec<Change>,
-    /// The sessions that stand.
-    pub sessions: Vec<u32>,
-    /// How many sessions were ever made.
-    pub sessions_made: u32,
+    /// The sessions that stand, and how many were ever made.
+    pub sessions: Sessions,
     /// The last moment used, in milliseconds of the server's clock. It is kept for leases: no step depends
     /// on it yet.
     pub moment: u64,
     /// A content that was made ahead, for the COMMITTMP that comes next. It is no part of the state: a
     /// COMMITTMP whose content it is cuts and hashes none, and comes to the same.
     pub ahead: Option<Content>,
-}
-
-/// Whether the session stands.
-pub fn stands(sessions: &Vec<u32>, session: u32) -> bool
-    ensures { result ≡ list_any (λ k. k == session) sessions.now.items }
-{
-    sessions.contains(&session)
 }
 
 impl ServerState {
@@ -118,14 +108,11 @@ impl ServerState {
         ensures tree { self.new.tree ≡ self.old.tree }
         ensures waiting { self.new.waiting.items ≡ self.old.waiting.items }
     {
-        let Some(session) = next_session(self.sessions.len(), self.sessions_made) else {
-            return steps::tell(alloc, Told::Full);
-        };
-        if self.sessions.push(session).is_err() {
-            return steps::miss_connection(alloc);
+        match self.sessions.join() {
+            Ok(Some(session)) => steps::tell(alloc, Told::Session(session)),
+            Ok(None) => steps::tell(alloc, Told::Full),
+            Err(_) => steps::miss_connection(alloc),
         }
-        self.sessions_made = session;
-        steps::tell(alloc, Told::Session(session))
     }
 
     /// A message of a session.
@@ -146,7 +133,7 @@ impl ServerState {
         ensures spare { entries_held self.new.waiting.items ≤ S.spare store.new }
         ensures later { S.faults store.old ≤ S.faults store.new }
     {
-        if !stands(&self.sessions, session) {
+        if !self.sessions.stands(session) {
             return steps::nothing(alloc);
         }
         self.moment = self.moment.max(now);

@@ -1,6 +1,7 @@
-//! Rules of the server that need neither its tree nor its messages: which number a session gets and
-//! what goes with a session, which pieces of a temporary file follow on each other, what an event is
-//! told, and whether a store that was asked has failed.
+//! Rules of the server that need neither the nodes of its tree nor its messages: which sessions stand,
+//! which number one gets and what goes with one, which pieces of a temporary file follow on each other,
+//! what an event is told, whether a store that was asked has failed, and how changes of the tree are
+//! counted.
 #![tactic(auto)]
 
 pub mod asking;

@@ -11,7 +11,7 @@ use Rattle.server_core.proofs.state.ServerState.call_nfs.Goals as goal
 pub take_outcome-requires-clause-room : goal.take_outcome-requires-clause-room
 take_outcome-requires-clause-room g c =
     let left = c.reserve_for.new.self in
-    let s : ServerState = record { tree = c.call.new.tree; journal = left.journal; temps = left.temps; index = left.index; waiting = left.waiting; sessions = left.sessions; sessions_made = left.sessions_made; moment = left.moment; ahead = left.ahead } in
+    let s : ServerState = record { tree = c.call.new.tree; journal = left.journal; temps = left.temps; index = left.index; waiting = left.waiting; sessions = left.sessions; moment = left.moment; ahead = left.ahead } in
     let bounded = c.reserve_for.ensures.bounded in
     room_for (g.S.Store.faults c.args.store.now) (g.S.Store.faults c.call.new.store) s c.args.self.now.tree.tree c.call.new.tree.tree c.held-held.result c.has_waiting-busy.result c.args.call.now c.in_ok-outcome.outcome (record { bytes = bounded.bytes; room = bounded.room }) c.in_ok-reserve_for.ensures.room
     (subst (λ (x : State). IsCalled (g.S.Store.faults c.args.store.now) (g.S.Store.faults c.call.new.store) (λ fault. calls_under x.tree c.held-held.result c.has_waiting-busy.result fault c.args.call.now) (c.call.new.tree.tree, c.in_ok-outcome.outcome)) c.reserve_for.ensures.same c.in_ok-outcome.ensures.ok)
