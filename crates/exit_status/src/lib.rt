@@ -1,4 +1,4 @@
-//! How the program ends: each end has one number, and every run takes it from here.
+//! How a run ends, and the number that the program then ends with: its `main` takes it from here.
 //! `specs/Statuses.antt` has the numbers.
 #![tactic(auto)]
 

@@ -1,4 +1,4 @@
-//! The numbers that the program ends with: `code_of` of `specs/Statuses.antt`.
+//! How a run ends, and the number that the program then ends with: `code_of` of `specs/Statuses.antt`.
 
 ghost use Rattle.std.specs.Prelude.{◌≡◌};
 ghost use Rattle.exit_status.specs.Statuses.{code_of};

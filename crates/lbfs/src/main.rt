@@ -26,7 +26,7 @@ fn given_words(rt: &HostRuntime) -> io::Result<Vec<String>> {
     }
 }
 
-/// Runs the words over the outside, and ends with the status.
+/// Runs the words over the outside, and ends with the status's number.
 fn main(rt: HostRuntime) -> ExitCode {
     let Ok(words) = given_words(&rt) else {
         return ExitCode::from(Status::Memory.code());
@@ -42,5 +42,5 @@ fn main(rt: HostRuntime) -> ExitCode {
     };
     let words = words.as_slice();
     let behind = words.len().min(1);
-    ExitCode::from(status_of(&rt, rt.alloc(), &words[behind..], outside))
+    ExitCode::from(status_of(&rt, rt.alloc(), &words[behind..], outside).code())
 }

@@ -34,6 +34,6 @@ MountCause left left' held held' read read' write write' net net' link_fails (Er
 MountCause left left' held held' read read' write write' net net' link_fails (Err errors.TooLong) = Writes held held' × IsTooLong left left'
 
 -- a mount ended in one of these ways, with its cause, and that was written behind its operations' lines, with its status
-abbrev pub MountEnds : (left left' held held' : Option (List ℕ)) → (read read' write net net' : ℕ) → (link_fails : Type 0) → (code : ℕ) → Type 0
-MountEnds left left' held held' read read' write net net' link_fails code =
-    (ended : Result Unit MountError) × (between : Option (List ℕ)) × (write' : ℕ) × MountCause left left' held between read read' write write' net net' link_fails ended × Tells code between held' (mount_output ended)
+abbrev pub MountEnds : (left left' held held' : Option (List ℕ)) → (read read' write net net' : ℕ) → (link_fails : Type 0) → Status → Type 0
+MountEnds left left' held held' read read' write net net' link_fails s =
+    (ended : Result Unit MountError) × (between : Option (List ℕ)) × (write' : ℕ) × MountCause left left' held between read read' write write' net net' link_fails ended × Tells s between held' (mount_output ended)

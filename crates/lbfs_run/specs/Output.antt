@@ -13,7 +13,6 @@ use Rattle.trace_replay.specs.World.{World}
 use Rattle.trace_replay.specs.World.{history_of}
 use Rattle.trace_replay.specs.Timed.{accepted}
 use Rattle.trace_generator.specs.Lines.{generated_text}
-use Rattle.exit_status.specs.Statuses.{code_of}
 use Rattle.program_words.specs.declared.asked.View.{View}
 use Rattle.program_words.specs.declared.asked.View.TheVariants.{History, Summary}
 use Rattle.program_words.specs.declared.asked.InputCommand.{InputCommand}
@@ -25,9 +24,9 @@ use Rattle.program_words.specs.declared.asked.Command.TheVariants.{OfInput, OfSe
 use Rattle.exit_status.specs.declared.status.Status.{Status}
 use Rattle.exit_status.specs.declared.status.Status.TheVariants as status
 
--- all of the output was written
+-- the statuses with which all of the output was written
 abbrev pub IsWhole : Status → Type 0
-IsWhole s = (code_of s ≡ 0) ⊎ (code_of s ≡ 2) ⊎ (code_of s ≡ 5)
+IsWhole s = (s ≡ status.Done) ⊎ (s ≡ status.BadWords) ⊎ (s ≡ status.Refused)
 
 -- where a chunk begins, how many bytes it has, and their digest
 abbrev pub chunk_line : Chunk → List ℕ

@@ -1,6 +1,6 @@
 -- What each end of a run says of the bytes that were read and written. What is left in a source and what a sink holds
 -- are known only where they tell, as those in memory do: of a stream of the system these say nothing of its bytes.
-use Rattle.std.specs.Prelude.{◌≡◌, ℕ, List, Option, Some, Ok, true}
+use Rattle.std.specs.Prelude.{◌≡◌, ◌⊎◌, ℕ, List, Option, Some, Ok, true}
 use Rattle.std.specs.Io.KnownBytes.{Appends, Consumes, IsAtEnd}
 use Rattle.lb_base.specs.Known.{AppendsPart, AppendsPrefix}
 use Rattle.register_model.specs.Text.{history_text}
@@ -10,20 +10,25 @@ use Rattle.trace_replay.specs.Timed.{accepted}
 use Rattle.trace_replay.specs.Traces.{IsKeptPromise}
 use Rattle.program_words.specs.declared.asked.View.{View}
 use Rattle.program_words.specs.declared.asked.Command.{Command}
-use Rattle.exit_status.specs.Statuses.{code_of}
+use Rattle.exit_status.specs.declared.status.Status.{Status}
+use Rattle.exit_status.specs.declared.status.Status.TheVariants as status
 use Rattle.program_words.specs.Words.{reads}
 use Rattle.lbfs_run.specs.Output.{output_for, view_text}
 
--- where the source tells, the status and the bytes written are those that the command and the input call for
-abbrev pub IsAnswered : Option Command → Option (List ℕ) → Option (List ℕ) → Option (List ℕ) → ℕ → Type 0
-IsAnswered command left held held' code =
-    (input : List ℕ) → left ≡ Some input → (code ≡ code_of (output_for command input).0) × Appends held held' (output_for command input).1
+-- the statuses of a run that needs no more than its source and its sink
+abbrev pub IsPlainEnd : Status → Type 0
+IsPlainEnd s = (s ≡ status.Done) ⊎ (s ≡ status.BadWords) ⊎ (s ≡ status.ReadFault) ⊎ (s ≡ status.WriteFault) ⊎ (s ≡ status.Refused) ⊎ (s ≡ status.Memory)
 
--- whatever the source tells, bytes were taken from it that call for the status and for the bytes written; with status
--- 0 they were all, where the command has the input read
-abbrev pub IsAnsweredFrom : Option Command → Option (List ℕ) → Option (List ℕ) → Option (List ℕ) → Option (List ℕ) → ℕ → Type 0
-IsAnsweredFrom command left left' held held' code =
-    (input : List ℕ) × Consumes left left' input × (code ≡ 0 → reads command ≡ true → IsAtEnd left') × (code ≡ code_of (output_for command input).0) × Appends held held' (output_for command input).1
+-- where the source tells, the status and the bytes written are those that the command and the input call for
+abbrev pub IsAnswered : Option Command → Option (List ℕ) → Option (List ℕ) → Option (List ℕ) → Status → Type 0
+IsAnswered command left held held' s =
+    (input : List ℕ) → left ≡ Some input → (s ≡ (output_for command input).0) × Appends held held' (output_for command input).1
+
+-- whatever the source tells, bytes were taken from it that call for the status and for the bytes written; with Done
+-- they were all, where the command has the input read
+abbrev pub IsAnsweredFrom : Option Command → Option (List ℕ) → Option (List ℕ) → Option (List ℕ) → Option (List ℕ) → Status → Type 0
+IsAnsweredFrom command left left' held held' s =
+    (input : List ℕ) × Consumes left left' input × (s ≡ status.Done → reads command ≡ true → IsAtEnd left') × (s ≡ (output_for command input).0) × Appends held held' (output_for command input).1
 
 -- where the source tells, what was written is a front of the bytes that they call for
 abbrev pub IsBegun : Option Command → Option (List ℕ) → Option (List ℕ) → Option (List ℕ) → Type 0

@@ -40,6 +40,6 @@ ServeCause o accepted accepted' net net' store store' records (Err (errors.BadRe
 ServeCause o accepted accepted' net net' store store' records (Err errors.Memory) = Unit {0}
 
 -- serving ended in one of these ways, with its cause, and that was written with its status
-abbrev pub ServeEnds : ServeOptions → (accepted accepted' net net' store store' : ℕ) → Option (List Kept) → (held held' : Option (List ℕ)) → (code : ℕ) → Type 0
-ServeEnds o accepted accepted' net net' store store' records held held' code =
-    (ended : Result Served ServeError) × ServeCause o accepted accepted' net net' store store' records ended × Tells code held held' (serve_output ended)
+abbrev pub ServeEnds : ServeOptions → (accepted accepted' net net' store store' : ℕ) → Option (List Kept) → (held held' : Option (List ℕ)) → Status → Type 0
+ServeEnds o accepted accepted' net net' store store' records held held' s =
+    (ended : Result Served ServeError) × ServeCause o accepted accepted' net net' store store' records ended × Tells s held held' (serve_output ended)

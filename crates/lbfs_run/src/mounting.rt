@@ -3,6 +3,7 @@
 
 ghost use Rattle.std.specs.Prelude.{◌≡◌, ◌≤◌, ◌⊎◌, [], IfOk, IsErrOf};
 ghost use Rattle.lb_base.specs.Causes.{Rose};
+ghost use Rattle.exit_status.specs.declared.status.Status.TheVariants as status;
 ghost use Rattle.lbfs_mount.specs.Mounts.{IsFaulty};
 ghost use Rattle.lbfs_mount.specs.declared.mount_error.MountError.TheVariants as errors;
 ghost use Rattle.lbfs_run.specs.Mounting.{MountEnds, mount_output};
@@ -59,14 +60,14 @@ fn mount_output(alloc: Global, ended: Result<(), MountError>) -> Result<Output, 
 }
 
 /// Writes how a mount ended, and answers the status.
-fn tell_mounted<K: Sink>(alloc: Global, ended: Result<(), MountError>, sink: &mut K) -> u8
+fn tell_mounted<K: Sink>(alloc: Global, ended: Result<(), MountError>, sink: &mut K) -> Status
     ensures told { Tells result (K.held sink.old) (K.held sink.new) (mount_output ended) }
     ensures later { K.faults sink.old ≤ K.faults sink.new }
-    ensures fault { result ≡ 4 → IsErrOf ended errors.WriteFault ⊎ Rose (K.faults sink.old) (K.faults sink.new) }
+    ensures fault { result ≡ status.WriteFault → IsErrOf ended errors.WriteFault ⊎ Rose (K.faults sink.old) (K.faults sink.new) }
 {
     match mount_output(alloc, ended) {
         Ok(output) => tell(&output, sink),
-        Err(_) => Status::Memory.code(),
+        Err(_) => Status::Memory,
     }
 }
 
@@ -86,17 +87,17 @@ pub(crate) fn run_mount<
     alloc: Global,
     options: MountOptions,
     out: Outside<S, K, D, F, N, C, R>,
-) -> (u8, Outside<S, K, D, F, N, C, R>, Option<N::L>)
+) -> (Status, Outside<S, K, D, F, N, C, R>, Option<N::L>)
 where
     N::L: Drop + Send,
     ensures mounts { MountEnds (S.left out.source) (S.left result.1.source) (K.held out.sink) (K.held result.1.sink) (S.faults out.source) (S.faults result.1.source) (K.faults out.sink) (N.faults out.network) (N.faults result.1.network) (IsFaulty N.L.faults result.2) result.0 }
     ensures unstored { result.1.store ≡ out.store }
     ensures read_later { S.faults out.source ≤ S.faults result.1.source }
     ensures write_later { K.faults out.sink ≤ K.faults result.1.sink }
-    ensures read_fault { result.0 ≡ 3 → Rose (S.faults out.source) (S.faults result.1.source) }
-    ensures write_fault { result.0 ≡ 4 → Rose (K.faults out.sink) (K.faults result.1.sink) }
-    ensures network_fault { result.0 ≡ 7 → Rose (N.faults out.network) (N.faults result.1.network) ⊎ IsFaulty N.L.faults result.2 }
-    ensures known { (result.0 ≡ 0) ⊎ (result.0 ≡ 3) ⊎ (result.0 ≡ 4) ⊎ (result.0 ≡ 5) ⊎ (result.0 ≡ 6) ⊎ (result.0 ≡ 7) }
+    ensures read_fault { result.0 ≡ status.ReadFault → Rose (S.faults out.source) (S.faults result.1.source) }
+    ensures write_fault { result.0 ≡ status.WriteFault → Rose (K.faults out.sink) (K.faults result.1.sink) }
+    ensures network_fault { result.0 ≡ status.Network → Rose (N.faults out.network) (N.faults result.1.network) ⊎ IsFaulty N.L.faults result.2 }
+    ensures known { (result.0 ≡ status.Done) ⊎ (result.0 ≡ status.ReadFault) ⊎ (result.0 ≡ status.WriteFault) ⊎ (result.0 ≡ status.Refused) ⊎ (result.0 ≡ status.Memory) ⊎ (result.0 ≡ status.Network) }
 {
     let Outside {
         source,

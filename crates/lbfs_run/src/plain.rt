@@ -1,7 +1,7 @@
 //! A run of a command over any source and any sink. What it comes to is `output_for` of
 //! `specs/Output.antt`; what each status says is in `specs/PlainEnds.antt`.
 
-ghost use Rattle.std.specs.Prelude.{◌≡◌, ℕ, ◌<◌, ◌≤◌, ◌⊎◌, List, length, IfOk, OnOk, OnErr, IsErrOf, Option, Some, None, true, false};
+ghost use Rattle.std.specs.Prelude.{◌≡◌, ℕ, ◌<◌, ◌≤◌, ◌⊎◌, List, IfOk, IsErrOf, Option, Some, None, true, false};
 ghost use Rattle.std.specs.Io.KnownBytes.{Consumes, IsAtEnd};
 ghost use Rattle.lb_base.specs.Causes.{Rose};
 ghost use Rattle.trace_generator.specs.Lines.{generated_text};
@@ -11,11 +11,11 @@ ghost use Rattle.program_words.specs.declared.asked.InputCommand.TheVariants as 
 ghost use Rattle.program_words.specs.declared.asked.SeedCommand.{SeedCommand};
 ghost use Rattle.program_words.specs.declared.asked.SeedCommand.TheVariants as seeded;
 ghost use Rattle.program_words.specs.declared.asked.Command.TheVariants.{OfInput, OfSeed};
-ghost use Rattle.exit_status.specs.Statuses.{code_of};
+ghost use Rattle.exit_status.specs.declared.status.Status.TheVariants as status;
 ghost use Rattle.program_words.specs.Words.{IsFew, reads};
-ghost use Rattle.lbfs_run.specs.Output.{output_for, most_bytes, IsWhole};
-ghost use Rattle.lbfs_run.specs.PlainEnds.{IsAnswered, IsAnsweredFrom, IsBegun, IsBegunFrom, IsBroken, IsBrokenFrom, IsRun};
-ghost use Rattle.lbfs_run.specs.declared.plain.Unread.TheVariants as unread;
+ghost use Rattle.lbfs_run.specs.Output.{output_for, IsWhole};
+ghost use Rattle.lbfs_run.specs.PlainEnds.{IsAnswered, IsAnsweredFrom, IsBegun, IsBegunFrom, IsBroken, IsBrokenFrom, IsPlainEnd, IsRun};
+ghost use Rattle.lbfs_run.specs.declared.plain.UnreadError.TheVariants as unread;
 
 use crate::law::generated_traces_are_accepted;
 use crate::output::{Output, input_output, refused, seed_output};
@@ -32,18 +32,18 @@ const MOST_BYTES: usize = limits::INPUT_MOST;
 
 /// Why there is no output.
 #[derive(Clone, Copy)]
-enum Unread {
+enum UnreadError {
     /// The source failed.
     Fault,
     /// Memory ran out.
     Memory,
 }
 
-impl From<AllocError> for Unread {
+impl From<AllocError> for UnreadError {
     ghost from_gives = { λ _ e. e ≡ unread.Memory };
 
-    fn from(_want: AllocError) -> Unread {
-        Unread::Memory
+    fn from(_want: AllocError) -> UnreadError {
+        UnreadError::Memory
     }
 }
 
@@ -52,9 +52,9 @@ fn read_and_run<S: Source>(
     alloc: Global,
     command: InputCommand,
     source: &mut S,
-) -> Result<Output, Unread>
+) -> Result<Output, UnreadError>
     ensures told { IfOk result (λ out. (input : List ℕ) → S.left source.old ≡ Some input → output_for (Some (OfInput command)) input ≡ (out.status, out.text)) }
-    ensures taken { IfOk result (λ out. (input : List ℕ) × Consumes (S.left source.old) (S.left source.new) input × (code_of out.status ≡ 0 → IsAtEnd (S.left source.new)) × (output_for (Some (OfInput command)) input ≡ (out.status, out.text))) }
+    ensures taken { IfOk result (λ out. (input : List ℕ) × Consumes (S.left source.old) (S.left source.new) input × (out.status ≡ status.Done → IsAtEnd (S.left source.new)) × (output_for (Some (OfInput command)) input ≡ (out.status, out.text))) }
     ensures whole { IfOk result (λ out. IsWhole out.status) }
     ensures later { S.faults source.old ≤ S.faults source.new }
     ensures fault { IsErrOf result unread.Fault → Rose (S.faults source.old) (S.faults source.new) }
@@ -62,8 +62,8 @@ fn read_and_run<S: Source>(
     match read_all(alloc, MOST_BYTES, source) {
         Ok(input) => Ok(input_output(alloc, command, &input)?),
         Err(ReadError::TooLong) => Ok(refused(alloc, Status::Refused, Refusal::LimitBytes)?),
-        Err(ReadError::Fault) => Err(Unread::Fault),
-        Err(ReadError::Memory) => Err(Unread::Memory),
+        Err(ReadError::Fault) => Err(UnreadError::Fault),
+        Err(ReadError::Memory) => Err(UnreadError::Memory),
     }
 }
 
@@ -72,10 +72,10 @@ fn output_of_one<S: Source>(
     alloc: Global,
     command: Command,
     source: &mut S,
-) -> Result<Output, Unread>
+) -> Result<Output, UnreadError>
     requires { IsFew (Some command) }
     ensures told { IfOk result (λ out. (input : List ℕ) → S.left source.old ≡ Some input → output_for (Some command) input ≡ (out.status, out.text)) }
-    ensures taken { IfOk result (λ out. (input : List ℕ) × Consumes (S.left source.old) (S.left source.new) input × (code_of out.status ≡ 0 → reads (Some command) ≡ true → IsAtEnd (S.left source.new)) × (output_for (Some command) input ≡ (out.status, out.text))) }
+    ensures taken { IfOk result (λ out. (input : List ℕ) × Consumes (S.left source.old) (S.left source.new) input × (out.status ≡ status.Done → reads (Some command) ≡ true → IsAtEnd (S.left source.new)) × (output_for (Some command) input ≡ (out.status, out.text))) }
     ensures whole { IfOk result (λ out. IsWhole out.status) }
     ensures later { S.faults source.old ≤ S.faults source.new }
     ensures fault { IsErrOf result unread.Fault → Rose (S.faults source.old) (S.faults source.new) }
@@ -97,10 +97,10 @@ fn output_of<S: Source>(
     alloc: Global,
     command: Option<Command>,
     source: &mut S,
-) -> Result<Output, Unread>
+) -> Result<Output, UnreadError>
     requires { IsFew command }
     ensures told { IfOk result (λ out. (input : List ℕ) → S.left source.old ≡ Some input → output_for command input ≡ (out.status, out.text)) }
-    ensures taken { IfOk result (λ out. (input : List ℕ) × Consumes (S.left source.old) (S.left source.new) input × (code_of out.status ≡ 0 → reads command ≡ true → IsAtEnd (S.left source.new)) × (output_for command input ≡ (out.status, out.text))) }
+    ensures taken { IfOk result (λ out. (input : List ℕ) × Consumes (S.left source.old) (S.left source.new) input × (out.status ≡ status.Done → reads command ≡ true → IsAtEnd (S.left source.new)) × (output_for command input ≡ (out.status, out.text))) }
     ensures whole { IfOk result (λ out. IsWhole out.status) }
     ensures later { S.faults source.old ≤ S.faults source.new }
     ensures fault { IsErrOf result unread.Fault → Rose (S.faults source.old) (S.faults source.new) }
@@ -118,72 +118,72 @@ fn run_on<S: Source, K: Sink>(
     command: Option<Command>,
     source: &mut S,
     sink: &mut K,
-) -> u8
+) -> Status
     requires { IsFew command }
-    ensures answered { (result ≡ 0) ⊎ (result ≡ 2) ⊎ (result ≡ 5) → IsAnswered command (S.left source.old) (K.held sink.old) (K.held sink.new) result }
-    ensures taken { (result ≡ 0) ⊎ (result ≡ 2) ⊎ (result ≡ 5) → IsAnsweredFrom command (S.left source.old) (S.left source.new) (K.held sink.old) (K.held sink.new) result }
+    ensures answered { IsWhole result → IsAnswered command (S.left source.old) (K.held sink.old) (K.held sink.new) result }
+    ensures taken { IsWhole result → IsAnsweredFrom command (S.left source.old) (S.left source.new) (K.held sink.old) (K.held sink.new) result }
     ensures unread { reads command ≡ false → source.new ≡ source.old }
     ensures read_later { S.faults source.old ≤ S.faults source.new }
     ensures write_later { K.faults sink.old ≤ K.faults sink.new }
-    ensures read_fault { result ≡ 3 → Rose (S.faults source.old) (S.faults source.new) }
-    ensures nothing { result ≡ 3 → sink.new ≡ sink.old }
-    ensures write_fault { result ≡ 4 → Rose (K.faults sink.old) (K.faults sink.new) }
-    ensures broken { result ≡ 4 → IsBroken command (S.left source.old) (K.held sink.old) (K.held sink.new) }
-    ensures broken_off { result ≡ 4 → IsBrokenFrom command (S.left source.old) (S.left source.new) (K.held sink.old) (K.held sink.new) }
-    ensures starved { result ≡ 6 → IsBegun command (S.left source.old) (K.held sink.old) (K.held sink.new) }
-    ensures starved_off { result ≡ 6 → (sink.new ≡ sink.old) ⊎ IsBegunFrom command (S.left source.old) (S.left source.new) (K.held sink.old) (K.held sink.new) }
-    ensures known { (result ≡ 0) ⊎ (result ≡ 2) ⊎ (result ≡ 3) ⊎ (result ≡ 4) ⊎ (result ≡ 5) ⊎ (result ≡ 6) }
+    ensures read_fault { result ≡ status.ReadFault → Rose (S.faults source.old) (S.faults source.new) }
+    ensures nothing { result ≡ status.ReadFault → sink.new ≡ sink.old }
+    ensures write_fault { result ≡ status.WriteFault → Rose (K.faults sink.old) (K.faults sink.new) }
+    ensures broken { result ≡ status.WriteFault → IsBroken command (S.left source.old) (K.held sink.old) (K.held sink.new) }
+    ensures broken_off { result ≡ status.WriteFault → IsBrokenFrom command (S.left source.old) (S.left source.new) (K.held sink.old) (K.held sink.new) }
+    ensures starved { result ≡ status.Memory → IsBegun command (S.left source.old) (K.held sink.old) (K.held sink.new) }
+    ensures starved_off { result ≡ status.Memory → (sink.new ≡ sink.old) ⊎ IsBegunFrom command (S.left source.old) (S.left source.new) (K.held sink.old) (K.held sink.new) }
+    ensures known { IsPlainEnd result }
 {
     let output = match output_of(alloc, command, source) {
         Ok(output) => output,
-        Err(Unread::Fault) => return Status::ReadFault.code(),
-        Err(Unread::Memory) => return Status::Memory.code(),
+        Err(UnreadError::Fault) => return Status::ReadFault,
+        Err(UnreadError::Memory) => return Status::Memory,
     };
     match give_all(sink, output.text.as_slice()) {
-        Ok(()) => output.status.code(),
-        Err(GiveError::Failed) => Status::WriteFault.code(),
-        Err(GiveError::Memory) => Status::Memory.code(),
+        Ok(()) => output.status,
+        Err(GiveError::Failed) => Status::WriteFault,
+        Err(GiveError::Memory) => Status::Memory,
     }
 }
 
 /// Runs a command, or refuses the words where there is none, and answers the status.
 ///
-/// With 0, 2 and 5 all of the output for the command and the input was written (`answered`, where the
-/// source tells what is left in it; `taken`, whatever it tells, for bytes that were taken from it), and
-/// with 0 the source stands at its end, where the command has it read; else it is untouched (`unread`).
-/// A trace that is run, read or made, is accepted, and its run keeps its promise (`replayed`,
-/// `generated`); one that is made is never refused (`accepted`), nor is its text where it is read
-/// (`read_again`).
+/// With `Done`, `BadWords` and `Refused` all of the output for the command and the input was written
+/// (`answered`, where the source tells what is left in it; `taken`, whatever it tells, for bytes that
+/// were taken from it), and with `Done` the source stands at its end, where the command has it read; else
+/// it is untouched (`unread`). A trace that is run, read or made, is accepted, and its run keeps its
+/// promise (`replayed`, `generated`); one that is made is never refused (`accepted`), nor is its text
+/// where it is read (`read_again`).
 ///
-/// With 3 the source failed, its faults rose, and nothing was written. With 4 the sink failed, its
-/// faults rose, and a front of the output was written, but not all (`broken`, `broken_off`). With 6
-/// memory ran out, which no clause gives a cause; nothing was written, or a front of the output
-/// (`starved`, `starved_off`). Which bytes a source gave and a sink took is known only where they tell,
-/// as those in memory do; streams of the system don't.
+/// With `ReadFault` the source failed, its faults rose, and nothing was written. With `WriteFault` the
+/// sink failed, its faults rose, and a front of the output was written, but not all (`broken`,
+/// `broken_off`). With `Memory` it ran out of memory, which no clause gives a cause; nothing was written,
+/// or a front of the output (`starved`, `starved_off`). Which bytes a source gave and a sink took is
+/// known only where they tell, as those in memory do; streams of the system don't.
 pub fn run<S: Source, K: Sink>(
     alloc: Global,
     command: Option<Command>,
     source: &mut S,
     sink: &mut K,
-) -> u8
+) -> Status
     requires { IsFew command }
-    ensures replayed { (view : View) → command ≡ Some (OfInput (input.Replay view)) → result ≡ 0 → (trace : List ℕ) → S.left source.old ≡ Some trace → IsRun view (K.held sink.old) (K.held sink.new) trace }
-    ensures generated { (view : View) (seed blocks : ℕ) → command ≡ Some (OfSeed seed blocks (seeded.Replay view)) → result ≡ 0 → IsRun view (K.held sink.old) (K.held sink.new) (generated_text seed blocks) }
-    ensures accepted { (seed blocks : ℕ) (made : SeedCommand) → command ≡ Some (OfSeed seed blocks made) → result ≡ 5 → ⊥ }
-    ensures read_again { (view : View) (seed blocks : ℕ) → command ≡ Some (OfInput (input.Replay view)) → blocks ≤ BLOCKS_MOST → S.left source.old ≡ Some (generated_text seed blocks) → result ≡ 5 → ⊥ }
-    ensures answered { (result ≡ 0) ⊎ (result ≡ 2) ⊎ (result ≡ 5) → IsAnswered command (S.left source.old) (K.held sink.old) (K.held sink.new) result }
-    ensures taken { (result ≡ 0) ⊎ (result ≡ 2) ⊎ (result ≡ 5) → IsAnsweredFrom command (S.left source.old) (S.left source.new) (K.held sink.old) (K.held sink.new) result }
+    ensures replayed { (view : View) → command ≡ Some (OfInput (input.Replay view)) → result ≡ status.Done → (trace : List ℕ) → S.left source.old ≡ Some trace → IsRun view (K.held sink.old) (K.held sink.new) trace }
+    ensures generated { (view : View) (seed blocks : ℕ) → command ≡ Some (OfSeed seed blocks (seeded.Replay view)) → result ≡ status.Done → IsRun view (K.held sink.old) (K.held sink.new) (generated_text seed blocks) }
+    ensures accepted { (seed blocks : ℕ) (made : SeedCommand) → command ≡ Some (OfSeed seed blocks made) → result ≡ status.Refused → ⊥ }
+    ensures read_again { (view : View) (seed blocks : ℕ) → command ≡ Some (OfInput (input.Replay view)) → blocks ≤ BLOCKS_MOST → S.left source.old ≡ Some (generated_text seed blocks) → result ≡ status.Refused → ⊥ }
+    ensures answered { IsWhole result → IsAnswered command (S.left source.old) (K.held sink.old) (K.held sink.new) result }
+    ensures taken { IsWhole result → IsAnsweredFrom command (S.left source.old) (S.left source.new) (K.held sink.old) (K.held sink.new) result }
     ensures unread { reads command ≡ false → source.new ≡ source.old }
     ensures read_later { S.faults source.old ≤ S.faults source.new }
     ensures write_later { K.faults sink.old ≤ K.faults sink.new }
-    ensures read_fault { result ≡ 3 → Rose (S.faults source.old) (S.faults source.new) }
-    ensures nothing { result ≡ 3 → sink.new ≡ sink.old }
-    ensures write_fault { result ≡ 4 → Rose (K.faults sink.old) (K.faults sink.new) }
-    ensures broken { result ≡ 4 → IsBroken command (S.left source.old) (K.held sink.old) (K.held sink.new) }
-    ensures broken_off { result ≡ 4 → IsBrokenFrom command (S.left source.old) (S.left source.new) (K.held sink.old) (K.held sink.new) }
-    ensures starved { result ≡ 6 → IsBegun command (S.left source.old) (K.held sink.old) (K.held sink.new) }
-    ensures starved_off { result ≡ 6 → (sink.new ≡ sink.old) ⊎ IsBegunFrom command (S.left source.old) (S.left source.new) (K.held sink.old) (K.held sink.new) }
-    ensures known { (result ≡ 0) ⊎ (result ≡ 2) ⊎ (result ≡ 3) ⊎ (result ≡ 4) ⊎ (result ≡ 5) ⊎ (result ≡ 6) }
+    ensures read_fault { result ≡ status.ReadFault → Rose (S.faults source.old) (S.faults source.new) }
+    ensures nothing { result ≡ status.ReadFault → sink.new ≡ sink.old }
+    ensures write_fault { result ≡ status.WriteFault → Rose (K.faults sink.old) (K.faults sink.new) }
+    ensures broken { result ≡ status.WriteFault → IsBroken command (S.left source.old) (K.held sink.old) (K.held sink.new) }
+    ensures broken_off { result ≡ status.WriteFault → IsBrokenFrom command (S.left source.old) (S.left source.new) (K.held sink.old) (K.held sink.new) }
+    ensures starved { result ≡ status.Memory → IsBegun command (S.left source.old) (K.held sink.old) (K.held sink.new) }
+    ensures starved_off { result ≡ status.Memory → (sink.new ≡ sink.old) ⊎ IsBegunFrom command (S.left source.old) (S.left source.new) (K.held sink.old) (K.held sink.new) }
+    ensures known { IsPlainEnd result }
 {
     promise_is_kept();
     generated_traces_are_accepted();

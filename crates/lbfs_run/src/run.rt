@@ -14,7 +14,9 @@ ghost use Rattle.program_words.specs.declared.asked.Command.TheVariants.{OfInput
 ghost use Rattle.program_words.specs.declared.asked.ServeOptions.{ServeOptions};
 ghost use Rattle.program_words.specs.declared.asked.MountOptions.{MountOptions};
 ghost use Rattle.program_words.specs.declared.asked.Asked.TheVariants as ask;
-ghost use Rattle.lbfs_run.specs.PlainEnds.{IsAnswered, IsAnsweredFrom, IsBegun, IsBegunFrom, IsBroken, IsBrokenFrom, IsReplayed, IsRun};
+ghost use Rattle.exit_status.specs.declared.status.Status.TheVariants as status;
+ghost use Rattle.lbfs_run.specs.Output.{IsWhole};
+ghost use Rattle.lbfs_run.specs.PlainEnds.{IsAnswered, IsAnsweredFrom, IsBegun, IsBegunFrom, IsBroken, IsBrokenFrom, IsPlainEnd, IsReplayed, IsRun};
 ghost use Rattle.lbfs_mount.specs.Mounts.{IsFaulty};
 ghost use Rattle.lbfs_run.specs.Ends.{StoreFails, takes_input};
 ghost use Rattle.lbfs_run.specs.Mounting.{MountEnds};
@@ -44,25 +46,25 @@ fn run_plain<S: Source, K: Sink, D, F, N: Network, C, R>(
     alloc: Global,
     command: Option<Command>,
     out: Outside<S, K, D, F, N, C, R>,
-) -> (u8, Outside<S, K, D, F, N, C, R>, Option<N::L>)
+) -> (Status, Outside<S, K, D, F, N, C, R>, Option<N::L>)
     requires { IsFew command }
-    ensures replayed { (view : View) → command ≡ Some (OfInput (input.Replay view)) → result.0 ≡ 0 → (trace : List ℕ) → S.left out.source ≡ Some trace → IsRun view (K.held out.sink) (K.held result.1.sink) trace }
-    ensures generated { (view : View) (seed blocks : ℕ) → command ≡ Some (OfSeed seed blocks (seeded.Replay view)) → result.0 ≡ 0 → IsRun view (K.held out.sink) (K.held result.1.sink) (generated_text seed blocks) }
-    ensures accepted { (seed blocks : ℕ) (made : SeedCommand) → command ≡ Some (OfSeed seed blocks made) → result.0 ≡ 5 → ⊥ }
-    ensures read_again { (view : View) (seed blocks : ℕ) → command ≡ Some (OfInput (input.Replay view)) → blocks ≤ BLOCKS_MOST → S.left out.source ≡ Some (generated_text seed blocks) → result.0 ≡ 5 → ⊥ }
-    ensures answered { (result.0 ≡ 0) ⊎ (result.0 ≡ 2) ⊎ (result.0 ≡ 5) → IsAnswered command (S.left out.source) (K.held out.sink) (K.held result.1.sink) result.0 }
-    ensures taken { (result.0 ≡ 0) ⊎ (result.0 ≡ 2) ⊎ (result.0 ≡ 5) → IsAnsweredFrom command (S.left out.source) (S.left result.1.source) (K.held out.sink) (K.held result.1.sink) result.0 }
+    ensures replayed { (view : View) → command ≡ Some (OfInput (input.Replay view)) → result.0 ≡ status.Done → (trace : List ℕ) → S.left out.source ≡ Some trace → IsRun view (K.held out.sink) (K.held result.1.sink) trace }
+    ensures generated { (view : View) (seed blocks : ℕ) → command ≡ Some (OfSeed seed blocks (seeded.Replay view)) → result.0 ≡ status.Done → IsRun view (K.held out.sink) (K.held result.1.sink) (generated_text seed blocks) }
+    ensures accepted { (seed blocks : ℕ) (made : SeedCommand) → command ≡ Some (OfSeed seed blocks made) → result.0 ≡ status.Refused → ⊥ }
+    ensures read_again { (view : View) (seed blocks : ℕ) → command ≡ Some (OfInput (input.Replay view)) → blocks ≤ BLOCKS_MOST → S.left out.source ≡ Some (generated_text seed blocks) → result.0 ≡ status.Refused → ⊥ }
+    ensures answered { IsWhole result.0 → IsAnswered command (S.left out.source) (K.held out.sink) (K.held result.1.sink) result.0 }
+    ensures taken { IsWhole result.0 → IsAnsweredFrom command (S.left out.source) (S.left result.1.source) (K.held out.sink) (K.held result.1.sink) result.0 }
     ensures unread { reads command ≡ false → result.1.source ≡ out.source }
     ensures read_later { S.faults out.source ≤ S.faults result.1.source }
     ensures write_later { K.faults out.sink ≤ K.faults result.1.sink }
-    ensures read_fault { result.0 ≡ 3 → Rose (S.faults out.source) (S.faults result.1.source) }
-    ensures nothing { result.0 ≡ 3 → result.1.sink ≡ out.sink }
-    ensures write_fault { result.0 ≡ 4 → Rose (K.faults out.sink) (K.faults result.1.sink) }
-    ensures broken { result.0 ≡ 4 → IsBroken command (S.left out.source) (K.held out.sink) (K.held result.1.sink) }
-    ensures broken_off { result.0 ≡ 4 → IsBrokenFrom command (S.left out.source) (S.left result.1.source) (K.held out.sink) (K.held result.1.sink) }
-    ensures starved { result.0 ≡ 6 → IsBegun command (S.left out.source) (K.held out.sink) (K.held result.1.sink) }
-    ensures starved_off { result.0 ≡ 6 → (result.1.sink ≡ out.sink) ⊎ IsBegunFrom command (S.left out.source) (S.left result.1.source) (K.held out.sink) (K.held result.1.sink) }
-    ensures known { (result.0 ≡ 0) ⊎ (result.0 ≡ 2) ⊎ (result.0 ≡ 3) ⊎ (result.0 ≡ 4) ⊎ (result.0 ≡ 5) ⊎ (result.0 ≡ 6) }
+    ensures read_fault { result.0 ≡ status.ReadFault → Rose (S.faults out.source) (S.faults result.1.source) }
+    ensures nothing { result.0 ≡ status.ReadFault → result.1.sink ≡ out.sink }
+    ensures write_fault { result.0 ≡ status.WriteFault → Rose (K.faults out.sink) (K.faults result.1.sink) }
+    ensures broken { result.0 ≡ status.WriteFault → IsBroken command (S.left out.source) (K.held out.sink) (K.held result.1.sink) }
+    ensures broken_off { result.0 ≡ status.WriteFault → IsBrokenFrom command (S.left out.source) (S.left result.1.source) (K.held out.sink) (K.held result.1.sink) }
+    ensures starved { result.0 ≡ status.Memory → IsBegun command (S.left out.source) (K.held out.sink) (K.held result.1.sink) }
+    ensures starved_off { result.0 ≡ status.Memory → (result.1.sink ≡ out.sink) ⊎ IsBegunFrom command (S.left out.source) (S.left result.1.source) (K.held out.sink) (K.held result.1.sink) }
+    ensures known { IsPlainEnd result.0 }
     ensures apart { (result.1.store ≡ out.store) × (result.1.files ≡ out.files) × (result.1.network ≡ out.network) }
 {
     let Outside {
@@ -102,35 +104,34 @@ pub fn run_asked<
     alloc: Global,
     asked: Option<Asked>,
     out: Outside<S, K, D, F, N, C, R>,
-) -> (u8, Outside<S, K, D, F, N, C, R>, Option<N::L>)
+) -> (Status, Outside<S, K, D, F, N, C, R>, Option<N::L>)
 where
     N::L: Drop + Send,
     requires { IsFew (command_in asked) }
-    ensures replayed { (view : View) → command_in asked ≡ Some (OfInput (input.Replay view)) → result.0 ≡ 0 → (trace : List ℕ) → S.left out.source ≡ Some trace → IsRun view (K.held out.sink) (K.held result.1.sink) trace }
-    ensures generated { (view : View) (seed blocks : ℕ) → command_in asked ≡ Some (OfSeed seed blocks (seeded.Replay view)) → result.0 ≡ 0 → IsRun view (K.held out.sink) (K.held result.1.sink) (generated_text seed blocks) }
-    ensures accepted { (seed blocks : ℕ) (made : SeedCommand) → command_in asked ≡ Some (OfSeed seed blocks made) → result.0 ≡ 5 → ⊥ }
-    ensures read_again { (view : View) (seed blocks : ℕ) → command_in asked ≡ Some (OfInput (input.Replay view)) → blocks ≤ BLOCKS_MOST → S.left out.source ≡ Some (generated_text seed blocks) → result.0 ≡ 5 → ⊥ }
-    ensures answered { is_alone asked ≡ true → (result.0 ≡ 0) ⊎ (result.0 ≡ 2) ⊎ (result.0 ≡ 5) → IsAnswered (command_in asked) (S.left out.source) (K.held out.sink) (K.held result.1.sink) result.0 }
-    ensures taken { is_alone asked ≡ true → (result.0 ≡ 0) ⊎ (result.0 ≡ 2) ⊎ (result.0 ≡ 5) → IsAnsweredFrom (command_in asked) (S.left out.source) (S.left result.1.source) (K.held out.sink) (K.held result.1.sink) result.0 }
+    ensures replayed { (view : View) → command_in asked ≡ Some (OfInput (input.Replay view)) → result.0 ≡ status.Done → (trace : List ℕ) → S.left out.source ≡ Some trace → IsRun view (K.held out.sink) (K.held result.1.sink) trace }
+    ensures generated { (view : View) (seed blocks : ℕ) → command_in asked ≡ Some (OfSeed seed blocks (seeded.Replay view)) → result.0 ≡ status.Done → IsRun view (K.held out.sink) (K.held result.1.sink) (generated_text seed blocks) }
+    ensures accepted { (seed blocks : ℕ) (made : SeedCommand) → command_in asked ≡ Some (OfSeed seed blocks made) → result.0 ≡ status.Refused → ⊥ }
+    ensures read_again { (view : View) (seed blocks : ℕ) → command_in asked ≡ Some (OfInput (input.Replay view)) → blocks ≤ BLOCKS_MOST → S.left out.source ≡ Some (generated_text seed blocks) → result.0 ≡ status.Refused → ⊥ }
+    ensures answered { is_alone asked ≡ true → IsWhole result.0 → IsAnswered (command_in asked) (S.left out.source) (K.held out.sink) (K.held result.1.sink) result.0 }
+    ensures taken { is_alone asked ≡ true → IsWhole result.0 → IsAnsweredFrom (command_in asked) (S.left out.source) (S.left result.1.source) (K.held out.sink) (K.held result.1.sink) result.0 }
     ensures unread { takes_input asked ≡ false → result.1.source ≡ out.source }
     ensures read_later { S.faults out.source ≤ S.faults result.1.source }
     ensures write_later { K.faults out.sink ≤ K.faults result.1.sink }
-    ensures read_fault { result.0 ≡ 3 → Rose (S.faults out.source) (S.faults result.1.source) }
-    ensures nothing { is_alone asked ≡ true → result.0 ≡ 3 → result.1.sink ≡ out.sink }
-    ensures write_fault { result.0 ≡ 4 → Rose (K.faults out.sink) (K.faults result.1.sink) }
-    ensures broken { is_alone asked ≡ true → result.0 ≡ 4 → IsBroken (command_in asked) (S.left out.source) (K.held out.sink) (K.held result.1.sink) }
-    ensures broken_off { is_alone asked ≡ true → result.0 ≡ 4 → IsBrokenFrom (command_in asked) (S.left out.source) (S.left result.1.source) (K.held out.sink) (K.held result.1.sink) }
-    ensures starved { is_alone asked ≡ true → result.0 ≡ 6 → IsBegun (command_in asked) (S.left out.source) (K.held out.sink) (K.held result.1.sink) }
-    ensures starved_off { is_alone asked ≡ true → result.0 ≡ 6 → (result.1.sink ≡ out.sink) ⊎ IsBegunFrom (command_in asked) (S.left out.source) (S.left result.1.source) (K.held out.sink) (K.held result.1.sink) }
-    ensures known { is_alone asked ≡ true → (result.0 ≡ 0) ⊎ (result.0 ≡ 2) ⊎ (result.0 ≡ 3) ⊎ (result.0 ≡ 4) ⊎ (result.0 ≡ 5) ⊎ (result.0 ≡ 6) }
+    ensures read_fault { result.0 ≡ status.ReadFault → Rose (S.faults out.source) (S.faults result.1.source) }
+    ensures nothing { is_alone asked ≡ true → result.0 ≡ status.ReadFault → result.1.sink ≡ out.sink }
+    ensures write_fault { result.0 ≡ status.WriteFault → Rose (K.faults out.sink) (K.faults result.1.sink) }
+    ensures broken { is_alone asked ≡ true → result.0 ≡ status.WriteFault → IsBroken (command_in asked) (S.left out.source) (K.held out.sink) (K.held result.1.sink) }
+    ensures broken_off { is_alone asked ≡ true → result.0 ≡ status.WriteFault → IsBrokenFrom (command_in asked) (S.left out.source) (S.left result.1.source) (K.held out.sink) (K.held result.1.sink) }
+    ensures starved { is_alone asked ≡ true → result.0 ≡ status.Memory → IsBegun (command_in asked) (S.left out.source) (K.held out.sink) (K.held result.1.sink) }
+    ensures starved_off { is_alone asked ≡ true → result.0 ≡ status.Memory → (result.1.sink ≡ out.sink) ⊎ IsBegunFrom (command_in asked) (S.left out.source) (S.left result.1.source) (K.held out.sink) (K.held result.1.sink) }
+    ensures known { is_alone asked ≡ true → IsPlainEnd result.0 }
     ensures apart { is_alone asked ≡ true → (result.1.store ≡ out.store) × (result.1.files ≡ out.files) × (result.1.network ≡ out.network) }
     ensures serves { (o : ServeOptions) → asked ≡ Some (ask.Serve o) → ServeEnds o (N.accepted out.network) (N.accepted result.1.network) (N.faults out.network) (N.faults result.1.network) (D.faults out.store) (D.faults result.1.store) (D.records out.store) (K.held out.sink) (K.held result.1.sink) result.0 }
     ensures unfiled { (o : ServeOptions) → asked ≡ Some (ask.Serve o) → result.1.files ≡ out.files }
     ensures mounts { (o : MountOptions) → asked ≡ Some (ask.Mount o) → MountEnds (S.left out.source) (S.left result.1.source) (K.held out.sink) (K.held result.1.sink) (S.faults out.source) (S.faults result.1.source) (K.faults out.sink) (N.faults out.network) (N.faults result.1.network) (IsFaulty N.L.faults result.2) result.0 }
     ensures unstored { (o : MountOptions) → asked ≡ Some (ask.Mount o) → result.1.store ≡ out.store }
-    ensures network_fault { result.0 ≡ 7 → Rose (N.faults out.network) (N.faults result.1.network) ⊎ IsFaulty N.L.faults result.2 }
-    ensures store_fault { result.0 ≡ 8 → StoreFails (D.faults out.store) (D.faults result.1.store) (D.records out.store) (K.held out.sink) (K.held result.1.sink) }
-    ensures told { (result.0 ≡ 0) ⊎ (result.0 ≡ 2) ⊎ (result.0 ≡ 3) ⊎ (result.0 ≡ 4) ⊎ (result.0 ≡ 5) ⊎ (result.0 ≡ 6) ⊎ (result.0 ≡ 7) ⊎ (result.0 ≡ 8) }
+    ensures network_fault { result.0 ≡ status.Network → Rose (N.faults out.network) (N.faults result.1.network) ⊎ IsFaulty N.L.faults result.2 }
+    ensures store_fault { result.0 ≡ status.Store → StoreFails (D.faults out.store) (D.faults result.1.store) (D.records out.store) (K.held out.sink) (K.held result.1.sink) }
 {
     match asked {
         Some(Asked::Command(command)) => run_plain(alloc, Some(command), out),
@@ -140,27 +141,30 @@ where
     }
 }
 
-/// Runs the words, which are those behind the program's name, and answers the status.
+/// Runs the words, which are those behind the program's name, and answers the status. The program ends
+/// with its number (`Status::code`), which stands here behind its name.
 ///
-/// Of words that ask for `replay`, `gen`, `cut` or `show`, and of those that ask for nothing: with 0, 2
-/// and 5 all of the output for the words and the input was written (`answered`, where the source tells
-/// what is left in it; `taken`, whatever it tells, for bytes that were taken from it), and with 0 the
-/// source stands at its end, where the words have it read; else it is untouched (`unread`). A trace
-/// that is run, read or made, is accepted, and its run keeps its promise (`replayed`, `generated`;
-/// `headline` of the word `replay` alone); one that is made is never refused (`accepted`), nor is its
-/// text where it is read (`read_again`). With 3 nothing was written (`nothing`). With 4 a front of the
-/// output was written, but not all (`broken`, `broken_off`). With 6 nothing was written, or a front of
-/// the output (`starved`, `starved_off`). The store, the files and the network are untouched (`apart`).
+/// Of words that ask for `replay`, `gen`, `cut` or `show`, and of those that ask for nothing: with
+/// `Done` (0), `BadWords` (2) and `Refused` (5) all of the output for the words and the input was written
+/// (`answered`, where the source tells what is left in it; `taken`, whatever it tells, for bytes that
+/// were taken from it), and with `Done` the source stands at its end, where the words have it read; else
+/// it is untouched (`unread`). A trace that is run, read or made, is accepted, and its run keeps its
+/// promise (`replayed`, `generated`; `headline` of the word `replay` alone); one that is made is never
+/// refused (`accepted`), nor is its text where it is read (`read_again`). With `ReadFault` (3) nothing was
+/// written (`nothing`). With `WriteFault` (4) a front of the output was written, but not all (`broken`,
+/// `broken_off`). With `Memory` (6) nothing was written, or a front of the output (`starved`,
+/// `starved_off`). The store, the files and the network are untouched (`apart`).
 ///
 /// `serve` ends in one of the ways of `ServeEnds`, and `mount` in one of `MountEnds`, each with its
 /// cause and what was written (`serves`, `mounts`). `serve` touches neither the source nor the files,
 /// and `mount` not the store (`unread`, `unfiled`, `unstored`).
 ///
-/// Of all words: with 3 the source failed and its faults rose, with 4 the sink's, with 7 the network's,
-/// or `mount` dialled a link that has no twin, which is then given back with a fault counted on it; with
-/// 8 the store's rose, or a record of it breaks a rule, and which, was written. With 6
-/// memory ran out, which no clause gives a cause. Which bytes a source gave and a sink took is known
-/// only where they tell, as those in memory do; streams of the system don't.
+/// Of all words: with `ReadFault` the source failed and its faults rose, with `WriteFault` the sink's, with
+/// `Network` (7) the network's, or `mount` dialled a link that has no twin, which is then given back with
+/// a fault counted on it; with `Store` (8) the store's rose, or a record of it breaks a rule, and which,
+/// was written. With `Memory` it ran out of memory, which no clause gives a cause. Which bytes a source
+/// gave and a sink took is known only where they tell, as those in memory do; streams of the system
+/// don't.
 pub fn run<
     H: Threads + Wait + Sync,
     S: Source + Drop,
@@ -175,43 +179,42 @@ pub fn run<
     alloc: Global,
     words: &[String],
     out: Outside<S, K, D, F, N, C, R>,
-) -> (u8, Outside<S, K, D, F, N, C, R>, Option<N::L>)
+) -> (Status, Outside<S, K, D, F, N, C, R>, Option<N::L>)
 where
     N::L: Drop + Send,
-    ensures headline { words_as_bytes words.now ≡ codes "replay" ∷ [] → result.0 ≡ 0 → (input : List ℕ) → S.left out.source ≡ Some input → IsReplayed (K.held out.sink) (K.held result.1.sink) input }
-    ensures replayed { (view : View) → command_of (words_as_bytes words.now) ≡ Some (OfInput (input.Replay view)) → result.0 ≡ 0 → (trace : List ℕ) → S.left out.source ≡ Some trace → IsRun view (K.held out.sink) (K.held result.1.sink) trace }
-    ensures generated { (view : View) (seed blocks : ℕ) → command_of (words_as_bytes words.now) ≡ Some (OfSeed seed blocks (seeded.Replay view)) → result.0 ≡ 0 → IsRun view (K.held out.sink) (K.held result.1.sink) (generated_text seed blocks) }
-    ensures accepted { (seed blocks : ℕ) (made : SeedCommand) → command_of (words_as_bytes words.now) ≡ Some (OfSeed seed blocks made) → result.0 ≡ 5 → ⊥ }
-    ensures read_again { (view : View) (seed blocks : ℕ) → command_of (words_as_bytes words.now) ≡ Some (OfInput (input.Replay view)) → blocks ≤ BLOCKS_MOST → S.left out.source ≡ Some (generated_text seed blocks) → result.0 ≡ 5 → ⊥ }
-    ensures answered { is_alone (asked_of (words_as_bytes words.now)) ≡ true → (result.0 ≡ 0) ⊎ (result.0 ≡ 2) ⊎ (result.0 ≡ 5) → IsAnswered (command_of (words_as_bytes words.now)) (S.left out.source) (K.held out.sink) (K.held result.1.sink) result.0 }
-    ensures taken { is_alone (asked_of (words_as_bytes words.now)) ≡ true → (result.0 ≡ 0) ⊎ (result.0 ≡ 2) ⊎ (result.0 ≡ 5) → IsAnsweredFrom (command_of (words_as_bytes words.now)) (S.left out.source) (S.left result.1.source) (K.held out.sink) (K.held result.1.sink) result.0 }
+    ensures headline { words_as_bytes words.now ≡ codes "replay" ∷ [] → result.0 ≡ status.Done → (input : List ℕ) → S.left out.source ≡ Some input → IsReplayed (K.held out.sink) (K.held result.1.sink) input }
+    ensures replayed { (view : View) → command_of (words_as_bytes words.now) ≡ Some (OfInput (input.Replay view)) → result.0 ≡ status.Done → (trace : List ℕ) → S.left out.source ≡ Some trace → IsRun view (K.held out.sink) (K.held result.1.sink) trace }
+    ensures generated { (view : View) (seed blocks : ℕ) → command_of (words_as_bytes words.now) ≡ Some (OfSeed seed blocks (seeded.Replay view)) → result.0 ≡ status.Done → IsRun view (K.held out.sink) (K.held result.1.sink) (generated_text seed blocks) }
+    ensures accepted { (seed blocks : ℕ) (made : SeedCommand) → command_of (words_as_bytes words.now) ≡ Some (OfSeed seed blocks made) → result.0 ≡ status.Refused → ⊥ }
+    ensures read_again { (view : View) (seed blocks : ℕ) → command_of (words_as_bytes words.now) ≡ Some (OfInput (input.Replay view)) → blocks ≤ BLOCKS_MOST → S.left out.source ≡ Some (generated_text seed blocks) → result.0 ≡ status.Refused → ⊥ }
+    ensures answered { is_alone (asked_of (words_as_bytes words.now)) ≡ true → IsWhole result.0 → IsAnswered (command_of (words_as_bytes words.now)) (S.left out.source) (K.held out.sink) (K.held result.1.sink) result.0 }
+    ensures taken { is_alone (asked_of (words_as_bytes words.now)) ≡ true → IsWhole result.0 → IsAnsweredFrom (command_of (words_as_bytes words.now)) (S.left out.source) (S.left result.1.source) (K.held out.sink) (K.held result.1.sink) result.0 }
     ensures unread { takes_input (asked_of (words_as_bytes words.now)) ≡ false → result.1.source ≡ out.source }
     ensures read_later { S.faults out.source ≤ S.faults result.1.source }
     ensures write_later { K.faults out.sink ≤ K.faults result.1.sink }
-    ensures read_fault { result.0 ≡ 3 → Rose (S.faults out.source) (S.faults result.1.source) }
-    ensures nothing { is_alone (asked_of (words_as_bytes words.now)) ≡ true → result.0 ≡ 3 → result.1.sink ≡ out.sink }
-    ensures write_fault { result.0 ≡ 4 → Rose (K.faults out.sink) (K.faults result.1.sink) }
-    ensures broken { is_alone (asked_of (words_as_bytes words.now)) ≡ true → result.0 ≡ 4 → IsBroken (command_of (words_as_bytes words.now)) (S.left out.source) (K.held out.sink) (K.held result.1.sink) }
-    ensures broken_off { is_alone (asked_of (words_as_bytes words.now)) ≡ true → result.0 ≡ 4 → IsBrokenFrom (command_of (words_as_bytes words.now)) (S.left out.source) (S.left result.1.source) (K.held out.sink) (K.held result.1.sink) }
-    ensures starved { is_alone (asked_of (words_as_bytes words.now)) ≡ true → result.0 ≡ 6 → IsBegun (command_of (words_as_bytes words.now)) (S.left out.source) (K.held out.sink) (K.held result.1.sink) }
-    ensures starved_off { is_alone (asked_of (words_as_bytes words.now)) ≡ true → result.0 ≡ 6 → (result.1.sink ≡ out.sink) ⊎ IsBegunFrom (command_of (words_as_bytes words.now)) (S.left out.source) (S.left result.1.source) (K.held out.sink) (K.held result.1.sink) }
-    ensures known { is_alone (asked_of (words_as_bytes words.now)) ≡ true → (result.0 ≡ 0) ⊎ (result.0 ≡ 2) ⊎ (result.0 ≡ 3) ⊎ (result.0 ≡ 4) ⊎ (result.0 ≡ 5) ⊎ (result.0 ≡ 6) }
+    ensures read_fault { result.0 ≡ status.ReadFault → Rose (S.faults out.source) (S.faults result.1.source) }
+    ensures nothing { is_alone (asked_of (words_as_bytes words.now)) ≡ true → result.0 ≡ status.ReadFault → result.1.sink ≡ out.sink }
+    ensures write_fault { result.0 ≡ status.WriteFault → Rose (K.faults out.sink) (K.faults result.1.sink) }
+    ensures broken { is_alone (asked_of (words_as_bytes words.now)) ≡ true → result.0 ≡ status.WriteFault → IsBroken (command_of (words_as_bytes words.now)) (S.left out.source) (K.held out.sink) (K.held result.1.sink) }
+    ensures broken_off { is_alone (asked_of (words_as_bytes words.now)) ≡ true → result.0 ≡ status.WriteFault → IsBrokenFrom (command_of (words_as_bytes words.now)) (S.left out.source) (S.left result.1.source) (K.held out.sink) (K.held result.1.sink) }
+    ensures starved { is_alone (asked_of (words_as_bytes words.now)) ≡ true → result.0 ≡ status.Memory → IsBegun (command_of (words_as_bytes words.now)) (S.left out.source) (K.held out.sink) (K.held result.1.sink) }
+    ensures starved_off { is_alone (asked_of (words_as_bytes words.now)) ≡ true → result.0 ≡ status.Memory → (result.1.sink ≡ out.sink) ⊎ IsBegunFrom (command_of (words_as_bytes words.now)) (S.left out.source) (S.left result.1.source) (K.held out.sink) (K.held result.1.sink) }
+    ensures known { is_alone (asked_of (words_as_bytes words.now)) ≡ true → IsPlainEnd result.0 }
     ensures apart { is_alone (asked_of (words_as_bytes words.now)) ≡ true → (result.1.store ≡ out.store) × (result.1.files ≡ out.files) × (result.1.network ≡ out.network) }
     ensures serves { (o : ServeOptions) → asked_of (words_as_bytes words.now) ≡ Some (ask.Serve o) → ServeEnds o (N.accepted out.network) (N.accepted result.1.network) (N.faults out.network) (N.faults result.1.network) (D.faults out.store) (D.faults result.1.store) (D.records out.store) (K.held out.sink) (K.held result.1.sink) result.0 }
     ensures unfiled { (o : ServeOptions) → asked_of (words_as_bytes words.now) ≡ Some (ask.Serve o) → result.1.files ≡ out.files }
     ensures mounts { (o : MountOptions) → asked_of (words_as_bytes words.now) ≡ Some (ask.Mount o) → MountEnds (S.left out.source) (S.left result.1.source) (K.held out.sink) (K.held result.1.sink) (S.faults out.source) (S.faults result.1.source) (K.faults out.sink) (N.faults out.network) (N.faults result.1.network) (IsFaulty N.L.faults result.2) result.0 }
     ensures unstored { (o : MountOptions) → asked_of (words_as_bytes words.now) ≡ Some (ask.Mount o) → result.1.store ≡ out.store }
-    ensures network_fault { result.0 ≡ 7 → Rose (N.faults out.network) (N.faults result.1.network) ⊎ IsFaulty N.L.faults result.2 }
-    ensures store_fault { result.0 ≡ 8 → StoreFails (D.faults out.store) (D.faults result.1.store) (D.records out.store) (K.held out.sink) (K.held result.1.sink) }
-    ensures told { (result.0 ≡ 0) ⊎ (result.0 ≡ 2) ⊎ (result.0 ≡ 3) ⊎ (result.0 ≡ 4) ⊎ (result.0 ≡ 5) ⊎ (result.0 ≡ 6) ⊎ (result.0 ≡ 7) ⊎ (result.0 ≡ 8) }
+    ensures network_fault { result.0 ≡ status.Network → Rose (N.faults out.network) (N.faults result.1.network) ⊎ IsFaulty N.L.faults result.2 }
+    ensures store_fault { result.0 ≡ status.Store → StoreFails (D.faults out.store) (D.faults result.1.store) (D.records out.store) (K.held out.sink) (K.held result.1.sink) }
 {
     match asked_of(alloc, words) {
         Ok(asked) => run_asked(rt, alloc, asked, out),
-        Err(_) => (Status::Memory.code(), out, None),
+        Err(_) => (Status::Memory, out, None),
     }
 }
 
-/// Runs the words, drops the outside and gives the exit code. Here, so that it is proved once for all
+/// Runs the words, drops the outside and answers the status. Here, so that it is proved once for all
 /// types.
 pub fn status_of<
     H: Threads + Wait + Sync,
@@ -222,7 +225,7 @@ pub fn status_of<
     N: Network + Drop,
     C: Clock + Sync + Drop,
     R: Rest + Sync + Drop,
->(rt: &H, alloc: Global, words: &[String], out: Outside<S, K, D, F, N, C, R>) -> u8
+>(rt: &H, alloc: Global, words: &[String], out: Outside<S, K, D, F, N, C, R>) -> Status
 where
     N::L: Drop + Send,
 {

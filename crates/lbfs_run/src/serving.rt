@@ -3,6 +3,7 @@
 
 ghost use Rattle.std.specs.Prelude.{◌≡◌, ◌≤◌, ◌⊎◌, IfOk};
 ghost use Rattle.lb_base.specs.Causes.{Rose};
+ghost use Rattle.exit_status.specs.declared.status.Status.TheVariants as status;
 ghost use Rattle.lbfs_run.specs.Ends.{StoreFails};
 ghost use Rattle.lbfs_run.specs.Serving.{ServeEnds, record_text, serve_output, served_text};
 ghost use Rattle.lbfs_run.specs.Telling.{Tells};
@@ -59,14 +60,14 @@ fn serve_output(alloc: Global, ended: Result<Served, ServeError>) -> Result<Outp
 }
 
 /// Writes how serving ended, and answers the status.
-fn tell_served<K: Sink>(alloc: Global, ended: Result<Served, ServeError>, sink: &mut K) -> u8
+fn tell_served<K: Sink>(alloc: Global, ended: Result<Served, ServeError>, sink: &mut K) -> Status
     ensures told { Tells result (K.held sink.old) (K.held sink.new) (serve_output ended) }
     ensures later { K.faults sink.old ≤ K.faults sink.new }
-    ensures fault { result ≡ 4 → Rose (K.faults sink.old) (K.faults sink.new) }
+    ensures fault { result ≡ status.WriteFault → Rose (K.faults sink.old) (K.faults sink.new) }
 {
     match serve_output(alloc, ended) {
         Ok(output) => tell(&output, sink),
-        Err(_) => Status::Memory.code(),
+        Err(_) => Status::Memory,
     }
 }
 
@@ -85,17 +86,17 @@ pub(crate) fn run_serve<
     alloc: Global,
     options: &ServeOptions,
     out: Outside<S, K, D, F, N, C, R>,
-) -> (u8, Outside<S, K, D, F, N, C, R>, Option<N::L>)
+) -> (Status, Outside<S, K, D, F, N, C, R>, Option<N::L>)
 where
     N::L: Drop + Send,
     ensures serves { ServeEnds options.now (N.accepted out.network) (N.accepted result.1.network) (N.faults out.network) (N.faults result.1.network) (D.faults out.store) (D.faults result.1.store) (D.records out.store) (K.held out.sink) (K.held result.1.sink) result.0 }
     ensures unread { result.1.source ≡ out.source }
     ensures unfiled { result.1.files ≡ out.files }
     ensures write_later { K.faults out.sink ≤ K.faults result.1.sink }
-    ensures write_fault { result.0 ≡ 4 → Rose (K.faults out.sink) (K.faults result.1.sink) }
-    ensures network_fault { result.0 ≡ 7 → Rose (N.faults out.network) (N.faults result.1.network) }
-    ensures store_fault { result.0 ≡ 8 → StoreFails (D.faults out.store) (D.faults result.1.store) (D.records out.store) (K.held out.sink) (K.held result.1.sink) }
-    ensures known { (result.0 ≡ 0) ⊎ (result.0 ≡ 4) ⊎ (result.0 ≡ 6) ⊎ (result.0 ≡ 7) ⊎ (result.0 ≡ 8) }
+    ensures write_fault { result.0 ≡ status.WriteFault → Rose (K.faults out.sink) (K.faults result.1.sink) }
+    ensures network_fault { result.0 ≡ status.Network → Rose (N.faults out.network) (N.faults result.1.network) }
+    ensures store_fault { result.0 ≡ status.Store → StoreFails (D.faults out.store) (D.faults result.1.store) (D.records out.store) (K.held out.sink) (K.held result.1.sink) }
+    ensures known { (result.0 ≡ status.Done) ⊎ (result.0 ≡ status.WriteFault) ⊎ (result.0 ≡ status.Memory) ⊎ (result.0 ≡ status.Network) ⊎ (result.0 ≡ status.Store) }
 {
     let Outside {
         source,

@@ -2,7 +2,7 @@
 
 ghost use Rattle.std.specs.Prelude.{◌≡◌, ◌≤◌, ◌⊎◌};
 ghost use Rattle.lb_base.specs.Causes.{Rose};
-ghost use Rattle.exit_status.specs.Statuses.{code_of};
+ghost use Rattle.exit_status.specs.declared.status.Status.TheVariants as status;
 ghost use Rattle.lbfs_run.specs.Telling.{Tells};
 
 use crate::output::Output;
@@ -10,14 +10,14 @@ use exit_status::status::Status;
 use lb_base::sink::{GiveError, Sink, give_all};
 
 /// Writes the output, and answers its status, or that of what went wrong.
-pub(crate) fn tell<K: Sink>(output: &Output, sink: &mut K) -> u8
+pub(crate) fn tell<K: Sink>(output: &Output, sink: &mut K) -> Status
     ensures told { Tells result (K.held sink.old) (K.held sink.new) (output.now.status, output.now.text) }
     ensures later { K.faults sink.old ≤ K.faults sink.new }
-    ensures fault { result ≡ 4 → (code_of output.now.status ≡ 4) ⊎ Rose (K.faults sink.old) (K.faults sink.new) }
+    ensures fault { result ≡ status.WriteFault → (output.now.status ≡ status.WriteFault) ⊎ Rose (K.faults sink.old) (K.faults sink.new) }
 {
     match give_all(sink, output.text.as_slice()) {
-        Ok(()) => output.status.code(),
-        Err(GiveError::Failed) => Status::WriteFault.code(),
-        Err(GiveError::Memory) => Status::Memory.code(),
+        Ok(()) => output.status,
+        Err(GiveError::Failed) => Status::WriteFault,
+        Err(GiveError::Memory) => Status::Memory,
     }
 }

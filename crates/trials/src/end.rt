@@ -8,6 +8,7 @@ use crate::port::{Port, PortLink, PortNet};
 use crate::screen::{Screen, Typist};
 use crate::trial::Trial;
 use crate::words::asked_of;
+use exit_status::status::Status;
 use lbfs_run::outside::Outside;
 use lbfs_run::run::run_asked;
 use links::clock::FixedClock;
@@ -38,7 +39,7 @@ fn run_whole<'a, R: Threads + Wait + Sync + Send + Copy + Drop>(
     alloc: Global,
     asked: Option<Asked>,
     whole: Whole<'a, R>,
-) -> (u8, Whole<'a, R>, Option<PortLink<R>>)
+) -> (Status, Whole<'a, R>, Option<PortLink<R>>)
     requires { IsFew (command_in asked) }
 {
     run_asked(rt, alloc, asked, whole)
@@ -65,14 +66,14 @@ fn put_files(files: &MemFiles, out: &mut Out) {
 /// How a run ended, and what is left of its outside.
 fn put_end<R: Wait + Copy>(
     trial: &Trial<'_>,
-    status: u8,
+    status: Status,
     whole: &Whole<'_, R>,
     unpaired: &Option<PortLink<R>>,
     out: &mut Out,
 ) {
     let is_mount = trial.words.starts_with("mount");
     out.text(": status");
-    out.number(u64::from(status));
+    out.number(u64::from(status.code()));
     if is_mount {
         out.text(" lines");
         put_counts(whole.source.seen(), out);

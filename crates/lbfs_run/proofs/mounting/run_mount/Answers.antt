@@ -21,8 +21,8 @@ pub returns-clause-read_fault : goal.returns-clause-read_fault
 returns-clause-read_fault g c = read_rose _ _ _ _ _ c.mount-ended.result.0 c.mount-ended.ensures.read c.tell_mounted-status.ensures.told
 
 pub returns-clause-write_fault : goal.returns-clause-write_fault
-returns-clause-write_fault g c = λ four. write_rose _ _ _ c.mount-ended.ensures.write_later c.tell_mounted-status.ensures.later (elim (c.tell_mounted-status.ensures.fault four) [
-  | inl e ↦ inl (c.mount-ended.ensures.write e)
+returns-clause-write_fault g c = λ e. write_rose _ _ _ c.mount-ended.ensures.write_later c.tell_mounted-status.ensures.later (elim (c.tell_mounted-status.ensures.fault e) [
+  | inl h ↦ inl (c.mount-ended.ensures.write h)
   | inr h ↦ inr h
 ])
 

@@ -3,20 +3,20 @@ use Rattle.lbfs_run.proofs.Headline.{replayed, generated, unrefused, unrefused_r
 use Rattle.lbfs_run.proofs.plain.run.Goals as goal
 
 pub returns-clause-replayed : goal.returns-clause-replayed
-returns-clause-replayed g c = λ view asks zero trace told.
-    replayed c.args.command _ _ _ _ view trace c.promise_is_kept.ensures (c.run_on.ensures.answered (inl zero)) asks zero told
+returns-clause-replayed g c = λ view asks done trace told.
+    replayed c.args.command _ _ _ _ view trace c.promise_is_kept.ensures (c.run_on.ensures.answered (inl done)) asks done told
 
 pub returns-clause-generated : goal.returns-clause-generated
-returns-clause-generated g c = λ view seed blocks asks zero.
-    generated c.args.command _ _ _ _ _ view seed blocks c.promise_is_kept.ensures (c.run_on.ensures.taken (inl zero)) asks zero
+returns-clause-generated g c = λ view seed blocks asks done.
+    generated c.args.command _ _ _ _ _ view seed blocks c.promise_is_kept.ensures (c.run_on.ensures.taken (inl done)) asks done
 
 pub returns-clause-accepted : goal.returns-clause-accepted
-returns-clause-accepted g c = λ seed blocks command asks five.
-    unrefused c.args.command _ _ _ _ _ seed blocks command c.generated_traces_are_accepted.ensures.accepted c.requires (c.run_on.ensures.taken (inr (inr five))) asks five
+returns-clause-accepted g c = λ seed blocks command asks refused.
+    unrefused c.args.command _ _ _ _ _ seed blocks command c.generated_traces_are_accepted.ensures.accepted c.requires (c.run_on.ensures.taken (inr (inr refused))) asks refused
 
 pub returns-clause-read_again : goal.returns-clause-read_again
-returns-clause-read_again g c = λ view seed blocks asks few told five.
-    unrefused_read c.args.command _ _ _ _ view seed blocks c.generated_traces_are_accepted.ensures.accepted c.generated_traces_are_accepted.ensures.short (c.run_on.ensures.answered (inr (inr five))) asks few told five
+returns-clause-read_again g c = λ view seed blocks asks few told refused.
+    unrefused_read c.args.command _ _ _ _ view seed blocks c.generated_traces_are_accepted.ensures.accepted c.generated_traces_are_accepted.ensures.short (c.run_on.ensures.answered (inr (inr refused))) asks few told refused
 
 pub returns-clause-answered : goal.returns-clause-answered
 returns-clause-answered g c = c.run_on.ensures.answered

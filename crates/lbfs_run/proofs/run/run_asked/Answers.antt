@@ -1,31 +1,30 @@
-use Rattle.std.proofs.Common.{◌≡◌, Option, Some, None, Result, Err, refl, sym, ap, ◌∙◌, inl, inr, arith}
+use Rattle.std.proofs.Common.{◌≡◌, Some, None, refl, sym, ap, ◌∙◌, inl}
 use Rattle.program_words.specs.declared.asked.Command.{Command}
-use Rattle.program_words.specs.declared.asked.Asked.{Asked}
 use Rattle.program_words.specs.declared.asked.Asked.TheVariants as ask
 use Rattle.program_words.specs.Words.{command_in, is_alone}
 use Rattle.lbfs_run.specs.Ends.{takes_input}
-use Rattle.lbfs_run.proofs.Asking.{answered_by, taken_by, broken_by, broken_off_by, starved_by, starved_off_by, not_serve, not_mount, not_both, not_some, no_command, no_both, same_serve, serves_by, plain_most, over, plain_told, serve_told, serve_no_read, mount_told, mount_most, stays}
+use Rattle.lbfs_run.proofs.Asking.{answered_by, taken_by, broken_by, broken_off_by, starved_by, starved_off_by, not_serve, not_mount, not_both, not_some, no_command, no_both, same_serve, serves_by, stays}
 use Rattle.lbfs_run.proofs.run.run_asked.Goals as goal
 
 pub returns-in-Some-Command-clause-replayed : goal.returns-in-Some-Command-clause-replayed
 returns-in-Some-Command-clause-replayed g c =
     let is : c.args.asked ≡ Some (ask.Command c.in-Some-Command.command) = c.in-Some-Command.is ∙ ap Some c.in-Some-Command.field-0-is in
-    λ view asks zero trace told. c.run_plain.ensures.replayed view ((sym (ap command_in is)) ∙ asks) zero trace told
+    λ view asks done trace told. c.run_plain.ensures.replayed view ((sym (ap command_in is)) ∙ asks) done trace told
 
 pub returns-in-Some-Command-clause-generated : goal.returns-in-Some-Command-clause-generated
 returns-in-Some-Command-clause-generated g c =
     let is : c.args.asked ≡ Some (ask.Command c.in-Some-Command.command) = c.in-Some-Command.is ∙ ap Some c.in-Some-Command.field-0-is in
-    λ view seed blocks asks zero. c.run_plain.ensures.generated view seed blocks ((sym (ap command_in is)) ∙ asks) zero
+    λ view seed blocks asks done. c.run_plain.ensures.generated view seed blocks ((sym (ap command_in is)) ∙ asks) done
 
 pub returns-in-Some-Command-clause-accepted : goal.returns-in-Some-Command-clause-accepted
 returns-in-Some-Command-clause-accepted g c =
     let is : c.args.asked ≡ Some (ask.Command c.in-Some-Command.command) = c.in-Some-Command.is ∙ ap Some c.in-Some-Command.field-0-is in
-    λ seed blocks made asks five. c.run_plain.ensures.accepted seed blocks made ((sym (ap command_in is)) ∙ asks) five
+    λ seed blocks made asks refused. c.run_plain.ensures.accepted seed blocks made ((sym (ap command_in is)) ∙ asks) refused
 
 pub returns-in-Some-Command-clause-read_again : goal.returns-in-Some-Command-clause-read_again
 returns-in-Some-Command-clause-read_again g c =
     let is : c.args.asked ≡ Some (ask.Command c.in-Some-Command.command) = c.in-Some-Command.is ∙ ap Some c.in-Some-Command.field-0-is in
-    λ view seed blocks asks few told five. c.run_plain.ensures.read_again view seed blocks ((sym (ap command_in is)) ∙ asks) few told five
+    λ view seed blocks asks few told refused. c.run_plain.ensures.read_again view seed blocks ((sym (ap command_in is)) ∙ asks) few told refused
 
 pub returns-in-Some-Command-clause-answered : goal.returns-in-Some-Command-clause-answered
 returns-in-Some-Command-clause-answered g c =
@@ -110,37 +109,25 @@ returns-in-Some-Command-clause-unstored g c =
     let is : c.args.asked ≡ Some (ask.Command c.in-Some-Command.command) = c.in-Some-Command.is ∙ ap Some c.in-Some-Command.field-0-is in
     λ o e. not_mount c.args.asked c.in-Some-Command.command o is e
 
-pub returns-in-Some-Command-clause-network_fault : goal.returns-in-Some-Command-clause-network_fault
-returns-in-Some-Command-clause-network_fault g c =
-    λ seven. over c.run_plain.result.0 6 7 (plain_most c.run_plain.result.0 c.run_plain.ensures.known) (omega arith) seven
-
-pub returns-in-Some-Command-clause-store_fault : goal.returns-in-Some-Command-clause-store_fault
-returns-in-Some-Command-clause-store_fault g c =
-    λ eight. over c.run_plain.result.0 6 8 (plain_most c.run_plain.result.0 c.run_plain.ensures.known) (omega arith) eight
-
-pub returns-in-Some-Command-clause-told : goal.returns-in-Some-Command-clause-told
-returns-in-Some-Command-clause-told g c =
-    plain_told c.run_plain.result.0 c.run_plain.ensures.known
-
 pub returns-in-Some-Serve-clause-replayed : goal.returns-in-Some-Serve-clause-replayed
 returns-in-Some-Serve-clause-replayed g c =
     let is : c.args.asked ≡ Some (ask.Serve c.in-Some-Serve.options) = c.in-Some-Serve.is ∙ ap Some c.in-Some-Serve.field-0-is in
-    λ view asks zero trace told. no_command c.args.asked _ (ap command_in is) asks
+    λ view asks done trace told. no_command c.args.asked _ (ap command_in is) asks
 
 pub returns-in-Some-Serve-clause-generated : goal.returns-in-Some-Serve-clause-generated
 returns-in-Some-Serve-clause-generated g c =
     let is : c.args.asked ≡ Some (ask.Serve c.in-Some-Serve.options) = c.in-Some-Serve.is ∙ ap Some c.in-Some-Serve.field-0-is in
-    λ view seed blocks asks zero. no_command c.args.asked _ (ap command_in is) asks
+    λ view seed blocks asks done. no_command c.args.asked _ (ap command_in is) asks
 
 pub returns-in-Some-Serve-clause-accepted : goal.returns-in-Some-Serve-clause-accepted
 returns-in-Some-Serve-clause-accepted g c =
     let is : c.args.asked ≡ Some (ask.Serve c.in-Some-Serve.options) = c.in-Some-Serve.is ∙ ap Some c.in-Some-Serve.field-0-is in
-    λ seed blocks made asks five. no_command c.args.asked _ (ap command_in is) asks
+    λ seed blocks made asks refused. no_command c.args.asked _ (ap command_in is) asks
 
 pub returns-in-Some-Serve-clause-read_again : goal.returns-in-Some-Serve-clause-read_again
 returns-in-Some-Serve-clause-read_again g c =
     let is : c.args.asked ≡ Some (ask.Serve c.in-Some-Serve.options) = c.in-Some-Serve.is ∙ ap Some c.in-Some-Serve.field-0-is in
-    λ view seed blocks asks few told five. no_command c.args.asked _ (ap command_in is) asks
+    λ view seed blocks asks few told refused. no_command c.args.asked _ (ap command_in is) asks
 
 pub returns-in-Some-Serve-clause-answered : goal.returns-in-Some-Serve-clause-answered
 returns-in-Some-Serve-clause-answered g c =
@@ -203,10 +190,6 @@ pub returns-in-Some-Serve-clause-read_later : goal.returns-in-Some-Serve-clause-
 returns-in-Some-Serve-clause-read_later g c =
     stays g.S.Source.faults c.args.out.source c.run_serve.result.1.source c.run_serve.ensures.unread
 
-pub returns-in-Some-Serve-clause-read_fault : goal.returns-in-Some-Serve-clause-read_fault
-returns-in-Some-Serve-clause-read_fault g c =
-    λ three. serve_no_read c.run_serve.result.0 c.run_serve.ensures.known three
-
 pub returns-in-Some-Serve-clause-serves : goal.returns-in-Some-Serve-clause-serves
 returns-in-Some-Serve-clause-serves g c =
     let is : c.args.asked ≡ Some (ask.Serve c.in-Some-Serve.options) = c.in-Some-Serve.is ∙ ap Some c.in-Some-Serve.field-0-is in
@@ -228,35 +211,31 @@ returns-in-Some-Serve-clause-unstored g c =
 
 pub returns-in-Some-Serve-clause-network_fault : goal.returns-in-Some-Serve-clause-network_fault
 returns-in-Some-Serve-clause-network_fault g c =
-    λ seven. inl (c.run_serve.ensures.network_fault seven)
+    λ e. inl (c.run_serve.ensures.network_fault e)
 
 pub returns-in-Some-Serve-clause-store_fault : goal.returns-in-Some-Serve-clause-store_fault
 returns-in-Some-Serve-clause-store_fault g c =
     c.run_serve.ensures.store_fault
 
-pub returns-in-Some-Serve-clause-told : goal.returns-in-Some-Serve-clause-told
-returns-in-Some-Serve-clause-told g c =
-    serve_told c.run_serve.result.0 c.run_serve.ensures.known
-
 pub returns-in-Some-Mount-clause-replayed : goal.returns-in-Some-Mount-clause-replayed
 returns-in-Some-Mount-clause-replayed g c =
     let is : c.args.asked ≡ Some (ask.Mount c.in-Some-Mount.options) = c.in-Some-Mount.is ∙ ap Some c.in-Some-Mount.field-0-is in
-    λ view asks zero trace told. no_command c.args.asked _ (ap command_in is) asks
+    λ view asks done trace told. no_command c.args.asked _ (ap command_in is) asks
 
 pub returns-in-Some-Mount-clause-generated : goal.returns-in-Some-Mount-clause-generated
 returns-in-Some-Mount-clause-generated g c =
     let is : c.args.asked ≡ Some (ask.Mount c.in-Some-Mount.options) = c.in-Some-Mount.is ∙ ap Some c.in-Some-Mount.field-0-is in
-    λ view seed blocks asks zero. no_command c.args.asked _ (ap command_in is) asks
+    λ view seed blocks asks done. no_command c.args.asked _ (ap command_in is) asks
 
 pub returns-in-Some-Mount-clause-accepted : goal.returns-in-Some-Mount-clause-accepted
 returns-in-Some-Mount-clause-accepted g c =
     let is : c.args.asked ≡ Some (ask.Mount c.in-Some-Mount.options) = c.in-Some-Mount.is ∙ ap Some c.in-Some-Mount.field-0-is in
-    λ seed blocks made asks five. no_command c.args.asked _ (ap command_in is) asks
+    λ seed blocks made asks refused. no_command c.args.asked _ (ap command_in is) asks
 
 pub returns-in-Some-Mount-clause-read_again : goal.returns-in-Some-Mount-clause-read_again
 returns-in-Some-Mount-clause-read_again g c =
     let is : c.args.asked ≡ Some (ask.Mount c.in-Some-Mount.options) = c.in-Some-Mount.is ∙ ap Some c.in-Some-Mount.field-0-is in
-    λ view seed blocks asks few told five. no_command c.args.asked _ (ap command_in is) asks
+    λ view seed blocks asks few told refused. no_command c.args.asked _ (ap command_in is) asks
 
 pub returns-in-Some-Mount-clause-answered : goal.returns-in-Some-Mount-clause-answered
 returns-in-Some-Mount-clause-answered g c =
@@ -346,33 +325,25 @@ pub returns-in-Some-Mount-clause-network_fault : goal.returns-in-Some-Mount-clau
 returns-in-Some-Mount-clause-network_fault g c =
     c.run_mount.ensures.network_fault
 
-pub returns-in-Some-Mount-clause-store_fault : goal.returns-in-Some-Mount-clause-store_fault
-returns-in-Some-Mount-clause-store_fault g c =
-    λ eight. over c.run_mount.result.0 7 8 (mount_most c.run_mount.result.0 c.run_mount.ensures.known) (omega arith) eight
-
-pub returns-in-Some-Mount-clause-told : goal.returns-in-Some-Mount-clause-told
-returns-in-Some-Mount-clause-told g c =
-    mount_told c.run_mount.result.0 c.run_mount.ensures.known
-
 pub returns-in-None-clause-replayed : goal.returns-in-None-clause-replayed
 returns-in-None-clause-replayed g c =
     let is : c.args.asked ≡ None = c.in-None.is in
-    λ view asks zero trace told. c.run_plain-in-None.ensures.replayed view ((sym (ap command_in is)) ∙ asks) zero trace told
+    λ view asks done trace told. c.run_plain-in-None.ensures.replayed view ((sym (ap command_in is)) ∙ asks) done trace told
 
 pub returns-in-None-clause-generated : goal.returns-in-None-clause-generated
 returns-in-None-clause-generated g c =
     let is : c.args.asked ≡ None = c.in-None.is in
-    λ view seed blocks asks zero. c.run_plain-in-None.ensures.generated view seed blocks ((sym (ap command_in is)) ∙ asks) zero
+    λ view seed blocks asks done. c.run_plain-in-None.ensures.generated view seed blocks ((sym (ap command_in is)) ∙ asks) done
 
 pub returns-in-None-clause-accepted : goal.returns-in-None-clause-accepted
 returns-in-None-clause-accepted g c =
     let is : c.args.asked ≡ None = c.in-None.is in
-    λ seed blocks made asks five. c.run_plain-in-None.ensures.accepted seed blocks made ((sym (ap command_in is)) ∙ asks) five
+    λ seed blocks made asks refused. c.run_plain-in-None.ensures.accepted seed blocks made ((sym (ap command_in is)) ∙ asks) refused
 
 pub returns-in-None-clause-read_again : goal.returns-in-None-clause-read_again
 returns-in-None-clause-read_again g c =
     let is : c.args.asked ≡ None = c.in-None.is in
-    λ view seed blocks asks few told five. c.run_plain-in-None.ensures.read_again view seed blocks ((sym (ap command_in is)) ∙ asks) few told five
+    λ view seed blocks asks few told refused. c.run_plain-in-None.ensures.read_again view seed blocks ((sym (ap command_in is)) ∙ asks) few told refused
 
 pub returns-in-None-clause-answered : goal.returns-in-None-clause-answered
 returns-in-None-clause-answered g c =
@@ -455,15 +426,3 @@ pub returns-in-None-clause-unstored : goal.returns-in-None-clause-unstored
 returns-in-None-clause-unstored g c =
     let is : c.args.asked ≡ None = c.in-None.is in
     λ o e. not_some c.args.asked (ask.Mount o) is e
-
-pub returns-in-None-clause-network_fault : goal.returns-in-None-clause-network_fault
-returns-in-None-clause-network_fault g c =
-    λ seven. over c.run_plain-in-None.result.0 6 7 (plain_most c.run_plain-in-None.result.0 c.run_plain-in-None.ensures.known) (omega arith) seven
-
-pub returns-in-None-clause-store_fault : goal.returns-in-None-clause-store_fault
-returns-in-None-clause-store_fault g c =
-    λ eight. over c.run_plain-in-None.result.0 6 8 (plain_most c.run_plain-in-None.result.0 c.run_plain-in-None.ensures.known) (omega arith) eight
-
-pub returns-in-None-clause-told : goal.returns-in-None-clause-told
-returns-in-None-clause-told g c =
-    plain_told c.run_plain-in-None.result.0 c.run_plain-in-None.ensures.known
