@@ -1,7 +1,7 @@
 -- What holds of each entry of a cache, after each change, for crates above.
-use Rattle.std.proofs.Common.{◌≡◌, refl, sym, ap, subst, ℕ, List, [], ◌∷◌, Option, Some, None, Bool, true, false, true≢false, take, nat_eq}
-use Rattle.std.specs.Prelude.{All, cond, unwrap_or, is_some}
-use Rattle.std.specs.Map.{lookup, remove_entry, set_value}
+use Rattle.std.proofs.Common.{◌≡◌, refl, sym, subst, ℕ, List, [], ◌∷◌, Option, Some, None, Bool, true, false, nat_eq}
+use Rattle.std.specs.Prelude.{All, cond, unwrap_or}
+use Rattle.std.specs.Map.{remove_entry, set_value}
 use Rattle.std.proofs.lemmas.Bool.{eqb-true}
 use Rattle.std.proofs.lemmas.List.Elements.{All-cons, All-head, All-tail, All-take}
 use Rattle.client_cache.specs.declared.kept.Note.{Note}

@@ -1,10 +1,10 @@
 -- What each event is to be shown to keep.
 use Rattle.std.proofs.Common.{◌≡◌, ℕ, ◌<◌, List, [], ◌∷◌, ◌++◌, length, Option, Some, None, false, map}
-use Rattle.trace_ends.specs.Core.{Loss.Made}
 use Rattle.server_core.specs.declared.event.Sent.{Sent}
 use Rattle.kept_promise.proofs.Common.{Contains, message_spell, Command, Core, Seat, Session, Event, Event.Joins, Event.Does, Event.Serves, Event.Hears, Event.Settles, Event.Cuts, Event.Hangs, Loss, Loss.Nothing, Loss.Down_of, Loss.Up_of, CoreStep, numbered, with_numbered, happens, Wire, unless, lost_by, up_put, down_put, hashed_of, hashed_by, Book, Ask, Told, Queue, no_queue, Carries, ask_message, told_message}
 use Rattle.kept_promise.proofs.PathNames.{IsSmall}
 use Rattle.kept_promise.proofs.Facts.{IsKept}
+use Rattle.trace_ends.specs.Core.{Loss.Made}
 
 -- ---- what is sent, as calls and answers
 

@@ -16,7 +16,6 @@ use Rattle.path_calls.specs.Walk.{begun}
 use Rattle.path_calls.specs.declared.walk.Walk.{Walk}
 use Rattle.client_state.specs.View.{walk_left}
 use Rattle.kept_promise.proofs.Common.{nat_lt, ◌&&◌, not, cond, filter, ◌==◌, Command, parse_of, makes_change, got_if, stands, connect, has_room, Change, may_ask, command_step, ended_by, ClientStep, Ended, Task, Opening, Word, word_of, Core, Seat, Session, Event, Event.Joins, Event.Does, Event.Serves, Event.Hears, Event.Settles, Event.Cuts, Event.Hangs, CoreStep, numbered, with_numbered, server_waiting, session_of, serves_if, serves, is_newest, hears_if, hears_at, hears, commanded_session, commanded_sessions, does, joins_as, joins, settles, cut_session, cuts_if, cuts, hangs_if, hangs, happens, closing_with, Moment, unless, Call, Call.Commit, Ask, Told, Queue, ask_message, Loss, Loss.Nothing, Loss.Down_of, Loss.Up_of, no_queue, Wanted, Call.Walks, has_waiting}
-use Rattle.trace_ends.specs.Core.{Loss.Made}
 use Rattle.kept_promise.proofs.StepCases.{command_cases}
 use Rattle.kept_promise.proofs.CallsKeep.{IsByCommit, is_of_files, Waits, got_if_keeps, makes_call, walk_made}
 use Rattle.kept_promise.proofs.Statements.{CallFits}
@@ -35,6 +34,7 @@ use Rattle.kept_promise.proofs.Makings.{called_making}
 use Rattle.kept_promise.proofs.PathNames.{IsWalkSmall, is_building, is_going, is_creating, making_is, going_creates}
 use Rattle.kept_promise.proofs.Departures.{comes_by, called_going}
 use Rattle.kept_promise.proofs.GoingSteps.{coming}
+use Rattle.trace_ends.specs.Core.{Loss.Made}
 
 -- ---- the queues after an event
 

@@ -9,8 +9,8 @@ use Rattle.register_model.specs.declared.op.Word.TheVariants as words
 use Rattle.tree_reading.specs.declared.entry.EntryKind.{EntryKind}
 use Rattle.register_model.specs.Register.{succeeded, IsFit}
 use Rattle.trace_replay.specs.Causes.{HasNoRoom, IsGone, Within}
-use Rattle.trace_replay.specs.Faithful.{IsKind, left_by, HasJournal}
-use Rattle.kept_promise.proofs.Common.{Task, Seat, numbered, slice_get, not, is_some, Contains, sha1, File, Moment, value_at, version_at, is_lost, is_untold, Op, Word, Book, IsOpened, IsClosed, IsChanged, IsLost, IsOpenRefused, IsEntered, is_running, changes, Entry, Or, nat_lt}
+use Rattle.trace_replay.specs.Faithful.{IsKind, HasJournal}
+use Rattle.kept_promise.proofs.Common.{Task, Seat, numbered, slice_get, not, is_some, Contains, sha1, File, Moment, value_at, version_at, is_lost, is_untold, Op, Word, Book, IsOpened, IsClosed, IsChanged, IsLost, IsOpenRefused, IsEntered, is_running, changes, nat_lt}
 
 pub open_not_close : words.Open ≡ words.Close → ⊥
 open_not_close e = absurd cc

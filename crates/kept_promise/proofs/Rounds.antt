@@ -1,6 +1,5 @@
 -- Rounds of deliveries: where nothing is on its way a round does nothing, so that K rounds are K times the two deliveries.
 use Rattle.std.proofs.Common.{◌≡◌, ℕ, zero, suc, List, [], ◌∷◌, ◌++◌, Option, Some, None, take, drop, refl, sym, ap, subst, ◌∙◌, arith, append-nil, Bool, true, false, map}
-use Rattle.trace_ends.specs.Core.{Loss.Made}
 use Rattle.trace_ends.specs.Queue.{is_none}
 use Rattle.trace_replay.specs.Delivery.{down_all}
 use Rattle.server_core.specs.declared.event.Sent.{Sent}
@@ -8,6 +7,7 @@ use Rattle.kept_promise.proofs.Common.{◌&&◌, slice_get, take_all, Fed, Refus
 use Rattle.kept_promise.proofs.Places.{at_place, becomes, there_is}
 use Rattle.kept_promise.proofs.Deliveries.{all_become, set_up, set_down, downs, downs_in, ups, ups_in, down_is, up_is, wired, up_events_of, down_events_of, up_none, down_none, end_twice}
 use Rattle.kept_promise.proofs.Lists.{both_true}
+use Rattle.trace_ends.specs.Core.{Loss.Made}
 
 -- ---- an end that holds no whole record
 

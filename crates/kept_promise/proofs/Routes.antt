@@ -1,11 +1,11 @@
 -- The wires carry the queues of messages, through what is lost and what is sent.
 use Rattle.std.proofs.Common.{inl, inr, ◌≡◌, ℕ, zero, suc, List, [], ◌∷◌, ◌++◌, length, Option, Some, None, Bool, true, false, refl, sym, ap, ◌∙◌, subst, arith, append_assoc, map}
-use Rattle.trace_ends.specs.Core.{Loss.Made}
 use Rattle.server_core.specs.declared.event.Sent.{Sent}
 use Rattle.kept_promise.proofs.Common.{slice_get, marked, stream, message_spell, Message, Session, Loss, Loss.Nothing, Loss.Down_of, Loss.Up_of, numbered, with_numbered, Wire, new_wire, bytes_of, unless, up_put_in, up_put, down_put_in, down_put, down_lost, up_lost, lost_by, Ask, Told, Queue, no_queue, Carries, ask_message, told_message}
 use Rattle.kept_promise.proofs.Lists.{some_is, nothing_there, same_or_not, of_appended, count_more}
 use Rattle.kept_promise.proofs.Turns.{Around, around_with, also_numbered}
 use Rattle.kept_promise.proofs.Leading.{sent_message, ups_put_in, ups_put, downs_put_in, downs_put, downs_lost, ups_lost, queues_lost, CarryAll, RoutesCarry}
+use Rattle.trace_ends.specs.Core.{Loss.Made}
 
 -- ---- messages in a row
 

@@ -1,6 +1,5 @@
 -- Each call on its way to the server was sent by a client, on that session, in a step before.
 use Rattle.std.proofs.Common.{inl, inr, ◌≡◌, ℕ, ◌≤◌, List, [], ◌∷◌, ◌++◌, Some, Bool, true, false, sym, subst, arith}
-use Rattle.server_core.specs.declared.event.Event.TheVariants as event
 use Rattle.kept_promise.proofs.Common.{Contains, Contains-append_left, Contains-append_right, Contains-push, Core, Event, CoreStep, happens, Moment, step_of, unless, Queue, Ask, ask_message}
 use Rattle.kept_promise.proofs.SentDown.{all_sent, in_step, none_sent}
 use Rattle.kept_promise.proofs.Lists.{all_append, all_map, all_at}

@@ -24,11 +24,11 @@ use Rattle.path_calls.specs.declared.walk.Walk.{Walk}
 use Rattle.register_model.specs.declared.op.Word.TheVariants as words
 use Rattle.trace_replay.specs.Naming.{page_number, pages_in}
 use Rattle.trace_replay.specs.Traffic.{AreOwn}
-use Rattle.trace_replay.specs.Walking.{Part.asks}
 use Rattle.kept_promise.proofs.Common.{Stage, Deal, Deal.Sent, Deal.Took}
 use Rattle.kept_promise.proofs.Messages.{stage_word}
 use Rattle.kept_promise.proofs.StepCases.{IsOfFile}
 use Rattle.kept_promise.proofs.WalkLog.{IsUnder, GaveUp}
+use Rattle.trace_replay.specs.Walking.{Part.asks}
 
 -- ---- what an answer leads to
 

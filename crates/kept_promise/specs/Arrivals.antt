@@ -3,12 +3,12 @@ use Rattle.std.specs.Prelude.{◌≡◌, ℕ, ◌≤◌, List, ◌++◌, length,
 use Rattle.rpc_record.specs.Records.{Unread, Begun, record_of}
 use Rattle.wire.specs.Message.{MessageFits, message_spell}
 use Rattle.wire.specs.declared.message.Message.{Message}
-use Rattle.trace_ends.specs.Core.{Event.Serves, Event.Hears}
 use Rattle.trace_ends.specs.Numbers.{numbered}
 use Rattle.trace_replay.specs.World.{World}
 use Rattle.trace_ends.specs.Wires.{Wire, bytes_of}
 use Rattle.trace_replay.specs.Delivery.{all_happened, up_some, down_some}
 use Rattle.kept_promise.specs.Whole.{up_with, down_with}
+use Rattle.trace_ends.specs.Core.{Event.Serves, Event.Hears}
 
 -- what an end has of a record, and what is on its way to it, are together the bytes of these messages
 abbrev pub AreComing : Unread → (queue : List ℕ) → List Message → Type 0

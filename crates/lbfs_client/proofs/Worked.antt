@@ -1,6 +1,6 @@
 -- Worked lines, over a client that isn't short of memory.
 use Rattle.std.proofs.Common.{◌≡◌, ℕ, List, [], ◌∷◌, ◌++◌, true, false, refl, sym, ◌∙◌, arith, codes}
-use Rattle.std.specs.Prelude.{Option, Some, None, Result, Ok, Err}
+use Rattle.std.specs.Prelude.{Some, None, Ok, Err}
 use Rattle.command_text.specs.declared.command.Command.{Command}
 use Rattle.command_text.specs.declared.command.Command.TheVariants as command
 use Rattle.command_text.specs.declared.content.Part.{Part}
@@ -17,9 +17,8 @@ use Rattle.lbfs_client.specs.declared.line.MountLine.TheVariants as line
 use Rattle.lbfs_client.specs.declared.line.Place.TheVariants as place
 use Rattle.lbfs_client.specs.Client.{Takes, Goes}
 use Rattle.lbfs_client.specs.Host.{Host}
-use Rattle.lbfs_client.specs.Mounting.{Mount, Runs, PutsRead, Stops, joined_step}
+use Rattle.lbfs_client.specs.Mounting.{Mount, Runs, PutsRead, joined_step}
 use Rattle.lbfs_client.specs.Walks.{says, answer_of, Stores.at_close, Opened, Closed, Fetched}
-use Rattle.lbfs_client.specs.declared.walk.Walk.{Walk}
 use Rattle.lbfs_client.specs.declared.walk.Walk.TheVariants as walk
 
 apart : false ≡ true → ⊥

@@ -1,9 +1,9 @@
 -- What a script gives, over several pieces.
-use Rattle.std.proofs.Common.{◌≡◌, ℕ, ◌+◌, List, [], ◌∷◌, ◌++◌, length, Bool, true, false, refl, sym, ap, subst, ◌∙◌, append_assoc, length-append, arith}
-use Rattle.std.specs.Prelude.{Option, Some, None, Result, Ok, Err}
+use Rattle.std.proofs.Common.{◌≡◌, ℕ, ◌+◌, List, [], ◌∷◌, ◌++◌, length, true, false, refl, sym, ap, subst, ◌∙◌, append_assoc, length-append, arith}
+use Rattle.std.specs.Prelude.{Option, Some, None, Result, Err}
 use Rattle.std.specs.Io.KnownBytes.{Consumes}
 use Rattle.command_text.specs.Parts.{lines_of}
-use Rattle.lbfs_mount.specs.Script.{Coming, coming, MayFollow, Takes, Gives}
+use Rattle.lbfs_mount.specs.Script.{Coming, coming, Takes, Gives}
 
 -- a piece that was split
 pub takes_piece : (old new : Coming) (piece : List ℕ) → ((more : List ℕ) → old.lines ++ lines_of (old.rest ++ (piece ++ more)) ≡ new.lines ++ lines_of (new.rest ++ more)) → new.taken ≡ old.taken + length piece → Takes old piece new

@@ -1,7 +1,7 @@
 -- The lines of bytes that come in pieces.
 use Rattle.std.proofs.Common.{◌≡◌, ℕ, suc, ◌+◌, ◌<◌, ◌≤◌, ◌==◌, List, [], ◌∷◌, ◌++◌, Bool, true, false, not, ◌||◌, cond, length, take, drop, arith, refl, sym, ap, subst, ◌∙◌, append_assoc}
 use Rattle.std.specs.Bool.{if◌then◌else◌}
-use Rattle.std.specs.List.{position_or_len, before_first, after_first, onto_first, list_any}
+use Rattle.std.specs.List.{position_or_len, before_first, after_first, onto_first}
 use Rattle.command_text.specs.Parts.{lines_of}
 use Rattle.lbfs_mount.specs.Script.{has_feed}
 

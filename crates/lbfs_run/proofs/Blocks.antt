@@ -1,10 +1,10 @@
 -- Each line of a block is taken.
-use Rattle.std.proofs.Common.{◌≡◌, ℕ, suc, ◌+◌, ◌*◌, ◌/◌, ◌%◌, ◌^◌, ◌<◌, ◌≤◌, ◌==◌, List, [], ◌∷◌, ◌++◌, length, Bool, true, false, cond, codes, decimal, refl, arith}
+use Rattle.std.proofs.Common.{◌≡◌, ℕ, ◌+◌, ◌*◌, ◌/◌, ◌%◌, ◌^◌, ◌<◌, ◌≤◌, ◌==◌, List, [], ◌∷◌, ◌++◌, Bool, true, false, cond, decimal, arith}
 use Rattle.command_text.specs.declared.command.Command.TheVariants.{Open, Write, Close, Abandon}
 use Rattle.command_text.specs.declared.content.Part.TheVariants.{Bytes}
 use Rattle.trace_replay.specs.Run.{line_most}
 use Rattle.trace_replay.specs.Timed.{Timed}
-use Rattle.trace_generator.specs.Lines.{choice, client_of, file_of, offset_of, time_of, do_line, pass_line, settle_line, on_file, write_command, all_lines, change_lines, abandon_lines, rest_lines, chosen_lines, block_lines}
+use Rattle.trace_generator.specs.Lines.{choice, client_of, file_of, offset_of, time_of, pass_line, change_lines, abandon_lines, block_lines}
 use Rattle.lbfs_run.proofs.Spelled.{pass_said, settle_said, open_said, write_said, close_said, abandon_said}
 use Rattle.lbfs_run.proofs.Steps.{Stands, Leads, no_lines, IsClient, does_then, passes_then, settles_then}
 

@@ -2,7 +2,7 @@
 use Rattle.std.proofs.Common.{◌≡◌, ℕ, zero, suc, ◌+◌, ◌*◌, ◌/◌, ◌%◌, ◌^◌, ◌<◌, ◌≤◌, ◌==◌, List, [], ◌∷◌, ◌++◌, Bool, true, false, cond, codes, decimal, refl, ap, ◌∙◌, arith}
 use Rattle.std.specs.List.{list_any, AllByRecursion}
 use Rattle.std.specs.Fmt.{digits}
-use Rattle.trace_generator.specs.Lines.{choice, client_of, file_of, offset_of, time_of, file_line, join_line, do_line, pass_line, settle_line, on_file, write_command, open_lines, change_lines, abandon_lines, rest_lines, block_lines, opening_lines, generated_lines}
+use Rattle.trace_generator.specs.Lines.{choice, client_of, file_of, offset_of, time_of, file_line, join_line, do_line, pass_line, on_file, write_command, change_lines, abandon_lines, block_lines, opening_lines, generated_lines}
 use Rattle.lbfs_run.proofs.Words.{fed_then, fed_last}
 use Rattle.lbfs_run.proofs.Spelled.{pass_pieces, do_pieces, write_pieces, file_pieces}
 

@@ -1,6 +1,6 @@
 -- The lines in front of the blocks are taken: the header, eight files, and four clients that join.
-use Rattle.std.proofs.Common.{◌≡◌, ◌⊎◌, inl, inr, ℕ, zero, suc, ◌+◌, ◌*◌, ◌%◌, ◌^◌, ◌<◌, ◌≤◌, List, [], ◌∷◌, ◌++◌, length, Option, Some, None, Bool, true, false, codes, decimal, refl, sym, subst, ap, ◌∙◌, arith}
-use Rattle.std.specs.Prelude.{Result, Ok, Err, map, nat_le, nat_lt, replicate, ◌&&◌, if◌then◌else◌}
+use Rattle.std.proofs.Common.{◌≡◌, ◌⊎◌, inl, inr, ℕ, zero, suc, ◌+◌, ◌*◌, ◌%◌, ◌^◌, ◌<◌, ◌≤◌, List, [], ◌∷◌, ◌++◌, length, Option, Some, None, Bool, true, false, decimal, refl, sym, subst, ap, ◌∙◌, arith}
+use Rattle.std.specs.Prelude.{Result, Ok, Err, map, nat_lt, replicate, ◌&&◌, if◌then◌else◌}
 use Rattle.std.specs.Fmt.{digits}
 use Rattle.std.proofs.lemmas.Bool.Decides.{nat_tests}
 use Rattle.clock_rule.specs.Keeping.{at_first, and_reading}
@@ -30,8 +30,8 @@ use Rattle.trace_ends.specs.Core.{Core, Event.Joins, joins, joins_as, happens}
 use Rattle.trace_ends.specs.Session.{Seat, Session, new_seat, new_session}
 use Rattle.trace_ends.specs.Numbers.{numbered, with_numbered}
 use Rattle.trace_replay.specs.World.{World, start}
-use Rattle.trace_replay.specs.Run.{line_most, file_most, tree_most, sessions_most, place_for, sized, file_asks, joins_if, joins_within, event_asks, asks_at, asks, at_events, with_clients, turned}
-use Rattle.trace_replay.specs.Timed.{Timed, Times, read_by, times_with, timing_of, owners_of, timed_start, timed_turn}
+use Rattle.trace_replay.specs.Run.{line_most, file_most, tree_most, sessions_most, place_for, sized, file_asks, joins_if, joins_within, event_asks, asks_at, asks, with_clients}
+use Rattle.trace_replay.specs.Timed.{Timed, Times, read_by, timed_start, timed_turn}
 use Rattle.trace_replay.proofs.Going.{applied_then}
 use Rattle.trace_generator.specs.Lines.{header, file_line, join_line, opening_lines}
 use Rattle.lbfs_run.proofs.Spelled.{root_spot, file_said}

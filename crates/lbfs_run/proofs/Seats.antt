@@ -6,12 +6,12 @@ use Rattle.wire.specs.Parse.{parse_of}
 use Rattle.wire.specs.declared.message.Message.{Message}
 use Rattle.wire.specs.declared.fault.WireFault.{WireFault}
 use Rattle.command_text.specs.declared.command.Command.{Command}
-use Rattle.trace_ends.specs.Core.{Core, Event, Event.Does, Event.Serves, Event.Hears, Event.Settles, server_waiting, serves, serves_if, hears, hears_at, hears_if, does}
+use Rattle.trace_ends.specs.Core.{Event.Does, Event.Serves, Event.Hears, server_waiting, serves, serves_if, hears, hears_at, hears_if, does}
 use Rattle.trace_ends.specs.Session.{Seat, Session, is_newest}
 use Rattle.trace_ends.specs.Numbers.{numbered, with_numbered}
 use Rattle.trace_replay.specs.World.{World, happened}
 use Rattle.trace_ends.specs.Wires.{Wire}
-use Rattle.trace_replay.specs.Delivery.{all_happened, up_some, up_at, up_taken, down_some, down_at, down_taken, up_all, down_all, up_length, down_length, is_still, round, passes}
+use Rattle.trace_replay.specs.Delivery.{all_happened, up_some, up_at, up_taken, down_some, down_at, down_taken, up_all, up_length, down_length, is_still, round, passes}
 
 abbrev count : World → ℕ
 count w = length w.core.seats

@@ -1,26 +1,24 @@
 -- What the lines of a generated trace say.
-use Rattle.std.proofs.Common.{◌≡◌, ℕ, suc, ◌+◌, ◌-◌, ◌^◌, ◌<◌, ◌≤◌, ◌==◌, List, [], ◌∷◌, ◌++◌, Bool, true, false, not, ◌&&◌, ◌||◌, cond, length, take, drop, Option, Some, None, arith, rules, refl, sym, ap, ◌∙◌, append_assoc, decimal, codes}
-use Rattle.std.specs.Prelude.{All, nat_le, nat_lt, bytes_eq}
+use Rattle.std.proofs.Common.{◌≡◌, ℕ, suc, ◌+◌, ◌-◌, ◌^◌, ◌<◌, ◌≤◌, ◌==◌, List, [], ◌∷◌, ◌++◌, Bool, true, false, ◌&&◌, ◌||◌, cond, length, Option, Some, arith, rules, refl, ap, ◌∙◌, append_assoc, decimal, codes}
+use Rattle.std.specs.Prelude.{All, nat_le, bytes_eq}
 use Rattle.std.specs.List.{list_all, onto_first}
-use Rattle.std.specs.Char.{is_ascii_alphanumeric}
 use Rattle.std.proofs.lemmas.Bool.Decides.{nat_tests}
 use Rattle.std.proofs.lemmas.Fmt.{decimal_nonempty}
-use Rattle.std.proofs.lemmas.List.Elements.{All-weaker}
 use Rattle.command_text.specs.Commands.{open_at, command_of}
 use Rattle.command_text.specs.declared.command.Command.{Command}
 use Rattle.command_text.specs.declared.command.Command.TheVariants.{Open, Write, Close, Abandon}
 use Rattle.command_text.specs.declared.content.Part.{Part}
 use Rattle.command_text.specs.declared.content.Part.TheVariants.{Bytes, Random}
-use Rattle.command_text.specs.Fields.{◌>>=◌, number_of, number_within, is_letter, is_text, text_of, count_of, random_of, part_of, parts_of, content_of, id_of}
-use Rattle.command_text.specs.Parts.{cut_at, words_of}
+use Rattle.command_text.specs.Fields.{◌>>=◌, number_of, is_letter, text_of, count_of, random_of, parts_of, content_of, id_of}
+use Rattle.command_text.specs.Parts.{words_of}
 use Rattle.command_text.specs.Paths.{spot_of}
 use Rattle.command_text.specs.declared.path.Spot.{Spot}
 use Rattle.command_text.proofs.Decimals.{number_again}
-use Rattle.trace_text.specs.Grammar.{is_skipped, do_with, line_of, line_from, said_by, do_of, pass_of, settle_of, file_of}
+use Rattle.trace_text.specs.Grammar.{is_skipped, do_with, line_of, said_by}
 use Rattle.trace_text.specs.Fields.{reading_of}
 use Rattle.trace_text.specs.declared.line.Line.{Line}
 use Rattle.trace_text.specs.declared.line.Line.TheVariants as line
-use Rattle.trace_generator.specs.Lines.{file_line, join_line, do_line, pass_line, settle_line, on_file, write_command}
+use Rattle.trace_generator.specs.Lines.{do_line, pass_line, settle_line, on_file, write_command}
 use Rattle.lbfs_run.proofs.Words.{IsDigit, digits_in, word_then, word_last, word_with, one_part, one_part_with, before_colon, after_colon}
 
 -- ---- pieces, one behind the other

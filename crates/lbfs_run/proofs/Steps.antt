@@ -1,9 +1,8 @@
 -- Lines that are taken, one after the other.
-use Rattle.std.proofs.Common.{◌≡◌, ◌⊎◌, inl, inr, ℕ, zero, suc, ◌+◌, ◌<◌, ◌≤◌, List, [], ◌∷◌, ◌++◌, length, Option, Some, None, Bool, true, false, refl, sym, ap, ◌∙◌, arith}
+use Rattle.std.proofs.Common.{◌≡◌, ◌⊎◌, ℕ, zero, suc, ◌+◌, ◌<◌, ◌≤◌, List, [], ◌∷◌, ◌++◌, length, Option, Some, Bool, true, refl, sym, ap, ◌∙◌, arith}
 use Rattle.std.specs.Prelude.{Result, Ok, Err, map, nat_le, slice_get}
 use Rattle.std.proofs.lemmas.Bool.Decides.{nat_tests}
 use Rattle.std.proofs.lemmas.List.{length-append}
-use Rattle.clock_rule.specs.Clocks.{Clocked, read_at}
 use Rattle.clock_rule.specs.Keeping.{and_reading}
 use Rattle.clock_rule.specs.declared.rule.ClockFault.{ClockFault}
 use Rattle.clock_rule.specs.declared.rule.Reading.TheVariants as reads
@@ -15,14 +14,13 @@ use Rattle.trace_text.specs.declared.refusal.LineFault.{LineFault}
 use Rattle.trace_replay.specs.declared.fault.Refused.{Refused}
 use Rattle.trace_replay.specs.declared.stage.Stage.{Stage}
 use Rattle.trace_replay.specs.declared.stage.Stage.TheVariants as stage
-use Rattle.trace_replay.specs.declared.timing.Timing.{Timing}
 use Rattle.trace_replay.specs.declared.timing.Timing.TheVariants as timing
 use Rattle.trace_replay.specs.declared.turn.Turn.{Turn}
 use Rattle.trace_replay.specs.declared.turn.Turn.TheVariants as turn
 use Rattle.trace_ends.specs.Session.{Session}
 use Rattle.trace_ends.specs.Numbers.{numbered}
 use Rattle.trace_replay.specs.World.{World}
-use Rattle.trace_replay.specs.Run.{line_most, is_there, asks_if, asks_at, asks, asks_within, at_events, turned, refused}
+use Rattle.trace_replay.specs.Run.{line_most, is_there, asks_if, asks_at, asks, asks_within, at_events, refused}
 use Rattle.trace_replay.specs.Timed.{Timed, Times, timing_of, pass_timing, owners_of, read_by, times_with, with_times, times_if, timed_by, timed_turn}
 use Rattle.trace_replay.specs.Lines.{applied_from}
 use Rattle.trace_replay.proofs.Going.{applied_then}

@@ -4,7 +4,6 @@ use Rattle.std.proofs.Common.{refl, sym, ap, ◌∙◌, append_assoc}
 use Rattle.std.proofs.lemmas.List.{append-nil}
 use Rattle.std.specs.Io.KnownBytes.{Consumes}
 use Rattle.record_ends.specs.Ends.{Kept, coming, nothing_kept, Gives, Takes}
-use Rattle.rpc_record.specs.Records.{Parts}
 use Rattle.rpc_record.specs.declared.refusal.Refusal.{Refusal}
 use Rattle.record_ends.proofs.Coming.{consumes_more}
 use Rattle.lbfs_server.specs.Ends.{IsSpoilt}

@@ -1,13 +1,11 @@
 -- What stays known of a store over several events.
 use Rattle.std.specs.Prelude.{◌≡◌, ℕ, ◌≤◌, List, Option, Some, None, Bool, true, false}
-use Rattle.std.proofs.Common.{refl, sym, ap, ◌∙◌, subst, arith}
-use Rattle.lb_base.specs.Causes.{Rose}
+use Rattle.std.proofs.Common.{refl, ◌∙◌, subst, arith}
 use Rattle.store.specs.declared.record.Kept.{Kept}
 use Rattle.tree_reading.specs.Tree.{Tree}
 use Rattle.file_tree.specs.Stores.{Keeps, IsLeft, IsFault}
 use Rattle.server_core.specs.declared.event.Event.{Event}
 use Rattle.server_core.specs.declared.event.ServerStep.{ServerStep}
-use Rattle.server_core.specs.Served.{IsServed}
 use Rattle.server_core.specs.State.{State}
 use Rattle.lbfs_server.specs.Kept.{KeptState, Steps, StoreKeeps}
 

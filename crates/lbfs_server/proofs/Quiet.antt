@@ -8,10 +8,8 @@ use Rattle.server_core.specs.declared.change.Change.{Change}
 use Rattle.server_core.specs.declared.change.Wanted.{Wanted}
 use Rattle.server_core.specs.declared.change.Wanted.TheVariants as wanted
 use Rattle.server_core.specs.declared.event.Event.TheVariants as event
-use Rattle.server_core.specs.declared.event.Sent.{Sent}
 use Rattle.server_core.specs.declared.event.ServerStep.{ServerStep}
 use Rattle.server_rules.specs.declared.told.Told.{Told}
-use Rattle.server_rules.specs.declared.told.Told.TheVariants as told
 use Rattle.lbfs_server.specs.declared.held.Went.TheVariants as went
 use Rattle.lbfs_server.specs.Held.{settled_as}
 use Rattle.lbfs_server.specs.Kept.{Steps}

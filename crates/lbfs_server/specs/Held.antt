@@ -1,5 +1,5 @@
 -- What the threads of a server share, and what an event makes of it.
-use Rattle.std.specs.Prelude.{◌≡◌, ◌⊎◌, ℕ, List, [], ◌∷◌, ◌++◌, Bool, true, false, ◌==◌, if◌then◌else◌, Result, Ok, Err, Option}
+use Rattle.std.specs.Prelude.{◌≡◌, ◌⊎◌, ℕ, List, [], ◌∷◌, ◌++◌, Bool, true, ◌==◌, if◌then◌else◌, Result, Ok, Err, Option}
 use Rattle.slab.specs.Slab.{Slab}
 use Rattle.lbfs_server.specs.declared.boxes.Outbox.{Outbox}
 use Rattle.lbfs_server.specs.Boxes.{Holds, Lacks, KeepsOthers}

@@ -11,7 +11,7 @@ use Rattle.std.proofs.lemmas.Map.Views.{IsInRange-from_range_contains, range_con
 use Rattle.lease_table.specs.Reserved.{at, all_of, AreApart, IsWhole}
 use Rattle.lease_table.proofs.Merged.{all_filtered, any_all}
 use Rattle.lease_table.proofs.Placing.{part_apart}
-use Rattle.lease_table.proofs.Whole.{found_held, some_held, some_spared, none_of_both}
+use Rattle.lease_table.proofs.Whole.{some_held, some_spared, none_of_both}
 
 ranged : {K V : Type 0} (R : K → K → Ordering) (m : BTreeMap K V) (a b first last : K) → a ≡ first → b ≡ last → (r : List (K × V)) → IsRangeOf R (Included a) (Included b) m r → IsRangeOf R (Included first) (Included last) m r
 ranged R m a b first last p q r range = subst (λ x. IsRangeOf R (Included x) (Included last) m r) p (subst (λ y. IsRangeOf R (Included a) (Included y) m r) q range)

@@ -1,23 +1,23 @@
 -- What is done to the leases under their keys comes to what is done to the list of them.
-use Rattle.std.proofs.Common.{◌≡◌, ℕ, ◌+◌, ◌<◌, ◌≤◌, ◌^◌, List, [], ◌∷◌, length, Option, Some, None, Result, Ok, Err, Bool, true, false, true≢false, refl, sym, ap, subst, ◌∙◌, arith}
+use Rattle.std.proofs.Common.{◌≡◌, ℕ, ◌+◌, ◌<◌, ◌≤◌, ◌^◌, List, [], ◌∷◌, Option, Some, None, Result, Ok, Err, Bool, true, false, true≢false, refl, sym, ap, subst, ◌∙◌, arith}
 use Rattle.std.specs.Prelude.{cond, not, filter, map, ◌&&◌, ◌||◌, ◌==◌, nat_lt, is_some, IsSome, IfOk, OnOk, OnErr}
 use Rattle.std.specs.BTreeMap.{insert_entry, is_at}
 use Rattle.std.specs.BTreeMap.Range.{range_contains, entries_between}
 use Rattle.std.specs.List.{All, AllByRecursion, list_any}
 use Rattle.std.specs.Map.{keys_of, remove_entry}
 use Rattle.std.specs.Option.{option_map}
-use Rattle.std.specs.Ordering.{nat_cmp, ordering_then, is_le, is_lt}
+use Rattle.std.specs.Ordering.{is_le, is_lt}
 use Rattle.std.specs.declared.ops.Bound.TheVariants.{Included}
 use Rattle.std.proofs.lemmas.Bool.Decides.{nat_tests}
 use Rattle.std.proofs.lemmas.List.Elements.{All-head, All-tail}
 use Rattle.lease_table.proofs.Entries.{same_key}
 use Rattle.lease_rules.specs.declared.lease.Held.{Held}
 use Rattle.lease_rules.specs.declared.lease.Lease.{Lease}
-use Rattle.lease_table.specs.Leases.{is_on, is_recall, remembers, blocks, is_wanted_back, is_blocked, others, lease_at, lease_of, with_lease, grant, mark, marked, without_lease, without_recalled, without_ended}
+use Rattle.lease_table.specs.Leases.{is_on, is_recall, remembers, blocks, is_wanted_back, is_blocked, others, lease_at, grant, mark, marked, without_lease, without_recalled, without_ended}
 use Rattle.lease_table.specs.Order.{AreOrdered}
 use Rattle.lease_table.specs.Kept.{by_two, Entries, Keys, lease_from, leases_of, held_at, is_listed, is_recalled, is_ending, FitsKey, AreKept}
 use Rattle.lease_table.proofs.Lists.{filter_all, filter_kept_all, some_is}
-use Rattle.lease_table.proofs.Keeping.{one_at, all_found, found_on}
+use Rattle.lease_table.proofs.Keeping.{one_at, all_found}
 use Rattle.lease_table.proofs.UnderKeys.{two_total, two_exact, put_is, removed_is, found_is, ordered_is}
 
 -- ---- one lease

@@ -1,8 +1,7 @@
 -- What stands beside the leases goes with them, as one is put in or taken out.
 use Rattle.std.proofs.Common.{◌≡◌, ℕ, ◌+◌, ◌<◌, ◌≤◌, ◌^◌, List, [], ◌∷◌, length, Option, Some, None, Bool, true, false, true≢false, refl, sym, ap, subst, ◌∙◌, arith}
-use Rattle.std.specs.Prelude.{cond, ◌&&◌, ◌==◌, is_some, IsSome, sum_by, unwrap_or}
+use Rattle.std.specs.Prelude.{cond, ◌&&◌, ◌==◌, is_some, sum_by, unwrap_or}
 use Rattle.std.specs.BTreeMap.{insert_entry, is_at}
-use Rattle.std.specs.List.{All}
 use Rattle.std.specs.List.Sorted.{IsStrictlySortedBy}
 use Rattle.std.specs.Map.{keys_of, values_of, remove_entry}
 use Rattle.std.specs.Option.{option_map}

@@ -1,5 +1,5 @@
 -- Entries in reserved places that are looked through one by one.
-use Rattle.std.proofs.Common.{◌≡◌, refl, sym, ap, subst, ◌∙◌, ℕ, suc, ◌+◌, ◌<◌, List, [], ◌∷◌, length, drop, Bool, true, false, true≢false, Option, Some, None, arith}
+use Rattle.std.proofs.Common.{◌≡◌, refl, sym, ap, subst, ◌∙◌, ℕ, suc, ◌+◌, ◌<◌, List, [], ◌∷◌, length, drop, Bool, true, false, true≢false, Option, Some, arith}
 use Rattle.std.specs.Prelude.{cond, slice_index_or, IsSome, ◌&&◌, not}
 use Rattle.std.specs.BTreeMap.{is_at}
 use Rattle.std.specs.BTreeMap.Range.{range_contains}

@@ -1,6 +1,6 @@
 -- What a call does to a map and the reserved places beside it, it does to the list of all entries.
 use Rattle.std.proofs.Common.{◌≡◌, ◌⊎◌, inl, inr, refl, sym, ap, subst, ◌∙◌, ℕ, ◌+◌, ◌<◌, ◌≤◌, List, [], ◌∷◌, ◌++◌, length, Bool, true, false, true≢false, Option, Some, None, arith}
-use Rattle.std.specs.Prelude.{cond, is_some, IsSome, IfSome, IfNone, not, filter}
+use Rattle.std.specs.Prelude.{cond, IsSome, not}
 use Rattle.std.specs.BTreeMap.{insert_entry, is_at}
 use Rattle.std.specs.Cmp.{IsTotalOrder}
 use Rattle.std.specs.List.Sorted.{IsStrictlySortedBy}

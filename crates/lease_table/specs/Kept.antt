@@ -1,5 +1,5 @@
 -- How the leases are kept: each under its file and its session; and beside them which RECALLs they remember, and when they end.
-use Rattle.std.specs.Prelude.{◌≡◌, ℕ, ◌<◌, ◌^◌, List, Option, Some, None, Bool, true, false, ◌==◌, is_some, length, map, sum_by}
+use Rattle.std.specs.Prelude.{◌≡◌, ℕ, ◌<◌, ◌^◌, List, Option, Some, None, Bool, false, ◌==◌, is_some, length, map, sum_by}
 use Rattle.std.specs.BTreeMap.{insert_entry, is_at}
 use Rattle.std.specs.List.{All}
 use Rattle.std.specs.List.Sorted.{IsStrictlySortedBy}

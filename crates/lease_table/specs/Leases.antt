@@ -1,6 +1,6 @@
 -- Leases (Gray and Cheriton, SOSP 1989). Who has a lease on a file is asked before the file is
 -- changed, until the lease ends. A session has one lease on a file at most.
-use Rattle.std.specs.Prelude.{ℕ, List, ◌∷◌, ◌++◌, Option, Some, None, Bool, true, false, not, ◌&&◌, ◌||◌, ◌==◌, nat_lt, find, filter, map}
+use Rattle.std.specs.Prelude.{ℕ, List, ◌∷◌, ◌++◌, Option, Some, None, Bool, not, ◌&&◌, ◌||◌, ◌==◌, find, filter, map}
 use Rattle.std.specs.List.{list_any}
 use Rattle.lease_rules.specs.declared.lease.Lease.{Lease}
 pub use Rattle.lease_rules.specs.Leases.{is_on, is_before, is_behind, is_others, blocks, is_none, is_wanted_back, is_recall, remembers, without_ended}

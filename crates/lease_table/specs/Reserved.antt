@@ -1,5 +1,5 @@
 -- A map beside places that were reserved for entries that find no memory in it.
-use Rattle.std.specs.Prelude.{◌≡◌, ◌⊎◌, ◌<◌, ℕ, length, IsSome, List, [], ◌∷◌, Option, Some, None, Bool, not, filter}
+use Rattle.std.specs.Prelude.{◌≡◌, ◌⊎◌, ◌<◌, ℕ, length, IsSome, List, [], ◌∷◌, Option, Some, None, not, filter}
 use Rattle.std.specs.BTreeMap.{insert_entry, is_at}
 use Rattle.std.specs.List.Sorted.{IsStrictlySortedBy}
 use Rattle.std.specs.Map.{keys_of, lookup}

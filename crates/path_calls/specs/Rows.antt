@@ -12,13 +12,12 @@ use Rattle.nfs3_calls.specs.declared.listing.Entry.{Entry}
 use Rattle.nfs3_calls.specs.declared.message.Nfs.{Nfs}
 use Rattle.nfs3_calls.specs.declared.message.Nfs.TheVariants as nfs
 use Rattle.path_calls.specs.declared.answers.Ended.TheVariants as ended
-use Rattle.path_calls.specs.declared.answers.Told.{Told}
 use Rattle.path_calls.specs.declared.answers.Told.TheVariants as told
 use Rattle.command_text.specs.declared.path.PathCommand.TheVariants as command
 use Rattle.command_text.specs.declared.path.Spot.{Spot}
 use Rattle.path_calls.specs.declared.walk.Goal.TheVariants as goal
 use Rattle.path_calls.specs.declared.walk.Walk.{Walk}
-use Rattle.path_calls.specs.Walk.{begun, next_call, place, keeps_all, rename_call, create_call, page_call, no_pages}
+use Rattle.path_calls.specs.Walk.{begun, next_call, place, keeps_all, rename_call}
 use Rattle.path_calls.specs.Told.{walk_told, lacks}
 
 -- a name in the directory d of the root, and one in the root

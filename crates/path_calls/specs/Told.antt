@@ -1,5 +1,5 @@
 -- What comes of an answer: the walk goes on, or it ends.
-use Rattle.std.specs.Prelude.{ℕ, ◌+◌, ◌*◌, List, [], ◌∷◌, ◌++◌, length, map, Option, Some, None, Bool, true, false, nat_le}
+use Rattle.std.specs.Prelude.{ℕ, ◌+◌, ◌*◌, List, [], ◌∷◌, ◌++◌, map, Option, Some, None, Bool, true, false, nat_le}
 use Rattle.xdr_codec.specs.Handle.{file_of}
 use Rattle.xdr_codec.specs.declared.answer.Answer.{Answer}
 use Rattle.xdr_codec.specs.declared.answer.Answer.TheVariants.{Done, Failed}
@@ -10,7 +10,6 @@ use Rattle.nfs3_calls.specs.declared.listing.Listing.{Listing}
 use Rattle.nfs3_calls.specs.declared.message.Nfs.{Nfs}
 use Rattle.nfs3_calls.specs.declared.message.Nfs.TheVariants as nfs
 use Rattle.nfs3_calls.specs.declared.place.Found.{Found}
-use Rattle.path_calls.specs.declared.answers.Ended.{Ended}
 use Rattle.path_calls.specs.declared.answers.Ended.TheVariants as ended
 use Rattle.path_calls.specs.declared.answers.Told.{Told}
 use Rattle.path_calls.specs.declared.answers.Told.TheVariants as told

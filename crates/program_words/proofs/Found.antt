@@ -1,5 +1,5 @@
 -- What an option was given, and what follows from it.
-use Rattle.std.proofs.Common.{◌≡◌, ◌&&◌, ℕ, Bool, true, false, not, List, Option, Some, None, refl, sym, ap, ◌∙◌}
+use Rattle.std.proofs.Common.{◌≡◌, ◌&&◌, ℕ, Bool, true, false, not, List, Option, refl, ◌∙◌}
 use Rattle.std.specs.Borrow.{Bor}
 use Rattle.std.specs.Option.{option_map}
 use Rattle.clap.proofs.WalkLemmas.{first_value-rows}

@@ -5,7 +5,7 @@ use Rattle.std.proofs.lemmas.Bool.{eqb-true}
 use Rattle.std.proofs.lemmas.List.{length-drop, take_all, drop_all}
 use Rattle.limits.specs.declared.TheConstants.{RECORD_MOST, FRAGMENTS_MOST}
 use Rattle.rpc_record.specs.declared.fragments.Header.{Header}
-use Rattle.rpc_record.specs.Records.{header_of, Whole, front, record_of, Parts, split}
+use Rattle.rpc_record.specs.Records.{header_of, Whole, front, record_of, split}
 use Rattle.rpc_record.specs.Progress.{IsAlone}
 use Rattle.rpc_record.proofs.Fronts.{header_long, front_last, append_none}
 use Rattle.rpc_record.proofs.Splitting.{split_whole}

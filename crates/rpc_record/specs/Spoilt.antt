@@ -4,7 +4,6 @@ use Rattle.std.specs.List.{flat_map, concat}
 use Rattle.limits.specs.declared.TheConstants.{RECORD_MOST, FRAGMENTS_MOST}
 use Rattle.rpc_record.specs.declared.refusal.Refusal.{Refusal}
 use Rattle.rpc_record.specs.declared.refusal.Refusal.TheVariants.{TooBig, TooManyFragments}
-use Rattle.rpc_record.specs.Records.{}
 use Rattle.rpc_record.specs.Framed.{header_spell, fragment_spell, Framed}
 
 -- a start of a record: whole fragments, none of them its last, and the header of one more

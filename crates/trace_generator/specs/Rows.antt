@@ -1,5 +1,5 @@
 -- Worked traces.
-use Rattle.std.specs.Prelude.{◌≡◌, ℕ, ◌-◌, ◌^◌, List, [], ◌∷◌, codes, refl}
+use Rattle.std.specs.Prelude.{◌≡◌, ◌-◌, ◌^◌, [], ◌∷◌, codes, refl}
 use Rattle.std.specs.Fmt.{digits}
 use Rattle.trace_generator.specs.Lines.{opening_lines, block_lines, generated_lines, generated_text, text_of}
 

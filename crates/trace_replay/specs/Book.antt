@@ -1,5 +1,5 @@
 -- What the promise and its proof speak of when they speak of the past: the files at first, the operations, the journal, and the moments.
-use Rattle.std.specs.Prelude.{◌≡◌, ℕ, ◌+◌, ◌≤◌, ◌<◌, List, length, filter, ◌⊎◌, Option, Some, None, Contains}
+use Rattle.std.specs.Prelude.{◌≡◌, ℕ, ◌+◌, ◌≤◌, ◌<◌, List, length, filter, ◌⊎◌, Some, None, Contains}
 use Rattle.sha1.specs.Sha1.{sha1}
 use Rattle.server_core.specs.declared.journal.Entry.{Entry}
 use Rattle.register_model.specs.Register as register

@@ -1,5 +1,5 @@
 -- When the operations of a history must have ended, and how.
-use Rattle.std.specs.Prelude.{◌≡◌, ◌⊎◌, ℕ, ◌<◌, List, [], ◌∷◌, Bool, true, false, Option, Some, None, IsSome, Contains, slice_get}
+use Rattle.std.specs.Prelude.{◌≡◌, ◌⊎◌, ℕ, ◌<◌, List, [], ◌∷◌, true, false, Option, Some, None, IsSome, Contains, slice_get}
 use Rattle.command_text.specs.declared.command.Command.{Command}
 use Rattle.command_text.specs.declared.command.Command.TheVariants as command
 use Rattle.command_text.specs.declared.path.PathCommand.{PathCommand}
@@ -8,15 +8,14 @@ use Rattle.server_core.specs.declared.change.Change.{Change}
 use Rattle.register_model.specs.declared.op.Op.{Op}
 use Rattle.register_model.specs.declared.op.Outcome.{Outcome}
 use Rattle.register_model.specs.declared.op.Outcome.TheVariants as told
-use Rattle.trace_ends.specs.Commands.{file_of}
 use Rattle.trace_ends.specs.Session.{Seat, Session}
-use Rattle.trace_ends.specs.Core.{Event.Cuts}
 use Rattle.trace_ends.specs.Numbers.{numbered}
 use Rattle.trace_replay.specs.World.{World}
 use Rattle.trace_replay.specs.Delivery.{is_still}
 use Rattle.trace_replay.specs.Trail.{Deed, Moment, deeds_of, step_of}
 use Rattle.trace_replay.specs.Book.{Book}
 use Rattle.trace_replay.specs.Causes.{can_ask, is_busy, local_before}
+use Rattle.trace_ends.specs.Core.{Event.Cuts}
 
 -- nothing is on its way on a session, none of its changes waits, and the server did not see its connection lost
 pub record IsAlone (w : World) (number : ℕ) : Type 0 where

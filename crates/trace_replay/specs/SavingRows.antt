@@ -11,9 +11,9 @@ use Rattle.server_core.specs.Step.{opens_with}
 use Rattle.tree_nodes.specs.declared.node.Body.TheVariants.{File}
 use Rattle.xdr_codec.specs.declared.handle.TheConstants.{ROOT}
 use Rattle.trace_ends.specs.Session.{new_seat}
-use Rattle.trace_ends.specs.Core.{Event.Settles}
 use Rattle.trace_replay.specs.Trail.{Moment, heard_hashed}
 use Rattle.trace_replay.specs.Saving.{known_at, name_answer, first_call}
+use Rattle.trace_ends.specs.Core.{Event.Settles}
 
 -- file 2 is "abc", and the index has these pairs
 abbrev holds : Pairs → Moment

@@ -1,5 +1,5 @@
 -- A run step by step: what happened at each moment, and what was told, sent, taken and hashed then.
-use Rattle.std.specs.Prelude.{◌≡◌, ℕ, zero, suc, ◌+◌, List, [], ◌∷◌, ◌++◌, length, Option, Some, None, Result, Ok, Err, Bool, true, false, not, ◌==◌, flat_map, is_some}
+use Rattle.std.specs.Prelude.{◌≡◌, ℕ, zero, suc, ◌+◌, List, [], ◌∷◌, ◌++◌, Option, Some, None, Result, Ok, Err, Bool, true, false, not, ◌==◌, flat_map, is_some}
 use Rattle.command_text.specs.Content.{content_bytes}
 use Rattle.command_text.specs.declared.command.Command.{Command}
 use Rattle.command_text.specs.Parts.{lines_of}

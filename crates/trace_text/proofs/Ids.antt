@@ -1,5 +1,5 @@
 -- What the grammar keeps of the numbers in a line.
-use Rattle.std.proofs.Common.{◌≡◌, ℕ, ◌<◌, ◌-◌, ◌^◌, List, [], ◌∷◌, Option, Some, None, Bool, true, false, take, drop, refl, arith, subst}
+use Rattle.std.proofs.Common.{◌≡◌, ℕ, ◌<◌, ◌-◌, ◌^◌, List, [], ◌∷◌, Option, Some, None, Bool, true, false, take, drop, refl, arith}
 use Rattle.std.specs.Prelude.{cond, Result, Ok, Err, IfOk, ◌&&◌, codes, bytes_eq, nat_lt, nat_le}
 use Rattle.std.proofs.lemmas.Bool.Decides.{nat_tests}
 use Rattle.command_text.specs.Commands.{open_of, write_of, trunc_of, read_of, close_of, abandon_of, find_of, open_at, one_spot, spot_command, rename_of, list_of, look_of, path_command_of, command_of}

@@ -1,10 +1,9 @@
 -- The names that are read have at most 255 bytes each.
-use Rattle.std.proofs.Common.{◌≡◌, ℕ, zero, suc, ◌-◌, ◌≤◌, List, [], ◌∷◌, ◌++◌, length, take, drop, Option, Some, None, Bool, true, false, refl, arith}
-use Rattle.std.specs.Prelude.{cond, not, ◌&&◌, nat_le, codes, bytes_eq, remove, slice_index_or}
+use Rattle.std.proofs.Common.{◌≡◌, ℕ, zero, suc, ◌-◌, ◌≤◌, List, [], ◌∷◌, ◌++◌, length, take, drop, Some, None, Bool, true, false, refl, arith}
+use Rattle.std.specs.Prelude.{cond, not, ◌&&◌, nat_le, codes, bytes_eq, slice_index_or}
 use Rattle.std.proofs.lemmas.Bool.Decides.{nat_tests}
 use Rattle.limits.specs.declared.TheConstants.{NAME_MOST, PATH_NAMES_MOST}
-use Rattle.command_text.specs.Commands.{find_of, open_at, open_of, one_spot, spot_command, rename_of, list_of, look_of, path_command_of}
-use Rattle.command_text.specs.Fields.{◌>>=◌, is_text, is_name, name_of}
+use Rattle.command_text.specs.Fields.{◌>>=◌, is_text, name_of}
 use Rattle.command_text.specs.Parts.{cut_at}
 use Rattle.command_text.specs.Paths.{names_of, within_path, names_in, spot_at, spot_in, spot_of, path_of}
 use Rattle.command_text.specs.declared.path.PathCommand.{PathCommand}

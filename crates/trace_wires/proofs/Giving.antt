@@ -1,14 +1,12 @@
 -- A queue in pieces, and what an end is given of it.
-use Rattle.std.proofs.Common.{◌≡◌, ◌≢◌, ℕ, zero, suc, ◌+◌, ◌-◌, ◌<◌, ◌≤◌, List, [], ◌∷◌, ◌++◌, length, take, drop, Bool, true, false, slice_index_or, refl, sym, ap, ◌∙◌, subst, arith, append_assoc, length-append}
+use Rattle.std.proofs.Common.{◌≡◌, ◌≢◌, ℕ, suc, ◌+◌, ◌-◌, ◌<◌, ◌≤◌, List, [], ◌∷◌, ◌++◌, length, take, drop, true, false, slice_index_or, refl, sym, ap, ◌∙◌, subst, arith, append_assoc, length-append}
 use Rattle.std.specs.Prelude.{nat_lt, Option, Some, None}
 use Rattle.std.specs.List.{concat}
-use Rattle.std.proofs.lemmas.List.{length-drop, take_all, drop_all, append-nil, take-append-le, drop-append-le, take_at, drop_at}
+use Rattle.std.proofs.lemmas.List.{length-drop, drop_all, append-nil, take-append-le, drop-append-le, take_at, drop_at}
 use Rattle.std.proofs.lemmas.List.Folds.{concat-append}
 use Rattle.rpc_record.specs.Records.{Unread, fed}
-use Rattle.trace_text.specs.declared.line.Amount.{Amount}
-use Rattle.trace_text.specs.declared.line.Amount.TheVariants as amount
 use Rattle.trace_wires.specs.declared.queue.Given.{Given}
-use Rattle.trace_wires.specs.Queue.{is_none, count_of, IsGiven, IsNext}
+use Rattle.trace_wires.specs.Queue.{is_none, IsGiven, IsNext}
 
 abbrev pub AllSome : List (List ℕ) → Type 0
 AllSome pieces = (k : ℕ) (d : List ℕ) → k < length pieces → 0 < length (slice_index_or pieces k d)

@@ -8,7 +8,7 @@ use Rattle.std.proofs.lemmas.Bool.Decides.{nat_tests}
 use Rattle.store.specs.declared.record.Kept.{Kept}
 use Rattle.store.specs.declared.record.Kept.TheVariants as kept
 use Rattle.store.specs.declared.record.NodeRecord.{NodeRecord}
-use Rattle.tree_load.specs.Above.{or_nowhere, spot_by, up_by, ups_by, ups, walk, AreWalks, StayWithin}
+use Rattle.tree_load.specs.Above.{or_nowhere, spot_by, up_by, ups, walk, AreWalks, StayWithin}
 use Rattle.tree_load.specs.Found.{node_found, found_place, AreFirstNodes}
 use Rattle.tree_load.specs.Load.{first_node, place_of, is_at, reaches}
 use Rattle.tree_load.specs.declared.firsts.Found.{Found}

@@ -1,5 +1,5 @@
 -- Records that break no rule keep the tree that they are loaded as.
-use Rattle.std.proofs.Common.{◌≡◌, ℕ, zero, suc, ◌+◌, ◌<◌, ◌≤◌, List, [], ◌∷◌, length, Option, Some, None, Bool, true, false, not, ◌==◌, ◌&&◌, inl, inr, refl, sym, ap, ◌∙◌, subst, arith, if◌then◌else◌, cond, nat_lt}
+use Rattle.std.proofs.Common.{◌≡◌, ℕ, suc, ◌+◌, ◌<◌, ◌≤◌, List, [], ◌∷◌, length, Option, Some, None, Bool, true, false, not, ◌==◌, ◌&&◌, inr, refl, sym, ap, ◌∙◌, subst, arith, if◌then◌else◌, cond, nat_lt}
 use mathlib.Core.Bool.{true≢false}
 use Rattle.std.specs.List.{slice_get, filter, AllByRecursion}
 use Rattle.std.proofs.lemmas.Bool.Decides.{nat_tests}
@@ -13,15 +13,15 @@ use Rattle.store.specs.declared.record.NodeKind.TheVariants as node_kind
 use Rattle.store.specs.declared.record.NodeRecord.{NodeRecord}
 use Rattle.tree_nodes.proofs.Gathering.{found_all}
 use Rattle.tree_nodes.proofs.Order.{not_true}
-use Rattle.tree_nodes.specs.Nodes.{with_id, with_nodes}
+use Rattle.tree_nodes.specs.Nodes.{with_id}
 use Rattle.tree_nodes.specs.declared.node.Node.{Node}
 use Rattle.tree_nodes.specs.declared.node.Body.TheVariants.{Directory, File}
-use Rattle.file_tree.specs.Kept.{node_record, node_records, body_records, content_records, AreRecordsOf, IsKept}
+use Rattle.file_tree.specs.Kept.{node_record, node_records, content_records, IsKept}
 use Rattle.file_tree.specs.Storing.{IsStored}
-use Rattle.tree_reading.specs.Tree.{Tree, root}
-use Rattle.tree_load.proofs.Climbs.{IsFirst, first_is}
+use Rattle.tree_reading.specs.Tree.{root}
+use Rattle.tree_load.proofs.Climbs.{first_is}
 use Rattle.tree_load.proofs.Whole.{NodeFacts, node_facts, ContentFacts, content_facts, well_first, at_both, later_ids, loaded_is, tree_apart, tree_whole, none_behind}
-use Rattle.tree_load.specs.Load.{first_node, first_content, place_of, is_at, is_before, is_directory_kind, content_fits, is_its_files, is_node_well, is_content_well, is_well, first_fault, fault, content_found, node_with, loaded_node, loaded_nodes, loaded_tree}
+use Rattle.tree_load.specs.Load.{first_node, first_content, place_of, is_at, is_directory_kind, content_fits, is_its_files, is_node_well, is_content_well, first_fault, fault, content_found, node_with, loaded_node, loaded_nodes, loaded_tree}
 use Rattle.tree_load.specs.Making.{node_list}
 
 all_map : (P Q : NodeRecord → Type 0) → ((n : NodeRecord) → P n → Q n) → (ns : List NodeRecord) → AllByRecursion P ns → AllByRecursion Q ns

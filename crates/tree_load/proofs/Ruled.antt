@@ -1,5 +1,5 @@
 -- The rules of records, by what stands with them and one after the other.
-use Rattle.std.proofs.Common.{◌≡◌, ℕ, zero, suc, ◌+◌, ◌<◌, ◌≤◌, List, [], ◌∷◌, length, drop, Option, Some, None, Bool, true, false, not, ◌==◌, ◌&&◌, ◌||◌, refl, sym, ap, ◌∙◌, subst, arith, if◌then◌else◌, nat_lt, nat_le, get_or}
+use Rattle.std.proofs.Common.{◌≡◌, ℕ, zero, suc, ◌+◌, ◌<◌, ◌≤◌, List, [], ◌∷◌, length, drop, Option, Some, None, Bool, true, false, ◌==◌, ◌&&◌, ◌||◌, refl, sym, ap, ◌∙◌, arith, if◌then◌else◌, nat_lt, nat_le, get_or}
 use mathlib.Core.Bool.{true≢false}
 use Rattle.std.specs.BTreeMap.{get}
 use Rattle.std.specs.List.{slice_get, slice_index}
@@ -12,7 +12,7 @@ use Rattle.store.specs.declared.record.Kept.TheVariants as kept
 use Rattle.store.specs.declared.record.NodeKind.{NodeKind}
 use Rattle.store.specs.declared.record.NodeKind.TheVariants as node_kind
 use Rattle.store.specs.declared.record.NodeRecord.{NodeRecord}
-use Rattle.tree_reading.specs.Tree.{changes_most, file_most, tree_most}
+use Rattle.tree_reading.specs.Tree.{file_most, tree_most}
 use Rattle.tree_load.proofs.Climbs.{place_same, reach_at, length_ups}
 use Rattle.tree_load.proofs.Tables.{drop_next, drop_past}
 use Rattle.tree_load.specs.Above.{ups, walk}
@@ -20,8 +20,8 @@ use Rattle.tree_load.specs.Known.{IsKnown}
 use Rattle.tree_load.specs.declared.firsts.Found.{Found}
 use Rattle.tree_load.specs.declared.rules.Around.{Around}
 use Rattle.tree_load.specs.declared.rules.Known.{Known}
-use Rattle.tree_load.specs.Found.{NameKey, by_name, node_found, found_place, is_directory_at, fits, is_file_by, is_node_by, is_content_by, around_of}
-use Rattle.tree_load.specs.Load.{first_node, first_named, first_content, place_of, is_at, is_before, is_directory_found, is_name_well, reaches, content_fits, is_its_files, is_node_well, is_content_well, is_well, size_of, first_fault}
+use Rattle.tree_load.specs.Found.{NameKey, by_name, node_found, is_directory_at, fits, is_file_by, is_node_by, is_content_by, around_of}
+use Rattle.tree_load.specs.Load.{first_node, first_named, first_content, place_of, is_at, is_directory_found, is_name_well, reaches, content_fits, is_its_files, is_node_well, is_content_well, is_well, size_of, first_fault}
 
 -- ---- by what stands with them
 

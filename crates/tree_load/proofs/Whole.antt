@@ -1,5 +1,5 @@
 -- What holds of records that break no rule, and of the tree of these.
-use Rattle.std.proofs.Common.{◌≡◌, ℕ, zero, suc, ◌+◌, ◌^◌, ◌<◌, ◌≤◌, List, [], ◌∷◌, map, length, Option, Some, None, Bool, true, false, not, ◌==◌, ◌&&◌, ◌||◌, refl, sym, ap, ◌∙◌, subst, arith, if◌then◌else◌, nat_lt, nat_le}
+use Rattle.std.proofs.Common.{◌≡◌, ℕ, suc, ◌+◌, ◌^◌, ◌<◌, ◌≤◌, List, [], ◌∷◌, map, length, Option, Some, None, Bool, true, false, ◌==◌, ◌&&◌, ◌||◌, refl, sym, ap, ◌∙◌, subst, arith, if◌then◌else◌, nat_lt, nat_le}
 use mathlib.Core.Bool.{true≢false}
 use Rattle.std.specs.List.{AllByRecursion}
 use Rattle.std.specs.Str.{bytes_eq}
@@ -13,7 +13,7 @@ use Rattle.store.specs.declared.record.NodeKind.TheVariants as node_kind
 use Rattle.store.specs.declared.record.NodeRecord.{NodeRecord}
 use Rattle.tree_nodes.proofs.Gathering.{AreNew, new_first, new_moved, found_all}
 use Rattle.tree_nodes.proofs.Lists.{all_with}
-use Rattle.tree_nodes.proofs.Order.{is_named, named_is, not_true}
+use Rattle.tree_nodes.proofs.Order.{named_is, not_true}
 use Rattle.tree_nodes.specs.Nodes.{with_node, with_nodes, Differ, AreApart}
 use Rattle.tree_nodes.specs.View.{NodesState}
 use Rattle.tree_nodes.specs.declared.node.Node.{Node}

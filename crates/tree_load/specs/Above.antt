@@ -2,9 +2,7 @@
 use Rattle.std.specs.Prelude.{◌≡◌, ℕ, zero, suc, ◌+◌, ◌<◌, List, [], ◌∷◌, ◌++◌, map, length, Option, Some, None, ◌==◌, if◌then◌else◌, slice_index}
 use Rattle.store.specs.declared.record.Kept.{Kept}
 use Rattle.store.specs.declared.record.Kept.TheVariants as kept
-use Rattle.store.specs.declared.record.NodeRecord.{NodeRecord}
 use Rattle.tree_load.specs.Load.{first_node, place_of}
-use Rattle.tree_load.specs.declared.firsts.Found.{Found}
 
 -- where the node of an id stands: the root behind all records, and behind it what is nowhere
 abbrev pub or_nowhere : ℕ → Option ℕ → ℕ

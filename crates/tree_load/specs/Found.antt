@@ -1,5 +1,5 @@
 -- Where the first records of ids and names stand, as tables have it, and the rules of a record by what stands with it.
-use Rattle.std.specs.Prelude.{◌≡◌, ℕ, suc, ◌+◌, ◌<◌, List, length, Option, Some, None, Bool, true, false, not, ◌&&◌, ◌||◌, ◌==◌, if◌then◌else◌, nat_lt, nat_le, is_some}
+use Rattle.std.specs.Prelude.{◌≡◌, ℕ, ◌+◌, ◌<◌, List, length, Option, Some, None, Bool, false, not, ◌&&◌, ◌||◌, ◌==◌, if◌then◌else◌, nat_lt, nat_le, is_some}
 use Rattle.std.specs.Borrow.{Bor}
 use Rattle.std.specs.BTreeMap.{BTreeMap, get}
 use Rattle.std.specs.Cmp.Lexicographic.{slice_cmp}
@@ -14,7 +14,7 @@ use Rattle.store.specs.declared.record.NodeKind.{NodeKind}
 use Rattle.store.specs.declared.record.NodeKind.TheVariants as node_kind
 use Rattle.store.specs.declared.record.NodeRecord.{NodeRecord}
 use Rattle.tree_reading.specs.Tree.{file_most, tree_most}
-use Rattle.tree_load.specs.Above.{spot_by, up_by, ups, walk}
+use Rattle.tree_load.specs.Above.{ups, walk}
 use Rattle.tree_load.specs.Load.{first_node, first_named, first_content, is_at, place_of, is_directory_kind, is_name_well}
 use Rattle.tree_load.specs.declared.firsts.Found.{Found}
 use Rattle.tree_load.specs.declared.rules.Around.{Around}

@@ -1,5 +1,5 @@
 -- The nodes of records, on the way to the tree.
-use Rattle.std.specs.Prelude.{◌≡◌, ℕ, List, [], ◌∷◌, map, Option, Some, None, Bool, false, ◌==◌, if◌then◌else◌}
+use Rattle.std.specs.Prelude.{◌≡◌, ℕ, List, [], ◌∷◌, Option, Some, None, false, ◌==◌, if◌then◌else◌}
 use Rattle.std.specs.List.{AllByRecursion}
 use Rattle.store.specs.declared.record.ContentRecord.{ContentRecord}
 use Rattle.store.specs.declared.record.Kept.{Kept}

@@ -1,13 +1,13 @@
 -- Worked rows of the records of a store: the first that breaks a rule, and the tree of those that keep one.
-use Rattle.std.specs.Prelude.{◌≡◌, ℕ, List, [], ◌∷◌, map, Some, None, Option, Result, Ok, Err, replicate, codes, refl, Bool, true, false}
+use Rattle.std.specs.Prelude.{◌≡◌, ℕ, List, [], ◌∷◌, map, Some, None, Option, Result, Ok, Err, replicate, codes, refl}
 use Rattle.store.specs.declared.record.Head.{Head}
 use Rattle.store.specs.declared.record.Kept.{Kept}
 use Rattle.store.specs.declared.record.Kept.TheVariants as kept
 use Rattle.store.specs.declared.record.NodeKind.TheVariants as node_kind
 use Rattle.tree_nodes.specs.declared.node.Node.{Node}
 use Rattle.tree_nodes.specs.declared.node.Body.TheVariants.{Directory, File}
-use Rattle.tree_reading.specs.Tree.{Tree, root, empty, tree_most}
-use Rattle.tree_load.specs.Load.{load, first_fault, is_content_well}
+use Rattle.tree_reading.specs.Tree.{Tree, root, empty}
+use Rattle.tree_load.specs.Load.{load, first_fault}
 
 abbrev file : ℕ → ℕ → List ℕ → ℕ → List ℕ → Node
 file id parent name version bytes = record { id = id; parent = parent; name = name; version = version; body = File bytes }

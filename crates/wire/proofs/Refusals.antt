@@ -10,9 +10,9 @@ use Rattle.rpc_record.specs.declared.header.Direction.{Direction}
 use Rattle.rpc_record.specs.declared.header.Direction.TheVariants as direction
 use Rattle.rpc_record.specs.declared.header.Front.{Front}
 use Rattle.rpc_record.specs.declared.header.CallHead.{CallHead}
-use Rattle.wire.specs.Message.{program_of, body_spell, args_of, result_of, is_call, is_unfit, BodyFits, Says, call_head}
-use Rattle.wire.specs.Parse.{serves, waiting, IsExpected, read_or, fault_at, called, with_args, taken, parse_call_body, parse_call, refusal_of, replied, parse_reply, parse_by, parse_of}
-use Rattle.wire.specs.Refused.{Begins, IsCallIn, IsCallWith, IsOfProgram, AreArguments, WhyUnfit, HasUnfitHead, IsUnfit, IsRpc, IsUnasked, IsGarbage, HaveCauses}
+use Rattle.wire.specs.Message.{program_of, body_spell, args_of, result_of, is_unfit, Says}
+use Rattle.wire.specs.Parse.{waiting, IsExpected, read_or, fault_at, called, with_args, taken, parse_call_body, parse_call, refusal_of, replied, parse_reply, parse_by, parse_of}
+use Rattle.wire.specs.Refused.{Begins, IsCallIn, IsCallWith, AreArguments, WhyUnfit, IsUnfit, IsRpc, IsUnasked, IsGarbage, HaveCauses}
 use Rattle.wire.specs.declared.fault.WireFault.{WireFault}
 use Rattle.wire.specs.declared.fault.WireFault.TheVariants.{NotRpc, UnknownXid, Garbage}
 use Rattle.wire.specs.declared.message.Body.{Body}
@@ -24,7 +24,7 @@ use Rattle.wire.specs.declared.message.Waiting.{Waiting}
 use Rattle.wire.specs.declared.message.Message.{Message}
 use Rattle.wire.specs.declared.message.Message.TheVariants.{Call, Answer, Refuse, Unfit}
 use Rattle.wire.proofs.Again.{args_again, begins, two_fits, said_again, front_fits}
-use Rattle.wire.proofs.Said.{message_is, parsed, read_or_ok, args_found, xid_fits, read_is_said}
+use Rattle.wire.proofs.Said.{message_is, read_or_ok, args_found, xid_fits, read_is_said}
 use Rattle.wire.proofs.Named.{NamesNone, Names, called_names, names_called}
 
 -- ---- what comes of a call, and of a reply

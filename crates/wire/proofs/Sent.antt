@@ -1,6 +1,6 @@
 -- What is sent back for a call that can't be taken, and that it alone has no bytes.
-use Rattle.std.proofs.Common.{◌≡◌, ℕ, ◌+◌, ◌<◌, ◌≤◌, ◌^◌, true, false, List, [], ◌++◌, length, Ok, Err, refl, sym, ap, subst, ◌∙◌, arith, lit<, inl, inr, length-append}
-use Rattle.std.specs.Prelude.{◌↔◌, IsSome}
+use Rattle.std.proofs.Common.{◌≡◌, ℕ, ◌+◌, ◌<◌, ◌≤◌, ◌^◌, true, List, [], ◌++◌, length, Ok, Err, refl, ap, ◌∙◌, arith, lit<, length-append}
+use Rattle.std.specs.Prelude.{◌↔◌}
 use Rattle.xdr_codec.specs.Format.{IsBytes}
 use Rattle.xdr_codec.specs.Xdr.{u32_form, wide32}
 use Rattle.rpc_record.specs.Header.{direction_form, front_form, call_form, reply_form}
@@ -9,7 +9,7 @@ use Rattle.rpc_record.specs.declared.header.Direction.TheVariants as direction
 use Rattle.rpc_record.specs.declared.header.Accept.TheVariants as accept
 use Rattle.rpc_record.specs.declared.header.ReplyHead.TheVariants.{Accepted}
 use Rattle.wire.specs.Message.{program_of, program_version, body_spell, is_unfit, RefusalFits, call_head, refusal_head, no_auth, message_spell}
-use Rattle.wire.specs.Parse.{waiting, parse_of}
+use Rattle.wire.specs.Parse.{parse_of}
 use Rattle.wire.specs.Refused.{IsUnfit, IsRefused, HasNoBytes}
 use Rattle.wire.specs.declared.fault.WireFault.TheVariants.{NotRpc}
 use Rattle.wire.specs.declared.message.Program.{Program}

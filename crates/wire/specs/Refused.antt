@@ -1,5 +1,5 @@
 -- Which records are calls that can't be taken, which are no RPC message, and which answers are none that is awaited: by what stands in them (RFC 5531, section 9: rpc_msg, call_body, accepted_reply, rejected_reply), whatever order they are tested in.
-use Rattle.std.specs.Prelude.{◌≡◌, ◌⊎◌, ◌↔◌, ℕ, ◌<◌, ◌^◌, true, List, [], ◌++◌, Some, None, Ok, Err, IsSome}
+use Rattle.std.specs.Prelude.{◌≡◌, ◌⊎◌, ◌↔◌, ℕ, ◌<◌, ◌^◌, true, List, [], ◌++◌, None, Ok, Err, IsSome}
 use Rattle.xdr_codec.specs.Format.{IsBytes}
 use Rattle.xdr_codec.specs.Xdr.{u32_form}
 use Rattle.rpc_record.specs.Header.{front_form, call_form}

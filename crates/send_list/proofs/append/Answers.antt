@@ -1,4 +1,4 @@
-use Rattle.std.proofs.Common.{List, ◌++◌, ap, ◌∙◌}
+use Rattle.std.proofs.Common.{◌++◌, ap, ◌∙◌}
 use Rattle.send_list.proofs.Appended.{appended}
 use Rattle.send_list.proofs.append.Goals as goal
 

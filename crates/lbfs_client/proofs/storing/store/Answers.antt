@@ -1,7 +1,7 @@
 use Rattle.std.proofs.Common.{sym, ◌∙◌}
 use Rattle.std.proofs.lemmas.Result.{IfOk-weaker}
-use Rattle.lbfs_client.specs.Walks.{Stores.at_trunc, Stores.at_write, Stores.at_close}
 use Rattle.lbfs_client.proofs.storing.store.Goals as goal
+use Rattle.lbfs_client.specs.Walks.{Stores.at_trunc, Stores.at_write, Stores.at_close}
 
 pub returns-then-not-has_done : goal.returns-then-not-has_done
 returns-then-not-has_done c = at_trunc c.in_ok-emptied.ensures (sym c.has_done.ensures ∙ c.if-not-has_done.true)

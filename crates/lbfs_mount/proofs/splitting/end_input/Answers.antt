@@ -1,5 +1,5 @@
-use Rattle.std.proofs.Common.{rules, ◌≡◌, ℕ, List, [], ◌∷◌, ◌++◌, ◌<◌, length, refl, sym, ap, ◌∙◌, arith, subst}
-use Rattle.lbfs_mount.proofs.Lines.{ends_in, ends_empty}
+use Rattle.std.proofs.Common.{rules, ◌≡◌, ℕ, List, [], ◌∷◌, ◌++◌, ◌<◌, length, ap, ◌∙◌}
+use Rattle.lbfs_mount.proofs.Lines.{ends_in}
 use Rattle.lbfs_mount.proofs.splitting.end_input.Goals as goal
 
 pub returns-clause-ok : goal.returns-clause-ok

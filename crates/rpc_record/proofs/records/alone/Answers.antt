@@ -1,4 +1,4 @@
-use Rattle.std.proofs.Common.{List, ℕ, ◌∷◌, ◌++◌, [], length, drop, ap, ◌∙◌, arith}
+use Rattle.std.proofs.Common.{◌∷◌, ◌++◌, [], length, drop, ap, ◌∙◌, arith}
 use Rattle.rpc_record.proofs.Reaching.{reach_start}
 use Rattle.rpc_record.proofs.Alone.{alone_taken}
 use Rattle.rpc_record.proofs.records.alone.Goals as goal

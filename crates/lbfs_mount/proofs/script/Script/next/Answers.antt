@@ -1,7 +1,7 @@
-use Rattle.std.proofs.Common.{rules, ◌≡◌, List, ℕ, [], ◌∷◌, ◌++◌, true, false, refl, ap, sym, ◌∙◌, subst, arith, Err, length-append}
+use Rattle.std.proofs.Common.{rules, ◌≡◌, [], ◌∷◌, ◌++◌, false, refl, ap, sym, ◌∙◌, subst, arith, Err, length-append}
 use Rattle.std.specs.Option.{option_to_list}
 use Rattle.std.proofs.lemmas.Result.{err_from_is_err_and}
-use Rattle.lbfs_mount.specs.Script.{Coming, Takes, Gives}
+use Rattle.lbfs_mount.specs.Script.{Coming, Takes}
 use Rattle.lbfs_mount.proofs.Coming.{takes_none, takes_more, gives_first, consumes_more, error_is, apart}
 use Rattle.lbfs_mount.proofs.script.Script.next.Goals as goal
 
