@@ -14,8 +14,8 @@ use std::io;
 use std::io::{ErrorKind, Read, Write};
 use std::net::{Ipv4Addr, Net, Shutdown, SocketAddr, SocketAddrV4, TcpListener, TcpStream};
 
-/// How often a call is tried in all that was interrupted, or whose peer went before it, until that counts
-/// as a fault.
+/// How many times in all a call is tried that is interrupted, or that accepts a peer who went, before that
+/// counts as a fault.
 const RETRIES: u32 = 16;
 
 /// A link over a TCP connection. It tells nothing of the bytes.
@@ -101,8 +101,8 @@ fn prompt(stream: TcpStream) -> io::Result<TcpLink> {
     Ok(TcpLink::new(stream))
 }
 
-/// The link of the next peer that dialled. One that went before it was accepted is passed over: it is no
-/// fault of the network.
+/// The link of the next peer that dialled. One that went before it was accepted is passed over, unless
+/// too many do at once: it is no fault of the network.
 fn next_link(listener: &TcpListener) -> io::Result<TcpLink> {
     for _ in 0..RETRIES {
         match listener.accept() {

@@ -12,7 +12,7 @@ use crate::sink::{GiveError, Sink};
 use crate::source::{Failed, Source};
 use std::io::{ErrorKind, Read, Write};
 
-/// How often an interrupted call is tried again before it counts as a fault.
+/// How many times in all a call is tried that is interrupted, before that counts as a fault.
 const RETRIES: u32 = 16;
 
 /// A source over a reader, as `StreamSource::new(rt.stdin())`.

@@ -1,5 +1,5 @@
 //! The sessions that stand: whether there is a place for one more, its number, and what goes with one
-//! whose connection is lost. `specs/Sessions.antt` says it.
+//! whose connection is lost. `specs/Sessions.antt` says it. None of this but `Sessions::join` takes memory.
 
 ghost use Rattle.std.specs.Prelude.{◌≡◌, ◌+◌, ◌==◌, length, is_some, not, true, false, IfOk, IfSome, IfNone, OnErr};
 ghost use Rattle.std.specs.List.{list_any};
@@ -32,8 +32,8 @@ impl Model for Sessions {
     ghost invariant = { λ s. All (λ k. k ≤ s.made) s.standing.keys };
 }
 
-/// The number of one session more, where so many stand and so many were ever made: none was it before.
-/// There is none where there is no place. It takes no memory.
+/// The number of one session more, where so many stand and so many were ever made: no session had it before.
+/// There is none where there is no place.
 fn next_session(standing: usize, made: u32) -> Option<u32>
     ensures place { IfSome result (λ session. has_place standing made ≡ true) }
     ensures number { IfSome result (λ session. session ≡ made + 1) }
@@ -46,7 +46,7 @@ fn next_session(standing: usize, made: u32) -> Option<u32>
 }
 
 impl Sessions {
-    /// No sessions. It takes no memory.
+    /// No sessions.
     pub fn new(alloc: Global) -> Sessions
         ensures { result ≡ no_sessions }
     {
@@ -63,7 +63,7 @@ impl Sessions {
         self.standing.len()
     }
 
-    /// Whether a session stands. It takes no memory.
+    /// Whether a session stands.
     pub fn stands(&self, session: u32) -> bool
         ensures { result ≡ list_any (λ k. k == session) self.now.standing }
     {
@@ -88,7 +88,7 @@ impl Sessions {
         Ok(Some(session))
     }
 
-    /// A session stands no longer, if it did; the others do. It takes no memory.
+    /// A session stands no longer, if it did; the others do.
     pub fn leave(&mut self, session: u32)
         ensures { self.new ≡ without self.old session }
     {
@@ -96,14 +96,14 @@ impl Sessions {
     }
 }
 
-/// Whether what is a session's stays where the connection of one is lost. It takes no memory.
+/// Whether what is a session's stays where the connection of one is lost.
 pub fn stays(owner: u32, lost: u32) -> bool
     ensures { result ≡ not (owner == lost) }
 {
     owner != lost
 }
 
-/// Whether what has this owner is the session's, and so goes to it and to no other. It takes no memory.
+/// Whether what has this owner is the session's, and so goes to it and to no other.
 pub fn is_of(owner: u32, session: u32) -> bool
     ensures { result ≡ (owner == session) }
 {
