@@ -13,7 +13,7 @@ use Rattle.server_core.specs.Closing.{answers, names_unless, names_bytes, looked
 use Rattle.server_core.specs.Steps.{sends}
 use Rattle.chunk_calls.specs.Writing.{bytes_known, cond_fault}
 use Rattle.server_core.specs.declared.event.Event.TheVariants as event
-use Rattle.kept_promise.proofs.Common.{Temp, size_most, temp_at, room_fault, piece_fault, assembled, without_temp, nat_lt, if◌then◌else◌, Failed, Status, Body, Message, Indexed, Node, directory, file, node_of, File, Change, ServerStep, server_step, called, got_if, stands, at, makes, makes_unless, commits, commits_to, commits_whole, has_waiting, is_full, Tree, Ask, ask_message, Call, Call.Read, Call.Make, Call.Walks, Entry}
+use Rattle.kept_promise.proofs.Common.{Temp, size_most, temp_at, room_fault, piece_fault, assembled, without_temp, nat_lt, if◌then◌else◌, Failed, Status, Body, Message, Indexed, Node, directory, file, node_of, File, Change, ServerStep, server_step, called, got_if, stands, at, makes, makes_unless, commits, commits_to, commits_whole, has_waiting, is_full, Tree, Ask, ask_message, Call, Call.Walks, Entry}
 use Rattle.server_core.specs.declared.change.Wanted.TheVariants as wanted
 use Rattle.server_core.specs.Step.{asks, asks_tree}
 use Rattle.tree_calls.specs.Waiting.{calls}

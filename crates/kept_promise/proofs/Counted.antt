@@ -5,7 +5,7 @@ use Rattle.wire.specs.declared.message.Body.TheVariants as body
 use Rattle.wire.specs.declared.message.Message.TheVariants as message
 use Rattle.client_state.specs.State as client
 use Rattle.trace_replay.specs.Traffic.{traffic_if, sent_for, taken_for, traffic_of}
-use Rattle.kept_promise.proofs.Common.{nat_tests, Contains, ◌==◌, ◌&&◌, nat_le, slice_get, Done, Message, ClientStep, Counts, Ended, Op, Traffic, TakenCall, ops_after, ops_with, no_traffic, counted, op_after, pointed, pointed_at, Said, all_said, until, is_of, sent_traffic, taken_traffic, both}
+use Rattle.kept_promise.proofs.Common.{nat_tests, Contains, ◌==◌, ◌&&◌, nat_le, slice_get, Done, Message, ClientStep, Counts, Ended, Op, Traffic, TakenCall, ops_after, ops_with, no_traffic, counted, op_after, Said, all_said, until, is_of, sent_traffic, taken_traffic, both, slice_set}
 use Rattle.kept_promise.proofs.Lists.{some_is, nothing_there, of_replaced, of_appended}
 use Rattle.kept_promise.proofs.Tallies.{sent_sum, taken_sum, Tallied}
 
@@ -174,29 +174,23 @@ pub counted_quiet : (ss rs : List Said) (m n : ℕ) (ops : List Op) → m ≤ n 
 counted_quiet ss rs m n ops le h =
     subst (λ z. AreCounted z (rs ++ []) n ops) (sym (append-nil ss)) (subst (λ z. AreCounted ss z n ops) (sym (append-nil rs)) (record { sent_by = said_later m n ss le h.sent_by; taken_by = said_later m n rs le h.taken_by; counts = h.counts; silent = h.silent }))
 
--- an operation gets its point
-pub counted_pointed : (ss rs : List Said) (n step : ℕ) (ops : List Op) (place changed : Option ℕ) → AreCounted ss rs n ops → AreCounted ss rs n (pointed_at ops place step changed)
-counted_pointed ss rs n step ops None changed h = h
-counted_pointed ss rs n step ops (Some place) None h = h
-counted_pointed ss rs n step ops (Some place) (Some file) h = by (slice_get ops place) refl
+-- an operation's change was made
+pub counted_changed : (ss rs : List Said) (n step : ℕ) (ops : List Op) (place file : ℕ) (q : Op) → slice_get ops place ≡ Some q → AreCounted ss rs n ops → AreCounted ss rs n (slice_set ops place (record q { file = file; point = Some step }))
+counted_changed ss rs n step ops place file q e h = record {
+  sent_by = h.sent_by;
+  taken_by = h.taken_by;
+  counts = λ p o at. elim (of_replaced ops place (record q { file = file; point = Some step }) p o at) [
+    | inl new ↦ subst (λ (z : Op). z.traffic ≡ traffic_of z ss rs) (sym new.1) (h.counts place q e ∙ same)
+    | inr old ↦ h.counts p o old.1
+  ];
+  silent = λ p o at. elim (of_replaced ops place (record q { file = file; point = Some step }) p o at) [
+    | inl new ↦ subst (λ (z : Op). z.end ≡ Some z.begin → z.traffic ≡ no_traffic) (sym new.1) (h.silent place q e)
+    | inr old ↦ h.silent p o old.1
+  ];
+}
   where
-    by : (q : Option Op) → slice_get ops place ≡ q → AreCounted ss rs n (pointed ops place file step q)
-    by None e = h
-    by (Some q) e = record {
-      sent_by = h.sent_by;
-      taken_by = h.taken_by;
-      counts = λ p o at. elim (of_replaced ops place (record q { file = file; point = Some step }) p o at) [
-        | inl new ↦ subst (λ (z : Op). z.traffic ≡ traffic_of z ss rs) (sym new.1) (h.counts place q e ∙ same q)
-        | inr old ↦ h.counts p o old.1
-      ];
-      silent = λ p o at. elim (of_replaced ops place (record q { file = file; point = Some step }) p o at) [
-        | inl new ↦ subst (λ (z : Op). z.end ≡ Some z.begin → z.traffic ≡ no_traffic) (sym new.1) (h.silent place q e)
-        | inr old ↦ h.silent p o old.1
-      ];
-    }
-      where
-        same : (q : Op) → traffic_of q ss rs ≡ traffic_of (record q { file = file; point = Some step }) ss rs
-        same q = sym (ap (λ z. both z (taken_for (record q { file = file; point = Some step }) rs)) (sent_alike n q (record q { file = file; point = Some step }) ss (λ s c le. refl) h.sent_by) ∙ ap (both (sent_for q ss)) (taken_alike n q (record q { file = file; point = Some step }) rs (λ s c le. refl) h.taken_by))
+    same : traffic_of q ss rs ≡ traffic_of (record q { file = file; point = Some step }) ss rs
+    same = sym (ap (λ z. both z (taken_for (record q { file = file; point = Some step }) rs)) (sent_alike n q (record q { file = file; point = Some step }) ss (λ s c le. refl) h.sent_by) ∙ ap (both (sent_for q ss)) (taken_alike n q (record q { file = file; point = Some step }) rs (λ s c le. refl) h.taken_by))
 
 -- ---- a client goes on with its operation
 

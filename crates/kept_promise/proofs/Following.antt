@@ -31,8 +31,8 @@ use Rattle.kept_promise.proofs.PathNames.{IsSmall}
 use Rattle.kept_promise.proofs.ServesQuietly.{serves_quiet, IsQuiet}
 use Rattle.kept_promise.proofs.Fits.{FitLaws}
 use Rattle.kept_promise.proofs.MakingGoals.{file_unnamed}
-use Rattle.kept_promise.proofs.VersionRuns.{IsChange, Remembers, Settled, settled_are, change_of}
 use Rattle.kept_promise.proofs.Rights.{gets_file}
+use Rattle.kept_promise.proofs.EventCases.{IsChange, Remembers, Settled, settled_are, change_of}
 
 -- ---- what is carried
 

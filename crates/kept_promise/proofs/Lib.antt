@@ -18,6 +18,8 @@ pub mod OpensLog
 pub mod MetLog
 pub mod OwnLog
 pub mod OpsAfter
+pub mod EventCases
+pub mod OpFacts
 pub mod OneSession
 pub mod OwnedRuns
 pub mod Making

@@ -1,13 +1,12 @@
 -- What was said for operations, in order, and what is true of an operation by that: as a run goes on it stays true of those that nothing is said for.
-use Rattle.std.proofs.Common.{◌⊎◌, inl, inr, ◌≡◌, ℕ, ◌+◌, ◌<◌, ◌≤◌, List, [], ◌∷◌, ◌++◌, length, Option, Some, None, Bool, true, false, refl, sym, ap, ◌∙◌, subst, arith, append-nil}
-use Rattle.client_state.specs.State as client
+use Rattle.std.proofs.Common.{◌⊎◌, inl, inr, ◌≡◌, ℕ, ◌<◌, ◌≤◌, List, [], ◌∷◌, ◌++◌, Option, Some, Bool, true, false, refl, sym, ap, ◌∙◌, arith, append-nil}
 use Rattle.register_model.specs.declared.op.Outcome.{Outcome}
 use Rattle.trace_replay.specs.Traffic.{deals_if}
-use Rattle.kept_promise.proofs.Common.{slice_get, Message, ClientStep, Stage, Task, Op, Word, TakenCall, op_after, place_after, Seat, numbered, with_numbered, ops_with, happens, Moment, step_of, client_of, taken_by, given_by, is_in, Deal, deals_with, deals_in, deals_of}
+use Rattle.kept_promise.proofs.Common.{slice_get, Message, Stage, Op, Word, Seat, numbered, happens, Moment, step_of, client_of, taken_by, given_by, is_in, Deal, deals_with, deals_in, deals_of}
 use Rattle.kept_promise.proofs.Messages.{Job, job}
 use Rattle.kept_promise.proofs.Adjusts.{SameSeats}
 use Rattle.kept_promise.proofs.Counted.{AlikeUpTo, early}
-use Rattle.kept_promise.proofs.JobFacts.{jobs_kept, jobs_seat, jobs_more, ops_more, jobs_act, ops_act}
+use Rattle.kept_promise.proofs.JobFacts.{jobs_kept}
 
 -- ---- what is past
 
@@ -105,61 +104,3 @@ pub record HaveLogs (P : Going) (E : Ending) (past : List Moment) (step : ℕ) (
 -- clients have other indexes, or other contents
 pub logs_kept : (P : Going) (E : Ending) (past : List Moment) (step : ℕ) (seats after : List Seat) (ops : List Op) → SameSeats seats after → HaveLogs P E past step seats ops → HaveLogs P E past step after ops
 logs_kept P E past step seats after ops same h = record { by = h.by; jobs = jobs_kept (Goes P past) seats after ops same h.jobs; each = h.each }
-
--- ---- nothing is said
-
--- operations are as they were, but for points
-abbrev pub AreAsBefore : (before after : List Op) → Type 0
-AreAsBefore before after = (p : ℕ) (r : Op) → slice_get after p ≡ Some r → (o : Op) × (t : Option ℕ) × (slice_get before p ≡ Some o) × (r ≡ record o { point = t })
-
-pub as_before : (ops : List Op) → AreAsBefore ops ops
-as_before ops p r at = (r, r.point, at, refl)
-
-pub logs_quiet : (P : Going) (E : Ending) (past : List Moment) (m : Moment) (n k : ℕ) (seats later : List Seat) (ops after : List Op) → IsSilent m → n ≤ k
-    → ((i : ℕ) (seat : Seat) (j : Job) → numbered later i ≡ Some seat → job seat ≡ Some j → (old : Seat) × (numbered seats i ≡ Some old) × (job old ≡ Some j))
-    → AreAsBefore ops after → HaveLogs P E past n seats ops → HaveLogs P E (past ++ m ∷ []) k later after
-logs_quiet P E past m n k seats later ops after silent le same were h = record {
-  by = past_more n k past m le (inr silent) h.by;
-  jobs = λ i seat j r here is at.
-      let old = same i seat j here is in
-      let w = were j.place r at in
-      subst (λ (z : Op). P (deals_of z (past ++ m ∷ [])) z.file z.value j.stage) (sym w.3) (subst (λ l. P l w.0.file w.0.value j.stage) (sym (pointed w.0 w.1)) (h.jobs i old.0 j w.0 old.1 old.2 w.2));
-  each = λ p r at.
-      let w = were p r at in
-      subst (λ (z : Op). E (deals_of z (past ++ m ∷ [])) z.word z.file z.value z.outcome) (sym w.3) (subst (λ l. E l w.0.word w.0.file w.0.value w.0.outcome) (sym (pointed w.0 w.1)) (h.each p w.0 w.2));
-}
-  where
-    pointed : (o : Op) (t : Option ℕ) → deals_of (record o { point = t }) (past ++ m ∷ []) ≡ deals_of o past
-    pointed o t = deals_pointed o t (past ++ m ∷ []) ∙ deals_same o past m (deals_silent o m silent)
-
--- ---- a client acts
-
--- what is true of the operation at its place then
-pub record Renewed (P : Going) (E : Ending) (past : List Moment) (c : client.State) (acts : ClientStep) (new : Op) : Type 0 where
-  pub stage : (u : Task) → acts.ended ≡ None → c.task ≡ Some u → P (deals_of new past) new.file new.value u.stage
-  pub each : E (deals_of new past) new.word new.file new.value new.outcome
-
-pub logs_acts : (P : Going) (E : Ending) (past : List Moment) (m : Moment) (n : ℕ) (seats : List Seat) (ops : List Op) (i : ℕ) (seat : Seat) (c : client.State) (taken : List TakenCall) (acts : ClientStep) → step_of m ≡ n + 1
-    → ((p : ℕ) (o : Op) → slice_get ops p ≡ Some o → (seat.place ≡ Some p → ⊥) → deals_in o m ≡ [])
-    → ((a : ℕ) (s : Seat) (j : Job) (o : Op) → numbered seats a ≡ Some s → job s ≡ Some j → slice_get ops j.place ≡ Some o → (a ≡ i → ⊥) → seat.place ≡ Some j.place → ⊥)
-    → ((p : ℕ) (o : Op) → seat.place ≡ Some p → slice_get ops p ≡ Some o → Renewed P E (past ++ m ∷ []) c acts (op_after o c taken (n + 1) acts))
-    → HaveLogs P E past n seats ops → HaveLogs P E (past ++ m ∷ []) (n + 1) (with_numbered seats i (record seat { client = c; place = place_after seat.place acts.ended })) (ops_with ops seat.place c taken (n + 1) acts)
-logs_acts P E past m n seats ops i seat c taken acts step others foreign renewed h = record {
-  by = past_more n (n + 1) past m (omega arith) (inl (omega (arith, step))) h.by;
-  jobs = jobs_act (Goes P past) (Goes P (past ++ m ∷ [])) seats ops i seat c taken (n + 1) acts foreign (λ p o st at apart. subst (λ l. P l o.file o.value st) (sym (deals_same o past m (others p o at apart)))) (λ p o u e at on is. (renewed p o e at).stage u on is) h.jobs;
-  each = ops_act (Ends E past) (Ends E (past ++ m ∷ [])) ops seat.place c taken (n + 1) acts (λ p o at apart. subst (λ l. E l o.word o.file o.value o.outcome) (sym (deals_same o past m (others p o at apart)))) (λ p o e at. (renewed p o e at).each) h.each;
-}
-
--- ---- one begins
-
-pub logs_begins : (P : Going) (E : Ending) (past : List Moment) (m : Moment) (n : ℕ) (seats : List Seat) (ops : List Op) (i : ℕ) (now : Seat) (new : Op) → step_of m ≡ n + 1
-    → ((p : ℕ) (o : Op) → slice_get ops p ≡ Some o → deals_in o m ≡ [])
-    → ((a : ℕ) (s : Seat) (j : Job) → numbered seats a ≡ Some s → job s ≡ Some j → j.place < length ops)
-    → ((j : Job) (o : Op) → job now ≡ Some j → slice_get (ops ++ new ∷ []) j.place ≡ Some o → P (deals_of o (past ++ m ∷ [])) o.file o.value j.stage)
-    → E (deals_of new (past ++ m ∷ [])) new.word new.file new.value new.outcome
-    → HaveLogs P E past n seats ops → HaveLogs P E (past ++ m ∷ []) (n + 1) (with_numbered seats i now) (ops ++ new ∷ [])
-logs_begins P E past m n seats ops i now new step others within mine each h = record {
-  by = past_more n (n + 1) past m (omega arith) (inl (omega (arith, step))) h.by;
-  jobs = jobs_seat (Goes P (past ++ m ∷ [])) seats (ops ++ new ∷ []) i now mine (jobs_more (Goes P past) (Goes P (past ++ m ∷ [])) seats ops new within (λ p o st at. subst (λ l. P l o.file o.value st) (sym (deals_same o past m (others p o at)))) h.jobs);
-  each = ops_more (Ends E past) (Ends E (past ++ m ∷ [])) ops new (λ p o at. subst (λ l. E l o.word o.file o.value o.outcome) (sym (deals_same o past m (others p o at)))) each h.each;
-}

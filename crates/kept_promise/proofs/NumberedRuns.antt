@@ -13,7 +13,7 @@ use Rattle.kept_promise.proofs.Actors.{newest_is, heard_at}
 use Rattle.kept_promise.proofs.Versions.{of_numbered}
 use Rattle.kept_promise.proofs.StepCases.{reads_keep, names_keep, reads_of, Cases, took_cases, walk_cases, command_cases, got_cases}
 use Rattle.kept_promise.proofs.Numbering.{got_number, command_number}
-use Rattle.kept_promise.proofs.LogEvents.{joins_silent, serves_silent, hangs_silent, cuts_silent}
+use Rattle.kept_promise.proofs.EventCases.{joins_silent, serves_silent, hangs_silent, cuts_silent}
 
 -- ---- numbers joined
 

@@ -1,24 +1,19 @@
 -- A run carries that a client is at one session as long as an operation of it is under way.
-use Rattle.std.proofs.Common.{◌⊎◌, inl, inr, ◌≡◌, ℕ, List, [], ◌∷◌, ◌++◌, length, Option, Some, None, Ok, Bool, true, false, refl, sym, ap, ◌∙◌, subst, arith}
-use Rattle.server_core.specs.State as server
-use Rattle.server_core.specs.declared.event.Event.TheVariants as event
-use Rattle.server_rules.specs.declared.told.Told.{Told as Announced}
-use Rattle.server_rules.specs.declared.told.Told.TheVariants as announced
+use Rattle.std.proofs.Common.{◌⊎◌, inl, inr, ◌≡◌, ℕ, List, [], ◌∷◌, ◌++◌, length, Option, Some, None, Ok, refl, sym, ap, ◌∙◌, subst, arith}
 use Rattle.client_state.specs.State as client
-use Rattle.kept_promise.proofs.Common.{slice_get, Contains, Contains-push_cases, Command, ClientStep, Ended, command_step, joined, Task, Op, Opening, Core, Seat, CoreStep, Event, Event.Joins, Event.Does, Event.Serves, Event.Hears, Event.Settles, Event.Cuts, Event.Hangs, numbered, with_numbered, place_with, place_after, joins, joins_as, does, cuts, cuts_if, got_step, told_message, server_step, happens, Moment, Queue}
-use Rattle.kept_promise.proofs.Actors.{heard_at, heard_acts, job_place, job_task}
+use Rattle.kept_promise.proofs.Common.{slice_get, Contains, Contains-push_cases, Command, ClientStep, Ended, command_step, Task, Op, Opening, Core, Seat, Event, numbered, with_numbered, place_with, place_after, does, got_step, told_message, happens, Moment, Queue}
+use Rattle.kept_promise.proofs.Actors.{job_place, job_task}
 use Rattle.kept_promise.proofs.Lists.{some_is, nothing_there, within}
 use Rattle.kept_promise.proofs.Messages.{Job, job, job_of}
 use Rattle.kept_promise.proofs.Facts.{IsMatched}
 use Rattle.kept_promise.proofs.Fits.{FitLaws}
 use Rattle.kept_promise.proofs.CommandOps.{job_stays}
 use Rattle.kept_promise.proofs.JobFacts.{job_after}
-use Rattle.kept_promise.proofs.LogEvents.{hangs_silent}
 use Rattle.kept_promise.proofs.OpsAfter.{ops_after_event, stays_in}
 use Rattle.kept_promise.proofs.RunsCarried.{book_at, moment, Step, Carried}
-use Rattle.kept_promise.proofs.ServesQuietly.{serves_quiet}
 use Rattle.kept_promise.proofs.Shapes.{busy_command}
 use Rattle.kept_promise.proofs.Versions.{of_numbered}
+use Rattle.kept_promise.proofs.EventCases.{event_cases}
 
 -- ---- what is said
 
@@ -44,9 +39,6 @@ WasOn k i s j = ((old : Seat) × (l : Job) × (numbered k.seats i ≡ Some old) 
 
 abbrev WereOn : Core → List Seat → Type 0
 WereOn k seats = (i : ℕ) (s : Seat) (j : Job) → numbered seats i ≡ Some s → job s ≡ Some j → WasOn k i s j
-
-were_same : (k : Core) (seats : List Seat) → seats ≡ k.seats → WereOn k seats
-were_same k seats same i s j at is = inl (s, j, ap (λ (l : List Seat). numbered l i) (sym same) ∙ at, is, refl, refl)
 
 -- one client has another seat, and if it has a job there that was so
 were_with : (k : Core) (c : ℕ) (new : Seat) → ((j : Job) → job new ≡ Some j → WasOn k c new j) → WereOn k (with_numbered k.seats c new)
@@ -91,26 +83,13 @@ told_with k c now d seat here matched = were_with k c then_ (λ j is. by j match
         inl (seat, j, here, job_stays seat old (length k.ops) busy j acts.1.ended (ap (λ (z : client.State). job_of (place_with seat.place (length k.ops) acts.1.ended) z.task) (sym same) ∙ is), refl, refl)
     by j (inl idle) is = inr (begins j acts.1.ended (ap (λ (l : Option ℕ). job_of (place_with l (length k.ops) acts.1.ended) acts.0.task) (sym idle.0) ∙ is))
 
--- one joins, which had none
-joined_with : (k : Core) (c : ℕ) (seat : Seat) (s : server.State) (o : Announced) → seat.client.task ≡ None → WereOn k (joins_as k c seat s o).core.seats
-joined_with k c seat s (announced.Session made) none = idle_with k c (record seat { client = joined seat.client; session = Some made }) none
-joined_with k c seat s _ none = were_same k k.seats refl
-
 were_on : FitLaws → (all past rest : List Moment) (opening : List Opening) (k : Core) (qs : List Queue) (e : Event) (mid after : List Queue) → Step all past rest opening k qs e mid after → WereOn k (happens k e).core.seats
-were_on laws all past rest opening k qs (Joins c) mid after s = subst (λ (o : Option Seat). WereOn k (joins k c o).core.seats) (sym s.finds.1) (let r = server_step k.server event.Connect in joined_with k c s.finds.0 r.0 r.1.told ((s.kept.seats c s.finds.0 s.finds.1).unlinked s.finds.2).0)
-were_on laws all past rest opening k qs (Does c now d) mid after s = subst (λ (o : Option Seat). WereOn k (does k c now d o).core.seats) (sym s.finds.1) (told_with k c now d s.finds.0 s.finds.1 (s.kept.seats c s.finds.0 s.finds.1).matched)
-were_on laws all past rest opening k qs (Serves n now bytes) mid after s = were_same k (happens k (Serves n now bytes)).core.seats (serves_quiet laws (book_at opening k all) k qs n now bytes mid s.kept s.finds).seats
-were_on laws all past rest opening k qs (Hears n now bytes) mid after s =
-    let h = heard_at (book_at opening k all) k qs n now bytes mid s.kept s.finds in
-    let r = got_step h.seat.client (Ok (told_message h.told)) now in
-    subst (λ (t : CoreStep). WereOn k t.core.seats) (sym (heard_acts laws (book_at opening k all) k qs n now bytes mid s.kept h)) (acted_with k h.session.owner h.seat r.0 r.1 h.owner (s.kept.seats h.session.owner h.seat h.owner).matched)
-were_on laws all past rest opening k qs (Settles now) mid after s = were_same k k.seats refl
-were_on laws all past rest opening k qs (Cuts c) mid after s = subst (λ (o : Option Seat). WereOn k (cuts k c o).core.seats) (sym s.finds.1) (by s.finds.0.client.linked)
-  where
-    by : (b : Bool) → WereOn k (cuts_if k c s.finds.0 b).core.seats
-    by true = idle_with k c _ refl
-    by false = were_same k k.seats refl
-were_on laws all past rest opening k qs (Hangs n) mid after s = were_same k (happens k (Hangs n)).core.seats (hangs_silent k n (numbered k.sessions n)).2
+were_on laws all past rest opening k qs e mid after s = event_cases laws all past rest opening k qs e mid after s (λ e t. WereOn k t.core.seats) (record {
+  still = λ t still. λ i z j at is. inl (z, j, still.jobs i z j at is, is, refl, refl);
+  begins = λ c now d seat w here small left. told_with k c now d seat here (s.kept.seats c seat here).matched;
+  hears = λ n now bytes s h left. (let r = got_step h.seat.client (Ok (told_message h.told)) now in acted_with k h.session.owner h.seat r.0 r.1 h.owner (s.kept.seats h.session.owner h.seat h.owner).matched);
+  lost = λ c seat w here. idle_with k c _ refl;
+})
 
 -- ---- any event
 

@@ -22,7 +22,7 @@ use Rattle.kept_promise.proofs.VersionRuns.{own_op, word_after, heard_finds, ope
 use Rattle.kept_promise.proofs.JobFacts.{ops_shape}
 use Rattle.kept_promise.proofs.Adjusts.{adjusted_core}
 use Rattle.kept_promise.proofs.Leases.{client_stays}
-use Rattle.kept_promise.proofs.LogEvents.{file_stays, heard_log}
+use Rattle.kept_promise.proofs.LogEvents.{file_stays}
 use Rattle.kept_promise.proofs.Points.{CalledAt, called_as, point_now, rests_on}
 use Rattle.kept_promise.proofs.OpsAfter.{IsHears, ops_after_event, same_versions, opened_before}
 use Rattle.kept_promise.proofs.StepCases.{Cases, took_cases, walk_cases, IsOpenedBy}
@@ -36,6 +36,7 @@ use Rattle.kept_promise.proofs.OwnLog.{OpOwn}
 use Rattle.kept_promise.proofs.NamesLog.{names_count}
 use Rattle.kept_promise.proofs.OpensLog.{OpenRead, last_most, once_is}
 use Rattle.register_model.specs.Register.{changes}
+use Rattle.kept_promise.proofs.OpFacts.{heard_log}
 
 -- ---- what is carried
 

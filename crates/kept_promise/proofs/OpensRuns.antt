@@ -26,8 +26,6 @@ use Rattle.kept_promise.proofs.Locally.{deeds_more}
 use Rattle.kept_promise.proofs.StepCases.{IsOfFile}
 use Rattle.kept_promise.proofs.Found.{got_finds}
 use Rattle.kept_promise.proofs.ServesQuietly.{serves_quiet, IsQuiet}
-use Rattle.kept_promise.proofs.LogEvents.{hangs_silent}
-use Rattle.kept_promise.proofs.VersionRuns.{Settled, settled_are, IsChange, change_of}
 use Rattle.kept_promise.proofs.Deeds.{IsOnNames, local_of, AllMoved}
 use Rattle.kept_promise.proofs.Doing.{with_end}
 use Rattle.kept_promise.proofs.Ways.{stage_case}
@@ -35,6 +33,7 @@ use Rattle.kept_promise.proofs.WalkLeaves.{walk_left}
 use Rattle.kept_promise.proofs.Following.{IsFollowed, goes, no_deed, occupied, jobs_inside, carried_deeds}
 use Rattle.kept_promise.proofs.Opens.{HasOpens, HasShut, AreOpen, EndsOpen, open_bytes, shut_bytes, fetched_finds, walked_finds, opens_moved, opens_added, opens_acted, walk_leads, keeps_file, shut_acted, shut_added, command_begins, new_opens, finds_by}
 use Rattle.kept_promise.proofs.MakingGoals.{file_unnamed}
+use Rattle.kept_promise.proofs.EventCases.{Settled, settled_are, IsChange, change_of, hangs_silent}
 
 pub record IsOpening (past : List Moment) (k : Core) : Type 0 where
   pub opens : HasOpens (deeds_of past) k.ops

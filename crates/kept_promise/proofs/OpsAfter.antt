@@ -1,29 +1,24 @@
 -- What an event makes of the operations: nothing, or one begins, or a client goes on with its own, or a change gives one its point.
-use Rattle.std.proofs.Common.{◌⊎◌, inl, inr, ◌≡◌, ℕ, ◌+◌, ◌<◌, ◌≤◌, List, [], ◌∷◌, ◌++◌, Option, Some, None, Bool, true, false, refl, sym, ap, ◌∙◌, subst, arith}
-use Rattle.server_core.specs.State as server
-use Rattle.server_core.specs.declared.event.Event.TheVariants as event
-use Rattle.server_rules.specs.declared.told.Told.{Told as Announced}
-use Rattle.server_rules.specs.declared.told.Told.TheVariants as announced
+use Rattle.std.proofs.Common.{◌⊎◌, inl, inr, ◌≡◌, ℕ, ◌+◌, ◌<◌, ◌≤◌, List, [], ◌∷◌, ◌++◌, Option, Some, None, Ok, false, refl, sym, ap, ◌∙◌, subst, arith}
 use Rattle.client_state.specs.State as client
 use Rattle.client_state.specs.declared.step.Outcome.TheVariants as outcome
 use Rattle.register_model.specs.declared.op.Outcome.TheVariants as told
 use Rattle.trace_ends.specs.Session.{taken_of as session_taken}
-use Rattle.kept_promise.proofs.Common.{slice_get, slice_set, Book, ops_after, server_step, command_step, got_step, ended_by, ClientStep, Ended, Task, Op, Opening, TakenCall, op_after, Core, Seat, Event, Event.Joins, Event.Does, Event.Serves, Event.Hears, Event.Settles, Event.Cuts, Event.Hangs, CoreStep, numbered, session_of, ops_with, does, joins_as, joins, cuts_if, cuts, happens, Moment, Queue, parse_of}
+use Rattle.kept_promise.proofs.Common.{slice_get, slice_set, Book, ops_after, command_step, got_step, ended_by, ClientStep, Task, Op, Opening, TakenCall, op_after, Core, Seat, Event, Event.Does, Event.Hears, CoreStep, numbered, session_of, ops_with, does, happens, Moment, Queue, Command, told_message}
 use Rattle.kept_promise.proofs.Lists.{some_is, nothing_there, at_replaced, of_appended, of_replaced, kept_appended, same_or_not, set_else}
 use Rattle.kept_promise.proofs.Rights.{Caused}
 use Rattle.kept_promise.proofs.Facts.{IsKept}
 use Rattle.kept_promise.proofs.RunsCarried.{book_at, Step}
-use Rattle.kept_promise.proofs.Actors.{acts_alone, heard_at}
+use Rattle.kept_promise.proofs.Actors.{acts_alone}
 use Rattle.kept_promise.proofs.Marks.{unpointed}
 use Rattle.kept_promise.proofs.Counted.{AlikeUpTo, IsActor, running_past}
 use Rattle.kept_promise.proofs.JobFacts.{ops_shape}
 use Rattle.kept_promise.proofs.Versions.{version_in, count_replaced, count_appended}
 use Rattle.kept_promise.proofs.Taking.{versions_after}
 use Rattle.kept_promise.proofs.CommandOps.{made_by, made_later, made_pointless, last_right}
-use Rattle.kept_promise.proofs.VersionRuns.{Settled, settled_are, own_op, heard_finds, heard_shut, change_not_opened, change_versions, change_of}
-use Rattle.kept_promise.proofs.LogEvents.{hangs_silent}
+use Rattle.kept_promise.proofs.EventCases.{Settled, event_cases}
+use Rattle.kept_promise.proofs.VersionRuns.{own_op, heard_finds, heard_shut, change_not_opened, change_versions}
 use Rattle.kept_promise.proofs.Found.{cut_finds, Quietly}
-use Rattle.kept_promise.proofs.ServesQuietly.{serves_quiet, MadeHere}
 use Rattle.kept_promise.proofs.Fits.{FitLaws}
 
 abbrev pub IsHears : Event → Type 0
@@ -64,60 +59,34 @@ running_not len digest z = absurd cc
 lost_not : (len : ℕ) (digest : List ℕ) → told.Lost ≡ told.Opened len digest → ⊥
 lost_not len digest z = absurd cc
 
--- an operation made a file
-made_after : {e : Event} {k : Core} {ops : List Op} → (ops ≡ k.ops) ⊎ MadeHere k ops → OpsAfter e k ops
-made_after (inl same) = inl same
-made_after (inr m) = inr (inr (inr (inr (change_of m))))
-
 pub ops_after_event : FitLaws → (all past rest : List Moment) (opening : List Opening) (k : Core) (qs : List Queue) (e : Event) (mid after : List Queue) → Step all past rest opening k qs e mid after → Becomes e k (happens k e)
-ops_after_event laws all past rest opening k qs (Joins c) mid after s = subst (λ (o : Option Seat). Becomes (Joins c) k (joins k c o)) (sym s.finds.1) (by s.finds.0 (server_step k.server event.Connect).0 (server_step k.server event.Connect).1.told)
+ops_after_event laws all past rest opening k qs e mid after s = event_cases laws all past rest opening k qs e mid after s (λ e t. Becomes e k t) (record {
+  still = λ t still. (inr (inr (inr still.ops)), still.passes);
+  begins = λ c now d seat w here small left. begins c now d seat left;
+  hears = λ n now bytes s h left. (let r = got_step h.seat.client (Ok (told_message h.told)) now in (inr (inr (inl (record { index = h.session.owner; seat = h.seat; here = h.owner; after = r.0; acts = r.1; finds = heard_finds (book_at opening k all) k qs n now bytes mid s.kept h (Ok (told_message h.told)); apart = heard_shut (book_at opening k all) k qs n now bytes mid s.kept h (Ok (told_message h.told)); is = refl; unopened = inl tt }))), omega arith));
+  lost = λ c seat w here. (inr (inr (inl (record { index = c; seat = seat; here = here; after = record seat.client { linked = false; task = None; forgotten = [] }; acts = ended_by seat.client.task (record { outcome = outcome.Lost; rests_on = 0 }); finds = λ p o e at. inl (cut_finds seat.client); apart = λ p o e at. inl (cut_finds seat.client); is = refl; unopened = inr (never seat seat.client.task) }))), omega arith);
+})
   where
-    by : (seat : Seat) (s : server.State) (o : Announced) → Becomes (Joins c) k (joins_as k c seat s o)
-    by seat s (announced.Session made) = (inl refl, omega arith)
-    by seat s _ = (inl refl, omega arith)
-ops_after_event laws all past rest opening k qs (Does c now d) mid after s = subst (λ (o : Option Seat). IsKept (book_at opening (does k c now d o).core all) (does k c now d o).core after → Becomes (Does c now d) k (does k c now d o)) (sym s.finds.1) begins s.left
-  where
-    begins : IsKept (book_at opening (does k c now d (Some s.finds.0)).core all) (does k c now d (Some s.finds.0)).core after → Becomes (Does c now d) k (does k c now d (Some s.finds.0))
-    begins left =
-        let r = command_step s.finds.0.client d now in
-        let new : Op = made_by k c now d s.finds.0 r.0 r.1 in
-        let point = made_pointless k c now d s.finds.0 r.0 r.1 r.1.ended in
-        let more = book_at opening (does k c now d (Some s.finds.0)).core all in
+    begins : (c now : ℕ) (d : Command) (seat : Seat) → IsKept (book_at opening (does k c now d (Some seat)).core all) (does k c now d (Some seat)).core after → Becomes (Does c now d) k (does k c now d (Some seat))
+    begins c now d seat left =
+        let r = command_step seat.client d now in
+        let new : Op = made_by k c now d seat r.0 r.1 in
+        let point = made_pointless k c now d seat r.0 r.1 r.1.ended in
+        let more = book_at opening (does k c now d (Some seat)).core all in
         let right = last_right more k.ops new left.ops left.sound in (
           inr (inl (record {
             new = new;
             is = refl;
-            late = made_later k c now d s.finds.0 r.0 r.1 r.1.ended;
+            late = made_later k c now d seat r.0 r.1 r.1.ended;
             pointless = point;
             unopened = λ len digest is. let w = subst (Caused more new) is right.cause in nothing_there w.1.point (sym point ∙ w.1.within.0);
           })),
           omega arith,
         )
-ops_after_event laws all past rest opening k qs (Serves n now bytes) mid after s = let q = serves_quiet laws (book_at opening k all) k qs n now bytes mid s.kept s.finds in (made_after q.ops, q.passes)
-ops_after_event laws all past rest opening k qs (Hears n now bytes) mid after s =
-    let h = heard_at (book_at opening k all) k qs n now bytes mid s.kept s.finds in
-    let r = got_step h.seat.client (parse_of (client.waiting_of h.seat.client) bytes) now in
-    (inr (inr (inl (record { index = h.session.owner; seat = h.seat; here = h.owner; after = r.0; acts = r.1; finds = heard_finds (book_at opening k all) k qs n now bytes mid s.kept h (parse_of (client.waiting_of h.seat.client) bytes); apart = heard_shut (book_at opening k all) k qs n now bytes mid s.kept h (parse_of (client.waiting_of h.seat.client) bytes); is = ap (λ (t : CoreStep). t.core.ops) h.hears_is; unopened = inl tt }))), (let n = ap (λ (t : CoreStep). t.core.steps) h.hears_is in omega (arith, n)))
-ops_after_event laws all past rest opening k qs (Settles now) mid after s = (inr (inr (inr (settled_are (book_at opening k all) k qs now s.kept))), omega arith)
-ops_after_event laws all past rest opening k qs (Cuts c) mid after s = subst (λ (o : Option Seat). Becomes (Cuts c) k (cuts k c o)) (sym s.finds.1) (by s.finds.0.client.linked)
-  where
-    lost : Ended
-    lost = record { outcome = outcome.Lost; rests_on = 0 }
 
-    gone : client.State
-    gone = record s.finds.0.client { linked = false; task = None; forgotten = [] }
-
-    taken : List TakenCall
-    taken = session_taken (session_of k.sessions s.finds.0.session)
-
-    never : (t : Option Task) (o : Op) (len : ℕ) (digest : List ℕ) → o.outcome ≡ told.Running → (op_after o gone taken (k.steps + 1) (ended_by t (record { outcome = outcome.Lost; rests_on = 0 }))).outcome ≡ told.Opened len digest → ⊥
-    never None o len digest run is = running_not len digest (sym run ∙ is)
-    never (Some t) o len digest run is = lost_not len digest is
-
-    by : (b : Bool) → Becomes (Cuts c) k (cuts_if k c s.finds.0 b)
-    by false = (inl refl, omega arith)
-    by true = (inr (inr (inl (record { index = c; seat = s.finds.0; here = s.finds.1; after = gone; acts = ended_by s.finds.0.client.task lost; finds = λ p o e at. inl (cut_finds s.finds.0.client); apart = λ p o e at. inl (cut_finds s.finds.0.client); is = refl; unopened = inr (never s.finds.0.client.task) }))), omega arith)
-ops_after_event laws all past rest opening k qs (Hangs n) mid after s = let q = hangs_silent k n (numbered k.sessions n) in (inl q.1, q.3)
+    never : (seat : Seat) (t : Option Task) (o : Op) (len : ℕ) (digest : List ℕ) → o.outcome ≡ told.Running → (op_after o (record seat.client { linked = false; task = None; forgotten = [] }) (session_taken (session_of k.sessions seat.session)) (k.steps + 1) (ended_by t (record { outcome = outcome.Lost; rests_on = 0 }))).outcome ≡ told.Opened len digest → ⊥
+    never seat None o len digest run is = running_not len digest (sym run ∙ is)
+    never seat (Some t) o len digest run is = lost_not len digest is
 
 -- ---- what stays
 

@@ -15,9 +15,10 @@ use Rattle.kept_promise.proofs.Actors.{job_place, acts_alone, Heard, heard_at, h
 use Rattle.kept_promise.proofs.CommandOps.{made_by}
 use Rattle.kept_promise.proofs.OpsAfter.{StayIn, ops_after_event, stays_in}
 use Rattle.kept_promise.proofs.Logs.{IsSilent}
-use Rattle.kept_promise.proofs.LogEvents.{is_new, joins_silent, hangs_silent, cuts_silent}
 use Rattle.kept_promise.proofs.Found.{command_finds}
 use Rattle.kept_promise.proofs.ServesQuietly.{serves_quiet}
+use Rattle.kept_promise.proofs.EventCases.{joins_silent, hangs_silent, cuts_silent}
+use Rattle.kept_promise.proofs.OpFacts.{is_new}
 
 -- ---- what is carried
 

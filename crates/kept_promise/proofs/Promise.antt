@@ -103,12 +103,12 @@ told_carried =
 
 used_carried : Carried Used
 used_carried = record {
-  first = λ all opening tree count kept. (told_carried.first all opening tree count kept, (record { by = λ m there. (let lt = there.1 in absurd (omega (arith, lt))); leased = λ m there. (let lt = there.1 in absurd (omega (arith, lt))); each = λ m there. (let lt = there.1 in absurd (omega (arith, lt))); shut = λ m there. (let lt = there.1 in absurd (omega (arith, lt))) }, record { jobs = λ i seat j d o here is deed at. nothing_there o at; each = λ p d o deed at. nothing_there o at; gave = λ p d o deed at. nothing_there o at; filed = λ p d o deed at. nothing_there o at }));
+  first = λ all opening tree count kept. (told_carried.first all opening tree count kept, (record { by = λ m there. (let lt = there.1 in absurd (omega (arith, lt))); leased = λ m there. (let lt = there.1 in absurd (omega (arith, lt))); each = λ m there. (let lt = there.1 in absurd (omega (arith, lt))); shut = λ m there. (let lt = there.1 in absurd (omega (arith, lt))) }, record { jobs = λ i seat j o here is at. nothing_there o at; each = λ p o at. nothing_there o at }));
   steps = λ all past rest opening k qs e mid after s h.
       let told = told_carried.steps all past rest opening k qs e mid after s h.0 in
       let said = told.1.1.1.0.1.0.by (moment k e) (Contains-append_right past (moment k e ∷ []) (moment k e) (Contains-push [] (moment k e))) in
       (told, (used_event fit_laws all past rest opening k qs e mid after s (record { opens = h.0.1.1.1.1.0; own = h.0.1.1.1.1.1.1; counted = h.0.1.0.counted }) said h.1.0, said_event fit_laws all past rest opening k qs e mid after s h.0.1.1.1.1.0.by h.0.0.followed.deeds.count (λ p d o deed at. (h.0.0.followed.deeds.each p d o deed at).word) h.1.1));
-  adjusts = λ all past opening k qs index seats same h. (told_carried.adjusts all past opening k qs index seats same h.0, (record { by = h.1.0.by; leased = h.1.0.leased; each = h.1.0.each; shut = h.1.0.shut }, record { jobs = λ i seat j d o here is deed at. (let z = same.was i seat here in h.1.1.jobs i z.0 j d o z.3 (ap job (sym z.4) ∙ is) deed at); each = h.1.1.each; gave = h.1.1.gave; filed = h.1.1.filed }));
+  adjusts = λ all past opening k qs index seats same h. (told_carried.adjusts all past opening k qs index seats same h.0, (record { by = h.1.0.by; leased = h.1.0.leased; each = h.1.0.each; shut = h.1.0.shut }, record { jobs = λ i seat j o here is at. (let z = same.was i seat here in h.1.1.jobs i z.0 j o z.3 (ap job (sym z.4) ∙ is) at); each = h.1.1.each }));
 }
 
 walked_carried : Carried Walked
@@ -133,7 +133,7 @@ is_known w all h walks k d o was at =
     known_by (book_of w all) (deeds_of all) k d o (deeds.each k d o was at).word cause (walks.over k d o was at) h.more.1.1.1.1.0.1.opens was at
     (λ c is late. record {
       positive = λ s found. finds_positive (bare all) h.more.1.1.1.1.1.0 o s found;
-      too_long = λ p list none. begun_pages p (deals_of o all) (subst (λ (x : Command). GaveNow x o.outcome o.end o.begin (deals_of o all)) (is ∙ ap (λ z. command.Named z) list) (h.more.0.1.1.gave k d o was at) none late);
+      too_long = λ p list none. begun_pages p (deals_of o all) (subst (λ (x : Command). GaveNow x o.outcome o.end o.begin (deals_of o all)) (is ∙ ap (λ z. command.Named z) list) (h.more.0.1.1.each k o at d was).gave none late);
     })
     (λ f is status refused. open_refused (book_of w all) (deeds_of all) deeds.rising deeds.each deeds.count walks.before k d o was at f is cause status refused)
 
@@ -165,9 +165,9 @@ promise_of input w ran h =
         attempts = λ k o at. attempts_end (book_of w all) all o (h.kept.sound.rights k o at) (logs.1.0.met.each k o at) (logs.1.1.each k o at);
         met = λ k o at open_. attempts_met all o open_ (logs.1.0.met.each k o at);
         owned = λ m there. is_for w.core.ops m (changes.1.0.each m there);
-        files = λ k d o was at. h.more.0.1.1.filed k d o was at;
+        files = λ k d o was at. (h.more.0.1.1.each k o at d was).filed;
         names = λ m there. names_change (book_of w all) m (h.more.1.0.named.each m there) changes.1.0.each;
-        calls = λ k d o at is. own_calls d.command o (deals_of o all) (h.more.0.1.1.each k d o at is) (logs.1.1.each k o is).0;
+        calls = λ k d o at is. own_calls d.command o (deals_of o all) (h.more.0.1.1.each k o is d at).each (logs.1.1.each k o is).0;
         numbered = λ n. changes.1.1.each n;
         silent = stored.counted.silent;
         opened = λ k len digest o at is. opened_once (book_of w all) o len digest is (open_word k o len digest at is) (counts_log o all (stored.counted.counts k o at)) (logs.1.1.each k o at) (logs.0.each k o at) (logs.1.0.once k len digest o at is);

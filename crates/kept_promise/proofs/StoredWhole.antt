@@ -28,7 +28,6 @@ use Rattle.kept_promise.proofs.RunsCarried.{book_at, moment, Step, Carried}
 use Rattle.kept_promise.proofs.Counted.{AlikeUpTo, SaidBy, said_by, running_past}
 use Rattle.kept_promise.proofs.CountedRuns.{CountedAt, carried_counts, sent_more}
 use Rattle.kept_promise.proofs.Actors.{acts_alone}
-use Rattle.kept_promise.proofs.VersionRuns.{Remembers}
 use Rattle.kept_promise.proofs.OpsAfter.{OpsAfter, ops_after_event, stays_in}
 use Rattle.kept_promise.proofs.Promised.{HaveStored}
 use Rattle.kept_promise.proofs.LeftCommits.{commits_left}
@@ -40,6 +39,7 @@ use Rattle.kept_promise.proofs.NamesLog.{one_none, names_count}
 use Rattle.kept_promise.proofs.Rights.{open_not_close, gets_file}
 use Rattle.kept_promise.proofs.JobFacts.{ops_shape}
 use Rattle.kept_promise.proofs.PathNames.{is_creating}
+use Rattle.kept_promise.proofs.EventCases.{Remembers}
 
 -- ---- a COMMITTMP stays sent
 
@@ -226,19 +226,19 @@ closes_carried laws = carried_logs (λ all. ClosesBy) (λ all. CloseNamed) close
 pub carried_stored : FitLaws → Carried Stored
 carried_stored laws = record {
   first = λ all opening tree count kept. record {
-    counted = carried_counts.first all opening tree count kept;
+    counted = (carried_counts laws).first all opening tree count kept;
     closes = (closes_carried laws).first all opening tree count kept;
     waits = λ n p x q o at is is_cut known lt there close. nothing_there o there;
     made = λ p q o at close point. nothing_there o at;
   };
   steps = λ all past rest opening k qs e mid after s h. record {
-    counted = carried_counts.steps all past rest opening k qs e mid after s h.counted;
+    counted = (carried_counts laws).steps all past rest opening k qs e mid after s h.counted;
     closes = (closes_carried laws).steps all past rest opening k qs e mid after s h.closes;
     waits = waits_event laws all past rest opening k qs e mid after s h;
     made = made_event laws all past rest opening k qs e mid after s h;
   };
   adjusts = λ all past opening k qs index seats same h. record {
-    counted = carried_counts.adjusts all past opening k qs index seats same h.counted;
+    counted = (carried_counts laws).adjusts all past opening k qs index seats same h.counted;
     closes = (closes_carried laws).adjusts all past opening k qs index seats same h.closes;
     waits = h.waits;
     made = h.made;

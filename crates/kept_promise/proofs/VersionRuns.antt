@@ -1,13 +1,7 @@
 -- A run carries that each open gave the content of a version that came to its client.
-use Rattle.std.proofs.Common.{◌⊎◌, inl, inr, ◌≡◌, ℕ, ◌+◌, ◌<◌, ◌≤◌, List, [], ◌∷◌, ◌++◌, zero, suc, length, Option, Some, None, Result, Ok, Bool, true, false, refl, sym, ap, ◌∙◌, subst, arith, append-nil, eqb-true, eq-eqb}
+use Rattle.std.proofs.Common.{◌⊎◌, inl, inr, ◌≡◌, ℕ, ◌+◌, ◌≤◌, List, [], ◌∷◌, ◌++◌, length, Option, Some, None, Result, Ok, Bool, true, false, refl, sym, ap, ◌∙◌, subst, arith, append-nil, eqb-true, eq-eqb}
 use Rattle.std.specs.Option.{option_map}
 use Rattle.wire.specs.declared.message.Message.TheVariants as message
-use Rattle.server_core.specs.Closing.{at as at_reading}
-use Rattle.server_core.specs.State as server
-use Rattle.server_core.specs.declared.change.Wanted.TheVariants as wanted
-use Rattle.server_core.specs.declared.event.Event.TheVariants as event
-use Rattle.server_rules.specs.declared.told.Told.{Told as Announced}
-use Rattle.server_rules.specs.declared.told.Told.TheVariants as announced
 use Rattle.client_state.specs.State as client
 use Rattle.client_state.specs.declared.step.Outcome.TheVariants as outcome
 use Rattle.client_state.specs.declared.task.Stage.TheVariants as stage
@@ -18,34 +12,27 @@ use Rattle.trace_ends.specs.Ops.{taken_on, file_with}
 use Rattle.trace_ends.specs.Session.{taken_of as session_taken}
 use Rattle.trace_replay.specs.Trail.{taken_of}
 use Rattle.trace_replay.specs.Faithful.{Carries, OpensVersion}
-use Rattle.kept_promise.proofs.Common.{nat_tests, Contains-append_left, Contains-append_right, Contains-append_cases, Contains-push, ◌==◌, ◌&&◌, ◌||◌, nat_le, slice_get, slice_set, cond, find, Contains, Command, Done, Hashes, parse_of, WireFault, Message, Change, File, server_step, has_call, pending, command_step, got_step, ended_by, joined, ClientStep, Ended, Outcome, Stage, Task, changes, changed_before, Op, Opening, TakenCall, word_of, told_of, has_point, point_if, op_after, begun, taken_at, place_after, place_with, pointed, pointed_at, Core, Seat, Session, Event, Event.Joins, Event.Does, Event.Serves, Event.Hears, Event.Settles, Event.Cuts, Event.Hangs, CoreStep, numbered, with_numbered, new_session, taken_with, commanded_session, commanded_sessions, cut_session, server_waiting, serves_if, serves, session_of, ops_after, ops_with, acted, does, joins_as, joins, settled_ops, settled_by, settles, cuts_if, cuts, hangs_if, hangs, happens, Moment, Said, all_said, owner_in, client_of, wanted_if, wanted_by, taken_by, Book, version_at, until, TellsVersion, Reply, Reply.Versioned, Reply.Hashed, Reply.Bytes, Told, Queue, reply_body, told_message, ServerStep, ask_message, Reply.Walked, NameReply.LookedUp, Wanted}
-use Rattle.kept_promise.proofs.Lists.{some_is, nothing_there, at_end, same_or_not, of_replaced, of_appended, kept_appended, at_replaced, set_else, false_and_true, true_and_false}
+use Rattle.kept_promise.proofs.Common.{nat_tests, Contains-append_left, Contains-append_right, Contains-append_cases, Contains-push, ◌==◌, ◌&&◌, ◌||◌, nat_le, slice_get, slice_set, cond, find, Contains, Command, Done, Hashes, WireFault, Message, has_call, pending, command_step, got_step, ended_by, ClientStep, Ended, Outcome, Stage, Task, changes, changed_before, Op, Opening, TakenCall, word_of, told_of, has_point, point_if, op_after, begun, taken_at, place_after, place_with, Core, Seat, Session, Event, Event.Does, Event.Hears, Event.Cuts, CoreStep, numbered, with_numbered, commanded_session, commanded_sessions, cut_session, session_of, ops_after, ops_with, acted, does, cuts_if, happens, Moment, Said, all_said, owner_in, client_of, wanted_if, wanted_by, taken_by, Book, version_at, until, TellsVersion, Reply, Reply.Versioned, Reply.Hashed, Reply.Bytes, Told, Queue, reply_body, told_message, Reply.Walked, NameReply.LookedUp}
+use Rattle.kept_promise.proofs.Lists.{some_is, nothing_there, at_end, same_or_not, of_replaced, of_appended, at_replaced, false_and_true, true_and_false}
 use Rattle.kept_promise.proofs.Marks.{unpointed, too_late}
-use Rattle.kept_promise.proofs.Messages.{Job, job, job_of, AllTolds, AllUnder, hash_offset, IsTold, IsHashed, IsLeased, AnswerOf, IsAnswer, stage_word, WaitsFor}
-use Rattle.kept_promise.proofs.Rights.{IsRight, Caused, IsUnmade, close_not_open, gets_file}
+use Rattle.kept_promise.proofs.Messages.{Job, job, job_of, AllTolds, AllUnder, hash_offset, IsTold, IsHashed, IsLeased, AnswerOf, IsAnswer, stage_word}
+use Rattle.kept_promise.proofs.Rights.{IsRight, Caused, close_not_open, gets_file}
 use Rattle.kept_promise.proofs.Fits.{FitLaws}
 use Rattle.kept_promise.proofs.Keys.{own}
-use Rattle.kept_promise.proofs.Turns.{also_numbered, around_with}
 use Rattle.kept_promise.proofs.Heard.{rising_to}
-use Rattle.kept_promise.proofs.Promised.{own_there}
 use Rattle.kept_promise.proofs.Facts.{IsKept, IsSession, IsMatched, is_naming}
-use Rattle.kept_promise.proofs.RunsCarried.{book_at, moment, Step, Finds, Carried}
+use Rattle.kept_promise.proofs.RunsCarried.{book_at, moment, Step, Carried}
 use Rattle.kept_promise.proofs.Counted.{IsActor, first_or_rest, said_by, said_at, early, of_step, SaidBy, said_later, said_append, said_now, AlikeUpTo}
 use Rattle.kept_promise.proofs.JobFacts.{ops_shape, job_after}
-use Rattle.kept_promise.proofs.Actors.{acts_alone, job_place, job_task, placed, Heard, heard_at, heard_acts, heard_takes, serves_read}
+use Rattle.kept_promise.proofs.Actors.{acts_alone, job_place, job_task, placed, Heard, heard_takes}
 use Rattle.kept_promise.proofs.CountedRuns.{CountedAt, carried_counts, taken_more}
 use Rattle.kept_promise.proofs.Shapes.{TaskGood, OutcomeGood, EndGood, Good, TookIn, TaskTook, good_answer, good_command, busy_command, StageGood}
-use Rattle.trace_ends.specs.Core.{newest_entries, changed_file}
-use Rattle.kept_promise.proofs.ServesFiles.{newest_one}
 use Rattle.kept_promise.proofs.Found.{heard_quiet, heard_apart, Quietly, IsFresh, step_found}
+use Rattle.kept_promise.proofs.EventCases.{IsChange, Remembers, Settled, takens_else, takens_with, IsStill, event_cases}
 use Rattle.kept_promise.proofs.Versions.{of_numbered, version_by, early_of, by_counts, count_replaced, count_appended, CameTo, Since, Attempt, Untold, takens, JobVersion, HaveVersions, Alike, alike_same, Extends, extends_same, came_alike, since_alike, job_alike, JobCame, versions_onward}
 use Rattle.kept_promise.proofs.Taking.{versions_after}
 use Rattle.kept_promise.proofs.CommandOps.{made_by, made_later, made_pointless, last_right, old_jobs}
-use Rattle.kept_promise.proofs.Messages.{content_wanted}
-use Rattle.kept_promise.proofs.Making.{made_change, made_is, entry_of}
 use Rattle.kept_promise.proofs.StepCases.{IsOpenedBy, IsOfFile}
-use Rattle.kept_promise.proofs.ServesQuietly.{MadeHere, serves_quiet}
-use Rattle.kept_promise.proofs.SettlesQuietly.{GoesHere, Settling, makes_commit, makes_else, settling}
 
 abbrev pub VersionsAt : (base : ℕ → ℕ) → (past : List Moment) → Core → Type 0
 VersionsAt base past k = HaveVersions base (taken_of past) k.sessions k.seats k.ops
@@ -57,54 +44,6 @@ VersionsBy base past k e t = HaveVersions base (taken_of past ++ all_said (k.ste
 unsaid : (base : ℕ → ℕ) → (said : List Said) (sessions : List Session) (seats : List Seat) (ops : List Op) → HaveVersions base said sessions seats ops → HaveVersions base (said ++ []) sessions seats ops
 unsaid base said sessions seats ops h = subst (λ z. HaveVersions base z sessions seats ops) (sym (append-nil said)) h
 
--- ---- what was taken of a client's newest session
-
-takens_else : (n m : ℕ) (sessions : List Session) (y : Session) (session : Option ℕ) → (session ≡ Some m → ⊥) → Extends n (session_taken (session_of sessions session)) (session_taken (session_of (with_numbered sessions m y) session))
-takens_else n m sessions y None apart = extends_same n []
-takens_else n m sessions y (Some l) apart = by m (λ e. apart (ap (λ z. Some z) e))
-  where
-    by : (m : ℕ) → (l ≡ m → ⊥) → Extends n (session_taken (numbered sessions l)) (session_taken (numbered (with_numbered sessions m y) l))
-    by zero far = extends_same n (session_taken (numbered sessions l))
-    by (suc m) far = subst (λ z. Extends n (session_taken (numbered sessions l)) (session_taken z)) (sym (other sessions m y l far)) (extends_same n (session_taken (numbered sessions l)))
-      where
-        other : (xs : List Session) (m : ℕ) (y : Session) (l : ℕ) → (l ≡ suc m → ⊥) → numbered (slice_set xs m y) l ≡ numbered xs l
-        other xs m y zero far = refl
-        other xs m y (suc l) far = set_else xs m l y (λ e. far (ap suc e))
-
-takens_with : (n m : ℕ) (sessions : List Session) (x y : Session) (session : Option ℕ) → numbered sessions m ≡ Some x → Extends n x.taken y.taken → Extends n (session_taken (session_of sessions session)) (session_taken (session_of (with_numbered sessions m y) session))
-takens_with n m sessions x y None at e = extends_same n []
-takens_with n m sessions x y (Some l) at e = elim (same_or_not l m) [
-  | inr apart ↦ takens_else n m sessions y (Some l) (λ q. apart (some_is l m q))
-  | inl same ↦
-      let around = around_with sessions m x y at in
-      subst (λ z. Extends n (session_taken z) (session_taken (numbered (with_numbered sessions m y) l))) (sym (ap (numbered sessions) same ∙ at)) (subst (λ z. Extends n x.taken (session_taken z)) (sym (ap (numbered (with_numbered sessions m y)) same ∙ around.there)) e)
-]
-
-takens_more : (n : ℕ) (sessions : List Session) (y : Session) (session : Option ℕ) → ((l : ℕ) → session ≡ Some l → (x : Session) × (numbered sessions l ≡ Some x)) → Extends n (session_taken (session_of sessions session)) (session_taken (session_of (sessions ++ y ∷ []) session))
-takens_more n sessions y None there = extends_same n []
-takens_more n sessions y (Some l) there = by l (there l refl)
-  where
-    by : (l : ℕ) → (x : Session) × (numbered sessions l ≡ Some x) → Extends n (session_taken (numbered sessions l)) (session_taken (numbered (sessions ++ y ∷ []) l))
-    by zero (x, e) = nothing_there x e
-    by (suc l) (x, e) = subst (λ z. Extends n (session_taken z) (session_taken (slice_get (sessions ++ y ∷ []) l))) (sym e) (subst (λ z. Extends n x.taken (session_taken z)) (sym (kept_appended sessions y l x e)) (extends_same n x.taken))
-
--- a call that is taken now
-taken_more_at : (n : ℕ) (taken : List TakenCall) (t : TakenCall) → n < t.step → Extends n taken (taken ++ t ∷ [])
-taken_more_at n [] t lt = (λ y q e. nothing_there q e, λ y q e. by y q (t.xid == y) e)
-  where
-    by : (y q : ℕ) (b : Bool) → option_map (λ (z : TakenCall). z.step) (cond b (Some t) None) ≡ Some q → (None ≡ Some q) ⊎ (n < q)
-    by y q true e = inr (let same : t.step ≡ q = some_is t.step q e in omega (arith, lt, same))
-    by y q false e = inl e
-taken_more_at n (u ∷ taken) t lt = (λ y q e. keeps y q (u.xid == y) e ((taken_more_at n taken t lt).0 y q), λ y q e. adds y q (u.xid == y) e ((taken_more_at n taken t lt).1 y q))
-  where
-    keeps : (y q : ℕ) (b : Bool) → option_map (λ (z : TakenCall). z.step) (cond b (Some u) (find (λ (z : TakenCall). z.xid == y) taken)) ≡ Some q → (taken_at taken y ≡ Some q → taken_at (taken ++ t ∷ []) y ≡ Some q) → option_map (λ (z : TakenCall). z.step) (cond b (Some u) (find (λ (z : TakenCall). z.xid == y) (taken ++ t ∷ []))) ≡ Some q
-    keeps y q true e later = e
-    keeps y q false e later = later e
-
-    adds : (y q : ℕ) (b : Bool) → option_map (λ (z : TakenCall). z.step) (cond b (Some u) (find (λ (z : TakenCall). z.xid == y) (taken ++ t ∷ []))) ≡ Some q → (taken_at (taken ++ t ∷ []) y ≡ Some q → (taken_at taken y ≡ Some q) ⊎ (n < q)) → (option_map (λ (z : TakenCall). z.step) (cond b (Some u) (find (λ (z : TakenCall). z.xid == y) taken)) ≡ Some q) ⊎ (n < q)
-    adds y q true e later = inl e
-    adds y q false e later = later e
-
 -- what has an xid from a floor on was not taken
 not_taken : (floor : ℕ) (taken : List TakenCall) (y q : ℕ) → AllUnder floor taken → floor ≤ y → taken_at taken y ≡ Some q → ⊥
 not_taken floor [] y q under le e = nothing_there q e
@@ -114,97 +53,13 @@ not_taken floor (t ∷ taken) y q under le e = by (t.xid == y) refl e (not_taken
     by true same e later = let lt = under.0 in grind (arith, nat_tests, same, lt, le)
     by false same e later = later e
 
--- ---- events of the server
+-- ---- clients and operations are as they were, but for a change that is made
 
--- sessions alone change
-versions_sessions : (base : ℕ → ℕ) → (n : ℕ) (said : List Said) (sessions later : List Session) (seats : List Seat) (ops : List Op) → SaidBy n said → ((i : ℕ) (seat : Seat) → numbered seats i ≡ Some seat → Extends n (takens sessions seat) (takens later seat)) → HaveVersions base said sessions seats ops → HaveVersions base said later seats ops
-versions_sessions base n said sessions later seats ops past e h = versions_onward base n said said sessions later seats seats ops ops past (λ f q le. refl)
-    (λ i seat j r here is at. inl (seat, r, here, is, at, alike_same said r, e i seat here))
+-- clients with a job are as they were, and operations
+versions_moved : (base : ℕ → ℕ) → (n : ℕ) (said : List Said) (sessions later : List Session) (seats next : List Seat) (ops : List Op) → SaidBy n said → ((i : ℕ) (seat : Seat) (j : Job) → numbered next i ≡ Some seat → job seat ≡ Some j → numbered seats i ≡ Some seat) → ((i : ℕ) (seat : Seat) → numbered seats i ≡ Some seat → Extends n (takens sessions seat) (takens later seat)) → HaveVersions base said sessions seats ops → HaveVersions base said later next ops
+versions_moved base n said sessions later seats next ops past jobs newer h = versions_onward base n said said sessions later seats next ops ops past (λ f q le. refl)
+    (λ i seat j r here is at. let was = jobs i seat j here is in inl (seat, r, was, is, at, alike_same said r, newer i seat was))
     (λ p len q digest r at is point. inl (r, at, alike_same said r, is, point)) h
-
-versions_joins : (book : Book) (past : List Moment) (k : Core) (qs : List Queue) (c : ℕ) (seat : Seat) (s : server.State) (o : Announced) → IsKept book k qs → numbered k.seats c ≡ Some seat → seat.client.linked ≡ false → CountedAt past k → VersionsAt (early_of book.opening) past k → VersionsBy (early_of book.opening) past k (Joins c) (joins_as k c seat s o)
-versions_joins book past k qs c seat s (announced.Session made) kept here free counted h = unsaid (early_of book.opening) (taken_of past) (k.sessions ++ new_session c ∷ []) (with_numbered k.seats c new) k.ops
-    (versions_onward (early_of book.opening) k.steps (taken_of past) (taken_of past) k.sessions (k.sessions ++ new_session c ∷ []) k.seats (with_numbered k.seats c new) k.ops k.ops counted.taken_by (λ f q le. refl)
-    (λ i z j r there is at. elim (of_numbered k.seats c new i z there) [
-      | inl mine ↦ nothing_there j (sym (idle seat.place) ∙ ap job (sym mine.1) ∙ is)
-      | inr other ↦ inl (z, r, other.1, is, at, alike_same (taken_of past) r, takens_more k.steps k.sessions (new_session c) z.session (λ l e. let x = (kept.seats i z other.1).session l e in (x.0, x.1)))
-    ])
-    (λ p len q digest r at is point. inl (r, at, alike_same (taken_of past) r, is, point)) h)
-  where
-    new : Seat
-    new = record { client = joined seat.client; session = Some made; place = seat.place }
-
-    none : seat.client.task ≡ None
-    none = ((kept.seats c seat here).unlinked free).0
-
-    idle : (l : Option ℕ) → job_of l seat.client.task ≡ None
-    idle None = refl
-    idle (Some l) = ap (job_of (Some l)) none
-versions_joins book past k qs c seat s _ kept here free counted h = unsaid (early_of book.opening) (taken_of past) k.sessions k.seats k.ops h
-
-versions_hangs : (base : ℕ → ℕ) → (past : List Moment) (k : Core) (n : ℕ) (x : Option Session) → numbered k.sessions n ≡ x → CountedAt past k → VersionsAt base past k → VersionsBy base past k (Hangs n) (hangs k n x)
-versions_hangs base past k n None is counted h = unsaid base (taken_of past) k.sessions k.seats k.ops h
-versions_hangs base past k n (Some x) is counted h = by x.hung
-  where
-    by : (b : Bool) → VersionsBy base past k (Hangs n) (hangs_if k n x b)
-    by true = unsaid base (taken_of past) k.sessions k.seats k.ops h
-    by false = unsaid base (taken_of past) (with_numbered k.sessions n (record x { hung = true })) k.seats k.ops (versions_sessions base k.steps (taken_of past) k.sessions (with_numbered k.sessions n (record x { hung = true })) k.seats k.ops counted.taken_by (λ i z here. takens_with k.steps n k.sessions x (record x { hung = true }) z.session is (extends_same k.steps x.taken)) h)
-
--- a session whose change waits remembers the close at this place
-abbrev pub Remembers : Core → (place : ℕ) → Type 0
-Remembers k place = (n i : ℕ) × (x : Session) × (c : Change) × (numbered k.sessions n ≡ Some x) × (x.closing ≡ Some place) × (slice_get (own n k.server.waiting) i ≡ Some c)
-
--- an operation's change was made: that of a close which a session remembers, or a file was made or went
-pub record IsChange (k : Core) (ops : List Op) : Type 0 where
-  pub place : ℕ
-  pub op : Op
-  pub there : slice_get k.ops place ≡ Some op
-  pub unmade : IsUnmade op
-  pub file : ℕ
-  pub is : ops ≡ slice_set k.ops place (record op { file = file; point = Some (k.steps + 1) })
-  pub kind : ((op.word ≡ words.Close) × (file ≡ op.file) × Remembers k place) ⊎ ((gets_file op.word ≡ true) × (op.file ≡ 0))
-
-pub change_of : {k : Core} {ops : List Op} → MadeHere k ops → IsChange k ops
-change_of m = record { place = m.place; op = m.op; there = m.there; unmade = m.unmade; file = m.new; is = m.after_is; kind = inr (ap gets_file m.word_is, m.file_is) }
-
--- what a change that was made, if one was, makes of the operations
-abbrev pub Settled : Core → List Op → Type 0
-Settled k ops = (ops ≡ k.ops) ⊎ IsChange k ops
-
-pub goes_of : {k : Core} {ops : List Op} → GoesHere k ops → IsChange k ops
-goes_of m = record { place = m.place; op = m.op; there = m.there; unmade = m.unmade; file = m.new; is = m.after_is; kind = inr (m.gets, m.file_is) }
-
-pub settled_are : (book : Book) (k : Core) (qs : List Queue) (now : ℕ) → IsKept book k qs → Settled k (settles k now).core.ops
-settled_are book k qs now kept = by (settling book k qs now kept)
-  where
-    made : (cs : List Change) (c : Change) → k.server.waiting ≡ c ∷ cs → c.what ≡ wanted.Content (content_wanted c.what) → (f : File) → (let r = made_change (at_reading (record k.server { waiting = cs }) now) c (content_wanted c.what) f in Settled k (settled_by k (changed_file (newest_entries r.0.journal r.1.entries)) r.1.told))
-    made cs c e what f =
-        let first : slice_get k.server.waiting 0 ≡ Some c = ap (λ (l : List Change). slice_get l 0) e in
-        let home = kept.home 0 c first in
-        let q = also_numbered k.sessions qs c.session home.0 kept.made.1 home.1 in
-        let mine = own_there k.server.waiting 0 c first in
-        let h = kept.sessions c.session home.0 q.0 home.1 q.1 in
-        let pending = subst (λ (w : Wanted). WaitsFor book c.session home.0.closing home.0.cut (job h.seat) c.xid c.file w) what (h.pending mine.0 c mine.1) in
-        let there : slice_get k.ops pending.place ≡ Some pending.op = ap (λ (l : List Op). slice_get l pending.place) (sym kept.ops) ∙ pending.there in
-        inr (record {
-          place = pending.place;
-          op = pending.op;
-          there = there;
-          unmade = pending.unmade;
-          file = c.file;
-          is = ap (λ (z : Option ℕ). settled_by k z (announced.Settled c.session c.xid)) (newest_one k.server.journal (entry_of c (content_wanted c.what) f))
-              ∙ ap (settled_ops k.ops (k.steps + 1) (Some c.file)) home.1
-              ∙ ap (λ l. pointed_at k.ops l (k.steps + 1) (Some c.file)) pending.known
-              ∙ ap (pointed k.ops pending.place c.file (k.steps + 1)) there;
-          kind = inl (pending.word_is, sym pending.file_is, (c.session, mine.0, home.0, c, home.1, pending.known, mine.1));
-        })
-
-    by : Settling k (settles k now) → Settled k (settles k now).core.ops
-    by (makes_else (inl same) entered tells) = inl same
-    by (makes_else (inr gone) entered tells) = inr (goes_of gone)
-    by (makes_commit c cs f e what there) =
-        subst (λ (ws : List Change). (let r = Rattle.server_core.specs.Closing.settles k.server now ws in Settled k (settled_by k (changed_file (newest_entries r.0.journal r.1.entries)) r.1.told))) (sym e)
-        (subst (λ (r : server.State × ServerStep). Settled k (settled_by k (changed_file (newest_entries r.0.journal r.1.entries)) r.1.told)) (sym (made_is book k.server now c cs f kept.server e there what)) (made cs c e what f))
 
 -- a close has ended as no open
 pub close_not_opened : (book : Book) (o : Op) (len : ℕ) (digest : List ℕ) → IsRight book o → o.word ≡ words.Close → o.outcome ≡ told.Opened len digest → ⊥
@@ -249,33 +104,14 @@ versions_change book past k qs ops kept counted c h =
         made_job (stage.Walking x w) e = tt
         made_job s e = absurd cc
 
-versions_settles : (book : Book) (past : List Moment) (k : Core) (qs : List Queue) (now : ℕ) → IsKept book k qs → CountedAt past k → VersionsAt (early_of book.opening) past k → VersionsBy (early_of book.opening) past k (Settles now) (settles k now)
-versions_settles book past k qs now kept counted h = unsaid (early_of book.opening) (taken_of past) k.sessions k.seats (settles k now).core.ops (by (settled_are book k qs now kept))
+versions_still : (book : Book) (past : List Moment) (k : Core) (qs : List Queue) (e : Event) (t : CoreStep) → IsKept book k qs → IsStill k e t → CountedAt past k → VersionsAt (early_of book.opening) past k → VersionsBy (early_of book.opening) past k e t
+versions_still book past k qs e t kept s counted h =
+    subst (λ (l : List Message). HaveVersions (early_of book.opening) (taken_of past ++ all_said (k.steps + 1) (client_of k e) l) t.core.sessions t.core.seats t.core.ops) (sym s.silent.0)
+    (unsaid (early_of book.opening) (taken_of past) t.core.sessions t.core.seats t.core.ops (versions_moved (early_of book.opening) k.steps (taken_of past) k.sessions t.core.sessions k.seats t.core.seats t.core.ops counted.taken_by s.jobs s.newer (by s.ops)))
   where
-    by : Settled k (settles k now).core.ops → HaveVersions (early_of book.opening) (taken_of past) k.sessions k.seats (settles k now).core.ops
+    by : Settled k t.core.ops → HaveVersions (early_of book.opening) (taken_of past) k.sessions k.seats t.core.ops
     by (inl same) = subst (HaveVersions (early_of book.opening) (taken_of past) k.sessions k.seats) (sym same) h
-    by (inr c) = versions_change book past k qs (settles k now).core.ops kept counted c h
-
--- what the server took of a session since is newer
-takens_serve : (k : Core) (n now : ℕ) (bytes : List ℕ) (m : Message) (x : Option Session) → parse_of server_waiting bytes ≡ Ok m → numbered k.sessions n ≡ x → (z : Seat) → Extends k.steps (takens k.sessions z) (takens (serves k n now bytes x).core.sessions z)
-takens_serve k n now bytes m None read is z = extends_same k.steps (takens k.sessions z)
-takens_serve k n now bytes m (Some x) read is z = subst (λ (r : Result Message WireFault). Extends k.steps (takens k.sessions z) (takens (serves_if k n now x r).core.sessions z)) (sym read) (takens_with k.steps n k.sessions x (record x { taken = taken_with x.taken m (k.steps + 1) }) z.session is (called m))
-  where
-    called : (m : Message) → Extends k.steps x.taken (taken_with x.taken m (k.steps + 1))
-    called (message.Call xid body) = taken_more_at k.steps x.taken (record { xid = xid; step = k.steps + 1 }) (omega arith)
-    called _ = extends_same k.steps x.taken
-
-versions_serves : FitLaws → (book : Book) (past : List Moment) (k : Core) (qs : List Queue) (n now : ℕ) (bytes : List ℕ) (mid : List Queue) → IsKept book k qs → Finds k qs (Serves n now bytes) mid → CountedAt past k → VersionsAt (early_of book.opening) past k → VersionsBy (early_of book.opening) past k (Serves n now bytes) (happens k (Serves n now bytes))
-versions_serves laws book past k qs n now bytes mid kept f counted h =
-    let t = happens k (Serves n now bytes) in
-    let s = serves_quiet laws book k qs n now bytes mid kept f in
-    unsaid (early_of book.opening) (taken_of past) t.core.sessions t.core.seats t.core.ops
-    (subst (λ (l : List Seat). HaveVersions (early_of book.opening) (taken_of past) t.core.sessions l t.core.ops) (sym s.seats)
-    (versions_sessions (early_of book.opening) k.steps (taken_of past) k.sessions t.core.sessions k.seats t.core.ops counted.taken_by (λ i z here. takens_serve k n now bytes (ask_message f.1) (numbered k.sessions n) (serves_read laws book k qs n now bytes mid kept f) refl z) (made s.ops)))
-  where
-    made : ((happens k (Serves n now bytes)).core.ops ≡ k.ops) ⊎ MadeHere k (happens k (Serves n now bytes)).core.ops → HaveVersions (early_of book.opening) (taken_of past) k.sessions k.seats (happens k (Serves n now bytes)).core.ops
-    made (inl same) = subst (HaveVersions (early_of book.opening) (taken_of past) k.sessions k.seats) (sym same) h
-    made (inr m) = versions_change book past k qs (happens k (Serves n now bytes)).core.ops kept counted (change_of m) h
+    by (inr c) = versions_change book past k qs t.core.ops kept counted c h
 
 -- ---- a client's own operation
 
@@ -398,9 +234,8 @@ file_after o c taken step acts none = by acts.ended ∙ ap (file_with o.file) no
 
 -- a connection is lost
 
-versions_cuts : (book : Book) (past : List Moment) (k : Core) (qs : List Queue) (c : ℕ) (seat : Seat) → IsKept book k qs → numbered k.seats c ≡ Some seat → CountedAt past k → VersionsAt (early_of book.opening) past k → (b : Bool) → VersionsBy (early_of book.opening) past k (Cuts c) (cuts_if k c seat b)
-versions_cuts book past k qs c seat kept here counted h false = unsaid (early_of book.opening) (taken_of past) k.sessions k.seats k.ops h
-versions_cuts book past k qs c seat kept here counted h true = unsaid (early_of book.opening) (taken_of past) (cut_session k.sessions seat.session (session_of k.sessions seat.session)) (with_numbered k.seats c (gone_seat seat.client.task)) (ops_with k.ops seat.place gone taken (k.steps + 1) (ended_by seat.client.task lost)) (by seat.client.task)
+versions_lost : (book : Book) (past : List Moment) (k : Core) (qs : List Queue) (c : ℕ) (seat : Seat) → IsKept book k qs → numbered k.seats c ≡ Some seat → CountedAt past k → VersionsAt (early_of book.opening) past k → VersionsBy (early_of book.opening) past k (Cuts c) (cuts_if k c seat true)
+versions_lost book past k qs c seat kept here counted h = unsaid (early_of book.opening) (taken_of past) (cut_session k.sessions seat.session (session_of k.sessions seat.session)) (with_numbered k.seats c (gone_seat seat.client.task)) (ops_with k.ops seat.place gone taken (k.steps + 1) (ended_by seat.client.task lost)) (by seat.client.task)
   where
     lost : Ended
     lost = record { outcome = outcome.Lost; rests_on = 0 }
@@ -610,10 +445,9 @@ took_in book k said i taken closing t j o ops steps file mine none begun has ans
 took_in book k said i taken closing t j o ops steps file mine none begun has answer (stage.Reading f) at (Walked (LookedUp a)) is old = tt
 took_in book k said i taken closing t j o ops steps file mine none begun has answer _ at _ is old = tt
 
-versions_hears : FitLaws → (book more : Book) (past : List Moment) (k : Core) (qs after : List Queue) (n now : ℕ) (bytes : List ℕ) (mid : List Queue) → IsKept book k qs → (h : Heard k qs n now bytes mid) → IsKept more (happens k (Hears n now bytes)).core after → CountedAt past k → VersionsAt (early_of book.opening) past k → VersionsBy (early_of book.opening) past k (Hears n now bytes) (happens k (Hears n now bytes))
+versions_hears : FitLaws → (book more : Book) (past : List Moment) (k : Core) (qs after : List Queue) (n now : ℕ) (bytes : List ℕ) (mid : List Queue) → IsKept book k qs → (h : Heard k qs n now bytes mid) → (let r = got_step h.seat.client (Ok (told_message h.told)) now in let t = acted k h.session.owner h.seat r.0 r.1 in IsKept more t.core after → CountedAt past k → VersionsAt (early_of book.opening) past k → VersionsBy (early_of book.opening) past k (Hears n now bytes) t)
 versions_hears laws book more past k qs after n now bytes mid kept h left counted before =
-    subst (VersionsBy (early_of book.opening) past k (Hears n now bytes)) (sym turned)
-    (subst (λ i. HaveVersions (early_of book.opening) (taken_of past ++ all_said (k.steps + 1) i (taken_by k i (Hears n now bytes))) k.sessions (with_numbered k.seats h.session.owner new) (ops_with k.ops h.seat.place r.0 taken (k.steps + 1) r.1)) (sym owner)
+    subst (λ i. HaveVersions (early_of book.opening) (taken_of past ++ all_said (k.steps + 1) i (taken_by k i (Hears n now bytes))) k.sessions (with_numbered k.seats h.session.owner new) (ops_with k.ops h.seat.place r.0 taken (k.steps + 1) r.1)) (sym owner)
     (subst (λ l. HaveVersions (early_of book.opening) (taken_of past ++ all_said (k.steps + 1) h.session.owner l) k.sessions (with_numbered k.seats h.session.owner new) (ops_with k.ops h.seat.place r.0 taken (k.steps + 1) r.1)) (sym (heard_takes laws book k qs n now bytes mid kept h))
     (versions_onward (early_of book.opening) k.steps (taken_of past) said k.sessions k.sessions k.seats (with_numbered k.seats h.session.owner new) k.ops (ops_with k.ops h.seat.place r.0 taken (k.steps + 1) r.1) counted.taken_by (λ f q le. versions_after k.ops h.seat.place r.0 taken (k.steps + 1) r.1 finds f q)
     (λ i z j o there is at. elim (of_numbered k.seats h.session.owner new i z there) [
@@ -629,7 +463,7 @@ versions_hears laws book more past k qs after n now bytes mid kept h left counte
     (λ p len q digest o at e point. elim (ops_shape k.ops h.seat.place r.0 taken (k.steps + 1) r.1 p o at) [
       | inr old ↦ inl (o, old.1, alike_other (taken_of past) (k.steps + 1) h.session.owner (wanted_by h.seat.client (Ok (told_message h.told))) o (actor.other p o old.1 old.0), e, point)
       | inl mine ↦ inr (subst (λ (y : Op). CameTo said y q (version_by (early_of book.opening) (ops_with k.ops h.seat.place r.0 taken (k.steps + 1) r.1) y.file q) × Since said y q (version_by (early_of book.opening) (ops_with k.ops h.seat.place r.0 taken (k.steps + 1) r.1) y.file q)) (sym mine.3) (ended p mine.0 mine.1 mine.2 len q digest (ap (λ (y : Op). y.outcome) (sym mine.3) ∙ e) (ap (λ (y : Op). y.point) (sym mine.3) ∙ point)))
-    ]) before)))
+    ]) before))
   where
     r : client.State × ClientStep
     r = got_step h.seat.client (Ok (told_message h.told)) now
@@ -642,9 +476,6 @@ versions_hears laws book more past k qs after n now bytes mid kept h left counte
 
     said : List Said
     said = taken_of past ++ all_said (k.steps + 1) h.session.owner (wanted_by h.seat.client (Ok (told_message h.told)))
-
-    turned : happens k (Hears n now bytes) ≡ acted k h.session.owner h.seat r.0 r.1
-    turned = heard_acts laws book k qs n now bytes mid kept h
 
     owner : owner_in (numbered k.sessions n) ≡ h.session.owner
     owner = ap owner_in h.at
@@ -713,7 +544,7 @@ versions_hears laws book more past k qs after n now bytes mid kept h left counte
         → CameTo said (op_after o r.0 taken (k.steps + 1) r.1) q (version_by (early_of book.opening) (ops_with k.ops h.seat.place r.0 taken (k.steps + 1) r.1) (op_after o r.0 taken (k.steps + 1) r.1).file q) × Since said (op_after o r.0 taken (k.steps + 1) r.1) q (version_by (early_of book.opening) (ops_with k.ops h.seat.place r.0 taken (k.steps + 1) r.1) (op_after o r.0 taken (k.steps + 1) r.1).file q)
     ended p o e at len q digest opened point =
         let there : slice_get more.ops p ≡ Some (op_after o r.0 taken (k.steps + 1) r.1) =
-        ap (λ (l : List Op). slice_get l p) (left.ops ∙ ap (λ (t : CoreStep). t.core.ops) turned ∙ ap (λ l. ops_with k.ops l r.0 taken (k.steps + 1) r.1) e ∙ ap (λ l. ops_after k.ops p l r.0 taken (k.steps + 1) r.1) at) ∙ at_replaced k.ops p (op_after o r.0 taken (k.steps + 1) r.1) o at in
+        ap (λ (l : List Op). slice_get l p) (left.ops ∙ ap (λ l. ops_with k.ops l r.0 taken (k.steps + 1) r.1) e ∙ ap (λ l. ops_after k.ops p l r.0 taken (k.steps + 1) r.1) at) ∙ at_replaced k.ops p (op_after o r.0 taken (k.steps + 1) r.1) o at in
         let right = left.sound.rights p (op_after o r.0 taken (k.steps + 1) r.1) there in
         let word : o.word ≡ words.Open = sym (word_after o r.0 taken (k.steps + 1) r.1) ∙ (subst (Caused more (op_after o r.0 taken (k.steps + 1) r.1)) opened right.cause).0 in
         let running = (own_op book k qs h.session.owner h.seat p o kept h.owner e at).4 in
@@ -754,21 +585,20 @@ versions_hears laws book more past k qs after n now bytes mid kept h left counte
 -- ---- any event
 
 versions_event : FitLaws → (all past rest : List Moment) (opening : List Opening) (k : Core) (qs : List Queue) (e : Event) (mid after : List Queue) → Step all past rest opening k qs e mid after → CountedAt past k → VersionsAt (early_of opening) past k → VersionsBy (early_of opening) past k e (happens k e)
-versions_event laws all past rest opening k qs (Joins c) mid after s counted h = subst (λ (o : Option Seat). VersionsBy (early_of opening) past k (Joins c) (joins k c o)) (sym s.finds.1) (let r = server_step k.server event.Connect in versions_joins (book_at opening k all) past k qs c s.finds.0 r.0 r.1.told s.kept s.finds.1 s.finds.2 counted h)
-versions_event laws all past rest opening k qs (Does c now d) mid after s counted h = subst (λ (o : Option Seat). IsKept (book_at opening (does k c now d o).core all) (does k c now d o).core after → VersionsBy (early_of opening) past k (Does c now d) (does k c now d o)) (sym s.finds.1) (λ left. versions_does (book_at opening k all) (book_at opening (does k c now d (Some s.finds.0)).core all) past k qs after c now d s.finds.0 s.kept s.finds.1 left counted h) s.left
-versions_event laws all past rest opening k qs (Serves n now bytes) mid after s counted h = versions_serves laws (book_at opening k all) past k qs n now bytes mid s.kept s.finds counted h
-versions_event laws all past rest opening k qs (Hears n now bytes) mid after s counted h = versions_hears laws (book_at opening k all) (book_at opening (happens k (Hears n now bytes)).core all) past k qs after n now bytes mid s.kept (heard_at (book_at opening k all) k qs n now bytes mid s.kept s.finds) s.left counted h
-versions_event laws all past rest opening k qs (Settles now) mid after s counted h = versions_settles (book_at opening k all) past k qs now s.kept counted h
-versions_event laws all past rest opening k qs (Cuts c) mid after s counted h = subst (λ (o : Option Seat). VersionsBy (early_of opening) past k (Cuts c) (cuts k c o)) (sym s.finds.1) (versions_cuts (book_at opening k all) past k qs c s.finds.0 s.kept s.finds.1 counted h s.finds.0.client.linked)
-versions_event laws all past rest opening k qs (Hangs n) mid after s counted h = versions_hangs (early_of opening) past k n (numbered k.sessions n) refl counted h
+versions_event laws all past rest opening k qs e mid after s counted h = event_cases laws all past rest opening k qs e mid after s (VersionsBy (early_of opening) past k) (record {
+  still = λ t still. versions_still (book_at opening k all) past k qs e t s.kept still counted h;
+  begins = λ c now d seat w here small left. versions_does (book_at opening k all) (book_at opening (does k c now d (Some seat)).core all) past k qs after c now d seat s.kept here left counted h;
+  hears = λ n now bytes s w left. (let r = got_step w.seat.client (Ok (told_message w.told)) now in versions_hears laws (book_at opening k all) (book_at opening (acted k w.session.owner w.seat r.0 r.1).core all) past k qs after n now bytes mid s.kept w left counted h);
+  lost = λ c seat w here. versions_lost (book_at opening k all) past k qs c seat s.kept here counted h;
+})
 
 abbrev pub Versions : (all past : List Moment) → List Opening → Core → List Queue → Type 0
 Versions all past opening k qs = CountedAt past k × VersionsAt (early_of opening) past k
 
 pub carried_versions : FitLaws → Carried Versions
 carried_versions laws = record {
-  first = λ all opening tree count kept. (carried_counts.first all opening tree count kept, record { jobs = λ i seat j o here is at. nothing_there o at; opened = λ p len q digest o at e point. nothing_there o at });
-  steps = λ all past rest opening k qs e mid after s h. (carried_counts.steps all past rest opening k qs e mid after s h.0, subst (λ z. HaveVersions (early_of opening) z (happens k e).core.sessions (happens k e).core.seats (happens k e).core.ops) (taken_more past (moment k e)) (versions_event laws all past rest opening k qs e mid after s h.0 h.1));
+  first = λ all opening tree count kept. ((carried_counts laws).first all opening tree count kept, record { jobs = λ i seat j o here is at. nothing_there o at; opened = λ p len q digest o at e point. nothing_there o at });
+  steps = λ all past rest opening k qs e mid after s h. ((carried_counts laws).steps all past rest opening k qs e mid after s h.0, subst (λ z. HaveVersions (early_of opening) z (happens k e).core.sessions (happens k e).core.seats (happens k e).core.ops) (taken_more past (moment k e)) (versions_event laws all past rest opening k qs e mid after s h.0 h.1));
   adjusts = λ all past opening k qs index seats same h. (
     h.0,
     record {

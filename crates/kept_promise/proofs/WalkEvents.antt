@@ -8,7 +8,6 @@ use Rattle.xdr_codec.specs.declared.handle.TheConstants.{ROOT}
 use Rattle.trace_replay.specs.Causes.{HasNeither}
 use Rattle.trace_replay.specs.Naming.{Leads, all_names}
 use Rattle.command_text.specs.declared.path.PathCommand.TheVariants as path
-use Rattle.server_core.specs.declared.event.Event.TheVariants as event
 use Rattle.client_state.specs.State as client
 use Rattle.wire.specs.declared.message.Body.TheVariants as body
 use Rattle.wire.specs.declared.message.Message.TheVariants as message
@@ -28,8 +27,8 @@ use Rattle.open_close.specs.Walking.{walks, walks_if, is_its, is_look, told_walk
 use Rattle.trace_ends.specs.Session.{taken_of as session_taken}
 use Rattle.trace_replay.specs.Trail.{AreCounted, steps_by}
 use Rattle.trace_ends.specs.Commands.{path_word}
-use Rattle.kept_promise.proofs.Common.{slice_get, Contains, Contains-push_cases, Command, ClientStep, Ended, ended_by, command_step, Pending, Stage, Task, Op, Opening, TakenCall, op_after, ops_with, place_after, Core, Seat, CoreStep, Event, Event.Joins, Event.Does, Event.Serves, Event.Hears, Event.Settles, Event.Cuts, Event.Hangs, numbered, joins, does, cuts, cuts_if, acted, session_of, server_step, happens, Moment, step_of, Deed, deeds_of, Book, Queue, taken_by, got_step, told_message, Body, took, took_if, got_message, has_call, pending, idle, drops, reply_body, ◌==◌, ◌||◌, Contains-append_cases, Reply, Reply.Walked, Reply.Bytes, Reply.Named, name_answer, Message, wanted_if, Contains-push, file_of, joined_from, calls_from, place_with, nat_lt, if◌then◌else◌, Local, Part, content_length, content_bytes, on_local, edits, truncates, reads, abandons, too_big, writes, done_with, closes, asks_temp, opens, opens_if, asks_file, asks_kept, is_open, may_ask, local_most, written_size, written, truncated, ends, word_of, value_at_begin, Word, point_if, has_point, told_of, Outcome}
-use Rattle.kept_promise.proofs.Actors.{job_place, job_task, Heard, heard_at, heard_acts, heard_takes}
+use Rattle.kept_promise.proofs.Common.{slice_get, Contains, Contains-push_cases, Command, ClientStep, Ended, ended_by, command_step, Pending, Stage, Task, Op, Opening, TakenCall, op_after, ops_with, place_after, Core, Seat, Event, Event.Does, Event.Hears, Event.Cuts, numbered, does, cuts_if, acted, session_of, happens, Moment, step_of, Deed, deeds_of, Book, Queue, taken_by, got_step, told_message, Body, took, took_if, got_message, has_call, pending, idle, drops, reply_body, ◌==◌, ◌||◌, Contains-append_cases, Reply, Reply.Walked, Reply.Bytes, name_answer, Message, wanted_if, Contains-push, file_of, joined_from, calls_from, place_with, nat_lt, if◌then◌else◌, Local, Part, content_length, content_bytes, on_local, edits, truncates, reads, abandons, too_big, writes, done_with, closes, asks_temp, opens, opens_if, asks_file, asks_kept, is_open, may_ask, local_most, written_size, written, truncated, ends, word_of, value_at_begin, Word, point_if, has_point, told_of, Outcome}
+use Rattle.kept_promise.proofs.Actors.{job_place, job_task, Heard, heard_takes}
 use Rattle.kept_promise.proofs.Lists.{some_is, nothing_there, of_appended, kept_appended, count_more, within, at_end}
 use Rattle.kept_promise.proofs.Messages.{Job, job, job_of, WalkCame, WalkTold, AllTolds, IsAnswer, AnswerOf, FetchOf, CloseOf}
 use Rattle.kept_promise.proofs.PathNames.{IsSmall, IsWalkSmall, makes_later}
@@ -38,12 +37,11 @@ use Rattle.kept_promise.proofs.Fits.{FitLaws}
 use Rattle.kept_promise.proofs.JobFacts.{job_after}
 use Rattle.kept_promise.proofs.RunsCarried.{book_at, moment, Step, Carried}
 use Rattle.kept_promise.proofs.Versions.{of_numbered}
-use Rattle.kept_promise.proofs.VersionRuns.{own_op, change_of}
+use Rattle.kept_promise.proofs.EventCases.{event_cases}
+use Rattle.kept_promise.proofs.VersionRuns.{own_op}
 use Rattle.kept_promise.proofs.Rights.{Caused, IsRight}
 use Rattle.kept_promise.proofs.CommandOps.{made_by, job_stays}
 use Rattle.kept_promise.proofs.Shapes.{busy_command}
-use Rattle.kept_promise.proofs.ServesQuietly.{serves_quiet}
-use Rattle.kept_promise.proofs.LogEvents.{hangs_silent}
 use Rattle.kept_promise.proofs.Alike.{AreInOrder}
 use Rattle.kept_promise.proofs.Fetched.{IsFetched, ends_fetched}
 use Rattle.kept_promise.proofs.Leaving.{Leaves, took_left}
@@ -52,7 +50,7 @@ use Rattle.kept_promise.proofs.StepCases.{IsOfFile}
 use Rattle.kept_promise.proofs.Walked.{HasWalk, leads_past, walk_begins}
 use Rattle.kept_promise.proofs.WalkRuns.{bare, OnWay, IsOn, EndsAs, IsOver, Walks, EarlyBy, is_on, took_file, heard_walk, IsBare}
 use Rattle.kept_promise.proofs.OneSession.{AtOneSession}
-use Rattle.kept_promise.proofs.WalksOnward.{WayKept, same_kept, onward, same_onward, change_onward, settled_onward, joins_onward, begin_stays, word_stays, acted_at, StepComes, acted_onward}
+use Rattle.kept_promise.proofs.WalksOnward.{WayKept, same_kept, onward, walks_still, begin_stays, word_stays, acted_at, StepComes, acted_onward}
 
 -- ---- one on a file, and one whose file was found
 
@@ -451,48 +449,28 @@ does_onward all past opening k qs c now d seat small kept here h = onward all pa
 -- ---- any event
 
 walks_event : FitLaws → (all past rest : List Moment) (opening : List Opening) (k : Core) (qs : List Queue) (e : Event) (mid after : List Queue) → Step all past rest opening k qs e mid after → AreInOrder all → Dated all → AtOneSession all → Walks all past k → Walks all (past ++ moment k e ∷ []) (happens k e).core
-walks_event laws all past rest opening k qs (Joins c) mid after s order dated one h = subst (λ (o : Option Seat). Walks all (past ++ moment k (Joins c) ∷ []) (joins k c o).core) (sym s.finds.1) (let r = server_step k.server event.Connect in joins_onward all past opening k qs c s.finds.0 s.kept s.finds.1 s.finds.2 r.0 r.1.told h)
-walks_event laws all past rest opening k qs (Does c now d) mid after s order dated one h = subst (λ (o : Option Seat). Walks all (past ++ moment k (Does c now d) ∷ []) (does k c now d o).core) (sym s.finds.1) (does_onward all past opening k qs c now d s.finds.0 s.finds.2 s.kept s.finds.1 h)
-walks_event laws all past rest opening k qs (Serves n now bytes) mid after s order dated one h =
-    let q = serves_quiet laws (book_at opening k all) k qs n now bytes mid s.kept s.finds in
-    elim q.ops [
-      | inl same ↦ same_onward all past k (happens k (Serves n now bytes)).core (Serves n now bytes) q.passes (append-nil (deeds_of past)) same q.seats h
-      | inr made ↦ change_onward all past k (happens k (Serves n now bytes)).core (Serves n now bytes) q.passes (append-nil (deeds_of past)) q.seats (change_of made) h
-    ]
-walks_event laws all past rest opening k qs (Hears n now bytes) mid after s order dated one h =
-    let w = heard_at (book_at opening k all) k qs n now bytes mid s.kept s.finds in
-    let r = got_step w.seat.client (Ok (told_message w.told)) now in
-    let acts = heard_acts laws (book_at opening k all) k qs n now bytes mid s.kept w in
-    subst (λ (t : CoreStep). Walks all (past ++ moment k (Hears n now bytes) ∷ []) t.core) (sym acts)
-    (acted_onward all past opening k qs (Hears n now bytes) w.session.owner w.seat (record w.seat { client = r.0; place = place_after w.seat.place r.1.ended }) r.0 r.1 (session_taken (session_of k.sessions w.seat.session)) (acted k w.session.owner w.seat r.0 r.1).core s.kept w.owner (append-nil (deeds_of past)) refl refl refl
-    (λ j is. job_after r.0 w.seat.place r.1.ended j is)
-    (λ j d o is deed at begun word on. heard_comes laws all past opening k qs n now bytes mid s.kept w order one s.noted.there (in_past all past rest k (Hears n now bytes) dated.0 s.split dated.1) h j d o is deed at begun on (λ f bad. fault_not (book_at opening (happens k (Hears n now bytes)).core all) (op_after o r.0 (session_taken (session_of k.sessions w.seat.session)) (k.steps + 1) r.1) f (s.left.sound.rights j.place (op_after o r.0 (session_taken (session_of k.sessions w.seat.session)) (k.steps + 1) r.1)
-    (ap (λ (t : CoreStep). slice_get t.core.ops j.place) acts ∙ ap (λ (l : Option ℕ). slice_get (ops_with k.ops l r.0 (session_taken (session_of k.sessions w.seat.session)) (k.steps + 1) r.1) j.place) (job_place w.seat.place w.seat.client.task j is) ∙ acted_at k.ops j.place o r.0 (session_taken (session_of k.sessions w.seat.session)) (k.steps + 1) r.1 at)) bad)) h)
-walks_event laws all past rest opening k qs (Settles now) mid after s order dated one h = settled_onward all past opening k qs now s.kept h
-walks_event laws all past rest opening k qs (Cuts c) mid after s order dated one h = subst (λ (o : Option Seat). Walks all (past ++ moment k (Cuts c) ∷ []) (cuts k c o).core) (sym s.finds.1) (by s.finds.0.client.linked)
+walks_event laws all past rest opening k qs e mid after s order dated one h = event_cases laws all past rest opening k qs e mid after s (λ e t. Walks all (past ++ moment k e ∷ []) t.core) (record {
+  still = λ t still. walks_still all past k e t still h;
+  begins = λ c now d seat s here small left. does_onward all past opening k qs c now d seat small s.kept here h;
+  hears = λ n now bytes s w left.
+      let r = got_step w.seat.client (Ok (told_message w.told)) now in
+      let taken = session_taken (session_of k.sessions w.seat.session) in
+      let t = acted k w.session.owner w.seat r.0 r.1 in
+      acted_onward all past opening k qs (Hears n now bytes) w.session.owner w.seat (record w.seat { client = r.0; place = place_after w.seat.place r.1.ended }) r.0 r.1 taken t.core s.kept w.owner (append-nil (deeds_of past)) refl refl refl
+      (λ j is. job_after r.0 w.seat.place r.1.ended j is)
+      (λ j d o is deed at begun word on. heard_comes laws all past opening k qs n now bytes mid s.kept w order one s.noted.there (in_past all past rest k (Hears n now bytes) dated.0 s.split dated.1) h j d o is deed at begun on (λ f bad. fault_not (book_at opening t.core all) (op_after o r.0 taken (k.steps + 1) r.1) f (left.sound.rights j.place (op_after o r.0 taken (k.steps + 1) r.1)
+      (ap (λ (l : Option ℕ). slice_get (ops_with k.ops l r.0 taken (k.steps + 1) r.1) j.place) (job_place w.seat.place w.seat.client.task j is) ∙ acted_at k.ops j.place o r.0 taken (k.steps + 1) r.1 at)) bad)) h;
+  lost = λ c seat s here.
+      let gone : client.State = record seat.client { linked = false; task = None; forgotten = [] } in
+      let acts = ended_by seat.client.task (record { outcome = outcome.Lost; rests_on = 0 }) in
+      acted_onward all past opening k qs (Cuts c) c seat (record seat { client = gone; place = place_after seat.place acts.ended }) gone acts (session_taken (session_of k.sessions seat.session)) (cuts_if k c seat true).core s.kept here (append-nil (deeds_of past)) refl refl refl
+      (λ j is. nothing_there j (sym (no_job (place_after seat.place acts.ended)) ∙ is))
+      (λ j d o is deed at begun word on. lost_comes all d o j k.steps gone (session_taken (session_of k.sessions seat.session)) on seat.client.task (job_task seat.place seat.client.task j is)) h;
+})
   where
-    seat : Seat
-    seat = s.finds.0
-
-    lost : Ended
-    lost = record { outcome = outcome.Lost; rests_on = 0 }
-
-    gone : client.State
-    gone = record seat.client { linked = false; task = None; forgotten = [] }
-
-    taken : List TakenCall
-    taken = session_taken (session_of k.sessions seat.session)
-
     no_job : (l : Option ℕ) → job_of l None ≡ None
     no_job None = refl
     no_job (Some l) = refl
-
-    by : (b : Bool) → Walks all (past ++ moment k (Cuts c) ∷ []) (cuts_if k c seat b).core
-    by false = same_onward all past k (cuts_if k c seat false).core (Cuts c) (omega arith) (append-nil (deeds_of past)) refl refl h
-    by true = acted_onward all past opening k qs (Cuts c) c seat (record seat { client = gone; place = place_after seat.place (ended_by seat.client.task lost).ended }) gone (ended_by seat.client.task lost) taken (cuts_if k c seat true).core s.kept s.finds.1 (append-nil (deeds_of past)) refl refl refl
-        (λ j is. nothing_there j (sym (no_job (place_after seat.place (ended_by seat.client.task lost).ended)) ∙ is))
-        (λ j d o is deed at begun word on. lost_comes all d o j k.steps gone taken on seat.client.task (job_task seat.place seat.client.task j is)) h
-walks_event laws all past rest opening k qs (Hangs n) mid after s order dated one h = let q = hangs_silent k n (numbered k.sessions n) in same_onward all past k (happens k (Hangs n)).core (Hangs n) q.3 (append-nil (deeds_of past)) q.1 q.2 h
 
 abbrev pub WalksAt : (all past : List Moment) → List Opening → Core → List Queue → Type 0
 WalksAt all past opening k qs = AreInOrder all → Dated all → AtOneSession all → Walks all past k

@@ -31,7 +31,7 @@ use Rattle.register_model.specs.declared.op.Outcome.TheVariants as told
 use Rattle.register_model.specs.declared.op.Word.TheVariants as words
 use Rattle.trace_ends.specs.Commands.{path_word, word_of}
 use Rattle.xdr_codec.specs.declared.handle.TheConstants.{ROOT}
-use Rattle.xdr_codec.specs.declared.answer.Answer.TheVariants.{Done, Failed}
+use Rattle.xdr_codec.specs.declared.answer.Answer.TheVariants.{Failed}
 use Rattle.nfs3_calls.specs.declared.message.Nfs.TheVariants as nfs
 use Rattle.tree_reading.specs.Tree.{Tree}
 use Rattle.file_tree.specs.Step.{create, mkdir, remove, rmdir, rename}

@@ -1,28 +1,26 @@
 -- What an event leaves of how far each command on names under way has come, by what becomes of jobs and operations: nothing changes, a change is made, a client joins or goes on.
 use Rattle.register_model.specs.declared.op.Outcome.{Outcome as History}
-use Rattle.std.proofs.Common.{◌⊎◌, inl, inr, ◌≡◌, ℕ, ◌+◌, ◌≤◌, List, [], ◌∷◌, ◌++◌, length, append-nil, Option, Some, None, true, false, refl, sym, ap, ◌∙◌, subst, arith}
+use Rattle.std.proofs.Common.{◌⊎◌, inl, inr, ◌≡◌, ℕ, ◌+◌, ◌≤◌, List, [], ◌∷◌, ◌++◌, length, append-nil, Option, Some, None, true, refl, sym, ap, ◌∙◌, subst, arith}
 use Rattle.command_text.specs.declared.command.Command.TheVariants as command
 use Rattle.command_text.specs.declared.path.PathCommand.{PathCommand}
 use Rattle.command_text.specs.declared.path.Spot.{Spot}
 use Rattle.command_text.specs.declared.path.PathCommand.TheVariants as path
-use Rattle.server_core.specs.State as server
-use Rattle.server_rules.specs.declared.told.Told.{Told as Announced}
-use Rattle.server_rules.specs.declared.told.Told.TheVariants as announced
 use Rattle.client_state.specs.State as client
 use Rattle.client_state.specs.declared.task.Stage.TheVariants as stage
 use Rattle.register_model.specs.declared.op.Outcome.TheVariants as told
 use Rattle.register_model.specs.declared.op.Word.TheVariants as words
 use Rattle.trace_ends.specs.Commands.{path_word}
-use Rattle.kept_promise.proofs.Common.{slice_get, slice_set, Contains-push_cases, Command, ClientStep, Ended, joined, Stage, Task, Op, Opening, TakenCall, op_after, ops_with, ops_after, Core, Seat, Event, Event.Joins, Event.Does, Event.Settles, numbered, with_numbered, joins_as, happens, Moment, Deed, deeds_of, deed_by, Queue, idle, ends, word_of, is_untold}
+use Rattle.kept_promise.proofs.Common.{slice_get, slice_set, Contains-push_cases, Command, ClientStep, Ended, Stage, Task, Op, Opening, TakenCall, op_after, ops_with, ops_after, Core, Seat, Event, Event.Does, numbered, with_numbered, CoreStep, Moment, Deed, deeds_of, deed_by, Queue, idle, ends, word_of, is_untold}
 use Rattle.kept_promise.proofs.Actors.{job_place}
 use Rattle.kept_promise.proofs.Lists.{set_count, some_is, nothing_there, kept_appended, at_replaced, same_or_not, set_else, true_and_false}
-use Rattle.kept_promise.proofs.Messages.{Job, job, job_of}
+use Rattle.kept_promise.proofs.Messages.{Job, job}
 use Rattle.kept_promise.proofs.Facts.{IsKept, IsMatched}
 use Rattle.kept_promise.proofs.Locally.{deeds_more}
 use Rattle.kept_promise.proofs.JobFacts.{ops_shape}
 use Rattle.kept_promise.proofs.RunsCarried.{book_at, moment}
 use Rattle.kept_promise.proofs.Versions.{of_numbered}
-use Rattle.kept_promise.proofs.VersionRuns.{settled_are, own_op, foreign_at, IsChange, Remembers}
+use Rattle.kept_promise.proofs.EventCases.{IsChange, Remembers, Settled, IsStill}
+use Rattle.kept_promise.proofs.VersionRuns.{own_op, foreign_at}
 use Rattle.kept_promise.proofs.Rights.{gets_file}
 use Rattle.kept_promise.proofs.Walked.{HasWalk}
 use Rattle.kept_promise.proofs.WalkRuns.{bare, OnWay, IsOn, EndsAs, JobsOn, IsOver, Walks, SameWay, same_way, is_on, is_over, IsBare}
@@ -164,13 +162,9 @@ still_onward all past k r e le none count seats still back h = onward all past k
     (λ i seat j here is. let w = seats i seat j here is in inl (w.0, w.1, w.2, λ o at. still j.place o at))
     (λ p d q at is. let w = back p q is in inl (w.0, ap (λ (l : List Deed). slice_get l p) (sym none) ∙ at, w.1, w.2)) h
 
--- nothing of them changes
-pub same_onward : (all past : List Moment) (k r : Core) (e : Event) → k.steps ≤ r.steps → IsNoDeed past k e → r.ops ≡ k.ops → r.seats ≡ k.seats → Walks all past k → Walks all (past ++ moment k e ∷ []) r
-same_onward all past k r e le none ops seats h = still_onward all past k r e le none (ap (λ (l : List Op). length l) ops) (λ i seat j here is. (seat, ap (λ (l : List Seat). numbered l i) (sym seats) ∙ here, is)) (λ p o at. (o, ap (λ (l : List Op). slice_get l p) ops ∙ at, same_kept o)) (λ p q at. (q, ap (λ (l : List Op). slice_get l p) (sym ops) ∙ at, same_kept q)) h
-
 -- an operation's change was made
-pub change_onward : (all past : List Moment) (k r : Core) (e : Event) → k.steps ≤ r.steps → IsNoDeed past k e → r.seats ≡ k.seats → IsChange k r.ops → Walks all past k → Walks all (past ++ moment k e ∷ []) r
-change_onward all past k r e le none seats c h = still_onward all past k r e le none (ap (λ (l : List Op). length l) c.is ∙ set_count k.ops c.place new) (λ i seat j here w. (seat, ap (λ (l : List Seat). numbered l i) (sym seats) ∙ here, w))
+change_onward : (all past : List Moment) (k : Core) (e : Event) (t : CoreStep) → IsStill k e t → IsNoDeed past k e → IsChange k t.core.ops → Walks all past k → Walks all (past ++ moment k e ∷ []) t.core
+change_onward all past k e t s none c h = still_onward all past k t.core e s.passes none (ap (λ (l : List Op). length l) c.is ∙ set_count k.ops c.place new) (λ i seat j here w. (seat, s.jobs i seat j here w, w))
     (λ p q there. elim (same_or_not p c.place) [
       | inr apart ↦ (q, ap (λ (l : List Op). slice_get l p) c.is ∙ set_else k.ops c.place p new apart ∙ there, same_kept q)
       | inl mine ↦ (let e : c.op ≡ q = some_is c.op q (sym c.there ∙ ap (slice_get k.ops) (sym mine) ∙ there) in (new, ap (λ (l : List Op). slice_get l p) c.is ∙ ap (slice_get (slice_set k.ops c.place new)) mine ∙ at_replaced k.ops c.place new c.op c.there, subst (λ (z : Op). WayKept z new) e (way c.kind)))
@@ -187,30 +181,16 @@ change_onward all past k r e le none seats c h = still_onward all past k r e le 
     way (inl close) = inl (record { client = refl; word = refl; file = close.1; begin = refl; end = refl; outcome = refl; point = inr close.0 })
     way (inr make) = inr (record { client = refl; word = refl; begin = refl; end = refl; outcome = refl; gets = make.0; untold = c.unmade.2 })
 
-pub settled_onward : (all past : List Moment) (opening : List Opening) (k : Core) (qs : List Queue) (now : ℕ) → IsKept (book_at opening k all) k qs → Walks all past k → Walks all (past ++ moment k (Settles now) ∷ []) (happens k (Settles now)).core
-settled_onward all past opening k qs now kept h = elim (settled_are (book_at opening k all) k qs now kept) [
-  | inl same ↦ same_onward all past k (happens k (Settles now)).core (Settles now) (omega arith) (append-nil (deeds_of past)) same refl h
-  | inr c ↦ change_onward all past k (happens k (Settles now)).core (Settles now) (omega arith) (append-nil (deeds_of past)) refl c h
-]
-
--- a client joins
-pub joins_onward : (all past : List Moment) (opening : List Opening) (k : Core) (qs : List Queue) (c : ℕ) (seat : Seat) → IsKept (book_at opening k all) k qs → numbered k.seats c ≡ Some seat → seat.client.linked ≡ false → (s : server.State) (o : Announced) → Walks all past k → Walks all (past ++ moment k (Joins c) ∷ []) (joins_as k c seat s o).core
-joins_onward all past opening k qs c seat kept here free s (announced.Session made) h = still_onward all past k (joins_as k c seat s (announced.Session made)).core (Joins c) (omega arith) (append-nil (deeds_of past)) refl
-    (λ i z j there is. elim (of_numbered k.seats c new i z there) [
-      | inl mine ↦ nothing_there j (sym (idle seat.place) ∙ ap job (sym mine.1) ∙ is)
-      | inr other ↦ (z, other.1, is)
-    ]) (λ p o at. (o, at, same_kept o)) (λ p q at. (q, at, same_kept q)) h
+-- clients and operations are as they were, but for a change that is made
+pub walks_still : (all past : List Moment) (k : Core) (e : Event) (t : CoreStep) → IsStill k e t → Walks all past k → Walks all (past ++ moment k e ∷ []) t.core
+walks_still all past k e t s h = by s.ops
   where
-    new : Seat
-    new = record { client = joined seat.client; session = Some made; place = seat.place }
+    none : IsNoDeed past k e
+    none = ap (λ (l : List Deed). deeds_of past ++ l) (s.deedless past) ∙ append-nil (deeds_of past)
 
-    none : seat.client.task ≡ None
-    none = ((kept.seats c seat here).unlinked free).0
-
-    idle : (l : Option ℕ) → job_of l (joined seat.client).task ≡ None
-    idle None = refl
-    idle (Some l) = ap (job_of (Some l)) none
-joins_onward all past opening k qs c seat kept here free s _ h = still_onward all past k (record k { steps = k.steps + 2; server = s }) (Joins c) (omega arith) (append-nil (deeds_of past)) refl (λ i z j there is. (z, there, is)) (λ p o at. (o, at, same_kept o)) (λ p q at. (q, at, same_kept q)) h
+    by : Settled k t.core.ops → Walks all (past ++ moment k e ∷ []) t.core
+    by (inl same) = still_onward all past k t.core e s.passes none (ap (λ (l : List Op). length l) same) (λ i seat j here is. (seat, s.jobs i seat j here is, is)) (λ p o at. (o, ap (λ (l : List Op). slice_get l p) same ∙ at, same_kept o)) (λ p q at. (q, ap (λ (l : List Op). slice_get l p) (sym same) ∙ at, same_kept q)) h
+    by (inr c) = change_onward all past k e t s none c h
 
 -- ---- a client goes on
 

@@ -1,0 +1,289 @@
+-- What an event of a run comes to, for clients and operations: nothing, or a change that is made; or one begins, or a client goes on with its own, or loses its connection.
+use Rattle.std.proofs.Common.{◌⊎◌, inl, inr, ◌≡◌, ℕ, zero, suc, ◌+◌, ◌<◌, ◌≤◌, List, [], ◌∷◌, ◌++◌, Option, Some, None, Result, Ok, Err, Bool, true, false, refl, sym, ap, ◌∙◌, subst, arith}
+use Rattle.std.specs.Option.{option_map}
+use Rattle.wire.specs.declared.message.Message.TheVariants as message
+use Rattle.server_core.specs.Closing.{at as at_reading}
+use Rattle.server_core.specs.State as server
+use Rattle.server_core.specs.declared.change.Wanted.TheVariants as wanted
+use Rattle.server_core.specs.declared.event.Event.TheVariants as event
+use Rattle.server_rules.specs.declared.told.Told.{Told as Announced}
+use Rattle.server_rules.specs.declared.told.Told.TheVariants as announced
+use Rattle.client_state.specs.declared.step.Outcome.TheVariants as outcome
+use Rattle.register_model.specs.declared.op.Word.TheVariants as words
+use Rattle.trace_ends.specs.Session.{taken_of as session_taken}
+use Rattle.trace_ends.specs.Core.{newest_entries, changed_file}
+use Rattle.kept_promise.proofs.Common.{slice_get, slice_set, cond, find, ◌==◌, Command, File, parse_of, WireFault, Message, Change, Wanted, ServerStep, server_step, got_step, ended_by, joined, Task, Op, Opening, TakenCall, taken_at, pointed, pointed_at, settled_ops, settled_by, Core, Seat, Session, Event, Event.Joins, Event.Does, Event.Serves, Event.Hears, Event.Settles, Event.Cuts, Event.Hangs, CoreStep, numbered, with_numbered, new_session, session_of, taken_with, server_waiting, serves_if, serves, acted, does, joins_as, joins, settles, cuts_if, cuts, hangs_if, hangs, happens, Moment, deed_by, Book, Queue, ask_message, told_message}
+use Rattle.kept_promise.proofs.Lists.{some_is, nothing_there, same_or_not, kept_appended, set_else}
+use Rattle.kept_promise.proofs.PathNames.{IsSmall}
+use Rattle.kept_promise.proofs.Messages.{Job, job, job_of, WaitsFor, content_wanted}
+use Rattle.kept_promise.proofs.Rights.{IsUnmade, gets_file}
+use Rattle.kept_promise.proofs.Fits.{FitLaws}
+use Rattle.kept_promise.proofs.Keys.{own}
+use Rattle.kept_promise.proofs.Turns.{also_numbered, around_with}
+use Rattle.kept_promise.proofs.Promised.{own_there}
+use Rattle.kept_promise.proofs.Facts.{IsKept}
+use Rattle.kept_promise.proofs.Logs.{IsSilent}
+use Rattle.kept_promise.proofs.RunsCarried.{book_at, moment, Step, Finds}
+use Rattle.kept_promise.proofs.Actors.{Heard, heard_at, heard_acts, serves_read}
+use Rattle.kept_promise.proofs.Versions.{of_numbered, takens, Extends, extends_same}
+use Rattle.kept_promise.proofs.ServesFiles.{newest_one}
+use Rattle.kept_promise.proofs.Making.{made_change, made_is, entry_of}
+use Rattle.kept_promise.proofs.ServesQuietly.{MadeHere, serves_quiet}
+use Rattle.kept_promise.proofs.SettlesQuietly.{GoesHere, Settling, makes_commit, makes_else, settling}
+
+-- a session whose change waits remembers the close at this place
+abbrev pub Remembers : Core → (place : ℕ) → Type 0
+Remembers k place = (n i : ℕ) × (x : Session) × (c : Change) × (numbered k.sessions n ≡ Some x) × (x.closing ≡ Some place) × (slice_get (own n k.server.waiting) i ≡ Some c)
+
+-- an operation's change was made: that of a close which a session remembers, or a file was made or went
+pub record IsChange (k : Core) (ops : List Op) : Type 0 where
+  pub place : ℕ
+  pub op : Op
+  pub there : slice_get k.ops place ≡ Some op
+  pub unmade : IsUnmade op
+  pub file : ℕ
+  pub is : ops ≡ slice_set k.ops place (record op { file = file; point = Some (k.steps + 1) })
+  pub kind : ((op.word ≡ words.Close) × (file ≡ op.file) × Remembers k place) ⊎ ((gets_file op.word ≡ true) × (op.file ≡ 0))
+
+pub change_of : {k : Core} {ops : List Op} → MadeHere k ops → IsChange k ops
+change_of m = record { place = m.place; op = m.op; there = m.there; unmade = m.unmade; file = m.new; is = m.after_is; kind = inr (ap gets_file m.word_is, m.file_is) }
+
+-- what a change that was made, if one was, makes of the operations
+abbrev pub Settled : Core → List Op → Type 0
+Settled k ops = (ops ≡ k.ops) ⊎ IsChange k ops
+
+pub goes_of : {k : Core} {ops : List Op} → GoesHere k ops → IsChange k ops
+goes_of m = record { place = m.place; op = m.op; there = m.there; unmade = m.unmade; file = m.new; is = m.after_is; kind = inr (m.gets, m.file_is) }
+
+pub settled_are : (book : Book) (k : Core) (qs : List Queue) (now : ℕ) → IsKept book k qs → Settled k (settles k now).core.ops
+settled_are book k qs now kept = by (settling book k qs now kept)
+  where
+    made : (cs : List Change) (c : Change) → k.server.waiting ≡ c ∷ cs → c.what ≡ wanted.Content (content_wanted c.what) → (f : File) → (let r = made_change (at_reading (record k.server { waiting = cs }) now) c (content_wanted c.what) f in Settled k (settled_by k (changed_file (newest_entries r.0.journal r.1.entries)) r.1.told))
+    made cs c e what f =
+        let first : slice_get k.server.waiting 0 ≡ Some c = ap (λ (l : List Change). slice_get l 0) e in
+        let home = kept.home 0 c first in
+        let q = also_numbered k.sessions qs c.session home.0 kept.made.1 home.1 in
+        let mine = own_there k.server.waiting 0 c first in
+        let h = kept.sessions c.session home.0 q.0 home.1 q.1 in
+        let pending = subst (λ (w : Wanted). WaitsFor book c.session home.0.closing home.0.cut (job h.seat) c.xid c.file w) what (h.pending mine.0 c mine.1) in
+        let there : slice_get k.ops pending.place ≡ Some pending.op = ap (λ (l : List Op). slice_get l pending.place) (sym kept.ops) ∙ pending.there in
+        inr (record {
+          place = pending.place;
+          op = pending.op;
+          there = there;
+          unmade = pending.unmade;
+          file = c.file;
+          is = ap (λ (z : Option ℕ). settled_by k z (announced.Settled c.session c.xid)) (newest_one k.server.journal (entry_of c (content_wanted c.what) f))
+              ∙ ap (settled_ops k.ops (k.steps + 1) (Some c.file)) home.1
+              ∙ ap (λ l. pointed_at k.ops l (k.steps + 1) (Some c.file)) pending.known
+              ∙ ap (pointed k.ops pending.place c.file (k.steps + 1)) there;
+          kind = inl (pending.word_is, sym pending.file_is, (c.session, mine.0, home.0, c, home.1, pending.known, mine.1));
+        })
+
+    by : Settling k (settles k now) → Settled k (settles k now).core.ops
+    by (makes_else (inl same) entered tells) = inl same
+    by (makes_else (inr gone) entered tells) = inr (goes_of gone)
+    by (makes_commit c cs f e what there) =
+        subst (λ (ws : List Change). (let r = Rattle.server_core.specs.Closing.settles k.server now ws in Settled k (settled_by k (changed_file (newest_entries r.0.journal r.1.entries)) r.1.told))) (sym e)
+        (subst (λ (r : server.State × ServerStep). Settled k (settled_by k (changed_file (newest_entries r.0.journal r.1.entries)) r.1.told)) (sym (made_is book k.server now c cs f kept.server e there what)) (made cs c e what f))
+
+-- ---- nothing is said
+
+pub joins_silent : (k : Core) (c : ℕ) → IsSilent (moment k (Joins c))
+joins_silent k c = (refl, refl, up (numbered k.seats c))
+  where
+    made : (z : Seat) (s : server.State) (o : Announced) → (joins_as k c z s o).up ≡ []
+    made z s (announced.Session n) = refl
+    made z s _ = refl
+
+    up : (o : Option Seat) → (joins k c o).up ≡ []
+    up None = refl
+    up (Some z) = let r = server_step k.server event.Connect in made z r.0 r.1.told
+
+pub serves_silent : (k : Core) (n now : ℕ) (bytes : List ℕ) (x : Option Session) → (let t = serves k n now bytes x in (t.up ≡ []) × (t.core.seats ≡ k.seats) × (k.steps ≤ t.core.steps))
+serves_silent k n now bytes None = (refl, refl, omega arith)
+serves_silent k n now bytes (Some x) = by (parse_of server_waiting bytes)
+  where
+    by : (m : Result Message WireFault) → (let t = serves_if k n now x m in (t.up ≡ []) × (t.core.seats ≡ k.seats) × (k.steps ≤ t.core.steps))
+    by (Ok m) = (refl, refl, omega arith)
+    by (Err e) = (refl, refl, omega arith)
+
+pub hangs_silent : (k : Core) (n : ℕ) (x : Option Session) → (let t = hangs k n x in (t.up ≡ []) × (t.core.ops ≡ k.ops) × (t.core.seats ≡ k.seats) × (k.steps ≤ t.core.steps))
+hangs_silent k n None = (refl, refl, refl, omega arith)
+hangs_silent k n (Some x) = by x.hung
+  where
+    by : (b : Bool) → (let t = hangs_if k n x b in (t.up ≡ []) × (t.core.ops ≡ k.ops) × (t.core.seats ≡ k.seats) × (k.steps ≤ t.core.steps))
+    by true = (refl, refl, refl, omega arith)
+    by false = (refl, refl, refl, omega arith)
+
+pub cuts_silent : (k : Core) (c : ℕ) → IsSilent (moment k (Cuts c))
+cuts_silent k c = (refl, refl, up (numbered k.seats c))
+  where
+    acts : (t : Option Task) → (ended_by t (record { outcome = outcome.Lost; rests_on = 0 })).send ≡ []
+    acts None = refl
+    acts (Some t) = refl
+
+    link : (z : Seat) (b : Bool) → (cuts_if k c z b).up ≡ []
+    link z true = acts z.client.task
+    link z false = refl
+
+    up : (o : Option Seat) → (cuts k c o).up ≡ []
+    up None = refl
+    up (Some z) = link z z.client.linked
+
+-- ---- what was taken of a client's newest session
+
+pub takens_else : (n m : ℕ) (sessions : List Session) (y : Session) (session : Option ℕ) → (session ≡ Some m → ⊥) → Extends n (session_taken (session_of sessions session)) (session_taken (session_of (with_numbered sessions m y) session))
+takens_else n m sessions y None apart = extends_same n []
+takens_else n m sessions y (Some l) apart = by m (λ e. apart (ap (λ z. Some z) e))
+  where
+    by : (m : ℕ) → (l ≡ m → ⊥) → Extends n (session_taken (numbered sessions l)) (session_taken (numbered (with_numbered sessions m y) l))
+    by zero far = extends_same n (session_taken (numbered sessions l))
+    by (suc m) far = subst (λ z. Extends n (session_taken (numbered sessions l)) (session_taken z)) (sym (other sessions m y l far)) (extends_same n (session_taken (numbered sessions l)))
+      where
+        other : (xs : List Session) (m : ℕ) (y : Session) (l : ℕ) → (l ≡ suc m → ⊥) → numbered (slice_set xs m y) l ≡ numbered xs l
+        other xs m y zero far = refl
+        other xs m y (suc l) far = set_else xs m l y (λ e. far (ap suc e))
+
+pub takens_with : (n m : ℕ) (sessions : List Session) (x y : Session) (session : Option ℕ) → numbered sessions m ≡ Some x → Extends n x.taken y.taken → Extends n (session_taken (session_of sessions session)) (session_taken (session_of (with_numbered sessions m y) session))
+takens_with n m sessions x y None at e = extends_same n []
+takens_with n m sessions x y (Some l) at e = elim (same_or_not l m) [
+  | inr apart ↦ takens_else n m sessions y (Some l) (λ q. apart (some_is l m q))
+  | inl same ↦
+      let around = around_with sessions m x y at in
+      subst (λ z. Extends n (session_taken z) (session_taken (numbered (with_numbered sessions m y) l))) (sym (ap (numbered sessions) same ∙ at)) (subst (λ z. Extends n x.taken (session_taken z)) (sym (ap (numbered (with_numbered sessions m y)) same ∙ around.there)) e)
+]
+
+takens_more : (n : ℕ) (sessions : List Session) (y : Session) (session : Option ℕ) → ((l : ℕ) → session ≡ Some l → (x : Session) × (numbered sessions l ≡ Some x)) → Extends n (session_taken (session_of sessions session)) (session_taken (session_of (sessions ++ y ∷ []) session))
+takens_more n sessions y None there = extends_same n []
+takens_more n sessions y (Some l) there = by l (there l refl)
+  where
+    by : (l : ℕ) → (x : Session) × (numbered sessions l ≡ Some x) → Extends n (session_taken (numbered sessions l)) (session_taken (numbered (sessions ++ y ∷ []) l))
+    by zero (x, e) = nothing_there x e
+    by (suc l) (x, e) = subst (λ z. Extends n (session_taken z) (session_taken (slice_get (sessions ++ y ∷ []) l))) (sym e) (subst (λ z. Extends n x.taken (session_taken z)) (sym (kept_appended sessions y l x e)) (extends_same n x.taken))
+
+-- a call that is taken now
+taken_more_at : (n : ℕ) (taken : List TakenCall) (t : TakenCall) → n < t.step → Extends n taken (taken ++ t ∷ [])
+taken_more_at n [] t lt = (λ y q e. nothing_there q e, λ y q e. by y q (t.xid == y) e)
+  where
+    by : (y q : ℕ) (b : Bool) → option_map (λ (z : TakenCall). z.step) (cond b (Some t) None) ≡ Some q → (None ≡ Some q) ⊎ (n < q)
+    by y q true e = inr (let same : t.step ≡ q = some_is t.step q e in omega (arith, lt, same))
+    by y q false e = inl e
+taken_more_at n (u ∷ taken) t lt = (λ y q e. keeps y q (u.xid == y) e ((taken_more_at n taken t lt).0 y q), λ y q e. adds y q (u.xid == y) e ((taken_more_at n taken t lt).1 y q))
+  where
+    keeps : (y q : ℕ) (b : Bool) → option_map (λ (z : TakenCall). z.step) (cond b (Some u) (find (λ (z : TakenCall). z.xid == y) taken)) ≡ Some q → (taken_at taken y ≡ Some q → taken_at (taken ++ t ∷ []) y ≡ Some q) → option_map (λ (z : TakenCall). z.step) (cond b (Some u) (find (λ (z : TakenCall). z.xid == y) (taken ++ t ∷ []))) ≡ Some q
+    keeps y q true e later = e
+    keeps y q false e later = later e
+
+    adds : (y q : ℕ) (b : Bool) → option_map (λ (z : TakenCall). z.step) (cond b (Some u) (find (λ (z : TakenCall). z.xid == y) (taken ++ t ∷ []))) ≡ Some q → (taken_at (taken ++ t ∷ []) y ≡ Some q → (taken_at taken y ≡ Some q) ⊎ (n < q)) → (option_map (λ (z : TakenCall). z.step) (cond b (Some u) (find (λ (z : TakenCall). z.xid == y) taken)) ≡ Some q) ⊎ (n < q)
+    adds y q true e later = inl e
+    adds y q false e later = later e
+
+-- what the server took of a session since is newer
+takens_serve : (k : Core) (n now : ℕ) (bytes : List ℕ) (m : Message) (x : Option Session) → parse_of server_waiting bytes ≡ Ok m → numbered k.sessions n ≡ x → (z : Seat) → Extends k.steps (takens k.sessions z) (takens (serves k n now bytes x).core.sessions z)
+takens_serve k n now bytes m None read is z = extends_same k.steps (takens k.sessions z)
+takens_serve k n now bytes m (Some x) read is z = subst (λ (r : Result Message WireFault). Extends k.steps (takens k.sessions z) (takens (serves_if k n now x r).core.sessions z)) (sym read) (takens_with k.steps n k.sessions x (record x { taken = taken_with x.taken m (k.steps + 1) }) z.session is (called m))
+  where
+    called : (m : Message) → Extends k.steps x.taken (taken_with x.taken m (k.steps + 1))
+    called (message.Call xid body) = taken_more_at k.steps x.taken (record { xid = xid; step = k.steps + 1 }) (omega arith)
+    called _ = extends_same k.steps x.taken
+
+-- ---- what an event comes to
+
+-- clients and operations are as they were, but for a change that is made, and nothing is said
+pub record IsStill (k : Core) (e : Event) (t : CoreStep) : Type 0 where
+  pub silent : IsSilent (moment k e)
+  pub up : t.up ≡ []
+  pub passes : k.steps ≤ t.core.steps
+  pub ops : Settled k t.core.ops
+  -- a client with a job is just as it was
+  pub jobs : (i : ℕ) (seat : Seat) (j : Job) → numbered t.core.seats i ≡ Some seat → job seat ≡ Some j → numbered k.seats i ≡ Some seat
+  -- what was taken of its session was so, or is taken now
+  pub newer : (i : ℕ) (seat : Seat) → numbered k.seats i ≡ Some seat → Extends k.steps (takens k.sessions seat) (takens t.core.sessions seat)
+  -- no command is told
+  pub deedless : (past : List Moment) → deed_by past (k.steps + 1) e ≡ []
+
+-- what is to be shown of an event
+pub record EventCases (all past rest : List Moment) (opening : List Opening) (k : Core) (qs : List Queue) (e : Event) (mid after : List Queue) (Z : Event → CoreStep → Type 0) : Type 0 where
+  pub still : (t : CoreStep) → IsStill k e t → Z e t
+  -- a client is told to do something
+  pub begins : (c now : ℕ) (d : Command) (seat : Seat) → Step all past rest opening k qs (Does c now d) mid after → numbered k.seats c ≡ Some seat → IsSmall d → IsKept (book_at opening (does k c now d (Some seat)).core all) (does k c now d (Some seat)).core after → Z (Does c now d) (does k c now d (Some seat))
+  -- one hears an answer
+  pub hears : (n now : ℕ) (bytes : List ℕ) → Step all past rest opening k qs (Hears n now bytes) mid after → (h : Heard k qs n now bytes mid) → (let r = got_step h.seat.client (Ok (told_message h.told)) now in let t = acted k h.session.owner h.seat r.0 r.1 in IsKept (book_at opening t.core all) t.core after → Z (Hears n now bytes) t)
+  -- one sees its connection lost
+  pub lost : (c : ℕ) (seat : Seat) → Step all past rest opening k qs (Cuts c) mid after → numbered k.seats c ≡ Some seat → Z (Cuts c) (cuts_if k c seat true)
+
+joins_still : (book : Book) (k : Core) (qs : List Queue) (c : ℕ) (seat : Seat) → IsKept book k qs → numbered k.seats c ≡ Some seat → seat.client.linked ≡ false → (s : server.State) (o : Announced) → IsStill k (Joins c) (joins_as k c seat s o)
+joins_still book k qs c seat kept here free s (announced.Session made) = record {
+  silent = joins_silent k c;
+  up = refl;
+  passes = omega arith;
+  ops = inl refl;
+  jobs = λ i z j there is. elim (of_numbered k.seats c new i z there) [
+    | inl mine ↦ nothing_there j (sym (idle seat.place) ∙ ap job (sym mine.1) ∙ is)
+    | inr other ↦ other.1
+  ];
+  newer = λ i z there. takens_more k.steps k.sessions (new_session c) z.session (λ l e. let x = (kept.seats i z there).session l e in (x.0, x.1));
+  deedless = λ past. refl;
+}
+  where
+    new : Seat
+    new = record { client = joined seat.client; session = Some made; place = seat.place }
+
+    none : seat.client.task ≡ None
+    none = ((kept.seats c seat here).unlinked free).0
+
+    idle : (l : Option ℕ) → job_of l seat.client.task ≡ None
+    idle None = refl
+    idle (Some l) = ap (job_of (Some l)) none
+joins_still book k qs c seat kept here free s _ = record { silent = joins_silent k c; up = refl; passes = omega arith; ops = inl refl; jobs = λ i z j there is. there; newer = λ i z there. extends_same k.steps (takens k.sessions z); deedless = λ past. refl }
+
+serves_still : FitLaws → (book : Book) (k : Core) (qs : List Queue) (n now : ℕ) (bytes : List ℕ) (mid : List Queue) → IsKept book k qs → Finds k qs (Serves n now bytes) mid → IsStill k (Serves n now bytes) (happens k (Serves n now bytes))
+serves_still laws book k qs n now bytes mid kept f =
+    let q = serves_quiet laws book k qs n now bytes mid kept f in
+    record {
+      silent = (refl, refl, q.up);
+      up = q.up;
+      passes = q.passes;
+      ops = elim q.ops [ inl same ↦ inl same | inr made ↦ inr (change_of made) ];
+      jobs = λ i z j there is. ap (λ (l : List Seat). numbered l i) (sym q.seats) ∙ there;
+      newer = λ i z there. takens_serve k n now bytes (ask_message f.1) (numbered k.sessions n) (serves_read laws book k qs n now bytes mid kept f) refl z;
+      deedless = λ past. refl;
+    }
+
+hangs_still : (k : Core) (n : ℕ) → IsStill k (Hangs n) (hangs k n (numbered k.sessions n))
+hangs_still k n =
+    let q = hangs_silent k n (numbered k.sessions n) in
+    record {
+      silent = (refl, refl, q.0);
+      up = q.0;
+      passes = q.3;
+      ops = inl q.1;
+      jobs = λ i z j there is. ap (λ (l : List Seat). numbered l i) (sym q.2) ∙ there;
+      newer = λ i z there. later z (numbered k.sessions n) refl;
+      deedless = λ past. refl;
+    }
+  where
+    later : (z : Seat) (x : Option Session) → numbered k.sessions n ≡ x → Extends k.steps (takens k.sessions z) (takens (hangs k n x).core.sessions z)
+    later z None at = extends_same k.steps (takens k.sessions z)
+    later z (Some x) at = by x.hung
+      where
+        by : (b : Bool) → Extends k.steps (takens k.sessions z) (takens (hangs_if k n x b).core.sessions z)
+        by true = extends_same k.steps (takens k.sessions z)
+        by false = takens_with k.steps n k.sessions x (record x { hung = true }) z.session at (extends_same k.steps x.taken)
+
+-- any event is one of these
+pub event_cases : FitLaws → (all past rest : List Moment) (opening : List Opening) (k : Core) (qs : List Queue) (e : Event) (mid after : List Queue) → Step all past rest opening k qs e mid after → (Z : Event → CoreStep → Type 0) → EventCases all past rest opening k qs e mid after Z → Z e (happens k e)
+event_cases laws all past rest opening k qs (Joins c) mid after s Z cases = let r = server_step k.server event.Connect in subst (λ (o : Option Seat). Z (Joins c) (joins k c o)) (sym s.finds.1) (cases.still (joins_as k c s.finds.0 r.0 r.1.told) (joins_still (book_at opening k all) k qs c s.finds.0 s.kept s.finds.1 s.finds.2 r.0 r.1.told))
+event_cases laws all past rest opening k qs (Does c now d) mid after s Z cases = subst (λ (o : Option Seat). IsKept (book_at opening (does k c now d o).core all) (does k c now d o).core after → Z (Does c now d) (does k c now d o)) (sym s.finds.1) (cases.begins c now d s.finds.0 s s.finds.1 s.finds.2) s.left
+event_cases laws all past rest opening k qs (Serves n now bytes) mid after s Z cases = cases.still (happens k (Serves n now bytes)) (serves_still laws (book_at opening k all) k qs n now bytes mid s.kept s.finds)
+event_cases laws all past rest opening k qs (Hears n now bytes) mid after s Z cases =
+    let h = heard_at (book_at opening k all) k qs n now bytes mid s.kept s.finds in
+    subst (λ (t : CoreStep). IsKept (book_at opening t.core all) t.core after → Z (Hears n now bytes) t) (sym (heard_acts laws (book_at opening k all) k qs n now bytes mid s.kept h)) (cases.hears n now bytes s h) s.left
+event_cases laws all past rest opening k qs (Settles now) mid after s Z cases = cases.still (settles k now) (record { silent = (refl, refl, refl); up = refl; passes = omega arith; ops = settled_are (book_at opening k all) k qs now s.kept; jobs = λ i z j there is. there; newer = λ i z there. extends_same k.steps (takens k.sessions z); deedless = λ past. refl })
+event_cases laws all past rest opening k qs (Cuts c) mid after s Z cases = subst (λ (o : Option Seat). Z (Cuts c) (cuts k c o)) (sym s.finds.1) (by s.finds.0.client.linked)
+  where
+    by : (b : Bool) → Z (Cuts c) (cuts_if k c s.finds.0 b)
+    by true = cases.lost c s.finds.0 s s.finds.1
+    by false = cases.still (cuts_if k c s.finds.0 false) (record { silent = cuts_silent k c; up = refl; passes = omega arith; ops = inl refl; jobs = λ i z j there is. there; newer = λ i z there. extends_same k.steps (takens k.sessions z); deedless = λ past. refl })
+event_cases laws all past rest opening k qs (Hangs n) mid after s Z cases = cases.still (hangs k n (numbered k.sessions n)) (hangs_still k n)
