@@ -14,27 +14,27 @@ use Rattle.kept_promise.proofs.Lists.{some_is, same_or_not}
 use Rattle.kept_promise.proofs.Orderly.{Orderly}
 use Rattle.kept_promise.proofs.Facts.{Cached, IsTalk, IsSession, IsSeat, IsServer, IsKept}
 use Rattle.kept_promise.proofs.Turns.{Around, around_with}
-use Rattle.kept_promise.proofs.Caches.{cached_without}
+use Rattle.kept_promise.proofs.Caches.{cached_without, AddsNone, same_notes, without_notes}
 
 -- ---- a client with another cache and index
 
 abbrev pub with_kept : Seat → Entries → Indexed → Seat
 with_kept c es ix = record c { client = record c.client { cache = es; index = ix } }
 
--- each client is as it was, but for these
+-- each client is as it was, but for these; it has no note more
 pub record SameSeats (seats after : List Seat) : Type 0 where
-  pub was : (i : ℕ) (e : Seat) → numbered after i ≡ Some e → (c : Seat) × (es : Entries) × (ix : Indexed) × (numbered seats i ≡ Some c) × (e ≡ with_kept c es ix)
+  pub was : (i : ℕ) (e : Seat) → numbered after i ≡ Some e → (c : Seat) × (es : Entries) × (ix : Indexed) × (numbered seats i ≡ Some c) × (e ≡ with_kept c es ix) × AddsNone c.client.cache es
   pub is : (i : ℕ) (c : Seat) → numbered seats i ≡ Some c → (es : Entries) × (ix : Indexed) × (numbered after i ≡ Some (with_kept c es ix))
   pub count : length after ≡ length seats
 
 pub same_seats : (seats : List Seat) → SameSeats seats seats
-same_seats seats = record { was = λ i e at. (e, e.client.cache, e.client.index, at, refl); is = λ i c at. (c.client.cache, c.client.index, at); count = refl }
+same_seats seats = record { was = λ i e at. (e, e.client.cache, e.client.index, at, refl, same_notes e.client.cache); is = λ i c at. (c.client.cache, c.client.index, at); count = refl }
 
-pub one_seat : (seats : List Seat) (i : ℕ) (c : Seat) (es : Entries) (ix : Indexed) → numbered seats i ≡ Some c → SameSeats seats (with_numbered seats i (with_kept c es ix))
-one_seat seats i c es ix here = record {
+pub one_seat : (seats : List Seat) (i : ℕ) (c : Seat) (es : Entries) (ix : Indexed) → numbered seats i ≡ Some c → AddsNone c.client.cache es → SameSeats seats (with_numbered seats i (with_kept c es ix))
+one_seat seats i c es ix here adds = record {
   was = λ j e at. elim (same_or_not j i) [
-    | inl mine ↦ (c, es, ix, ap (numbered seats) mine ∙ here, some_is e (with_kept c es ix) (sym at ∙ ap (numbered after) mine ∙ around.there))
-    | inr away ↦ (e, e.client.cache, e.client.index, sym (around.others j away) ∙ at, refl)
+    | inl mine ↦ (c, es, ix, ap (numbered seats) mine ∙ here, some_is e (with_kept c es ix) (sym at ∙ ap (numbered after) mine ∙ around.there), adds)
+    | inr away ↦ (e, e.client.cache, e.client.index, sym (around.others j away) ∙ at, refl, same_notes e.client.cache)
   ];
   is = λ j d at. elim (same_or_not j i) [
     | inl mine ↦
@@ -125,10 +125,10 @@ pub record Adjusts (book : Book) (k : Core) (a : Adjustment) : Type 0 where
   pub cached : (i : ℕ) (e : Seat) → numbered seats i ≡ Some e → Cached book e.client.cache
 
 -- a client of this number may have any of these
-client_adjusts : (book : Book) (k : Core) (qs : List Queue) (a : Adjustment) (c : ℕ) (es : Seat → Entries) (ix : Seat → Indexed) → IsKept book k qs → ((seat : Seat) → Cached book seat.client.cache → Cached book (es seat))
+client_adjusts : (book : Book) (k : Core) (qs : List Queue) (a : Adjustment) (c : ℕ) (es : Seat → Entries) (ix : Seat → Indexed) → IsKept book k qs → ((seat : Seat) → Cached book seat.client.cache → Cached book (es seat)) → ((seat : Seat) → AddsNone seat.client.cache (es seat))
     → (o : Option Seat) → numbered k.seats c ≡ o → adjusted k a ≡ with_client k c (λ (s : client.State). record s { cache = es (record { client = s; session = None; place = None }); index = ix (record { client = s; session = None; place = None }) }) o → Adjusts book k a
-client_adjusts book k qs a c es ix kept still None at e = record { index = k.server.index; seats = k.seats; is = e; same = same_seats k.seats; cached = λ i d is. (kept.seats i d is).kept }
-client_adjusts book k qs a c es ix kept still (Some seat) at e =
+client_adjusts book k qs a c es ix kept still adds None at e = record { index = k.server.index; seats = k.seats; is = e; same = same_seats k.seats; cached = λ i d is. (kept.seats i d is).kept }
+client_adjusts book k qs a c es ix kept still adds (Some seat) at e =
     let bare : Seat = record { client = seat.client; session = None; place = None } in
     let d : Seat = with_kept seat (es bare) (ix bare) in
     let around = around_with k.seats c seat d at in
@@ -136,7 +136,7 @@ client_adjusts book k qs a c es ix kept still (Some seat) at e =
       index = k.server.index;
       seats = with_numbered k.seats c d;
       is = e;
-      same = one_seat k.seats c seat (es bare) (ix bare) at;
+      same = one_seat k.seats c seat (es bare) (ix bare) at (adds bare);
       cached = λ i z is. elim (same_or_not i c) [
         | inl mine ↦ subst (λ (v : Seat). Cached book v.client.cache) (some_is d z (sym around.there ∙ ap (numbered (with_numbered k.seats c d)) (sym mine) ∙ is)) (still bare (kept.seats c seat at).kept)
         | inr away ↦ (kept.seats i z (sym (around.others i away) ∙ is)).kept
@@ -149,6 +149,6 @@ server_adjusts book k qs a index kept e = record { index = index; seats = k.seat
 pub adjusts_is : (book : Book) (k : Core) (qs : List Queue) (a : Adjustment) → IsKept book k qs → Adjusts book k a
 adjusts_is book k qs (adjustment.Forge who.Server key place) kept = server_adjusts book k qs (adjustment.Forge who.Server key place) (put k.server.index key place) kept refl
 adjusts_is book k qs (adjustment.Clear who.Server) kept = server_adjusts book k qs (adjustment.Clear who.Server) (cleared k.server.index) kept refl
-adjusts_is book k qs (adjustment.Forge (who.Client c) key place) kept = client_adjusts book k qs (adjustment.Forge (who.Client c) key place) c (λ s. s.client.cache) (λ s. put s.client.index key place) kept (λ s h. h) (numbered k.seats c) refl refl
-adjusts_is book k qs (adjustment.Clear (who.Client c)) kept = client_adjusts book k qs (adjustment.Clear (who.Client c)) c (λ s. s.client.cache) (λ s. cleared s.client.index) kept (λ s h. h) (numbered k.seats c) refl refl
-adjusts_is book k qs (adjustment.Evict c file) kept = client_adjusts book k qs (adjustment.Evict c file) c (λ s. without_content s.client.cache file) (λ s. s.client.index) kept (λ s h. cached_without book s.client.cache file h) (numbered k.seats c) refl refl
+adjusts_is book k qs (adjustment.Forge (who.Client c) key place) kept = client_adjusts book k qs (adjustment.Forge (who.Client c) key place) c (λ s. s.client.cache) (λ s. put s.client.index key place) kept (λ s h. h) (λ s. same_notes s.client.cache) (numbered k.seats c) refl refl
+adjusts_is book k qs (adjustment.Clear (who.Client c)) kept = client_adjusts book k qs (adjustment.Clear (who.Client c)) c (λ s. s.client.cache) (λ s. cleared s.client.index) kept (λ s h. h) (λ s. same_notes s.client.cache) (numbered k.seats c) refl refl
+adjusts_is book k qs (adjustment.Evict c file) kept = client_adjusts book k qs (adjustment.Evict c file) c (λ s. without_content s.client.cache file) (λ s. s.client.index) kept (λ s h. cached_without book s.client.cache file h) (λ s. without_notes s.client.cache file) (numbered k.seats c) refl refl

@@ -7,6 +7,7 @@ use Rattle.std.specs.Map.{remove_entry, set_value}
 use Rattle.client_cache.specs.Cache.{Entries, files_most, kept_of, nothing, content_in, content_of, bytes_in, fronted, reserved, keeps, evicts, with_content, without_content}
 use Rattle.client_cache.specs.declared.kept.Content.{Content}
 use Rattle.client_cache.specs.declared.kept.Kept.{Kept}
+use Rattle.client_cache.specs.declared.kept.Note.{Note}
 use Rattle.chunk_index.specs.Index.{Indexed, key_of, place_of}
 use Rattle.chunk_index.specs.declared.place.Place.{Place}
 use Rattle.file_open.specs.Caching.{bytes_there, with_digest, from_index}
@@ -54,19 +55,19 @@ front_content es f g k c e = by (kept_of (fronted es g k) f) refl e
     by None at e = nothing_there c e
     by (Some x) at e = elim (front_found files_most es f g k x at) [ inl new ↦ inl (new.0, ap (λ (z : Kept). z.content) new.1 ∙ e) | inr old ↦ inr (ap content_in old ∙ e) ]
 
-set_found : (es : Entries) (f g : ℕ) (w x : Kept) → kept_of (set_value (nat_eq g) es w) f ≡ Some x → (w ≡ x) ⊎ (kept_of es f ≡ Some x)
+set_found : (es : Entries) (f g : ℕ) (w x : Kept) → kept_of (set_value (nat_eq g) es w) f ≡ Some x → ((f ≡ g) × (w ≡ x)) ⊎ (kept_of es f ≡ Some x)
 set_found [] f g w x e = nothing_there x e
-set_found (y ∷ es) f g w x e = by (nat_eq g y.0) (nat_eq f y.0) e (set_found es f g w x)
+set_found (y ∷ es) f g w x e = by (nat_eq g y.0) refl e (set_found es f g w x)
   where
-    by : (b d : Bool) → kept_of (cond b ((y.0, w) ∷ es) (y ∷ set_value (nat_eq g) es w)) f ≡ Some x → (kept_of (set_value (nat_eq g) es w) f ≡ Some x → (w ≡ x) ⊎ (kept_of es f ≡ Some x)) → (w ≡ x) ⊎ (kept_of (y ∷ es) f ≡ Some x)
-    by true d e later = first (nat_eq f y.0) e
+    by : (b : Bool) → nat_eq g y.0 ≡ b → kept_of (cond b ((y.0, w) ∷ es) (y ∷ set_value (nat_eq g) es w)) f ≡ Some x → (kept_of (set_value (nat_eq g) es w) f ≡ Some x → ((f ≡ g) × (w ≡ x)) ⊎ (kept_of es f ≡ Some x)) → ((f ≡ g) × (w ≡ x)) ⊎ (kept_of (y ∷ es) f ≡ Some x)
+    by true is e later = first (nat_eq f y.0) refl e
       where
-        first : (d : Bool) → cond d (Some w) (kept_of es f) ≡ Some x → (w ≡ x) ⊎ (cond d (Some y.1) (kept_of es f) ≡ Some x)
-        first true e = inl (some_is w x e)
-        first false e = inr e
-    by false d e later = further (nat_eq f y.0) e
+        first : (d : Bool) → nat_eq f y.0 ≡ d → cond d (Some w) (kept_of es f) ≡ Some x → ((f ≡ g) × (w ≡ x)) ⊎ (cond d (Some y.1) (kept_of es f) ≡ Some x)
+        first true here e = inl (eqb-true f y.0 here ∙ sym (eqb-true g y.0 is), some_is w x e)
+        first false here e = inr e
+    by false is e later = further (nat_eq f y.0) e
       where
-        further : (d : Bool) → cond d (Some y.1) (kept_of (set_value (nat_eq g) es w) f) ≡ Some x → (w ≡ x) ⊎ (cond d (Some y.1) (kept_of es f) ≡ Some x)
+        further : (d : Bool) → cond d (Some y.1) (kept_of (set_value (nat_eq g) es w) f) ≡ Some x → ((f ≡ g) × (w ≡ x)) ⊎ (cond d (Some y.1) (kept_of es f) ≡ Some x)
         further true e = inr e
         further false e = later e
 
@@ -101,7 +102,48 @@ cached_without book es file h = by (kept_of es file)
       where
         found : (o : Option Kept) → kept_of (set_value (nat_eq file) es (record k { content = None })) f ≡ o → content_in o ≡ Some c → HadContent book f c.version c.bytes × (length c.bytes ≤ 67108864)
         found None at e = nothing_there c e
-        found (Some x) at e = elim (set_found es f file (record k { content = None }) x at) [ inl gone ↦ nothing_there c (ap (λ (z : Kept). z.content) gone ∙ e) | inr old ↦ h f c (ap content_in old ∙ e) ]
+        found (Some x) at e = elim (set_found es f file (record k { content = None }) x at) [ inl gone ↦ nothing_there c (ap (λ (z : Kept). z.content) gone.1 ∙ e) | inr old ↦ h f c (ap content_in old ∙ e) ]
+
+-- ---- the notes of leases
+
+-- each note that is there was there
+abbrev pub AddsNone : (es after : Entries) → Type 0
+AddsNone es after = (f : ℕ) (k : Kept) (n : Note) → kept_of after f ≡ Some k → k.note ≡ Some n → (g : Kept) × (kept_of es f ≡ Some g) × (g.note ≡ Some n)
+
+pub same_notes : (es : Entries) → AddsNone es es
+same_notes es f k n at is = (k, at, is)
+
+-- an entry that goes to the front has a note that was there
+fronted_notes : (es : Entries) (file : ℕ) (k : Kept) → ((n : Note) → k.note ≡ Some n → (g : Kept) × (kept_of es file ≡ Some g) × (g.note ≡ Some n)) → AddsNone es (fronted es file k)
+unfolding fronted
+fronted_notes es file k had f x n at is = elim (front_found files_most es f file k x at) [
+  | inl new ↦ let h = had n (ap (λ (z : Kept). z.note) new.1 ∙ is) in (h.0, ap (kept_of es) new.0 ∙ h.1, h.2)
+  | inr old ↦ (x, old, is)
+]
+
+pub reserved_notes : (es : Entries) (file : ℕ) → AddsNone es (reserved es file)
+reserved_notes es file = fronted_notes es file (unwrap_or (kept_of es file) nothing) (λ n is. there (kept_of es file) n is)
+  where
+    there : (o : Option Kept) (n : Note) → (unwrap_or o nothing).note ≡ Some n → (g : Kept) × (o ≡ Some g) × (g.note ≡ Some n)
+    there None n is = nothing_there n is
+    there (Some k) n is = (k, refl, is)
+
+pub with_notes : (es : Entries) (file version : ℕ) (bytes : List ℕ) → AddsNone es (with_content es file version bytes)
+with_notes es file version bytes = by (kept_of es file) refl
+  where
+    by : (o : Option Kept) → kept_of es file ≡ o → AddsNone es (keeps es file version bytes o)
+    by None at = same_notes es
+    by (Some k) at = fronted_notes es file (record k { content = Some (record { version = version; bytes = bytes }) }) (λ n is. (k, at, is))
+
+pub without_notes : (es : Entries) (file : ℕ) → AddsNone es (without_content es file)
+without_notes es file = by (kept_of es file) refl
+  where
+    by : (o : Option Kept) → kept_of es file ≡ o → AddsNone es (evicts es file o)
+    by None at f x n found is = same_notes es f x n found is
+    by (Some k) at f x n found is = elim (set_found es f file (record k { content = None }) x found) [
+      | inl gone ↦ (k, ap (kept_of es) gone.0 ∙ at, ap (λ (z : Kept). z.note) gone.1 ∙ is)
+      | inr old ↦ (x, old, is)
+    ]
 
 -- ---- what the index gives of it
 

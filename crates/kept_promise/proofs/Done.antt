@@ -10,7 +10,7 @@ use Rattle.command_text.specs.declared.path.PathCommand.{PathCommand}
 use Rattle.trace_replay.specs.Causes.{NamedCause}
 use Rattle.trace_replay.specs.Complete.{EndsNamed}
 use Rattle.trace_replay.specs.Faithful.{HasFile, FindsOpen, StoresLocal}
-use Rattle.kept_promise.proofs.Rights.{RefusedBy, Caused, IsRight}
+use Rattle.kept_promise.proofs.Rights.{AreLeased, opened_if, RefusedBy, Caused, IsRight}
 use Rattle.kept_promise.proofs.Facts.{IsKept}
 use Rattle.kept_promise.proofs.Deeds.{FromServer, ByServer, Stores, HasIdFile, Came, IsDeed}
 use Rattle.kept_promise.proofs.Following.{IsFollowed}
@@ -62,28 +62,28 @@ own_plain false asks (command.Abandon f) (Some x) = (refl, refl)
 
 -- ---- causes
 
-open_cause : (book : Book) (f : ℕ) (o : Op) (u : Outcome) → o.word ≡ words.Open → o.file ≡ f → ((status : ℕ) → u ≡ told.Refused status → IsOpenRefused book f o status) → FromServer u → Caused book o u → HasCause book (command.Open f) o u
-open_cause book f o (told.Opened n d) w e r s h = subst (λ (x : ℕ). IsOpened book x o n d) e h.1
-open_cause book f o (told.Refused t) w e r s h = r t refl
-open_cause book f o (told.Changed a b) w e r s h = subst (λ (x : ℕ). IsChanged book x o a b) e h.1
-open_cause book f o told.Lost w e r s h = h.1
-open_cause book f o told.Running w e r s h = h.1
-open_cause book f o (told.Closed v n d) w e r s h = absurd (apart (sym h.0 ∙ w))
+open_cause : (book : Book) (f : ℕ) (o : Op) (u : Outcome) → AreLeased book.moments → o.word ≡ words.Open → o.file ≡ f → ((status : ℕ) → u ≡ told.Refused status → IsOpenRefused book f o status) → FromServer u → Caused book o u → HasCause book (command.Open f) o u
+open_cause book f o (told.Opened n d) leased w e r s h = subst (λ (x : ℕ). IsOpened book x o n d) e (opened_if book o.file o n d leased h.1)
+open_cause book f o (told.Refused t) leased w e r s h = r t refl
+open_cause book f o (told.Changed a b) leased w e r s h = subst (λ (x : ℕ). IsChanged book x o a b) e h.1
+open_cause book f o told.Lost leased w e r s h = h.1
+open_cause book f o told.Running leased w e r s h = h.1
+open_cause book f o (told.Closed v n d) leased w e r s h = absurd (apart (sym h.0 ∙ w))
   where
     apart : words.Close ≡ words.Open → ⊥
     apart e = absurd cc
-open_cause book f o told.PeerMemory w e r s h = h
-open_cause book f o (told.BadPeer n) w e r s h = h
-open_cause book f o told.Memory w e r s h = h
-open_cause book f o (told.Names n) w e r s h = absurd (apart (sym h ∙ w))
+open_cause book f o told.PeerMemory leased w e r s h = h
+open_cause book f o (told.BadPeer n) leased w e r s h = h
+open_cause book f o told.Memory leased w e r s h = h
+open_cause book f o (told.Names n) leased w e r s h = absurd (apart (sym h ∙ w))
   where
     apart : words.List ≡ words.Open → ⊥
     apart e = absurd cc
-open_cause book f o (told.Seen a b c d) w e r s h = absurd (apart (sym h ∙ w))
+open_cause book f o (told.Seen a b c d) leased w e r s h = absurd (apart (sym h ∙ w))
   where
     apart : words.Look ≡ words.Open → ⊥
     apart e = absurd cc
-open_cause book f o _ w e r s h = s
+open_cause book f o _ leased w e r s h = s
 
 close_cause : (book : Book) (f : ℕ) (o : Op) (u : Outcome) → o.word ≡ words.Close → o.file ≡ f → FromServer u → Caused book o u → HasCause book (command.Close f) o u
 close_cause book f o (told.Closed v n d) w e s h = subst (λ (x : ℕ). IsClosed book x o v n d) e h.1
@@ -143,7 +143,7 @@ pub record IsKnown (book : Book) (d : Deed) (o : Op) (l : Option (List ℕ)) : T
   pub ends : (n : PathCommand) → d.command ≡ command.Named n → (o.end ≡ Some o.begin → ⊥) → (status : ℕ) → o.outcome ≡ told.Refused status → EndsNamed n (told.Refused status)
 
 -- its file, and what it came to
-module _ (book : Book) (ds : List Deed) (i : ℕ) (d : Deed) (o : Op) (right : IsRight book o) (busy asks : Bool) where
+module _ (book : Book) (ds : List Deed) (i : ℕ) (d : Deed) (o : Op) (leased : AreLeased book.moments) (right : IsRight book o) (busy asks : Bool) where
   abbrev before : ℕ → Option (List ℕ)
   before f = local_before ds book.ops i d.client f
 
@@ -177,14 +177,14 @@ module _ (book : Book) (ds : List Deed) (i : ℕ) (d : Deed) (o : Op) (right : I
 
   part : (k : Command) → HasIdFile k o → o.word ≡ word_of k → ((f : ℕ) → k ≡ command.Open f → (status : ℕ) → o.outcome ≡ told.Refused status → IsOpenRefused book f o status) → ((n : PathCommand) → k ≡ command.Named n → own_answer busy asks k None ≡ None → (o.end ≡ Some o.begin → ⊥) → NamedCause book n o o.outcome × FindsOpen o.outcome (before o.file))
       → Came (record d { command = k }) o (before (file_of k)) (own k (file_of k)) → Part k o.file
-  part (command.Open f) e w refused named c = id_part (command.Open f) e (λ x. e) (λ s. s) (λ a s. open_cause book f o o.outcome w e (refused f refl) s right.cause) c
+  part (command.Open f) e w refused named c = id_part (command.Open f) e (λ x. e) (λ s. s) (λ a s. open_cause book f o o.outcome leased w e (refused f refl) s right.cause) c
   part (command.Close f) e w refused named c = id_part (command.Close f) e (λ x. e) (λ s. s) (λ a s. close_cause book f o o.outcome w e s right.cause) c
   part (command.Named n) e w refused named c = named_part n (named n refl) c
   part d e w refused named c = id_part d e (λ x. e) (λ s. s) (λ a s. absurd a) c
 
-pub is_done : (book : Book) (ds : List Deed) (i : ℕ) (d : Deed) (o : Op) → d.calls ≤ calls_most * d.begin → IsRight book o → IsDeed ds book.ops i d o → IsKnown book d o (local_before ds book.ops i d.client o.file) → IsDone book d o (local_before ds book.ops i d.client o.file)
-is_done book ds i d o few right h known =
-    let p = part book ds i d o right (is_busy book.ops o) (can_ask d.joined d.calls) d.command h.file h.word known.refused known.named h.came in
+pub is_done : (book : Book) (ds : List Deed) (i : ℕ) (d : Deed) (o : Op) → AreLeased book.moments → d.calls ≤ calls_most * d.begin → IsRight book o → IsDeed ds book.ops i d o → IsKnown book d o (local_before ds book.ops i d.client o.file) → IsDone book d o (local_before ds book.ops i d.client o.file)
+is_done book ds i d o leased few right h known =
+    let p = part book ds i d o leased right (is_busy book.ops o) (can_ask d.joined d.calls) d.command h.file h.word known.refused known.named h.came in
     record {
       client = h.client;
       word = h.word;
@@ -212,6 +212,6 @@ asked_late ds ops i d o n h is asks free =
 pub deeds_counted : (w : World) (all : List Moment) → IsFollowed all w.core → length w.core.ops ≡ length (deeds_of all)
 deeds_counted w all h = h.deeds.count
 
-pub deeds_done : (w : World) (all : List Moment) (qs : List Queue) → IsKept (book_of w all) w.core qs → IsFollowed all w.core → (k : ℕ) (d : Deed) (o : Op) → slice_get (deeds_of all) k ≡ Some d → slice_get w.core.ops k ≡ Some o → IsKnown (book_of w all) d o (local_before (deeds_of all) w.core.ops k d.client o.file)
+pub deeds_done : (w : World) (all : List Moment) (leased : AreLeased all) (qs : List Queue) → IsKept (book_of w all) w.core qs → IsFollowed all w.core → (k : ℕ) (d : Deed) (o : Op) → slice_get (deeds_of all) k ≡ Some d → slice_get w.core.ops k ≡ Some o → IsKnown (book_of w all) d o (local_before (deeds_of all) w.core.ops k d.client o.file)
     → IsDone (book_of w all) d o (local_before (deeds_of all) w.core.ops k d.client o.file)
-deeds_done w all qs kept h k d o at is known = is_done (book_of w all) (deeds_of all) k d o (h.few k d at) (kept.sound.rights k o is) (h.deeds.each k d o at is) known
+deeds_done w all leased qs kept h k d o at is known = is_done (book_of w all) (deeds_of all) k d o leased (h.few k d at) (kept.sound.rights k o is) (h.deeds.each k d o at is) known

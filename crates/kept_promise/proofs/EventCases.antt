@@ -200,6 +200,8 @@ pub record IsStill (k : Core) (e : Event) (t : CoreStep) : Type 0 where
   pub jobs : (i : ℕ) (seat : Seat) (j : Job) → numbered t.core.seats i ≡ Some seat → job seat ≡ Some j → numbered k.seats i ≡ Some seat
   -- what was taken of its session was so, or is taken now
   pub newer : (i : ℕ) (seat : Seat) → numbered k.seats i ≡ Some seat → Extends k.steps (takens k.sessions seat) (takens t.core.sessions seat)
+  -- what each client keeps is as it was
+  pub caches : (i : ℕ) (d : Seat) → numbered t.core.seats i ≡ Some d → (c : Seat) × (numbered k.seats i ≡ Some c) × (d.client.cache ≡ c.client.cache)
   -- no command is told
   pub deedless : (past : List Moment) → deed_by past (k.steps + 1) e ≡ []
 
@@ -224,6 +226,10 @@ joins_still book k qs c seat kept here free s (announced.Session made) = record 
     | inr other ↦ other.1
   ];
   newer = λ i z there. takens_more k.steps k.sessions (new_session c) z.session (λ l e. let x = (kept.seats i z there).session l e in (x.0, x.1));
+  caches = λ i d at. elim (of_numbered k.seats c new i d at) [
+    | inl mine ↦ (seat, ap (numbered k.seats) mine.0 ∙ here, ap (λ (z : Seat). z.client.cache) mine.1)
+    | inr other ↦ (d, other.1, refl)
+  ];
   deedless = λ past. refl;
 }
   where
@@ -236,7 +242,7 @@ joins_still book k qs c seat kept here free s (announced.Session made) = record 
     idle : (l : Option ℕ) → job_of l seat.client.task ≡ None
     idle None = refl
     idle (Some l) = ap (job_of (Some l)) none
-joins_still book k qs c seat kept here free s _ = record { silent = joins_silent k c; up = refl; passes = omega arith; ops = inl refl; jobs = λ i z j there is. there; newer = λ i z there. extends_same k.steps (takens k.sessions z); deedless = λ past. refl }
+joins_still book k qs c seat kept here free s _ = record { silent = joins_silent k c; up = refl; passes = omega arith; ops = inl refl; jobs = λ i z j there is. there; newer = λ i z there. extends_same k.steps (takens k.sessions z); caches = λ i d at. (d, at, refl); deedless = λ past. refl }
 
 serves_still : FitLaws → (book : Book) (k : Core) (qs : List Queue) (n now : ℕ) (bytes : List ℕ) (mid : List Queue) → IsKept book k qs → Finds k qs (Serves n now bytes) mid → IsStill k (Serves n now bytes) (happens k (Serves n now bytes))
 serves_still laws book k qs n now bytes mid kept f =
@@ -248,6 +254,7 @@ serves_still laws book k qs n now bytes mid kept f =
       ops = elim q.ops [ inl same ↦ inl same | inr made ↦ inr (change_of made) ];
       jobs = λ i z j there is. ap (λ (l : List Seat). numbered l i) (sym q.seats) ∙ there;
       newer = λ i z there. takens_serve k n now bytes (ask_message f.1) (numbered k.sessions n) (serves_read laws book k qs n now bytes mid kept f) refl z;
+      caches = λ i d at. (d, ap (λ (l : List Seat). numbered l i) (sym q.seats) ∙ at, refl);
       deedless = λ past. refl;
     }
 
@@ -261,6 +268,7 @@ hangs_still k n =
       ops = inl q.1;
       jobs = λ i z j there is. ap (λ (l : List Seat). numbered l i) (sym q.2) ∙ there;
       newer = λ i z there. later z (numbered k.sessions n) refl;
+      caches = λ i d at. (d, ap (λ (l : List Seat). numbered l i) (sym q.2) ∙ at, refl);
       deedless = λ past. refl;
     }
   where
@@ -280,10 +288,10 @@ event_cases laws all past rest opening k qs (Serves n now bytes) mid after s Z c
 event_cases laws all past rest opening k qs (Hears n now bytes) mid after s Z cases =
     let h = heard_at (book_at opening k all) k qs n now bytes mid s.kept s.finds in
     subst (λ (t : CoreStep). IsKept (book_at opening t.core all) t.core after → Z (Hears n now bytes) t) (sym (heard_acts laws (book_at opening k all) k qs n now bytes mid s.kept h)) (cases.hears n now bytes s h) s.left
-event_cases laws all past rest opening k qs (Settles now) mid after s Z cases = cases.still (settles k now) (record { silent = (refl, refl, refl); up = refl; passes = omega arith; ops = settled_are (book_at opening k all) k qs now s.kept; jobs = λ i z j there is. there; newer = λ i z there. extends_same k.steps (takens k.sessions z); deedless = λ past. refl })
+event_cases laws all past rest opening k qs (Settles now) mid after s Z cases = cases.still (settles k now) (record { silent = (refl, refl, refl); up = refl; passes = omega arith; ops = settled_are (book_at opening k all) k qs now s.kept; jobs = λ i z j there is. there; newer = λ i z there. extends_same k.steps (takens k.sessions z); caches = λ i d at. (d, at, refl); deedless = λ past. refl })
 event_cases laws all past rest opening k qs (Cuts c) mid after s Z cases = subst (λ (o : Option Seat). Z (Cuts c) (cuts k c o)) (sym s.finds.1) (by s.finds.0.client.linked)
   where
     by : (b : Bool) → Z (Cuts c) (cuts_if k c s.finds.0 b)
     by true = cases.lost c s.finds.0 s s.finds.1
-    by false = cases.still (cuts_if k c s.finds.0 false) (record { silent = cuts_silent k c; up = refl; passes = omega arith; ops = inl refl; jobs = λ i z j there is. there; newer = λ i z there. extends_same k.steps (takens k.sessions z); deedless = λ past. refl })
+    by false = cases.still (cuts_if k c s.finds.0 false) (record { silent = cuts_silent k c; up = refl; passes = omega arith; ops = inl refl; jobs = λ i z j there is. there; newer = λ i z there. extends_same k.steps (takens k.sessions z); caches = λ i d at. (d, at, refl); deedless = λ past. refl })
 event_cases laws all past rest opening k qs (Hangs n) mid after s Z cases = cases.still (hangs k n (numbered k.sessions n)) (hangs_still k n)

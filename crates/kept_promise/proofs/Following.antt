@@ -62,7 +62,7 @@ replicated zero i x y e = nothing_there y e
 replicated (suc n) zero x y e = sym (some_is x y e)
 replicated (suc n) (suc i) x y e = replicated n i x y e
 
-seat_first : (count c : ℕ) (seat : Seat) → numbered (replicate count new_seat) c ≡ Some seat → seat ≡ new_seat
+pub seat_first : (count c : ℕ) (seat : Seat) → numbered (replicate count new_seat) c ≡ Some seat → seat ≡ new_seat
 seat_first count zero seat e = nothing_there seat e
 seat_first count (suc c) seat e = replicated count c new_seat seat e
 

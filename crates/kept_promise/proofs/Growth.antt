@@ -10,7 +10,7 @@ use Rattle.trace_replay.specs.OwnCalls.{WaitsFor, TakesCall}
 use Rattle.kept_promise.proofs.Common.{Body, slice_get, bytes_eq, Contains, sha1, Entry, File, Value, content_of, Op, Opening, Word, Moment, hashed_of, Book, Or, Collides, history, value_at, version_at, Tried, IsEntered}
 use Rattle.kept_promise.proofs.Lists.{false_and_true}
 use Rattle.kept_promise.proofs.Marks.{Mark, marks, latest_mark, left_by, value_is, count_is}
-use Rattle.kept_promise.proofs.Rights.{WasThere, gets_file, Caused, WasWalk, RefusedBy, IsRight, IsUnmade, IsMade, IsHeld, IsFitted}
+use Rattle.kept_promise.proofs.Rights.{AreLeased, WasThere, gets_file, Caused, WasWalk, RefusedBy, IsRight, IsUnmade, IsMade, IsHeld, IsFitted}
 
 -- what becomes of an operation; at most one is made, and at most one goes on, or ends, by a step of its client
 pub record Follows (book : Book) (made ended : Option ℕ) (k : ℕ) (o r : Op) : Type 0 where
@@ -144,7 +144,7 @@ cause_later book more made ended o (told.Opened len digest) g r h = (
     digest_is = h.1.digest_is;
     point = h.1.point;
     within = h.1.within;
-    value_is = or_later book more made ended _ _ g (λ e. value_later book more made ended o.file h.1.point g (let lt = (r.pointed h.1.point h.1.within.0).1 in omega (arith, lt)) ∙ e) h.1.value_is;
+    value_is = λ leased. or_later book more made ended _ _ g (λ e. value_later book more made ended o.file h.1.point g (let lt = (r.pointed h.1.point h.1.within.0).1 in omega (arith, lt)) ∙ e) (h.1.value_is (λ m c now f seat kept there. leased m c now f seat kept (g.happened m there)));
   },
   there_later book more made ended o.file g h.2,
 )

@@ -91,7 +91,7 @@ kept_ends q s calls file x version step taken file_is none None = (s.next_xid, a
 
 -- what is known before a step
 pub record Known (all past : List Moment) (k : Core) : Type 0 where
-  pub opens : LogsAt OpensBy (OpenRead (hashed_of all)) past k
+  pub opens : LogsAt OpensBy (OpenRead all) past k
   pub own : LogsAt OwnBy OpOwn past k
   pub counted : CountedAt past k
 

@@ -209,3 +209,5 @@ pub mod StoredWhole
 pub mod MadeRuns
 pub mod Promise
 pub mod Arrivals
+pub mod Notes
+pub mod Unnoted

@@ -243,7 +243,7 @@ comes_opened book k qs n x q t ts j g rests version v bytes cache index r gets c
       digest_is = refl;
       point = m;
       within = (refl, after, (book.steps + 1, refl, omega (arith, past)));
-      value_is = or_later book more None (Some j.place) (v ≡ gets.value) (value_at more of.op.file m ≡ Some v) grows (λ e. ap (λ z. value_at more z m) (of.file (open_unnamed j.stage gets.word)) ∙ value_later book more None (Some j.place) j.file m grows (omega (arith, past)) ∙ gets.told_.value ∙ ap (λ z. Some z) (sym e)) gets.value_is;
+      value_is = λ leased. or_later book more None (Some j.place) (v ≡ gets.value) (value_at more of.op.file m ≡ Some v) grows (λ e. ap (λ z. value_at more z m) (of.file (open_unnamed j.stage gets.word)) ∙ value_later book more None (Some j.place) j.file m grows (omega (arith, past)) ∙ gets.told_.value ∙ ap (λ z. Some z) (sym e)) gets.value_is;
     },
     there_later book more None (Some j.place) of.op.file grows (subst (λ (z : ℕ). WasThere book z) (sym (of.file (open_unnamed j.stage gets.word))) gets.known),
   )) (λ i l e. ok i l e (same_or_not i j.file));

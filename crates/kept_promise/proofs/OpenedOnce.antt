@@ -306,11 +306,11 @@ carried_once laws = record {
 -- ---- what it makes of the promise
 
 -- an open counted its last attempt at least; just that where its file had one version
-pub opened_once : (book : Book) (o : Op) (len : ℕ) (digest : List ℕ) → o.outcome ≡ told.Opened len digest → o.word ≡ words.Open → IsSum o.traffic (deals_of o book.moments) → OpOwn (deals_of o book.moments) o.word o.file o.value o.outcome → OpenRead (hashed_of book.moments) (deals_of o book.moments) o.word o.file o.value o.outcome → IsOnce book.moments book o → OpenedBy book o
+pub opened_once : (book : Book) (o : Op) (len : ℕ) (digest : List ℕ) → o.outcome ≡ told.Opened len digest → o.word ≡ words.Open → IsSum o.traffic (deals_of o book.moments) → OpOwn (deals_of o book.moments) o.word o.file o.value o.outcome → OpenRead book.moments (deals_of o book.moments) o.word o.file o.value o.outcome → IsOnce book.moments book o → OpenedBy book o
 opened_once book o len digest is open_ sum own read once = record {
   reads = let r = sum.read in let b = (last_most (deals_of o book.moments)).0 in omega (arith, r, b);
   bytes = let d = sum.data_is in let b = (last_most (deals_of o book.moments)).1 in omega (arith, d, b);
-  once = λ e at versions. once_is book.moments o (hashed_of book.moments) len digest is open_ own read sum (one e at versions);
+  once = λ e at versions. once_is book.moments o book.moments len digest is open_ own read sum (one e at versions);
 }
   where
     -- it began one attempt alone

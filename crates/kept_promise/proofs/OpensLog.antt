@@ -15,7 +15,7 @@ use Rattle.trace_replay.specs.Fetches.{Fetched, no_fetch, fetch_if, fetch_with, 
 use Rattle.kept_promise.proofs.Common.{Deal.Sent, Deal.Found, nat_tests, ◌==◌, slice_get, slice_set, Chunk, Done, Hashes, Body, Message, Pending, lease_call, hash_call, with_hashes, with_pairs, is_none, without_read, fault_in, idle, took, ClientStep, Ended, Fetch, Stage, Task, Op, Word, TakenCall, op_after, told_of, has_point, point_if, taken_at, no_traffic, Moment, hashed_of, Deal, Deal.Took, deals_with, deals_of, IsOpened, Book, Or, Collides, value_at}
 use Rattle.kept_promise.proofs.Lists.{some_is, nothing_there, both_true}
 use Rattle.kept_promise.proofs.Messages.{Job, stage_word, IsFetch}
-use Rattle.kept_promise.proofs.Rights.{Caused}
+use Rattle.kept_promise.proofs.Rights.{AreLeased, IsOpenedIf, Caused}
 use Rattle.kept_promise.proofs.VersionRuns.{opened_by, word_after}
 use Rattle.kept_promise.proofs.Counted.{traffic_is}
 use Rattle.kept_promise.proofs.Taking.{Taking, IsApart, same_value}
@@ -43,12 +43,12 @@ abbrev pub EachOpen : Word → List Deal → Type 0
 EachOpen words.Open log = EachReaches log
 EachOpen w log = Unit {0}
 
-abbrev pub GotAll : (hashed : List (List ℕ)) → List Deal → (value : List ℕ) → History → Type 0
-GotAll hashed log v (told.Opened len digest) = IsBare log ⊎ (OneFetch log × ((content : List ℕ) × ReachesAll content (last_fetch log) × ((v ≡ content) ⊎ Collides hashed)))
-GotAll hashed log v u = Unit {0}
+abbrev pub GotAll : (all : List Moment) → List Deal → (value : List ℕ) → History → Type 0
+GotAll all log v (told.Opened len digest) = IsBare log ⊎ (OneFetch log × ((content : List ℕ) × ReachesAll content (last_fetch log) × (AreLeased all → (v ≡ content) ⊎ Collides (hashed_of all))))
+GotAll all log v u = Unit {0}
 
-abbrev pub OpenRead : (hashed : List (List ℕ)) → Ending
-OpenRead hashed log w file v u = EachOpen w log × GotAll hashed log v u
+abbrev pub OpenRead : (all : List Moment) → Ending
+OpenRead all log w file v u = EachOpen w log × GotAll all log v u
 
 -- a walk reached none
 names_reached : (log : List Deal) → NamesOnly log → AreReached log
@@ -329,9 +329,9 @@ gets_cases log s calls file v st x b p apart = record {
 -- ---- the content
 
 -- where an open rests on an attempt that reached all chunks of a content, this is its value
-opened_content : (book more : Book) (taken : List TakenCall) (j : Job) (o new : Op) (p len : ℕ) (digest : List ℕ) (f : Fetch) → Taking book more taken j o p → more.ops ≡ slice_set book.ops p new → more.moments ≡ book.moments → new.word ≡ words.Open → new.file ≡ o.file → IsOpened more new.file new len digest → stage_word j.stage ≡ words.Open → (h : IsFetch book taken j f)
-    → ((q : ℕ) → new.point ≡ Some q → taken_at taken f.first ≡ Some q) → (new.value ≡ h.file.content) ⊎ Collides (hashed_of book.moments)
-opened_content book more taken j o new p len digest f t are moments word file opened at h point = elim opened.value_is [
+opened_content : (book more : Book) (taken : List TakenCall) (j : Job) (o new : Op) (p len : ℕ) (digest : List ℕ) (f : Fetch) → Taking book more taken j o p → more.ops ≡ slice_set book.ops p new → more.moments ≡ book.moments → new.word ≡ words.Open → new.file ≡ o.file → IsOpenedIf more new.file new len digest → stage_word j.stage ≡ words.Open → (h : IsFetch book taken j f)
+    → ((q : ℕ) → new.point ≡ Some q → taken_at taken f.first ≡ Some q) → AreLeased book.moments → (new.value ≡ h.file.content) ⊎ Collides (hashed_of book.moments)
+opened_content book more taken j o new p len digest f t are moments word file opened at h point leased = elim (opened.value_is (subst AreLeased (sym moments) leased)) [
   | inr collides ↦ inr (subst (λ (l : List Moment). Collides (hashed_of l)) moments collides)
   | inl value ↦ elim h.value_is [
     | inr collides ↦ inr collides
@@ -347,7 +347,7 @@ opened_content book more taken j o new p len digest f t are moments word file op
 ]
 
 opens_heard : (book more : Book) (taken : List TakenCall) (j : Job) (o : Op) (p : ℕ) (s : client.State) (x : ℕ) (b : Body) → Answering book more taken j o p s x b (took (idle s) (client.calls_of s) j.file j.stage x b) → (log : List Deal) → OpensBy log o.file o.value j.stage
-    → Answered OpensBy (OpenRead (hashed_of book.moments)) book taken o log x b (found_in s j.file j.stage x b) (took (idle s) (client.calls_of s) j.file j.stage x b)
+    → Answered OpensBy (OpenRead book.moments) book taken o log x b (found_in s j.file j.stage x b) (took (idle s) (client.calls_of s) j.file j.stage x b)
 opens_heard book more taken j o p s x b a log h = record {
   stage = λ u running is. gets.0 (op_after o r.0 taken (book.steps + 1) r.1).file (op_after o r.0 taken (book.steps + 1) r.1).value u running is;
   each = (reached (op_after o r.0 taken (book.steps + 1) r.1).word refl, by r.1.ended refl (op_after o r.0 taken (book.steps + 1) r.1).outcome refl);
@@ -384,7 +384,7 @@ opens_heard book more taken j o p s x b a log h = record {
     running_not : (len : ℕ) (digest : List ℕ) → told.Running ≡ told.Opened len digest → ⊥
     running_not len digest z = absurd cc
 
-    whole : (e : Ended) (len : ℕ) (digest : List ℕ) → r.1.ended ≡ Some e → (op_after o r.0 taken (book.steps + 1) r.1).outcome ≡ told.Opened len digest → IsBare log2 ⊎ (OneFetch log2 × ((content : List ℕ) × ReachesAll content (last_fetch log2) × (((op_after o r.0 taken (book.steps + 1) r.1).value ≡ content) ⊎ Collides (hashed_of book.moments))))
+    whole : (e : Ended) (len : ℕ) (digest : List ℕ) → r.1.ended ≡ Some e → (op_after o r.0 taken (book.steps + 1) r.1).outcome ≡ told.Opened len digest → IsBare log2 ⊎ (OneFetch log2 × ((content : List ℕ) × ReachesAll content (last_fetch log2) × (AreLeased book.moments → ((op_after o r.0 taken (book.steps + 1) r.1).value ≡ content) ⊎ Collides (hashed_of book.moments))))
     whole e len digest is out =
         let new : Op = op_after o r.0 taken (book.steps + 1) r.1 in
         let opened = opened_by e.outcome len digest (sym (told_is r.1.ended e is) ∙ out) in
@@ -409,12 +409,12 @@ opens_heard book more taken j o p s x b a log h = record {
     reached words.Open is = each_reached log2 (gets.2 (sym a.taking.word ∙ sym (word_after o r.0 taken (book.steps + 1) r.1) ∙ is))
     reached w is = tt
 
-    by : (l : Option Ended) → r.1.ended ≡ l → (u : History) → (op_after o r.0 taken (book.steps + 1) r.1).outcome ≡ u → GotAll (hashed_of book.moments) log2 (op_after o r.0 taken (book.steps + 1) r.1).value u
+    by : (l : Option Ended) → r.1.ended ≡ l → (u : History) → (op_after o r.0 taken (book.steps + 1) r.1).outcome ≡ u → GotAll book.moments log2 (op_after o r.0 taken (book.steps + 1) r.1).value u
     by (Some e) is (told.Opened len digest) out = whole e len digest is out
     by None is (told.Opened len digest) out = absurd (running_not len digest (sym (outcome_is r.1.ended (told.Opened len digest) is out)))
     by l is u out = tt
 
-pub opens_laws : (all : List Moment) → LogLaws all OpensBy (OpenRead (hashed_of all))
+pub opens_laws : (all : List Moment) → LogLaws all OpensBy (OpenRead all)
 opens_laws all = record {
   walks = λ log file v x w h. h;
   walked = λ log file v x w h. h;
@@ -422,9 +422,9 @@ opens_laws all = record {
   asks = λ log names x file v. asked log names x file;
   opens = λ log names x file v. begun log names x file;
   closes = λ x temp file v. tt;
-  moves = λ log file other v w u gets. by_getting (λ z. OpenRead (hashed_of all) log z file v u → OpenRead (hashed_of all) log z other v u) (λ h. h) (λ h. h) (λ h. h) w gets;
+  moves = λ log file other v w u gets. by_getting (λ z. OpenRead all log z file v u → OpenRead all log z other v u) (λ h. h) (λ h. h) (λ h. h) w gets;
   other = λ log file v st u of p un same. (any (stage_word st) st refl log file v p, other log v u un);
-  heard = λ book more taken j o p s x b all_is a log h. subst (λ (l : List Moment). Answered OpensBy (OpenRead (hashed_of l)) book taken o log x b (found_in s j.file j.stage x b) (took (idle s) (client.calls_of s) j.file j.stage x b)) all_is (opens_heard book more taken j o p s x b a log h);
+  heard = λ book more taken j o p s x b all_is a log h. subst (λ (l : List Moment). Answered OpensBy (OpenRead l) book taken o log x b (found_in s j.file j.stage x b) (took (idle s) (client.calls_of s) j.file j.stage x b)) all_is (opens_heard book more taken j o p s x b a log h);
 }
   where
     nothing : (w : Word) (log : List Deal) → NamesOnly log → EachOpen w log
@@ -462,13 +462,13 @@ opens_laws all = record {
     any words.Open st is log file v p = each_reached log (any_reached log file v st p is)
     any w st is log file v p = tt
 
-    other : (log : List Deal) (v : List ℕ) (u : History) → IsUnopened u → GotAll (hashed_of all) log v u
+    other : (log : List Deal) (v : List ℕ) (u : History) → IsUnopened u → GotAll all log v u
     other log v (told.Opened len digest) un = absurd (un len digest refl)
     other log v u un = tt
 
 -- each attempt of an open reached the first of what it was told
-pub each_reaches : (past : List Moment) (o : Op) (hashed : List (List ℕ)) → o.word ≡ words.Open → OpenRead hashed (deals_of o past) o.word o.file o.value o.outcome → EachReaches (deals_of o past)
-each_reaches past o hashed open_ read = subst (λ w. EachOpen w (deals_of o past)) open_ read.0
+pub each_reaches : (past : List Moment) (o : Op) (all : List Moment) → o.word ≡ words.Open → OpenRead all (deals_of o past) o.word o.file o.value o.outcome → EachReaches (deals_of o past)
+each_reaches past o all open_ read = subst (λ w. EachOpen w (deals_of o past)) open_ read.0
 
 -- ---- what it makes of the promise
 
@@ -512,8 +512,8 @@ bare_counts past o open_ own bare s =
     traffic_is o.traffic no_traffic (omega (arith, p, a)) (omega (arith, q, b)) (omega (arith, r, asked)) (omega (arith, d, c, came))
 
 -- where it began one attempt alone, it counts just what that one read
-pub once_is : (past : List Moment) (o : Op) (hashed : List (List ℕ)) (len : ℕ) (digest : List ℕ) → o.outcome ≡ told.Opened len digest → o.word ≡ words.Open → OpOwn (deals_of o past) o.word o.file o.value o.outcome → OpenRead hashed (deals_of o past) o.word o.file o.value o.outcome → IsSum o.traffic (deals_of o past) → begins_in (deals_of o past) ≤ 1 → o.traffic ≡ read_traffic (last_fetch (deals_of o past))
-once_is past o hashed len digest is open_ own read s few =
+pub once_is : (past : List Moment) (o : Op) (all : List Moment) (len : ℕ) (digest : List ℕ) → o.outcome ≡ told.Opened len digest → o.word ≡ words.Open → OpOwn (deals_of o past) o.word o.file o.value o.outcome → OpenRead all (deals_of o past) o.word o.file o.value o.outcome → IsSum o.traffic (deals_of o past) → begins_in (deals_of o past) ≤ 1 → o.traffic ≡ read_traffic (last_fetch (deals_of o past))
+once_is past o all len digest is open_ own read s few =
     let n = own_bytes past o open_ own in
     let a = n.0 in
     let b = n.1 in
@@ -523,21 +523,20 @@ once_is past o hashed len digest is open_ own read s few =
     let r = s.read in
     let d = s.data_is in
     let m = last_most (deals_of o past) in
-    let w = counts (subst (GotAll hashed (deals_of o past) o.value) is read.1) m.0 m.1 in
+    let w = counts (subst (GotAll all (deals_of o past) o.value) is read.1) m.0 m.1 in
     let x = w.0 in
     let y = w.1 in
     traffic_is o.traffic (read_traffic (last_fetch (deals_of o past))) (omega (arith, p, a)) (omega (arith, q, b)) (omega (arith, r, x)) (omega (arith, d, c, y))
   where
-    counts : (IsBare (deals_of o past) ⊎ (OneFetch (deals_of o past) × ((content : List ℕ) × ReachesAll content (last_fetch (deals_of o past)) × ((o.value ≡ content) ⊎ Collides hashed)))) → length (last_fetch (deals_of o past)).reads ≤ asked_in (deals_of o past) → (last_fetch (deals_of o past)).bytes ≤ came_in (deals_of o past)
+    counts : (IsBare (deals_of o past) ⊎ (OneFetch (deals_of o past) × ((content : List ℕ) × ReachesAll content (last_fetch (deals_of o past)) × (AreLeased all → (o.value ≡ content) ⊎ Collides (hashed_of all))))) → length (last_fetch (deals_of o past)).reads ≤ asked_in (deals_of o past) → (last_fetch (deals_of o past)).bytes ≤ came_in (deals_of o past)
         → (asked_in (deals_of o past) ≡ length (last_fetch (deals_of o past)).reads) × (came_in (deals_of o past) ≡ (last_fetch (deals_of o past)).bytes)
     counts (inl (none, asked, came)) le lf = (omega (arith, asked, le), omega (arith, came, lf))
-    counts (inr (one, all)) le lf = one.few few
+    counts (inr (one, more)) le lf = one.few few
 
 -- an open got its content by what was kept, or reached each of its chunks
-pub got_by : (book : Book) (o : Op) (len : ℕ) (digest : List ℕ) → o.outcome ≡ told.Opened len digest → o.word ≡ words.Open → OpOwn (deals_of o book.moments) o.word o.file o.value o.outcome → OpenRead (hashed_of book.moments) (deals_of o book.moments) o.word o.file o.value o.outcome → IsSum o.traffic (deals_of o book.moments) → Or book (GotBy o (deals_of o book.moments))
-got_by book o len digest is open_ own read s = by (subst (GotAll (hashed_of book.moments) (deals_of o book.moments) o.value) is read.1)
+pub got_by : (book : Book) (o : Op) (len : ℕ) (digest : List ℕ) → o.outcome ≡ told.Opened len digest → o.word ≡ words.Open → OpOwn (deals_of o book.moments) o.word o.file o.value o.outcome → OpenRead book.moments (deals_of o book.moments) o.word o.file o.value o.outcome → IsSum o.traffic (deals_of o book.moments) → AreLeased book.moments → Or book (GotBy o (deals_of o book.moments))
+got_by book o len digest is open_ own read s leased = by (subst (GotAll book.moments (deals_of o book.moments) o.value) is read.1)
   where
-    by : (IsBare (deals_of o book.moments) ⊎ (OneFetch (deals_of o book.moments) × ((content : List ℕ) × ReachesAll content (last_fetch (deals_of o book.moments)) × ((o.value ≡ content) ⊎ Collides (hashed_of book.moments))))) → Or book (GotBy o (deals_of o book.moments))
+    by : (IsBare (deals_of o book.moments) ⊎ (OneFetch (deals_of o book.moments) × ((content : List ℕ) × ReachesAll content (last_fetch (deals_of o book.moments)) × (AreLeased book.moments → (o.value ≡ content) ⊎ Collides (hashed_of book.moments))))) → Or book (GotBy o (deals_of o book.moments))
     by (inl bare) = inl (inl (Rattle.kept_promise.proofs.MetLog.none_begun (deals_of o book.moments) bare.0, bare_counts book.moments o open_ own bare s))
-    by (inr (one, (content, all, inr collides))) = inr collides
-    by (inr (one, (content, all, inl same))) = inl (inr (subst (λ (c : List ℕ). ReachesAll c (last_fetch (deals_of o book.moments))) (sym same) all))
+    by (inr (one, (content, all, so))) = elim (so leased) [ inr collides ↦ inr collides | inl same ↦ inl (inr (subst (λ (c : List ℕ). ReachesAll c (last_fetch (deals_of o book.moments))) (sym same) all)) ]

@@ -37,7 +37,7 @@ use Rattle.kept_promise.proofs.LogSums.{counts_log}
 use Rattle.kept_promise.proofs.LogEvents.{LogsAt, carried_logs}
 use Rattle.kept_promise.proofs.OpenedOnce.{IsMet, carried_once, opened_once}
 use Rattle.kept_promise.proofs.Points.{opens_at}
-use Rattle.kept_promise.proofs.Rights.{Caused}
+use Rattle.kept_promise.proofs.Rights.{Caused, AreLeased}
 use Rattle.kept_promise.proofs.OpensLog.{OpensBy, OpenRead, opens_laws, each_reaches, got_by}
 use Rattle.kept_promise.proofs.ClosesLog.{names_chunks, pays_all, saves_all}
 use Rattle.kept_promise.proofs.MetLog.{attempts_met, attempts_end}
@@ -51,6 +51,7 @@ use Rattle.kept_promise.proofs.Messages.{job}
 use Rattle.kept_promise.proofs.Lists.{nothing_there}
 use Rattle.kept_promise.proofs.Saved.{none_unknown}
 use Rattle.kept_promise.proofs.NamesMove.{AllNamed, carried_named, names_change}
+use Rattle.kept_promise.proofs.Unnoted.{AllUnnoted, carried_unnoted, none_fresh}
 use Rattle.kept_promise.proofs.Promised.{no_fault, legal_kept, holds_files, holds_contents, holds_values}
 
 -- ---- facts that are carried together
@@ -71,15 +72,15 @@ Changes all past opening k qs = AllSettled all past opening k qs × (AllOwned al
 
 -- by what was said for operations, in order: what opens read since their last attempt began, why they gave one up, and that all calls are their own
 abbrev Logs : Fact
-Logs all past opening k qs = LogsAt OpensBy (OpenRead (hashed_of all)) past k × (IsMet all past opening k qs × LogsAt OwnBy OpOwn past k)
+Logs all past opening k qs = LogsAt OpensBy (OpenRead all) past k × (IsMet all past opening k qs × LogsAt OwnBy OpOwn past k)
 
 -- what is told of the commands and their operations, of what these count and store, of versions, and of the rest
 abbrev Told : Fact
 Told all past opening k qs = Follows all past opening k qs × (Stored all past opening k qs × (Versions all past opening k qs × (Changes all past opening k qs × Logs all past opening k qs)))
 
 logs_carried : Carried Logs
-logs_carried = carried_both (λ all past opening k qs. LogsAt OpensBy (OpenRead (hashed_of all)) past k) (λ all past opening k qs. IsMet all past opening k qs × LogsAt OwnBy OpOwn past k)
-    (carried_logs (λ all. OpensBy) (λ all. OpenRead (hashed_of all)) opens_laws fit_laws)
+logs_carried = carried_both (λ all past opening k qs. LogsAt OpensBy (OpenRead all) past k) (λ all past opening k qs. IsMet all past opening k qs × LogsAt OwnBy OpOwn past k)
+    (carried_logs (λ all. OpensBy) (λ all. OpenRead all) opens_laws fit_laws)
     (carried_both IsMet (λ all past opening k qs. LogsAt OwnBy OpOwn past k) (carried_once fit_laws) (carried_logs (λ all. OwnBy) (λ all. OpOwn) own_laws fit_laws))
 
 -- and that an open gets what its client keeps, and that a walk's calls are its own, which rest on what is told before
@@ -126,19 +127,19 @@ more_carried =
 -- ---- the promise of what a run leaves
 
 -- what is known of each command
-is_known : (w : World) (all : List Moment) (h : Stands More all all w) → Walks all all w.core → (k : ℕ) (d : Deed) (o : Op) → slice_get (deeds_of all) k ≡ Some d → slice_get w.core.ops k ≡ Some o → IsKnown (book_of w all) d o (local_before (deeds_of all) w.core.ops k d.client o.file)
-is_known w all h walks k d o was at =
+is_known : (w : World) (all : List Moment) (leased : AreLeased all) (h : Stands More all all w) → Walks all all w.core → (k : ℕ) (d : Deed) (o : Op) → slice_get (deeds_of all) k ≡ Some d → slice_get w.core.ops k ≡ Some o → IsKnown (book_of w all) d o (local_before (deeds_of all) w.core.ops k d.client o.file)
+is_known w all leased h walks k d o was at =
     let deeds = h.more.0.0.0.followed.deeds in
     let cause = (h.kept.sound.rights k o at).cause in
-    known_by (book_of w all) (deeds_of all) k d o (deeds.each k d o was at).word cause (walks.over k d o was at) h.more.1.1.1.1.0.1.opens was at
+    known_by (book_of w all) (deeds_of all) k d o (deeds.each k d o was at).word leased cause (walks.over k d o was at) h.more.1.1.1.1.0.1.opens was at
     (λ c is late. record {
       positive = λ s found. finds_positive (bare all) h.more.1.1.1.1.1.0 o s found;
       too_long = λ p list none. begun_pages p (deals_of o all) (subst (λ (x : Command). GaveNow x o.outcome o.end o.begin (deals_of o all)) (is ∙ ap (λ z. command.Named z) list) (h.more.0.1.1.each k o at d was).gave none late);
     })
     (λ f is status refused. open_refused (book_of w all) (deeds_of all) deeds.rising deeds.each deeds.count walks.before k d o was at f is cause status refused)
 
-promise_of : (input : List ℕ) (w : World) → run input ≡ Ok w → Stands More (moments input) (moments input) w → IsKeptPromise input w
-promise_of input w ran h =
+promise_of : (input : List ℕ) (w : World) → AreLeased (moments input) → run input ≡ Ok w → Stands More (moments input) (moments input) w → IsKeptPromise input w
+promise_of input w leased ran h =
     let all : List Moment = moments input in
     let stored : Stored all all w.opening w.core h.queues = h.more.0.0.1.0 in
     let versions : Versions all all w.opening w.core h.queues = h.more.0.0.1.1.0 in
@@ -152,7 +153,7 @@ promise_of input w ran h =
         commands = commands_said input w ran;
         counted = steps_counted (kept_laws fit_laws) fit_laws input w ran;
         count = deeds_counted w all h.more.0.0.0.followed;
-        done = (λ k d o was at. deeds_done w all h.queues h.kept h.more.0.0.0.followed k d o was at (is_known w all h walks k d o was at));
+        done = (λ k d o was at. deeds_done w all leased h.queues h.kept h.more.0.0.0.followed k d o was at (is_known w all leased h walks k d o was at));
         cuts = cuts_end w all h.more.0.0.0.cuts;
         journal = h.kept.sound.journal;
         settled = λ i p e at is kind. changes.0.settled i p e at is kind;
@@ -171,18 +172,18 @@ promise_of input w ran h =
         numbered = λ n. changes.1.1.each n;
         silent = stored.counted.silent;
         opened = λ k len digest o at is. opened_once (book_of w all) o len digest is (open_word k o len digest at is) (counts_log o all (stored.counted.counts k o at)) (logs.1.1.each k o at) (logs.0.each k o at) (logs.1.0.once k len digest o at is);
-        reached = λ k o at open_. each_reaches all o (hashed_of all) open_ (logs.0.each k o at);
-        fetched = λ k len digest o at is. got_by (book_of w all) o len digest is (open_word k o len digest at is) (logs.1.1.each k o at) (logs.0.each k o at) (counts_log o all (stored.counted.counts k o at));
+        reached = λ k o at open_. each_reaches all o all open_ (logs.0.each k o at);
+        fetched = λ k len digest o at is. got_by (book_of w all) o len digest is (open_word k o len digest at is) (logs.1.1.each k o at) (logs.0.each k o at) (counts_log o all (stored.counted.counts k o at)) leased;
         named = λ k o at close. names_chunks all o close (stored.closes.each k o at);
         paid = λ k o at close. pays_all all o close (stored.closes.each k o at);
         stored = λ k o at sent. has_stored all o (stored.counted.counts k o at) (stored.closes.each k o at) (logs.1.1.each k o at) sent;
         made = λ k p o at close point. made_sent (book_of w all) all w.opening w.core h.queues h.kept stored k p o at close point;
       };
-      legal = legal_kept (book_of w all) w.core h.queues h.kept;
+      legal = legal_kept (book_of w all) w.core h.queues h.kept leased;
       complete = record {
         ended = completes fit_laws w all h.queues h.kept h.carry h.rested;
         well = λ k d o was at alone asks free uncut.
-            ends_well (book_of w all) d o _ (λ n is status refused. (is_known w all h walks k d o was at).ends n is (asked_late (deeds_of all) w.core.ops k d o n (h.more.0.0.0.followed.deeds.each k d o was at) is asks free) status refused) (deeds_done w all h.queues h.kept h.more.0.0.0.followed k d o was at (is_known w all h walks k d o was at)) (completes fit_laws w all h.queues h.kept h.carry h.rested k o at alone) asks free uncut;
+            ends_well (book_of w all) d o _ (λ n is status refused. (is_known w all leased h walks k d o was at).ends n is (asked_late (deeds_of all) w.core.ops k d o n (h.more.0.0.0.followed.deeds.each k d o was at) is asks free) status refused) (deeds_done w all leased h.queues h.kept h.more.0.0.0.followed k d o was at (is_known w all leased h walks k d o was at)) (completes fit_laws w all h.queues h.kept h.carry h.rested k o at alone) asks free uncut;
       };
       saving = record {
         known = λ m there. (h.more.1.0.saved.each m there).0;
@@ -213,4 +214,5 @@ passes_run input w ran count number server at = passes_are_rounds count w number
 pub promise_accepted : (input : List ℕ) (w : World) → accepted input ≡ Ok w → IsKeptPromise input w
 promise_accepted input w e =
     let ran = ((accepted_exactly input w).0 e).0 in
-    promise_of input w ran (carried_run More (kept_laws fit_laws) fit_laws more_carried input w ran)
+    let unnoted = carried_run (λ all past opening k qs. AllUnnoted past k.seats) (kept_laws fit_laws) fit_laws (carried_unnoted fit_laws) input w ran in
+    promise_of input w (none_fresh (moments input) w.core.seats unnoted.more) ran (carried_run More (kept_laws fit_laws) fit_laws more_carried input w ran)

@@ -16,7 +16,7 @@ use Rattle.trace_replay.specs.Traces.{IsWanted, HasTarget, HoldsValues, HoldsFil
 use Rattle.kept_promise.proofs.Common.{nat_tests, ◌==◌, ◌&&◌, ◌||◌, nat_lt, All, slice_get, cond, Change, File, changes, is_closed, is_untold, Op, Word, Core, Session, numbered, World, hashed_of, stored_traffic, deals_of, Moment, Book, Or, history, value_at, version_at, Queue, Wanted}
 use Rattle.kept_promise.proofs.Lists.{some_is, nothing_there, within}
 use Rattle.kept_promise.proofs.Keys.{own}
-use Rattle.kept_promise.proofs.Rights.{DoneBy, Caused, RefusedBy, IsRight, IsSound, IsFitted}
+use Rattle.kept_promise.proofs.Rights.{AreLeased, DoneBy, Caused, RefusedBy, IsRight, IsSound, IsFitted}
 use Rattle.kept_promise.proofs.Remains.{zero_never}
 use Rattle.kept_promise.proofs.Growth.{or_map}
 use Rattle.kept_promise.proofs.Facts.{FileIs, IsServer, IsKept, IsSession}
@@ -49,11 +49,11 @@ surely : (book : Book) (P : Type 0) → AreApart (hashed_of book.moments) → Or
 surely book P apart (inl p) = p
 surely book P apart (inr c) = absurd (c.apart (apart c.a c.b c.first c.second c.same))
 
-opens_whole : (book : Book) (o : Op) → AreApart (hashed_of book.moments) → IsRight book o → OpensWhole (history book) o
-opens_whole book o apart r = λ is_open opened. by o.outcome r.cause opened
+opens_whole : (book : Book) (o : Op) → AreLeased book.moments → AreApart (hashed_of book.moments) → IsRight book o → OpensWhole (history book) o
+opens_whole book o leased apart r = λ is_open opened. by o.outcome r.cause opened
   where
     by : (u : Outcome) → Caused book o u → is_opened u ≡ true → (p : ℕ) × (o.point ≡ Some p) × (value_at book o.file p ≡ Some o.value)
-    by (told.Opened len digest) h e = (h.1.point, h.1.within.0, surely book (value_at book o.file h.1.point ≡ Some o.value) apart h.1.value_is)
+    by (told.Opened len digest) h e = (h.1.point, h.1.within.0, surely book (value_at book o.file h.1.point ≡ Some o.value) apart (h.1.value_is leased))
     by u h e = absurd cc
 
 -- no file has the number 0
@@ -117,11 +117,11 @@ changes_once book o r fit = (λ so. succeeds book o r so, λ change p point. (fi
 changes_nothing : (book : Book) (o : Op) → IsRight book o → ChangesNothing o
 changes_nothing book o r = λ change failed known. r.failed change failed known
 
-pub legal_kept : (book : Book) (k : Core) (qs : List Queue) → IsKept book k qs → AreApart (hashed_of book.moments) → IsLegal (history book)
-legal_kept book k qs kept apart = record {
+pub legal_kept : (book : Book) (k : Core) (qs : List Queue) → IsKept book k qs → AreLeased book.moments → AreApart (hashed_of book.moments) → IsLegal (history book)
+legal_kept book k qs kept leased apart = record {
   apart = λ i m d less within. apart_by_place book kept.sound i m _ _ less (slice_get-get_or book.ops i d (omega (arith, less, within))) (slice_get-get_or book.ops m d within);
   within = all_by_place IsWithin book.ops (λ i o at. λ p e. let r = kept.sound.rights i o at in ((r.pointed p e).0, λ lost t end. r.within lost p t e end));
-  opens = all_by_place (OpensWhole (history book)) book.ops (λ i o at. opens_whole book o apart (kept.sound.rights i o at));
+  opens = all_by_place (OpensWhole (history book)) book.ops (λ i o at. opens_whole book o leased apart (kept.sound.rights i o at));
   absences = all_by_place (FindsGone (history book)) book.ops (λ i o at. finds_gone book k.server kept.sound kept.server i o at);
   successes = all_by_place (ChangesOnce (history book)) book.ops (λ i o at. changes_once book o (kept.sound.rights i o at) (kept.sound.fits i o at));
   failures = all_by_place ChangesNothing book.ops (λ i o at. changes_nothing book o (kept.sound.rights i o at));

@@ -10,7 +10,38 @@ use Rattle.tree_reading.specs.declared.entry.EntryKind.{EntryKind}
 use Rattle.register_model.specs.Register.{succeeded, IsFit}
 use Rattle.trace_replay.specs.Causes.{HasNoRoom, IsGone, Within}
 use Rattle.trace_replay.specs.Faithful.{IsKind, HasJournal}
-use Rattle.kept_promise.proofs.Common.{Task, Seat, numbered, slice_get, not, is_some, Contains, sha1, File, Moment, value_at, version_at, is_lost, is_untold, Op, Word, Book, IsOpened, IsClosed, IsChanged, IsLost, IsOpenRefused, IsEntered, is_running, changes, nat_lt}
+use Rattle.std.proofs.Common.{List, Option}
+use Rattle.client_cache.specs.Cache.{content_of as kept_of, fresh_of}
+use Rattle.client_cache.specs.declared.kept.Content.{Content}
+use Rattle.kept_promise.proofs.Common.{Core, Session, Event, Event.Does, Event.Hears, Or, Task, Seat, numbered, slice_get, not, is_some, Contains, sha1, File, Moment, value_at, version_at, is_lost, is_untold, Op, Word, Book, IsOpened, IsClosed, IsChanged, IsLost, IsOpenRefused, IsEntered, is_running, changes, nat_lt}
+
+-- ---- what is fresh
+
+-- the client that acts at an event, and its reading
+abbrev pub acts_for : Event → Option Session → Option (ℕ × ℕ)
+acts_for (Hears n now bytes) (Some x) = Some (x.owner, now)
+acts_for e x = None
+
+abbrev pub acts_at : Core → Event → Option (ℕ × ℕ)
+acts_at k (Does c now d) = Some (c, now)
+acts_at k (Hears n now bytes) = acts_for (Hears n now bytes) (numbered k.sessions n)
+acts_at k e = None
+
+-- at each moment a content that is fresh to the client that acts is of the version that the server's tree then has
+abbrev pub AreLeased : List Moment → Type 0
+AreLeased moments = (m : Moment) (c now f : ℕ) (seat : Seat) (kept : Content) → Contains moments m → acts_at m.before m.event ≡ Some (c, now) → numbered m.before.seats c ≡ Some seat
+    → kept_of seat.client.cache f ≡ Some kept → fresh_of seat.client.cache f now ≡ Some kept.bytes → (g : File) × (the_files.file_at m.before.server.tree f ≡ Some g) × (g.version ≡ kept.version)
+
+-- an open got the content that its file had at its point, if no note was stale
+pub record IsOpenedIf (book : Book) (file : ℕ) (o : Op) (len : ℕ) (digest : List ℕ) : Type 0 where
+  pub length_is : len ≡ length o.value
+  pub digest_is : digest ≡ sha1 o.value
+  pub point : ℕ
+  pub within : Within o point
+  pub value_is : AreLeased book.moments → Or book (value_at book file point ≡ Some o.value)
+
+pub opened_if : (book : Book) (file : ℕ) (o : Op) (len : ℕ) (digest : List ℕ) → AreLeased book.moments → IsOpenedIf book file o len digest → IsOpened book file o len digest
+opened_if book file o len digest leased h = record { length_is = h.length_is; digest_is = h.digest_is; point = h.point; within = h.within; value_is = h.value_is leased }
 
 pub open_not_close : words.Open ≡ words.Close → ⊥
 open_not_close e = absurd cc
@@ -87,7 +118,7 @@ DoneBy o w = Unit {0}
 
 -- The cause of an outcome, by the word alone; what a client answers by itself has none here.
 abbrev pub Caused : Book → Op → Outcome → Type 0
-Caused book o (told.Opened len digest) = (o.word ≡ words.Open) × IsOpened book o.file o len digest × WasThere book o.file
+Caused book o (told.Opened len digest) = (o.word ≡ words.Open) × IsOpenedIf book o.file o len digest × WasThere book o.file
 Caused book o (told.Refused status) = RefusedBy book o o.word status
 Caused book o (told.Changed first last) = (o.word ≡ words.Open) × IsChanged book o.file o first last
 Caused book o (told.Closed version len digest) = (o.word ≡ words.Close) × IsClosed book o.file o version len digest
