@@ -12,7 +12,7 @@ use Rattle.client_state.specs.declared.step.Outcome.TheVariants as outcome
 use Rattle.register_model.specs.declared.op.Word.TheVariants as words
 use Rattle.trace_ends.specs.Session.{taken_of as session_taken}
 use Rattle.trace_ends.specs.Core.{newest_entries, changed_file}
-use Rattle.kept_promise.proofs.Common.{slice_get, slice_set, cond, find, ◌==◌, Command, File, parse_of, WireFault, Message, Change, Wanted, ServerStep, server_step, got_step, ended_by, joined, Task, Op, Opening, TakenCall, taken_at, pointed, pointed_at, settled_ops, settled_by, Core, Seat, Session, Event, Event.Joins, Event.Does, Event.Serves, Event.Hears, Event.Settles, Event.Cuts, Event.Hangs, CoreStep, numbered, with_numbered, new_session, session_of, taken_with, server_waiting, serves_if, serves, acted, does, joins_as, joins, settles, cuts_if, cuts, hangs_if, hangs, happens, Moment, deed_by, Book, Queue, ask_message, told_message}
+use Rattle.kept_promise.proofs.Common.{slice_get, slice_set, cond, find, ◌==◌, Command, File, parse_of, WireFault, Message, Change, Wanted, server_step, got_step, ended_by, joined, Task, Op, Opening, TakenCall, taken_at, pointed, pointed_at, settled_ops, settled_by, Core, Seat, Session, Event, Event.Joins, Event.Does, Event.Serves, Event.Hears, Event.Settles, Event.Cuts, Event.Hangs, CoreStep, numbered, with_numbered, new_session, session_of, taken_with, server_waiting, serves_if, serves, acted, does, joins_as, joins, settles, cuts_if, cuts, hangs_if, hangs, happens, Moment, deed_by, Book, Queue, ask_message, told_message}
 use Rattle.kept_promise.proofs.Lists.{some_is, nothing_there, same_or_not, kept_appended, set_else}
 use Rattle.kept_promise.proofs.PathNames.{IsSmall}
 use Rattle.kept_promise.proofs.Messages.{Job, job, job_of, WaitsFor, content_wanted}
@@ -20,13 +20,13 @@ use Rattle.kept_promise.proofs.Rights.{IsUnmade, gets_file}
 use Rattle.kept_promise.proofs.Fits.{FitLaws}
 use Rattle.kept_promise.proofs.Keys.{own}
 use Rattle.kept_promise.proofs.Turns.{also_numbered, around_with}
-use Rattle.kept_promise.proofs.Promised.{own_there}
 use Rattle.kept_promise.proofs.Facts.{IsKept}
 use Rattle.kept_promise.proofs.Logs.{IsSilent}
 use Rattle.kept_promise.proofs.RunsCarried.{book_at, moment, Step, Finds}
 use Rattle.kept_promise.proofs.Actors.{Heard, heard_at, heard_acts, serves_read}
 use Rattle.kept_promise.proofs.Versions.{of_numbered, takens, Extends, extends_same}
 use Rattle.kept_promise.proofs.ServesFiles.{newest_one}
+use Rattle.kept_promise.proofs.TakenOut.{SettlesOut, settled_to}
 use Rattle.kept_promise.proofs.Making.{made_change, made_is, entry_of}
 use Rattle.kept_promise.proofs.ServesQuietly.{MadeHere, serves_quiet}
 use Rattle.kept_promise.proofs.SettlesQuietly.{GoesHere, Settling, makes_commit, makes_else, settling}
@@ -58,14 +58,13 @@ goes_of m = record { place = m.place; op = m.op; there = m.there; unmade = m.unm
 pub settled_are : (book : Book) (k : Core) (qs : List Queue) (now : ℕ) → IsKept book k qs → Settled k (settles k now).core.ops
 settled_are book k qs now kept = by (settling book k qs now kept)
   where
-    made : (cs : List Change) (c : Change) → k.server.waiting ≡ c ∷ cs → c.what ≡ wanted.Content (content_wanted c.what) → (f : File) → (let r = made_change (at_reading (record k.server { waiting = cs }) now) c (content_wanted c.what) f in Settled k (settled_by k (changed_file (newest_entries r.0.journal r.1.entries)) r.1.told))
-    made cs c e what f =
-        let first : slice_get k.server.waiting 0 ≡ Some c = ap (λ (l : List Change). slice_get l 0) e in
-        let home = kept.home 0 c first in
+    made : (cs : List Change) (c : Change) → SettlesOut k now c cs → c.what ≡ wanted.Content (content_wanted c.what) → (f : File) → (let r = made_change (at_reading (record k.server { waiting = cs }) now) c (content_wanted c.what) f in Settled k (settled_by k (changed_file (newest_entries r.0.journal r.1.entries)) r.1.told))
+    made cs c out what f =
+        let home = kept.home out.out.place c out.out.there in
         let q = also_numbered k.sessions qs c.session home.0 kept.made.1 home.1 in
-        let mine = own_there k.server.waiting 0 c first in
         let h = kept.sessions c.session home.0 q.0 home.1 q.1 in
-        let pending = subst (λ (w : Wanted). WaitsFor book c.session home.0.closing home.0.cut (job h.seat) c.xid c.file w) what (h.pending mine.0 c mine.1) in
+        let its : slice_get (own c.session k.server.waiting) 0 ≡ Some c = ap (λ (l : List Change). slice_get l 0) out.out.mine in
+        let pending = subst (λ (w : Wanted). WaitsFor book c.session home.0.closing home.0.cut (job h.seat) c.xid c.file w) what (h.pending 0 c its) in
         let there : slice_get k.ops pending.place ≡ Some pending.op = ap (λ (l : List Op). slice_get l pending.place) (sym kept.ops) ∙ pending.there in
         inr (record {
           place = pending.place;
@@ -77,15 +76,14 @@ settled_are book k qs now kept = by (settling book k qs now kept)
               ∙ ap (settled_ops k.ops (k.steps + 1) (Some c.file)) home.1
               ∙ ap (λ l. pointed_at k.ops l (k.steps + 1) (Some c.file)) pending.known
               ∙ ap (pointed k.ops pending.place c.file (k.steps + 1)) there;
-          kind = inl (pending.word_is, sym pending.file_is, (c.session, mine.0, home.0, c, home.1, pending.known, mine.1));
+          kind = inl (pending.word_is, sym pending.file_is, (c.session, 0, home.0, c, home.1, pending.known, its));
         })
 
-    by : Settling k (settles k now) → Settled k (settles k now).core.ops
+    by : Settling k now (settles k now) → Settled k (settles k now).core.ops
     by (makes_else (inl same) entered tells) = inl same
     by (makes_else (inr gone) entered tells) = inr (goes_of gone)
-    by (makes_commit c cs f e what there) =
-        subst (λ (ws : List Change). (let r = Rattle.server_core.specs.Closing.settles k.server now ws in Settled k (settled_by k (changed_file (newest_entries r.0.journal r.1.entries)) r.1.told))) (sym e)
-        (subst (λ (r : server.State × ServerStep). Settled k (settled_by k (changed_file (newest_entries r.0.journal r.1.entries)) r.1.told)) (sym (made_is book k.server now c cs f kept.server e there what)) (made cs c e what f))
+    by (makes_commit c cs f out what there) =
+        subst (λ (t : CoreStep). Settled k t.core.ops) (sym (out.is ∙ ap (settled_to k) (made_is book k.server now c cs f kept.server out.out there what))) (made cs c out what f)
 
 -- ---- nothing is said
 

@@ -29,12 +29,11 @@ use Rattle.server_core.specs.Closing.{entered_by, entries_by, entry_by as writte
 use Rattle.server_core.specs.declared.change.Wanted.{Wanted}
 use Rattle.server_core.specs.declared.change.Wanted.TheVariants as wanted
 use Rattle.server_core.specs.declared.event.Sent.{Sent}
-use Rattle.server_core.specs.declared.event.ServerStep.{ServerStep}
 use Rattle.client_state.specs.declared.task.Stage.TheVariants as stage
 use Rattle.register_model.specs.Register.{IsFit}
 use Rattle.register_model.specs.declared.op.Outcome.TheVariants as told
 use Rattle.register_model.specs.declared.op.Word.TheVariants as words
-use Rattle.trace_ends.specs.Core.{newest_entries, settles, settled_by, changed_file, is_of_file}
+use Rattle.trace_ends.specs.Core.{settles, changed_file, is_of_file}
 use Rattle.trace_ends.specs.Session.{settled_ops}
 use Rattle.trace_replay.specs.Faithful.{IsKind, left_by as left_of}
 use Rattle.trace_replay.specs.Naming.{entry_file, refusal_of}
@@ -61,7 +60,8 @@ use Rattle.kept_promise.proofs.Facts.{FileIs, IsServer, IsSession, IsKept}
 use Rattle.kept_promise.proofs.ServesFiles.{pointed_none, count_is, newest_more}
 use Rattle.kept_promise.proofs.Leading.{IsNoted, Leads, downs_put, downs_put_in}
 use Rattle.kept_promise.proofs.Rooted.{IsRooted}
-use Rattle.kept_promise.proofs.GoingSettles.{makes_for, answer_key, behind, settled_server, ShowsSettled, kept_settled, settled_came}
+use Rattle.kept_promise.proofs.TakenOut.{SettlesOut, settled_to}
+use Rattle.kept_promise.proofs.GoingSettles.{makes_for, answer_key, settled_server, ShowsSettled, kept_settled, settled_came}
 use Rattle.kept_promise.proofs.Unused.{unused_gone}
 
 -- ---- the step
@@ -75,17 +75,14 @@ asked_step k now c cs p = record (quiet (record k {
   entries = k.entries ++ replicate (count_of p.1.first p.1.second) (k.steps + 1);
 })) { down = record { session = c.session; message = message.Answer c.xid (body.Nfs p.1.answer) } ∷ [] }
 
-pub asked_settles : (k : Core) (now : ℕ) (c : Change) (cs : List Change) (a : Asked) → k.server.waiting ≡ c ∷ cs → c.what ≡ wanted.Asked a → settles k now ≡ asked_step k now c cs (tree_settles k.server.tree (server.held cs) a)
-asked_settles k now c cs a waits what =
-    ap (λ (ws : List Change). did (closing.settles k.server now ws)) waits
-    ∙ ap (λ (w : Wanted). did (closing.makes_change (at (record k.server { waiting = cs }) now) c w)) what
+pub asked_settles : (k : Core) (now : ℕ) (c : Change) (cs : List Change) (a : Asked) → SettlesOut k now c cs → c.what ≡ wanted.Asked a → settles k now ≡ asked_step k now c cs (tree_settles k.server.tree (server.held cs) a)
+asked_settles k now c cs a out what =
+    out.is
+    ∙ ap (λ (w : Wanted). settled_to k (closing.makes_change (at (record k.server { waiting = cs }) now) c w)) what
     ∙ ap (λ (es : List Entry). record (asked_step k now c cs p) { core = record (asked_step k now c cs p).core { ops = settled_ops k.ops (k.steps + 1) (changed_file es) (numbered k.sessions c.session) } }) (newest_more k.server.journal (entries_by c.session p.1.first p.1.second) (count_of p.1.first p.1.second) (count_is c.session p.1.first p.1.second))
   where
     p : Tree × Finished
     p = tree_settles k.server.tree (server.held cs) a
-
-    did : server.State × ServerStep → CoreStep
-    did r = record (quiet (record k { steps = k.steps + 1; server = r.0; ops = settled_by k (changed_file (newest_entries r.0.journal r.1.entries)) r.1.told; entries = k.entries ++ replicate r.1.entries (k.steps + 1) })) { down = r.1.send }
 
 -- its session and its queue
 told_queue : (sessions : List Session) (qs : List Queue) (n : ℕ) (x : Session) (q : Queue) (t : Told) → numbered sessions n ≡ Some x → numbered qs n ≡ Some q → downs_put sessions qs ((n, t) ∷ []) ≡ with_numbered qs n (record q { downs = unless x.cut q.downs (t ∷ []) })
@@ -131,7 +128,7 @@ lets_for : (a : Asked) (o : Op) → o.word ≡ asked_word a → LetsGo o.word
 lets_for (asked.Remove r) o is = inl is
 lets_for (asked.Rename r) o is = inr is
 
-module _ (laws : FitLaws) (book : Book) (k : Core) (qs : List Queue) (now : ℕ) (c : Change) (cs : List Change) (a : Asked) (kept : IsKept book k qs) (noted : IsNoted book k (Settles now)) (waits : k.server.waiting ≡ c ∷ cs) (what : c.what ≡ wanted.Asked a)
+module _ (laws : FitLaws) (book : Book) (k : Core) (qs : List Queue) (now : ℕ) (c : Change) (cs : List Change) (a : Asked) (kept : IsKept book k qs) (noted : IsNoted book k (Settles now)) (out : SettlesOut k now c cs) (what : c.what ≡ wanted.Asked a)
     (x : Session) (q : Queue) (here : numbered k.sessions c.session ≡ Some x) (unhung : x.hung ≡ false) (is : numbered qs c.session ≡ Some q) (p : IsGoing book c.session x.closing x.cut (job (kept.sessions c.session x q here is).seat) c.xid a) where
   abbrev n : ℕ
   n = c.session
@@ -145,22 +142,19 @@ module _ (laws : FitLaws) (book : Book) (k : Core) (qs : List Queue) (now : ℕ)
   abbrev settled : Tree × Finished
   settled = tree_settles t held a
 
-  first : slice_get k.server.waiting 0 ≡ Some c
-  first = ap (λ (l : List Change). slice_get l 0) waits
-
   -- what the others need
   left_held : server.held (drop 1 k.server.waiting) ≡ held
-  left_held = ap (λ (l : List Change). server.held (drop 1 l)) waits
+  left_held = ap server.held out.others
 
   -- and is there
   room : t.changes + server.entries_held cs + 0 ≤ 4294967295
-  room = let z = kept.server.changes in let e = ap server.entries_held waits in omega (arith, z, e)
+  room = let z = kept.server.changes in let e = out.out.entries in omega (arith, z, e)
 
   small : contents_size t.nodes + server.waiting_size cs ≤ 1073741824
-  small = let z = kept.server.bytes in let e = ap server.waiting_size waits in omega (arith, z, e)
+  small = let z = kept.server.bytes in let e = out.out.bytes in omega (arith, z, e)
 
   step_is : happens k (Settles now) ≡ asked_step k now c cs settled
-  step_is = asked_settles k now c cs a waits what
+  step_is = asked_settles k now c cs a out what
 
   sent : (r : NameReply) → settled.1.answer ≡ name_answer r → Contains (happens k (Settles now)).down (record { session = n; message = message.Answer c.xid (body.Nfs (name_answer r)) })
   sent r same =
@@ -168,7 +162,7 @@ module _ (laws : FitLaws) (book : Book) (k : Core) (qs : List Queue) (now : ℕ)
       subst (λ (s : CoreStep). Contains s.down answer) (sym step_is) (subst (λ (m : Nfs). Contains {X = Sent} (record { session = n; message = message.Answer c.xid (body.Nfs m) } ∷ []) answer) (sym same) (Contains-push [] answer))
 
   fits : (r : NameReply) → IsBounded settled.0 → settled.1.answer ≡ name_answer r → MessageFits (told_message (record { xid = c.xid; reply = Walked r }))
-  fits r bounded same = subst (λ (m : Nfs). MessageFits (message.Answer c.xid (body.Nfs m))) same (laws.settled c.xid t held a (kept.server.xids 0 c first) kept.server.bounded bounded)
+  fits r bounded same = subst (λ (m : Nfs). MessageFits (message.Answer c.xid (body.Nfs m))) same (laws.settled c.xid t held a (kept.server.xids out.out.place c out.out.there) kept.server.bounded bounded)
 
   -- ---- its session
 
@@ -194,7 +188,7 @@ module _ (laws : FitLaws) (book : Book) (k : Core) (qs : List Queue) (now : ℕ)
       → ShowsSettled book more k now c cs x q tree (k.server.journal ++ es) r made h → Leads book qs (happens k (Settles now))
   lead more tree es d r made settled_is answer entries count moments opening steps ops entered_is shows =
       let t : Told = record { xid = c.xid; reply = Walked r } in
-      let done = kept_settled book more k qs now c cs a x q tree (k.server.journal ++ es) r made kept waits here unhung is p shows in
+      let done = kept_settled book more k qs now c cs a x q tree (k.server.journal ++ es) r made kept out.out here unhung is p shows in
       let core : (turned_core more (settled_server k.server now cs tree (k.server.journal ++ es)) k.seats k.sessions) ≡ (stepped tree es (name_answer r)).core =
       ap (λ (s : ℕ). record { server = settled_server k.server now cs tree (k.server.journal ++ es); seats = k.seats; sessions = k.sessions; steps = s; ops = more.ops; entries = more.entries }) (steps ∙ ap (λ (s : ℕ). s + 1) kept.steps)
       ∙ ap (λ (o : List Op). record { server = settled_server k.server now cs tree (k.server.journal ++ es); seats = k.seats; sessions = k.sessions; steps = k.steps + 1; ops = o; entries = more.entries }) (ops ∙ ap (λ (l : List Op). settled_ops l (book.steps + 1) (changed_file es) (Some x)) kept.ops ∙ ap (λ (s : ℕ). settled_ops k.ops (s + 1) (changed_file es) (Some x)) kept.steps ∙ ap (settled_ops k.ops (k.steps + 1) (changed_file es)) (sym here))
@@ -230,21 +224,21 @@ module _ (laws : FitLaws) (book : Book) (k : Core) (qs : List Queue) (now : ℕ)
       let grows = grows_same book 1 in
       let still = still_same book 1 kept.sound in
       let z = was.changes in
-      let e = ap server.entries_held waits in
+      let e = out.out.entries in
       let b = was.bytes in
-      let u = ap server.waiting_size waits in
+      let u = out.out.bytes in
       subst (λ (tree : Tree). IsServer more (settled_server k.server now cs tree k.server.journal)) same (record {
         held = λ f. file_still book more None None f (the_files.file_at t f) grows still (was.held f);
         fresh = λ f u. fresh_still book more None None t grows still was.fresh f u;
         bounded = was.bounded;
         zero = was.zero;
         rooted = was.rooted;
-        wants = λ i d z. was.wants (suc i) d (behind k.server c cs waits i d z);
+        wants = λ i d z. let y = out.out.others i d z in was.wants y.0 d y.1;
         changes = omega (arith, z, e);
         bytes = omega (arith, b, u);
-        lengths = λ i d z. was.lengths (suc i) d (behind k.server c cs waits i d z);
-        targets = λ i d z. there_later book more None None d.file grows (was.targets (suc i) d (behind k.server c cs waits i d z));
-        xids = λ i d z. was.xids (suc i) d (behind k.server c cs waits i d z);
+        lengths = λ i d z. let y = out.out.others i d z in was.lengths y.0 d y.1;
+        targets = λ i d z. let y = out.out.others i d z in there_later book more None None d.file grows (was.targets y.0 d y.1);
+        xids = λ i d z. let y = out.out.others i d z in was.xids y.0 d y.1;
       })
 
   unmade_at : x.cut ≡ false → (j : Job) (o : Op) → job h.seat ≡ Some j → slice_get book.ops j.place ≡ Some o → UnmadeBy true x.closing j o
@@ -312,12 +306,12 @@ module _ (laws : FitLaws) (book : Book) (k : Core) (qs : List Queue) (now : ℕ)
           bounded = stays.0;
           zero = none 0 kept.server.zero;
           rooted = root;
-          wants = λ i d z. kept.server.wants (suc i) d (behind k.server c cs waits i d z);
+          wants = λ i d z. let y = out.out.others i d z in kept.server.wants y.0 d y.1;
           changes = omega (arith, room_left);
           bytes = omega (arith, size, bytes);
-          lengths = λ i d z. kept.server.lengths (suc i) d (behind k.server c cs waits i d z);
-          targets = λ i d z. there_later book more (Some p.place) None d.file g (kept.server.targets (suc i) d (behind k.server c cs waits i d z));
-          xids = λ i d z. kept.server.xids (suc i) d (behind k.server c cs waits i d z);
+          lengths = λ i d z. let y = out.out.others i d z in kept.server.lengths y.0 d y.1;
+          targets = λ i d z. let y = out.out.others i d z in there_later book more (Some p.place) None d.file g (kept.server.targets y.0 d y.1);
+          xids = λ i d z. let y = out.out.others i d z in kept.server.xids y.0 d y.1;
         };
         journal_is = ap (λ (l : List Entry). l ++ es) kept.journal;
         made_here = λ z f. p.known ∙ f;
@@ -336,7 +330,7 @@ module _ (laws : FitLaws) (book : Book) (k : Core) (qs : List Queue) (now : ℕ)
                 session = n;
                 xid = c.xid;
                 taken = taken_for_same more new.client (record { place = p.place; file = 0; stage = stage.Walking c.xid (walk_for a) }) j n c.xid (walk_for a) (job_own uncut j at) (taken_for_later book more (Some p.place) None p.op.client new.client (record { place = p.place; file = 0; stage = stage.Walking c.xid (walk_for a) }) n c.xid (walk_for a) g refl (p.taken uncut));
-                comes = inr (record { now = now; event_is = refl; change = c; first = first; session_is = refl; xid_is = refl });
+                comes = inr (record { now = now; event_is = refl; change = c; first = out.first; session_is = refl; xid_is = refl });
                 before = (let z = (p.taken uncut).past in omega (arith, z));
                 done = done;
                 step_is = ap (λ (u : Held). (step_by t u (walk_for a).dir (walk_for a).goal).1) left_held ∙ ap (λ (z : Tree × Result TreeChange Status). z.1) step;

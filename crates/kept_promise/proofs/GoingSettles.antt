@@ -1,5 +1,5 @@
 -- A remove, or a rename over a file, that waited is settled, and its session told: it's refused, or its file goes.
-use Rattle.std.proofs.Common.{inl, ◌≡◌, ℕ, suc, ◌+◌, List, [], ◌∷◌, ◌++◌, length, max, map, Option, Some, None, Bool, true, false, refl, sym, ap, ◌∙◌, subst, arith, eq-eqb, ne_eqb}
+use Rattle.std.proofs.Common.{inl, ◌≡◌, ℕ, ◌+◌, List, [], ◌∷◌, ◌++◌, length, max, map, Option, Some, None, Bool, true, false, refl, sym, ap, ◌∙◌, subst, arith}
 use Rattle.nfs3_calls.specs.Nfs.{nfs_proc}
 use Rattle.wire.specs.declared.message.Body.TheVariants as body
 use Rattle.wire.specs.declared.message.Message.TheVariants as message
@@ -14,7 +14,7 @@ use Rattle.server_core.specs.declared.change.Wanted.TheVariants as wanted
 use Rattle.client_state.specs.State as client
 use Rattle.client_state.specs.declared.task.Stage.TheVariants as stage
 use Rattle.register_model.specs.declared.op.Outcome.TheVariants as told
-use Rattle.kept_promise.proofs.Common.{slice_get, cond, Contains, MessageFits, Change, Entry, Op, Core, Seat, Session, Event.Settles, numbered, with_numbered, happens, unless, hashed_of, Book, Reply.Walked, NameReply, name_answer, Told, Queue, told_message, Reply, Indexed}
+use Rattle.kept_promise.proofs.Common.{slice_get, Contains, MessageFits, Change, Entry, Op, Core, Seat, Session, Event.Settles, numbered, with_numbered, happens, unless, hashed_of, Book, Reply.Walked, NameReply, name_answer, Told, Queue, told_message, Reply, Indexed}
 use Rattle.kept_promise.proofs.Tells.{came_told}
 use Rattle.kept_promise.proofs.Orderly.{Wanted}
 use Rattle.kept_promise.proofs.Lists.{some_is, nothing_there, true_and_false, all_append, all_unless}
@@ -27,6 +27,7 @@ use Rattle.kept_promise.proofs.Taken.{tolds_at, times_map_append}
 use Rattle.kept_promise.proofs.Turns.{around_same, around_with, turned_core, kept_turn}
 use Rattle.kept_promise.proofs.Ordered.{orderly_later, orderly_told, TellsNone}
 use Rattle.kept_promise.proofs.OrderSteps.{waits_untold}
+use Rattle.kept_promise.proofs.TakenOut.{IsOut}
 use Rattle.kept_promise.proofs.Unwaited.{unwaited}
 use Rattle.kept_promise.proofs.Steps.{no_commits}
 use Rattle.kept_promise.proofs.Facts.{IsServer, IsTalk, IsSession, IsKept, commits_in}
@@ -52,23 +53,15 @@ answer_key c a r what procs = ap (λ p. key c.xid (program.Nfs p)) procs ∙ by 
 
 -- ---- the queue
 
-pub first_own : (c : Change) (cs : List Change) → own c.session (c ∷ cs) ≡ c ∷ own c.session cs
-first_own c cs = ap (λ b. cond b (c ∷ own c.session cs) (own c.session cs)) (eq-eqb c.session c.session refl)
-
-pub other_own : (m : ℕ) (c : Change) (cs : List Change) → (m ≡ c.session → ⊥) → own m (c ∷ cs) ≡ own m cs
-other_own m c cs apart = ap (λ b. cond b (c ∷ own m cs) (own m cs)) (ne_eqb c.session m (λ e. apart (sym e)))
-
-pub behind : (s : server.State) (c : Change) (cs : List Change) → s.waiting ≡ c ∷ cs → (i : ℕ) (d : Change) → slice_get cs i ≡ Some d → slice_get s.waiting (suc i) ≡ Some d
-behind s c cs e i d f = ap (λ (l : List Change). slice_get l (suc i)) e ∙ f
-
 -- what is settled is told where it waited
-pub way_settled : (n y : ℕ) (c : Change) (cs : List Change) (q : Queue) (t : Told) → own n (c ∷ cs) ≡ c ∷ own n cs → told_key t ≡ change_key c → times y (on_way n cs (record q { downs = q.downs ++ t ∷ [] })) ≡ times y (on_way n (c ∷ cs) q)
-way_settled n y c cs q t first same =
+way_settled : (y : ℕ) (c : Change) (waits cs : List Change) (q : Queue) (t : Told) → IsOut waits c cs → told_key t ≡ change_key c → times y (on_way c.session cs (record q { downs = q.downs ++ t ∷ [] })) ≡ times y (on_way c.session waits q)
+way_settled y c waits cs q t out same =
+    let n : ℕ = c.session in
     let ups = map ask_key q.ups in
     let a = times_append y ups (map change_key (own n cs) ++ map told_key (q.downs ++ t ∷ [])) in
     let b = times_append y (map change_key (own n cs)) (map told_key (q.downs ++ t ∷ [])) in
     let d = times_map_append told_key y q.downs (t ∷ []) in
-    let e = ap (λ (l : List Change). times y (ups ++ (map change_key l ++ map told_key q.downs))) first in
+    let e = ap (λ (l : List Change). times y (ups ++ (map change_key l ++ map told_key q.downs))) (out.mine ∙ ap (λ (l : List Change). c ∷ l) (sym out.none)) in
     let f = times_append y ups (map change_key (c ∷ own n cs) ++ map told_key q.downs) in
     let g = times_append y (map change_key (c ∷ own n cs)) (map told_key q.downs) in
     let h = times_append y (change_key c ∷ []) (map change_key (own n cs)) in
@@ -81,7 +74,7 @@ way_settled n y c cs q t first same =
 abbrev pub settled_server : server.State → (now : ℕ) → List Change → Tree → List Entry → server.State
 settled_server s now cs tree journal = record s { moment = max s.moment now; waiting = cs; tree = tree; journal = journal }
 
--- what is to show where the first change that waits is no more, and its client is told this of it
+-- what is to show where a change waits no more, and its client is told this of it
 pub record ShowsTold (book more : Book) (k : Core) (c : Change) (x : Session) (q : Queue) (s : server.State) (r : Reply) (made : Option ℕ) (h : IsSession book k.seats k.server c.session x q) : Type 0 where
   pub goes : Goes book more made None
   pub server : IsServer more s
@@ -97,7 +90,7 @@ pub record ShowsTold (book more : Book) (k : Core) (c : Change) (x : Session) (q
   pub running : (p : ℕ) (o : Op) → slice_get more.ops p ≡ Some o → o.outcome ≡ told.Running → (e : Seat) × (j : Job) × (numbered k.seats o.client ≡ Some e) × (job e ≡ Some j) × (j.place ≡ p)
 
 module _ (book more : Book) (k : Core) (qs : List Queue) (now : ℕ) (c : Change) (cs : List Change) (x : Session) (q : Queue) (tree : Tree) (journal : List Entry) (index : Indexed) (r : Reply) (made : Option ℕ)
-    (kept : IsKept book k qs) (waits : k.server.waiting ≡ c ∷ cs) (here : numbered k.sessions c.session ≡ Some x) (is : numbered qs c.session ≡ Some q) (shows : ShowsTold book more k c x q (record (settled_server k.server now cs tree journal) { index = index }) r made (kept.sessions c.session x q here is)) where
+    (kept : IsKept book k qs) (out : IsOut k.server.waiting c cs) (here : numbered k.sessions c.session ≡ Some x) (is : numbered qs c.session ≡ Some q) (shows : ShowsTold book more k c x q (record (settled_server k.server now cs tree journal) { index = index }) r made (kept.sessions c.session x q here is)) where
   abbrev n : ℕ
   n = c.session
 
@@ -117,19 +110,15 @@ module _ (book more : Book) (k : Core) (qs : List Queue) (now : ℕ) (c : Change
   alone : (commits_in q.ups ≡ 0) × (length (own n cs) ≡ 0)
   alone =
       let single = h.single in
-      let one = ap (λ (l : List Change). length (own n l)) waits in
-      let mine = ap (λ (l : List Change). length l) (first_own c cs) in
-      (omega (arith, single, one, mine), omega (arith, single, one, mine))
-
-  none_own : (l : List Change) → length l ≡ 0 → (i : ℕ) (d : Change) → slice_get l i ≡ Some d → ⊥
-  none_own [] e i d f = nothing_there d f
-  none_own (z ∷ l) e i d f = absurd (omega (arith, e))
+      let one = ap (λ (l : List Change). length l) out.mine in
+      let none = ap (λ (l : List Change). length l) out.none in
+      (omega (arith, single, one), omega (arith, none))
 
   cut_downs : (b : Bool) → b ≡ true → q.downs ≡ [] → unless b q.downs (t ∷ []) ≡ []
   cut_downs true u none = none
   cut_downs false u none = absurd cc
 
-  talks : x.cut ≡ false → IsTalk book n (c ∷ cs) x q h.seat → IsTalk more n cs x (record q { downs = q.downs ++ t ∷ [] }) h.seat
+  talks : x.cut ≡ false → IsTalk book n k.server.waiting x q h.seat → IsTalk more n cs x (record q { downs = q.downs ++ t ∷ [] }) h.seat
   talks uncut talk = record {
     floor = talk.floor;
     under = talk.under;
@@ -138,8 +127,8 @@ module _ (book more : Book) (k : Core) (qs : List Queue) (now : ℕ) (c : Change
     answers = all_append (IsAnswer more x.taken x.closing (job h.seat)) q.downs (t ∷ []) (shows.answers uncut) (shows.answer uncut, tt);
     fetch = has_fetch_later book more made None x.taken (job h.seat) shows.goes.grows talk.fetch;
     balanced = record {
-      most = λ y. let b = talk.balanced.most y in let w = way_settled n y c cs q t (first_own c cs) shows.key_is in omega (arith, b, w);
-      least = λ hung y. let b = talk.balanced.least hung y in let w = way_settled n y c cs q t (first_own c cs) shows.key_is in omega (arith, b, w);
+      most = λ y. let b = talk.balanced.most y in let w = way_settled y c k.server.waiting cs q t out shows.key_is in omega (arith, b, w);
+      least = λ hung y. let b = talk.balanced.least hung y in let w = way_settled y c k.server.waiting cs q t out shows.key_is in omega (arith, b, w);
       once = talk.balanced.once;
       below = talk.balanced.below;
       ours = talk.balanced.ours;
@@ -160,7 +149,7 @@ module _ (book more : Book) (k : Core) (qs : List Queue) (now : ℕ) (c : Change
         goes = shows.goes;
         server = shows.server;
         sessions_made = refl;
-        view = λ m apart. record { stands_is = refl; waiting = sym (ap (own m) waits ∙ other_own m c cs apart); temps = λ i m2 u lt z w. (i, z); found = λ m2 lt. refl };
+        view = λ m apart. record { stands_is = refl; waiting = out.apart m apart; temps = λ i m2 u lt z w. (i, z); found = λ m2 lt. refl };
         elsewhere = inl refl;
         closing = λ z w. inl w;
         made_here = shows.made_here;
@@ -174,7 +163,7 @@ module _ (book more : Book) (k : Core) (qs : List Queue) (now : ℕ) (c : Change
           stands_is = h.stands_is;
           ups_fit = h.ups_fit;
           downs_fit = all_unless (λ (u : Told). MessageFits (told_message u)) x.cut q.downs (t ∷ []) h.downs_fit (shows.fits, tt);
-          talk = λ uncut. subst (λ (b : Bool). IsTalk more n cs x (record q { downs = unless b q.downs (t ∷ []) }) h.seat) (sym uncut) (talks uncut (subst (λ (l : List Change). IsTalk book n l x q h.seat) waits (h.talk uncut)));
+          talk = λ uncut. subst (λ (b : Bool). IsTalk more n cs x (record q { downs = unless b q.downs (t ∷ []) }) h.seat) (sym uncut) (talks uncut (h.talk uncut));
           contents = h.contents;
           lengths = h.lengths;
           commits = no_commits more x.closing x.cut (job h.seat) h.contents q.ups alone.0;
@@ -182,7 +171,7 @@ module _ (book more : Book) (k : Core) (qs : List Queue) (now : ℕ) (c : Change
           temps = λ i m u lt w key_is. let o = h.temps i m u lt w key_is in (parts_later (hashed_of book.moments) (hashed_of more.moments) (h.contents m) u.1.pieces g.hashed o.0, o.1);
           temps_below = h.temps_below;
           closes = shows.closes;
-          pending = λ i d f. absurd (none_own (own n cs) alone.1 i d f);
+          pending = λ i d f. nothing_there d (ap (λ (l : List Change). slice_get l i) (sym out.none) ∙ f);
           single = let z = alone.0 in let y = alone.1 in omega (arith, z, y);
           old = λ z w. let u = h.old z w in let v = g.each z u.0 u.1 in (v.0, v.1, v.2.client ∙ u.2);
           orderly = λ uncut. orderly_told more n k.server.temps x.hung x.cut q t h.seat shows.plain (shows.wanted uncut) (orderly_later book more made None n k.server.temps k.server.temps x.hung q h.seat g (λ m lt. refl) (h.orderly uncut));
@@ -190,7 +179,7 @@ module _ (book more : Book) (k : Core) (qs : List Queue) (now : ℕ) (c : Change
         seat = seat_later book more made None k.sessions k.sessions x.owner h.seat g (λ m z w. (z, w, refl, λ u. refl)) (λ z u w. nothing_there z w) (kept.seats x.owner h.seat h.owner);
         running = shows.running;
         shelf = kept.shelf;
-        home = λ i d w. kept.home (suc i) d (behind k.server c cs waits i d w);
+        home = λ i d w. let z = out.others i d w in kept.home z.0 d z.1;
       }) shows.journal_is kept
 
 -- ---- a change of names
@@ -206,7 +195,7 @@ pub record ShowsSettled (book more : Book) (k : Core) (now : ℕ) (c : Change) (
   pub running : (p : ℕ) (o : Op) → slice_get more.ops p ≡ Some o → o.outcome ≡ told.Running → (e : Seat) × (j : Job) × (numbered k.seats o.client ≡ Some e) × (job e ≡ Some j) × (j.place ≡ p)
 
 module _ (book more : Book) (k : Core) (qs : List Queue) (now : ℕ) (c : Change) (cs : List Change) (a : Asked) (x : Session) (q : Queue) (tree : Tree) (journal : List Entry) (r : NameReply) (made : Option ℕ)
-    (kept : IsKept book k qs) (waits : k.server.waiting ≡ c ∷ cs) (here : numbered k.sessions c.session ≡ Some x) (unhung : x.hung ≡ false) (is : numbered qs c.session ≡ Some q)
+    (kept : IsKept book k qs) (out : IsOut k.server.waiting c cs) (here : numbered k.sessions c.session ≡ Some x) (unhung : x.hung ≡ false) (is : numbered qs c.session ≡ Some q)
     (pending : IsGoing book c.session x.closing x.cut (job (kept.sessions c.session x q here is).seat) c.xid a) (shows : ShowsSettled book more k now c cs x q tree journal r made (kept.sessions c.session x q here is)) where
   abbrev its : IsSession book k.seats k.server c.session x q
   its = kept.sessions c.session x q here is
@@ -218,7 +207,7 @@ module _ (book more : Book) (k : Core) (qs : List Queue) (now : ℕ) (c : Change
       ap (λ (z : Job). z.stage) (some_is j (record { place = pending.place; file = 0; stage = stage.Walking c.xid w.0 }) (sym at ∙ w.1)) ∙ ap (stage.Walking c.xid) (walk_is w.0 a w.2)
 
   pub kept_settled : IsKept more (turned_core more (settled_server k.server now cs tree journal) k.seats k.sessions) (with_numbered qs c.session (record q { downs = unless x.cut q.downs (record { xid = c.xid; reply = Walked r } ∷ []) }))
-  kept_settled = kept_told book more k qs now c cs x q tree journal k.server.index (Walked r) made kept waits here is (record {
+  kept_settled = kept_told book more k qs now c cs x q tree journal k.server.index (Walked r) made kept out here is (record {
     goes = shows.goes;
     server = shows.server;
     journal_is = shows.journal_is;
@@ -226,8 +215,8 @@ module _ (book more : Book) (k : Core) (qs : List Queue) (now : ℕ) (c : Change
     key_is = shows.key_is;
     fits = shows.fits;
     answers = λ uncut.
-        let talk = subst (λ (l : List Change). IsTalk book c.session l x q its.seat) waits (its.talk uncut) in
-        tolds_at (IsAnswer book x.taken x.closing (job its.seat)) (IsAnswer more x.taken x.closing (job its.seat)) q.downs (λ i u at f. unwaited book more x.taken x.taken x.closing (job its.seat) c.xid (walk_for a) u (waits_here uncut) (λ same. waits_untold c.session (c ∷ cs) q x.hung its.seat.client.next_xid (client.calls_of its.seat.client) 0 i c u talk.balanced (ap (λ (l : List Change). slice_get l 0) (first_own c cs)) at (sym same)) f) talk.answers;
+        let talk = its.talk uncut in
+        tolds_at (IsAnswer book x.taken x.closing (job its.seat)) (IsAnswer more x.taken x.closing (job its.seat)) q.downs (λ i u at f. unwaited book more x.taken x.taken x.closing (job its.seat) c.xid (walk_for a) u (waits_here uncut) (λ same. waits_untold c.session k.server.waiting q x.hung its.seat.client.next_xid (client.calls_of its.seat.client) 0 i c u talk.balanced (ap (λ (l : List Change). slice_get l 0) out.mine) at (sym same)) f) talk.answers;
     answer = shows.answer;
     closes = λ uncut j f. subst (CloseOf more x.closing its.contents its.seat.client.next_temp j (client.local_bytes its.seat.client.opened j.file)) (sym (waits_here uncut j f)) (λ later. absurd (none_later a later));
     plain = tt;

@@ -15,7 +15,7 @@ use Rattle.server_core.specs.declared.event.ServerStep.{ServerStep}
 use Rattle.path_calls.specs.Walk.{begun}
 use Rattle.path_calls.specs.declared.walk.Walk.{Walk}
 use Rattle.client_state.specs.View.{walk_left}
-use Rattle.kept_promise.proofs.Common.{nat_lt, ◌&&◌, not, cond, filter, ◌==◌, Command, parse_of, makes_change, got_if, stands, connect, has_room, Change, may_ask, command_step, ended_by, ClientStep, Ended, Task, Opening, Word, word_of, Core, Seat, Session, Event, Event.Joins, Event.Does, Event.Serves, Event.Hears, Event.Settles, Event.Cuts, Event.Hangs, CoreStep, numbered, with_numbered, server_waiting, session_of, serves_if, serves, is_newest, hears_if, hears_at, hears, commanded_session, commanded_sessions, does, joins_as, joins, settles, cut_session, cuts_if, cuts, hangs_if, hangs, happens, closing_with, Moment, unless, Call, Call.Commit, Ask, Told, Queue, ask_message, Loss, Loss.Nothing, Loss.Down_of, Loss.Up_of, no_queue, Wanted, Call.Walks, has_waiting}
+use Rattle.kept_promise.proofs.Common.{nat_lt, ◌&&◌, not, cond, filter, ◌==◌, Command, parse_of, got_if, stands, connect, has_room, Change, may_ask, command_step, ended_by, ClientStep, Ended, Task, Opening, Word, word_of, Core, Seat, Session, Event, Event.Joins, Event.Does, Event.Serves, Event.Hears, Event.Settles, Event.Cuts, Event.Hangs, CoreStep, numbered, with_numbered, server_waiting, session_of, serves_if, serves, is_newest, hears_if, hears_at, hears, commanded_session, commanded_sessions, does, joins_as, joins, settles, cut_session, cuts_if, cuts, hangs_if, hangs, happens, closing_with, Moment, unless, Call, Call.Commit, Ask, Told, Queue, ask_message, Loss, Loss.Nothing, Loss.Down_of, Loss.Up_of, no_queue, Call.Walks, has_waiting, Book}
 use Rattle.kept_promise.proofs.StepCases.{command_cases}
 use Rattle.kept_promise.proofs.CallsKeep.{IsByCommit, is_of_files, Waits, got_if_keeps, makes_call, walk_made}
 use Rattle.kept_promise.proofs.Statements.{CallFits}
@@ -28,8 +28,8 @@ use Rattle.kept_promise.proofs.Facts.{IsKept, commits_in, change_number}
 use Rattle.kept_promise.proofs.Leading.{Sends, ups_put_in, ups_put, downs_put_in, downs_put, downs_lost, ups_lost, queues_lost, queues_after}
 use Rattle.kept_promise.proofs.RunsCarried.{book_at, Finds, Step}
 use Rattle.kept_promise.proofs.Waitings.{own_more, own_there}
+use Rattle.kept_promise.proofs.TakenOut.{own_fewer, made_waiting, WhatSettles, settles_one, settles_none, what_settles}
 use Rattle.kept_promise.proofs.Takes.{commits_tail}
-use Rattle.server_core.specs.declared.change.Wanted.TheVariants as wanted
 use Rattle.kept_promise.proofs.Makings.{called_making}
 use Rattle.kept_promise.proofs.PathNames.{IsWalkSmall, is_building, is_going, is_creating, making_is, going_creates}
 use Rattle.kept_promise.proofs.Departures.{comes_by, called_going}
@@ -308,16 +308,16 @@ leaves_hangs k qs mid m same = by (numbered k.sessions m) refl
     by None at = leaves_plain k qs mid _ (were_same k) same refl (λ n. omega arith)
     by (Some x) at = by_hung x at x.hung
 
-leaves_settles : (k : Core) (qs mid : List Queue) (now : ℕ) → mid ≡ qs → Leaves k qs mid (settles k now)
-leaves_settles k qs mid now same = leaves_plain k qs mid _ (were_same k) same refl (by k.server.waiting refl)
+leaves_settles : (book : Book) (k : Core) (qs mid : List Queue) (now : ℕ) → IsKept book k qs → mid ≡ qs → Leaves k qs mid (settles k now)
+leaves_settles book k qs mid now kept same = leaves_plain k qs mid _ (were_same k) same refl (by (what_settles book k qs now kept))
   where
-    by : (cs : List Change) → k.server.waiting ≡ cs → (n : ℕ) → length (own n (closing.settles k.server now cs).0.waiting) ≤ length (own n k.server.waiting)
-    by [] e n = omega arith
-    by (c ∷ cs) e n = made c.what
-      where
-        made : (a : Wanted) → length (own n (makes_change (closing.at (record k.server { waiting = cs }) now) c a).0.waiting) ≤ length (own n k.server.waiting)
-        made (wanted.Content x) = let w = ap (λ ws. length (own n ws)) e in let l = own_less n c cs in omega (arith, w, l)
-        made (wanted.Asked a) = let w = ap (λ ws. length (own n ws)) e in let l = own_less n c cs in omega (arith, w, l)
+    by : WhatSettles k now → (n : ℕ) → length (own n (settles k now).core.server.waiting) ≤ length (own n k.server.waiting)
+    by (settles_none none is) n = let e = ap (λ (t : CoreStep). length (own n t.core.server.waiting)) is in omega (arith, e)
+    by (settles_one c cs out) n =
+        let left = ap (λ (t : CoreStep). length (own n t.core.server.waiting)) out.is in
+        let rest = ap (λ (l : List Change). length (own n l)) (made_waiting (closing.at (record k.server { waiting = cs }) now) c c.what) in
+        let less = own_fewer k.server.waiting c cs out.out n in
+        omega (arith, left, rest, less)
 
 cut_silent : (t : Option Task) (e : Ended) → (ended_by t e).send ≡ []
 cut_silent None e = refl
@@ -471,7 +471,7 @@ leaves laws opening all k qs mid (Joins c) kept f = leaves_joins k qs mid c f.5
 leaves laws opening all k qs mid (Does c now d) kept f = leaves_does opening all k qs mid c now d kept f.3
 leaves laws opening all k qs mid (Serves n now bytes) kept f = leaves_serves laws opening all k qs mid n now bytes kept f
 leaves laws opening all k qs mid (Hears n now bytes) kept f = leaves_hears opening all k qs mid n now bytes kept f
-leaves laws opening all k qs mid (Settles now) kept f = leaves_settles k qs mid now f
+leaves laws opening all k qs mid (Settles now) kept f = leaves_settles (book_at opening k all) k qs mid now kept f
 leaves laws opening all k qs mid (Cuts c) kept f = leaves_cuts k qs mid c f.2
 leaves laws opening all k qs mid (Hangs n) kept f = leaves_hangs k qs mid n f.2
 

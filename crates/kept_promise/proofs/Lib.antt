@@ -211,3 +211,4 @@ pub mod Promise
 pub mod Arrivals
 pub mod Notes
 pub mod Unnoted
+pub mod TakenOut

@@ -20,12 +20,12 @@ use Rattle.kept_promise.proofs.RunsCarried.{book_at, moment, Step, Carried}
 use Rattle.kept_promise.proofs.Actors.{heard_at}
 use Rattle.kept_promise.proofs.Fits.{FitLaws}
 use Rattle.kept_promise.proofs.ServesFiles.{newest_one}
-use Rattle.kept_promise.proofs.Promised.{own_there}
 use Rattle.kept_promise.proofs.Rights.{IsRight}
 use Rattle.kept_promise.proofs.VersionRuns.{close_not_opened}
 use Rattle.kept_promise.proofs.LogEvents.{value_stays}
 use Rattle.kept_promise.proofs.Growth.{or_map}
 use Rattle.kept_promise.proofs.Messages.{content_wanted, WaitsFor, job}
+use Rattle.kept_promise.proofs.TakenOut.{SettlesOut, settled_to}
 use Rattle.kept_promise.proofs.Making.{entry_of, made_change, made_is}
 use Rattle.kept_promise.proofs.ServesQuietly.{MadeHere, Entered, IsQuiet, serves_quiet}
 use Rattle.kept_promise.proofs.SettlesQuietly.{GoesHere, RefusesFor, Settling, makes_commit, makes_else, settling}
@@ -228,14 +228,12 @@ made_settling all past rest opening k qs now mid after s h = by (settling (book_
     count : length k.entries ≡ length k.server.journal
     count = s.kept.sound.journal.count
 
-    made : (c : Change) (cs : List Change) (f : File) → k.server.waiting ≡ c ∷ cs → c.what ≡ wanted.Content (content_wanted c.what) → AreMade opening all (past ++ moment k (Settles now) ∷ []) (left_by k (made_change (at_reading (record k.server { waiting = cs }) now) c (content_wanted c.what) f))
-    made c cs f e what =
-        let first : slice_get k.server.waiting 0 ≡ Some c = ap (λ (l : List Change). slice_get l 0) e in
-        let home = kept.home 0 c first in
+    made : (c : Change) (cs : List Change) (f : File) → SettlesOut k now c cs → c.what ≡ wanted.Content (content_wanted c.what) → AreMade opening all (past ++ moment k (Settles now) ∷ []) (left_by k (made_change (at_reading (record k.server { waiting = cs }) now) c (content_wanted c.what) f))
+    made c cs f out what =
+        let home = kept.home out.out.place c out.out.there in
         let q = also_numbered k.sessions qs c.session home.0 kept.made.1 home.1 in
-        let mine = own_there k.server.waiting 0 c first in
         let x = kept.sessions c.session home.0 q.0 home.1 q.1 in
-        let pending = subst (λ (z : Wanted). WaitsFor (book_at opening k all) c.session home.0.closing home.0.cut (job x.seat) c.xid c.file z) what (x.pending mine.0 c mine.1) in
+        let pending = subst (λ (z : Wanted). WaitsFor (book_at opening k all) c.session home.0.closing home.0.cut (job x.seat) c.xid c.file z) what (x.pending 0 c (ap (λ (l : List Change). slice_get l 0) out.out.mine)) in
         let old = x.old pending.place pending.known in
         let op : Op = record pending.op { file = c.file; point = Some (k.steps + 1) } in
         let made_op : slice_get (slice_set k.ops pending.place op) pending.place ≡ Some op = at_replaced k.ops pending.place op pending.op pending.there in
@@ -257,7 +255,7 @@ made_settling all past rest opening k qs now mid after s h = by (settling (book_
               step_is = sym last.1;
               number_is = sym count ∙ sym last.0;
               change = c;
-              first = first;
+              first = out.first;
               entry = entry_of c (content_wanted c.what) f;
               entry_is = ap (slice_get (k.server.journal ++ entry_of c (content_wanted c.what) f ∷ [])) (last.0 ∙ count) ∙ at_end k.server.journal (entry_of c (content_wanted c.what) f);
               kind_is = refl;
@@ -283,10 +281,9 @@ made_settling all past rest opening k qs now mid after s h = by (settling (book_
           ];
         }
 
-    by : Settling k (settles k now) → AreMade opening all (past ++ moment k (Settles now) ∷ []) (settles k now).core
-    by (makes_commit c cs f e what there) =
-        subst (λ (ws : List Change). AreMade opening all (past ++ moment k (Settles now) ∷ []) (left_by k (server_settles k.server now ws))) (sym e)
-        (subst (λ (r : server.State × ServerStep). AreMade opening all (past ++ moment k (Settles now) ∷ []) (left_by k r)) (sym (made_is (book_at opening k all) k.server now c cs f kept.server e there what)) (made c cs f e what))
+    by : Settling k now (settles k now) → AreMade opening all (past ++ moment k (Settles now) ∷ []) (settles k now).core
+    by (makes_commit c cs f out what there) =
+        subst (λ (t : CoreStep). AreMade opening all (past ++ moment k (Settles now) ∷ []) t.core) (sym (out.is ∙ ap (settled_to k) (made_is (book_at opening k all) k.server now c cs f kept.server out.out there what))) (made c cs f out what)
     by (makes_else ops q tells) = made_entered opening all past k (Settles now) count q (gone_points k (settles k now).core.ops ops) (λ n c is at. tells c at) h
 
 -- ---- a call is taken

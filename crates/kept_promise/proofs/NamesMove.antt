@@ -1,5 +1,5 @@
 -- A run carries by whose calls the names in directories change.
-use Rattle.std.proofs.Common.{◌⊎◌, inl, inr, ◌≡◌, ℕ, suc, List, [], ◌∷◌, ◌++◌, drop, length, Option, Some, None, Result, Ok, Err, Bool, true, false, refl, sym, ap, ◌∙◌, subst, arith, map}
+use Rattle.std.proofs.Common.{◌⊎◌, inl, inr, ◌≡◌, ℕ, List, [], ◌∷◌, ◌++◌, drop, length, Option, Some, None, Result, Ok, Err, Bool, true, false, refl, sym, ap, ◌∙◌, subst, arith, map}
 use Rattle.hash_calls.specs.declared.message.Lb.TheVariants as lb
 use Rattle.nfs3_calls.specs.declared.message.Nfs.{Nfs}
 use Rattle.wire.specs.declared.message.Body.TheVariants as body
@@ -17,7 +17,6 @@ use Rattle.tree_calls.specs.declared.asked.Asked.{Asked}
 use Rattle.tree_calls.specs.declared.asked.Asked.TheVariants as asked
 use Rattle.tree_calls.specs.declared.asked.Done.{Done as Finished}
 use Rattle.server_core.specs.State as server
-use Rattle.server_core.specs.Closing as closing
 use Rattle.server_core.specs.declared.event.Event.TheVariants as event
 use Rattle.server_core.specs.declared.event.Sent.{Sent}
 use Rattle.server_rules.specs.declared.told.Told.{Told as Announced}
@@ -53,6 +52,7 @@ use Rattle.kept_promise.proofs.Makings.{made_by, step_by, MadeSo, refuses, enter
 use Rattle.kept_promise.proofs.Departures.{ComesSo, refused, done_now, waits, comes_so, SettlesSo, refused_late, goes, settles_so}
 use Rattle.kept_promise.proofs.ServesFiles.{got_making, making_got}
 use Rattle.kept_promise.proofs.GoingSteps.{coming, got_answered, got_waits}
+use Rattle.kept_promise.proofs.TakenOut.{made_waiting, WhatSettles, settles_one, settles_none, what_settles}
 use Rattle.kept_promise.proofs.GoingEnds.{asked_step, asked_settles}
 use Rattle.kept_promise.proofs.WalkRuns.{refused_leads}
 use Rattle.kept_promise.proofs.SentUp.{WasCalled, UpsSent}
@@ -405,28 +405,21 @@ asks_itself : (a : Asked) → AsksFor (walk_for a) a
 asks_itself (asked.Remove r) = (refl, refl, refl)
 asks_itself (asked.Rename r) = (refl, refl, refl)
 
-made_waiting : (s : server.State) (c : Change) (w : Wanted) → (makes_change s c w).0.waiting ≡ s.waiting
-made_waiting s c (wanted.Content content) = refl
-made_waiting s c (wanted.Asked a) = refl
-
 names_settles : (past : List Moment) (book : Book) (k : Core) (qs : List Queue) (now : ℕ) → IsKept book k qs → AreNamed past k → NamesAfter past k (Settles now)
-names_settles past book k qs now kept h = by k.server.waiting refl
+names_settles past book k qs now kept h = by (what_settles book k qs now kept)
   where
-    by : (ws : List Change) → k.server.waiting ≡ ws → NamesAfter past k (Settles now)
-    by [] e = after_still past k (Settles now) (still_same k.server (happens k (Settles now)).core.server (ap (λ (ws : List Change). (closing.settles k.server now ws).0) e))
-    by (c ∷ cs) e = record { now = first c.what refl; waiting = λ i d a there asks_. inl (suc i, ap (λ (l : List Change). slice_get l (suc i)) e ∙ ap (λ (l : List Change). slice_get l i) (sym left) ∙ there) }
+    by : WhatSettles k now → NamesAfter past k (Settles now)
+    by (settles_none none is) = after_still past k (Settles now) (still_same k.server (happens k (Settles now)).core.server (ap (λ (t : CoreStep). t.core.server) is))
+    by (settles_one c cs out) = record { now = first c.what refl; waiting = λ i d a there asks_. inl (out.out.others i d (ap (λ (l : List Change). slice_get l i) (sym left) ∙ there)) }
       where
         before : server.State
         before = at (record k.server { waiting = cs }) now
 
         server_is : (happens k (Settles now)).core.server ≡ (makes_change (at (record k.server { waiting = cs }) now) c c.what).0
-        server_is = ap (λ (ws : List Change). (closing.settles k.server now ws).0) e
+        server_is = ap (λ (t : CoreStep). t.core.server) out.is
 
         left : (happens k (Settles now)).core.server.waiting ≡ cs
         left = ap (λ (s : server.State). s.waiting) server_is ∙ made_waiting before c c.what
-
-        at_first : slice_get k.server.waiting 0 ≡ Some c
-        at_first = ap (λ (l : List Change). slice_get l 0) e
 
         first : (w : Wanted) → c.what ≡ w → KeepsNames (moment k (Settles now)) ⊎ MakesNaming (past ++ moment k (Settles now) ∷ []) (moment k (Settles now))
         first (wanted.Content content) what = inl (λ dir.
@@ -434,16 +427,16 @@ names_settles past book k qs now kept h = by k.server.waiting refl
             ∙ ap (λ (w : Wanted). names_of (makes_change (at (record k.server { waiting = cs }) now) c w).0.tree dir) what
             ∙ commits_names k.server.tree (server.held cs) c.file content dir)
         first (wanted.Asked a) what =
-            let wants = subst (IsWanted c.file) what (kept.server.wants 0 c at_first) in
-            let so = settles_so k.server.tree (server.held cs) (walk_for a) a kept.server.bounded wants.2 (asks_itself a) wants.1 (λ n d. no_directory book k.server (file_of a) n kept.server (subst (λ (f : ℕ). WasThere book f) wants.0 (kept.server.targets 0 c at_first)) d) in
-            let was = h.waiting 0 c a at_first what in
-            let room : server.held cs ≡ server.held (drop 1 k.server.waiting) = sym (ap (λ (ws : List Change). server.held (drop 1 ws)) e) in
+            let wants = subst (IsWanted c.file) what (kept.server.wants out.out.place c out.out.there) in
+            let so = settles_so k.server.tree (server.held cs) (walk_for a) a kept.server.bounded wants.2 (asks_itself a) wants.1 (λ n d. no_directory book k.server (file_of a) n kept.server (subst (λ (f : ℕ). WasThere book f) wants.0 (kept.server.targets out.out.place c out.out.there)) d) in
+            let was = h.waiting out.out.place c a out.out.there what in
+            let room : server.held cs ≡ server.held (drop 1 k.server.waiting) = sym (ap server.held out.others) in
             now_by (past ++ moment k (Settles now) ∷ []) (moment k (Settles now)) c.session c.xid
             (takes_later past (moment k (Settles now)) c.session c.xid was.0)
-            (inr (record { now = now; event_is = refl; change = c; first = at_first; session_is = refl; xid_is = refl }))
+            (inr (record { now = now; event_is = refl; change = c; first = out.first; session_is = refl; xid_is = refl }))
             (subst (λ (call : Nfs). Turned k c.session c.xid call (held_at (moment k (Settles now))) (happens k (Settles now))) (sym was.1)
             (subst (λ (held : Held). Turned k c.session c.xid (next_call (walk_for a)) held (happens k (Settles now))) room
-            (subst (Turned k c.session c.xid (next_call (walk_for a)) (server.held cs)) (sym (asked_settles k now c cs a e what)) (settled_turned k now c cs a so))))
+            (subst (Turned k c.session c.xid (next_call (walk_for a)) (server.held cs)) (sym (asked_settles k now c cs a out what)) (settled_turned k now c cs a so))))
 
 -- ---- any event
 

@@ -1,5 +1,5 @@
--- The first change that waits is made, and its session told.
-use Rattle.std.proofs.Common.{inl, inr, ◌≡◌, ℕ, suc, ◌+◌, ◌≤◌, List, [], ◌∷◌, ◌++◌, length, replicate, Option, Some, None, Bool, true, false, refl, sym, ap, ◌∙◌, subst, arith, eq-eqb, ne_eqb, append-nil, map, IsSome}
+-- A change that waits is made, and its session told.
+use Rattle.std.proofs.Common.{inl, inr, ◌≡◌, ℕ, suc, ◌+◌, ◌≤◌, List, [], ◌∷◌, ◌++◌, length, Option, Some, None, Bool, true, false, refl, sym, ap, ◌∙◌, subst, arith, eq-eqb, map, IsSome}
 use Rattle.tree_calls.specs.Waiting.{file_of}
 use Rattle.tree_calls.specs.declared.asked.Asked.{Asked}
 use Rattle.tree_calls.specs.declared.asked.Asked.TheVariants as asked
@@ -7,7 +7,6 @@ use Rattle.server_core.specs.State as server
 use Rattle.chunk_calls.specs.Files as the_files
 use Rattle.server_core.specs.declared.change.Wanted.TheVariants as wanted
 use Rattle.file_tree.specs.Step.{replaced}
-use Rattle.server_core.specs.Closing as closing
 use Rattle.server_rules.specs.declared.told.Told.TheVariants as told_
 use Rattle.client_state.specs.State as client
 use Rattle.hash_calls.specs.declared.message.LbProc.TheVariants as lb_proc
@@ -17,7 +16,7 @@ use Rattle.register_model.specs.declared.op.Outcome.TheVariants as told
 use Rattle.register_model.specs.declared.op.Word.TheVariants as words
 use Rattle.register_model.specs.Register.{IsFit}
 use Rattle.trace_replay.specs.Faithful.{IsKind, left_by as left_of}
-use Rattle.kept_promise.proofs.Common.{slice_get, slice_set, cond, ◌==◌, sha1, Done, Failed, at, Change, ServerStep, File, Entry, Fetch, Stage, Op, Core, Seat, Session, CoreStep, quiet, numbered, with_numbered, settled_ops, settled_by, pointed, pointed_at, unless, Book, Or, value_at, Reply, Reply.Versioned, Reply.Hashed, Reply.Bytes, Reply.Made, Reply.Named, Reply.Stored, Reply.Changed, Told, Queue, reply_program, Tree, Reply.Walked, Word, Value, value_from, unwrap_or, changes, Wanted, Event.Settles, happens}
+use Rattle.kept_promise.proofs.Common.{slice_get, slice_set, cond, ◌==◌, sha1, Done, Failed, at, Change, File, Entry, Fetch, Stage, Op, Core, Seat, Session, numbered, with_numbered, settled_ops, settled_by, pointed, pointed_at, unless, Book, Or, value_at, Reply, Reply.Versioned, Reply.Hashed, Reply.Bytes, Reply.Made, Reply.Named, Reply.Stored, Reply.Changed, Told, Queue, reply_program, Tree, Reply.Walked, Word, Value, value_from, unwrap_or, changes, Wanted, Event.Settles, happens}
 use Rattle.kept_promise.proofs.Lists.{some_is, nothing_there, same_or_not, at_end, at_replaced, of_replaced}
 use Rattle.kept_promise.proofs.Keys.{times, times_append, times_head, own, key, change_key, ask_key, told_key, wanted_program}
 use Rattle.kept_promise.proofs.Messages.{Job, job, hash_offset, CommitTold, AllTolds, IsAnswer, AnswerOf, IsPending, CloseOf, content_wanted, WaitsFor, AsksFor, walk_for}
@@ -39,19 +38,12 @@ use Rattle.kept_promise.proofs.NoZero.{replaced_none}
 use Rattle.kept_promise.proofs.MadeFiles.{file_alike, others_alike, own_alike, gone_fresh}
 use Rattle.kept_promise.proofs.Rooted.{replaced_rooted}
 use Rattle.kept_promise.proofs.Unused.{unused_replaced}
-use Rattle.kept_promise.proofs.GoingSettles.{kept_told, behind}
+use Rattle.kept_promise.proofs.TakenOut.{IsOut, SettlesOut, settled_to, WhatSettles, settles_one, settles_none, what_settles}
+use Rattle.kept_promise.proofs.GoingSettles.{kept_told}
 use Rattle.kept_promise.proofs.GoingEnds.{ends_so}
 use Rattle.kept_promise.proofs.Departures.{settles_so}
 use Rattle.kept_promise.proofs.Gone.{no_directory}
 use Rattle.kept_promise.proofs.Unmade.{node_gone, unmade_settles, leads_unmade}
-
--- ---- a change that waits, in front
-
-own_first : (c : Change) (cs : List Change) → own c.session (c ∷ cs) ≡ c ∷ own c.session cs
-own_first c cs = ap (λ b. cond b (c ∷ own c.session cs) (own c.session cs)) (eq-eqb c.session c.session refl)
-
-own_other : (m : ℕ) (c : Change) (cs : List Change) → (m ≡ c.session → ⊥) → own m (c ∷ cs) ≡ own m cs
-own_other m c cs apart = ap (λ b. cond b (c ∷ own m cs) (own m cs)) (ne_eqb c.session m (λ e. apart (sym e)))
 
 -- ---- the tree
 
@@ -110,10 +102,10 @@ same_xid : (x y : ℕ) → stage.Committing x ≡ stage.Committing y → x ≡ y
 same_xid x y e = cc
 
 -- where its client waits for nothing but the commit, what it was told before stays so
-settled_answers : (book : Book) (e : Entry) (j : ℕ) (o : Op) (n : ℕ) (c : Change) (cs : List Change) (x : Session) (q : Queue) (seat : Seat) → c.what ≡ wanted.Content (content_wanted c.what)
-    → Grows book (made_book book (e ∷ []) j c.file o) (Some j) None → own n (c ∷ cs) ≡ c ∷ own n cs → job seat ≡ Some (record { place = j; file = c.file; stage = stage.Committing c.xid })
-    → IsTalk book n (c ∷ cs) x q seat → AllTolds (IsAnswer (made_book book (e ∷ []) j c.file o) x.taken x.closing (job seat)) q.downs
-settled_answers book e j o n c cs x q seat what g first committing t = all_but (IsAnswer book x.taken x.closing (job seat)) (IsAnswer (made_book book (e ∷ []) j c.file o) x.taken x.closing (job seat)) (change_key c) q.downs none (λ u apart h. old_reply u.xid u.reply apart h) t.answers
+settled_answers : (book : Book) (e : Entry) (j : ℕ) (o : Op) (c : Change) (waits cs : List Change) (x : Session) (q : Queue) (seat : Seat) → c.what ≡ wanted.Content (content_wanted c.what)
+    → Grows book (made_book book (e ∷ []) j c.file o) (Some j) None → IsOut waits c cs → job seat ≡ Some (record { place = j; file = c.file; stage = stage.Committing c.xid })
+    → IsTalk book c.session waits x q seat → AllTolds (IsAnswer (made_book book (e ∷ []) j c.file o) x.taken x.closing (job seat)) q.downs
+settled_answers book e j o c waits cs x q seat what g out committing t = all_but (IsAnswer book x.taken x.closing (job seat)) (IsAnswer (made_book book (e ∷ []) j c.file o) x.taken x.closing (job seat)) (change_key c) q.downs none (λ u apart h. old_reply u.xid u.reply apart h) t.answers
   where
     here : Job
     here = record { place = j; file = c.file; stage = stage.Committing c.xid }
@@ -124,10 +116,10 @@ settled_answers book e j o n c cs x q seat what g first committing t = all_but (
         let a = t.balanced.most k in
         let b = t.balanced.once c.xid in
         let d = keys_once c.xid (wanted_program c.what) (client.calls_of seat.client) in
-        let e1 = ap (λ (l : List Change). times k (map ask_key q.ups ++ (map change_key l ++ map told_key q.downs))) first in
-        let e2 = times_append k (map ask_key q.ups) (map change_key (c ∷ own n cs) ++ map told_key q.downs) in
-        let e3 = times_append k (map change_key (c ∷ own n cs)) (map told_key q.downs) in
-        let e4 = times_head k (map change_key (own n cs)) in
+        let e1 = ap (λ (l : List Change). times k (map ask_key q.ups ++ (map change_key l ++ map told_key q.downs))) out.mine in
+        let e2 = times_append k (map ask_key q.ups) (map change_key (c ∷ []) ++ map told_key q.downs) in
+        let e3 = times_append k (map change_key (c ∷ [])) (map told_key q.downs) in
+        let e4 = times_head k [] in
         omega (arith, a, b, d, e1, e2, e3, e4)
 
     -- an answer to anything else is not waited for, or tells of the past
@@ -151,10 +143,10 @@ settled_answers book e j o n c cs x q seat what g first committing t = all_but (
 abbrev settled_server : server.State → (now : ℕ) → Change → List Change → File → server.State
 settled_server s now c cs f = (made_change (at (record s { waiting = cs }) now) c (content_wanted c.what) f).0
 
-settled_now : FitLaws → (book : Book) (k : Core) (qs : List Queue) (now : ℕ) (c : Change) (cs : List Change) (f : File) (x : Session) (q : Queue) (j : ℕ) (o : Op) → (kept : IsKept book k qs) → k.server.waiting ≡ c ∷ cs → c.what ≡ wanted.Content (content_wanted c.what) → the_files.file_at k.server.tree c.file ≡ Some f → (here : numbered k.sessions c.session ≡ Some x) → x.hung ≡ false → (is : numbered qs c.session ≡ Some q)
+settled_now : FitLaws → (book : Book) (k : Core) (qs : List Queue) (now : ℕ) (c : Change) (cs : List Change) (f : File) (x : Session) (q : Queue) (j : ℕ) (o : Op) → (kept : IsKept book k qs) → IsOut k.server.waiting c cs → c.what ≡ wanted.Content (content_wanted c.what) → the_files.file_at k.server.tree c.file ≡ Some f → (here : numbered k.sessions c.session ≡ Some x) → x.hung ≡ false → (is : numbered qs c.session ≡ Some q)
     → (pending : IsPending book x.closing x.cut (job (kept.sessions c.session x q here is).seat) c.xid c.file (content_wanted c.what)) → pending.place ≡ j → pending.op ≡ o
     → IsKept (made_book book (entry_of c (content_wanted c.what) f ∷ []) j c.file o) (turned_core (made_book book (entry_of c (content_wanted c.what) f ∷ []) j c.file o) (settled_server k.server now c cs f) k.seats k.sessions) (with_numbered qs c.session (record q { downs = unless x.cut q.downs (answer c (f.version + 1) ∷ []) }))
-settled_now laws book k qs now c cs f x q j o kept waits what there here unhung is pending place_is op_is =
+settled_now laws book k qs now c cs f x q j o kept out what there here unhung is pending place_is op_is =
     let n : ℕ = c.session in
     let h = kept.sessions n x q here is in
     let e : Entry = entry_of c (content_wanted c.what) f in
@@ -182,8 +174,8 @@ settled_now laws book k qs now c cs f x q j o kept waits what there here unhung 
     let more = made_book book (e ∷ []) j c.file o in
     let version : ℕ = f.version + 1 in
     let r = settled_server k.server now c cs f in
-    let short : length (content_wanted c.what) ≤ 67108864 = kept.server.lengths 0 c (ap (λ (l : List Change). slice_get l 0) waits) in
-    let room = room_there book k.server c cs kept.server waits what in
+    let short : length (content_wanted c.what) ≤ 67108864 = kept.server.lengths out.place c out.there in
+    let room = room_there book k.server c cs kept.server out what in
     let held : (z : ℕ) → FileIs more z (the_files.file_at r.tree z) = λ z. held_made book e j o k.server.tree c.file f (content_wanted c.what) at_ unmade word kept.sound file_is size same short kept.server.held there z in
     let entries = room.count in
     let sizes = replaced_size k.server.tree c.file (f.version + 1) (content_wanted c.what) f kept.server.bounded there in
@@ -207,7 +199,7 @@ settled_now laws book k qs now c cs f x q j o kept waits what there here unhung 
       },
       (book.steps + 2, omega arith, version_now book (e ∷ []) c.file j o at_ unmade kept.sound ∙ ap (λ (z : ℕ). z + 1) own_file.4, value_now book (e ∷ []) c.file j o at_ unmade kept.sound ∙ ap (λ (w : Word). value_from w o.value) word),
     ) in
-    kept_told book more k qs now c cs x q r.tree r.journal r.index (Changed (Done (record { version = version; term = 0 }))) (Some j) kept waits here is (record {
+    kept_told book more k qs now c cs x q r.tree r.journal r.index (Changed (Done (record { version = version; term = 0 }))) (Some j) kept out here is (record {
       goes = goes;
       server = record {
         held = held;
@@ -215,18 +207,18 @@ settled_now laws book k qs now c cs f x q j o kept waits what there here unhung 
         bounded = replaced_bounded k.server.tree c.file (content_wanted c.what) f there (omega (arith, entries)) short (omega (arith, small)) kept.server.bounded;
         zero = replaced_none k.server.tree c.file (f.version + 1) (content_wanted c.what) 0 kept.server.zero;
         rooted = replaced_rooted k.server.tree c.file (f.version + 1) (content_wanted c.what) kept.server.rooted;
-        wants = λ i d z. kept.server.wants (suc i) d (behind k.server c cs waits i d z);
+        wants = λ i d z. let y = out.others i d z in kept.server.wants y.0 d y.1;
         changes = omega (arith, entries);
         bytes = omega (arith, sizes, small);
-        lengths = λ i d z. kept.server.lengths (suc i) d (behind k.server c cs waits i d z);
-        targets = λ i d z. there_later book more (Some j) None d.file g (kept.server.targets (suc i) d (behind k.server c cs waits i d z));
-        xids = λ i d z. kept.server.xids (suc i) d (behind k.server c cs waits i d z);
+        lengths = λ i d z. let y = out.others i d z in kept.server.lengths y.0 d y.1;
+        targets = λ i d z. let y = out.others i d z in there_later book more (Some j) None d.file g (kept.server.targets y.0 d y.1);
+        xids = λ i d z. let y = out.others i d z in kept.server.xids y.0 d y.1;
       };
       journal_is = ap (λ (l : List Entry). l ++ e ∷ []) kept.journal;
       made_here = λ z w. known ∙ w;
       key_is = answer_key c (content_wanted c.what) version what;
-      fits = laws.plain c.xid (Changed (Done (record { version = version; term = 0 }))) (kept.server.xids 0 c (ap (λ (l : List Change). slice_get l 0) waits)) (let a = (file_bounded k.server.tree c.file f kept.server.bounded there).0 in omega (arith, a, entries), refl);
-      answers = λ uncut. settled_answers book e j o n c cs x q h.seat what g (own_first c cs) (committing uncut) (subst (λ (l : List Change). IsTalk book n l x q h.seat) waits (h.talk uncut));
+      fits = laws.plain c.xid (Changed (Done (record { version = version; term = 0 }))) (kept.server.xids out.place c out.there) (let a = (file_bounded k.server.tree c.file f kept.server.bounded there).0 in omega (arith, a, entries), refl);
+      answers = λ uncut. settled_answers book e j o c k.server.waiting cs x q h.seat what g out (committing uncut) (h.talk uncut);
       answer = λ uncut i z w. subst (λ (u : Job). CommitTold more x.closing u (Done (record { version = version; term = 0 }))) (some_is (record { place = j; file = c.file; stage = stage.Committing c.xid }) i (sym (committing uncut) ∙ z)) made;
       closes = λ uncut i w. close_made more uncut i w (h.closes uncut i w);
       plain = tt;
@@ -274,10 +266,6 @@ settled_now laws book k qs now c cs f x q j o kept waits what there here unhung 
           (r.0, r.1, ap (λ (v : Op). numbered k.seats v.client) new.1 ∙ r.2, r.3, r.4 ∙ sym new.0)
     ]
 
--- what a settling leaves, by what the server did
-abbrev settled_by_step : Core → server.State × ServerStep → CoreStep
-settled_by_step k r = record (quiet (record k { steps = k.steps + 1; server = r.0; ops = settled_by k (changed_file (newest_entries r.0.journal r.1.entries)) r.1.told; entries = k.entries ++ replicate r.1.entries (k.steps + 1) })) { down = r.1.send }
-
 settled_core : (book more : Book) (k : Core) (r : server.State) (ops : List Op) (entries : List ℕ) → more.steps ≡ k.steps + 1 → more.ops ≡ ops → more.entries ≡ entries → turned_core more r k.seats k.sessions ≡ record { server = r; seats = k.seats; sessions = k.sessions; steps = k.steps + 1; ops = ops; entries = entries }
 settled_core book more k r ops entries a b c =
     ap (λ (s : ℕ). record { server = r; seats = k.seats; sessions = k.sessions; steps = s; ops = more.ops; entries = more.entries }) a
@@ -287,19 +275,19 @@ settled_core book more k r ops entries a b c =
 queue_told : (sessions : List Session) (qs : List Queue) (n : ℕ) (x : Session) (q : Queue) (t : Told) → numbered sessions n ≡ Some x → numbered qs n ≡ Some q → downs_put sessions qs ((n, t) ∷ []) ≡ with_numbered qs n (record q { downs = unless x.cut q.downs (t ∷ []) })
 queue_told sessions qs n x q t at is = ap (λ (o : Option Session). downs_put_in qs (n, t) o (numbered qs n)) at ∙ ap (λ (o : Option Queue). downs_put_in qs (n, t) (Some x) o) is
 
-settled_leads : FitLaws → (book : Book) (k : Core) (qs : List Queue) (now : ℕ) (c : Change) (cs : List Change) (f : File) → IsKept book k qs → k.server.waiting ≡ c ∷ cs → c.what ≡ wanted.Content (content_wanted c.what) → the_files.file_at k.server.tree c.file ≡ Some f → Leads book qs (settled_by_step k (made_change (at (record k.server { waiting = cs }) now) c (content_wanted c.what) f))
-settled_leads laws book k qs now c cs f kept waits what there =
+settled_leads : FitLaws → (book : Book) (k : Core) (qs : List Queue) (now : ℕ) (c : Change) (cs : List Change) (f : File) → IsKept book k qs → IsOut k.server.waiting c cs → c.what ≡ wanted.Content (content_wanted c.what) → the_files.file_at k.server.tree c.file ≡ Some f → Leads book qs (settled_to k (made_change (at (record k.server { waiting = cs }) now) c (content_wanted c.what) f))
+settled_leads laws book k qs now c cs f kept out what there =
     let n : ℕ = c.session in
-    let home = kept.home 0 c (ap (λ (l : List Change). slice_get l 0) waits) in
+    let home = kept.home out.place c out.there in
     let x : Session = home.0 in
     let q = also_numbered k.sessions qs n x kept.made.1 home.1 in
     let h = kept.sessions n x q.0 home.1 q.1 in
-    let pending = subst (λ (w : Wanted). WaitsFor book c.session x.closing x.cut (job h.seat) c.xid c.file w) what (h.pending 0 c (ap (λ (l : List Change). slice_get (own n l) 0) waits ∙ ap (λ (l : List Change). slice_get l 0) (own_first c cs))) in
+    let pending = subst (λ (w : Wanted). WaitsFor book c.session x.closing x.cut (job h.seat) c.xid c.file w) what (h.pending 0 c (ap (λ (l : List Change). slice_get l 0) out.mine)) in
     let j : ℕ = pending.place in
     let o : Op = pending.op in
     let t : Told = answer c (f.version + 1) in
     let more = made_book book (entry_of c (content_wanted c.what) f ∷ []) j c.file o in
-    let now_kept = settled_now laws book k qs now c cs f x q.0 j o kept waits what there home.1 home.2 q.1 pending refl refl in
+    let now_kept = settled_now laws book k qs now c cs f x q.0 j o kept out what there home.1 home.2 q.1 pending refl refl in
     let changed : Option ℕ = changed_file (newest_entries (settled_server k.server now c cs f).journal 1) in
     let ops_is : settled_by k changed (told_.Settled n c.xid) ≡ more.ops =
     ap (λ (z : Option ℕ). settled_by k z (told_.Settled n c.xid)) (newest_one k.server.journal (entry_of c (content_wanted c.what) f))
@@ -315,48 +303,45 @@ settled_leads laws book k qs now c cs f kept waits what there =
       more = more;
       moments = refl;
       opening = refl;
-      kept = subst (λ (z : List Queue). IsKept more (settled_by_step k (made_change (at (record k.server { waiting = cs }) now) c (content_wanted c.what) f)).core z) (sym (queue_told k.sessions qs n x q.0 t home.1 q.1)) (subst (λ (z : Core). IsKept more z (with_numbered qs n (record q.0 { downs = unless x.cut q.0.downs (t ∷ []) }))) core now_kept);
+      kept = subst (λ (z : List Queue). IsKept more (settled_to k (made_change (at (record k.server { waiting = cs }) now) c (content_wanted c.what) f)).core z) (sym (queue_told k.sessions qs n x q.0 t home.1 q.1)) (subst (λ (z : Core). IsKept more z (with_numbered qs n (record q.0 { downs = unless x.cut q.0.downs (t ∷ []) }))) core now_kept);
     }
 
--- ---- whatever waits first
+-- ---- whatever is taken out
 
 asks_itself : (a : Asked) → AsksFor (walk_for a) a
 asks_itself (asked.Remove r) = (refl, refl, refl)
 asks_itself (asked.Rename r) = (refl, refl, refl)
 
 -- a commit, by whether its file is there
-settled_commit : FitLaws → (book : Book) (k : Core) (qs : List Queue) (now : ℕ) (c : Change) (cs : List Change) (content : List ℕ) → IsKept book k qs → k.server.waiting ≡ c ∷ cs → c.what ≡ wanted.Content content → (o : Option File) → the_files.file_at k.server.tree c.file ≡ o → Leads book qs (happens k (Settles now))
-settled_commit laws book k qs now c cs content kept waits what (Some f) there =
+settled_commit : FitLaws → (book : Book) (k : Core) (qs : List Queue) (now : ℕ) (c : Change) (cs : List Change) (content : List ℕ) → IsKept book k qs → SettlesOut k now c cs → c.what ≡ wanted.Content content → (o : Option File) → the_files.file_at k.server.tree c.file ≡ o → Leads book qs (happens k (Settles now))
+settled_commit laws book k qs now c cs content kept out what (Some f) there =
     let wants = what ∙ ap (λ (x : List ℕ). wanted.Content x) (sym (ap content_wanted what)) in
-    subst (λ (ws : List Change). Leads book qs (settled_by_step k (closing.settles k.server now ws))) (sym waits)
-    (subst (λ (r : server.State × ServerStep). Leads book qs (settled_by_step k r)) (sym (made_is book k.server now c cs f kept.server waits there wants)) (settled_leads laws book k qs now c cs f kept waits wants there))
-settled_commit laws book k qs now c cs content kept waits what None none =
-    let first = ap (λ (l : List Change). slice_get l 0) waits in
-    let home = kept.home 0 c first in
+    subst (Leads book qs) (sym (out.is ∙ ap (settled_to k) (made_is book k.server now c cs f kept.server out.out there wants))) (settled_leads laws book k qs now c cs f kept out.out wants there)
+settled_commit laws book k qs now c cs content kept out what None none =
+    let home = kept.home out.out.place c out.out.there in
     let q = also_numbered k.sessions qs c.session home.0 kept.made.1 home.1 in
     let h = kept.sessions c.session home.0 q.0 home.1 q.1 in
-    let pending = subst (λ (w : Wanted). WaitsFor book c.session home.0.closing home.0.cut (job h.seat) c.xid c.file w) what (h.pending 0 c (ap (λ (l : List Change). slice_get (own c.session l) 0) waits ∙ ap (λ (l : List Change). slice_get l 0) (own_first c cs))) in
-    subst (Leads book qs) (sym (unmade_settles k now c cs content waits what (node_gone book k.server c.file kept.server (kept.server.targets 0 c first) none))) (leads_unmade laws book k qs now c cs content kept waits what none home.0 q.0 home.1 home.2 q.1 pending)
+    let pending = subst (λ (w : Wanted). WaitsFor book c.session home.0.closing home.0.cut (job h.seat) c.xid c.file w) what (h.pending 0 c (ap (λ (l : List Change). slice_get l 0) out.out.mine)) in
+    subst (Leads book qs) (sym (unmade_settles k now c cs content out what (node_gone book k.server c.file kept.server (kept.server.targets out.out.place c out.out.there) none))) (leads_unmade laws book k qs now c cs content kept out what none home.0 q.0 home.1 home.2 q.1 pending)
 
 -- a remove, or a rename over a file
-settled_asked : FitLaws → (book : Book) (k : Core) (qs : List Queue) (now : ℕ) (c : Change) (cs : List Change) (a : Asked) → IsKept book k qs → IsNoted book k (Settles now) → k.server.waiting ≡ c ∷ cs → c.what ≡ wanted.Asked a → Leads book qs (happens k (Settles now))
-settled_asked laws book k qs now c cs a kept noted waits what =
-    let first = ap (λ (l : List Change). slice_get l 0) waits in
-    let home = kept.home 0 c first in
+settled_asked : FitLaws → (book : Book) (k : Core) (qs : List Queue) (now : ℕ) (c : Change) (cs : List Change) (a : Asked) → IsKept book k qs → IsNoted book k (Settles now) → SettlesOut k now c cs → c.what ≡ wanted.Asked a → Leads book qs (happens k (Settles now))
+settled_asked laws book k qs now c cs a kept noted out what =
+    let home = kept.home out.out.place c out.out.there in
     let q = also_numbered k.sessions qs c.session home.0 kept.made.1 home.1 in
     let h = kept.sessions c.session home.0 q.0 home.1 q.1 in
-    let pending = subst (λ (w : Wanted). WaitsFor book c.session home.0.closing home.0.cut (job h.seat) c.xid c.file w) what (h.pending 0 c (ap (λ (l : List Change). slice_get (own c.session l) 0) waits ∙ ap (λ (l : List Change). slice_get l 0) (own_first c cs))) in
-    let wants = subst (IsWanted c.file) what (kept.server.wants 0 c first) in
-    ends_so laws book k qs now c cs a kept noted waits what home.0 q.0 home.1 home.2 q.1 pending
-    (settles_so k.server.tree (server.held cs) (walk_for a) a kept.server.bounded wants.2 (asks_itself a) wants.1 (λ n d. no_directory book k.server (file_of a) n kept.server (subst (λ (f : ℕ). WasThere book f) wants.0 (kept.server.targets 0 c first)) d))
+    let pending = subst (λ (w : Wanted). WaitsFor book c.session home.0.closing home.0.cut (job h.seat) c.xid c.file w) what (h.pending 0 c (ap (λ (l : List Change). slice_get l 0) out.out.mine)) in
+    let wants = subst (IsWanted c.file) what (kept.server.wants out.out.place c out.out.there) in
+    ends_so laws book k qs now c cs a kept noted out what home.0 q.0 home.1 home.2 q.1 pending
+    (settles_so k.server.tree (server.held cs) (walk_for a) a kept.server.bounded wants.2 (asks_itself a) wants.1 (λ n d. no_directory book k.server (file_of a) n kept.server (subst (λ (f : ℕ). WasThere book f) wants.0 (kept.server.targets out.out.place c out.out.there)) d))
 
 pub kept_settles : FitLaws → KeptSettles
-kept_settles laws = λ book k qs now kept noted. by book k qs now kept noted k.server.waiting refl
+kept_settles laws = λ book k qs now kept noted. by book k qs now kept noted (what_settles book k qs now kept)
   where
-    by : (book : Book) (k : Core) (qs : List Queue) (now : ℕ) → IsKept book k qs → IsNoted book k (Settles now) → (waiting : List Change) → k.server.waiting ≡ waiting → Leads book qs (happens k (Settles now))
-    by book k qs now kept noted [] e = subst (λ (ws : List Change). Leads book qs (settled_by_step k (closing.settles k.server now ws))) (sym e) (subst (λ (es : List ℕ). Leads book qs (quiet (record k { steps = k.steps + 1; entries = es }))) (sym (append-nil k.entries)) (leads_idle book k qs kept))
-    by book k qs now kept noted (c ∷ cs) e = first c.what refl
+    by : (book : Book) (k : Core) (qs : List Queue) (now : ℕ) → IsKept book k qs → IsNoted book k (Settles now) → WhatSettles k now → Leads book qs (happens k (Settles now))
+    by book k qs now kept noted (settles_none none is) = subst (Leads book qs) (sym is) (leads_idle book k qs kept)
+    by book k qs now kept noted (settles_one c cs out) = is_wanted c.what refl
       where
-        first : (w : Wanted) → c.what ≡ w → Leads book qs (happens k (Settles now))
-        first (wanted.Content content) what = settled_commit laws book k qs now c cs content kept e what (the_files.file_at k.server.tree c.file) refl
-        first (wanted.Asked a) what = settled_asked laws book k qs now c cs a kept noted e what
+        is_wanted : (w : Wanted) → c.what ≡ w → Leads book qs (happens k (Settles now))
+        is_wanted (wanted.Content content) what = settled_commit laws book k qs now c cs content kept out what (the_files.file_at k.server.tree c.file) refl
+        is_wanted (wanted.Asked a) what = settled_asked laws book k qs now c cs a kept noted out what

@@ -1,5 +1,5 @@
 -- A change that waits is settled: a content is replaced; or else operations are as they were, but for one whose file goes, and the journal tells of no content.
-use Rattle.std.proofs.Common.{◌⊎◌, inl, inr, ◌≡◌, ℕ, zero, suc, ◌+◌, ◌<◌, List, [], ◌∷◌, ◌++◌, length, replicate, append-nil, Option, Some, None, Bool, true, false, refl, sym, ap, ◌∙◌, subst, arith}
+use Rattle.std.proofs.Common.{◌⊎◌, inl, inr, ◌≡◌, ℕ, zero, suc, ◌+◌, ◌<◌, List, [], ◌++◌, length, replicate, append-nil, Option, Some, None, Bool, true, false, refl, sym, ap, ◌∙◌, subst, arith}
 use Rattle.xdr_codec.specs.declared.status.Status.{Status}
 use Rattle.xdr_codec.specs.declared.status.Status.TheVariants as status
 use Rattle.wire.specs.declared.message.Body.TheVariants as body
@@ -15,20 +15,19 @@ use Rattle.tree_calls.specs.declared.asked.Done.{Done as Finished}
 use Rattle.server_core.specs.State as server
 use Rattle.chunk_calls.specs.Files as the_files
 use Rattle.server_core.specs.Closing.{entries_by, entered_by, entry_by}
-use Rattle.server_core.specs.Closing as closing
 use Rattle.server_core.specs.declared.change.Wanted.TheVariants as wanted
 use Rattle.trace_replay.specs.Faithful.{change_refusal}
-use Rattle.trace_ends.specs.Core.{newest_entries, changed_file, is_of_file}
+use Rattle.trace_ends.specs.Core.{changed_file, is_of_file}
 use Rattle.trace_ends.specs.Ops.{pointed, pointed_at}
-use Rattle.kept_promise.proofs.Common.{slice_get, slice_set, cond, option_map, find, Contains, Contains-push, Message, name_answer, told_message, Change, Wanted, File, Entry, Op, Core, Session, CoreStep, quiet, numbered, settles, settled_ops, Book, Queue}
+use Rattle.kept_promise.proofs.Common.{slice_get, slice_set, cond, option_map, find, Contains, Contains-push, Message, name_answer, told_message, Change, Wanted, File, Entry, Op, Core, Session, CoreStep, numbered, settles, settled_ops, Book, Queue}
 use Rattle.kept_promise.proofs.Lists.{some_is, nothing_there}
 use Rattle.kept_promise.proofs.Rights.{WasThere, IsUnmade, gets_file}
 use Rattle.kept_promise.proofs.Turns.{also_numbered}
 use Rattle.kept_promise.proofs.Messages.{job, WaitsFor, IsGoing, asked_word, walk_for, AsksFor, content_wanted}
 use Rattle.kept_promise.proofs.Facts.{IsSession, IsKept, IsWanted}
-use Rattle.kept_promise.proofs.Promised.{own_there}
 use Rattle.kept_promise.proofs.GoingCalls.{IsName}
 use Rattle.kept_promise.proofs.Departures.{SettlesSo, refused_late, goes, settles_so}
+use Rattle.kept_promise.proofs.TakenOut.{SettlesOut, WhatSettles, settles_one, settles_none, what_settles}
 use Rattle.kept_promise.proofs.GoingEnds.{asked_step, asked_settles}
 use Rattle.kept_promise.proofs.Gone.{no_directory}
 use Rattle.kept_promise.proofs.Unmade.{node_gone, unmade_step, unmade_told, unmade_settles}
@@ -54,9 +53,9 @@ RefusesFor t c = (answer : Message) × (s : Status) × Contains t.down (record {
 abbrev pub TellsFirst : (k : Core) (t : CoreStep) → List Entry → Type 0
 TellsFirst k t es = (c : Change) → slice_get k.server.waiting 0 ≡ Some c → (0 < length es) ⊎ RefusesFor t c
 
-pub data Settling (k : Core) (t : CoreStep) : Type 0 where
-  makes_commit : (c : Change) (cs : List Change) (f : File) → k.server.waiting ≡ c ∷ cs → c.what ≡ wanted.Content (content_wanted c.what) → the_files.file_at k.server.tree c.file ≡ Some f → Settling k t
-  makes_else : (t.core.ops ≡ k.ops) ⊎ GoesHere k t.core.ops → (q : Entered k t) → TellsFirst k t q.es → Settling k t
+pub data Settling (k : Core) (now : ℕ) (t : CoreStep) : Type 0 where
+  makes_commit : (c : Change) (cs : List Change) (f : File) → SettlesOut k now c cs → c.what ≡ wanted.Content (content_wanted c.what) → the_files.file_at k.server.tree c.file ≡ Some f → Settling k now t
+  makes_else : (t.core.ops ≡ k.ops) ⊎ GoesHere k t.core.ops → (q : Entered k t) → TellsFirst k t q.es → Settling k now t
 
 -- ---- the entries of what goes
 
@@ -88,8 +87,8 @@ some_entered n first second e is = subst (λ (o : Option TreeEntry). 0 < length 
     by None = omega arith
     by (Some y) = omega arith
 
-tells_first : (k : Core) (c : Change) (cs : List Change) (t : CoreStep) (es : List Entry) → k.server.waiting ≡ c ∷ cs → (0 < length es) ⊎ RefusesFor t c → TellsFirst k t es
-tells_first k c cs t es e h d at = subst (λ (z : Change). (0 < length es) ⊎ RefusesFor t z) (some_is c d (sym (ap (λ (l : List Change). slice_get l 0) e) ∙ at)) h
+tells_first : (k : Core) (c : Change) (t : CoreStep) (es : List Entry) → slice_get k.server.waiting 0 ≡ Some c → (0 < length es) ⊎ RefusesFor t c → TellsFirst k t es
+tells_first k c t es first h d at = subst (λ (z : Change). (0 < length es) ⊎ RefusesFor t z) (some_is c d (sym first ∙ at)) h
 
 gets_asked : (a : Asked) → gets_file (asked_word a) ≡ true
 gets_asked (asked.Remove r) = refl
@@ -101,16 +100,16 @@ asks_itself (asked.Rename r) = (refl, refl, refl)
 
 -- ---- the step
 
-pub settling : (book : Book) (k : Core) (qs : List Queue) (now : ℕ) → IsKept book k qs → Settling k (settles k now)
-settling book k qs now kept = by k.server.waiting refl
+pub settling : (book : Book) (k : Core) (qs : List Queue) (now : ℕ) → IsKept book k qs → Settling k now (settles k now)
+settling book k qs now kept = by (what_settles book k qs now kept)
   where
-    asked_so : (c : Change) (cs : List Change) (a : Asked) (x : Session) → k.server.waiting ≡ c ∷ cs → numbered k.sessions c.session ≡ Some x → (p : (place : ℕ) × (op : Op) × (x.closing ≡ Some place) × (slice_get k.ops place ≡ Some op) × IsUnmade op × (op.word ≡ asked_word a) × (op.file ≡ 0)) → SettlesSo k.server.tree (server.held cs) (walk_for a) a
-        → Settling k (asked_step k now c cs (tree_settles k.server.tree (server.held cs) a))
-    asked_so c cs a x waits here p (refused_late s r is why refuses leads procs) = subst (λ (z : Tree × Finished). Settling k (asked_step k now c cs z)) (sym is) (makes_else
+    asked_so : (c : Change) (cs : List Change) (a : Asked) (x : Session) → SettlesOut k now c cs → numbered k.sessions c.session ≡ Some x → (p : (place : ℕ) × (op : Op) × (x.closing ≡ Some place) × (slice_get k.ops place ≡ Some op) × IsUnmade op × (op.word ≡ asked_word a) × (op.file ≡ 0)) → SettlesSo k.server.tree (server.held cs) (walk_for a) a
+        → Settling k now (asked_step k now c cs (tree_settles k.server.tree (server.held cs) a))
+    asked_so c cs a x out here p (refused_late s r is why refuses leads procs) = subst (λ (z : Tree × Finished). Settling k now (asked_step k now c cs z)) (sym is) (makes_else
         (inl (ap (settled_ops k.ops (k.steps + 1) None) here ∙ pointed_none k.ops x.closing (k.steps + 1)))
         (record { es = []; entries = refl; journal = refl; plain = λ i e at. nothing_there e at })
-        (tells_first k c cs (asked_step k now c cs (k.server.tree, said (name_answer r))) [] waits (inr (message.Answer c.xid (body.Nfs (name_answer r)), s, Contains-push [] (record { session = c.session; message = message.Answer c.xid (body.Nfs (name_answer r)) }), refuses))))
-    asked_so c cs a x waits here (place, op, known, there, unmade, word, file_is) (goes done r after is step gone names leads procs files none off root next) = subst (λ (z : Tree × Finished). Settling k (asked_step k now c cs z)) (sym is) (makes_else
+        (tells_first k c (asked_step k now c cs (k.server.tree, said (name_answer r))) [] out.first (inr (message.Answer c.xid (body.Nfs (name_answer r)), s, Contains-push [] (record { session = c.session; message = message.Answer c.xid (body.Nfs (name_answer r)) }), refuses))))
+    asked_so c cs a x out here (place, op, known, there, unmade, word, file_is) (goes done r after is step gone names leads procs files none off root next) = subst (λ (z : Tree × Finished). Settling k now (asked_step k now c cs z)) (sym is) (makes_else
         (inr (record {
           place = place;
           op = op;
@@ -130,20 +129,17 @@ settling book k qs now kept = by k.server.waiting refl
           journal = refl;
           plain = no_commit c.session done.first done.second gone.entry gone.is gone.kind_is names;
         })
-        (tells_first k c cs (asked_step k now c cs (after, record { answer = name_answer r; first = done.first; second = done.second })) (entries_by c.session done.first done.second) waits (inl (some_entered c.session done.first done.second gone.entry gone.is))))
+        (tells_first k c (asked_step k now c cs (after, record { answer = name_answer r; first = done.first; second = done.second })) (entries_by c.session done.first done.second) out.first (inl (some_entered c.session done.first done.second gone.entry gone.is))))
 
-    by : (ws : List Change) → k.server.waiting ≡ ws → Settling k (settles k now)
-    by [] e = makes_else (inl (ap (λ (ws : List Change). (did ws).core.ops) e)) (record { es = []; entries = ap (λ (ws : List Change). (did ws).core.entries) e; journal = ap (λ (ws : List Change). (did ws).core.server.journal) e ∙ sym (append-nil k.server.journal); plain = λ i d at. nothing_there d at }) (λ c at. nothing_there c (ap (λ (l : List Change). slice_get l 0) (sym e) ∙ at))
+    by : WhatSettles k now → Settling k now (settles k now)
+    by (settles_none none is) = subst (Settling k now) (sym is) (makes_else (inl refl) (record { es = []; entries = sym (append-nil k.entries); journal = sym (append-nil k.server.journal); plain = λ i d at. nothing_there d at }) (λ c at. nothing_there c (sym none ∙ at)))
+    by (settles_one c cs out) = is_wanted c.what refl
       where
-        did : List Change → CoreStep
-        did ws = let r = closing.settles k.server now ws in record (quiet (record k { steps = k.steps + 1; server = r.0; ops = Rattle.kept_promise.proofs.Common.settled_by k (changed_file (newest_entries r.0.journal r.1.entries)) r.1.told; entries = k.entries ++ replicate r.1.entries (k.steps + 1) })) { down = r.1.send }
-    by (c ∷ cs) e = first c.what refl
-      where
-        at_first : slice_get k.server.waiting 0 ≡ Some c
-        at_first = ap (λ (l : List Change). slice_get l 0) e
+        at_place : slice_get k.server.waiting out.out.place ≡ Some c
+        at_place = out.out.there
 
         home : (x : Session) × (numbered k.sessions c.session ≡ Some x) × (x.hung ≡ false)
-        home = kept.home 0 c at_first
+        home = kept.home out.out.place c at_place
 
         q : (q : Queue) × (numbered qs c.session ≡ Some q)
         q = also_numbered k.sessions qs c.session home.0 kept.made.1 home.1
@@ -152,19 +148,19 @@ settling book k qs now kept = by k.server.waiting refl
         h = kept.sessions c.session home.0 q.0 home.1 q.1
 
         pending : WaitsFor book c.session home.0.closing home.0.cut (job h.seat) c.xid c.file c.what
-        pending = let mine = own_there k.server.waiting 0 c at_first in h.pending mine.0 c mine.1
+        pending = h.pending 0 c (ap (λ (l : List Change). slice_get l 0) out.out.mine)
 
-        commit : (content : List ℕ) → c.what ≡ wanted.Content content → (o : Option File) → the_files.file_at k.server.tree c.file ≡ o → Settling k (settles k now)
-        commit content what (Some f) there = makes_commit c cs f e (what ∙ ap (λ (x : List ℕ). wanted.Content x) (sym (ap content_wanted what))) there
+        commit : (content : List ℕ) → c.what ≡ wanted.Content content → (o : Option File) → the_files.file_at k.server.tree c.file ≡ o → Settling k now (settles k now)
+        commit content what (Some f) there = makes_commit c cs f out (what ∙ ap (λ (x : List ℕ). wanted.Content x) (sym (ap content_wanted what))) there
         commit content what None none =
-            let is = unmade_settles k now c cs content e what (node_gone book k.server c.file kept.server (kept.server.targets 0 c at_first) none) in
-            subst (Settling k) (sym is) (makes_else (inl refl) (record { es = []; entries = sym (append-nil k.entries); journal = sym (append-nil k.server.journal); plain = λ i d at. nothing_there d at }) (tells_first k c cs (unmade_step k now c cs) [] e (inr (told_message (unmade_told c), status.Stale, Contains-push [] (record { session = c.session; message = told_message (unmade_told c) }), refl))))
+            let is = unmade_settles k now c cs content out what (node_gone book k.server c.file kept.server (kept.server.targets out.out.place c at_place) none) in
+            subst (Settling k now) (sym is) (makes_else (inl refl) (record { es = []; entries = sym (append-nil k.entries); journal = sym (append-nil k.server.journal); plain = λ i d at. nothing_there d at }) (tells_first k c (unmade_step k now c cs) [] out.first (inr (told_message (unmade_told c), status.Stale, Contains-push [] (record { session = c.session; message = told_message (unmade_told c) }), refl))))
 
-        first : (w : Wanted) → c.what ≡ w → Settling k (settles k now)
-        first (wanted.Content content) what = commit content what (the_files.file_at k.server.tree c.file) refl
-        first (wanted.Asked a) what =
+        is_wanted : (w : Wanted) → c.what ≡ w → Settling k now (settles k now)
+        is_wanted (wanted.Content content) what = commit content what (the_files.file_at k.server.tree c.file) refl
+        is_wanted (wanted.Asked a) what =
             let p : IsGoing book c.session home.0.closing home.0.cut (job h.seat) c.xid a = subst (λ (w : Wanted). WaitsFor book c.session home.0.closing home.0.cut (job h.seat) c.xid c.file w) what pending in
-            let wants = subst (IsWanted c.file) what (kept.server.wants 0 c at_first) in
-            subst (Settling k) (sym (asked_settles k now c cs a e what)) (asked_so c cs a home.0 e home.1
+            let wants = subst (IsWanted c.file) what (kept.server.wants out.out.place c at_place) in
+            subst (Settling k now) (sym (asked_settles k now c cs a out what)) (asked_so c cs a home.0 out home.1
             (p.place, p.op, p.known, ap (λ (l : List Op). slice_get l p.place) (sym kept.ops) ∙ p.there, p.unmade, p.word_is, p.file_is)
-            (settles_so k.server.tree (server.held cs) (walk_for a) a kept.server.bounded wants.2 (asks_itself a) wants.1 (λ n d. no_directory book k.server (file_of a) n kept.server (subst (λ (f : ℕ). WasThere book f) wants.0 (kept.server.targets 0 c at_first)) d)))
+            (settles_so k.server.tree (server.held cs) (walk_for a) a kept.server.bounded wants.2 (asks_itself a) wants.1 (λ n d. no_directory book k.server (file_of a) n kept.server (subst (λ (f : ℕ). WasThere book f) wants.0 (kept.server.targets out.out.place c at_place)) d)))

@@ -1,5 +1,5 @@
--- A COMMITTMP whose file is gone once its change is the first that waits: nothing is made, and its session is told so.
-use Rattle.std.proofs.Common.{inr, ◌≡◌, ℕ, suc, ◌+◌, List, [], ◌∷◌, ◌++◌, length, max, replicate, append-nil, Option, Some, None, IsSome, false, Ok, refl, sym, ap, ◌∙◌, subst, arith}
+-- A COMMITTMP whose file is gone once its change is settled: nothing is made, and its session is told so.
+use Rattle.std.proofs.Common.{inr, ◌≡◌, ℕ, ◌+◌, List, [], ◌∷◌, ◌++◌, length, max, append-nil, Option, Some, None, IsSome, false, Ok, refl, sym, ap, ◌∙◌, subst, arith}
 use Rattle.xdr_codec.specs.declared.answer.Answer.TheVariants as answer
 use Rattle.xdr_codec.specs.declared.status.Status.TheVariants as status
 use Rattle.tree_nodes.specs.declared.node.Node.{Node}
@@ -15,11 +15,9 @@ use Rattle.server_core.specs.State as server
 use Rattle.chunk_calls.specs.Files as the_files
 use Rattle.server_core.specs.Closing as closing
 use Rattle.server_core.specs.declared.change.Wanted.TheVariants as wanted
-use Rattle.server_core.specs.declared.event.ServerStep.{ServerStep}
 use Rattle.server_rules.specs.declared.told.Told.TheVariants as announced
 use Rattle.client_state.specs.State as client
 use Rattle.client_state.specs.declared.task.Stage.TheVariants as stage
-use Rattle.trace_ends.specs.Core.{newest_entries, changed_file}
 use Rattle.kept_promise.proofs.Common.{slice_get, at, Failed, Change, Wanted, Entry, Op, Core, Session, CoreStep, quiet, numbered, with_numbered, settles, settled_by, unless, Book, Reply.Changed, Told, Queue, told_message, value_at}
 use Rattle.kept_promise.proofs.Lists.{some_is, nothing_there, all_map}
 use Rattle.kept_promise.proofs.Keys.{change_key, told_key}
@@ -37,7 +35,8 @@ use Rattle.kept_promise.proofs.Facts.{FileIs, IsServer, IsSession, IsKept}
 use Rattle.kept_promise.proofs.Leading.{Leads, downs_put, downs_put_in}
 use Rattle.kept_promise.proofs.Hangs.{core_is}
 use Rattle.kept_promise.proofs.ServesFiles.{none_newest, pointed_none}
-use Rattle.kept_promise.proofs.GoingSettles.{behind, kept_told}
+use Rattle.kept_promise.proofs.TakenOut.{SettlesOut, settled_to}
+use Rattle.kept_promise.proofs.GoingSettles.{kept_told}
 
 -- ---- what the tree makes of it
 
@@ -63,11 +62,11 @@ unmade_told c = record { xid = c.xid; reply = Changed (Failed status.Stale tt) }
 abbrev pub unmade_step : Core → (now : ℕ) → Change → List Change → CoreStep
 unmade_step k now c cs = record (quiet (record k { steps = k.steps + 1; server = unmade_server k.server now cs })) { down = record { session = c.session; message = told_message (unmade_told c) } ∷ [] }
 
-pub unmade_settles : (k : Core) (now : ℕ) (c : Change) (cs : List Change) (content : List ℕ) → k.server.waiting ≡ c ∷ cs → c.what ≡ wanted.Content content → with_id k.server.tree.nodes c.file ≡ None → settles k now ≡ unmade_step k now c cs
-unmade_settles k now c cs content waits what none =
-    ap (λ (ws : List Change). did (closing.settles k.server now ws)) waits
-    ∙ ap (λ (w : Wanted). did (closing.makes_change before c w)) what
-    ∙ ap (λ (p : Tree × Committing). did (closing.committed_by before c content p)) (commit_gone k.server.tree (server.held cs) c.file content none)
+pub unmade_settles : (k : Core) (now : ℕ) (c : Change) (cs : List Change) (content : List ℕ) → SettlesOut k now c cs → c.what ≡ wanted.Content content → with_id k.server.tree.nodes c.file ≡ None → settles k now ≡ unmade_step k now c cs
+unmade_settles k now c cs content out what none =
+    out.is
+    ∙ ap (λ (w : Wanted). settled_to k (closing.makes_change before c w)) what
+    ∙ ap (λ (p : Tree × Committing). settled_to k (closing.committed_by before c content p)) (commit_gone k.server.tree (server.held cs) c.file content none)
     ∙ ap (λ (o : Option ℕ). with_parts (k.server.journal ++ []) (settled_by k o (announced.Settled c.session c.xid)) (k.entries ++ [])) (none_newest (k.server.journal ++ []) 0 refl)
     ∙ ap (λ (l : List Entry). with_parts l (settled_by k None (announced.Settled c.session c.xid)) (k.entries ++ [])) (append-nil k.server.journal)
     ∙ ap (λ (l : List Op). with_parts k.server.journal l (k.entries ++ [])) (same (numbered k.sessions c.session))
@@ -75,9 +74,6 @@ unmade_settles k now c cs content waits what none =
   where
     before : server.State
     before = at (record k.server { waiting = cs }) now
-
-    did : server.State × ServerStep → CoreStep
-    did r = record (quiet (record k { steps = k.steps + 1; server = r.0; ops = settled_by k (changed_file (newest_entries r.0.journal r.1.entries)) r.1.told; entries = k.entries ++ replicate r.1.entries (k.steps + 1) })) { down = r.1.send }
 
     with_parts : List Entry → List Op → List ℕ → CoreStep
     with_parts journal ops entries = record (quiet (record k { steps = k.steps + 1; server = record before { journal = journal }; ops = ops; entries = entries })) { down = record { session = c.session; message = told_message (unmade_told c) } ∷ [] }
@@ -88,7 +84,7 @@ unmade_settles k now c cs content waits what none =
 
 -- ---- the frame
 
-module _ (laws : FitLaws) (book : Book) (k : Core) (qs : List Queue) (now : ℕ) (c : Change) (cs : List Change) (content : List ℕ) (kept : IsKept book k qs) (waits : k.server.waiting ≡ c ∷ cs) (what : c.what ≡ wanted.Content content) (none : the_files.file_at k.server.tree c.file ≡ None)
+module _ (laws : FitLaws) (book : Book) (k : Core) (qs : List Queue) (now : ℕ) (c : Change) (cs : List Change) (content : List ℕ) (kept : IsKept book k qs) (out : SettlesOut k now c cs) (what : c.what ≡ wanted.Content content) (none : the_files.file_at k.server.tree c.file ≡ None)
     (x : Session) (q : Queue) (here : numbered k.sessions c.session ≡ Some x) (unhung : x.hung ≡ false) (is : numbered qs c.session ≡ Some q) (p : IsPending book x.closing x.cut (job (kept.sessions c.session x q here is).seat) c.xid c.file content) where
   abbrev n : ℕ
   n = c.session
@@ -110,9 +106,6 @@ module _ (laws : FitLaws) (book : Book) (k : Core) (qs : List Queue) (now : ℕ)
 
   spares : Spares x.closing None
   spares = λ z u v. nothing_there z v
-
-  first : slice_get k.server.waiting 0 ≡ Some c
-  first = ap (λ (l : List Change). slice_get l 0) waits
 
   gone : value_at book c.file (book.steps + 1) ≡ None
   gone = subst (FileIs book c.file) none (kept.server.held c.file)
@@ -145,33 +138,33 @@ module _ (laws : FitLaws) (book : Book) (k : Core) (qs : List Queue) (now : ℕ)
       let grows = grows_same book 1 in
       let still = still_same book 1 kept.sound in
       let z = kept.server.changes in
-      let e = ap server.entries_held waits in
+      let e = out.out.entries in
       let b = kept.server.bytes in
-      let u = ap server.waiting_size waits in
+      let u = out.out.bytes in
       record {
         held = λ f. file_still book more None None f (the_files.file_at k.server.tree f) grows still (kept.server.held f);
         fresh = fresh_still book more None None k.server.tree grows still kept.server.fresh;
         bounded = kept.server.bounded;
         zero = kept.server.zero;
         rooted = kept.server.rooted;
-        wants = λ i d w. kept.server.wants (suc i) d (behind k.server c cs waits i d w);
+        wants = λ i d w. let y = out.out.others i d w in kept.server.wants y.0 d y.1;
         changes = omega (arith, z, e);
         bytes = omega (arith, b, u);
-        lengths = λ i d w. kept.server.lengths (suc i) d (behind k.server c cs waits i d w);
-        targets = λ i d w. there_later book more None None d.file grows (kept.server.targets (suc i) d (behind k.server c cs waits i d w));
-        xids = λ i d w. kept.server.xids (suc i) d (behind k.server c cs waits i d w);
+        lengths = λ i d w. let y = out.out.others i d w in kept.server.lengths y.0 d y.1;
+        targets = λ i d w. let y = out.out.others i d w in there_later book more None None d.file grows (kept.server.targets y.0 d y.1);
+        xids = λ i d w. let y = out.out.others i d w in kept.server.xids y.0 d y.1;
       }
 
   kept_unmade : IsKept more (turned_core more s k.seats k.sessions) (with_numbered qs n after)
   kept_unmade =
       let grows = grows_same book 1 in
-      kept_told book more k qs now c cs x q k.server.tree k.server.journal k.server.index (Changed (Failed status.Stale tt)) None kept waits here is (record {
+      kept_told book more k qs now c cs x q k.server.tree k.server.journal k.server.index (Changed (Failed status.Stale tt)) None kept out.out here is (record {
         goes = goes_same book 1 kept.sound;
         server = server_unmade;
         journal_is = kept.journal;
         made_here = λ z w. nothing_there z w;
         key_is = key_is;
-        fits = laws.plain c.xid (Changed (Failed status.Stale tt)) (kept.server.xids 0 c first) tt;
+        fits = laws.plain c.xid (Changed (Failed status.Stale tt)) (kept.server.xids out.out.place c out.out.there) tt;
         answers = λ uncut. all_map (IsAnswer book x.taken x.closing (job h.seat)) (IsAnswer more x.taken x.closing (job h.seat)) (λ u f. answer_later book more None None x.taken x.closing (job h.seat) u grows spares f) q.downs (h.talk uncut).answers;
         answer = told_now;
         closes = λ uncut j f. close_later book more None None x.closing h.contents h.seat.client.next_temp j (client.local_bytes h.seat.client.opened j.file) j.stage grows spares (h.closes uncut j f);

@@ -1,0 +1,137 @@
+-- A change that waits is taken out by a settling, wherever it stands: what is left of the others, and what the settling is.
+use Rattle.std.proofs.Common.{◌≡◌, ℕ, zero, suc, ◌+◌, ◌≤◌, List, [], ◌∷◌, ◌++◌, length, drop, Some, None, Bool, true, false, refl, sym, ap, ◌∙◌, subst, arith, append-nil, eq-eqb, eqb-true, ne_eqb, replicate}
+use Rattle.std.specs.Prelude.{remove}
+use Rattle.server_core.specs.State as server
+use Rattle.server_core.specs.Closing as closing
+use Rattle.server_core.specs.declared.change.Wanted.{Wanted}
+use Rattle.server_core.specs.declared.change.Wanted.TheVariants as wanted
+use Rattle.trace_ends.specs.Core.{newest_entries, changed_file, idles}
+use Rattle.kept_promise.proofs.Common.{slice_get, cond, ◌==◌, makes_change, at, Change, ServerStep, Core, CoreStep, quiet, settles, settled_by, Book, Queue}
+use Rattle.kept_promise.proofs.Lists.{some_is, nothing_there}
+use Rattle.kept_promise.proofs.Keys.{own}
+use Rattle.kept_promise.proofs.Turns.{also_numbered}
+use Rattle.kept_promise.proofs.Promised.{own_there}
+use Rattle.kept_promise.proofs.Facts.{IsKept}
+
+-- ---- among those that wait
+
+pub record IsOut (waits : List Change) (c : Change) (rest : List Change) : Type 0 where
+  pub place : ℕ
+  pub there : slice_get waits place ≡ Some c
+  -- what is left waited too
+  pub others : (i : ℕ) (d : Change) → slice_get rest i ≡ Some d → (j : ℕ) × (slice_get waits j ≡ Some d)
+  -- it was the one of its session, and those of any other are as they were
+  pub mine : own c.session waits ≡ c ∷ []
+  pub none : own c.session rest ≡ []
+  pub apart : (n : ℕ) → (n ≡ c.session → ⊥) → own n rest ≡ own n waits
+  -- what it needs is left by those that wait
+  pub entries : server.entries_held waits ≡ server.entries_wanted c.what + server.entries_held rest
+  pub bytes : server.waiting_size waits ≡ server.size_wanted c.what + server.waiting_size rest
+
+-- no session has more changes that wait
+pub own_fewer : (waits : List Change) (c : Change) (rest : List Change) → IsOut waits c rest → (n : ℕ) → length (own n rest) ≤ length (own n waits)
+own_fewer waits c rest out n = by (n == c.session) refl
+  where
+    by : (b : Bool) → (n == c.session) ≡ b → length (own n rest) ≤ length (own n waits)
+    by true is = let e = ap (λ (m : ℕ). length (own m rest)) (eqb-true n c.session is) in let none = ap (λ (l : List Change). length l) out.none in omega (arith, e, none)
+    by false is = let e = ap (λ (l : List Change). length l) (out.apart n (λ same. differ same is)) in omega (arith, e)
+      where
+        differ : n ≡ c.session → (n == c.session) ≡ false → ⊥
+        differ same un = let t : (n == c.session) ≡ true = eq-eqb n c.session same in absurd cc
+
+-- ---- one at any place
+
+removed_there : (waits : List Change) (k i : ℕ) (d : Change) → slice_get (remove waits k) i ≡ Some d → (j : ℕ) × (slice_get waits j ≡ Some d)
+removed_there [] k i d at = by k at
+  where
+    by : (k : ℕ) → slice_get (remove [] k) i ≡ Some d → (j : ℕ) × (slice_get [] j ≡ Some d)
+    by zero at = nothing_there d at
+    by (suc k) at = nothing_there d at
+removed_there (w ∷ ws) zero i d at = (suc i, at)
+removed_there (w ∷ ws) (suc k) zero d at = (0, at)
+removed_there (w ∷ ws) (suc k) (suc i) d at = let h = removed_there ws k i d at in (suc h.0, h.1)
+
+removed_apart : (waits : List Change) (k n : ℕ) (c : Change) → slice_get waits k ≡ Some c → (n ≡ c.session → ⊥) → own n (remove waits k) ≡ own n waits
+removed_apart [] k n c at far = nothing_there c at
+removed_apart (w ∷ ws) zero n c at far = sym (ap (λ (b : Bool). cond b (w ∷ own n ws) (own n ws)) (ne_eqb w.session n (λ e. far (sym e ∙ ap (λ (z : Change). z.session) (some_is w c at)))))
+removed_apart (w ∷ ws) (suc k) n c at far = ap (λ (l : List Change). cond (w.session == n) (w ∷ l) l) (removed_apart ws k n c at far)
+
+removed_own : (waits : List Change) (k n : ℕ) (c : Change) → slice_get waits k ≡ Some c → c.session ≡ n → length (own n waits) ≡ suc (length (own n (remove waits k)))
+removed_own [] k n c at mine = nothing_there c at
+removed_own (w ∷ ws) zero n c at mine = ap (λ (b : Bool). length (cond b (w ∷ own n ws) (own n ws))) (eq-eqb w.session n (ap (λ (z : Change). z.session) (some_is w c at) ∙ mine))
+removed_own (w ∷ ws) (suc k) n c at mine = by (w.session == n) (removed_own ws k n c at mine)
+  where
+    by : (b : Bool) → length (own n ws) ≡ suc (length (own n (remove ws k))) → length (cond b (w ∷ own n ws) (own n ws)) ≡ suc (length (cond b (w ∷ own n (remove ws k)) (own n (remove ws k))))
+    by true e = ap suc e
+    by false e = e
+
+removed_needs : (waits : List Change) (k : ℕ) (c : Change) → slice_get waits k ≡ Some c → (server.entries_held waits ≡ server.entries_wanted c.what + server.entries_held (remove waits k)) × (server.waiting_size waits ≡ server.size_wanted c.what + server.waiting_size (remove waits k))
+removed_needs [] k c at = nothing_there c at
+removed_needs (w ∷ ws) zero c at = let same = some_is w c at in (ap (λ (z : Change). server.entries_wanted z.what + server.entries_held ws) same, ap (λ (z : Change). server.size_wanted z.what + server.waiting_size ws) same)
+removed_needs (w ∷ ws) (suc k) c at = let h = removed_needs ws k c at in (omega (arith, h.0), omega (arith, h.1))
+
+no_more : (l : List Change) → length l ≡ 0 → l ≡ []
+no_more [] e = refl
+no_more (x ∷ l) e = absurd (omega (arith, e))
+
+the_one : (l : List Change) (j : ℕ) (c : Change) → slice_get l j ≡ Some c → length l ≤ 1 → l ≡ c ∷ []
+the_one [] j c at one = nothing_there c at
+the_one (x ∷ []) zero c at one = ap (λ (z : Change). z ∷ []) (some_is x c at)
+the_one (x ∷ []) (suc j) c at one = nothing_there c at
+the_one (x ∷ y ∷ l) j c at one = absurd (omega (arith, one))
+
+-- where its session has no other
+pub out_at : (waits : List Change) (k : ℕ) (c : Change) → slice_get waits k ≡ Some c → length (own c.session waits) ≤ 1 → IsOut waits c (remove waits k)
+out_at waits k c at one =
+    let its = own_there waits k c at in
+    let less = removed_own waits k c.session c at refl in
+    let needs = removed_needs waits k c at in
+    record {
+      place = k;
+      there = at;
+      others = λ i d is. removed_there waits k i d is;
+      mine = the_one (own c.session waits) its.0 c its.1 one;
+      none = no_more (own c.session (remove waits k)) (omega (arith, less, one));
+      apart = λ n far. removed_apart waits k n c at far;
+      entries = needs.0;
+      bytes = needs.1;
+    }
+
+-- ---- a settling
+
+-- what it leaves, by what the server did
+abbrev pub settled_to : Core → server.State × ServerStep → CoreStep
+settled_to k r = record (quiet (record k { steps = k.steps + 1; server = r.0; ops = settled_by k (changed_file (newest_entries r.0.journal r.1.entries)) r.1.told; entries = k.entries ++ replicate r.1.entries (k.steps + 1) })) { down = r.1.send }
+
+pub made_waiting : (s : server.State) (c : Change) (w : Wanted) → (makes_change s c w).0.waiting ≡ s.waiting
+made_waiting s c (wanted.Content content) = refl
+made_waiting s c (wanted.Asked a) = refl
+
+pub record SettlesOut (k : Core) (now : ℕ) (c : Change) (rest : List Change) : Type 0 where
+  pub out : IsOut k.server.waiting c rest
+  pub is : settles k now ≡ settled_to k (makes_change (at (record k.server { waiting = rest }) now) c c.what)
+  -- it's the one that the promise names, and so are the others
+  pub first : slice_get k.server.waiting 0 ≡ Some c
+  pub others : drop 1 k.server.waiting ≡ rest
+
+-- a change is settled, or none waits
+pub data WhatSettles (k : Core) (now : ℕ) : Type 0 where
+  settles_one : (c : Change) (rest : List Change) → SettlesOut k now c rest → WhatSettles k now
+  settles_none : slice_get k.server.waiting 0 ≡ None → settles k now ≡ idles k → WhatSettles k now
+
+pub what_settles : (book : Book) (k : Core) (qs : List Queue) (now : ℕ) → IsKept book k qs → WhatSettles k now
+what_settles book k qs now kept = by k.server.waiting refl
+  where
+    by : (waits : List Change) → k.server.waiting ≡ waits → WhatSettles k now
+    by [] e = settles_none (ap (λ (l : List Change). slice_get l 0) e) (ap (λ (l : List Change). settled_to k (closing.settles k.server now l)) e ∙ ap (λ (l : List ℕ). quiet (record k { steps = k.steps + 1; entries = l })) (append-nil k.entries))
+    by (c ∷ cs) e =
+        let first : slice_get k.server.waiting 0 ≡ Some c = ap (λ (l : List Change). slice_get l 0) e in
+        let home = kept.home 0 c first in
+        let q = also_numbered k.sessions qs c.session home.0 kept.made.1 home.1 in
+        let single = (kept.sessions c.session home.0 q.0 home.1 q.1).single in
+        settles_one c cs (record {
+          out = subst (λ (l : List Change). IsOut k.server.waiting c l) (ap (λ (l : List Change). remove l 0) e) (out_at k.server.waiting 0 c first (omega (arith, single)));
+          is = ap (λ (l : List Change). settled_to k (closing.settles k.server now l)) e;
+          first = first;
+          others = ap (drop 1) e;
+        })
