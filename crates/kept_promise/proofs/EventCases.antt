@@ -1,5 +1,5 @@
 -- What an event of a run comes to, for clients and operations: nothing, or a change that is made; or one begins, or a client goes on with its own, or loses its connection.
-use Rattle.std.proofs.Common.{◌⊎◌, inl, inr, ◌≡◌, ℕ, zero, suc, ◌+◌, ◌<◌, ◌≤◌, List, [], ◌∷◌, ◌++◌, Option, Some, None, Result, Ok, Err, Bool, true, false, refl, sym, ap, ◌∙◌, subst, arith}
+use Rattle.std.proofs.Common.{◌⊎◌, inl, inr, ◌≡◌, ℕ, zero, suc, ◌+◌, ◌<◌, ◌≤◌, List, [], ◌∷◌, ◌++◌, Option, Some, None, Result, Ok, Err, Bool, true, false, refl, sym, ap, ◌∙◌, subst, arith, length, eqb-true}
 use Rattle.std.specs.Option.{option_map}
 use Rattle.wire.specs.declared.message.Message.TheVariants as message
 use Rattle.server_core.specs.Closing.{at as at_reading}
@@ -12,8 +12,8 @@ use Rattle.client_state.specs.declared.step.Outcome.TheVariants as outcome
 use Rattle.register_model.specs.declared.op.Word.TheVariants as words
 use Rattle.trace_ends.specs.Session.{taken_of as session_taken}
 use Rattle.trace_ends.specs.Core.{newest_entries, changed_file}
-use Rattle.kept_promise.proofs.Common.{slice_get, slice_set, cond, find, ◌==◌, Command, File, parse_of, WireFault, Message, Change, Wanted, server_step, got_step, ended_by, joined, Task, Op, Opening, TakenCall, taken_at, pointed, pointed_at, settled_ops, settled_by, Core, Seat, Session, Event, Event.Joins, Event.Does, Event.Serves, Event.Hears, Event.Settles, Event.Cuts, Event.Hangs, CoreStep, numbered, with_numbered, new_session, session_of, taken_with, server_waiting, serves_if, serves, acted, does, joins_as, joins, settles, cuts_if, cuts, hangs_if, hangs, happens, Moment, deed_by, Book, Queue, ask_message, told_message}
-use Rattle.kept_promise.proofs.Lists.{some_is, nothing_there, same_or_not, kept_appended, set_else}
+use Rattle.kept_promise.proofs.Common.{slice_get, slice_set, cond, find, ◌==◌, Command, File, parse_of, WireFault, Message, Change, Wanted, server_step, got_step, ended_by, joined, Task, Op, Opening, TakenCall, taken_at, pointed, pointed_at, settled_ops, settled_by, Core, Seat, Session, Event, Event.Joins, Event.Does, Event.Serves, Event.Hears, Event.Settles, Event.Cuts, Event.Hangs, CoreStep, numbered, with_numbered, new_session, session_of, taken_with, server_waiting, serves_if, serves, acted, does, joins_as, joins, settles, cuts_if, cuts, hangs_if, hangs, happens, Moment, deed_by, Book, Queue, ask_message, told_message, ServerStep, connect, calls_by, joined_by}
+use Rattle.kept_promise.proofs.Lists.{some_is, nothing_there, same_or_not, kept_appended, set_else, set_count}
 use Rattle.kept_promise.proofs.PathNames.{IsSmall}
 use Rattle.kept_promise.proofs.Messages.{Job, job, job_of, WaitsFor, content_wanted}
 use Rattle.kept_promise.proofs.Rights.{IsUnmade, gets_file}
@@ -30,6 +30,8 @@ use Rattle.kept_promise.proofs.TakenOut.{SettlesOut, settled_to}
 use Rattle.kept_promise.proofs.Making.{made_change, made_is, entry_of}
 use Rattle.kept_promise.proofs.ServesQuietly.{MadeHere, serves_quiet}
 use Rattle.kept_promise.proofs.SettlesQuietly.{GoesHere, Settling, makes_commit, makes_else, settling}
+use Rattle.kept_promise.proofs.Joins.{connects}
+use Rattle.kept_promise.proofs.Numbering.{no_calls}
 
 -- a session whose change waits remembers the close at this place
 abbrev pub Remembers : Core → (place : ℕ) → Type 0
@@ -203,7 +205,31 @@ pub record IsStill (k : Core) (e : Event) (t : CoreStep) : Type 0 where
   -- no command is told
   pub deedless : (past : List Moment) → deed_by past (k.steps + 1) e ≡ []
 
+-- nothing becomes of any client
+pub record IsIdle (k : Core) (e : Event) (t : CoreStep) : Type 0 where
+  pub still : IsStill k e t
+  pub seats : t.core.seats ≡ k.seats
+  pub links : (i : ℕ) (seat : Seat) → numbered k.seats i ≡ Some seat → seat.client.linked ≡ joined_by i seat.client.linked e
+  pub uncalled : (i n : ℕ) → calls_by i n (moment k e) ≡ n
+  pub count : length t.core.sessions ≡ length k.sessions
+
+-- a client that joins has a session
+abbrev pub joins_now : Core → (c : ℕ) → Seat → CoreStep
+joins_now k c seat = let r = connect k.server true in joins_as k c seat r.0 r.1.told
+
 -- what is to be shown of an event
+pub record EventTurns (all past rest : List Moment) (opening : List Opening) (k : Core) (qs : List Queue) (e : Event) (mid after : List Queue) (Z : Event → CoreStep → Type 0) : Type 0 where
+  pub idle : (t : CoreStep) → IsIdle k e t → Z e t
+  -- a client joins
+  pub joins : (c : ℕ) (seat : Seat) → e ≡ Joins c → Step all past rest opening k qs (Joins c) mid after → numbered k.seats c ≡ Some seat → IsStill k (Joins c) (joins_now k c seat) → Z (Joins c) (joins_now k c seat)
+  -- one is told to do something
+  pub begins : (c now : ℕ) (d : Command) (seat : Seat) → Step all past rest opening k qs (Does c now d) mid after → numbered k.seats c ≡ Some seat → IsSmall d → IsKept (book_at opening (does k c now d (Some seat)).core all) (does k c now d (Some seat)).core after → Z (Does c now d) (does k c now d (Some seat))
+  -- one hears an answer
+  pub hears : (n now : ℕ) (bytes : List ℕ) → Step all past rest opening k qs (Hears n now bytes) mid after → (h : Heard k qs n now bytes mid) → (let r = got_step h.seat.client (Ok (told_message h.told)) now in let t = acted k h.session.owner h.seat r.0 r.1 in IsKept (book_at opening t.core all) t.core after → Z (Hears n now bytes) t)
+  -- one sees its connection lost
+  pub lost : (c : ℕ) (seat : Seat) → Step all past rest opening k qs (Cuts c) mid after → numbered k.seats c ≡ Some seat → IsKept (book_at opening (cuts_if k c seat true).core all) (cuts_if k c seat true).core after → Z (Cuts c) (cuts_if k c seat true)
+
+-- the same where it makes no difference whether a client joins or nothing becomes of one
 pub record EventCases (all past rest : List Moment) (opening : List Opening) (k : Core) (qs : List Queue) (e : Event) (mid after : List Queue) (Z : Event → CoreStep → Type 0) : Type 0 where
   pub still : (t : CoreStep) → IsStill k e t → Z e t
   -- a client is told to do something
@@ -278,18 +304,90 @@ hangs_still k n =
         by true = extends_same k.steps (takens k.sessions z)
         by false = takens_with k.steps n k.sessions x (record x { hung = true }) z.session at (extends_same k.steps x.taken)
 
+-- ---- how many sessions there are
+
+pub with_count : {A : Type 0} (xs : List A) (n : ℕ) (x : A) → length (with_numbered xs n x) ≡ length xs
+with_count xs zero x = refl
+with_count xs (suc n) x = set_count xs n x
+
+serves_count : (k : Core) (n now : ℕ) (bytes : List ℕ) (o : Option Session) → length (serves k n now bytes o).core.sessions ≡ length k.sessions
+serves_count k n now bytes None = refl
+serves_count k n now bytes (Some x) = by (parse_of server_waiting bytes)
+  where
+    by : (m : Result Message WireFault) → length (serves_if k n now x m).core.sessions ≡ length k.sessions
+    by (Ok m) = with_count k.sessions n _
+    by (Err e) = refl
+
+hangs_count : (k : Core) (n : ℕ) (o : Option Session) → length (hangs k n o).core.sessions ≡ length k.sessions
+hangs_count k n None = refl
+hangs_count k n (Some x) = by x.hung
+  where
+    by : (b : Bool) → length (hangs_if k n x b).core.sessions ≡ length k.sessions
+    by true = refl
+    by false = with_count k.sessions n _
+
+-- ---- any event
+
+-- one that isn't joined sees no connection lost
+cut_links : (k : Core) (c : ℕ) (seat : Seat) → numbered k.seats c ≡ Some seat → seat.client.linked ≡ false → (i : ℕ) (z : Seat) → numbered k.seats i ≡ Some z → z.client.linked ≡ joined_by i z.client.linked (Cuts c)
+cut_links k c seat here off i z at = by (c == i) refl
+  where
+    by : (b : Bool) → (c == i) ≡ b → z.client.linked ≡ elim b as (λ (y : Bool). Bool) [ true ↦ false | false ↦ z.client.linked ]
+    by false is = refl
+    by true is = ap (λ (y : Seat). y.client.linked) (some_is z seat (sym at ∙ ap (numbered k.seats) (sym (eqb-true c i is)) ∙ here)) ∙ off
+
 -- any event is one of these
-pub event_cases : FitLaws → (all past rest : List Moment) (opening : List Opening) (k : Core) (qs : List Queue) (e : Event) (mid after : List Queue) → Step all past rest opening k qs e mid after → (Z : Event → CoreStep → Type 0) → EventCases all past rest opening k qs e mid after Z → Z e (happens k e)
-event_cases laws all past rest opening k qs (Joins c) mid after s Z cases = let r = server_step k.server event.Connect in subst (λ (o : Option Seat). Z (Joins c) (joins k c o)) (sym s.finds.1) (cases.still (joins_as k c s.finds.0 r.0 r.1.told) (joins_still (book_at opening k all) k qs c s.finds.0 s.kept s.finds.1 s.finds.2 r.0 r.1.told))
-event_cases laws all past rest opening k qs (Does c now d) mid after s Z cases = subst (λ (o : Option Seat). IsKept (book_at opening (does k c now d o).core all) (does k c now d o).core after → Z (Does c now d) (does k c now d o)) (sym s.finds.1) (cases.begins c now d s.finds.0 s s.finds.1 s.finds.2) s.left
-event_cases laws all past rest opening k qs (Serves n now bytes) mid after s Z cases = cases.still (happens k (Serves n now bytes)) (serves_still laws (book_at opening k all) k qs n now bytes mid s.kept s.finds)
-event_cases laws all past rest opening k qs (Hears n now bytes) mid after s Z cases =
+pub event_turns : FitLaws → (all past rest : List Moment) (opening : List Opening) (k : Core) (qs : List Queue) (e : Event) (mid after : List Queue) → Step all past rest opening k qs e mid after → (Z : Event → CoreStep → Type 0) → EventTurns all past rest opening k qs e mid after Z → Z e (happens k e)
+event_turns laws all past rest opening k qs (Joins c) mid after s Z cases =
+    let seat : Seat = s.finds.0 in
+    let still = joins_still (book_at opening k all) k qs c seat s.kept s.finds.1 s.finds.2 (connect k.server true).0 (connect k.server true).1.told in
+    subst (λ (o : Option Seat). Z (Joins c) (joins k c o)) (sym s.finds.1) (subst (λ (r : server.State × ServerStep). Z (Joins c) (joins_as k c s.finds.0 r.0 r.1.told)) (sym (connects k.server s.finds.3 s.finds.4)) (cases.joins c seat refl s s.finds.1 still))
+event_turns laws all past rest opening k qs (Does c now d) mid after s Z cases = subst (λ (o : Option Seat). IsKept (book_at opening (does k c now d o).core all) (does k c now d o).core after → Z (Does c now d) (does k c now d o)) (sym s.finds.1) (cases.begins c now d s.finds.0 s s.finds.1 s.finds.2) s.left
+event_turns laws all past rest opening k qs (Serves n now bytes) mid after s Z cases =
+    let q = serves_quiet laws (book_at opening k all) k qs n now bytes mid s.kept s.finds in
+    cases.idle (happens k (Serves n now bytes)) (record {
+      still = serves_still laws (book_at opening k all) k qs n now bytes mid s.kept s.finds;
+      seats = q.seats;
+      links = λ i seat at. refl;
+      uncalled = λ i m. no_calls i 0 m (happens k (Serves n now bytes)).up q.up;
+      count = serves_count k n now bytes (numbered k.sessions n);
+    })
+event_turns laws all past rest opening k qs (Hears n now bytes) mid after s Z cases =
     let h = heard_at (book_at opening k all) k qs n now bytes mid s.kept s.finds in
     subst (λ (t : CoreStep). IsKept (book_at opening t.core all) t.core after → Z (Hears n now bytes) t) (sym (heard_acts laws (book_at opening k all) k qs n now bytes mid s.kept h)) (cases.hears n now bytes s h) s.left
-event_cases laws all past rest opening k qs (Settles now) mid after s Z cases = cases.still (settles k now) (record { silent = (refl, refl, refl); up = refl; passes = omega arith; ops = settled_are (book_at opening k all) k qs now s.kept; jobs = λ i z j there is. there; newer = λ i z there. extends_same k.steps (takens k.sessions z); caches = λ i d at. (d, at, refl); deedless = λ past. refl })
-event_cases laws all past rest opening k qs (Cuts c) mid after s Z cases = subst (λ (o : Option Seat). Z (Cuts c) (cuts k c o)) (sym s.finds.1) (by s.finds.0.client.linked)
+event_turns laws all past rest opening k qs (Settles now) mid after s Z cases = cases.idle (settles k now) (record {
+  still = record { silent = (refl, refl, refl); up = refl; passes = omega arith; ops = settled_are (book_at opening k all) k qs now s.kept; jobs = λ i z j there is. there; newer = λ i z there. extends_same k.steps (takens k.sessions z); caches = λ i d at. (d, at, refl); deedless = λ past. refl };
+  seats = refl;
+  links = λ i seat at. refl;
+  uncalled = λ i m. no_calls i 0 m [] refl;
+  count = refl;
+})
+event_turns laws all past rest opening k qs (Cuts c) mid after s Z cases = subst (λ (o : Option Seat). IsKept (book_at opening (cuts k c o).core all) (cuts k c o).core after → Z (Cuts c) (cuts k c o)) (sym s.finds.1) (by s.finds.0.client.linked refl) s.left
   where
-    by : (b : Bool) → Z (Cuts c) (cuts_if k c s.finds.0 b)
-    by true = cases.lost c s.finds.0 s s.finds.1
-    by false = cases.still (cuts_if k c s.finds.0 false) (record { silent = cuts_silent k c; up = refl; passes = omega arith; ops = inl refl; jobs = λ i z j there is. there; newer = λ i z there. extends_same k.steps (takens k.sessions z); caches = λ i d at. (d, at, refl); deedless = λ past. refl })
-event_cases laws all past rest opening k qs (Hangs n) mid after s Z cases = cases.still (hangs k n (numbered k.sessions n)) (hangs_still k n)
+    by : (b : Bool) → s.finds.0.client.linked ≡ b → IsKept (book_at opening (cuts_if k c s.finds.0 b).core all) (cuts_if k c s.finds.0 b).core after → Z (Cuts c) (cuts_if k c s.finds.0 b)
+    by true is left = cases.lost c s.finds.0 s s.finds.1 left
+    by false is left = cases.idle (cuts_if k c s.finds.0 false) (record {
+      still = record { silent = cuts_silent k c; up = refl; passes = omega arith; ops = inl refl; jobs = λ i z j there is. there; newer = λ i z there. extends_same k.steps (takens k.sessions z); caches = λ i d at. (d, at, refl); deedless = λ past. refl };
+      seats = refl;
+      links = cut_links k c s.finds.0 s.finds.1 is;
+      uncalled = λ i m. no_calls i 0 m (happens k (Cuts c)).up (cuts_silent k c).2;
+      count = refl;
+    })
+event_turns laws all past rest opening k qs (Hangs n) mid after s Z cases =
+    let q = hangs_silent k n (numbered k.sessions n) in
+    cases.idle (hangs k n (numbered k.sessions n)) (record {
+      still = hangs_still k n;
+      seats = q.2;
+      links = λ i seat at. refl;
+      uncalled = λ i m. no_calls i 0 m (happens k (Hangs n)).up q.0;
+      count = hangs_count k n (numbered k.sessions n);
+    })
+
+pub event_cases : FitLaws → (all past rest : List Moment) (opening : List Opening) (k : Core) (qs : List Queue) (e : Event) (mid after : List Queue) → Step all past rest opening k qs e mid after → (Z : Event → CoreStep → Type 0) → EventCases all past rest opening k qs e mid after Z → Z e (happens k e)
+event_cases laws all past rest opening k qs e mid after s Z cases = event_turns laws all past rest opening k qs e mid after s Z (record {
+  idle = λ t i. cases.still t i.still;
+  joins = λ c seat is s here still. subst (λ (x : Event). Z x (joins_now k c seat)) is (cases.still (joins_now k c seat) (subst (λ (x : Event). IsStill k x (joins_now k c seat)) (sym is) still));
+  begins = cases.begins;
+  hears = cases.hears;
+  lost = λ c seat s here left. cases.lost c seat s here;
+})

@@ -1,5 +1,5 @@
 -- The commands of a run and their operations are carried through its events.
-use Rattle.std.proofs.Common.{◌⊎◌, inl, inr, ◌≡◌, ℕ, zero, suc, ◌+◌, ◌*◌, ◌<◌, ◌≤◌, List, [], ◌∷◌, ◌++◌, length, Option, Some, None, Bool, true, false, refl, sym, ap, ◌∙◌, subst, arith, append-nil, eq-eqb, ne_eqb, replicate, Result}
+use Rattle.std.proofs.Common.{◌⊎◌, inl, inr, ◌≡◌, ℕ, zero, suc, ◌+◌, ◌*◌, ◌<◌, ◌≤◌, List, [], ◌∷◌, ◌++◌, length, Option, Some, None, Bool, true, false, refl, sym, ap, ◌∙◌, subst, arith, append-nil, eq-eqb, ne_eqb, replicate, Result, Ok}
 use Rattle.command_text.specs.declared.command.Command.TheVariants as command
 use Rattle.server_core.specs.State as server
 use Rattle.client_state.specs.State as client
@@ -7,15 +7,14 @@ use Rattle.client_state.specs.declared.task.Stage.TheVariants as stage
 use Rattle.path_calls.specs.declared.walk.Walk.{Walk}
 use Rattle.client_state.specs.declared.step.Outcome.TheVariants as outcome
 use Rattle.register_model.specs.declared.op.Word.TheVariants as words
-use Rattle.trace_ends.specs.Core.{hears_by}
 use Rattle.transfer_rules.specs.Limits.{calls_most}
-use Rattle.kept_promise.proofs.Common.{nat_tests, Indexed, slice_get, slice_set, ◌==◌, nat_lt, Command, parse_of, Message, WireFault, connect, has_room, ServerStep, command_step, got_step, joined, cut, ended_by, ClientStep, Ended, Task, Op, Opening, word_of, file_of, value_at_begin, Core, Seat, new_seat, Session, Event, Event.Joins, Event.Does, Event.Serves, Event.Hears, Event.Settles, Event.Cuts, Event.Hangs, CoreStep, numbered, with_numbered, acted, is_newest, hears_if, hears_at, hears, does, joins_as, joins, cuts_if, cuts, hangs_if, hangs, happens, place_with, Moment, Deed, deed_by, deeds_of, joined_by, joined_from, owner_in, client_of, calls_among, sent_if, calls_by, calls_from, Book, Queue, Tree, after_one, is_untold}
+use Rattle.kept_promise.proofs.Common.{Indexed, slice_get, slice_set, ◌==◌, Command, Message, WireFault, command_step, got_step, joined, cut, ended_by, ClientStep, Ended, Task, Op, Opening, word_of, file_of, value_at_begin, Core, Seat, new_seat, Session, Event, Event.Joins, Event.Does, Event.Hears, Event.Cuts, CoreStep, numbered, with_numbered, acted, hears, does, joins, cuts_if, happens, place_with, Moment, Deed, deed_by, deeds_of, joined_by, joined_from, owner_in, calls_among, sent_if, calls_by, calls_from, Book, Queue, Tree, after_one, is_untold, told_message}
 use Rattle.kept_promise.proofs.Lists.{some_is, nothing_there, same_or_not, of_appended, within, true_and_false}
 use Rattle.kept_promise.proofs.Keys.{own}
 use Rattle.kept_promise.proofs.Turns.{around_with, also_numbered}
 use Rattle.kept_promise.proofs.Facts.{IsMatched, IsKept, is_naming}
 use Rattle.kept_promise.proofs.Adjusts.{SameSeats, adjusted_core}
-use Rattle.kept_promise.proofs.RunsCarried.{book_at, first_core, moment, Step, Carried, Finds}
+use Rattle.kept_promise.proofs.RunsCarried.{book_at, first_core, moment, Step, Carried}
 use Rattle.kept_promise.proofs.Leaving.{Leaves, step_left, step_idle}
 use Rattle.kept_promise.proofs.Numbering.{got_number, command_number, calls_more, no_calls, other_calls, own_calls}
 use Rattle.kept_promise.proofs.Locally.{deeds_more, joined_more, idles_by, leaves_untold}
@@ -28,11 +27,11 @@ use Rattle.kept_promise.proofs.Acting.{all_set, stay_set, HasWord, caused_word, 
 use Rattle.kept_promise.proofs.Doing.{with_end, asks_by, new_op, fixed, does_follows}
 use Rattle.kept_promise.proofs.Found.{got_finds, cut_finds, command_finds}
 use Rattle.kept_promise.proofs.PathNames.{IsSmall}
-use Rattle.kept_promise.proofs.ServesQuietly.{serves_quiet, IsQuiet}
 use Rattle.kept_promise.proofs.Fits.{FitLaws}
 use Rattle.kept_promise.proofs.MakingGoals.{file_unnamed}
 use Rattle.kept_promise.proofs.Rights.{gets_file}
-use Rattle.kept_promise.proofs.EventCases.{IsChange, Remembers, Settled, settled_are, change_of}
+use Rattle.kept_promise.proofs.EventCases.{IsChange, Remembers, Settled, IsIdle, joins_now, event_turns, cuts_silent}
+use Rattle.kept_promise.proofs.Actors.{Heard, heard_acts}
 
 -- ---- what is carried
 
@@ -109,34 +108,28 @@ goes_by past k e after h none moved deeds ways passes links nexts calls = record
   passes = passes;
 }
 
+idle_links : (past : List Moment) (k : Core) (e : Event) (t : CoreStep) → IsIdle k e t → IsFollowed past k → (c : ℕ) (seat : Seat) → numbered t.core.seats c ≡ Some seat → seat.client.linked ≡ joined_by c (joined_from c false past) e
+idle_links past k e t i h c seat at = let was = ap (λ l. numbered l c) (sym i.seats) ∙ at in i.links c seat was ∙ ap (λ b. joined_by c b e) (h.joined c seat was)
+
+idle_calls : (past : List Moment) (k : Core) (e : Event) (t : CoreStep) → IsIdle k e t → IsFollowed past k → (c : ℕ) (seat : Seat) → numbered t.core.seats c ≡ Some seat → seat.client.next_xid ≡ calls_by c (calls_from c 0 past) (moment k e) + 1
+idle_calls past k e t i h c seat at = h.calls c seat (ap (λ l. numbered l c) (sym i.seats) ∙ at) ∙ ap (λ n. n + 1) (sym (i.uncalled c (calls_from c 0 past)))
+
 -- the operations and the clients are as they were
-goes_same : (past : List Moment) (k : Core) (e : Event) (after : Core) → IsFollowed past k → deed_by past (k.steps + 1) e ≡ [] → ((c : ℕ) (b : Bool) → joined_by c b e ≡ b) → ((c n : ℕ) → calls_by c n (moment k e) ≡ n) → after.ops ≡ k.ops → after.seats ≡ k.seats → k.steps ≤ after.steps → Goes past k e after
+goes_same : (past : List Moment) (k : Core) (e : Event) (t : CoreStep) → IsIdle k e t → IsFollowed past k → t.core.ops ≡ k.ops → Goes past k e t.core
 unfolding calls_most
-goes_same past k e after h none still silent ops seats passes =
-    goes_by past k e after h none (subst (AllMoved (k.steps + 1) k.ops) (sym ops) (all_same (k.steps + 1) k.ops)) (subst (λ (l : List Seat). HasDeeds (deeds_of past) after.ops l) (sym seats) (subst (λ (l : List Op). HasDeeds (deeds_of past) l k.seats) (sym ops) h.deeds)) (subst (HasWays (deeds_of past)) (sym seats) h.ways) passes
-    (λ c seat at. h.joined c seat (ap (λ l. numbered l c) (sym seats) ∙ at) ∙ sym (still c (joined_from c false past)))
-    (λ c seat at. let n = h.next c seat (ap (λ l. numbered l c) (sym seats) ∙ at) in omega (arith, n, passes))
-    (λ c seat at. h.calls c seat (ap (λ l. numbered l c) (sym seats) ∙ at) ∙ ap (λ n. n + 1) (sym (silent c (calls_from c 0 past))))
-
-hangs_same : (k : Core) (n : ℕ) (o : Option Session) → (let t = hangs k n o in (t.core.ops ≡ k.ops) × (t.core.seats ≡ k.seats) × (k.steps ≤ t.core.steps) × (t.up ≡ []))
-hangs_same k n None = (refl, refl, omega arith, refl)
-hangs_same k n (Some x) = by x.hung
-  where
-    by : (b : Bool) → (let t = hangs_if k n x b in (t.core.ops ≡ k.ops) × (t.core.seats ≡ k.seats) × (k.steps ≤ t.core.steps) × (t.up ≡ []))
-    by true = (refl, refl, omega arith, refl)
-    by false = (refl, refl, omega arith, refl)
-
-goes_hangs : (past : List Moment) (k : Core) (n : ℕ) → IsFollowed past k → Goes past k (Hangs n) (happens k (Hangs n)).core
-goes_hangs past k n h = let s = hangs_same k n (numbered k.sessions n) in goes_same past k (Hangs n) (happens k (Hangs n)).core h refl (λ c b. refl) (λ c m. no_calls c 0 m (happens k (Hangs n)).up s.3) s.0 s.1 s.2
+goes_same past k e t i h ops =
+    let passes = i.still.passes in
+    goes_by past k e t.core h (i.still.deedless past) (subst (AllMoved (k.steps + 1) k.ops) (sym ops) (all_same (k.steps + 1) k.ops)) (subst (λ (l : List Seat). HasDeeds (deeds_of past) t.core.ops l) (sym i.seats) (subst (λ (l : List Op). HasDeeds (deeds_of past) l k.seats) (sym ops) h.deeds)) (subst (HasWays (deeds_of past)) (sym i.seats) h.ways) passes
+    (λ c seat at. idle_links past k e t i h c seat at)
+    (λ c seat at. let n = h.next c seat (ap (λ l. numbered l c) (sym i.seats) ∙ at) in omega (arith, n, passes))
+    (λ c seat at. idle_calls past k e t i h c seat at)
 
 -- ---- a client joins
 
-goes_joins : (past : List Moment) (opening : List Opening) (all : List Moment) (k : Core) (qs : List Queue) (c : ℕ) (seat : Seat) → IsKept (book_at opening k all) k qs → IsFollowed past k → numbered k.seats c ≡ Some seat → k.server.sessions_made < 4294967295 → length k.server.sessions < 64 → Goes past k (Joins c) (happens k (Joins c)).core
+goes_joins : (past : List Moment) (opening : List Opening) (all : List Moment) (k : Core) (qs : List Queue) (c : ℕ) (seat : Seat) → IsKept (book_at opening k all) k qs → IsFollowed past k → numbered k.seats c ≡ Some seat → Goes past k (Joins c) (joins_now k c seat).core
 unfolding calls_most
-goes_joins past opening all k qs c seat kept h at made few =
-    subst (λ (o : Option Seat). Goes past k (Joins c) (joins k c o).core) (sym at)
-    (subst (λ (r : server.State × ServerStep). Goes past k (Joins c) (joins_as k c seat r.0 r.1.told).core) (sym step)
-    (goes_by past k (Joins c) after h refl (all_same (k.steps + 1) k.ops)
+goes_joins past opening all k qs c seat kept h at =
+    goes_by past k (Joins c) after h refl (all_same (k.steps + 1) k.ops)
     (deeds_moved (k.steps + 1) (deeds_of past) k.ops k.ops k.seats after.seats h.deeds (begins opening k all qs kept) (all_same (k.steps + 1) k.ops) (all_stay (deeds_of past) k.ops) (locals_with (deeds_of past) k.ops k.seats c seat now at (h.deeds.locals c seat at) (λ z e apart is. h.deeds.locals z e is)))
     (λ z e j d is has has_deed. elim (same_or_not z c) [
       | inl own ↦ h.ways c seat j d at (ap job (sym (there z e own is)) ∙ has) has_deed
@@ -154,17 +147,10 @@ goes_joins past opening all k qs c seat kept h at made few =
     (λ z e is. elim (same_or_not z c) [
       | inl own ↦ ap (λ (x : Seat). x.client.next_xid) (there z e own is) ∙ sym (ap (λ b. elim b as (λ (y : Bool). ℕ) [ true ↦ 0 | false ↦ calls_from z 0 past ] + 1) (eq-eqb c z (sym own)))
       | inr apart ↦ h.calls z e (sym (around.others z apart) ∙ is) ∙ sym (ap (λ b. elim b as (λ (y : Bool). ℕ) [ true ↦ 0 | false ↦ calls_from z 0 past ] + 1) (ne_eqb c z (λ q. apart (sym q))))
-    ])))
+    ])
   where
-    step : connect k.server (has_room k.server) ≡ connect k.server true
-    step =
-        let a : nat_lt (length k.server.sessions) 64 ≡ true = grind (arith, nat_tests, few) in
-        let b : nat_lt k.server.sessions_made 4294967295 ≡ true = grind (arith, nat_tests, made) in
-        let room : has_room k.server ≡ true = rw (a, b) refl in
-        ap (connect k.server) room
-
     after : Core
-    after = (let r = connect k.server true in joins_as k c seat r.0 r.1.told).core
+    after = (joins_now k c seat).core
 
     now : Seat
     now = record seat { client = joined seat.client; session = Some (k.server.sessions_made + 1) }
@@ -178,18 +164,19 @@ goes_joins past opening all k qs c seat kept h at made few =
 -- ---- a change is made
 
 -- one operation takes the place of another that leaves the same
-goes_set : (past : List Moment) (opening : List Opening) (all : List Moment) (k : Core) (qs : List Queue) (e : Event) (after : Core) (p : ℕ) (q r : Op) → IsKept (book_at opening k all) k qs → IsFollowed past k → deed_by past (k.steps + 1) e ≡ [] → ((c : ℕ) (b : Bool) → joined_by c b e ≡ b) → ((c n : ℕ) → calls_by c n (moment k e) ≡ n) → slice_get k.ops p ≡ Some q → Moved (k.steps + 1) q r
+goes_set : (past : List Moment) (opening : List Opening) (all : List Moment) (k : Core) (qs : List Queue) (e : Event) (t : CoreStep) (p : ℕ) (q r : Op) → IsKept (book_at opening k all) k qs → IsFollowed past k → IsIdle k e t → slice_get k.ops p ≡ Some q → Moved (k.steps + 1) q r
     → ((d : Deed) → IsDeed (deeds_of past) k.ops p d q → StaysBy d.command q r) → ((d : Deed) (c f : ℕ) (l : Option (List ℕ)) → after_one c f d r l ≡ after_one c f d q l)
-    → after.ops ≡ slice_set k.ops p r → after.seats ≡ k.seats → k.steps ≤ after.steps → Goes past k e after
+    → t.core.ops ≡ slice_set k.ops p r → Goes past k e t.core
 unfolding calls_most
-goes_set past opening all k qs e after p q r kept h none still silent at m stay same ops seats passes =
+goes_set past opening all k qs e t p q r kept h i at m stay same ops =
     let moved = all_set (k.steps + 1) k.ops p q r at m in
     let d = also_there k.ops (deeds_of past) p q (sym h.deeds.count) at in
+    let passes = i.still.passes in
     let now = deeds_moved (k.steps + 1) (deeds_of past) k.ops (slice_set k.ops p r) k.seats k.seats h.deeds (begins opening k all qs kept) moved (stay_set (deeds_of past) k.ops p d.0 q r d.1 at (stay d.0 (h.deeds.each p d.0 q d.1 at))) (λ c seat is f. h.deeds.locals c seat is f ∙ sym (set_same c f None (deeds_of past) k.ops p d.0 q r d.1 at (same d.0 c f))) in
-    goes_by past k e after h none (subst (AllMoved (k.steps + 1) k.ops) (sym ops) moved) (subst (λ (l : List Seat). HasDeeds (deeds_of past) after.ops l) (sym seats) (subst (λ (l : List Op). HasDeeds (deeds_of past) l k.seats) (sym ops) now)) (subst (HasWays (deeds_of past)) (sym seats) h.ways) passes
-    (λ c seat is. h.joined c seat (ap (λ l. numbered l c) (sym seats) ∙ is) ∙ sym (still c (joined_from c false past)))
-    (λ c seat is. let n = h.next c seat (ap (λ l. numbered l c) (sym seats) ∙ is) in omega (arith, n, passes))
-    (λ c seat is. h.calls c seat (ap (λ l. numbered l c) (sym seats) ∙ is) ∙ ap (λ n. n + 1) (sym (silent c (calls_from c 0 past))))
+    goes_by past k e t.core h (i.still.deedless past) (subst (AllMoved (k.steps + 1) k.ops) (sym ops) moved) (subst (λ (l : List Seat). HasDeeds (deeds_of past) t.core.ops l) (sym i.seats) (subst (λ (l : List Op). HasDeeds (deeds_of past) l k.seats) (sym ops) now)) (subst (HasWays (deeds_of past)) (sym i.seats) h.ways) passes
+    (λ c seat is. idle_links past k e t i h c seat is)
+    (λ c seat is. let n = h.next c seat (ap (λ l. numbered l c) (sym i.seats) ∙ is) in omega (arith, n, passes))
+    (λ c seat is. idle_calls past k e t i h c seat is)
 
 -- what gets its file from the server is on names
 makes_named : (d : Command) → gets_file (word_of d) ≡ true → IsOnNames d
@@ -197,34 +184,25 @@ makes_named (command.Named k) e = tt
 makes_named _ e = absurd cc
 
 -- an operation's change was made, of which its client was told nothing yet
-goes_change : (past : List Moment) (opening : List Opening) (all : List Moment) (k : Core) (qs : List Queue) (e : Event) (after : Core) → IsKept (book_at opening k all) k qs → IsFollowed past k → deed_by past (k.steps + 1) e ≡ [] → ((c : ℕ) (b : Bool) → joined_by c b e ≡ b) → ((c n : ℕ) → calls_by c n (moment k e) ≡ n) → IsChange k after.ops → after.seats ≡ k.seats → k.steps ≤ after.steps → Goes past k e after
-goes_change past opening all k qs e after kept h none still silent c seats passes =
+goes_change : (past : List Moment) (opening : List Opening) (all : List Moment) (k : Core) (qs : List Queue) (e : Event) (t : CoreStep) → IsKept (book_at opening k all) k qs → IsFollowed past k → IsIdle k e t → IsChange k t.core.ops → Goes past k e t.core
+goes_change past opening all k qs e t kept h i c =
     let new : Op = record c.op { file = c.file; point = Some (k.steps + 1) } in
-    goes_set past opening all k qs e after c.place c.op new kept h none still silent c.there
+    goes_set past opening all k qs e t c.place c.op new kept h i c.there
     (record { client = refl; word = refl; begin = refl; value = λ w. refl; ended = λ n is. (is, refl, refl, λ known. absurd (true_and_false (is_untold c.op.outcome) c.unmade.2 known)); ends = λ n. inl n })
     (λ d deed. stays d deed c.kind)
     (λ d z f l. idles_by z f d new (λ x. leaves_untold d.command c.op.outcome c.op.value x c.unmade.2) l ∙ sym (idles_by z f d c.op (λ x. leaves_untold d.command c.op.outcome c.op.value x c.unmade.2) l))
-    c.is seats passes
+    c.is
   where
     stays : (d : Deed) → IsDeed (deeds_of past) k.ops c.place d c.op → ((c.op.word ≡ words.Close) × (c.file ≡ c.op.file) × Remembers k c.place) ⊎ ((gets_file c.op.word ≡ true) × (c.op.file ≡ 0)) → StaysBy d.command c.op (record c.op { file = c.file; point = Some (k.steps + 1) })
     stays d deed (inl own) = stays_by d.command c.op (record c.op { file = c.file; point = Some (k.steps + 1) }) own.1 (λ x. x)
     stays d deed (inr make) = stays_named d.command c.op (record c.op { file = c.file; point = Some (k.steps + 1) }) (makes_named d.command (ap gets_file (sym deed.word) ∙ make.0))
 
-goes_settles : (past : List Moment) (opening : List Opening) (all : List Moment) (k : Core) (qs : List Queue) (now : ℕ) → IsKept (book_at opening k all) k qs → IsFollowed past k → Goes past k (Settles now) (happens k (Settles now)).core
-goes_settles past opening all k qs now kept h = by (settled_are (book_at opening k all) k qs now kept)
+goes_idle : (past : List Moment) (opening : List Opening) (all : List Moment) (k : Core) (qs : List Queue) (e : Event) (t : CoreStep) → IsKept (book_at opening k all) k qs → IsFollowed past k → IsIdle k e t → Goes past k e t.core
+goes_idle past opening all k qs e t kept h i = by i.still.ops
   where
-    by : Settled k (happens k (Settles now)).core.ops → Goes past k (Settles now) (happens k (Settles now)).core
-    by (inl same) = goes_same past k (Settles now) (happens k (Settles now)).core h refl (λ c b. refl) (λ c m. no_calls c 0 m [] refl) same refl (omega arith)
-    by (inr c) = goes_change past opening all k qs (Settles now) (happens k (Settles now)).core kept h refl (λ c b. refl) (λ c m. no_calls c 0 m [] refl) c refl (omega arith)
-
-goes_serves : FitLaws → (past : List Moment) (opening : List Opening) (all : List Moment) (k : Core) (qs : List Queue) (n now : ℕ) (bytes : List ℕ) (mid : List Queue) → IsKept (book_at opening k all) k qs → Finds k qs (Serves n now bytes) mid → IsFollowed past k → Goes past k (Serves n now bytes) (happens k (Serves n now bytes)).core
-goes_serves laws past opening all k qs n now bytes mid kept finds h = by (serves_quiet laws (book_at opening k all) k qs n now bytes mid kept finds)
-  where
-    by : IsQuiet k (happens k (Serves n now bytes)) → Goes past k (Serves n now bytes) (happens k (Serves n now bytes)).core
-    by s = elim s.ops [
-      | inl same ↦ goes_same past k (Serves n now bytes) (happens k (Serves n now bytes)).core h refl (λ c b. refl) (λ c m. no_calls c 0 m (happens k (Serves n now bytes)).up s.up) same s.seats s.passes
-      | inr made ↦ goes_change past opening all k qs (Serves n now bytes) (happens k (Serves n now bytes)).core kept h refl (λ c b. refl) (λ c m. no_calls c 0 m (happens k (Serves n now bytes)).up s.up) (change_of made) s.seats s.passes
-    ]
+    by : Settled k t.core.ops → Goes past k e t.core
+    by (inl same) = goes_same past k e t i h same
+    by (inr c) = goes_change past opening all k qs e t kept h i c
 
 -- ---- a step of a client
 
@@ -269,12 +247,6 @@ cuts_off past c seats seat now links here off z e is = elim (same_or_not z c) [
     around : Rattle.kept_promise.proofs.Turns.Around seats (with_numbered seats c now) c now
     around = around_with seats c seat now here
 
-cut_stays : (past : List Moment) (c : ℕ) (seats : List Seat) (seat : Seat) → ((z : ℕ) (e : Seat) → numbered seats z ≡ Some e → e.client.linked ≡ joined_from z false past) → numbered seats c ≡ Some seat → seat.client.linked ≡ false → (z : ℕ) (e : Seat) → numbered seats z ≡ Some e → e.client.linked ≡ joined_by z (joined_from z false past) (Cuts c)
-cut_stays past c seats seat links here off z e is = elim (same_or_not z c) [
-  | inl own ↦ ap (λ (x : Seat). x.client.linked) (some_is e seat (sym is ∙ ap (numbered seats) own ∙ here)) ∙ off ∙ sym (ap (λ b. elim b as (λ (y : Bool). Bool) [ true ↦ false | false ↦ joined_from z false past ]) (eq-eqb c z (sym own)))
-  | inr apart ↦ links z e is ∙ sym (ap (λ b. elim b as (λ (y : Bool). Bool) [ true ↦ false | false ↦ joined_from z false past ]) (ne_eqb c z (λ q. apart (sym q))))
-]
-
 ended_idle : (task : Option Task) (e : Ended) → task ≡ None → (ended_by task e).ended ≡ None
 ended_idle None e is = refl
 ended_idle (Some t) e is = absurd cc
@@ -283,19 +255,9 @@ ended_busy : (opened : List (ℕ × Rattle.client_state.specs.declared.task.Loca
 ended_busy opened file (Some x) t e = refl
 ended_busy opened file None t e = absurd cc
 
--- nothing is sent
-cuts_silent : (k : Core) (c : ℕ) (o : Option Seat) → (cuts k c o).up ≡ []
-cuts_silent k c None = refl
-cuts_silent k c (Some seat) = by seat.client.linked seat.client.task
-  where
-    by : (b : Bool) (task : Option Task) → (cuts_if k c (record seat { client = record seat.client { task = task } }) b).up ≡ []
-    by false task = refl
-    by true None = refl
-    by true (Some t) = refl
-
-goes_cuts : (past : List Moment) (opening : List Opening) (all : List Moment) (k : Core) (qs after : List Queue) (c : ℕ) (seat : Seat) → IsKept (book_at opening k all) k qs → IsFollowed past k → numbered k.seats c ≡ Some seat → (b : Bool) → seat.client.linked ≡ b → IsKept (book_at opening (cuts_if k c seat b).core all) (cuts_if k c seat b).core after → Goes past k (Cuts c) (cuts_if k c seat b).core
+goes_cuts : (past : List Moment) (opening : List Opening) (all : List Moment) (k : Core) (qs after : List Queue) (c : ℕ) (seat : Seat) → IsKept (book_at opening k all) k qs → IsFollowed past k → numbered k.seats c ≡ Some seat → IsKept (book_at opening (cuts_if k c seat true).core all) (cuts_if k c seat true).core after → Goes past k (Cuts c) (cuts_if k c seat true).core
 unfolding calls_most
-goes_cuts past opening all k qs after c seat kept h here true e left =
+goes_cuts past opening all k qs after c seat kept h here left =
     let r = cut seat.client in
     let a = acts_by opening all (deeds_of past) k qs c seat r.0 r.1 kept here (λ f. (refl, ended_idle seat.client.task _ f)) (λ x p f g. inl (cut_finds seat.client, λ file is. ended_busy seat.client.opened file seat.client.task x f)) (ops_words opening (cuts_if k c seat true).core all after left) in
     let f = acted_follows (deeds_of past) k c seat r.0 r.1 h.deeds a in
@@ -311,10 +273,7 @@ goes_cuts past opening all k qs after c seat kept h here true e left =
     ])
   where
     silent : (z : ℕ) → calls_from z 0 past + 1 ≡ calls_by z (calls_from z 0 past) (moment k (Cuts c)) + 1
-    silent z = ap (λ n. n + 1) (sym (no_calls z 0 (calls_from z 0 past) (happens k (Cuts c)).up (cuts_silent k c (numbered k.seats c))))
-goes_cuts past opening all k qs after c seat kept h here false e left =
-    goes_by past k (Cuts c) (cuts_if k c seat false).core h refl (all_same (k.steps + 1) k.ops) h.deeds h.ways (omega arith) (cut_stays past c k.seats seat h.joined here e) (λ z x is. let n = h.next z x is in omega (arith, n))
-    (λ z x is. h.calls z x is ∙ ap (λ n. n + 1) (sym (no_calls z 0 (calls_from z 0 past) (happens k (Cuts c)).up (cuts_silent k c (numbered k.seats c)))))
+    silent z = ap (λ n. n + 1) (sym (no_calls z 0 (calls_from z 0 past) (happens k (Cuts c)).up (cuts_silent k c).2))
 
 -- ---- an answer comes
 
@@ -343,17 +302,21 @@ still_joined book more k after qs ts c seat now kept left here there sessions = 
     by true false e f = let l = has_session more after ts now left there e in sym (uncut book k qs seat kept here l.0 l.1 (ap (λ (z : List Session). numbered z l.0) (sym sessions) ∙ l.2) l.3 l.4) ∙ f
     by false true e f = let l = has_session book k qs seat kept here f in sym e ∙ uncut more after ts now left there l.0 l.1 (ap (λ (z : List Session). numbered z l.0) sessions ∙ l.2) l.3 l.4
 
-heard_by : (past : List Moment) (opening : List Opening) (all : List Moment) (k : Core) (qs after : List Queue) (n now c : ℕ) (bytes : List ℕ) (seat : Seat) → IsKept (book_at opening k all) k qs → IsFollowed past k → numbered k.seats c ≡ Some seat → client_of k (Hears n now bytes) ≡ c → happens k (Hears n now bytes) ≡ hears_by k c now seat bytes → IsKept (book_at opening (hears_by k c now seat bytes).core all) (hears_by k c now seat bytes).core after → Goes past k (Hears n now bytes) (hears_by k c now seat bytes).core
-heard_by past opening all k qs after n now c bytes seat kept h here owner is_by left =
-    let m = parse_of (client.waiting_of seat.client) bytes in
-    let r = got_step seat.client m now in
-    let a = acts_by opening all (deeds_of past) k qs c seat r.0 r.1 kept here (λ f. let i = step_idle seat.client m now f in (i.1, i.2)) (λ x p f g. busy m x p f g (stage_case x.stage)) (ops_words opening (hears_by k c now seat bytes).core all after left) in
+goes_hears : FitLaws → (past : List Moment) (opening : List Opening) (all : List Moment) (k : Core) (qs mid after : List Queue) (n now : ℕ) (bytes : List ℕ) → IsKept (book_at opening k all) k qs → IsFollowed past k → (w : Heard k qs n now bytes mid)
+    → (let r = got_step w.seat.client (Ok (told_message w.told)) now in let t = acted k w.session.owner w.seat r.0 r.1 in IsKept (book_at opening t.core all) t.core after → Goes past k (Hears n now bytes) t.core)
+goes_hears laws past opening all k qs mid after n now bytes kept h w left =
+    let c : ℕ = w.session.owner in
+    let seat : Seat = w.seat in
+    let here = w.owner in
+    let m : Result Message WireFault = Ok (told_message w.told) in
+    let r = got_step w.seat.client (Ok (told_message w.told)) now in
+    let a = acts_by opening all (deeds_of past) k qs c seat r.0 r.1 kept here (λ f. let i = step_idle seat.client m now f in (i.1, i.2)) (λ x p f g. busy m x p f g (stage_case x.stage)) (ops_words opening (acted k c seat r.0 r.1).core all after left) in
     let f = acted_follows (deeds_of past) k c seat r.0 r.1 h.deeds a in
     let then : Seat = record seat { client = r.0; place = Rattle.trace_ends.specs.Ops.place_after seat.place r.1.ended } in
     let around = around_with k.seats c seat then here in
-    goes_by past k (Hears n now bytes) (hears_by k c now seat bytes).core h refl f.moved f.deeds (ways_acted (deeds_of past) k.seats c seat r.0 r.1 h.ways here (occupied seat (kept.seats c seat here).matched) (λ t u e known at. got_file seat.client m now t e known u at)) (omega arith)
+    goes_by past k (Hears n now bytes) (acted k c seat r.0 r.1).core h refl f.moved f.deeds (ways_acted (deeds_of past) k.seats c seat r.0 r.1 h.ways here (occupied seat (kept.seats c seat here).matched) (λ t u e known at. got_file seat.client m now t e known u at)) (omega arith)
     (λ z x is. elim (same_or_not z c) [
-      | inl mine ↦ ap (λ (y : Seat). y.client.linked) (some_is x then (sym is ∙ ap (numbered (with_numbered k.seats c then)) mine ∙ around.there)) ∙ still_joined (book_at opening k all) (book_at opening (hears_by k c now seat bytes).core all) k (hears_by k c now seat bytes).core qs after c seat then kept left here around.there refl ∙ h.joined c seat here ∙ ap (λ (y : ℕ). joined_from y false past) (sym mine)
+      | inl mine ↦ ap (λ (y : Seat). y.client.linked) (some_is x then (sym is ∙ ap (numbered (with_numbered k.seats c then)) mine ∙ around.there)) ∙ still_joined (book_at opening k all) (book_at opening (acted k c seat r.0 r.1).core all) k (acted k c seat r.0 r.1).core qs after c seat then kept left here around.there refl ∙ h.joined c seat here ∙ ap (λ (y : ℕ). joined_from y false past) (sym mine)
       | inr apart ↦ h.joined z x (sym (around.others z apart) ∙ is)
     ])
     (λ z x is. elim (same_or_not z c) [
@@ -371,8 +334,14 @@ heard_by past opening all k qs after n now c bytes seat kept h here owner is_by 
       | inr apart ↦ let n = h.calls z x (sym (around.others z apart) ∙ is) in let p = other_calls z c (calls_from z 0 past) r.1.send apart in let s = sent z in omega (arith, n, p, s)
     ])
   where
-    sent : (z : ℕ) → calls_by z (calls_from z 0 past) (moment k (Hears n now bytes)) ≡ calls_from z 0 past + sent_if (c == z) (got_step seat.client (parse_of (client.waiting_of seat.client) bytes) now).1.send
-    sent z = ap (λ i. calls_from z 0 past + sent_if (i == z) (happens k (Hears n now bytes)).up) owner ∙ ap (λ (t : CoreStep). calls_from z 0 past + sent_if (c == z) t.up) is_by
+    seat : Seat
+    seat = w.seat
+
+    here : numbered k.seats w.session.owner ≡ Some w.seat
+    here = w.owner
+
+    sent : (z : ℕ) → calls_by z (calls_from z 0 past) (moment k (Hears n now bytes)) ≡ calls_from z 0 past + sent_if (w.session.owner == z) (got_step w.seat.client (Ok (told_message w.told)) now).1.send
+    sent z = ap (λ i. calls_from z 0 past + sent_if (i == z) (happens k (Hears n now bytes)).up) (ap owner_in w.at) ∙ ap (λ (t : CoreStep). calls_from z 0 past + sent_if (w.session.owner == z) t.up) (heard_acts laws (book_at opening k all) k qs n now bytes mid kept w)
 
     more : (m : Result Message WireFault) (task : Option Task) → seat.client.task ≡ task → (got_step seat.client m now).0.next_xid ≤ seat.client.next_xid + calls_most
     more m None e = let i = (step_idle seat.client m now e).0 in omega (arith, i)
@@ -388,32 +357,13 @@ heard_by past opening all k qs after n now c bytes seat kept h here owner is_by 
     busy m x p f g (inr walk) =
         let left = walk_left seat.client m now x walk.0 walk.1 f walk.2 in
         inr (
-          (λ d at. elim (h.ways c seat (record { place = p; file = x.file; stage = x.stage }) d here (ap (λ (l : Option ℕ). job_of l seat.client.task) g ∙ ap (job_of (Some p)) f) at) [
+          (λ d at. elim (h.ways w.session.owner seat (record { place = p; file = x.file; stage = x.stage }) d here (ap (λ (l : Option ℕ). job_of l seat.client.task) g ∙ ap (job_of (Some p)) f) at) [
             | inl known ↦ absurd (subst IsOfFile walk.2 known)
             | inr names ↦ names
           ]),
           left.1,
           left.2,
         )
-
--- what nobody hears sends nothing
-unheard : (k : Core) (n now : ℕ) (bytes : List ℕ) → (happens k (Hears n now bytes)).up ≡ [] → (z m : ℕ) → calls_by z m (moment k (Hears n now bytes)) ≡ m
-unheard k n now bytes none z m = no_calls z (client_of k (Hears n now bytes)) m (happens k (Hears n now bytes)).up none
-
-goes_hears : (past : List Moment) (opening : List Opening) (all : List Moment) (k : Core) (qs after : List Queue) (n now : ℕ) (bytes : List ℕ) → IsKept (book_at opening k all) k qs → IsFollowed past k → (o : Option Session) → numbered k.sessions n ≡ o → IsKept (book_at opening (hears k n now bytes o).core all) (hears k n now bytes o).core after → Goes past k (Hears n now bytes) (hears k n now bytes o).core
-goes_hears past opening all k qs after n now bytes kept h None at left = goes_same past k (Hears n now bytes) k h refl (λ c b. refl) (unheard k n now bytes (ap (λ (o : Option Session). (hears k n now bytes o).up) at)) refl refl (omega arith)
-goes_hears past opening all k qs after n now bytes kept h (Some x) at left = by_seat (numbered k.seats x.owner) refl left
-  where
-    is_at : happens k (Hears n now bytes) ≡ hears_at k n x.owner now bytes (numbered k.seats x.owner)
-    is_at = ap (hears k n now bytes) at
-
-    by_newest : (seat : Seat) → numbered k.seats x.owner ≡ Some seat → (b : Bool) → is_newest seat.session n ≡ b → IsKept (book_at opening (hears_if k x.owner now seat bytes b).core all) (hears_if k x.owner now seat bytes b).core after → Goes past k (Hears n now bytes) (hears_if k x.owner now seat bytes b).core
-    by_newest seat here true e left = heard_by past opening all k qs after n now x.owner bytes seat kept h here (ap owner_in at) (is_at ∙ ap (hears_at k n x.owner now bytes) here ∙ ap (hears_if k x.owner now seat bytes) e) left
-    by_newest seat here false e left = goes_same past k (Hears n now bytes) k h refl (λ c b. refl) (unheard k n now bytes (ap (λ (t : CoreStep). t.up) (is_at ∙ ap (hears_at k n x.owner now bytes) here ∙ ap (hears_if k x.owner now seat bytes) e))) refl refl (omega arith)
-
-    by_seat : (o : Option Seat) → numbered k.seats x.owner ≡ o → IsKept (book_at opening (hears_at k n x.owner now bytes o).core all) (hears_at k n x.owner now bytes o).core after → Goes past k (Hears n now bytes) (hears_at k n x.owner now bytes o).core
-    by_seat None here left = goes_same past k (Hears n now bytes) k h refl (λ c b. refl) (unheard k n now bytes (ap (λ (t : CoreStep). t.up) (is_at ∙ ap (hears_at k n x.owner now bytes) here))) refl refl (omega arith)
-    by_seat (Some seat) here left = by_newest seat here (is_newest seat.session n) refl left
 
 -- ---- a command
 
@@ -473,17 +423,13 @@ goes_does past opening all k qs c now d seat small kept h here =
 -- ---- any event
 
 pub goes : FitLaws → (all past rest : List Moment) (opening : List Opening) (k : Core) (qs : List Queue) (e : Event) (mid after : List Queue) → Step all past rest opening k qs e mid after → IsFollowed past k → Goes past k e (happens k e).core
-goes laws all past rest opening k qs (Joins c) mid after s h = let f = s.finds in goes_joins past opening all k qs c f.0 s.kept h f.1 f.3 f.4
-goes laws all past rest opening k qs (Does c now d) mid after s h = let f = s.finds in subst (λ (o : Option Seat). Goes past k (Does c now d) (does k c now d o).core) (sym f.1) (goes_does past opening all k qs c now d f.0 f.2 s.kept h f.1)
-goes laws all past rest opening k qs (Serves n now bytes) mid after s h = goes_serves laws past opening all k qs n now bytes mid s.kept s.finds h
-goes laws all past rest opening k qs (Hears n now bytes) mid after s h = goes_hears past opening all k qs after n now bytes s.kept h (numbered k.sessions n) refl s.left
-goes laws all past rest opening k qs (Settles now) mid after s h = goes_settles past opening all k qs now s.kept h
-goes laws all past rest opening k qs (Cuts c) mid after s h = by (numbered k.seats c) s.finds.1 s.left
-  where
-    by : (o : Option Seat) → o ≡ Some s.finds.0 → IsKept (book_at opening (cuts k c o).core all) (cuts k c o).core after → Goes past k (Cuts c) (cuts k c o).core
-    by None e left = nothing_there s.finds.0 e
-    by (Some seat) e left = goes_cuts past opening all k qs after c seat s.kept h (s.finds.1 ∙ sym e) seat.client.linked refl left
-goes laws all past rest opening k qs (Hangs n) mid after s h = goes_hangs past k n h
+goes laws all past rest opening k qs e mid after s h = event_turns laws all past rest opening k qs e mid after s (λ e t. Goes past k e t.core) (record {
+  idle = λ t i. goes_idle past opening all k qs e t s.kept h i;
+  joins = λ c seat is s here still. goes_joins past opening all k qs c seat s.kept h here;
+  begins = λ c now d seat s here small left. goes_does past opening all k qs c now d seat small s.kept h here;
+  hears = λ n now bytes s w left. goes_hears laws past opening all k qs mid after n now bytes s.kept h w left;
+  lost = λ c seat s here left. goes_cuts past opening all k qs after c seat s.kept h here left;
+})
 
 -- it looks at no index, and at nothing that is kept
 pub followed_adjusted : (past : List Moment) (k : Core) (index : Indexed) (seats : List Seat) → SameSeats k.seats seats → IsFollowed past k → IsFollowed past (adjusted_core k index seats)

@@ -234,13 +234,18 @@ core_joined book k qs r seats sessions h =
     ∙ ap (λ (o : List Op). record { server = r; seats = seats; sessions = sessions; steps = k.steps + 2; ops = o; entries = book.entries }) h.ops
     ∙ ap (λ (e : List ℕ). record { server = r; seats = seats; sessions = sessions; steps = k.steps + 2; ops = k.ops; entries = e }) h.entries
 
+-- below the limits the server makes a session
+pub connects : (s : server.State) → s.sessions_made < 4294967295 → length s.sessions < 64 → connect s (has_room s) ≡ connect s true
+connects s made few =
+    let a : nat_lt (length s.sessions) 64 ≡ true = grind (arith, nat_tests, few) in
+    let b : nat_lt s.sessions_made 4294967295 ≡ true = grind (arith, nat_tests, made) in
+    let room : has_room s ≡ true = rw (a, b) refl in
+    ap (connect s) room
+
 leads_joined : (book : Book) (k : Core) (qs : List Queue) (c : ℕ) (seat : Seat) → IsKept book k qs → numbered k.seats c ≡ Some seat → seat.client.linked ≡ false → k.server.sessions_made < 4294967295 → length k.server.sessions < 64 → Leads book qs (joins k c (Some seat))
 leads_joined book k qs c seat kept at unlinked made few =
     let n : ℕ = k.server.sessions_made + 1 in
-    let a : nat_lt (length k.server.sessions) 64 ≡ true = grind (arith, nat_tests, few) in
-    let b : nat_lt k.server.sessions_made 4294967295 ≡ true = grind (arith, nat_tests, made) in
-    let room : has_room k.server ≡ true = rw (a, b) refl in
-    let step : connect k.server (has_room k.server) ≡ connect k.server true = ap (connect k.server) room in
+    let step = connects k.server made few in
     let seats = with_numbered k.seats c (seated seat n) in
     let sessions = k.sessions ++ new_session c ∷ [] in
     let now = subst (λ (z : Core). IsKept (onward book 2 book.ops) z (qs ++ no_queue ∷ [])) (core_joined book k qs (with_session k.server n) seats sessions kept) (joined_now book k qs c n seat kept refl at unlinked) in

@@ -1,19 +1,20 @@
 -- A run carries that the calls of each session are numbered from 1 on, in the order in which they are sent.
-use Rattle.std.proofs.Common.{inl, inr, ◌≡◌, ℕ, zero, suc, ◌+◌, ◌-◌, ◌<◌, List, [], ◌∷◌, ◌++◌, length, Option, Some, None, Result, Ok, Err, Bool, true, false, refl, sym, ap, ◌∙◌, subst, arith, append-nil, length-append, replicate}
+use Rattle.std.proofs.Common.{inl, inr, ◌≡◌, ℕ, zero, suc, ◌+◌, ◌-◌, ◌<◌, List, [], ◌∷◌, ◌++◌, length, Option, Some, None, Result, Ok, Bool, true, false, refl, sym, ap, ◌∙◌, subst, arith, append-nil, length-append, replicate}
 use Rattle.wire.specs.declared.message.Message.TheVariants as message
 use Rattle.client_state.specs.State as client
 use Rattle.trace_replay.specs.Numbered.{numbers_among, numbers_if, numbers_by, numbers_of, CountOn}
 use Rattle.client_state.specs.declared.task.Stage.{Stage}
 use Rattle.client_state.specs.declared.task.Stage.TheVariants as stage
-use Rattle.kept_promise.proofs.Common.{nat_tests, slice_get, Chunk, Command, Body, Message, Pending, WireFault, parse_of, names_from, names_all, calls_most, reads_from, reads_chunk, connect, has_room, command_step, got_step, idle, took, Reads, ClientStep, Fetch, Stage, Store, Opening, Word, word_of, calls_among, Core, Seat, Session, Event, Event.Joins, Event.Does, Event.Serves, Event.Hears, Event.Settles, Event.Cuts, Event.Hangs, CoreStep, new_seat, new_session, joined, numbered, with_numbered, session_of, commanded_sessions, cut_session, is_newest, acted, does, joins_as, joins, cuts_if, cuts, hangs_if, hangs, serves, serves_if, server_waiting, happens, Moment, Book, Queue}
-use Rattle.kept_promise.proofs.Lists.{some_is, nothing_there, set_count, within as inside}
+use Rattle.kept_promise.proofs.Common.{nat_tests, slice_get, Chunk, Command, Body, Message, Pending, WireFault, names_from, names_all, calls_most, reads_from, reads_chunk, command_step, got_step, idle, took, Reads, ClientStep, Fetch, Stage, Store, Opening, Word, word_of, calls_among, Core, Seat, Session, Event, Event.Joins, Event.Does, Event.Hears, Event.Cuts, CoreStep, new_seat, new_session, joined, numbered, with_numbered, session_of, commanded_sessions, cut_session, is_newest, acted, does, joins, cuts_if, happens, Moment, Book, Queue, told_message}
+use Rattle.kept_promise.proofs.Lists.{some_is, nothing_there, within as inside}
 use Rattle.kept_promise.proofs.Facts.{IsKept}
 use Rattle.kept_promise.proofs.RunsCarried.{book_at, moment, Step, Carried}
-use Rattle.kept_promise.proofs.Actors.{newest_is, heard_at}
+use Rattle.kept_promise.proofs.Actors.{newest_is, heard_acts}
 use Rattle.kept_promise.proofs.Versions.{of_numbered}
 use Rattle.kept_promise.proofs.StepCases.{reads_keep, names_keep, reads_of, Cases, took_cases, walk_cases, command_cases, got_cases}
 use Rattle.kept_promise.proofs.Numbering.{got_number, command_number}
-use Rattle.kept_promise.proofs.EventCases.{joins_silent, serves_silent, hangs_silent, cuts_silent}
+use Rattle.kept_promise.proofs.EventCases.{joins_silent, cuts_silent, event_turns, joins_now, with_count}
+use Rattle.kept_promise.proofs.Fits.{FitLaws}
 
 -- ---- numbers joined
 
@@ -205,10 +206,6 @@ within_at book k qs i seat kept here n on = let a = (kept.seats i seat here).ses
 
 -- ---- any event
 
-with_count : {A : Type 0} (xs : List A) (n : ℕ) (x : A) → length (with_numbered xs n x) ≡ length xs
-with_count xs zero x = refl
-with_count xs (suc n) x = set_count xs n x
-
 commanded_count : (sessions : List Session) (number : Option ℕ) (x : Option Session) (running : Option ℕ) (place : ℕ) (w : Word) (r : ClientStep) → length (commanded_sessions sessions number x running place w r) ≡ length sessions
 commanded_count sessions (Some n) (Some x) running place w r = with_count sessions n _
 commanded_count sessions (Some n) None running place w r = refl
@@ -219,9 +216,8 @@ cut_count sessions (Some n) (Some x) = with_count sessions n _
 cut_count sessions (Some n) None = refl
 cut_count sessions None x = refl
 
-numbers_join : (past : List Moment) (k : Core) (c : ℕ) (seat : Seat) (b : Bool) → length k.sessions ≡ k.server.sessions_made → numbered k.seats c ≡ Some seat → At past k → (let r = connect k.server b in At (past ++ moment k (Joins c) ∷ []) (joins_as k c seat r.0 r.1.told).core)
-numbers_join past k c seat false made here h = quiet past (moment k (Joins c)) k.seats k.seats (length k.sessions) (length k.sessions) (joins_silent k c).2 refl (same_seat k.seats) h
-numbers_join past k c seat true made here h = record {
+numbers_join : (past : List Moment) (k : Core) (c : ℕ) (seat : Seat) → length k.sessions ≡ k.server.sessions_made → numbered k.seats c ≡ Some seat → At past k → At (past ++ moment k (Joins c) ∷ []) (joins_now k c seat).core
+numbers_join past k c seat made here h = record {
   each = λ n. subst (CountOn 1) (sym (same n)) (h.each n);
   next = λ j n other at there. elim (of_numbered k.seats c now j other at) [
     | inl mine ↦
@@ -240,64 +236,41 @@ numbers_join past k c seat true made here h = record {
     same : (n : ℕ) → numbers_of n (past ++ moment k (Joins c) ∷ []) ≡ numbers_of n past
     same n = same_of n past (moment k (Joins c)) (joins_silent k c).2
 
-numbers_event : (all past rest : List Moment) (opening : List Opening) (k : Core) (qs : List Queue) (e : Event) (mid after : List Queue) → Step all past rest opening k qs e mid after → At past k → At (past ++ moment k e ∷ []) (happens k e).core
-numbers_event all past rest opening k qs (Joins c) mid after s h = subst (λ (o : Option Seat). At (past ++ moment k (Joins c) ∷ []) (joins k c o).core) (sym s.finds.1) (numbers_join past k c s.finds.0 (has_room k.server) s.kept.made.0 s.finds.1 h)
-numbers_event all past rest opening k qs (Does c now d) mid after s h =
-    let book = book_at opening k all in
-    let seat : Seat = s.finds.0 in
-    let step : CoreStep = does k c now d (Some seat) in
-    let is : happens k (Does c now d) ≡ does k c now d (Some s.finds.0) = ap (does k c now d) s.finds.1 in
-    subst (λ (t : CoreStep). At (past ++ moment k (Does c now d) ∷ []) t.core) (sym is) (acts past (moment k (Does c now d)) k.seats (length k.sessions) (length (does k c now d (Some s.finds.0)).core.sessions) c s.finds.0 (command_step s.finds.0.client d now).0 _ (does k c now d (Some s.finds.0)) is refl s.finds.1 (commanded_count k.sessions s.finds.0.session (session_of k.sessions s.finds.0.session) s.finds.0.place (length k.ops) (word_of d) (command_step s.finds.0.client d now).1) (within_at book k qs c s.finds.0 s.kept s.finds.1) (alone_at book k qs c s.finds.0 s.kept s.finds.1) (command_numbers s.finds.0.client d now) (command_number s.finds.0.client d now) h)
-numbers_event all past rest opening k qs (Serves n now bytes) mid after s h =
-    let q = serves_silent k n now bytes (numbered k.sessions n) in
-    subst (λ (l : List Seat). AreNumbered (past ++ moment k (Serves n now bytes) ∷ []) l (length (happens k (Serves n now bytes)).core.sessions)) (sym q.1) (quiet past (moment k (Serves n now bytes)) k.seats k.seats (length k.sessions) (length (happens k (Serves n now bytes)).core.sessions) q.0 (count (numbered k.sessions n)) (same_seat k.seats) h)
-  where
-    count : (o : Option Session) → length (serves k n now bytes o).core.sessions ≡ length k.sessions
-    count None = refl
-    count (Some x) = by (parse_of server_waiting bytes)
-      where
-        by : (m : Result Message WireFault) → length (serves_if k n now x m).core.sessions ≡ length k.sessions
-        by (Ok m) = with_count k.sessions n _
-        by (Err e) = refl
-numbers_event all past rest opening k qs (Hears n now bytes) mid after s h =
-    let book = book_at opening k all in
-    let g = heard_at book k qs n now bytes mid s.kept s.finds in
-    let m = parse_of (client.waiting_of g.seat.client) bytes in
-    subst (λ (t : CoreStep). At (past ++ moment k (Hears n now bytes) ∷ []) t.core) (sym g.hears_is) (acts past (moment k (Hears n now bytes)) k.seats (length k.sessions) (length k.sessions) g.session.owner g.seat (got_step g.seat.client m now).0 _ (acted k g.session.owner g.seat (got_step g.seat.client m now).0 (got_step g.seat.client m now).1) g.hears_is refl g.owner refl (within_at book k qs g.session.owner g.seat s.kept g.owner) (alone_at book k qs g.session.owner g.seat s.kept g.owner) (got_numbers g.seat.client m now) (got_number g.seat.client m now) h)
-numbers_event all past rest opening k qs (Settles now) mid after s h = quiet past (moment k (Settles now)) k.seats k.seats (length k.sessions) (length k.sessions) refl refl (same_seat k.seats) h
-numbers_event all past rest opening k qs (Cuts c) mid after s h = subst (λ (o : Option Seat). At (past ++ moment k (Cuts c) ∷ []) (cuts k c o).core) (sym s.finds.1) (by s.finds.0.client.linked)
+-- a client whose connection is lost has sent what it had
+numbers_lost : (past : List Moment) (k : Core) (c : ℕ) (seat : Seat) → numbered k.seats c ≡ Some seat → At past k → At (past ++ moment k (Cuts c) ∷ []) (cuts_if k c seat true).core
+numbers_lost past k c seat here h = quiet past (moment k (Cuts c)) k.seats _ (length k.sessions) _ (cuts_silent k c).2 (cut_count k.sessions seat.session (session_of k.sessions seat.session)) (was _) h
   where
     gone : (p : Option ℕ) → Seat
-    gone p = record s.finds.0 { client = record s.finds.0.client { linked = false; task = None; forgotten = [] }; place = p }
+    gone p = record seat { client = record seat.client { linked = false; task = None; forgotten = [] }; place = p }
 
-    was : (p : Option ℕ) (i n : ℕ) (seat : Seat) → numbered (with_numbered k.seats c (gone p)) i ≡ Some seat → seat.session ≡ Some n → (j : ℕ) × (old : Seat) × (numbered k.seats j ≡ Some old) × (old.session ≡ Some n) × (seat.client.next_xid ≡ old.client.next_xid)
-    was p i n seat at on = elim (of_numbered k.seats c (gone p) i seat at) [
-      | inl mine ↦ (c, s.finds.0, s.finds.1, ap (λ (z : Seat). z.session) (sym mine.1) ∙ on, ap (λ (z : Seat). z.client.next_xid) mine.1)
-      | inr away ↦ (i, seat, away.1, on, refl)
+    was : (p : Option ℕ) (i n : ℕ) (other : Seat) → numbered (with_numbered k.seats c (gone p)) i ≡ Some other → other.session ≡ Some n → (j : ℕ) × (old : Seat) × (numbered k.seats j ≡ Some old) × (old.session ≡ Some n) × (other.client.next_xid ≡ old.client.next_xid)
+    was p i n other at on = elim (of_numbered k.seats c (gone p) i other at) [
+      | inl mine ↦ (c, seat, here, ap (λ (z : Seat). z.session) (sym mine.1) ∙ on, ap (λ (z : Seat). z.client.next_xid) mine.1)
+      | inr away ↦ (i, other, away.1, on, refl)
     ]
 
-    by : (b : Bool) → At (past ++ moment k (Cuts c) ∷ []) (cuts_if k c s.finds.0 b).core
-    by false = quiet past (moment k (Cuts c)) k.seats k.seats (length k.sessions) (length k.sessions) (cuts_silent k c).2 refl (same_seat k.seats) h
-    by true = quiet past (moment k (Cuts c)) k.seats _ (length k.sessions) _ (cuts_silent k c).2 (cut_count k.sessions s.finds.0.session (session_of k.sessions s.finds.0.session)) (was _) h
-numbers_event all past rest opening k qs (Hangs n) mid after s h =
-    let q = hangs_silent k n (numbered k.sessions n) in
-    subst (λ (l : List Seat). AreNumbered (past ++ moment k (Hangs n) ∷ []) l (length (happens k (Hangs n)).core.sessions)) (sym q.2) (quiet past (moment k (Hangs n)) k.seats k.seats (length k.sessions) (length (happens k (Hangs n)).core.sessions) q.0 (count (numbered k.sessions n)) (same_seat k.seats) h)
+numbers_event : FitLaws → (all past rest : List Moment) (opening : List Opening) (k : Core) (qs : List Queue) (e : Event) (mid after : List Queue) → Step all past rest opening k qs e mid after → At past k → At (past ++ moment k e ∷ []) (happens k e).core
+numbers_event fits all past rest opening k qs e mid after s h = event_turns fits all past rest opening k qs e mid after s (λ e t. At (past ++ moment k e ∷ []) t.core) (record {
+  idle = λ t i. subst (λ (l : List Seat). AreNumbered (past ++ moment k e ∷ []) l (length t.core.sessions)) (sym i.seats) (quiet past (moment k e) k.seats k.seats (length k.sessions) (length t.core.sessions) i.still.silent.2 i.count (same_seat k.seats) h);
+  joins = λ c seat is s here still. numbers_join past k c seat s.kept.made.0 here h;
+  begins = λ c now d seat s here small left. acts past (moment k (Does c now d)) k.seats (length k.sessions) (length (does k c now d (Some seat)).core.sessions) c seat (command_step seat.client d now).0 _ (does k c now d (Some seat)) (ap (does k c now d) here) refl here (commanded_count k.sessions seat.session (session_of k.sessions seat.session) seat.place (length k.ops) (word_of d) (command_step seat.client d now).1) (within_at book k qs c seat s.kept here) (alone_at book k qs c seat s.kept here) (command_numbers seat.client d now) (command_number seat.client d now) h;
+  hears = λ n now bytes s w left.
+      (let m : Result Message WireFault = Ok (told_message w.told) in
+      let r = got_step w.seat.client m now in
+      acts past (moment k (Hears n now bytes)) k.seats (length k.sessions) (length k.sessions) w.session.owner w.seat r.0 _ (acted k w.session.owner w.seat r.0 r.1) (heard_acts fits book k qs n now bytes mid s.kept w) refl w.owner refl (within_at book k qs w.session.owner w.seat s.kept w.owner) (alone_at book k qs w.session.owner w.seat s.kept w.owner) (got_numbers w.seat.client m now) (got_number w.seat.client m now) h);
+  lost = λ c seat s here left. numbers_lost past k c seat here h;
+})
   where
-    count : (o : Option Session) → length (hangs k n o).core.sessions ≡ length k.sessions
-    count None = refl
-    count (Some x) = by x.hung
-      where
-        by : (b : Bool) → length (hangs_if k n x b).core.sessions ≡ length k.sessions
-        by true = refl
-        by false = with_count k.sessions n _
+    book : Book
+    book = book_at opening k all
 
 abbrev pub AllNumbered : (all past : List Moment) → List Opening → Core → List Queue → Type 0
 AllNumbered all past opening k qs = At past k
 
-pub carried_numbered : Carried AllNumbered
-carried_numbered = record {
+pub carried_numbered : FitLaws → Carried AllNumbered
+carried_numbered fits = record {
   first = λ all opening tree count kept. record { each = λ n. tt; next = λ i n seat at on. nothing_on i n seat count at on; none = λ n lt. refl };
-  steps = λ all past rest opening k qs e mid after s h. numbers_event all past rest opening k qs e mid after s h;
+  steps = λ all past rest opening k qs e mid after s h. numbers_event fits all past rest opening k qs e mid after s h;
   adjusts = λ all past opening k qs index seats same h. record {
     each = h.each;
     next = λ i n seat at on. let w = same.was i seat at in ap (λ (z : Seat). z.client.next_xid) w.4 ∙ h.next i n w.0 w.3 (ap (λ (z : Seat). z.session) (sym w.4) ∙ on);

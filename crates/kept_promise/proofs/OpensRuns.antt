@@ -1,10 +1,6 @@
 -- A run carries that an open of a path is told that its file is open just where it was, when the open began.
-use Rattle.std.proofs.Common.{◌⊎◌, inl, inr, ◌≡◌, ℕ, ◌+◌, List, [], ◌∷◌, ◌++◌, length, Option, Some, None, Ok, Bool, true, false, refl, sym, ap, ◌∙◌, subst}
+use Rattle.std.proofs.Common.{◌⊎◌, inl, inr, ◌≡◌, ℕ, ◌+◌, List, [], ◌∷◌, ◌++◌, length, Option, Some, None, Ok, true, false, refl, sym, ap, ◌∙◌, subst}
 use Rattle.path_calls.specs.declared.walk.Walk.{Walk}
-use Rattle.server_core.specs.State as server
-use Rattle.server_core.specs.declared.event.Event.TheVariants as event
-use Rattle.server_rules.specs.declared.told.Told.{Told as Announced}
-use Rattle.server_rules.specs.declared.told.Told.TheVariants as announced
 use Rattle.client_state.specs.State as client
 use Rattle.client_state.specs.declared.step.Outcome.TheVariants as outcome
 use Rattle.client_state.specs.declared.task.Stage.TheVariants as stage
@@ -13,11 +9,10 @@ use Rattle.register_model.specs.declared.op.Outcome.TheVariants as told
 use Rattle.trace_replay.specs.Faithful.{FindsOpen}
 use Rattle.trace_ends.specs.Ops.{file_with, begun as op_begun}
 use Rattle.trace_ends.specs.Session.{taken_of as session_taken}
-use Rattle.kept_promise.proofs.Common.{slice_get, server_step, Command, ClientStep, Ended, ended_by, cut, joined, command_step, got_step, told_message, Task, Op, Opening, TakenCall, told_of, word_of, file_of, value_at_begin, session_of, Core, Seat, CoreStep, Event, Event.Joins, Event.Does, Event.Serves, Event.Hears, Event.Settles, Event.Cuts, Event.Hangs, numbered, with_numbered, joins, joins_as, does, cuts, cuts_if, happens, Moment, Deed, deed_by, deeds_of, joined_from, calls_from, Queue, is_untold}
-use Rattle.kept_promise.proofs.Lists.{some_is, nothing_there, same_or_not, of_replaced}
-use Rattle.kept_promise.proofs.Actors.{Heard, heard_at, heard_acts}
+use Rattle.kept_promise.proofs.Common.{slice_get, Command, ClientStep, Ended, ended_by, cut, joined, command_step, got_step, told_message, Task, Op, Opening, TakenCall, told_of, word_of, file_of, value_at_begin, session_of, Core, Seat, CoreStep, Event, Event.Does, Event.Hears, Event.Cuts, numbered, does, cuts_if, happens, Moment, Deed, deed_by, deeds_of, joined_from, calls_from, Queue, is_untold, acted}
+use Rattle.kept_promise.proofs.Lists.{some_is, nothing_there, of_replaced}
+use Rattle.kept_promise.proofs.Actors.{Heard}
 use Rattle.kept_promise.proofs.Messages.{Job, job, job_of}
-use Rattle.kept_promise.proofs.Turns.{around_with}
 use Rattle.kept_promise.proofs.Facts.{IsMatched, IsKept, is_naming}
 use Rattle.kept_promise.proofs.Fits.{FitLaws}
 use Rattle.kept_promise.proofs.RunsCarried.{book_at, moment, Step, Carried}
@@ -25,7 +20,6 @@ use Rattle.kept_promise.proofs.Leaving.{EndsWith, Leaves, step_left}
 use Rattle.kept_promise.proofs.Locally.{deeds_more}
 use Rattle.kept_promise.proofs.StepCases.{IsOfFile}
 use Rattle.kept_promise.proofs.Found.{got_finds}
-use Rattle.kept_promise.proofs.ServesQuietly.{serves_quiet, IsQuiet}
 use Rattle.kept_promise.proofs.Deeds.{IsOnNames, local_of, AllMoved}
 use Rattle.kept_promise.proofs.Doing.{with_end}
 use Rattle.kept_promise.proofs.Ways.{stage_case}
@@ -33,7 +27,7 @@ use Rattle.kept_promise.proofs.WalkLeaves.{walk_left}
 use Rattle.kept_promise.proofs.Following.{IsFollowed, goes, no_deed, occupied, jobs_inside, carried_deeds}
 use Rattle.kept_promise.proofs.Opens.{HasOpens, HasShut, AreOpen, EndsOpen, open_bytes, shut_bytes, fetched_finds, walked_finds, opens_moved, opens_added, opens_acted, walk_leads, keeps_file, shut_acted, shut_added, command_begins, new_opens, finds_by}
 use Rattle.kept_promise.proofs.MakingGoals.{file_unnamed}
-use Rattle.kept_promise.proofs.EventCases.{Settled, settled_are, IsChange, change_of, hangs_silent}
+use Rattle.kept_promise.proofs.EventCases.{Settled, IsChange, IsStill, event_cases}
 
 pub record IsOpening (past : List Moment) (k : Core) : Type 0 where
   pub opens : HasOpens (deeds_of past) k.ops
@@ -47,25 +41,9 @@ by_events past k e after none opens shut = record {
   shut = subst (λ (ds : List Deed). HasShut ds after.seats) (sym (no_deed past k e none)) shut;
 }
 
-same_opening : (past : List Moment) (k : Core) (e : Event) (after : Core) → deed_by past (k.steps + 1) e ≡ [] → after.ops ≡ k.ops → after.seats ≡ k.seats → IsOpening past k → IsOpening (past ++ moment k e ∷ []) after
-same_opening past k e after none ops seats h = by_events past k e after none (subst (HasOpens (deeds_of past)) (sym ops) h.opens) (subst (HasShut (deeds_of past)) (sym seats) h.shut)
-
--- ---- a client joins
-
-joins_opening : (past : List Moment) (k : Core) (c : ℕ) (seat : Seat) → numbered k.seats c ≡ Some seat → (s : server.State) (o : Announced) → IsOpening past k → IsOpening (past ++ moment k (Joins c) ∷ []) (joins_as k c seat s o).core
-joins_opening past k c seat here s (announced.Session made) h = by_events past k (Joins c) (joins_as k c seat s (announced.Session made)).core refl h.opens (λ z x j d at is there names known. elim (same_or_not z c) [
-  | inr apart ↦ h.shut z x j d (sym (around.others z apart) ∙ at) is there names known
-  | inl mine ↦
-      let x_is : x ≡ now = some_is x now (sym at ∙ ap (numbered (with_numbered k.seats c now)) mine ∙ around.there) in
-      ap (λ (y : Seat). local_of y.client j.file) x_is ∙ h.shut c seat j d here (ap job (sym x_is) ∙ is) there names known
-])
-  where
-    now : Seat
-    now = record seat { client = joined seat.client; session = Some made }
-
-    around : Rattle.kept_promise.proofs.Turns.Around k.seats (with_numbered k.seats c now) c now
-    around = around_with k.seats c seat now here
-joins_opening past k c seat here s _ h = same_opening past k (Joins c) (record k { steps = k.steps + 2; server = s }) refl refl refl h
+-- a client with a job is as it was
+still_shut : (past : List Moment) (k : Core) (e : Event) (t : CoreStep) → IsStill k e t → IsOpening past k → HasShut (deeds_of past) t.core.seats
+still_shut past k e t still h = λ c seat j d at is there names known. h.shut c seat j d (still.jobs c seat j at is) is there names known
 
 -- ---- a change is made
 
@@ -75,24 +53,21 @@ untold_open told.Running l e = tt
 untold_open told.Lost l e = tt
 untold_open u l e = absurd cc
 
-change_opening : (past : List Moment) (k : Core) (e : Event) (after : Core) → deed_by past (k.steps + 1) e ≡ [] → IsFollowed past k → AllMoved (k.steps + 1) k.ops after.ops → IsChange k after.ops → after.seats ≡ k.seats → IsOpening past k → IsOpening (past ++ moment k e ∷ []) after
-change_opening past k e after none f moved c seats h = by_events past k e after none (opens_moved (k.steps + 1) (deeds_of past) k.ops after.ops k.seats f.deeds moved fresh) (subst (HasShut (deeds_of past)) (sym seats) h.shut)
+change_opening : (past : List Moment) (k : Core) (e : Event) (t : CoreStep) → IsStill k e t → IsFollowed past k → AllMoved (k.steps + 1) k.ops t.core.ops → IsChange k t.core.ops → IsOpening past k → IsOpening (past ++ moment k e ∷ []) t.core
+change_opening past k e t still f moved c h = by_events past k e t.core (still.deedless past) (opens_moved (k.steps + 1) (deeds_of past) k.ops t.core.ops k.seats f.deeds moved fresh) (still_shut past k e t still h)
   where
-    fresh : AreOpen (deeds_of past) k.ops after.ops
+    fresh : AreOpen (deeds_of past) k.ops t.core.ops
     fresh i d r deed there = elim (of_replaced k.ops c.place (record c.op { file = c.file; point = Some (k.steps + 1) }) i r (ap (λ (l : List Op). slice_get l i) (sym c.is) ∙ there)) [
       | inr else ↦ h.opens i d r deed else.1
       | inl here ↦ subst (λ (z : Op). Rattle.kept_promise.proofs.Opens.FindsBy d.command z.outcome (Rattle.kept_promise.proofs.Common.local_before (deeds_of past) k.ops i d.client z.file)) (sym here.1) (finds_by d.command c.op.outcome (Rattle.kept_promise.proofs.Common.local_before (deeds_of past) k.ops i d.client c.file) (λ names. untold_open c.op.outcome (Rattle.kept_promise.proofs.Common.local_before (deeds_of past) k.ops i d.client c.file) c.unmade.2))
     ]
 
-settles_opening : (past : List Moment) (k : Core) (now : ℕ) (after : Core) → IsFollowed past k → AllMoved (k.steps + 1) k.ops after.ops → Settled k after.ops → after.seats ≡ k.seats → IsOpening past k → IsOpening (past ++ moment k (Settles now) ∷ []) after
-settles_opening past k now after f moved (inl same) seats h = same_opening past k (Settles now) after refl same seats h
-settles_opening past k now after f moved (inr c) seats h = change_opening past k (Settles now) after refl f moved c seats h
-
-serves_opening : (past : List Moment) (k : Core) (n now : ℕ) (bytes : List ℕ) → IsFollowed past k → AllMoved (k.steps + 1) k.ops (happens k (Serves n now bytes)).core.ops → IsQuiet k (happens k (Serves n now bytes)) → IsOpening past k → IsOpening (past ++ moment k (Serves n now bytes) ∷ []) (happens k (Serves n now bytes)).core
-serves_opening past k n now bytes f moved q h = elim q.ops [
-  | inl same ↦ same_opening past k (Serves n now bytes) (happens k (Serves n now bytes)).core refl same q.seats h
-  | inr made ↦ change_opening past k (Serves n now bytes) (happens k (Serves n now bytes)).core refl f moved (change_of made) q.seats h
-]
+still_opening : (past : List Moment) (k : Core) (e : Event) (t : CoreStep) → IsStill k e t → IsFollowed past k → AllMoved (k.steps + 1) k.ops t.core.ops → IsOpening past k → IsOpening (past ++ moment k e ∷ []) t.core
+still_opening past k e t still f moved h = by still.ops
+  where
+    by : Settled k t.core.ops → IsOpening (past ++ moment k e ∷ []) t.core
+    by (inl same) = by_events past k e t.core (still.deedless past) (subst (HasOpens (deeds_of past)) (sym same) h.opens) (still_shut past k e t still h)
+    by (inr c) = change_opening past k e t still f moved c h
 
 -- ---- a step of a client
 
@@ -113,12 +88,11 @@ ends_open opening all ds k qs c p seat x acts kept here task place finds =
     }
 
 -- a message comes
-hears_opening : FitLaws → (past : List Moment) (opening : List Opening) (all : List Moment) (k : Core) (qs : List Queue) (n now : ℕ) (bytes : List ℕ) (mid : List Queue) → IsKept (book_at opening k all) k qs → Heard k qs n now bytes mid → IsFollowed past k → AllMoved (k.steps + 1) k.ops (happens k (Hears n now bytes)).core.ops → IsOpening past k → IsOpening (past ++ moment k (Hears n now bytes) ∷ []) (happens k (Hears n now bytes)).core
-hears_opening laws past opening all k qs n now bytes mid kept w f moved h =
-    let acts = heard_acts laws (book_at opening k all) k qs n now bytes mid kept w in
-    by_events past k (Hears n now bytes) (happens k (Hears n now bytes)).core refl
-    (subst (λ (t : CoreStep). HasOpens (deeds_of past) t.core.ops) (sym acts) (opens_acted (deeds_of past) k.ops k.seats seat.place c seat r.0 taken (k.steps + 1) r.1 f.deeds h.opens here (subst (λ (t : CoreStep). AllMoved (k.steps + 1) k.ops t.core.ops) acts moved) (λ p place. at_place p place (occupied seat (kept.seats c seat here).matched p place))))
-    (subst (λ (t : CoreStep). HasShut (deeds_of past) t.core.seats) (sym acts) (shut_acted (deeds_of past) k.seats c seat r.0 r.1 h.shut here (λ j d place ended task there names known. goes_on j d place ended task there names known (occupied seat (kept.seats c seat here).matched j.place place))))
+hears_opening : (past : List Moment) (opening : List Opening) (all : List Moment) (k : Core) (qs : List Queue) (n now : ℕ) (bytes : List ℕ) (mid : List Queue) → IsKept (book_at opening k all) k qs → (w : Heard k qs n now bytes mid) → IsFollowed past k
+    → (let r = got_step w.seat.client (Ok (told_message w.told)) now in let t = acted k w.session.owner w.seat r.0 r.1 in AllMoved (k.steps + 1) k.ops t.core.ops → IsOpening past k → IsOpening (past ++ moment k (Hears n now bytes) ∷ []) t.core)
+hears_opening past opening all k qs n now bytes mid kept w f moved h = by_events past k (Hears n now bytes) (acted k c seat r.0 r.1).core refl
+    (opens_acted (deeds_of past) k.ops k.seats seat.place c seat r.0 taken (k.steps + 1) r.1 f.deeds h.opens here moved (λ p place. at_place p place (occupied seat (kept.seats c seat here).matched p place)))
+    (shut_acted (deeds_of past) k.seats c seat r.0 r.1 h.shut here (λ j d place ended task there names known. goes_on j d place ended task there names known (occupied seat (kept.seats c seat here).matched j.place place)))
   where
     c : ℕ
     c = w.session.owner
@@ -175,9 +149,8 @@ lost_open : (d : Ended) (task : Option Task) (l : Option (List ℕ)) → (ended_
 lost_open d None l is = nothing_there d is
 lost_open d (Some t) l is = subst (λ (z : Ended). FindsOpen (told_of z.outcome) l) (some_is (record { outcome = outcome.Lost; rests_on = 0 }) d is) tt
 
-cuts_opening : (past : List Moment) (opening : List Opening) (all : List Moment) (k : Core) (qs : List Queue) (c : ℕ) (seat : Seat) → IsKept (book_at opening k all) k qs → numbered k.seats c ≡ Some seat → IsFollowed past k → (b : Bool) → AllMoved (k.steps + 1) k.ops (cuts_if k c seat b).core.ops → IsOpening past k → IsOpening (past ++ moment k (Cuts c) ∷ []) (cuts_if k c seat b).core
-cuts_opening past opening all k qs c seat kept here f false moved h = same_opening past k (Cuts c) (cuts_if k c seat false).core refl refl refl h
-cuts_opening past opening all k qs c seat kept here f true moved h =
+cuts_opening : (past : List Moment) (opening : List Opening) (all : List Moment) (k : Core) (qs : List Queue) (c : ℕ) (seat : Seat) → IsKept (book_at opening k all) k qs → numbered k.seats c ≡ Some seat → IsFollowed past k → AllMoved (k.steps + 1) k.ops (cuts_if k c seat true).core.ops → IsOpening past k → IsOpening (past ++ moment k (Cuts c) ∷ []) (cuts_if k c seat true).core
+cuts_opening past opening all k qs c seat kept here f moved h =
     let r = cut seat.client in
     by_events past k (Cuts c) (cuts_if k c seat true).core refl
     (opens_acted (deeds_of past) k.ops k.seats seat.place c seat r.0 (session_taken (session_of k.sessions seat.session)) (k.steps + 1) r.1 f.deeds h.opens here moved (λ p place. (let t = occupied seat (kept.seats c seat here).matched p place in ends_open opening all (deeds_of past) k qs c p seat t.0 r.1 kept here t.1 place (λ op file d e there ended names. lost_open e seat.client.task (local_of seat.client (file_with op.file r.1.found)) ended))))
@@ -202,13 +175,15 @@ does_opening past opening all k qs c now d seat kept here f h =
 -- ---- any event
 
 opening_goes : FitLaws → (all past rest : List Moment) (opening : List Opening) (k : Core) (qs : List Queue) (e : Event) (mid after : List Queue) → Step all past rest opening k qs e mid after → IsFollowed past k → IsOpening past k → IsOpening (past ++ moment k e ∷ []) (happens k e).core
-opening_goes laws all past rest opening k qs (Joins c) mid after s f h = subst (λ (o : Option Seat). IsOpening (past ++ moment k (Joins c) ∷ []) (joins k c o).core) (sym s.finds.1) (let r = server_step k.server event.Connect in joins_opening past k c s.finds.0 s.finds.1 r.0 r.1.told h)
-opening_goes laws all past rest opening k qs (Does c now d) mid after s f h = subst (λ (o : Option Seat). IsOpening (past ++ moment k (Does c now d) ∷ []) (does k c now d o).core) (sym s.finds.1) (does_opening past opening all k qs c now d s.finds.0 s.kept s.finds.1 f h)
-opening_goes laws all past rest opening k qs (Serves n now bytes) mid after s f h = serves_opening past k n now bytes f ((goes laws all past rest opening k qs (Serves n now bytes) mid after s f).moved refl) (serves_quiet laws (book_at opening k all) k qs n now bytes mid s.kept s.finds) h
-opening_goes laws all past rest opening k qs (Hears n now bytes) mid after s f h = hears_opening laws past opening all k qs n now bytes mid s.kept (heard_at (book_at opening k all) k qs n now bytes mid s.kept s.finds) f ((goes laws all past rest opening k qs (Hears n now bytes) mid after s f).moved refl) h
-opening_goes laws all past rest opening k qs (Settles now) mid after s f h = settles_opening past k now (happens k (Settles now)).core f ((goes laws all past rest opening k qs (Settles now) mid after s f).moved refl) (settled_are (book_at opening k all) k qs now s.kept) refl h
-opening_goes laws all past rest opening k qs (Cuts c) mid after s f h = subst (λ (o : Option Seat). IsOpening (past ++ moment k (Cuts c) ∷ []) (cuts k c o).core) (sym s.finds.1) (cuts_opening past opening all k qs c s.finds.0 s.kept s.finds.1 f s.finds.0.client.linked (subst (λ (o : Option Seat). AllMoved (k.steps + 1) k.ops (cuts k c o).core.ops) s.finds.1 ((goes laws all past rest opening k qs (Cuts c) mid after s f).moved refl)) h)
-opening_goes laws all past rest opening k qs (Hangs n) mid after s f h = let q = hangs_silent k n (numbered k.sessions n) in same_opening past k (Hangs n) (happens k (Hangs n)).core refl q.1 q.2 h
+opening_goes laws all past rest opening k qs e mid after s f h = event_cases laws all past rest opening k qs e mid after s Now (record {
+  still = λ t still. λ moved. still_opening past k e t still f (moved (still.deedless past)) h;
+  begins = λ c now d seat s here small left. λ moved. does_opening past opening all k qs c now d seat s.kept here f h;
+  hears = λ n now bytes s w left. λ moved. hears_opening past opening all k qs n now bytes mid s.kept w f (moved refl) h;
+  lost = λ c seat s here. λ moved. cuts_opening past opening all k qs c seat s.kept here f (moved refl) h;
+}) (goes laws all past rest opening k qs e mid after s f).moved
+  where
+    Now : Event → CoreStep → Type 0
+    Now e t = (deed_by past (k.steps + 1) e ≡ [] → AllMoved (k.steps + 1) k.ops t.core.ops) → IsOpening (past ++ moment k e ∷ []) t.core
 
 -- beside the commands and their operations
 pub carried_opens : FitLaws → Carried (λ all past opening k qs. IsFollowed past k × IsOpening past k)

@@ -5,19 +5,18 @@ use Rattle.trace_ends.specs.Session.{taken_of as session_taken}
 use Rattle.trace_replay.specs.Traffic.{IsFor}
 use Rattle.file_open.specs.Looking.{reading}
 use Rattle.trace_replay.specs.Trail.{given_in, given_by_message}
-use Rattle.kept_promise.proofs.Common.{Contains-push_cases, slice_get, slice_set, Contains, command_step, got_step, got_message, drops, ClientStep, Task, Op, Opening, word_of, file_of, value_at_begin, TakenCall, op_after, Core, Seat, Event, Event.Joins, Event.Does, Event.Serves, Event.Hears, Event.Settles, Event.Cuts, Event.Hangs, CoreStep, numbered, session_of, ops_after, ops_with, acted, does, happens, Moment, step_of, client_of, owner_in, wanted_if, wanted_by, taken_by, given_by, is_in, deals_with, Book, Queue, told_message}
+use Rattle.kept_promise.proofs.Common.{Contains-push_cases, slice_get, slice_set, Contains, command_step, got_step, got_message, drops, ClientStep, Task, Op, Opening, word_of, file_of, value_at_begin, TakenCall, op_after, Core, Event, Event.Hears, CoreStep, numbered, session_of, ops_after, ops_with, acted, happens, Moment, step_of, client_of, owner_in, wanted_if, wanted_by, taken_by, given_by, is_in, deals_with, Book, Queue, told_message}
 use Rattle.kept_promise.proofs.Lists.{at_end, at_replaced}
 use Rattle.kept_promise.proofs.Fits.{FitLaws}
 use Rattle.kept_promise.proofs.Facts.{IsKept, IsMatched}
 use Rattle.kept_promise.proofs.RunsCarried.{book_at, moment, Step, Carried}
 use Rattle.kept_promise.proofs.Counted.{IsActor, running_now}
-use Rattle.kept_promise.proofs.Actors.{job_place, acts_alone, Heard, heard_at, heard_acts, heard_takes, heard_gives}
+use Rattle.kept_promise.proofs.Actors.{job_place, acts_alone, Heard, heard_acts, heard_takes, heard_gives}
 use Rattle.kept_promise.proofs.CommandOps.{made_by}
 use Rattle.kept_promise.proofs.OpsAfter.{StayIn, ops_after_event, stays_in}
 use Rattle.kept_promise.proofs.Logs.{IsSilent}
 use Rattle.kept_promise.proofs.Found.{command_finds}
-use Rattle.kept_promise.proofs.ServesQuietly.{serves_quiet}
-use Rattle.kept_promise.proofs.EventCases.{joins_silent, hangs_silent, cuts_silent}
+use Rattle.kept_promise.proofs.EventCases.{cuts_silent, event_cases}
 use Rattle.kept_promise.proofs.OpFacts.{is_new}
 
 -- ---- what is carried
@@ -57,9 +56,9 @@ OwnedAt past k = AreOwned past k.steps k.ops
 abbrev Says : Moment → Core → Type 0
 Says m after = IsSilent m ⊎ ((step_of m ≤ after.steps) × HasOp after.ops m)
 
-says_hears : FitLaws → (book : Book) (k : Core) (qs : List Queue) (n now : ℕ) (bytes : List ℕ) (mid : List Queue) → IsKept book k qs → (h : Heard k qs n now bytes mid) → Says (moment k (Hears n now bytes)) (happens k (Hears n now bytes)).core
+says_hears : FitLaws → (book : Book) (k : Core) (qs : List Queue) (n now : ℕ) (bytes : List ℕ) (mid : List Queue) → IsKept book k qs → (h : Heard k qs n now bytes mid) → (let r = got_step h.seat.client (Ok (told_message h.told)) now in Says (moment k (Hears n now bytes)) (acted k h.session.owner h.seat r.0 r.1).core)
 says_hears fits book k qs n now bytes mid kept h =
-    subst (λ (t : CoreStep). Says (moment k (Hears n now bytes)) t.core) (sym turned) (by (kept.seats h.session.owner h.seat h.owner).matched)
+    by (kept.seats h.session.owner h.seat h.owner).matched
   where
     r : client.State × ClientStep
     r = got_step h.seat.client (Ok (told_message h.told)) now
@@ -109,17 +108,15 @@ says_hears fits book k qs n now bytes mid kept h =
 -- ---- any event
 
 says : FitLaws → (all past rest : List Moment) (opening : List Opening) (k : Core) (qs : List Queue) (e : Event) (mid after : List Queue) → Step all past rest opening k qs e mid after → Says (moment k e) (happens k e).core
-says fits all past rest opening k qs (Joins c) mid after s = inl (joins_silent k c)
-says fits all past rest opening k qs (Does c now d) mid after s = subst (λ (o : Option Seat). Says (moment k (Does c now d)) (does k c now d o).core) (sym s.finds.1) (
-    let r = command_step s.finds.0.client d now in
-    let new : Op = made_by k c now d s.finds.0 r.0 r.1 in
-    inr (omega arith, (length k.ops, new, at_end k.ops new, (is_new c d (value_at_begin s.finds.0.client (word_of d) (file_of d) r.1.ended) (k.steps + 1) r.0 r.1 (command_finds s.finds.0.client d now s.finds.2)).here))
-    )
-says fits all past rest opening k qs (Serves n now bytes) mid after s = inl (refl, refl, (serves_quiet fits (book_at opening k all) k qs n now bytes mid s.kept s.finds).up)
-says fits all past rest opening k qs (Hears n now bytes) mid after s = says_hears fits (book_at opening k all) k qs n now bytes mid s.kept (heard_at (book_at opening k all) k qs n now bytes mid s.kept s.finds)
-says fits all past rest opening k qs (Settles now) mid after s = inl (refl, refl, refl)
-says fits all past rest opening k qs (Cuts c) mid after s = inl (cuts_silent k c)
-says fits all past rest opening k qs (Hangs n) mid after s = inl (refl, refl, (hangs_silent k n (numbered k.sessions n)).0)
+says fits all past rest opening k qs e mid after s = event_cases fits all past rest opening k qs e mid after s (λ e t. Says (moment k e) t.core) (record {
+  still = λ t still. inl still.silent;
+  begins = λ c now d seat s here small left.
+      (let r = command_step seat.client d now in
+      let new : Op = made_by k c now d seat r.0 r.1 in
+      inr (omega arith, (length k.ops, new, at_end k.ops new, (is_new c d (value_at_begin seat.client (word_of d) (file_of d) r.1.ended) (k.steps + 1) r.0 r.1 (command_finds seat.client d now small)).here)));
+  hears = λ n now bytes s w left. says_hears fits (book_at opening k all) k qs n now bytes mid s.kept w;
+  lost = λ c seat s here. inl (cuts_silent k c);
+})
 
 abbrev pub AllOwned : (all past : List Moment) → List Opening → Core → List Queue → Type 0
 AllOwned all past opening k qs = OwnedAt past k

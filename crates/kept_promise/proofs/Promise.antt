@@ -100,7 +100,7 @@ told_carried =
     carried_both Follows (λ all past opening k qs. Stored all past opening k qs × (Versions all past opening k qs × (Changes all past opening k qs × Logs all past opening k qs))) (carried_follow fit_laws)
     (carried_both Stored (λ all past opening k qs. Versions all past opening k qs × (Changes all past opening k qs × Logs all past opening k qs)) (carried_stored fit_laws)
     (carried_both Versions (λ all past opening k qs. Changes all past opening k qs × Logs all past opening k qs) (carried_versions fit_laws)
-    (carried_both Changes Logs (carried_both AllSettled (λ all past opening k qs. AllOwned all past opening k qs × AllNumbered all past opening k qs) (carried_settled fit_laws) (carried_both AllOwned AllNumbered (carried_owned fit_laws) carried_numbered)) logs_carried)))
+    (carried_both Changes Logs (carried_both AllSettled (λ all past opening k qs. AllOwned all past opening k qs × AllNumbered all past opening k qs) (carried_settled fit_laws) (carried_both AllOwned AllNumbered (carried_owned fit_laws) (carried_numbered fit_laws))) logs_carried)))
 
 used_carried : Carried Used
 used_carried = record {
@@ -122,7 +122,7 @@ more_carried : Carried More
 more_carried =
     carried_both Used (λ all past opening k qs. AllNamed all past opening k qs × (SmallDeeds all past opening k qs × Walked all past opening k qs)) used_carried
     (carried_both AllNamed (λ all past opening k qs. SmallDeeds all past opening k qs × Walked all past opening k qs) (carried_named fit_laws)
-    (carried_both SmallDeeds Walked carried_small walked_carried))
+    (carried_both SmallDeeds Walked (carried_small fit_laws) walked_carried))
 
 -- ---- the promise of what a run leaves
 
