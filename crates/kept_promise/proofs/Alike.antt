@@ -5,8 +5,6 @@ use Rattle.chunk_calls.specs.Files as the_files
 use Rattle.server_core.specs.Closing.{settles as server_settles}
 use Rattle.server_core.specs.declared.change.Wanted.TheVariants as wanted
 use Rattle.tree_calls.specs.Waiting.{commits, settles as tree_settles}
-use Rattle.server_rules.specs.declared.told.Told.{Told as Announced}
-use Rattle.server_rules.specs.declared.told.Told.TheVariants as announced
 use Rattle.trace_replay.specs.declared.stage.Stage.{Stage as Part}
 use Rattle.trace_replay.specs.declared.stage.Stage.TheVariants as part
 use Rattle.trace_replay.specs.declared.turn.Turn.TheVariants as turn
@@ -15,7 +13,7 @@ use Rattle.trace_text.specs.declared.line.Who.TheVariants as who
 use Rattle.trace_ends.specs.declared.adjusting.Adjustment.{Adjustment}
 use Rattle.trace_ends.specs.declared.adjusting.Adjustment.TheVariants as adjustment
 use Rattle.trace_ends.specs.Core.{adjusted, with_client}
-use Rattle.kept_promise.proofs.Common.{Contains, Contains-push_cases, parse_of, WireFault, Message, content_bytes, Command, is_newest, stands, has_room, connect, at, makes_change, lines_of, line_of, Line, LineFault, Turn, Event, Event.Joins, Event.Does, Event.Serves, Event.Hears, Event.Settles, Event.Cuts, Event.Hangs, File, Change, Core, Seat, Session, numbered, server_waiting, serves_if, serves, does, hears_at, hears_if, hears, joins_as, joins, settles, cuts_if, cuts, hangs_if, hangs, happens, World, Wire, start, happened, all_happened, up_taken, up_events, up_at, up_length, up_all, down_taken, down_events, down_at, down_length, round, is_still, passes, asked, asked_by, at_events, count_of, turned, Moment, moments_of, up_moments_at, down_moments_at, round_moments, passes_moments, turn_moments, moments_from, moments, Wanted, Tree, step_of}
+use Rattle.kept_promise.proofs.Common.{Contains, Contains-push_cases, content_bytes, stands, at, makes_change, lines_of, line_of, Line, LineFault, Turn, Event, Event.Joins, Event.Does, Event.Settles, Event.Cuts, Event.Hangs, File, Change, Core, Seat, Session, numbered, does, hears, joins, settles, cuts, hangs_if, hangs, happens, World, Wire, start, happened, all_happened, up_taken, up_events, up_at, up_length, up_all, down_taken, down_events, down_at, down_length, round, is_still, passes, asked, asked_by, at_events, count_of, turned, Moment, moments_of, up_moments_at, down_moments_at, round_moments, passes_moments, turn_moments, moments_from, moments, Wanted, Tree, step_of}
 use Rattle.kept_promise.proofs.Lists.{some_is}
 use Rattle.kept_promise.proofs.Rights.{AreAlike}
 use Rattle.server_law.proofs.Trees.{IsGiven, IsSince, IsLater, later_join, Keeps, keeps_same, file_below}
@@ -27,6 +25,7 @@ use Rattle.kept_promise.proofs.TreeNames.{IsCounted, AreDirsLater, KeepsDirs, di
 use Rattle.kept_promise.proofs.TreeNameCalls.{commits_dirs, settles_dirs}
 use Rattle.kept_promise.proofs.RunsResults.{moments_by}
 use Rattle.kept_promise.proofs.RunsLines.{is_early, Allows, allowed, line_fits}
+use Rattle.kept_promise.proofs.Happens.{what_happens}
 
 -- ---- the tree, and what becomes of it
 
@@ -36,48 +35,6 @@ tree k = k.server.tree
 -- a step gives no id twice, and changes contents with versions alone
 abbrev Turns : Core → Core → Type 0
 Turns k r = Keeps (tree k) (tree r)
-
-dirs_by : (a b : Tree) → b ≡ a → KeepsDirs a b
-dirs_by a b e = subst (KeepsDirs a) (sym e) (dirs_same a)
-
-turns_same : (k r : Core) → tree r ≡ tree k → Turns k r
-turns_same k r e = subst (Keeps (tree k)) (sym e) (keeps_same (tree k))
-
-joins_turn : (k : Core) (c : ℕ) (o : Option Seat) → Turns k (joins k c o).core
-joins_turn k c None = turns_same k k refl
-joins_turn k c (Some seat) = by (has_room k.server)
-  where
-    as_ : (s : server.State) (o : Announced) → s.tree ≡ tree k → tree (joins_as k c seat s o).core ≡ tree k
-    as_ s (announced.Session n) e = e
-    as_ s _ e = e
-
-    by : (b : Bool) → (let r = connect k.server b in Turns k (joins_as k c seat r.0 r.1.told).core)
-    by true = let r = connect k.server true in turns_same k (joins_as k c seat r.0 r.1.told).core (as_ r.0 r.1.told refl)
-    by false = let r = connect k.server false in turns_same k (joins_as k c seat r.0 r.1.told).core (as_ r.0 r.1.told refl)
-
-does_turn : (k : Core) (c now : ℕ) (d : Command) (o : Option Seat) → tree (does k c now d o).core ≡ tree k
-does_turn k c now d None = refl
-does_turn k c now d (Some seat) = refl
-
-serves_turn : (k : Core) (n now : ℕ) (bytes : List ℕ) (x : Option Session) → Turns k (serves k n now bytes x).core
-serves_turn k n now bytes None = turns_same k k refl
-serves_turn k n now bytes (Some x) = by (parse_of server_waiting bytes)
-  where
-    by : (r : Result Message WireFault) → Turns k (serves_if k n now x r).core
-    by (Ok m) = got_tree k.server n m now
-    by (Err e) = keeps_same (tree k)
-
-hears_turn : (k : Core) (n now : ℕ) (bytes : List ℕ) (x : Option Session) → tree (hears k n now bytes x).core ≡ tree k
-hears_turn k n now bytes None = refl
-hears_turn k n now bytes (Some x) = seat (numbered k.seats x.owner)
-  where
-    newest : (s : Seat) (b : Bool) → tree (hears_if k x.owner now s bytes b).core ≡ tree k
-    newest s true = refl
-    newest s false = refl
-
-    seat : (o : Option Seat) → tree (hears_at k n x.owner now bytes o).core ≡ tree k
-    seat None = refl
-    seat (Some s) = newest s (is_newest s.session n)
 
 settles_turn : (k : Core) (now : ℕ) → Turns k (settles k now).core
 settles_turn k now = by k.server.waiting
@@ -90,135 +47,69 @@ settles_turn k now = by k.server.waiting
     by [] = keeps_same (tree k)
     by (c ∷ cs) = made (at (record k.server { waiting = cs }) now) c c.what refl
 
-cuts_turn : (k : Core) (c : ℕ) (o : Option Seat) → tree (cuts k c o).core ≡ tree k
-cuts_turn k c None = refl
-cuts_turn k c (Some seat) = by seat.client.linked
-  where
-    by : (b : Bool) → tree (cuts_if k c seat b).core ≡ tree k
-    by true = refl
-    by false = refl
-
-hangs_turn : (k : Core) (n : ℕ) (x : Option Session) → tree (hangs k n x).core ≡ tree k
-hangs_turn k n None = refl
-hangs_turn k n (Some x) = by x.hung (stands k.server n)
+hangs_tree : (k : Core) (n : ℕ) (x : Session) → tree (hangs_if k n x false).core ≡ tree k
+hangs_tree k n x = gone (stands k.server n)
   where
     gone : (b : Bool) → (Rattle.server_core.specs.Step.hangs_if k.server b n).0.tree ≡ tree k
     gone true = refl
     gone false = refl
 
-    by : (b d : Bool) → tree (hangs_if k n x b).core ≡ tree k
-    by true d = refl
-    by false d = gone (stands k.server n)
-
 happens_turn : (k : Core) (e : Event) → Turns k (happens k e).core
-happens_turn k (Joins c) = joins_turn k c (numbered k.seats c)
-happens_turn k (Does c now d) = turns_same k (does k c now d (numbered k.seats c)).core (does_turn k c now d (numbered k.seats c))
-happens_turn k (Serves n now bytes) = serves_turn k n now bytes (numbered k.sessions n)
-happens_turn k (Hears n now bytes) = turns_same k (hears k n now bytes (numbered k.sessions n)).core (hears_turn k n now bytes (numbered k.sessions n))
-happens_turn k (Settles now) = settles_turn k now
-happens_turn k (Cuts c) = turns_same k (cuts k c (numbered k.seats c)).core (cuts_turn k c (numbered k.seats c))
-happens_turn k (Hangs n) = turns_same k (hangs k n (numbered k.sessions n)).core (hangs_turn k n (numbered k.sessions n))
+happens_turn k e = what_happens k e (λ t. Turns k t.core) (record {
+  nothing = keeps_same (tree k);
+  idle = keeps_same (tree k);
+  joins = λ c seat is. keeps_same (tree k);
+  refuses = λ c seat is. keeps_same (tree k);
+  does = λ c now d seat is. keeps_same (tree k);
+  takes = λ n now bytes x m is read. got_tree k.server n m now;
+  hears = λ n now bytes owner seat is. keeps_same (tree k);
+  settles = λ now is. settles_turn k now;
+  cuts = λ c seat is. keeps_same (tree k);
+  hangs = λ n x is. subst (Keeps (tree k)) (sym (hangs_tree k n x)) (keeps_same (tree k));
+})
 
 -- ---- directories, and steps
 
 -- a step leaves a directory's names with its version
 happens_dirs : (k : Core) (e : Event) → KeepsDirs (tree k) (tree (happens k e).core)
-happens_dirs k (Joins c) = by (numbered k.seats c)
-  where
-    as_ : (seat : Seat) (s : server.State) (o : Announced) → s.tree ≡ tree k → KeepsDirs (tree k) (tree (joins_as k c seat s o).core)
-    as_ seat s (announced.Session n) e = dirs_by (tree k) s.tree e
-    as_ seat s _ e = dirs_by (tree k) s.tree e
-
-    room : (seat : Seat) (b : Bool) → (let r = connect k.server b in KeepsDirs (tree k) (tree (joins_as k c seat r.0 r.1.told).core))
-    room seat true = let r = connect k.server true in as_ seat r.0 r.1.told refl
-    room seat false = let r = connect k.server false in as_ seat r.0 r.1.told refl
-
-    by : (o : Option Seat) → KeepsDirs (tree k) (tree (joins k c o).core)
-    by None = dirs_same (tree k)
-    by (Some seat) = room seat (has_room k.server)
-happens_dirs k (Does c now d) = dirs_by (tree k) (tree (does k c now d (numbered k.seats c)).core) (does_turn k c now d (numbered k.seats c))
-happens_dirs k (Serves n now bytes) = by (numbered k.sessions n)
-  where
-    read : (x : Session) (r : Result Message WireFault) → KeepsDirs (tree k) (tree (serves_if k n now x r).core)
-    read x (Ok m) = got_dirs k.server n m now
-    read x (Err e) = dirs_same (tree k)
-
-    by : (o : Option Session) → KeepsDirs (tree k) (tree (serves k n now bytes o).core)
-    by None = dirs_same (tree k)
-    by (Some x) = read x (parse_of server_waiting bytes)
-happens_dirs k (Hears n now bytes) = dirs_by (tree k) (tree (hears k n now bytes (numbered k.sessions n)).core) (hears_turn k n now bytes (numbered k.sessions n))
-happens_dirs k (Settles now) = by k.server.waiting
+happens_dirs k e = what_happens k e (λ t. KeepsDirs (tree k) (tree t.core)) (record {
+  nothing = dirs_same (tree k);
+  idle = dirs_same (tree k);
+  joins = λ c seat is. dirs_same (tree k);
+  refuses = λ c seat is. dirs_same (tree k);
+  does = λ c now d seat is. dirs_same (tree k);
+  takes = λ n now bytes x m is read. got_dirs k.server n m now;
+  hears = λ n now bytes owner seat is. dirs_same (tree k);
+  settles = λ now is. by now k.server.waiting;
+  cuts = λ c seat is. dirs_same (tree k);
+  hangs = λ n x is. subst (KeepsDirs (tree k)) (sym (hangs_tree k n x)) (dirs_same (tree k));
+})
   where
     made : (s : server.State) (c : Change) (a : Wanted) → s.tree ≡ tree k → KeepsDirs (tree k) (makes_change s c a).0.tree
     made s c (wanted.Content x) e = subst (λ (t : Tree). KeepsDirs t (commits s.tree (server.held s.waiting) c.file x 0).0) e (commits_dirs s.tree (server.held s.waiting) c.file x 0)
     made s c (wanted.Asked a) e = subst (λ (t : Tree). KeepsDirs t (tree_settles s.tree (server.held s.waiting) a).0) e (settles_dirs s.tree (server.held s.waiting) a)
 
-    by : (w : List Change) → KeepsDirs (tree k) (server_settles k.server now w).0.tree
-    by [] = dirs_same (tree k)
-    by (c ∷ cs) = made (at (record k.server { waiting = cs }) now) c c.what refl
-happens_dirs k (Cuts c) = dirs_by (tree k) (tree (cuts k c (numbered k.seats c)).core) (cuts_turn k c (numbered k.seats c))
-happens_dirs k (Hangs n) = dirs_by (tree k) (tree (hangs k n (numbered k.sessions n)).core) (hangs_turn k n (numbered k.sessions n))
+    by : (now : ℕ) (w : List Change) → KeepsDirs (tree k) (server_settles k.server now w).0.tree
+    by now [] = dirs_same (tree k)
+    by now (c ∷ cs) = made (at (record k.server { waiting = cs }) now) c c.what refl
 
 -- a step is made, or nothing happens
 abbrev Passes : Core → Core → Type 0
 Passes k r = (k.steps < r.steps) ⊎ (r ≡ k)
 
 happens_passes : (k : Core) (e : Event) → Passes k (happens k e).core
-happens_passes k (Joins c) = by (numbered k.seats c)
-  where
-    as_ : (seat : Seat) (s : server.State) (o : Announced) → Passes k (joins_as k c seat s o).core
-    as_ seat s (announced.Session n) = inl (omega arith)
-    as_ seat s _ = inl (omega arith)
-
-    by : (o : Option Seat) → Passes k (joins k c o).core
-    by None = inr refl
-    by (Some seat) = let r = connect k.server (has_room k.server) in as_ seat r.0 r.1.told
-happens_passes k (Does c now d) = by (numbered k.seats c)
-  where
-    by : (o : Option Seat) → Passes k (does k c now d o).core
-    by None = inr refl
-    by (Some seat) = inl (omega arith)
-happens_passes k (Serves n now bytes) = by (numbered k.sessions n)
-  where
-    read : (x : Session) (r : Result Message WireFault) → Passes k (serves_if k n now x r).core
-    read x (Ok m) = inl (omega arith)
-    read x (Err e) = inl (omega arith)
-
-    by : (o : Option Session) → Passes k (serves k n now bytes o).core
-    by None = inr refl
-    by (Some x) = read x (parse_of server_waiting bytes)
-happens_passes k (Hears n now bytes) = by (numbered k.sessions n)
-  where
-    newest : (x : Session) (s : Seat) (b : Bool) → Passes k (hears_if k x.owner now s bytes b).core
-    newest x s true = inl (omega arith)
-    newest x s false = inr refl
-
-    seat : (x : Session) (o : Option Seat) → Passes k (hears_at k n x.owner now bytes o).core
-    seat x None = inr refl
-    seat x (Some s) = newest x s (is_newest s.session n)
-
-    by : (o : Option Session) → Passes k (hears k n now bytes o).core
-    by None = inr refl
-    by (Some x) = seat x (numbered k.seats x.owner)
-happens_passes k (Settles now) = inl (omega arith)
-happens_passes k (Cuts c) = by (numbered k.seats c)
-  where
-    linked : (s : Seat) (b : Bool) → Passes k (cuts_if k c s b).core
-    linked s true = inl (omega arith)
-    linked s false = inl (omega arith)
-
-    by : (o : Option Seat) → Passes k (cuts k c o).core
-    by None = inr refl
-    by (Some s) = linked s s.client.linked
-happens_passes k (Hangs n) = by (numbered k.sessions n)
-  where
-    hung : (x : Session) (b : Bool) → Passes k (hangs_if k n x b).core
-    hung x true = inr refl
-    hung x false = inl (omega arith)
-
-    by : (o : Option Session) → Passes k (hangs k n o).core
-    by None = inr refl
-    by (Some x) = hung x x.hung
+happens_passes k e = what_happens k e (λ t. Passes k t.core) (record {
+  nothing = inr refl;
+  idle = inl (omega arith);
+  joins = λ c seat is. inl (omega arith);
+  refuses = λ c seat is. inl (omega arith);
+  does = λ c now d seat is. inl (omega arith);
+  takes = λ n now bytes x m is read. inl (omega arith);
+  hears = λ n now bytes owner seat is. inl (omega arith);
+  settles = λ now is. inl (omega arith);
+  cuts = λ c seat is. inl (omega arith);
+  hangs = λ n x is. inl (omega arith);
+})
 
 -- ---- the moments of a run so far
 

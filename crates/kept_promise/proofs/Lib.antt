@@ -212,3 +212,4 @@ pub mod Arrivals
 pub mod Notes
 pub mod Unnoted
 pub mod TakenOut
+pub mod Happens

@@ -12,12 +12,11 @@ use Rattle.server_rules.specs.declared.told.Told.TheVariants as announced
 use Rattle.tree_reading.specs.declared.entry.EntryKind.TheVariants as kind
 use Rattle.trace_ends.specs.Core.{newest_entries, changed_file}
 use Rattle.trace_replay.specs.Faithful.{IsSettled, SettlesFirst, IsMadeOrRefused}
-use Rattle.kept_promise.proofs.Common.{Contains-push_cases, slice_get, slice_set, Contains, makes_change, connect, has_room, stands, Change, ServerStep, File, Entry, ClientStep, Ended, Op, Opening, TakenCall, has_point, op_after, Core, Seat, Session, Event, Event.Joins, Event.Does, Event.Serves, Event.Hears, Event.Settles, Event.Cuts, Event.Hangs, CoreStep, numbered, joins_as, joins, does, cuts_if, cuts, hangs_if, hangs, ops_with, settles, happens, Moment, step_of, Book, Queue}
+use Rattle.kept_promise.proofs.Common.{Contains-push_cases, slice_get, slice_set, Contains, makes_change, stands, Change, ServerStep, File, Entry, ClientStep, Ended, Op, Opening, TakenCall, has_point, op_after, Core, Session, Event, Event.Serves, Event.Settles, CoreStep, joins, does, cuts, hangs, ops_with, settles, happens, Moment, step_of, Book, Queue}
 use Rattle.kept_promise.proofs.Lists.{some_is, nothing_there, at_end, at_replaced, kept_appended, of_appended, same_or_not, set_else, within, of_more, in_front}
 use Rattle.kept_promise.proofs.Turns.{also_numbered}
 use Rattle.kept_promise.proofs.Facts.{IsKept}
 use Rattle.kept_promise.proofs.RunsCarried.{book_at, moment, Step, Carried}
-use Rattle.kept_promise.proofs.Actors.{heard_at}
 use Rattle.kept_promise.proofs.Fits.{FitLaws}
 use Rattle.kept_promise.proofs.ServesFiles.{newest_one}
 use Rattle.kept_promise.proofs.Rights.{IsRight}
@@ -29,6 +28,7 @@ use Rattle.kept_promise.proofs.TakenOut.{SettlesOut, settled_to}
 use Rattle.kept_promise.proofs.Making.{entry_of, made_change, made_is}
 use Rattle.kept_promise.proofs.ServesQuietly.{MadeHere, Entered, IsQuiet, serves_quiet}
 use Rattle.kept_promise.proofs.SettlesQuietly.{GoesHere, RefusesFor, Settling, makes_commit, makes_else, settling}
+use Rattle.kept_promise.proofs.Happens.{what_happens}
 
 -- ---- what becomes of operations that have a point
 
@@ -75,37 +75,32 @@ Quietly k t = (t.core.entries ≡ k.entries) × (t.core.server.journal ≡ k.ser
 left_rights : (all : List Moment) (opening : List Opening) (k : Core) (qs : List Queue) → IsKept (book_at opening k all) k qs → (j : ℕ) (r : Op) → slice_get k.ops j ≡ Some r → IsRight (book_at opening k all) r
 left_rights all opening k qs kept j r at = kept.sound.rights j r at
 
-quiet_event : FitLaws → (all past rest : List Moment) (opening : List Opening) (k : Core) (qs : List Queue) (e : Event) (mid after : List Queue) → Step all past rest opening k qs e mid after → ((now : ℕ) → e ≡ Settles now → ⊥) → ((n now : ℕ) (b : List ℕ) → e ≡ Serves n now b → ⊥) → Quietly k (happens k e)
-quiet_event laws all past rest opening k qs (Joins c) mid after s none served = subst (λ (o : Option Seat). Quietly k (joins k c o)) (sym s.finds.1) (by s.finds.0 (has_room k.server))
+quiet_event : (all past rest : List Moment) (opening : List Opening) (k : Core) (qs : List Queue) (e : Event) (mid after : List Queue) → Step all past rest opening k qs e mid after → ((now : ℕ) → e ≡ Settles now → ⊥) → ((n now : ℕ) (b : List ℕ) → e ≡ Serves n now b → ⊥) → Quietly k (happens k e)
+quiet_event all past rest opening k qs e mid after s none served = what_happens k e Now (record {
+  nothing = λ rights. same;
+  idle = λ rights. same;
+  joins = λ c seat is. λ rights. same;
+  refuses = λ c seat is. λ rights. same;
+  does = λ c now d seat is. λ rights. (refl, refl, more_points k.ops _);
+  takes = λ n now bytes x m is read. absurd (served n now bytes is);
+  hears = λ n now bytes owner seat is. λ rights. (refl, refl, acted_points left k.ops seat.place _ _ (k.steps + 1) _ rights);
+  settles = λ now is. absurd (none now is);
+  cuts = λ c seat is. λ rights. (refl, refl, acted_points left k.ops seat.place _ _ (k.steps + 1) _ rights);
+  hangs = λ n x is. λ rights. (refl, gone n (stands k.server n), same_points k.ops);
+}) (left_rights all opening (happens k e).core after s.left)
   where
-    by : (seat : Seat) (b : Bool) → (let r = connect k.server b in Quietly k (joins_as k c seat r.0 r.1.told))
-    by seat true = (refl, refl, same_points k.ops)
-    by seat false = (refl, refl, same_points k.ops)
-quiet_event laws all past rest opening k qs (Does c now d) mid after s none served = subst (λ (o : Option Seat). Quietly k (does k c now d o)) (sym s.finds.1) (refl, refl, more_points k.ops _)
-quiet_event laws all past rest opening k qs (Serves n now bytes) mid after s none served = absurd (served n now bytes refl)
-quiet_event laws all past rest opening k qs (Hears n now bytes) mid after s none served =
-    let h = heard_at (book_at opening k all) k qs n now bytes mid s.kept s.finds in
-    let rights = subst (λ (t : CoreStep). (j : ℕ) (r : Op) → slice_get t.core.ops j ≡ Some r → IsRight (book_at opening (happens k (Hears n now bytes)).core all) r) h.hears_is (left_rights all opening (happens k (Hears n now bytes)).core after s.left) in
-    subst (λ (t : CoreStep). Quietly k t) (sym h.hears_is) (refl, refl, acted_points (book_at opening (happens k (Hears n now bytes)).core all) k.ops h.seat.place _ _ (k.steps + 1) _ rights)
-quiet_event laws all past rest opening k qs (Settles now) mid after s none served = absurd (none now refl)
-quiet_event laws all past rest opening k qs (Cuts c) mid after s none served = subst (λ (o : Option Seat). Quietly k (cuts k c o)) (sym s.finds.1) (by s.finds.0.client.linked (subst (λ (o : Option Seat). (j : ℕ) (r : Op) → slice_get (cuts k c o).core.ops j ≡ Some r → IsRight (book_at opening (happens k (Cuts c)).core all) r) s.finds.1 (left_rights all opening (happens k (Cuts c)).core after s.left)))
-  where
-    by : (b : Bool) → ((j : ℕ) (r : Op) → slice_get (cuts_if k c s.finds.0 b).core.ops j ≡ Some r → IsRight (book_at opening (happens k (Cuts c)).core all) r) → Quietly k (cuts_if k c s.finds.0 b)
-    by true rights = (refl, refl, acted_points (book_at opening (happens k (Cuts c)).core all) k.ops s.finds.0.place _ _ (k.steps + 1) _ rights)
-    by false rights = (refl, refl, same_points k.ops)
-quiet_event laws all past rest opening k qs (Hangs n) mid after s none served = by (numbered k.sessions n)
-  where
-    gone : (b : Bool) → (server_hangs_if k.server b n).0.journal ≡ k.server.journal
-    gone true = refl
-    gone false = refl
+    left : Book
+    left = book_at opening (happens k e).core all
 
-    by : (x : Option Session) → Quietly k (hangs k n x)
-    by None = (refl, refl, same_points k.ops)
-    by (Some x) = hung x.hung
-      where
-        hung : (b : Bool) → Quietly k (hangs_if k n x b)
-        hung true = (refl, refl, same_points k.ops)
-        hung false = (refl, gone (stands k.server n), same_points k.ops)
+    Now : CoreStep → Type 0
+    Now t = ((j : ℕ) (r : Op) → slice_get t.core.ops j ≡ Some r → IsRight (book_at opening (happens k e).core all) r) → Quietly k t
+
+    same : (k.entries ≡ k.entries) × (k.server.journal ≡ k.server.journal) × KeepsPoints k.ops k.ops
+    same = (refl, refl, same_points k.ops)
+
+    gone : (n : ℕ) (b : Bool) → (server_hangs_if k.server b n).0.journal ≡ k.server.journal
+    gone n true = refl
+    gone n false = refl
 
 -- ---- what is carried
 
@@ -306,12 +301,8 @@ made_serving laws all past rest opening k qs n now bytes mid after s h =
 
 settled_event : FitLaws → (all past rest : List Moment) (opening : List Opening) (k : Core) (qs : List Queue) (e : Event) (mid after : List Queue) → Step all past rest opening k qs e mid after → AreMade opening all past k → AreMade opening all (past ++ moment k e ∷ []) (happens k e).core
 settled_event laws all past rest opening k qs (Settles now) mid after s h = made_settling all past rest opening k qs now mid after s h
-settled_event laws all past rest opening k qs (Joins c) mid after s h = made_quietly opening all past k (Joins c) (λ n z. absurd cc) (quiet_event laws all past rest opening k qs (Joins c) mid after s (λ n z. absurd cc) (λ n t b z. absurd cc)) h
-settled_event laws all past rest opening k qs (Does c now d) mid after s h = made_quietly opening all past k (Does c now d) (λ n z. absurd cc) (quiet_event laws all past rest opening k qs (Does c now d) mid after s (λ n z. absurd cc) (λ n t b z. absurd cc)) h
 settled_event laws all past rest opening k qs (Serves n now bytes) mid after s h = made_serving laws all past rest opening k qs n now bytes mid after s h
-settled_event laws all past rest opening k qs (Hears n now bytes) mid after s h = made_quietly opening all past k (Hears n now bytes) (λ n z. absurd cc) (quiet_event laws all past rest opening k qs (Hears n now bytes) mid after s (λ n z. absurd cc) (λ n t b z. absurd cc)) h
-settled_event laws all past rest opening k qs (Cuts c) mid after s h = made_quietly opening all past k (Cuts c) (λ n z. absurd cc) (quiet_event laws all past rest opening k qs (Cuts c) mid after s (λ n z. absurd cc) (λ n t b z. absurd cc)) h
-settled_event laws all past rest opening k qs (Hangs n) mid after s h = made_quietly opening all past k (Hangs n) (λ n z. absurd cc) (quiet_event laws all past rest opening k qs (Hangs n) mid after s (λ n z. absurd cc) (λ n t b z. absurd cc)) h
+settled_event laws all past rest opening k qs e mid after s h = made_quietly opening all past k e (λ n z. absurd cc) (quiet_event all past rest opening k qs e mid after s (λ n z. absurd cc) (λ n t b z. absurd cc)) h
 
 abbrev pub AllSettled : (all past : List Moment) → List Opening → Core → List Queue → Type 0
 AllSettled all past opening k qs = AreMade opening all past k

@@ -13,17 +13,15 @@ use Rattle.server_core.specs.Closing.{answers, looked_up, settles as server_sett
 use Rattle.server_core.specs.Steps.{sends}
 use Rattle.chunk_calls.specs.Writing.{cond_most}
 use Rattle.server_core.specs.declared.event.Sent.{Sent}
-use Rattle.server_rules.specs.declared.told.Told.{Told as Announced}
-use Rattle.server_rules.specs.declared.told.Told.TheVariants as announced
-use Rattle.server_core.specs.declared.event.Event.TheVariants as event
 use Rattle.trace_replay.specs.Saving.{name_call, name_told, name_answer}
-use Rattle.kept_promise.proofs.Common.{nat_lt, if◌then◌else◌, ◌==◌, ◌||◌, list_any, Contains, Contains-push_cases, Contains-append_cases, Answer, Done, Failed, Status, Body, Message, WireFault, parse_of, Temp, size_most, temp_at, room_fault, piece_fault, assembled, without_temp, Node, directory, file, node_of, File, Change, server_step, called, got_if, stands, at, makes, makes_unless, makes_change, names, names_unless, names_bytes, bytes_known, cond_fault, writes_unless, commits, commits_to, commits_whole, has_waiting, is_full, Core, Seat, Session, Event, Event.Joins, Event.Does, Event.Serves, Event.Hears, Event.Settles, Event.Cuts, Event.Hangs, CoreStep, numbered, server_waiting, is_newest, serves_if, serves, does, joins_as, joins, hears, hears_at, hears_if, cuts_if, cuts, hangs_if, hangs, happens, Wanted, Tree}
+use Rattle.kept_promise.proofs.Common.{nat_lt, if◌then◌else◌, ◌==◌, ◌||◌, list_any, Contains, Contains-push_cases, Contains-append_cases, Answer, Done, Failed, Status, Body, Message, parse_of, Temp, size_most, temp_at, room_fault, piece_fault, assembled, without_temp, Node, directory, file, node_of, File, Change, called, got_if, stands, at, makes, makes_unless, makes_change, names, names_unless, names_bytes, bytes_known, cond_fault, writes_unless, commits, commits_to, commits_whole, has_waiting, is_full, Core, Event, Event.Serves, CoreStep, server_waiting, does, joins, hears, cuts, hangs, happens, Wanted, Tree}
 use Rattle.kept_promise.proofs.Lists.{nothing_there}
 use Rattle.server_core.specs.declared.change.Wanted.TheVariants as wanted
 use Rattle.server_core.specs.Step.{asks, asks_tree}
 use Rattle.tree_calls.specs.Waiting.{calls}
 use Rattle.tree_calls.specs.declared.asked.Outcome.{Outcome}
 use Rattle.tree_calls.specs.declared.asked.Outcome.TheVariants.{Answered, Waits as ToWait}
+use Rattle.kept_promise.proofs.Happens.{what_happens}
 
 -- ---- what a CONDWRITE comes to
 
@@ -201,25 +199,22 @@ quietly : (k : Core) (e : Event) (t : CoreStep) → AreOther t.down → SentBy k
 quietly k e t h = record { taken = λ n xid r c. absurd (other_sent t.down n xid r h c) }
 
 pub name_taken : (k : Core) (e : Event) → SentBy k e (happens k e)
-name_taken k (Joins c) = by (numbered k.seats c)
+name_taken k e = what_happens k e (SentBy k e) (record {
+  nothing = quietly k e _ tt;
+  idle = quietly k e _ tt;
+  joins = λ c seat is. quietly k e _ tt;
+  refuses = λ c seat is. quietly k e _ tt;
+  does = λ c now d seat is. quietly k e _ tt;
+  takes = λ m now bytes x z is read. record { taken = λ n y r c. subst (λ (w : Event). NameTaken k w n y r) (sym is) (got_by m now bytes z read (stands k.server m) n y r c) };
+  hears = λ m now bytes owner seat is. quietly k e _ tt;
+  settles = λ now is. quietly k e _ (settled now k.server.waiting);
+  cuts = λ c seat is. quietly k e _ tt;
+  hangs = λ m x is. quietly k e _ tt;
+})
   where
-    made : (seat : Seat) (s : server.State) (o : Announced) → SentBy k (Joins c) (joins_as k c seat s o)
-    made seat s (announced.Session n) = quietly k (Joins c) _ tt
-    made seat s _ = quietly k (Joins c) _ tt
-
-    by : (o : Option Seat) → SentBy k (Joins c) (joins k c o)
-    by None = quietly k (Joins c) _ tt
-    by (Some seat) = made seat (server_step k.server event.Connect).0 (server_step k.server event.Connect).1.told
-name_taken k (Does c now d) = by (numbered k.seats c)
-  where
-    by : (o : Option Seat) → SentBy k (Does c now d) (does k c now d o)
-    by None = quietly k (Does c now d) _ tt
-    by (Some seat) = quietly k (Does c now d) _ tt
-name_taken k (Serves m now bytes) = by (numbered k.sessions m)
-  where
-    called_by : (x : Session) (xid : ℕ) (b : Body) → parse_of server_waiting bytes ≡ Ok (message.Call xid b) → Answers (at k.server now) m xid b (called (at k.server now) m xid b).1.send → (n y : ℕ) (r : Answer Unit Unit) → Contains (called (at k.server now) m xid b).1.send (record { session = n; message = name_told y r }) → NameTaken k (Serves m now bytes) n y r
-    called_by x xid b is (inr other) n y r c = absurd (other_sent (called (at k.server now) m xid b).1.send n y r other c)
-    called_by x xid b is (inl (a, names_it, (s, comes, sent))) n y r c =
+    called_by : (m now : ℕ) (bytes : List ℕ) (xid : ℕ) (b : Body) → parse_of server_waiting bytes ≡ Ok (message.Call xid b) → Answers (at k.server now) m xid b (called (at k.server now) m xid b).1.send → (n y : ℕ) (r : Answer Unit Unit) → Contains (called (at k.server now) m xid b).1.send (record { session = n; message = name_told y r }) → NameTaken k (Serves m now bytes) n y r
+    called_by m now bytes xid b is (inr other) n y r c = absurd (other_sent (called (at k.server now) m xid b).1.send n y r other c)
+    called_by m now bytes xid b is (inl (a, names_it, (s, comes, sent))) n y r c =
         let same = same_sent m n xid y s r (subst (λ l. Contains l (record { session = n; message = name_told y r })) sent c) in
         subst (λ z. NameTaken k (Serves m now bytes) z y r) (sym same.0) (subst (λ z. NameTaken k (Serves m now bytes) m z r) (sym same.1) (subst (NameTaken k (Serves m now bytes) m xid) (sym same.2) (record {
           now = now;
@@ -230,57 +225,17 @@ name_taken k (Serves m now bytes) = by (numbered k.sessions m)
           comes = comes;
         })))
 
-    got_by : (x : Session) (z : Message) → parse_of server_waiting bytes ≡ Ok z → (b : Bool) → (n y : ℕ) (r : Answer Unit Unit) → Contains (got_if k.server b m z now).1.send (record { session = n; message = name_told y r }) → NameTaken k (Serves m now bytes) n y r
-    got_by x (message.Call xid b) is true n y r c = called_by x xid b is (call_answers (at k.server now) m xid b) n y r c
-    got_by x (message.Unfit xid why) is true n y r c = absurd (other_sent (got_if k.server true m (message.Unfit xid why) now).1.send n y r (tt, tt) c)
-    got_by x (message.Answer xid b) is true n y r c = absurd (other_sent [] n y r tt c)
-    got_by x (message.Refuse xid why) is true n y r c = absurd (other_sent [] n y r tt c)
-    got_by x z is false n y r c = absurd (other_sent [] n y r tt c)
+    got_by : (m now : ℕ) (bytes : List ℕ) (z : Message) → parse_of server_waiting bytes ≡ Ok z → (b : Bool) → (n y : ℕ) (r : Answer Unit Unit) → Contains (got_if k.server b m z now).1.send (record { session = n; message = name_told y r }) → NameTaken k (Serves m now bytes) n y r
+    got_by m now bytes (message.Call xid b) is true n y r c = called_by m now bytes xid b is (call_answers (at k.server now) m xid b) n y r c
+    got_by m now bytes (message.Unfit xid why) is true n y r c = absurd (other_sent (got_if k.server true m (message.Unfit xid why) now).1.send n y r (tt, tt) c)
+    got_by m now bytes (message.Answer xid b) is true n y r c = absurd (other_sent [] n y r tt c)
+    got_by m now bytes (message.Refuse xid why) is true n y r c = absurd (other_sent [] n y r tt c)
+    got_by m now bytes z is false n y r c = absurd (other_sent [] n y r tt c)
 
-    read : (x : Session) (o : Result Message WireFault) → parse_of server_waiting bytes ≡ o → SentBy k (Serves m now bytes) (serves_if k m now x o)
-    read x (Ok z) is = record { taken = got_by x z is (stands k.server m) }
-    read x (Err f) is = quietly k (Serves m now bytes) _ tt
-
-    by : (o : Option Session) → SentBy k (Serves m now bytes) (serves k m now bytes o)
-    by None = quietly k (Serves m now bytes) _ tt
-    by (Some x) = read x (parse_of server_waiting bytes) refl
-name_taken k (Hears m now bytes) = by (numbered k.sessions m)
-  where
-    newest : (i : ℕ) (seat : Seat) (b : Bool) → SentBy k (Hears m now bytes) (hears_if k i now seat bytes b)
-    newest i seat true = quietly k (Hears m now bytes) _ tt
-    newest i seat false = quietly k (Hears m now bytes) _ tt
-
-    here : (i : ℕ) (o : Option Seat) → SentBy k (Hears m now bytes) (hears_at k m i now bytes o)
-    here i None = quietly k (Hears m now bytes) _ tt
-    here i (Some seat) = newest i seat (is_newest seat.session m)
-
-    by : (o : Option Session) → SentBy k (Hears m now bytes) (hears k m now bytes o)
-    by None = quietly k (Hears m now bytes) _ tt
-    by (Some x) = here x.owner (numbered k.seats x.owner)
-name_taken k (Settles now) = quietly k (Settles now) _ (by k.server.waiting)
-  where
     made : (s : server.State) (c : Change) (a : Wanted) → AreOther (makes_change s c a).1.send
     made s c (wanted.Content x) = (tt, tt)
     made s c (wanted.Asked a) = (tt, tt)
 
-    by : (ws : List Change) → AreOther (server_settles k.server now ws).1.send
-    by [] = tt
-    by (c ∷ cs) = made (at (record k.server { waiting = cs }) now) c c.what
-name_taken k (Cuts c) = by (numbered k.seats c)
-  where
-    linked : (seat : Seat) (b : Bool) → SentBy k (Cuts c) (cuts_if k c seat b)
-    linked seat true = quietly k (Cuts c) _ tt
-    linked seat false = quietly k (Cuts c) _ tt
-
-    by : (o : Option Seat) → SentBy k (Cuts c) (cuts k c o)
-    by None = quietly k (Cuts c) _ tt
-    by (Some seat) = linked seat seat.client.linked
-name_taken k (Hangs m) = by (numbered k.sessions m)
-  where
-    hung : (x : Session) (b : Bool) → SentBy k (Hangs m) (hangs_if k m x b)
-    hung x true = quietly k (Hangs m) _ tt
-    hung x false = quietly k (Hangs m) _ tt
-
-    by : (o : Option Session) → SentBy k (Hangs m) (hangs k m o)
-    by None = quietly k (Hangs m) _ tt
-    by (Some x) = hung x x.hung
+    settled : (now : ℕ) (ws : List Change) → AreOther (server_settles k.server now ws).1.send
+    settled now [] = tt
+    settled now (c ∷ cs) = made (at (record k.server { waiting = cs }) now) c c.what

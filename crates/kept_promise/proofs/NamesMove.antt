@@ -19,8 +19,6 @@ use Rattle.tree_calls.specs.declared.asked.Done.{Done as Finished}
 use Rattle.server_core.specs.State as server
 use Rattle.server_core.specs.declared.event.Event.TheVariants as event
 use Rattle.server_core.specs.declared.event.Sent.{Sent}
-use Rattle.server_rules.specs.declared.told.Told.{Told as Announced}
-use Rattle.server_rules.specs.declared.told.Told.TheVariants as announced
 use Rattle.server_core.specs.declared.change.Wanted.TheVariants as wanted
 use Rattle.path_calls.specs.Told.{walk_told}
 use Rattle.path_calls.specs.Walk.{next_call, call_at}
@@ -34,7 +32,7 @@ use Rattle.server_law.proofs.Trees.{IsBounded}
 use Rattle.trace_ends.specs.Core.{server_got}
 use Rattle.trace_replay.specs.Naming.{refusal_of}
 use Rattle.trace_replay.specs.OwnCalls.{ComesTo, held_at}
-use Rattle.kept_promise.proofs.Common.{cond, if◌then◌else◌, ◌==◌, filter, not, slice_get, Command, Contains, Contains-append_left, Contains-append_right, Contains-push, Contains-push_cases, Status, Message, WireFault, parse_of, Tree, Change, Wanted, server_step, stands, connect, has_room, at, has_waiting, makes_change, Op, Opening, Core, Seat, Session, Event, Event.Joins, Event.Does, Event.Serves, Event.Hears, Event.Settles, Event.Cuts, Event.Hangs, CoreStep, numbered, server_waiting, is_newest, serves_if, serves, does, joins_as, joins, hears, hears_at, hears_if, cuts_if, cuts, hangs_if, hangs, happens, Moment, step_of, client_of, is_in, Book, Queue, Ask, NameReply, name_answer, ask_message, Call, Call.Walks}
+use Rattle.kept_promise.proofs.Common.{cond, if◌then◌else◌, ◌==◌, filter, not, slice_get, Contains, Contains-append_left, Contains-append_right, Contains-push, Contains-push_cases, Status, Message, WireFault, parse_of, Tree, Change, Wanted, server_step, stands, at, has_waiting, makes_change, Op, Opening, Core, Session, Event, Event.Serves, Event.Settles, CoreStep, numbered, server_waiting, serves_if, serves, does, joins, hears, cuts, hangs_if, hangs, happens, Moment, step_of, client_of, is_in, Book, Queue, Ask, NameReply, name_answer, ask_message, Call, Call.Walks}
 use Rattle.kept_promise.proofs.Lists.{nothing_there, of_appended}
 use Rattle.kept_promise.proofs.Messages.{AllAsks, AsksFor, walk_for, walk_is}
 use Rattle.kept_promise.proofs.Fits.{FitLaws}
@@ -58,6 +56,7 @@ use Rattle.kept_promise.proofs.WalkRuns.{refused_leads}
 use Rattle.kept_promise.proofs.SentUp.{WasCalled, UpsSent}
 use Rattle.kept_promise.proofs.Logs.{IsSilent}
 use Rattle.kept_promise.proofs.Saved.{AllSaved, carried_saved}
+use Rattle.kept_promise.proofs.Happens.{what_happens}
 
 -- ---- another content changes no name
 
@@ -128,53 +127,26 @@ asked_is a b e = cc
 
 -- ---- events that leave the server's tree, and what waits there
 
-joins_still : (k : Core) (c : ℕ) (o : Option Seat) → IsStill k.server (joins k c o).core.server
-joins_still k c None = still_same k.server k.server refl
-joins_still k c (Some seat) = room (has_room k.server)
+others_still : (k : Core) (e : Event) → ((n now : ℕ) (bytes : List ℕ) → e ≡ Serves n now bytes → ⊥) → ((now : ℕ) → e ≡ Settles now → ⊥) → IsStill k.server (happens k e).core.server
+others_still k e unserved unsettled = what_happens k e (λ t. IsStill k.server t.core.server) (record {
+  nothing = same;
+  idle = same;
+  joins = λ c seat is. record { names = λ dir. refl; waiting = those_same k.server.waiting k.server.waiting refl };
+  refuses = λ c seat is. same;
+  does = λ c now d seat is. same;
+  takes = λ n now bytes x m is read. absurd (unserved n now bytes is);
+  hears = λ n now bytes owner seat is. same;
+  settles = λ now is. absurd (unsettled now is);
+  cuts = λ c seat is. same;
+  hangs = λ n x is. gone n (stands k.server n);
+})
   where
-    as_is : (s : server.State) (o : Announced) → IsStill k.server s → IsStill k.server (joins_as k c seat s o).core.server
-    as_is s (announced.Session n) h = h
-    as_is s _ h = h
+    same : IsStill k.server k.server
+    same = still_same k.server k.server refl
 
-    room : (b : Bool) → (let r = connect k.server b in IsStill k.server (joins_as k c seat r.0 r.1.told).core.server)
-    room true = let r = connect k.server true in as_is r.0 r.1.told (record { names = λ dir. refl; waiting = those_same k.server.waiting k.server.waiting refl })
-    room false = let r = connect k.server false in as_is r.0 r.1.told (still_same k.server k.server refl)
-
-does_still : (k : Core) (c now : ℕ) (d : Command) (o : Option Seat) → IsStill k.server (does k c now d o).core.server
-does_still k c now d None = still_same k.server k.server refl
-does_still k c now d (Some seat) = still_same k.server k.server refl
-
-hears_still : (k : Core) (n now : ℕ) (bytes : List ℕ) (o : Option Session) → IsStill k.server (hears k n now bytes o).core.server
-hears_still k n now bytes None = still_same k.server k.server refl
-hears_still k n now bytes (Some x) = seat (numbered k.seats x.owner)
-  where
-    newest : (s : Seat) (b : Bool) → IsStill k.server (hears_if k x.owner now s bytes b).core.server
-    newest s true = still_same k.server k.server refl
-    newest s false = still_same k.server k.server refl
-
-    seat : (o : Option Seat) → IsStill k.server (hears_at k n x.owner now bytes o).core.server
-    seat None = still_same k.server k.server refl
-    seat (Some s) = newest s (is_newest s.session n)
-
-cuts_still : (k : Core) (c : ℕ) (o : Option Seat) → IsStill k.server (cuts k c o).core.server
-cuts_still k c None = still_same k.server k.server refl
-cuts_still k c (Some seat) = by seat.client.linked
-  where
-    by : (b : Bool) → IsStill k.server (cuts_if k c seat b).core.server
-    by true = still_same k.server k.server refl
-    by false = still_same k.server k.server refl
-
-hangs_still : (k : Core) (n : ℕ) (o : Option Session) → IsStill k.server (hangs k n o).core.server
-hangs_still k n None = still_same k.server k.server refl
-hangs_still k n (Some x) = by x.hung
-  where
-    gone : (b : Bool) → IsStill k.server (Rattle.server_core.specs.Step.hangs_if k.server b n).0
-    gone true = record { names = λ dir. refl; waiting = λ i c at. (left_there n k.server.waiting i c at).0 }
-    gone false = still_same k.server k.server refl
-
-    by : (b : Bool) → IsStill k.server (hangs_if k n x b).core.server
-    by true = still_same k.server k.server refl
-    by false = gone (stands k.server n)
+    gone : (n : ℕ) (b : Bool) → IsStill k.server (Rattle.server_core.specs.Step.hangs_if k.server b n).0
+    gone n true = record { names = λ dir. refl; waiting = λ i c at. (left_there n k.server.waiting i c at).0 }
+    gone n false = same
 
 -- ---- what is carried
 
@@ -441,13 +413,9 @@ names_settles past book k qs now kept h = by (what_settles book k qs now kept)
 -- ---- any event
 
 names_event : FitLaws → (all past rest : List Moment) (opening : List Opening) (k : Core) (qs : List Queue) (e : Event) (mid after : List Queue) → Step all past rest opening k qs e mid after → UpsSent past k.steps qs → AreNamed past k → NamesAfter past k e
-names_event fits all past rest opening k qs (Joins c) mid after s sent h = after_still past k (Joins c) (joins_still k c (numbered k.seats c))
-names_event fits all past rest opening k qs (Does c now d) mid after s sent h = after_still past k (Does c now d) (does_still k c now d (numbered k.seats c))
 names_event fits all past rest opening k qs (Serves n now bytes) mid after s sent h = names_serves fits all past opening k qs mid n now bytes s.kept s.finds sent
-names_event fits all past rest opening k qs (Hears n now bytes) mid after s sent h = after_still past k (Hears n now bytes) (hears_still k n now bytes (numbered k.sessions n))
 names_event fits all past rest opening k qs (Settles now) mid after s sent h = names_settles past (book_at opening k all) k qs now s.kept h
-names_event fits all past rest opening k qs (Cuts c) mid after s sent h = after_still past k (Cuts c) (cuts_still k c (numbered k.seats c))
-names_event fits all past rest opening k qs (Hangs n) mid after s sent h = after_still past k (Hangs n) (hangs_still k n (numbered k.sessions n))
+names_event fits all past rest opening k qs e mid after s sent h = after_still past k e (others_still k e (λ n now bytes z. absurd cc) (λ now z. absurd cc))
 
 -- beside what is saved, by which each call that is taken had been sent
 pub record AllNamed (all past : List Moment) (opening : List Opening) (k : Core) (qs : List Queue) : Type 0 where

@@ -1,15 +1,12 @@
 -- Each answer on its way to a client was sent by the server, in a step before.
-use Rattle.std.proofs.Common.{◌⊎◌, inl, inr, ◌≡◌, ℕ, ◌+◌, ◌≤◌, List, [], ◌∷◌, ◌++◌, Option, Some, None, Result, Ok, Err, Bool, true, false, refl, sym, subst, arith, map}
-use Rattle.server_core.specs.State as server
-use Rattle.server_core.specs.declared.event.Event.TheVariants as event
-use Rattle.server_rules.specs.declared.told.Told.{Told as Announced}
-use Rattle.server_rules.specs.declared.told.Told.TheVariants as announced
-use Rattle.kept_promise.proofs.Common.{Contains, Contains-append_left, Contains-append_right, Contains-push, parse_of, Message, WireFault, server_step, Core, Seat, Session, Event, Event.Joins, Event.Does, Event.Serves, Event.Hears, Event.Settles, Event.Cuts, Event.Hangs, CoreStep, numbered, server_waiting, is_newest, serves_if, serves, does, joins_as, joins, hears, hears_at, hears_if, cuts_if, cuts, hangs_if, hangs, happens, Moment, step_of, unless, Queue, Told}
+use Rattle.std.proofs.Common.{◌⊎◌, inl, inr, ◌≡◌, ℕ, ◌+◌, ◌≤◌, List, [], ◌∷◌, ◌++◌, Bool, true, false, refl, sym, subst, arith, map}
+use Rattle.kept_promise.proofs.Common.{Contains, Contains-append_left, Contains-append_right, Contains-push, Core, Event, CoreStep, does, joins, hears, cuts, hangs, happens, Moment, step_of, unless, Queue, Told}
 use Rattle.kept_promise.proofs.Lists.{all_append, AllOf, all_map}
 use Rattle.kept_promise.proofs.Messages.{AllTolds}
 use Rattle.kept_promise.proofs.LeftCommits.{QueuesHave, have_ups, have_downs, have_lost, taken_off}
 use Rattle.kept_promise.proofs.Leading.{sent_message, Sends, ups_put, queues_lost, queues_after}
 use Rattle.kept_promise.proofs.RunsCarried.{moment, Finds}
+use Rattle.kept_promise.proofs.Happens.{what_happens}
 
 -- the server sent this answer on a session at one of these moments, up to this step
 pub record WasSent (past : List Moment) (steps n : ℕ) (t : Told) : Type 0 where
@@ -67,61 +64,18 @@ abbrev InStep : Core → CoreStep → Type 0
 InStep k t = ((t.up ≡ []) × (t.down ≡ [])) ⊎ (k.steps + 1 ≤ t.core.steps)
 
 pub in_step : (k : Core) (e : Event) → InStep k (happens k e)
-in_step k (Joins c) = by (numbered k.seats c)
-  where
-    made : (seat : Seat) (s : server.State) (o : Announced) → InStep k (joins_as k c seat s o)
-    made seat s (announced.Session n) = inl (refl, refl)
-    made seat s _ = inl (refl, refl)
-
-    by : (o : Option Seat) → InStep k (joins k c o)
-    by None = inl (refl, refl)
-    by (Some seat) = made seat (server_step k.server event.Connect).0 (server_step k.server event.Connect).1.told
-in_step k (Does c now d) = by (numbered k.seats c)
-  where
-    by : (o : Option Seat) → InStep k (does k c now d o)
-    by None = inl (refl, refl)
-    by (Some seat) = inr (omega arith)
-in_step k (Serves n now bytes) = by (numbered k.sessions n)
-  where
-    read : (x : Session) (r : Result Message WireFault) → InStep k (serves_if k n now x r)
-    read x (Ok m) = inr (omega arith)
-    read x (Err e) = inl (refl, refl)
-
-    by : (o : Option Session) → InStep k (serves k n now bytes o)
-    by None = inl (refl, refl)
-    by (Some x) = read x (parse_of server_waiting bytes)
-in_step k (Hears n now bytes) = by (numbered k.sessions n)
-  where
-    newest : (i : ℕ) (seat : Seat) (b : Bool) → InStep k (hears_if k i now seat bytes b)
-    newest i seat true = inr (omega arith)
-    newest i seat false = inl (refl, refl)
-
-    at : (i : ℕ) (o : Option Seat) → InStep k (hears_at k n i now bytes o)
-    at i None = inl (refl, refl)
-    at i (Some seat) = newest i seat (is_newest seat.session n)
-
-    by : (o : Option Session) → InStep k (hears k n now bytes o)
-    by None = inl (refl, refl)
-    by (Some x) = at x.owner (numbered k.seats x.owner)
-in_step k (Settles now) = inr (omega arith)
-in_step k (Cuts c) = by (numbered k.seats c)
-  where
-    linked : (seat : Seat) (b : Bool) → InStep k (cuts_if k c seat b)
-    linked seat true = inr (omega arith)
-    linked seat false = inl (refl, refl)
-
-    by : (o : Option Seat) → InStep k (cuts k c o)
-    by None = inl (refl, refl)
-    by (Some seat) = linked seat seat.client.linked
-in_step k (Hangs n) = by (numbered k.sessions n)
-  where
-    hung : (x : Session) (b : Bool) → InStep k (hangs_if k n x b)
-    hung x true = inl (refl, refl)
-    hung x false = inl (refl, refl)
-
-    by : (o : Option Session) → InStep k (hangs k n o)
-    by None = inl (refl, refl)
-    by (Some x) = hung x x.hung
+in_step k e = what_happens k e (InStep k) (record {
+  nothing = inl (refl, refl);
+  idle = inl (refl, refl);
+  joins = λ c seat is. inl (refl, refl);
+  refuses = λ c seat is. inl (refl, refl);
+  does = λ c now d seat is. inr (omega arith);
+  takes = λ n now bytes x m is read. inr (omega arith);
+  hears = λ n now bytes owner seat is. inr (omega arith);
+  settles = λ now is. inr (omega arith);
+  cuts = λ c seat is. inr (omega arith);
+  hangs = λ n x is. inl (refl, refl);
+})
 
 pub none_sent : {A B : Type 0} (x : A) (xs : List A) → xs ≡ [] → Contains xs x → B
 none_sent x xs none c = let there = subst (λ l. Contains l x) none c in let lt = there.1 in absurd (omega (arith, lt))
