@@ -61,11 +61,11 @@ happens_turn k e = what_happens k e (λ t. Turns k t.core) (record {
   joins = λ c seat is. keeps_same (tree k);
   refuses = λ c seat is. keeps_same (tree k);
   does = λ c now d seat is. keeps_same (tree k);
-  takes = λ n now bytes x m is read. got_tree k.server n m now;
+  takes = λ n now bytes x m is at read. got_tree k.server n m now;
   hears = λ n now bytes owner seat is. keeps_same (tree k);
   settles = λ now is. settles_turn k now;
   cuts = λ c seat is. keeps_same (tree k);
-  hangs = λ n x is. subst (Keeps (tree k)) (sym (hangs_tree k n x)) (keeps_same (tree k));
+  hangs = λ n x is at. subst (Keeps (tree k)) (sym (hangs_tree k n x)) (keeps_same (tree k));
 })
 
 -- ---- directories, and steps
@@ -78,11 +78,11 @@ happens_dirs k e = what_happens k e (λ t. KeepsDirs (tree k) (tree t.core)) (re
   joins = λ c seat is. dirs_same (tree k);
   refuses = λ c seat is. dirs_same (tree k);
   does = λ c now d seat is. dirs_same (tree k);
-  takes = λ n now bytes x m is read. got_dirs k.server n m now;
+  takes = λ n now bytes x m is at read. got_dirs k.server n m now;
   hears = λ n now bytes owner seat is. dirs_same (tree k);
   settles = λ now is. by now k.server.waiting;
   cuts = λ c seat is. dirs_same (tree k);
-  hangs = λ n x is. subst (KeepsDirs (tree k)) (sym (hangs_tree k n x)) (dirs_same (tree k));
+  hangs = λ n x is at. subst (KeepsDirs (tree k)) (sym (hangs_tree k n x)) (dirs_same (tree k));
 })
   where
     made : (s : server.State) (c : Change) (a : Wanted) → s.tree ≡ tree k → KeepsDirs (tree k) (makes_change s c a).0.tree
@@ -104,11 +104,11 @@ happens_passes k e = what_happens k e (λ t. Passes k t.core) (record {
   joins = λ c seat is. inl (omega arith);
   refuses = λ c seat is. inl (omega arith);
   does = λ c now d seat is. inl (omega arith);
-  takes = λ n now bytes x m is read. inl (omega arith);
+  takes = λ n now bytes x m is at read. inl (omega arith);
   hears = λ n now bytes owner seat is. inl (omega arith);
   settles = λ now is. inl (omega arith);
   cuts = λ c seat is. inl (omega arith);
-  hangs = λ n x is. inl (omega arith);
+  hangs = λ n x is at. inl (omega arith);
 })
 
 -- ---- the moments of a run so far

@@ -14,11 +14,11 @@ pub record Happens (k : Core) (e : Event) (Z : CoreStep → Type 0) : Type 0 whe
   pub joins : (c : ℕ) (seat : Seat) → e ≡ Joins c → Z (joins_by k c seat true)
   pub refuses : (c : ℕ) (seat : Seat) → e ≡ Joins c → Z (joins_by k c seat false)
   pub does : (c now : ℕ) (d : Command) (seat : Seat) → e ≡ Does c now d → Z (does k c now d (Some seat))
-  pub takes : (n now : ℕ) (bytes : List ℕ) (x : Session) (m : Message) → e ≡ Serves n now bytes → parse_of server_waiting bytes ≡ Ok m → Z (server_got k n now x m)
+  pub takes : (n now : ℕ) (bytes : List ℕ) (x : Session) (m : Message) → e ≡ Serves n now bytes → numbered k.sessions n ≡ Some x → parse_of server_waiting bytes ≡ Ok m → Z (server_got k n now x m)
   pub hears : (n now : ℕ) (bytes : List ℕ) (owner : ℕ) (seat : Seat) → e ≡ Hears n now bytes → Z (hears_by k owner now seat bytes)
   pub settles : (now : ℕ) → e ≡ Settles now → Z (settles k now)
   pub cuts : (c : ℕ) (seat : Seat) → e ≡ Cuts c → Z (cuts_if k c seat true)
-  pub hangs : (n : ℕ) (x : Session) → e ≡ Hangs n → Z (hangs_if k n x false)
+  pub hangs : (n : ℕ) (x : Session) → e ≡ Hangs n → numbered k.sessions n ≡ Some x → Z (hangs_if k n x false)
 
 pub what_happens : (k : Core) (e : Event) (Z : CoreStep → Type 0) → Happens k e Z → Z (happens k e)
 what_happens k (Joins c) Z h = by (numbered k.seats c)
@@ -35,15 +35,15 @@ what_happens k (Does c now d) Z h = by (numbered k.seats c)
     by : (o : Option Seat) → Z (does k c now d o)
     by None = h.nothing
     by (Some seat) = h.does c now d seat refl
-what_happens k (Serves n now bytes) Z h = by (numbered k.sessions n)
+what_happens k (Serves n now bytes) Z h = by (numbered k.sessions n) refl
   where
-    read : (x : Session) (m : Result Message WireFault) → parse_of server_waiting bytes ≡ m → Z (serves_if k n now x m)
-    read x (Ok m) is = h.takes n now bytes x m refl is
-    read x (Err e) is = h.idle
+    read : (x : Session) → numbered k.sessions n ≡ Some x → (m : Result Message WireFault) → parse_of server_waiting bytes ≡ m → Z (serves_if k n now x m)
+    read x at (Ok m) is = h.takes n now bytes x m refl at is
+    read x at (Err e) is = h.idle
 
-    by : (o : Option Session) → Z (serves k n now bytes o)
-    by None = h.nothing
-    by (Some x) = read x (parse_of server_waiting bytes) refl
+    by : (o : Option Session) → numbered k.sessions n ≡ o → Z (serves k n now bytes o)
+    by None at = h.nothing
+    by (Some x) at = read x at (parse_of server_waiting bytes) refl
 what_happens k (Hears n now bytes) Z h = by (numbered k.sessions n)
   where
     newest : (owner : ℕ) (seat : Seat) (b : Bool) → Z (hears_if k owner now seat bytes b)
@@ -67,12 +67,12 @@ what_happens k (Cuts c) Z h = by (numbered k.seats c)
     by : (o : Option Seat) → Z (cuts k c o)
     by None = h.nothing
     by (Some seat) = linked seat seat.client.linked
-what_happens k (Hangs n) Z h = by (numbered k.sessions n)
+what_happens k (Hangs n) Z h = by (numbered k.sessions n) refl
   where
-    hung : (x : Session) (b : Bool) → Z (hangs_if k n x b)
-    hung x true = h.nothing
-    hung x false = h.hangs n x refl
+    hung : (x : Session) → numbered k.sessions n ≡ Some x → (b : Bool) → Z (hangs_if k n x b)
+    hung x at true = h.nothing
+    hung x at false = h.hangs n x refl at
 
-    by : (o : Option Session) → Z (hangs k n o)
-    by None = h.nothing
-    by (Some x) = hung x x.hung
+    by : (o : Option Session) → numbered k.sessions n ≡ o → Z (hangs k n o)
+    by None at = h.nothing
+    by (Some x) at = hung x at x.hung

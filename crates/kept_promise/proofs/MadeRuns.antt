@@ -82,11 +82,11 @@ quiet_event all past rest opening k qs e mid after s none served = what_happens 
   joins = λ c seat is. λ rights. same;
   refuses = λ c seat is. λ rights. same;
   does = λ c now d seat is. λ rights. (refl, refl, more_points k.ops _);
-  takes = λ n now bytes x m is read. absurd (served n now bytes is);
+  takes = λ n now bytes x m is at read. absurd (served n now bytes is);
   hears = λ n now bytes owner seat is. λ rights. (refl, refl, acted_points left k.ops seat.place _ _ (k.steps + 1) _ rights);
   settles = λ now is. absurd (none now is);
   cuts = λ c seat is. λ rights. (refl, refl, acted_points left k.ops seat.place _ _ (k.steps + 1) _ rights);
-  hangs = λ n x is. λ rights. (refl, gone n (stands k.server n), same_points k.ops);
+  hangs = λ n x is at. λ rights. (refl, gone n (stands k.server n), same_points k.ops);
 }) (left_rights all opening (happens k e).core after s.left)
   where
     left : Book

@@ -205,11 +205,11 @@ name_taken k e = what_happens k e (SentBy k e) (record {
   joins = λ c seat is. quietly k e _ tt;
   refuses = λ c seat is. quietly k e _ tt;
   does = λ c now d seat is. quietly k e _ tt;
-  takes = λ m now bytes x z is read. record { taken = λ n y r c. subst (λ (w : Event). NameTaken k w n y r) (sym is) (got_by m now bytes z read (stands k.server m) n y r c) };
+  takes = λ m now bytes x z is there read. record { taken = λ n y r c. subst (λ (w : Event). NameTaken k w n y r) (sym is) (got_by m now bytes z read (stands k.server m) n y r c) };
   hears = λ m now bytes owner seat is. quietly k e _ tt;
   settles = λ now is. quietly k e _ (settled now k.server.waiting);
   cuts = λ c seat is. quietly k e _ tt;
-  hangs = λ m x is. quietly k e _ tt;
+  hangs = λ m x is there. quietly k e _ tt;
 })
   where
     called_by : (m now : ℕ) (bytes : List ℕ) (xid : ℕ) (b : Body) → parse_of server_waiting bytes ≡ Ok (message.Call xid b) → Answers (at k.server now) m xid b (called (at k.server now) m xid b).1.send → (n y : ℕ) (r : Answer Unit Unit) → Contains (called (at k.server now) m xid b).1.send (record { session = n; message = name_told y r }) → NameTaken k (Serves m now bytes) n y r

@@ -134,11 +134,11 @@ others_still k e unserved unsettled = what_happens k e (λ t. IsStill k.server t
   joins = λ c seat is. record { names = λ dir. refl; waiting = those_same k.server.waiting k.server.waiting refl };
   refuses = λ c seat is. same;
   does = λ c now d seat is. same;
-  takes = λ n now bytes x m is read. absurd (unserved n now bytes is);
+  takes = λ n now bytes x m is at read. absurd (unserved n now bytes is);
   hears = λ n now bytes owner seat is. same;
   settles = λ now is. absurd (unsettled now is);
   cuts = λ c seat is. same;
-  hangs = λ n x is. gone n (stands k.server n);
+  hangs = λ n x is at. gone n (stands k.server n);
 })
   where
     same : IsStill k.server k.server

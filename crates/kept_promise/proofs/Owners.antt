@@ -1,5 +1,5 @@
 -- What the owners of the sessions are, and the stage, once a line was run.
-use Rattle.std.proofs.Common.{◌≡◌, ℕ, zero, suc, List, [], ◌∷◌, ◌++◌, length, Option, Some, None, Bool, true, false, refl, sym, ap, ◌∙◌, Result, Ok, Err, map, take}
+use Rattle.std.proofs.Common.{◌≡◌, ℕ, zero, suc, List, [], ◌∷◌, ◌++◌, length, Option, Some, None, Bool, true, false, refl, sym, ap, ◌∙◌, map, take, subst}
 use Rattle.trace_text.specs.declared.line.Who.TheVariants as who
 use Rattle.client_state.specs.State as client
 use Rattle.trace_ends.specs.Core.{with_client, adjusted}
@@ -9,8 +9,9 @@ use Rattle.trace_ends.specs.declared.adjusting.Adjustment.TheVariants as adjustm
 use Rattle.trace_replay.specs.declared.stage.Stage.{Stage}
 use Rattle.trace_replay.specs.declared.stage.Stage.TheVariants as stage
 use Rattle.trace_replay.specs.declared.turn.Turn.TheVariants as turn
-use Rattle.kept_promise.proofs.Common.{slice_get, slice_set, fed, parse_of, Message, WireFault, Command, has_room, connect, command_step, ClientStep, Word, Turn, Core, Seat, Session, CoreStep, Event, Event.Joins, Event.Does, Event.Serves, Event.Hears, Event.Settles, Event.Cuts, Event.Hangs, new_session, numbered, with_numbered, session_of, server_waiting, serves, serves_if, hears, hears_at, hears_if, is_newest, commanded_sessions, does, cut_session, cuts, cuts_if, hangs, hangs_if, joins, joins_as, happens, World, Wire, happened, all_happened, up_some, up_at, down_some, down_at, up_all, up_length, down_length, is_still, round, passes, at_events, count_of, turned, owners_of}
+use Rattle.kept_promise.proofs.Common.{slice_get, slice_set, fed, has_room, connect, command_step, ClientStep, Word, Turn, Core, Seat, Session, CoreStep, Event, Event.Joins, Event.Does, Event.Serves, Event.Hears, Event.Settles, Event.Cuts, Event.Hangs, new_session, numbered, with_numbered, session_of, hears, commanded_sessions, does, cut_session, cuts, hangs, joins, joins_as, happens, World, Wire, happened, all_happened, up_some, up_at, down_some, down_at, up_all, up_length, down_length, is_still, round, passes, at_events, count_of, turned, owners_of}
 use Rattle.kept_promise.proofs.Lists.{nothing_there}
+use Rattle.kept_promise.proofs.Happens.{what_happens}
 
 abbrev owners : List Session → List ℕ
 owners xs = map (λ x. x.owner) xs
@@ -33,72 +34,31 @@ with_owner xs (suc i) x y at same = set_owner xs i x y at same
 abbrev Keeps : Core → CoreStep → Type 0
 Keeps k t = owners t.core.sessions ≡ owners k.sessions
 
-served : (k : Core) (n now : ℕ) (x : Session) (r : Result Message WireFault) → numbered k.sessions n ≡ Some x → Keeps k (serves_if k n now x r)
-served k n now x (Ok m) at = with_owner k.sessions n x _ at refl
-served k n now x (Err e) at = refl
-
-serves_keeps : (k : Core) (n now : ℕ) (bytes : List ℕ) → Keeps k (serves k n now bytes (numbered k.sessions n))
-serves_keeps k n now bytes = by (numbered k.sessions n) refl
-  where
-    by : (o : Option Session) → numbered k.sessions n ≡ o → Keeps k (serves k n now bytes o)
-    by None at = refl
-    by (Some x) at = served k n now x (parse_of server_waiting bytes) at
-
-hears_keeps : (k : Core) (n now : ℕ) (bytes : List ℕ) (o : Option Session) → Keeps k (hears k n now bytes o)
-hears_keeps k n now bytes None = refl
-hears_keeps k n now bytes (Some x) = by (numbered k.seats x.owner)
-  where
-    by_if : (seat : Seat) (b : Bool) → Keeps k (hears_if k x.owner now seat bytes b)
-    by_if seat true = refl
-    by_if seat false = refl
-
-    by : (o : Option Seat) → Keeps k (hears_at k n x.owner now bytes o)
-    by None = refl
-    by (Some seat) = by_if seat (is_newest seat.session n)
-
 commanded_keeps : (k : Core) (o : Option ℕ) (x : Option Session) → session_of k.sessions o ≡ x → (running : Option ℕ) (place : ℕ) (what : Word) (acts : ClientStep) → owners (commanded_sessions k.sessions o x running place what acts) ≡ owners k.sessions
 commanded_keeps k (Some n) (Some x) at running place what acts = with_owner k.sessions n x _ at refl
 commanded_keeps k _ _ at running place what acts = refl
 
-does_keeps : (k : Core) (n now : ℕ) (c : Command) (o : Option Seat) → Keeps k (does k n now c o)
-does_keeps k n now c None = refl
-does_keeps k n now c (Some seat) = commanded_keeps k seat.session (session_of k.sessions seat.session) refl seat.place (length k.ops) _ (command_step seat.client c now).1
-
 cut_keeps : (k : Core) (o : Option ℕ) (x : Option Session) → session_of k.sessions o ≡ x → owners (cut_session k.sessions o x) ≡ owners k.sessions
 cut_keeps k (Some n) (Some x) at = with_owner k.sessions n x _ at refl
 cut_keeps k _ _ at = refl
-
-cuts_keeps : (k : Core) (n : ℕ) (o : Option Seat) → Keeps k (cuts k n o)
-cuts_keeps k n None = refl
-cuts_keeps k n (Some seat) = by seat.client.linked
-  where
-    by : (b : Bool) → Keeps k (cuts_if k n seat b)
-    by true = cut_keeps k seat.session (session_of k.sessions seat.session) refl
-    by false = refl
-
-hangs_keeps : (k : Core) (n : ℕ) → Keeps k (hangs k n (numbered k.sessions n))
-hangs_keeps k n = by (numbered k.sessions n) refl
-  where
-    by_if : (x : Session) → numbered k.sessions n ≡ Some x → (b : Bool) → Keeps k (hangs_if k n x b)
-    by_if x at true = refl
-    by_if x at false = with_owner k.sessions n x _ at refl
-
-    by : (o : Option Session) → numbered k.sessions n ≡ o → Keeps k (hangs k n o)
-    by None at = refl
-    by (Some x) at = by_if x at x.hung
 
 abbrev MakesNone : Event → Type 0
 MakesNone (Joins n) = ⊥
 MakesNone e = Unit {0}
 
 happens_keeps : (k : Core) (e : Event) → MakesNone e → Keeps k (happens k e)
-happens_keeps k (Joins n) m = absurd m
-happens_keeps k (Does n now c) m = does_keeps k n now c (numbered k.seats n)
-happens_keeps k (Serves n now bytes) m = serves_keeps k n now bytes
-happens_keeps k (Hears n now bytes) m = hears_keeps k n now bytes (numbered k.sessions n)
-happens_keeps k (Settles now) m = refl
-happens_keeps k (Cuts n) m = cuts_keeps k n (numbered k.seats n)
-happens_keeps k (Hangs n) m = hangs_keeps k n
+happens_keeps k e m = what_happens k e (Keeps k) (record {
+  nothing = refl;
+  idle = refl;
+  joins = λ c seat is. absurd (subst MakesNone is m);
+  refuses = λ c seat is. refl;
+  does = λ c now d seat is. commanded_keeps k seat.session (session_of k.sessions seat.session) refl seat.place (length k.ops) _ (command_step seat.client d now).1;
+  takes = λ n now bytes x z is at read. with_owner k.sessions n x _ at refl;
+  hears = λ n now bytes owner seat is. refl;
+  settles = λ now is. refl;
+  cuts = λ c seat is. cut_keeps k seat.session (session_of k.sessions seat.session) refl;
+  hangs = λ n x is at. with_owner k.sessions n x _ at refl;
+})
 
 -- ---- the world
 

@@ -11,7 +11,7 @@ use Rattle.client_cache.specs.Cache.{content_of, reserved}
 use Rattle.client_state.specs.State as client
 use Rattle.trace_replay.specs.Saving.{name_call, name_told, name_answer, known_at, AnswersName, TakesName, SentBefore, TakesTold, ToldOf, AreTold, AllKnown, first_call, AsksFirst}
 use Rattle.trace_replay.specs.Traffic.{unknown_in, unknown_number, deals_if}
-use Rattle.kept_promise.proofs.Common.{Contains, Contains-append_left, Contains-append_right, Contains-push, Contains-push_cases, not, Answer, Done, Failed, Status, Command, Body, Message, WireFault, parse_of, temp_at, cond_fault, at, got_if, stands, opens, opens_if, asks_file, asks_kept, may_ask, is_open, command_step, Content, Task, Op, Opening, Core, Seat, Session, Event, Event.Joins, Event.Does, Event.Serves, Event.Hears, Event.Settles, Event.Cuts, Event.Hangs, numbered, server_waiting, serves_if, serves, does, happens, Moment, step_of, client_of, owner_in, wanted_if, wanted_by, taken_by, given_by, is_in, Deal, Deal.Took, Deal.Found, Deal.Sent, deals_with, deals_in, deals_of, Book, Queue, Ask, Reply, Reply.Named, ask_message, told_message, reply_body}
+use Rattle.kept_promise.proofs.Common.{Contains, Contains-append_left, Contains-append_right, Contains-push, Contains-push_cases, not, Answer, Done, Failed, Status, Command, Body, Message, WireFault, parse_of, temp_at, cond_fault, at, got_if, stands, opens, opens_if, asks_file, asks_kept, may_ask, is_open, command_step, Content, Task, Op, Opening, Core, Seat, Session, Event, Event.Does, Event.Serves, Event.Hears, numbered, server_waiting, serves_if, serves, does, happens, Moment, step_of, client_of, owner_in, wanted_if, wanted_by, taken_by, given_by, is_in, Deal, Deal.Took, Deal.Found, Deal.Sent, deals_with, deals_in, deals_of, Book, Queue, Ask, Reply, Reply.Named, ask_message, told_message, reply_body}
 use Rattle.kept_promise.proofs.Lists.{nothing_there}
 use Rattle.kept_promise.proofs.Messages.{Job, job, AllAsks, AllTolds}
 use Rattle.kept_promise.proofs.Orderly.{Wanted, IsWanted}
@@ -59,30 +59,10 @@ answers_name all opening k qs mid (Serves n now bytes) kept f session xid a w =
       where
         none_is : (a : Ask) (us : List Ask) → a ∷ us ≡ [] → ⊥
         none_is a us z = absurd cc
-answers_name all opening k qs mid (Joins c) kept f session xid a w = absurd (other w.event_is)
+answers_name all opening k qs mid e kept f session xid a w = unserved e w.event_is (λ n now bytes z. absurd cc)
   where
-    other : {n i : ℕ} {b : List ℕ} → Joins c ≡ Serves n i b → ⊥
-    other e = absurd cc
-answers_name all opening k qs mid (Does c now d) kept f session xid a w = absurd (other w.event_is)
-  where
-    other : {n i : ℕ} {b : List ℕ} → Does c now d ≡ Serves n i b → ⊥
-    other e = absurd cc
-answers_name all opening k qs mid (Hears m now bytes) kept f session xid a w = absurd (other w.event_is)
-  where
-    other : {n i : ℕ} {b : List ℕ} → Hears m now bytes ≡ Serves n i b → ⊥
-    other e = absurd cc
-answers_name all opening k qs mid (Settles now) kept f session xid a w = absurd (other w.event_is)
-  where
-    other : {n i : ℕ} {b : List ℕ} → Settles now ≡ Serves n i b → ⊥
-    other e = absurd cc
-answers_name all opening k qs mid (Cuts c) kept f session xid a w = absurd (other w.event_is)
-  where
-    other : {n i : ℕ} {b : List ℕ} → Cuts c ≡ Serves n i b → ⊥
-    other e = absurd cc
-answers_name all opening k qs mid (Hangs m) kept f session xid a w = absurd (other w.event_is)
-  where
-    other : {n i : ℕ} {b : List ℕ} → Hangs m ≡ Serves n i b → ⊥
-    other e = absurd cc
+    unserved : {A : Type 0} (e : Event) {n now : ℕ} {bytes : List ℕ} → e ≡ Serves n now bytes → ((n now : ℕ) (bytes : List ℕ) → e ≡ Serves n now bytes → A) → A
+    unserved e is other = other _ _ _ is
 
 -- ---- it had been sent
 

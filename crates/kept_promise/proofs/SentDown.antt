@@ -70,11 +70,11 @@ in_step k e = what_happens k e (InStep k) (record {
   joins = λ c seat is. inl (refl, refl);
   refuses = λ c seat is. inl (refl, refl);
   does = λ c now d seat is. inr (omega arith);
-  takes = λ n now bytes x m is read. inr (omega arith);
+  takes = λ n now bytes x m is at read. inr (omega arith);
   hears = λ n now bytes owner seat is. inr (omega arith);
   settles = λ now is. inr (omega arith);
   cuts = λ c seat is. inr (omega arith);
-  hangs = λ n x is. inl (refl, refl);
+  hangs = λ n x is at. inl (refl, refl);
 })
 
 pub none_sent : {A B : Type 0} (x : A) (xs : List A) → xs ≡ [] → Contains xs x → B
