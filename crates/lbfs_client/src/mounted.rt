@@ -2,7 +2,7 @@
 //! what they come to.
 
 ghost use Rattle.std.specs.Prelude.{◌≡◌, IfOk, IfErr, None, true, false};
-ghost use Rattle.lbfs_client.specs.Hinting.{LearnsIn, OffersFrom, closing_of};
+ghost use Rattle.lbfs_client.specs.Hinting.{LearnsIn, OffersIf, closing_of};
 ghost use Rattle.client_state.specs.State.{start};
 ghost use Rattle.lbfs_client.specs.Mounting.{Runs, Receives, Stops, joined_step};
 
@@ -127,12 +127,17 @@ impl<F: Files> Mounted<F> {
         self.client.learn(alloc, file).is_ok()
     }
 
-    /// A file of the host is read, and offered to the client's index, so that a chunk of a fetch that has
-    /// bytes of it doesn't travel: a hint, which nobody trusts. Says whether that was done: not where it
-    /// can't be read, or memory was wanting. While an operation is under way nothing is offered.
+    /// A file of the host, if it is there, is read, and offered to the client's index, so that a chunk of a
+    /// fetch that has bytes of it doesn't travel: a hint, which nobody trusts. Says whether that was done:
+    /// not where it can't be read, or memory was wanting. While an operation is under way nothing is
+    /// offered.
+    #[tactic(auto, using(crate::proofs::Hintings::offered_if))]
     pub fn offer(&mut self, alloc: Global, local: &LocalName) -> bool
-        ensures { OffersFrom self.old local.now result self.new }
+        ensures { OffersIf result self.old local.now self.new }
     {
+        if !self.files.has(local.as_str()) {
+            return false;
+        }
         let bytes = read(alloc, &mut self.files, local);
         offer_read(alloc, &mut self.client, bytes)
     }

@@ -1,7 +1,7 @@
 -- What a turn of a mount makes of its client: a call of `Mounted`, and one that tells it the end of the link where what was said didn't go out.
 use Rattle.std.specs.Prelude.{◌≡◌, ◌⊎◌, ℕ, List, Option, Some, None, Bool, false, not}
 use Rattle.record_ends.specs.declared.end.End.{End}
-use Rattle.lbfs_client.specs.Hinting.{LearnsIn, OffersFrom}
+use Rattle.lbfs_client.specs.Hinting.{LearnsIn, OffersIf}
 use Rattle.lbfs_client.specs.Mounting.{Mount, Runs, Stops}
 use Rattle.lbfs_client.specs.declared.line.MountLine.{MountLine}
 use Rattle.lbfs_client.specs.declared.line.MountLine.TheVariants as line
@@ -30,7 +30,7 @@ Sends m now m' = (m' ≡ m) ⊎ ((end : End) × Loses m end now m')
 pub record Hints (m m' : Mount) : Type 0 where
   pub mid : Mount
   pub learned : (mid ≡ m) ⊎ ((file : ℕ) × LearnsIn m file mid)
-  pub offered : (m' ≡ mid) ⊎ ((name : List ℕ) × (done : Bool) × OffersFrom mid name done m')
+  pub offered : (m' ≡ mid) ⊎ ((name : List ℕ) × (done : Bool) × OffersIf done mid name m')
 
 -- a line after these
 abbrev pub RunsHinted : Mount → MountLine → (now : ℕ) → Mount → Said → Type 0
