@@ -26,11 +26,18 @@ Loses m end now m' = (said : Said) × Stops m end now m' said
 abbrev pub Sends : Mount → (now : ℕ) → Mount → Type 0
 Sends m now m' = (m' ≡ m) ⊎ ((end : End) × Loses m end now m')
 
--- Before a line the client may get hints: of what was stored, and of a file of the host.
+-- Before a line the client may get hints: of what was stored,
+abbrev pub MayLearn : Mount → Mount → Type 0
+MayLearn m m' = (m' ≡ m) ⊎ ((file : ℕ) × LearnsIn m file m')
+
+-- and of a file of the host.
+abbrev pub MayOffer : Mount → Mount → Type 0
+MayOffer m m' = (m' ≡ m) ⊎ ((name : List ℕ) × (done : Bool) × OffersIf done m name m')
+
 pub record Hints (m m' : Mount) : Type 0 where
   pub mid : Mount
-  pub learned : (mid ≡ m) ⊎ ((file : ℕ) × LearnsIn m file mid)
-  pub offered : (m' ≡ mid) ⊎ ((name : List ℕ) × (done : Bool) × OffersIf done mid name m')
+  pub learned : MayLearn m mid
+  pub offered : MayOffer mid m'
 
 -- a line after these
 abbrev pub RunsHinted : Mount → MountLine → (now : ℕ) → Mount → Said → Type 0

@@ -3,7 +3,7 @@
 
 ghost use Rattle.std.specs.Prelude.{◌≡◌, ◌⊎◌, ◌==◌, ◌+◌, ◌-◌, ◌^◌, min, IfOk, IsOk, IsTrue, true, false};
 ghost use Rattle.lbfs_client.specs.Mounting.{Receives, joined_step};
-ghost use Rattle.lbfs_mount.specs.Turns.{Hints, IsTold, Loses, RunsHinted, Sends, Turns, wants_link};
+ghost use Rattle.lbfs_mount.specs.Turns.{Hints, MayLearn, MayOffer, IsTold, Loses, RunsHinted, Sends, Turns, wants_link};
 
 use crate::answer_line::AnswerLine;
 use crate::turns::Turns;
@@ -67,6 +67,36 @@ fn closed_by(line: &MountLine) -> Option<u64> {
     }
 }
 
+/// The client's index gets the places of the file that was closed last.
+#[tactic(auto, using(crate::proofs::Hintings::may_learn, crate::proofs::Hintings::nothing_learned))]
+fn learn_stored<F: Files>(alloc: Global, mounted: &mut Mounted<F>, stored: Option<u64>)
+    ensures { MayLearn mounted.old mounted.new }
+{
+    match stored {
+        Some(file) => {
+            let _done = mounted.learn(alloc, file);
+        }
+        None => {}
+    }
+}
+
+/// The client's index is offered the file of the host that a `get` is to replace, or that a `put` stores: a
+/// fetch of what the server has then brings only the chunks that aren't there.
+#[tactic(auto, using(crate::proofs::Hintings::may_offer, crate::proofs::Hintings::nothing_offered))]
+fn offer_local<F: Files>(alloc: Global, mounted: &mut Mounted<F>, line: &MountLine)
+    ensures { MayOffer mounted.old mounted.new }
+{
+    match line {
+        MountLine::Get { local, .. } => {
+            let _done = mounted.offer(alloc, local);
+        }
+        MountLine::Put { local, .. } => {
+            let _done = mounted.offer(alloc, local);
+        }
+        _ => {}
+    }
+}
+
 /// The line of what ended is kept until it is taken.
 fn keep(held: &mut Option<AnswerLine>, line: Option<Bytes>)
     requires { IsTold line }
@@ -113,28 +143,15 @@ impl<F: Files + Drop, L: Link + Drop> Desk<F, L> {
         self.connection == connection && self.link.is_some() && !self.starved
     }
 
-    /// Hints for the client's index before a line: of the file that was closed last, and of the one that
-    /// a `get` is to replace.
+    /// Hints for the client's index before a line: of the file that was closed last, and of the host's
+    /// file that a `get` or a `put` names.
     fn hint(&mut self, alloc: Global, line: &MountLine)
         ensures hints { Hints self.old.mounted self.new.mounted }
         ensures rest { (self.new.starved ≡ self.old.starved) × (self.new.connection ≡ self.old.connection) }
     {
-        if let Some(file) = self.stored {
-            self.mounted.learn(alloc, file);
-        }
+        learn_stored(alloc, &mut self.mounted, self.stored);
+        offer_local(alloc, &mut self.mounted, line);
         self.stored = closed_by(line);
-        if let MountLine::Get { local, .. } = line {
-            self.mounted.offer(alloc, local);
-        }
-    }
-
-    /// The file that the line under way closes, if it closes one, is the one that was closed last.
-    fn note_closing(&mut self)
-        ensures { (self.new.mounted ≡ self.old.mounted) × (self.new.starved ≡ self.old.starved) × (self.new.connection ≡ self.old.connection) }
-    {
-        if let Some(file) = self.mounted.closing() {
-            self.stored = Some(file);
-        }
     }
 
     /// What a call of the client says is sent, and its line kept; or memory ran out.
@@ -205,7 +222,7 @@ impl<F: Files + Drop, L: Link + Drop> Turns for Desk<F, L> {
         let wants = matches!(line, MountLine::Join) && !self.mounted.linked();
         self.hint(alloc, &line);
         let said = self.mounted.line(alloc, line, now);
-        self.note_closing();
+        self.stored = self.mounted.closing().or(self.stored);
         self.settle(alloc, said, now);
         wants
     }
@@ -234,7 +251,7 @@ impl<F: Files + Drop, L: Link + Drop> Turns for Desk<F, L> {
             return false;
         }
         let said = self.mounted.got(alloc, record, now);
-        self.note_closing();
+        self.stored = self.mounted.closing().or(self.stored);
         self.settle(alloc, said, now);
         close_unless(self.mounted.linked(), &mut self.link);
         self.is_open(connection)
