@@ -1,6 +1,6 @@
 -- The calls that wait: those of the operation under way, and behind them those that are forgotten.
-use Rattle.std.proofs.Common.{◌≡◌, refl, sym, ap, subst, ◌∙◌, ℕ, ◌≤◌, ◌==◌, List, [], ◌∷◌, ◌++◌, length, take, drop, Bool, true, false, not, arith}
-use Rattle.std.specs.Prelude.{Option, None, cond, ◌||◌}
+use Rattle.std.proofs.Common.{◌≡◌, refl, sym, ap, subst, ◌∙◌, ℕ, ◌≤◌, ◌==◌, List, [], ◌∷◌, ◌++◌, length, take, drop, Bool, true, false, not, true≢false, is_some, arith}
+use Rattle.std.specs.Prelude.{Option, Some, None, cond, ◌||◌}
 use Rattle.std.proofs.Math.Seq.{drop-append_seam, take-append_seam}
 use Rattle.std.proofs.lemmas.List.{length-append, length-drop}
 use Rattle.std.proofs.lemmas.List.Elements.{filter-append}
@@ -81,6 +81,14 @@ pub sound_index : (s : ClientState) (index : Indexed) → IsSound s → IsSound 
 sound_index s index h =
     let b = h.base in
     record { base = record { side = b.side; own = b.own; next = b.next; temps = b.temps; ids = b.ids; locals = b.locals; kept = b.kept }; calls = h.calls; own = h.own; xids = h.xids; within = h.within; there = h.there }
+
+no_task : (o : Option Task) → is_some o ≡ false → o ≡ None
+no_task None e = refl
+no_task (Some t) e = absurd (true≢false e)
+
+-- nor do another cache and another index, while nothing is under way
+pub sound_hints : (s : ClientState) (cache : Entries) (index : Indexed) → IsSound s → All IsKeptBounded cache → is_some s.task ≡ false → IsSound (record s { cache = cache; index = index })
+sound_hints s cache index h kept idle = sound_index (record s { cache = cache }) index (sound_cache s cache h kept (subst (λ o. TaskIsThere cache o) (sym (no_task s.task idle)) tt))
 
 -- ---- an answer to a call that is forgotten is dropped
 

@@ -3,3 +3,4 @@ pub mod Local
 pub mod Counting
 pub mod View
 pub mod Ending
+pub mod Hints

@@ -75,6 +75,13 @@ impl<R: HostDisk> Files for HostFiles<R> {
 
     ghost faults = { λ f. f.faults };
 
+    fn has(&self, name: &str) -> bool {
+        match fs::metadata(&self.rt, name) {
+            Ok(facts) => facts.is_file(),
+            Err(_) => false,
+        }
+    }
+
     fn get(&mut self, alloc: Global, name: &str) -> Result<Bytes, FilesError> {
         match read_file(&self.rt, alloc, name) {
             Ok(bytes) => Ok(bytes),

@@ -3,3 +3,4 @@ pub mod Letters
 pub mod Runnings
 pub mod Sayings
 pub mod Worked
+mod Hintings

@@ -5,3 +5,4 @@ pub mod Lines
 pub mod Mounting
 pub mod TextRows
 pub mod Walks
+pub mod Hinting

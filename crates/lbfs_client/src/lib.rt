@@ -10,6 +10,7 @@
 pub mod answer;
 mod commanding;
 mod fetching;
+mod hinting;
 pub mod line;
 pub mod local;
 pub mod mounted;

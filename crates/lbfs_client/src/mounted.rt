@@ -1,11 +1,15 @@
 //! The client behind a mount, and the four things that may happen to it. `specs/Mounting.antt` says
 //! what they come to.
 
-ghost use Rattle.std.specs.Prelude.{◌≡◌, IfOk, IfErr, None};
+ghost use Rattle.std.specs.Prelude.{◌≡◌, IfOk, IfErr, None, true, false};
+ghost use Rattle.lbfs_client.specs.Hinting.{LearnsIn, OffersIf, closing_of};
 ghost use Rattle.client_state.specs.State.{start};
 ghost use Rattle.lbfs_client.specs.Mounting.{Runs, Receives, Stops, joined_step};
 
+use crate::fetching::read;
+use crate::hinting::{closing, offer_read};
 use crate::line::MountLine;
+use crate::local::LocalName;
 use crate::running::{joined, run};
 use crate::said::Said;
 use crate::walk::Walk;
@@ -112,6 +116,37 @@ impl<F: Files> Mounted<F> {
         ensures { IfOk result (λ said. joined_step self.old ≡ (self.new, said)) }
     {
         joined(alloc, &mut self.client, &mut self.walk)
+    }
+
+    /// The places of the chunks of what the client keeps of a file enter its index: a hint, which nobody
+    /// trusts. Says whether that was done; where memory was wanting nothing was.
+    pub fn learn(&mut self, alloc: Global, file: u64) -> bool
+        ensures done { result ≡ true → LearnsIn self.old file self.new }
+        ensures same { result ≡ false → self.new ≡ self.old }
+    {
+        self.client.learn(alloc, file).is_ok()
+    }
+
+    /// A file of the host, if it is there, is read, and offered to the client's index, so that a chunk of a
+    /// fetch that has bytes of it doesn't travel: a hint, which nobody trusts. Says whether that was done:
+    /// not where it can't be read, or memory was wanting. While an operation is under way nothing is
+    /// offered.
+    #[tactic(auto, using(crate::proofs::Hintings::offered_if))]
+    pub fn offer(&mut self, alloc: Global, local: &LocalName) -> bool
+        ensures { OffersIf result self.old local.now self.new }
+    {
+        if !self.files.has(local.as_str()) {
+            return false;
+        }
+        let bytes = read(alloc, &mut self.files, local);
+        offer_read(alloc, &mut self.client, bytes)
+    }
+
+    /// The file that the line under way closes, if it closes one. It takes no memory.
+    pub fn closing(&self) -> Option<u64>
+        ensures { result ≡ closing_of self.now.walk }
+    {
+        closing(&self.walk)
     }
 
     /// Whether a connection is joined. It takes no memory.

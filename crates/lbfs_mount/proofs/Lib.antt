@@ -3,3 +3,4 @@ pub mod Lines
 mod Progress
 mod Skipping
 mod Telling
+mod Hintings

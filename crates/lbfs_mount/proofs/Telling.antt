@@ -24,7 +24,7 @@ use Rattle.lbfs_client.specs.Walks.{says, answer_of, answer_to, is_closed, opene
 use Rattle.lbfs_client.specs.declared.said.Said.{Said}
 use Rattle.lbfs_client.specs.declared.walk.Walk.{Walk}
 use Rattle.lbfs_client.specs.declared.walk.Walk.TheVariants as walk
-use Rattle.lbfs_mount.specs.Turns.{IsTold, Sends, Turns}
+use Rattle.lbfs_mount.specs.Turns.{Hints, IsTold, RunsHinted, Sends, Turns}
 
 -- ---- what is said
 
@@ -130,6 +130,11 @@ apart e = cc
 pub runs_all : {E : Type 0} (r : Result Said E) (m : Mount) (l : MountLine) (now : ℕ) (m' : Mount) → IfOk r (λ said. Runs m l now m' said) → IfOk r (λ said. IsTold said.line)
 runs_all (Ok said) m l now m' p = runs_told m l now m' said p
 runs_all (Err e) m l now m' p = tt
+
+-- after hints, too
+pub hinted_all : {E : Type 0} (r : Result Said E) (m h : Mount) (l : MountLine) (now : ℕ) (m' : Mount) → Hints m h → IfOk r (λ said. Runs h l now m' said) → IfOk r (λ said. RunsHinted m l now m' said)
+hinted_all (Ok said) m h l now m' hints p = (h, hints, p)
+hinted_all (Err e) m h l now m' hints p = tt
 
 pub receives_all : {E : Type 0} (r : Result Said E) (m : Mount) (bytes : List ℕ) (now : ℕ) (m' : Mount) → IfOk r (λ said. Receives m bytes now m' said) → IfOk r (λ said. IsTold said.line)
 receives_all (Ok said) m bytes now m' p = receives_told m bytes now m' said p

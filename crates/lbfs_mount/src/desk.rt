@@ -2,11 +2,12 @@
 //! what ended last. `specs/Turns.antt` says what a turn makes of the client.
 
 ghost use Rattle.std.specs.Prelude.{◌≡◌, ◌⊎◌, ◌==◌, ◌+◌, ◌-◌, ◌^◌, min, IfOk, IsOk, IsTrue, true, false};
-ghost use Rattle.lbfs_client.specs.Mounting.{Runs, Receives, joined_step};
-ghost use Rattle.lbfs_mount.specs.Turns.{IsTold, Loses, Sends, Turns, wants_link};
+ghost use Rattle.lbfs_client.specs.Mounting.{Receives, joined_step};
+ghost use Rattle.lbfs_mount.specs.Turns.{Hints, MayLearn, MayOffer, IsTold, Loses, RunsHinted, Sends, Turns, wants_link};
 
 use crate::answer_line::AnswerLine;
 use crate::turns::Turns;
+use command_text::command::Command;
 use lb_base::items::{Bytes, Items};
 use lbfs_client::line::MountLine;
 use lbfs_client::mounted::Mounted;
@@ -31,6 +32,8 @@ pub(crate) struct Desk<F: Files, L> {
     line: Option<AnswerLine>,
     /// Whether memory ran out.
     starved: bool,
+    /// The file that was closed last, whose places the client's index gets with the next line.
+    stored: Option<u64>,
 }
 
 /// The link is shut, where there is one.
@@ -56,6 +59,44 @@ fn send_on<L: Link>(alloc: Global, link: &mut Option<L>, send: &Items<Message>) 
     }
 }
 
+/// The file that a line closes by itself.
+fn closed_by(line: &MountLine) -> Option<u64> {
+    match line {
+        MountLine::Plain(Command::Close(file)) => Some(*file),
+        _ => None,
+    }
+}
+
+/// The client's index gets the places of the file that was closed last.
+#[tactic(auto, using(crate::proofs::Hintings::may_learn, crate::proofs::Hintings::nothing_learned))]
+fn learn_stored<F: Files>(alloc: Global, mounted: &mut Mounted<F>, stored: Option<u64>)
+    ensures { MayLearn mounted.old mounted.new }
+{
+    match stored {
+        Some(file) => {
+            let _done = mounted.learn(alloc, file);
+        }
+        None => {}
+    }
+}
+
+/// The client's index is offered the file of the host that a `get` is to replace, or that a `put` stores: a
+/// fetch of what the server has then brings only the chunks that aren't there.
+#[tactic(auto, using(crate::proofs::Hintings::may_offer, crate::proofs::Hintings::nothing_offered))]
+fn offer_local<F: Files>(alloc: Global, mounted: &mut Mounted<F>, line: &MountLine)
+    ensures { MayOffer mounted.old mounted.new }
+{
+    match line {
+        MountLine::Get { local, .. } => {
+            let _done = mounted.offer(alloc, local);
+        }
+        MountLine::Put { local, .. } => {
+            let _done = mounted.offer(alloc, local);
+        }
+        _ => {}
+    }
+}
+
 /// The line of what ended is kept until it is taken.
 fn keep(held: &mut Option<AnswerLine>, line: Option<Bytes>)
     requires { IsTold line }
@@ -76,6 +117,7 @@ impl<F: Files + Drop, L: Link + Drop> Desk<F, L> {
             connection: 0,
             line: None,
             starved: false,
+            stored: None,
         }
     }
 
@@ -99,6 +141,17 @@ impl<F: Files + Drop, L: Link + Drop> Desk<F, L> {
         ensures { IsTrue result → (self.now.connection == connection) ≡ true }
     {
         self.connection == connection && self.link.is_some() && !self.starved
+    }
+
+    /// Hints for the client's index before a line: of the file that was closed last, and of the host's
+    /// file that a `get` or a `put` names.
+    fn hint(&mut self, alloc: Global, line: &MountLine)
+        ensures hints { Hints self.old.mounted self.new.mounted }
+        ensures rest { (self.new.starved ≡ self.old.starved) × (self.new.connection ≡ self.old.connection) }
+    {
+        learn_stored(alloc, &mut self.mounted, self.stored);
+        offer_local(alloc, &mut self.mounted, line);
+        self.stored = closed_by(line);
     }
 
     /// What a call of the client says is sent, and its line kept; or memory ran out.
@@ -162,12 +215,14 @@ impl<F: Files + Drop, L: Link + Drop> Turns for Desk<F, L> {
 
     /// A line of the script begins. It answers whether a connection is to be joined for it.
     fn run(&mut self, alloc: Global, line: MountLine, now: u64) -> bool
-        ensures turn { self.new.starved ≡ false → Turns (λ m said. Runs self.old.mounted line now m said) now self.new.mounted }
+        ensures turn { self.new.starved ≡ false → Turns (λ m said. RunsHinted self.old.mounted line now m said) now self.new.mounted }
         ensures wants { result ≡ wants_link line self.old.mounted.client.linked }
         ensures number { self.new.connection ≡ self.old.connection }
     {
         let wants = matches!(line, MountLine::Join) && !self.mounted.linked();
+        self.hint(alloc, &line);
         let said = self.mounted.line(alloc, line, now);
+        self.stored = self.mounted.closing().or(self.stored);
         self.settle(alloc, said, now);
         wants
     }
@@ -196,6 +251,7 @@ impl<F: Files + Drop, L: Link + Drop> Turns for Desk<F, L> {
             return false;
         }
         let said = self.mounted.got(alloc, record, now);
+        self.stored = self.mounted.closing().or(self.stored);
         self.settle(alloc, said, now);
         close_unless(self.mounted.linked(), &mut self.link);
         self.is_open(connection)

@@ -5,7 +5,7 @@ ghost use Rattle.std.specs.Option.{option_map};
 ghost use Rattle.lb_base.specs.Causes.{Rose};
 ghost use Rattle.lb_base.specs.declared.sink.GiveError.TheVariants as give_errors;
 ghost use Rattle.limits.specs.declared.TheConstants.{FILE_MOST};
-ghost use Rattle.links.specs.Files.{bytes_of, with_file};
+ghost use Rattle.links.specs.Files.{bytes_of, is_there, with_file};
 ghost use Rattle.links.specs.declared.files.HostFile.{HostFile};
 ghost use Rattle.links.specs.declared.files.FilesError.TheVariants as errors;
 
@@ -66,6 +66,10 @@ pub trait Files {
 
     /// How many faults there were.
     ghost faults: { Self → ℕ };
+
+    /// Whether there is a file of this name that `get` can be asked for. It is no fault where there is none.
+    fn has(&self, name: &str) -> bool
+        ensures told { (held : List HostFile) → files self.now ≡ Some held → result ≡ is_there name.now held };
 
     /// The bytes of a file, where it has at most `FILE_MOST`. `Failed` comes only where the count of
     /// faults rose, `TooBig` only where the file has more bytes.

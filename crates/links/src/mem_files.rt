@@ -147,6 +147,12 @@ impl Files for SureFiles {
 
     ghost faults = { λ _. 0 };
 
+    fn has(&self, name: &str) -> bool
+        ensures told { result ≡ is_there name.now self.now }
+    {
+        is_there(&self.files, name.as_bytes())
+    }
+
     fn get(&mut self, alloc: Global, name: &str) -> Result<Bytes, FilesError>
         ensures told { IfOk result (λ bytes. bytes ≡ bytes_of name.now self.old) }
         ensures within { IfOk result (λ bytes. length bytes ≤ FILE_MOST) }
@@ -227,6 +233,12 @@ impl Files for MemFiles {
     ghost files = { λ f. Some f.files };
 
     ghost faults = { λ f. f.faults };
+
+    fn has(&self, name: &str) -> bool
+        ensures told { result ≡ is_there name.now self.now.files }
+    {
+        self.files.has(name)
+    }
 
     fn get(&mut self, alloc: Global, name: &str) -> Result<Bytes, FilesError>
         ensures told { IfOk result (λ bytes. bytes ≡ bytes_of name.now self.old.files) }

@@ -1,6 +1,8 @@
 //! The client. `specs/State.antt` says what it is, and `specs/Step.antt` what it does.
 
-ghost use Rattle.std.specs.Prelude.{◌≡◌, false, true, option_map, Some, IfOk, OnOk, OnErr};
+ghost use Rattle.limits.specs.declared.TheConstants.{FILE_MOST};
+ghost use Rattle.std.specs.Prelude.{◌≡◌, ◌≤◌, length, false, true, option_map, Some, IfOk, OnOk, OnErr};
+ghost use Rattle.client_state.specs.Hints.{Learns, Offers};
 ghost use Rattle.std.specs.Option.{option_copied};
 ghost use Rattle.client_state.specs.State.{start, evicted, forged, index_cleared, waiting_of, local_at};
 ghost use Rattle.client_state.specs.Counting.{misses, by_memory};
@@ -147,6 +149,28 @@ impl Client {
         ensures { self.new ≡ index_cleared self.old }
     {
         self.state.clear_index();
+    }
+
+    /// The places of the chunks of what is kept of a file enter the index, if anything is kept of it: a
+    /// hint, as a forged place is. Says whether some were left out, for want of memory. An `Err`, which is
+    /// want of memory too, changes nothing.
+    pub fn learn(&mut self, alloc: Global, file: u64) -> Result<bool, AllocError>
+        ensures ok { IfOk result (λ left_out. Learns self.old file left_out self.new) }
+        ensures err { OnErr result (self.new ≡ self.old) }
+    {
+        self.state.learn(alloc, file)
+    }
+
+    /// A content is kept that is no file's, in place of the one that was offered before, and the places of
+    /// its chunks enter the index: so a chunk of a fetch that has its bytes doesn't travel. While an
+    /// operation is under way nothing is done. Says whether some places were left out, for want of memory.
+    /// An `Err`, which is want of memory too, changes nothing.
+    pub fn offer(&mut self, alloc: Global, content: SharedBytes) -> Result<bool, AllocError>
+        requires { length content ≤ FILE_MOST }
+        ensures ok { IfOk result (λ left_out. Offers self.old content left_out self.new) }
+        ensures err { OnErr result (self.new ≡ self.old) }
+    {
+        self.state.offer(alloc, content)
     }
 
     /// What may come: answers to the calls that wait, those of ended operations and attempts too.
