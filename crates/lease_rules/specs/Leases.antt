@@ -1,6 +1,6 @@
 -- The rules on a single lease (Gray and Cheriton, SOSP 1989). Who has a lease on a file is asked before the file is
 -- changed, until the lease ends.
-use Rattle.std.specs.Prelude.{ℕ, List, filter, Option, Some, None, Bool, true, false, not, ◌&&◌, ◌||◌, ◌==◌, nat_lt}
+use Rattle.std.specs.Prelude.{ℕ, ◌+◌, ◌-◌, List, filter, Option, Some, None, Bool, true, false, not, ◌&&◌, ◌||◌, ◌==◌, nat_lt, if◌then◌else◌}
 use Rattle.lease_rules.specs.declared.lease.Held.{Held}
 use Rattle.lease_rules.specs.declared.lease.Lease.{Lease}
 
@@ -39,6 +39,18 @@ is_recall (Some y) x = y == x
 -- the session was asked for it by the RECALL with this xid
 abbrev pub remembers : Lease → (session xid : ℕ) → Bool
 remembers l session xid = l.session == session && is_recall l.recall xid
+
+-- ---- for how long
+
+-- None is granted on a file while a change of it waits, which is the term 0.
+abbrev pub term_for : (waits : Bool) → (term : ℕ) → ℕ
+term_for true term = 0
+term_for false term = term
+
+-- The first reading of its own clock at which a client goes no more by a lease. It began at the server when the call had been sent, so the client counts
+-- its term from there, and less the drift of the clocks. Where the term isn't above the drift there is none.
+abbrev pub note_until : (sent term drift : ℕ) → Option ℕ
+note_until sent term drift = if nat_lt drift term then Some (sent + (term - drift)) else None
 
 -- ---- many of them
 
