@@ -16,6 +16,10 @@ use Rattle.lease_rules.specs.declared.change.AskError.TheVariants.{Jukebox, Memo
 abbrev pub recall_of : (file session : ℕ) → Recall
 recall_of file session = record { session = session; file = file }
 
+-- the recalls that are due where a session asks for a change of the file
+abbrev pub recalls_of : List Lease → (session file now : ℕ) → List Recall
+recalls_of leases session file now = map (recall_of file) (others leases session file now)
+
 module _ {P : Type 0} where
   -- ---- one change
 
@@ -25,7 +29,7 @@ module _ {P : Type 0} where
 
   -- the recalls that it asks for when it comes
   abbrev pub recalls_due : List Lease → (now : ℕ) → Change P → List Recall
-  recalls_due leases now c = map (recall_of c.file) (others leases (asker c) c.file now)
+  recalls_due leases now c = recalls_of leases (asker c) c.file now
 
   -- ---- those that wait, the one that came first before the others
 

@@ -2,8 +2,10 @@
 
 ghost use Rattle.std.specs.Prelude.{◌≡◌, ◌+◌, ◌<◌, ◌≤◌, ◌^◌, ◌∷◌, ◌++◌, [], OnOk, OnErr, IfOk, IsSome, ◌⊎◌, map, length, vec_len, vec_capacity, ℕ, false, IsOk};
 ghost use Rattle.lease_table.specs.Leases.{grant, lease_at};
-ghost use Rattle.callback_core.specs.Waits.{recall_of, recalls_due, has_wait, entries_of, bytes_of, IsAnswered, AreBounded};
+ghost use Rattle.callback_core.specs.BackCalls.{all_marked};
+ghost use Rattle.callback_core.specs.Waits.{recall_of, recalls_of, recalls_due, has_wait, entries_of, bytes_of, IsAnswered, AreBounded};
 
+use crate::back_calls::Asked;
 use crate::ready::has;
 use lb_base::items::Items;
 use lease_rules::change::{AskError, Change, Recall};
@@ -24,6 +26,30 @@ fn recalls_to(alloc: Global, sessions: &[u32], file: u64) -> Result<Items<Recall
     Ok(Items::from_vec(recalls))
 }
 
+/// The recalls that are due where a session asks for a change of a file.
+pub fn recalls_of(
+    alloc: Global,
+    leases: &Leases,
+    file: u64,
+    session: u32,
+    now: u64,
+) -> Result<Items<Recall>, AllocError>
+    ensures { IfOk result (λ recalls. recalls ≡ recalls_of leases.now.leases session file now) }
+{
+    let sessions = leases.others(alloc, file, session, now)?;
+    recalls_to(alloc, sessions.as_slice(), file)
+}
+
+/// Each lease that a session was asked for remembers the xid of the RECALL.
+pub fn mark_all(leases: &mut Leases, asked: &[Asked])
+    ensures leases { leases.new.leases ≡ all_marked leases.old.leases asked.now }
+    ensures room { leases.old.room ≤ leases.new.room }
+{
+    for one in asked {
+        leases.mark_recalled(one.session, one.file, one.xid);
+    }
+}
+
 /// The recalls that a change asks for when it comes.
 fn recalls_due<P>(
     alloc: Global,
@@ -33,8 +59,7 @@ fn recalls_due<P>(
 ) -> Result<Items<Recall>, AllocError>
     ensures { IfOk result (λ recalls. recalls ≡ recalls_due leases.now.leases now change.now) }
 {
-    let sessions = leases.others(alloc, change.file, change.asker(), now)?;
-    recalls_to(alloc, sessions.as_slice(), change.file)
+    recalls_of(alloc, leases, change.file, change.asker(), now)
 }
 
 /// Makes room for one change more, and for its lease. The one error is want of memory, which never

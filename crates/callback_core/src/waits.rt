@@ -1,10 +1,12 @@
 //! The changes that wait, and the leases that they wait for. `specs/Waits.antt` has the words of the
 //! contracts.
 
-ghost use Rattle.std.specs.Prelude.{◌≡◌, ◌+◌, ◌<◌, ◌≤◌, ◌^◌, ◌∷◌, ◌++◌, [], OnOk, OnErr, IfOk, IsOk, IsSome, is_some, ◌⊎◌, option_copied, false};
+ghost use Rattle.std.specs.Prelude.{◌≡◌, ◌+◌, ◌<◌, ◌≤◌, ◌^◌, ◌∷◌, ◌++◌, [], OnOk, OnErr, IfOk, IsOk, IsSome, IsTrue, ◌↔◌, is_some, ◌⊎◌, option_copied, false, length};
 ghost use Rattle.lease_table.specs.Leases.{grant, without_lease, marked, without_recalled, without_ended, is_blocked, others, lease_at};
-ghost use Rattle.callback_core.specs.Waits.{recalls_due, ready, change_of, has_wait, waits_on, without, without_made, places_of, entries_of, bytes_of, IsAnswered};
+ghost use Rattle.callback_core.specs.BackCalls.{all_marked};
+ghost use Rattle.callback_core.specs.Waits.{recalls_due, recalls_of, ready, change_of, has_wait, waits_on, without, without_made, places_of, entries_of, bytes_of, IsAnswered};
 
+use crate::back_calls::Asked;
 use crate::{asking, ready, sizes};
 use lb_base::items::Items;
 use lease_rules::change::{AskError, Change, Recall};
@@ -247,6 +249,44 @@ impl<P: Drop> Waits<P> {
         ensures { IfOk result (λ sessions. sessions ≡ others self.now.leases session file now) }
     {
         self.leases.others(alloc, file, session, now)
+    }
+
+    /// The recalls that are due where this session asks for a change of the file: of all leases that
+    /// block it and that no RECALL asked for. Session 0 is nobody. The one error is want of memory.
+    pub fn recalls_due(
+        &self,
+        alloc: Global,
+        file: u64,
+        session: u32,
+        now: u64,
+    ) -> Result<Items<Recall>, AllocError>
+        ensures { IfOk result (λ recalls. recalls ≡ recalls_of self.now.leases session file now) }
+    {
+        asking::recalls_of(alloc, &self.leases, file, session, now)
+    }
+
+    /// Each lease that a session was asked for remembers the xid of the RECALL. It takes no memory.
+    pub fn mark_all(&mut self, asked: &[Asked])
+        ensures leases { self.new.leases ≡ all_marked self.old.leases asked.now }
+        ensures spare { self.old.spare ≤ self.new.spare }
+        ensures room { self.old.room ≤ self.new.room }
+        ensures waits { self.new.waits ≡ self.old.waits }
+    {
+        asking::mark_all(&mut self.leases, asked);
+    }
+
+    /// How many changes wait. It takes no memory.
+    pub fn len(&self) -> usize
+        ensures { result ≡ length self.now.waits }
+    {
+        self.waits.len()
+    }
+
+    /// Whether no change waits. It takes no memory.
+    pub fn is_empty(&self) -> bool
+        ensures { IsTrue result ↔ (self.now.waits ≡ []) }
+    {
+        self.waits.is_empty()
     }
 
     /// Whether the session has a lease on the file, recalled or not, and ended or not. It takes no
