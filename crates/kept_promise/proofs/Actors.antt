@@ -10,7 +10,7 @@ use Rattle.kept_promise.proofs.Messages.{Job, job, job_of, AllTolds, AllAsks}
 use Rattle.kept_promise.proofs.Fits.{FitLaws}
 use Rattle.kept_promise.proofs.Moves.{expected}
 use Rattle.kept_promise.proofs.Rights.{IsRight}
-use Rattle.kept_promise.proofs.Facts.{IsKept, IsSession, IsMatched}
+use Rattle.kept_promise.proofs.Facts.{IsKept, IsSession, IsMatched, is_naming}
 use Rattle.kept_promise.proofs.Turns.{also_numbered}
 use Rattle.kept_promise.proofs.RunsCarried.{Finds}
 use Rattle.kept_promise.proofs.Counted.{IsActor}
@@ -84,6 +84,23 @@ acts_alone book k qs i seat kept here = record {
         let le = ((kept.sound.rights p o at).past e is).1 in
         let steps = kept.steps in
         ap (λ z. until z (k.steps + 1)) is ∙ (let t : nat_le (k.steps + 1) e ≡ false = grind (arith, nat_tests, le, steps) in t)
+
+-- the operation that runs at a client's place
+pub own_op : (book : Book) (k : Core) (qs : List Queue) (i : ℕ) (seat : Seat) (p : ℕ) (o : Op) → IsKept book k qs → numbered k.seats i ≡ Some seat → seat.place ≡ Some p → slice_get k.ops p ≡ Some o → (j : Job) × (job seat ≡ Some j) × (j.place ≡ p) × (o.client ≡ i) × (o.outcome ≡ told.Running) × (is_naming j.stage ≡ false → o.file ≡ j.file)
+own_op book k qs i seat p o kept here e at =
+    let s = kept.seats i seat here in
+    let j = placed seat p s.matched e in
+    let of = s.task j.0 j.1 in
+    let same : of.op ≡ o = some_is of.op o (sym of.there ∙ ap (slice_get book.ops) j.2 ∙ ap (λ (l : List Op). slice_get l p) kept.ops ∙ at) in
+    (j.0, j.1, j.2, ap (λ (z : Op). z.client) (sym same) ∙ of.client, ap (λ (z : Op). z.outcome) (sym same) ∙ of.running, λ named. ap (λ (z : Op). z.file) (sym same) ∙ of.file named)
+
+-- another client's job is not at its place
+pub foreign_at : (book : Book) (k : Core) (qs : List Queue) (i : ℕ) (seat : Seat) → IsKept book k qs → numbered k.seats i ≡ Some seat → (m : ℕ) (s : Seat) (j : Job) (o : Op) → numbered k.seats m ≡ Some s → job s ≡ Some j → slice_get k.ops j.place ≡ Some o → (m ≡ i → ⊥) → seat.place ≡ Some j.place → ⊥
+foreign_at book k qs i seat kept here m s j o there is at apart e =
+    let of = (kept.seats m s there).task j is in
+    let same : of.op ≡ o = some_is of.op o (sym of.there ∙ ap (λ (l : List Op). slice_get l j.place) kept.ops ∙ at) in
+    let own = own_op book k qs i seat j.place o kept here e at in
+    apart (sym of.client ∙ ap (λ (z : Op). z.client) same ∙ own.3)
 
 -- ---- what comes to a client
 

@@ -1,29 +1,34 @@
 -- A run carries that each operation counts what its client sent and took for it.
-use Rattle.std.proofs.Common.{inl, inr, ◌≡◌, ℕ, ◌+◌, List, [], ◌∷◌, ◌++◌, Option, Some, None, Ok, true, refl, sym, ap, ◌∙◌, subst}
+use Rattle.std.proofs.Common.{inl, inr, ◌≡◌, ℕ, ◌+◌, List, [], ◌∷◌, ◌++◌, Option, Some, None, Ok, false, refl, sym, ap, ◌∙◌, subst, ◌⊎◌, ◌≤◌, arith}
 use Rattle.std.proofs.lemmas.List.{flat_map_more}
 use Rattle.client_state.specs.State as client
 use Rattle.client_state.specs.declared.step.Outcome.TheVariants as outcome
 use Rattle.trace_ends.specs.Session.{taken_of as session_taken}
-use Rattle.trace_replay.specs.Trail.{taken_in, taken_of}
-use Rattle.kept_promise.proofs.Common.{slice_get, Command, Message, no_counts, command_step, got_step, ended_by, cut, BadPeer, ClientStep, Ended, Outcome, Task, Op, Opening, TakenCall, no_traffic, counted, op_after, ended_op, told_of, Core, Seat, Event, Event.Does, Event.Hears, Event.Cuts, CoreStep, numbered, session_of, ops_after, ops_with, does, cuts_if, happens, Moment, all_said, owner_in, client_of, sent_in, sent_of, wanted_by, taken_by, Book, Queue, Traffic, both, told_message, acted}
-use Rattle.kept_promise.proofs.Lists.{nothing_there, at_replaced}
+use Rattle.trace_replay.specs.Trail.{taken_in, taken_of, given_by_message}
+use Rattle.kept_promise.proofs.Common.{slice_get, Command, Message, no_counts, command_step, got_step, ended_by, BadPeer, ClientStep, Ended, Outcome, Op, Opening, TakenCall, no_traffic, counted, op_after, ended_op, told_of, Core, session_of, ops_after, ops_with, happens, Moment, all_said, client_of, sent_in, sent_of, wanted_by, taken_by, Book, Queue, Traffic, both, told_message, acted, Counts, taken_traffic, Done, Deal, deals_with, deals_of, step_of}
+use Rattle.kept_promise.proofs.Lists.{nothing_there, at_replaced, some_is}
 use Rattle.kept_promise.proofs.Rights.{IsRight, Caused}
 use Rattle.kept_promise.proofs.Facts.{IsKept}
-use Rattle.kept_promise.proofs.RunsCarried.{book_at, moment, Step, Carried}
+use Rattle.kept_promise.proofs.RunsCarried.{book_at, moment, Carried}
 use Rattle.kept_promise.proofs.Tallies.{sent_sum, taken_sum, Tallied, Tallies, tally_got}
 use Rattle.kept_promise.proofs.StepCases.{IsFault, command_cases}
-use Rattle.kept_promise.proofs.Counted.{AreCounted, counted_quiet, counted_changed, counted_acts, counted_begins}
-use Rattle.kept_promise.proofs.Actors.{acts_alone, Heard, heard_takes}
-use Rattle.kept_promise.proofs.CommandOps.{made_by, made_later, made_silent}
+use Rattle.kept_promise.proofs.Counted.{SaidBy, said_later, said_now, said_append, traffic_is}
+use Rattle.kept_promise.proofs.Actors.{acts_alone, Heard, job_place}
+use Rattle.kept_promise.proofs.CommandOps.{made_silent}
 use Rattle.kept_promise.proofs.PathNames.{IsSmall}
 use Rattle.trace_ends.specs.Ops.{file_with}
 use Rattle.path_calls.specs.declared.walk.Walk.{Walk}
 use Rattle.path_calls.specs.Walk.{next_call, begun as walk_begun}
 use Rattle.wire.specs.declared.message.Body.TheVariants as body
 use Rattle.wire.specs.declared.message.Message.TheVariants as message
+use Rattle.nfs3_calls.specs.declared.message.Nfs.TheVariants as nfs
 use Rattle.kept_promise.proofs.WalkMessages.{call_counts}
-use Rattle.kept_promise.proofs.EventCases.{IsStill, Settled, event_cases}
 use Rattle.kept_promise.proofs.Fits.{FitLaws}
+use Rattle.kept_promise.proofs.LogSums.{log_traffic, log_join, log_sent, log_with, traffic_log}
+use Rattle.kept_promise.proofs.Logs.{ArePast}
+use Rattle.kept_promise.proofs.OpFacts.{Going, Ending, FactLaws, facts_event, past_event}
+use Rattle.kept_promise.proofs.Messages.{Job, job}
+use Rattle.trace_replay.specs.Traffic.{traffic_of}
 
 -- ---- what a command sends counts nothing
 
@@ -44,41 +49,69 @@ sent_more past m = flat_map_more sent_in [] past m
 pub taken_more : (past : List Moment) (m : Moment) → taken_of past ++ taken_in m ≡ taken_of (past ++ m ∷ [])
 taken_more past m = flat_map_more taken_in [] past m
 
--- after an event of these two ends, which the past does not have yet
-abbrev pub CountedBy : (past : List Moment) → Core → Event → CoreStep → Type 0
-CountedBy past k e t = AreCounted (sent_of past ++ all_said (k.steps + 1) (client_of k e) t.up) (taken_of past ++ all_said (k.steps + 1) (client_of k e) (taken_by k (client_of k e) e)) t.core.steps t.core.ops
+-- ---- what was said is past
 
-abbrev pub CountedAt : (past : List Moment) → Core → Type 0
-CountedAt past k = AreCounted (sent_of past) (taken_of past) k.steps k.ops
+said_past : (n step c : ℕ) (ms : List Message) → (step ≤ n) ⊎ (ms ≡ []) → SaidBy n (all_said step c ms)
+said_past n step c ms (inl le) = said_later step n (all_said step c ms) le (said_now step c ms)
+said_past n step c ms (inr none) = subst (λ (l : List Message). SaidBy n (all_said step c l)) (sym none) tt
 
--- ---- an event
+sent_past : (n : ℕ) (past : List Moment) → ArePast n past → SaidBy n (sent_of past)
+sent_past n [] h = tt
+sent_past n (m ∷ past) h = said_append n (sent_in m) (sent_of past) (said_past n (step_of m) (client_of m.before m.event) (happens m.before m.event).up (elim h.0 [ inl le ↦ inl le | inr s ↦ inr s.2 ])) (sent_past n past h.1)
 
--- clients and operations are as they were, but for a change that is made
-counted_still : (past : List Moment) (k : Core) (e : Event) (t : CoreStep) → IsStill k e t → CountedAt past k → CountedBy past k e t
-counted_still past k e t s h =
-    subst (λ (l : List Message). AreCounted (sent_of past ++ all_said (k.steps + 1) (client_of k e) l) (taken_of past ++ all_said (k.steps + 1) (client_of k e) (taken_by k (client_of k e) e)) t.core.steps t.core.ops) (sym s.up)
-    (subst (λ (l : List Message). AreCounted (sent_of past ++ []) (taken_of past ++ all_said (k.steps + 1) (client_of k e) l) t.core.steps t.core.ops) (sym s.silent.0)
-    (counted_quiet (sent_of past) (taken_of past) k.steps t.core.steps t.core.ops s.passes (by s.ops)))
+taken_past : (n : ℕ) (past : List Moment) → ArePast n past → SaidBy n (taken_of past)
+taken_past n [] h = tt
+taken_past n (m ∷ past) h = said_append n (taken_in m) (taken_of past) (said_past n (step_of m) (client_of m.before m.event) (taken_by m.before (client_of m.before m.event) m.event) (elim h.0 [ inl le ↦ inl le | inr s ↦ inr s.0 ])) (taken_past n past h.1)
+
+-- ---- what is carried
+
+pub record CountedAt (past : List Moment) (k : Core) : Type 0 where
+  pub by : ArePast k.steps past
+  pub sent_by : SaidBy k.steps (sent_of past)
+  pub taken_by : SaidBy k.steps (taken_of past)
+  pub counts : (p : ℕ) (o : Op) → slice_get k.ops p ≡ Some o → o.traffic ≡ traffic_of o (sent_of past) (taken_of past)
+  -- one that ended with its begin counts nothing
+  pub silent : (p : ℕ) (o : Op) → slice_get k.ops p ≡ Some o → o.end ≡ Some o.begin → o.traffic ≡ no_traffic
+
+abbrev Any : Going
+Any past log p o st = Unit {0}
+
+-- of an operation, by what was said for it
+abbrev CountsLog : Ending
+CountsLog past log p o = (o.traffic ≡ log_traffic log) × (o.end ≡ Some o.begin → o.traffic ≡ no_traffic)
+
+-- ---- its own turn
+
+-- the bytes of READs alone are counted of what is taken
+taken_bare : (ts : List Message) → ((taken_sum ts).cond ≡ 0) × ((taken_sum ts).tmp ≡ 0) × ((taken_sum ts).read ≡ 0)
+taken_bare [] = (refl, refl, refl)
+taken_bare (m ∷ ts) = let l = taken_bare ts in let a = l.0 in let b = l.1 in let c = l.2 in let h = one m in let p = h.0 in let q = h.1 in let r = h.2 in (omega (arith, a, p), omega (arith, b, q), omega (arith, c, r))
   where
-    by : Settled k t.core.ops → AreCounted (sent_of past) (taken_of past) k.steps t.core.ops
-    by (inl same) = subst (AreCounted (sent_of past) (taken_of past) k.steps) (sym same) h
-    by (inr c) = subst (AreCounted (sent_of past) (taken_of past) k.steps) (sym c.is) (counted_changed (sent_of past) (taken_of past) k.steps (k.steps + 1) k.ops c.place c.file c.op c.there h)
+    one : (m : Message) → ((taken_traffic m).cond ≡ 0) × ((taken_traffic m).tmp ≡ 0) × ((taken_traffic m).read ≡ 0)
+    one (message.Answer xid (body.Nfs (nfs.ReadAnswer (Done piece)))) = (refl, refl, refl)
+    one m = (refl, refl, refl)
 
-counted_lost : (book : Book) (past : List Moment) (k : Core) (qs : List Queue) (c : ℕ) (seat : Seat) → IsKept book k qs → numbered k.seats c ≡ Some seat → CountedAt past k → CountedBy past k (Cuts c) (cuts_if k c seat true)
-counted_lost book past k qs c seat kept here h = by seat.client.task
+-- a step counts what it sends, and takes
+counts_more : (t : Traffic) (log : List Deal) (ts : List Message) (fs : List (ℕ × ℕ)) (ms : List Message) (n : Counts) → t ≡ log_traffic log → Tallied n ms (taken_sum ts).«data» → counted t n ≡ log_traffic (log ++ deals_with ts fs ms)
+counts_more t log ts fs ms n was h = ap (λ (x : Traffic). counted x n) was ∙ by (log_traffic log) (sent_sum ms) (taken_sum ts) h.cond h.tmp h.read h.data_is (taken_bare ts) ∙ sym (log_join log (deals_with ts fs ms) ∙ ap (both (log_traffic log)) (log_with ts fs ms))
   where
-    lost : Ended
-    lost = record { outcome = outcome.Lost; rests_on = 0 }
+    by : (t a b : Traffic) → n.cond_writes ≡ a.cond → n.temp_writes ≡ a.tmp → n.reads ≡ a.read → n.bytes ≡ a.«data» + b.«data» → ((b.cond ≡ 0) × (b.tmp ≡ 0) × (b.read ≡ 0)) → counted t n ≡ both t (both b a)
+    by t a b p q r s z = let u = z.0 in let v = z.1 in let w = z.2 in traffic_is (counted t n) (both t (both b a)) (omega (arith, p, u)) (omega (arith, q, v)) (omega (arith, r, w)) (omega (arith, s))
 
-    by : (t : Option Task) → AreCounted (sent_of past ++ all_said (k.steps + 1) 0 (ended_by t lost).send) (taken_of past ++ []) (k.steps + 1) (ops_with k.ops seat.place (cut seat.client).0 (session_taken (session_of k.sessions seat.session)) (k.steps + 1) (ended_by t lost))
-    by None = counted_acts (sent_of past) (taken_of past) k.steps c k.ops seat.place (cut seat.client).0 (session_taken (session_of k.sessions seat.session)) (ended_by None lost) [] [] (acts_alone book k qs c seat kept here) (λ p o e at. record { cond = refl; tmp = refl; read = refl; data_is = refl }) h
-    by (Some t) = counted_acts (sent_of past) (taken_of past) k.steps c k.ops seat.place (cut seat.client).0 (session_taken (session_of k.sessions seat.session)) (ended_by (Some t) lost) [] [] (acts_alone book k qs c seat kept here) (λ p o e at. record { cond = refl; tmp = refl; read = refl; data_is = refl }) h
+traffic_after : (o : Op) (c : client.State) (taken : List TakenCall) (step : ℕ) (acts : ClientStep) → (op_after o c taken step acts).traffic ≡ counted o.traffic acts.counts
+traffic_after o c taken step acts = by acts.ended
+  where
+    by : (e : Option Ended) → (op_after o c taken step (record acts { ended = e })).traffic ≡ counted o.traffic acts.counts
+    by None = refl
+    by (Some e) = refl
 
-counted_does : (past : List Moment) (k : Core) (c now : ℕ) (d : Command) (seat : Seat) → IsSmall d → CountedAt past k → CountedBy past k (Does c now d) (does k c now d (Some seat))
-counted_does past k c now d seat small h =
-    let r = command_step seat.client d now in
-    let silent = silent_command seat.client d now small in
-    counted_begins (sent_of past) (taken_of past) k.steps c k.ops (made_by k c now d seat r.0 r.1) r.1.send (made_later k c now d seat r.0 r.1 r.1.ended) (made_silent k c now d seat r.0 r.1 silent.1 r.1.ended) silent.0 h
+-- one that ends in this step began before it
+not_begun : {A : Type 0} (o : Op) (c : client.State) (taken : List TakenCall) (n : ℕ) (acts : ClientStep) → o.end ≡ None → o.begin ≤ n → (op_after o c taken (n + 1) acts).end ≡ Some (op_after o c taken (n + 1) acts).begin → A
+not_begun {A = A} o c taken n acts none le is = by acts.ended is
+  where
+    by : (e : Option Ended) → (op_after o c taken (n + 1) (record acts { ended = e })).end ≡ Some (op_after o c taken (n + 1) (record acts { ended = e })).begin → A
+    by None is = nothing_there o.begin (sym none ∙ is)
+    by (Some e) is = let same = some_is (n + 1) o.begin is in absurd (omega (arith, le, same))
 
 -- no peer's fault ends an operation
 pub no_fault_after : (more : Book) (o : Op) (c : client.State) (taken : List TakenCall) (step : ℕ) (acts : ClientStep) → IsRight more (op_after o c taken step acts) → IsFault acts.ended → ⊥
@@ -91,11 +124,15 @@ no_fault_after more o c taken step acts right fault = by acts.ended right fault
     by None r f = f
     by (Some e) r f = told e f.0 f.1 r.cause
 
-counted_hears : FitLaws → (book more : Book) (past : List Moment) (k : Core) (qs after : List Queue) (n now : ℕ) (bytes : List ℕ) (mid : List Queue) → IsKept book k qs → (h : Heard k qs n now bytes mid) → (let r = got_step h.seat.client (Ok (told_message h.told)) now in let t = acted k h.session.owner h.seat r.0 r.1 in IsKept more t.core after → CountedAt past k → CountedBy past k (Hears n now bytes) t)
-counted_hears laws book more past k qs after n now bytes mid kept h left counted_past =
-    subst (λ i. AreCounted (sent_of past ++ all_said (k.steps + 1) i r.1.send) (taken_of past ++ all_said (k.steps + 1) i (taken_by k i (Hears n now bytes))) (k.steps + 1) (ops_with k.ops h.seat.place r.0 taken (k.steps + 1) r.1)) (sym (ap owner_in h.at))
-    (subst (λ (ts : List Message). AreCounted (sent_of past ++ all_said (k.steps + 1) h.session.owner r.1.send) (taken_of past ++ all_said (k.steps + 1) h.session.owner ts) (k.steps + 1) (ops_with k.ops h.seat.place r.0 taken (k.steps + 1) r.1)) (sym (heard_takes laws book k qs n now bytes mid kept h))
-    (counted_acts (sent_of past) (taken_of past) k.steps h.session.owner k.ops h.seat.place r.0 taken r.1 r.1.send (wanted_by h.seat.client (Ok (told_message h.told))) (acts_alone book k qs h.session.owner h.seat kept h.owner) (λ p o e at. tallied p o e at (tally_got h.seat.client (Ok (told_message h.told)) now)) counted_past))
+-- its client hears an answer
+counts_hears : FitLaws → (book more : Book) (k : Core) (qs after : List Queue) (n now : ℕ) (bytes : List ℕ) (mid : List Queue) → IsKept book k qs → (h : Heard k qs n now bytes mid)
+    → (let r = got_step h.seat.client (Ok (told_message h.told)) now in let t = acted k h.session.owner h.seat r.0 r.1 in IsKept more t.core after → (j : Job) (o : Op) → job h.seat ≡ Some j → slice_get k.ops j.place ≡ Some o → (log : List Deal) → o.traffic ≡ log_traffic log
+    → (let new = op_after o r.0 (session_taken (session_of k.sessions h.seat.session)) (k.steps + 1) r.1 in (new.traffic ≡ log_traffic (log ++ deals_with (wanted_by h.seat.client (Ok (told_message h.told))) (given_by_message h.seat.client (Ok (told_message h.told))) r.1.send)) × (new.end ≡ Some new.begin → new.traffic ≡ no_traffic)))
+counts_hears laws book more k qs after n now bytes mid kept h left j o is at log was =
+    let actor = (acts_alone book k qs h.session.owner h.seat kept h.owner).own j.place o place at in (
+      traffic_after o r.0 taken (k.steps + 1) r.1 ∙ counts_more o.traffic log (wanted_by h.seat.client (Ok (told_message h.told))) (given_by_message h.seat.client (Ok (told_message h.told))) r.1.send r.1.counts was (tallied (tally_got h.seat.client (Ok (told_message h.told)) now)),
+      λ end. not_begun o r.0 taken k.steps r.1 actor.1 actor.2 end,
+    )
   where
     r : client.State × ClientStep
     r = got_step h.seat.client (Ok (told_message h.told)) now
@@ -103,32 +140,61 @@ counted_hears laws book more past k qs after n now bytes mid kept h left counted
     taken : List TakenCall
     taken = session_taken (session_of k.sessions h.seat.session)
 
-    tallied : (p : ℕ) (o : Op) → h.seat.place ≡ Some p → slice_get k.ops p ≡ Some o → Tallies (taken_sum (wanted_by h.seat.client (Ok (told_message h.told)))).«data» r → Tallied r.1.counts r.1.send (taken_sum (wanted_by h.seat.client (Ok (told_message h.told)))).«data»
-    tallied p o e at (inl t) = t
-    tallied p o e at (inr fault) =
-        let there : slice_get (ops_with k.ops h.seat.place r.0 taken (k.steps + 1) r.1) p ≡ Some (op_after o r.0 taken (k.steps + 1) r.1) =
-        ap (λ l. slice_get (ops_with k.ops l r.0 taken (k.steps + 1) r.1) p) e ∙ ap (λ q. slice_get (ops_after k.ops p q r.0 taken (k.steps + 1) r.1) p) at ∙ at_replaced k.ops p (op_after o r.0 taken (k.steps + 1) r.1) o at in
-        absurd (no_fault_after more o r.0 taken (k.steps + 1) r.1 (left.sound.rights p (op_after o r.0 taken (k.steps + 1) r.1) (ap (λ (l : List Op). slice_get l p) left.ops ∙ there)) fault)
+    place : h.seat.place ≡ Some j.place
+    place = job_place h.seat.place h.seat.client.task j is
+
+    tallied : Tallies (taken_sum (wanted_by h.seat.client (Ok (told_message h.told)))).«data» r → Tallied r.1.counts r.1.send (taken_sum (wanted_by h.seat.client (Ok (told_message h.told)))).«data»
+    tallied (inl t) = t
+    tallied (inr fault) =
+        let there : slice_get (ops_with k.ops h.seat.place r.0 taken (k.steps + 1) r.1) j.place ≡ Some (op_after o r.0 taken (k.steps + 1) r.1) =
+        ap (λ l. slice_get (ops_with k.ops l r.0 taken (k.steps + 1) r.1) j.place) place ∙ ap (λ q. slice_get (ops_after k.ops j.place q r.0 taken (k.steps + 1) r.1) j.place) at ∙ at_replaced k.ops j.place (op_after o r.0 taken (k.steps + 1) r.1) o at in
+        absurd (no_fault_after more o r.0 taken (k.steps + 1) r.1 (left.sound.rights j.place (op_after o r.0 taken (k.steps + 1) r.1) (ap (λ (l : List Op). slice_get l j.place) left.ops ∙ there)) fault)
 
 -- ---- any event
 
-counted_event : FitLaws → (all past rest : List Moment) (opening : List Opening) (k : Core) (qs : List Queue) (e : Event) (mid after : List Queue) → Step all past rest opening k qs e mid after → CountedAt past k → CountedBy past k e (happens k e)
-counted_event laws all past rest opening k qs e mid after s h = event_cases laws all past rest opening k qs e mid after s (CountedBy past k) (record {
-  still = λ t still. counted_still past k e t still h;
-  begins = λ c now d seat w here small left. counted_does past k c now d seat small h;
-  hears = λ n now bytes s w left. (let r = got_step w.seat.client (Ok (told_message w.told)) now in counted_hears laws (book_at opening k all) (book_at opening (acted k w.session.owner w.seat r.0 r.1).core all) past k qs after n now bytes mid s.kept w left h);
-  lost = λ c seat w here. counted_lost (book_at opening k all) past k qs c seat s.kept here h;
-})
+none_counted : (t : Traffic) → counted t no_counts ≡ t
+none_counted t = traffic_is (counted t no_counts) t (omega arith) (omega arith) (omega arith) (omega arith)
 
-abbrev pub Counts : (all past : List Moment) → List Opening → Core → List Queue → Type 0
-Counts all past opening k qs = CountedAt past k
+count_laws : FitLaws → (all past rest : List Moment) (opening : List Opening) (k : Core) (qs mid after : List Queue) → IsKept (book_at opening k all) k qs → FactLaws Any CountsLog all past rest opening k qs mid after
+count_laws fits all past rest opening k qs mid after kept = record {
+  stays = λ e log p o st lt h. tt;
+  ends_stay = λ e log p o lt h. h;
+  changes = λ ops c log i seat j here is same h. tt;
+  ends_change = λ ops c log h. h;
+  begins = λ c now d seat here small free is u running task. tt;
+  begun = λ c now d seat here small is right.
+      (let r = command_step seat.client d now in
+      let silent = silent_command seat.client d now small in
+      let none = made_silent k c now d seat r.0 r.1 silent.1 r.1.ended in
+      (none ∙ sym (log_sent r.1.send ∙ silent.0), λ end. none));
+  hears = λ n now bytes w left j o is at was has. (let r = got_step w.seat.client (Ok (told_message w.told)) now in record { stage = λ u running task. tt; each = counts_hears fits book (book_at opening (acted k w.session.owner w.seat r.0 r.1).core all) k qs after n now bytes mid kept w left j o is at (deals_of o past) has.0 });
+  lost = λ c seat here j o is at was has.
+      (let gone : client.State = record seat.client { linked = false; task = None; forgotten = [] } in
+      let taken = session_taken (session_of k.sessions seat.session) in
+      let acts = ended_by (Some (record { file = j.file; stage = j.stage })) (record { outcome = outcome.Lost; rests_on = 0 }) in
+      let actor = (acts_alone book k qs c seat kept here).own j.place o (job_place seat.place seat.client.task j is) at in
+      (traffic_after o gone taken (k.steps + 1) acts ∙ none_counted o.traffic ∙ has.0, λ end. not_begun o gone taken k.steps acts actor.1 actor.2 end));
+}
+  where
+    book : Book
+    book = book_at opening k all
 
-pub carried_counts : FitLaws → Carried Counts
-carried_counts laws = record {
-  first = λ all opening tree count kept. record { sent_by = tt; taken_by = tt; counts = λ p o at. nothing_there o at; silent = λ p o at. nothing_there o at };
+abbrev pub AllCounted : (all past : List Moment) → List Opening → Core → List Queue → Type 0
+AllCounted all past opening k qs = CountedAt past k
+
+pub carried_counts : FitLaws → Carried AllCounted
+carried_counts fits = record {
+  first = λ all opening tree count kept. record { by = tt; sent_by = tt; taken_by = tt; counts = λ p o at. nothing_there o at; silent = λ p o at. nothing_there o at };
   steps = λ all past rest opening k qs e mid after s h.
-      let t = happens k e in
-      subst (λ z. AreCounted z (taken_of (past ++ moment k e ∷ [])) t.core.steps t.core.ops) (sent_more past (moment k e))
-      (subst (λ z. AreCounted (sent_of past ++ sent_in (moment k e)) z t.core.steps t.core.ops) (taken_more past (moment k e)) (counted_event laws all past rest opening k qs e mid after s h));
-  adjusts = λ all past opening k qs index seats same h. h;
+      let more : List Moment = past ++ moment k e ∷ [] in
+      let by = past_event fits all past rest opening k qs e mid after s h.by in
+      let f = facts_event fits Any CountsLog all past rest opening k qs e mid after s h.by (count_laws fits all past rest opening k qs mid after s.kept) (record { jobs = λ i seat j o here is at. tt; each = λ p o at. (h.counts p o at ∙ traffic_log o past, h.silent p o at) }) in
+      record {
+        by = by;
+        sent_by = sent_past (happens k e).core.steps more by;
+        taken_by = taken_past (happens k e).core.steps more by;
+        counts = λ p o at. (f.each p o at).0 ∙ sym (traffic_log o more);
+        silent = λ p o at. (f.each p o at).1;
+      };
+  adjusts = λ all past opening k qs index seats same h. record { by = h.by; sent_by = h.sent_by; taken_by = h.taken_by; counts = h.counts; silent = h.silent };
 }

@@ -1,4 +1,4 @@
--- What an event of a run comes to, for clients and operations: nothing, or a change that is made; or one begins, or a client goes on with its own, or loses its connection.
+-- What an event of a run comes to, for clients and operations: nothing becomes of any client, though a change may be made; or one joins, begins an operation, goes on with its own, or loses its connection.
 use Rattle.std.proofs.Common.{◌⊎◌, inl, inr, ◌≡◌, ℕ, zero, suc, ◌+◌, ◌<◌, ◌≤◌, List, [], ◌∷◌, ◌++◌, Option, Some, None, Result, Ok, Err, Bool, true, false, refl, sym, ap, ◌∙◌, subst, arith, length, eqb-true}
 use Rattle.std.specs.Option.{option_map}
 use Rattle.wire.specs.declared.message.Message.TheVariants as message

@@ -19,12 +19,12 @@ use Rattle.kept_promise.proofs.Messages.{Job, job, lease_body, AllTolds, IsLease
 use Rattle.kept_promise.proofs.Fits.{FitLaws}
 use Rattle.kept_promise.proofs.Facts.{IsKept, IsSession, is_naming}
 use Rattle.kept_promise.proofs.RunsCarried.{book_at, moment, Step}
-use Rattle.kept_promise.proofs.Actors.{job_task, acts_alone, Heard, heard_at, heard_acts, heard_takes}
+use Rattle.kept_promise.proofs.Actors.{job_task, acts_alone, Heard, heard_at, heard_acts, heard_takes, own_op}
 use Rattle.kept_promise.proofs.Counted.{IsActor, early, running_past}
 use Rattle.kept_promise.proofs.CountedRuns.{no_fault_after}
 use Rattle.kept_promise.proofs.JobFacts.{ops_shape}
 use Rattle.kept_promise.proofs.StepCases.{IsFault}
-use Rattle.kept_promise.proofs.VersionRuns.{own_op, or_none}
+use Rattle.kept_promise.proofs.VersionRuns.{or_none}
 use Rattle.kept_promise.proofs.LogEvents.{file_stays}
 use Rattle.kept_promise.proofs.Versions.{version_in}
 use Rattle.kept_promise.proofs.OpsAfter.{OpsAfter, same_versions}

@@ -31,14 +31,14 @@ use Rattle.kept_promise.proofs.Taken.{times_map_append}
 use Rattle.kept_promise.proofs.Facts.{IsKept, IsSession, IsMatched}
 use Rattle.kept_promise.proofs.RunsCarried.{book_at, moment, Step, Carried}
 use Rattle.kept_promise.proofs.CountedRuns.{no_fault_after}
-use Rattle.kept_promise.proofs.Actors.{job_place, job_task, Heard}
+use Rattle.kept_promise.proofs.Actors.{job_place, job_task, Heard, own_op}
 use Rattle.kept_promise.proofs.StepCases.{FetchNow, fronts, command_cases, given_idle, IsOfFile, Walks, walk_cases}
 use Rattle.kept_promise.proofs.Steps.{goal_not_close}
 use Rattle.kept_promise.proofs.Commands.{begun_word}
 use Rattle.kept_promise.proofs.NamesLog.{IsNameDeal, NamesOnly, names_join, call_named, answer_named, finds_open}
 use Rattle.kept_promise.proofs.Shapes.{busy_command}
 use Rattle.kept_promise.proofs.EventCases.{IsChange}
-use Rattle.kept_promise.proofs.VersionRuns.{own_op, of_file_unnamed}
+use Rattle.kept_promise.proofs.VersionRuns.{of_file_unnamed}
 use Rattle.kept_promise.proofs.Taking.{IsApart, tried_from, Taking, apart_in, IsWhole, fetched_now}
 use Rattle.kept_promise.proofs.Logs.{Going, Ending, HaveLogs, logs_kept}
 use Rattle.kept_promise.proofs.Found.{file_after, took_finds}

@@ -82,16 +82,16 @@ none_came (m ∷ ms) = let h = none_came ms in omega (arith, h)
 
 -- ---- an operation's traffic
 
-abbrev deal_traffic : Deal → Traffic
+abbrev pub deal_traffic : Deal → Traffic
 deal_traffic (Took m) = taken_traffic m
 deal_traffic (Sent m) = sent_traffic m
 deal_traffic d = no_traffic
 
-abbrev log_traffic : List Deal → Traffic
+abbrev pub log_traffic : List Deal → Traffic
 log_traffic [] = no_traffic
 log_traffic (d ∷ ds) = let later : Traffic = log_traffic ds in both (deal_traffic d) later
 
-log_join : (a b : List Deal) → log_traffic (a ++ b) ≡ both (log_traffic a) (log_traffic b)
+pub log_join : (a b : List Deal) → log_traffic (a ++ b) ≡ both (log_traffic a) (log_traffic b)
 log_join [] b = sym (none_both (log_traffic b))
 log_join (d ∷ a) b = ap (both (deal_traffic d)) (log_join a b) ∙ sym (both_assoc (deal_traffic d) (log_traffic a) (log_traffic b))
 
@@ -99,7 +99,7 @@ log_took : (ms : List Message) → log_traffic (map Took ms) ≡ taken_sum ms
 log_took [] = refl
 log_took (m ∷ ms) = ap (both (taken_traffic m)) (log_took ms)
 
-log_sent : (ms : List Message) → log_traffic (map Sent ms) ≡ sent_sum ms
+pub log_sent : (ms : List Message) → log_traffic (map Sent ms) ≡ sent_sum ms
 log_sent [] = refl
 log_sent (m ∷ ms) = ap (both (sent_traffic m)) (log_sent ms)
 
@@ -107,7 +107,7 @@ log_found : (ps : List (ℕ × ℕ)) → log_traffic (map Found ps) ≡ no_traff
 log_found [] = refl
 log_found (p ∷ ps) = none_both (log_traffic (map Found ps)) ∙ log_found ps
 
-log_with : (ts : List Message) (fs : List (ℕ × ℕ)) (ms : List Message) → log_traffic (deals_with ts fs ms) ≡ both (taken_sum ts) (sent_sum ms)
+pub log_with : (ts : List Message) (fs : List (ℕ × ℕ)) (ms : List Message) → log_traffic (deals_with ts fs ms) ≡ both (taken_sum ts) (sent_sum ms)
 log_with ts fs ms =
     log_join (map Took ts ++ map Found fs) (map Sent ms)
     ∙ ap (λ (t : Traffic). both t (log_traffic (map Sent ms))) (log_join (map Took ts) (map Found fs) ∙ ap (both (log_traffic (map Took ts))) (log_found fs) ∙ both_none (log_traffic (map Took ts)) ∙ log_took ts)
@@ -118,7 +118,7 @@ log_if true ts fs ms = log_with ts fs ms ∙ traffic_is (both (taken_sum ts) (se
 log_if false ts fs ms = refl
 
 -- what was sent and taken for an operation is what its log tells
-traffic_log : (o : Op) (past : List Moment) → traffic_of o (sent_of past) (taken_of past) ≡ log_traffic (deals_of o past)
+pub traffic_log : (o : Op) (past : List Moment) → traffic_of o (sent_of past) (taken_of past) ≡ log_traffic (deals_of o past)
 traffic_log o [] = refl
 traffic_log o (m ∷ past) =
     let c : ℕ = client_of m.before m.event in

@@ -12,7 +12,7 @@ use Rattle.kept_promise.proofs.Facts.{IsKept, IsMatched}
 use Rattle.kept_promise.proofs.Fits.{FitLaws}
 use Rattle.kept_promise.proofs.JobFacts.{ops_shape, job_after}
 use Rattle.kept_promise.proofs.RunsCarried.{book_at, moment, Step}
-use Rattle.kept_promise.proofs.Actors.{job_place, job_task, acts_alone, Heard, heard_acts, heard_takes, heard_gives}
+use Rattle.kept_promise.proofs.Actors.{job_place, job_task, acts_alone, Heard, heard_acts, heard_takes, heard_gives, own_op, foreign_at}
 use Rattle.kept_promise.proofs.Counted.{running_past, running_now}
 use Rattle.kept_promise.proofs.CommandOps.{made_by, job_stays, old_jobs, last_right}
 use Rattle.kept_promise.proofs.Shapes.{busy_command}
@@ -20,7 +20,6 @@ use Rattle.kept_promise.proofs.Versions.{of_numbered}
 use Rattle.kept_promise.proofs.Found.{command_finds}
 use Rattle.kept_promise.proofs.Logs.{ArePast, past_more, deals_more, deals_same, deals_silent, deals_alike, deals_apart, deals_own, deals_early, deals_filed}
 use Rattle.kept_promise.proofs.EventCases.{IsChange, Settled, cuts_silent, IsStill, event_cases}
-use Rattle.kept_promise.proofs.VersionRuns.{own_op, foreign_at}
 use Rattle.kept_promise.proofs.Rights.{IsRight}
 use Rattle.trace_ends.specs.Ops.{file_with}
 use Rattle.register_model.specs.declared.op.Outcome.TheVariants as told

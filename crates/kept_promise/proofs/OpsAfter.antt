@@ -9,7 +9,7 @@ use Rattle.kept_promise.proofs.Lists.{some_is, nothing_there, at_replaced, of_ap
 use Rattle.kept_promise.proofs.Rights.{Caused}
 use Rattle.kept_promise.proofs.Facts.{IsKept}
 use Rattle.kept_promise.proofs.RunsCarried.{book_at, Step}
-use Rattle.kept_promise.proofs.Actors.{acts_alone}
+use Rattle.kept_promise.proofs.Actors.{acts_alone, own_op}
 use Rattle.kept_promise.proofs.Marks.{unpointed}
 use Rattle.kept_promise.proofs.Counted.{AlikeUpTo, IsActor, running_past}
 use Rattle.kept_promise.proofs.JobFacts.{ops_shape}
@@ -17,7 +17,7 @@ use Rattle.kept_promise.proofs.Versions.{version_in, count_replaced, count_appen
 use Rattle.kept_promise.proofs.Taking.{versions_after}
 use Rattle.kept_promise.proofs.CommandOps.{made_by, made_later, made_pointless, last_right}
 use Rattle.kept_promise.proofs.EventCases.{Settled, event_cases}
-use Rattle.kept_promise.proofs.VersionRuns.{own_op, heard_finds, heard_shut, change_not_opened, change_versions}
+use Rattle.kept_promise.proofs.VersionRuns.{heard_finds, heard_shut, change_not_opened, change_versions}
 use Rattle.kept_promise.proofs.Found.{cut_finds, Quietly}
 use Rattle.kept_promise.proofs.Fits.{FitLaws}
 

@@ -24,7 +24,7 @@ use Rattle.kept_promise.proofs.Facts.{IsKept, IsSession, IsMatched, is_naming}
 use Rattle.kept_promise.proofs.RunsCarried.{book_at, moment, Step, Carried}
 use Rattle.kept_promise.proofs.Counted.{IsActor, first_or_rest, said_by, said_at, early, of_step, SaidBy, said_later, said_append, said_now, AlikeUpTo}
 use Rattle.kept_promise.proofs.JobFacts.{ops_shape, job_after}
-use Rattle.kept_promise.proofs.Actors.{acts_alone, job_place, job_task, placed, Heard, heard_takes}
+use Rattle.kept_promise.proofs.Actors.{acts_alone, job_place, job_task, Heard, heard_takes, own_op, foreign_at}
 use Rattle.kept_promise.proofs.CountedRuns.{CountedAt, carried_counts, taken_more}
 use Rattle.kept_promise.proofs.Shapes.{TaskGood, OutcomeGood, EndGood, Good, TookIn, TaskTook, good_answer, good_command, busy_command, StageGood}
 use Rattle.kept_promise.proofs.Found.{heard_quiet, heard_apart, Quietly, IsFresh, step_found}
@@ -115,15 +115,6 @@ versions_still book past k qs e t kept s counted h =
 
 -- ---- a client's own operation
 
--- the operation that runs at a client's place
-pub own_op : (book : Book) (k : Core) (qs : List Queue) (i : ℕ) (seat : Seat) (p : ℕ) (o : Op) → IsKept book k qs → numbered k.seats i ≡ Some seat → seat.place ≡ Some p → slice_get k.ops p ≡ Some o → (j : Job) × (job seat ≡ Some j) × (j.place ≡ p) × (o.client ≡ i) × (o.outcome ≡ told.Running) × (is_naming j.stage ≡ false → o.file ≡ j.file)
-own_op book k qs i seat p o kept here e at =
-    let s = kept.seats i seat here in
-    let j = placed seat p s.matched e in
-    let of = s.task j.0 j.1 in
-    let same : of.op ≡ o = some_is of.op o (sym of.there ∙ ap (slice_get book.ops) j.2 ∙ ap (λ (l : List Op). slice_get l p) kept.ops ∙ at) in
-    (j.0, j.1, j.2, ap (λ (z : Op). z.client) (sym same) ∙ of.client, ap (λ (z : Op). z.outcome) (sym same) ∙ of.running, λ named. ap (λ (z : Op). z.file) (sym same) ∙ of.file named)
-
 -- the server gives no file to what changes none, nor at a stage of a file
 pub unnamed : (s : Stage) → changes (stage_word s) ≡ false → is_naming s ≡ false
 unnamed (stage.Walking x w) e = e
@@ -151,14 +142,6 @@ heard_shut book k qs n now bytes mid kept h m p o e at =
       | inl none ↦ inl none
       | inr quiet ↦ elim (heard_apart book k qs n now bytes mid kept h m w.0 w.1) [ inl none ↦ inl none | inr shut ↦ inr (w.5 (unnamed w.0.stage (ap changes (sym of.word ∙ ap (λ (z : Op). z.word) same) ∙ quiet)) ∙ shut) ]
     ]
-
--- another client's job is not at its place
-pub foreign_at : (book : Book) (k : Core) (qs : List Queue) (i : ℕ) (seat : Seat) → IsKept book k qs → numbered k.seats i ≡ Some seat → (m : ℕ) (s : Seat) (j : Job) (o : Op) → numbered k.seats m ≡ Some s → job s ≡ Some j → slice_get k.ops j.place ≡ Some o → (m ≡ i → ⊥) → seat.place ≡ Some j.place → ⊥
-foreign_at book k qs i seat kept here m s j o there is at apart e =
-    let of = (kept.seats m s there).task j is in
-    let same : of.op ≡ o = some_is of.op o (sym of.there ∙ ap (λ (l : List Op). slice_get l j.place) kept.ops ∙ at) in
-    let own = own_op book k qs i seat j.place o kept here e at in
-    apart (sym of.client ∙ ap (λ (z : Op). z.client) same ∙ own.3)
 
 -- what was said by this step is still of it
 running_upto : (o : Op) (c : client.State) (taken : List TakenCall) (n : ℕ) (acts : ClientStep) → o.end ≡ None → AlikeUpTo (n + 1) o (op_after o c taken (n + 1) acts)
@@ -600,7 +583,7 @@ carried_versions laws = record {
   first = λ all opening tree count kept. ((carried_counts laws).first all opening tree count kept, record { jobs = λ i seat j o here is at. nothing_there o at; opened = λ p len q digest o at e point. nothing_there o at });
   steps = λ all past rest opening k qs e mid after s h. ((carried_counts laws).steps all past rest opening k qs e mid after s h.0, subst (λ z. HaveVersions (early_of opening) z (happens k e).core.sessions (happens k e).core.seats (happens k e).core.ops) (taken_more past (moment k e)) (versions_event laws all past rest opening k qs e mid after s h.0 h.1));
   adjusts = λ all past opening k qs index seats same h. (
-    h.0,
+    (carried_counts laws).adjusts all past opening k qs index seats same h.0,
     record {
       jobs = λ i seat j o here is at. let w = same.was i seat here in subst (λ (z : Seat). JobVersion (early_of opening) (taken_of past) k.ops (takens k.sessions z) o j.stage) (sym w.4) (h.1.jobs i w.0 j o w.3 (ap job (sym w.4) ∙ is) at);
       opened = h.1.opened;

@@ -28,7 +28,7 @@ use Rattle.trace_ends.specs.Session.{taken_of as session_taken}
 use Rattle.trace_replay.specs.Trail.{AreCounted, steps_by}
 use Rattle.trace_ends.specs.Commands.{path_word}
 use Rattle.kept_promise.proofs.Common.{slice_get, Contains, Contains-push_cases, Command, ClientStep, Ended, ended_by, command_step, Pending, Stage, Task, Op, Opening, TakenCall, op_after, ops_with, place_after, Core, Seat, Event, Event.Does, Event.Hears, Event.Cuts, numbered, does, cuts_if, acted, session_of, happens, Moment, step_of, Deed, deeds_of, Book, Queue, taken_by, got_step, told_message, Body, took, took_if, got_message, has_call, pending, idle, drops, reply_body, ◌==◌, ◌||◌, Contains-append_cases, Reply, Reply.Walked, Reply.Bytes, name_answer, Message, wanted_if, Contains-push, file_of, joined_from, calls_from, place_with, nat_lt, if◌then◌else◌, Local, Part, content_length, content_bytes, on_local, edits, truncates, reads, abandons, too_big, writes, done_with, closes, asks_temp, opens, opens_if, asks_file, asks_kept, is_open, may_ask, local_most, written_size, written, truncated, ends, word_of, value_at_begin, Word, point_if, has_point, told_of, Outcome}
-use Rattle.kept_promise.proofs.Actors.{job_place, job_task, Heard, heard_takes}
+use Rattle.kept_promise.proofs.Actors.{job_place, job_task, Heard, heard_takes, own_op}
 use Rattle.kept_promise.proofs.Lists.{some_is, nothing_there, of_appended, kept_appended, count_more, within, at_end}
 use Rattle.kept_promise.proofs.Messages.{Job, job, job_of, WalkCame, WalkTold, AllTolds, IsAnswer, AnswerOf, FetchOf, CloseOf}
 use Rattle.kept_promise.proofs.PathNames.{IsSmall, IsWalkSmall, makes_later}
@@ -38,7 +38,6 @@ use Rattle.kept_promise.proofs.JobFacts.{job_after}
 use Rattle.kept_promise.proofs.RunsCarried.{book_at, moment, Step, Carried}
 use Rattle.kept_promise.proofs.Versions.{of_numbered}
 use Rattle.kept_promise.proofs.EventCases.{event_cases}
-use Rattle.kept_promise.proofs.VersionRuns.{own_op}
 use Rattle.kept_promise.proofs.Rights.{Caused, IsRight}
 use Rattle.kept_promise.proofs.CommandOps.{made_by, job_stays}
 use Rattle.kept_promise.proofs.Shapes.{busy_command}

@@ -11,7 +11,7 @@ use Rattle.register_model.specs.declared.op.Outcome.TheVariants as told
 use Rattle.register_model.specs.declared.op.Word.TheVariants as words
 use Rattle.trace_ends.specs.Commands.{path_word}
 use Rattle.kept_promise.proofs.Common.{slice_get, slice_set, Contains-push_cases, Command, ClientStep, Ended, Stage, Task, Op, Opening, TakenCall, op_after, ops_with, ops_after, Core, Seat, Event, Event.Does, numbered, with_numbered, CoreStep, Moment, Deed, deeds_of, deed_by, Queue, idle, ends, word_of, is_untold}
-use Rattle.kept_promise.proofs.Actors.{job_place}
+use Rattle.kept_promise.proofs.Actors.{job_place, own_op, foreign_at}
 use Rattle.kept_promise.proofs.Lists.{set_count, some_is, nothing_there, kept_appended, at_replaced, same_or_not, set_else, true_and_false}
 use Rattle.kept_promise.proofs.Messages.{Job, job}
 use Rattle.kept_promise.proofs.Facts.{IsKept, IsMatched}
@@ -20,7 +20,6 @@ use Rattle.kept_promise.proofs.JobFacts.{ops_shape}
 use Rattle.kept_promise.proofs.RunsCarried.{book_at, moment}
 use Rattle.kept_promise.proofs.Versions.{of_numbered}
 use Rattle.kept_promise.proofs.EventCases.{IsChange, Remembers, Settled, IsStill}
-use Rattle.kept_promise.proofs.VersionRuns.{own_op, foreign_at}
 use Rattle.kept_promise.proofs.Rights.{gets_file}
 use Rattle.kept_promise.proofs.Walked.{HasWalk}
 use Rattle.kept_promise.proofs.WalkRuns.{bare, OnWay, IsOn, EndsAs, JobsOn, IsOver, Walks, SameWay, same_way, is_on, is_over, IsBare}
