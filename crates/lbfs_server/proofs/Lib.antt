@@ -1,10 +1,3 @@
-pub mod Delivering
+pub mod Following
 pub mod Giving
-pub mod Hanging
-pub mod Hearing
-pub mod Joining
-pub mod Keeping
-pub mod Keys
-pub mod Quiet
 pub mod Serving
-pub mod Telling

@@ -8,7 +8,7 @@ use Rattle.server_core.specs.Step.{with_tree}
 use Rattle.tree_load.specs.Load.{load}
 use Rattle.lbfs_server.specs.Serve.{MayGive, IsServerOf, IsBad}
 
-pub is_server_of : (told : Option (List Kept)) (records : List Kept) (tree : Tree) (server : State) → MayGive told records → load records ≡ Ok tree → server ≡ with_tree tree → IsServerOf told server
+pub is_server_of : (told : Option (List Kept)) (records : List Kept) (tree : Tree) (server : State) → MayGive told records → load records ≡ Ok tree → server ≡ record (with_tree tree) { index = server.index } → IsServerOf told server
 is_server_of told records tree server gives loads is = (records, tree, gives, loads, is)
 
 pub is_bad : (told : Option (List Kept)) (records : List Kept) (which : ℕ) → MayGive told records → load records ≡ Err which → IsBad told which

@@ -1,6 +1,2 @@
-pub mod Boxes
 pub mod Ends
-pub mod Held
-pub mod Kept
-mod Rows
 pub mod Serve

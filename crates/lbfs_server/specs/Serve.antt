@@ -10,9 +10,9 @@ use Rattle.tree_load.specs.Load.{load}
 abbrev pub MayGive : Option (List Kept) → List Kept → Type 0
 MayGive told records = (held : List Kept) → told ≡ Some held → records ≡ held
 
--- the server has no session, and the tree of the records
+-- The server has no session, and the tree of the records. Its index may know any places: nobody trusts it.
 abbrev pub IsServerOf : Option (List Kept) → State → Type 0
-IsServerOf told server = (records : List Kept) × (tree : Tree) × MayGive told records × (load records ≡ Ok tree) × (server ≡ with_tree tree)
+IsServerOf told server = (records : List Kept) × (tree : Tree) × MayGive told records × (load records ≡ Ok tree) × (server ≡ record (with_tree tree) { index = server.index })
 
 -- the record, counted from 0, is the first that breaks a rule
 abbrev pub IsBad : Option (List Kept) → ℕ → Type 0

@@ -1,14 +1,12 @@
-//! The server on its connections: what its threads share, and what each of them does. `outboxes` has
-//! the messages to each session that its thread didn't take yet.
+//! The server on its connections: the turns of its threads, and what each of them does. What they share is
+//! `server_held`.
 #![tactic(auto)]
 
-pub mod boxes;
 pub mod gate;
-pub mod held;
-mod kept;
+mod hints;
 pub mod listener;
-pub mod outboxes;
+pub mod outgoing;
 pub mod serve;
 pub mod session;
 pub mod shared;
-pub mod turns;
+mod work;

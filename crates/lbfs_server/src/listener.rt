@@ -1,26 +1,38 @@
 //! The listener: it takes links off the network, makes a session for each, and has threads serve
 //! them beside each other. A change that waits for a moment is made by a thread of its own.
 
-ghost use Rattle.std.specs.Prelude.{◌≤◌, OnOk, OnErr};
+ghost use Rattle.std.specs.Prelude.{◌≤◌, OnOk, IsErrOf};
 ghost use Rattle.lb_base.specs.Causes.{Rose};
 ghost use Rattle.lbfs_server.specs.Ends.{CountsMore};
+ghost use Rattle.lbfs_server.specs.declared.listener.Stop.TheVariants as stops;
+ghost use Rattle.turn_post.specs.Passes.{IsPassOf, Follows};
 
 use crate::gate::Gate;
-use crate::held::Went;
 use crate::session::{session_both, session_in, session_out};
 use crate::shared::Shared;
-use crate::turns::Turns;
-use lb_base::source::Failed;
+use crate::work::Work;
 use links::clock::Clock;
 use links::link::Link;
-use links::network::Network;
+use links::network::{AcceptError, Bell, Network};
 use links::rest::Rest;
 use record_ends::end::End;
 use server_core::event::Event;
-use std::sync::atomic::{AtomicUsize, Ordering};
+use server_held::held::Went;
+use server_held::turns::Turns;
 use std::sync::{Mutex, Wait};
 use std::thread;
 use std::thread::{Scope, Threads};
+use synced_store::syncs::Syncs;
+use turn_post::post::Pass;
+
+/// Why no further link is taken.
+#[derive(Clone, Copy)]
+pub enum Stop {
+    /// The network failed.
+    Network,
+    /// The store could not be made sure of something that was told to it.
+    Doubt,
+}
 
 /// Serves a session on its link and the link's twin: one thread takes records and puts out their
 /// answers, and another puts out what further events have to say. Where no thread can be had the
@@ -29,64 +41,99 @@ fn serve_twins<
     'x,
     R: Threads + Wait + Sync,
     H: Turns + Drop + Send,
+    Y: Syncs + Sync,
     G: Gate + Drop + Sync,
     L: Link + Drop + Send,
     C: Clock + Sync,
 >(
     rt: &'x R,
-    shared: &'x Shared<H, G, L>,
+    shared: &'x Shared<H, Y, G, L>,
+    pass: Pass<H>,
     session: u32,
     gives: &'x Mutex<L>,
     twin: L,
     clock: &'x C,
-) -> End {
-    thread::scope(thread::scope_env(), rt, move |scope| {
-        let mut twin = twin;
-        let giver = scope.spawn(move || session_out(rt, shared, session, gives));
-        if giver.is_err() {
-            shared.event(rt, Event::Hang { session });
-            twin.shut();
-        }
-        drop(giver);
-        session_in(rt, shared, session, &mut twin, gives, clock)
-    })
+) -> End
+    requires { IsPassOf shared.now.post pass }
+{
+    let (pass, other) = shared.split(pass);
+    thread::scope(
+        thread::scope_env(),
+        rt,
+        move |scope| -> End
+            requires { IsPassOf shared.now.post pass × IsPassOf shared.now.post other }
+        {
+            let mut twin = twin;
+            let mut pass = pass;
+            let giver = scope.spawn(
+                move ||
+                    requires { IsPassOf shared.now.post other }
+                {
+                    session_out(rt, shared, other, session, gives);
+                },
+            );
+            if giver.is_err() {
+                let (next, _went) = shared.event(rt, pass, Event::Hang { session });
+                pass = next;
+                twin.shut();
+            }
+            drop(giver);
+            let (_pass, end) = session_in(rt, shared, pass, session, &mut twin, gives, clock);
+            end
+        },
+    )
 }
 
 /// Serves a session on its link, in two threads; where the link has no twin, in one.
 fn serve_session<
     R: Threads + Wait + Sync,
     H: Turns + Drop + Send,
+    Y: Syncs + Sync,
     G: Gate + Drop + Sync,
     L: Link + Drop + Send,
     C: Clock + Sync,
->(rt: &R, shared: &Shared<H, G, L>, session: u32, link: L, clock: &C) -> End {
+>(rt: &R, shared: &Shared<H, Y, G, L>, pass: Pass<H>, session: u32, link: L, clock: &C) -> End
+    requires { IsPassOf shared.now.post pass }
+{
     let mut link = link;
     let Ok(twin) = link.twin() else {
-        return session_both(rt, shared, session, &mut link, clock);
+        let (_pass, end) = session_both(rt, shared, pass, session, &mut link, clock);
+        return end;
     };
     if let Ok(further) = link.twin() {
         shared.keep_link(rt, session, further);
     }
     let gives = Mutex::new(link);
-    let end = serve_twins(rt, shared, session, &gives, twin, clock);
+    let end = serve_twins(rt, shared, pass, session, &gives, twin, clock);
     shared.drop_link(rt, session);
     end
 }
 
-/// Lets changes be made that wait for a moment, until nothing is served any more: the listener is
-/// counted, and each session.
-fn tick<R: Wait, H: Turns + Drop, G: Gate + Drop, L: Link + Drop, C: Clock, T: Rest>(
-    rt: &R,
-    shared: &Shared<H, G, L>,
-    clock: &C,
-    rest: &T,
-    serving: &AtomicUsize,
-) {
+/// Lets changes be made that wait for a moment, until nothing is served any more. Where the store is in
+/// doubt it ends what is served: it shuts all links, and has the listener look.
+fn tick<
+    R: Wait,
+    H: Turns + Drop,
+    Y: Syncs,
+    G: Gate + Drop,
+    L: Link + Drop,
+    B: Bell,
+    C: Clock,
+    T: Rest,
+>(rt: &R, shared: &Shared<H, Y, G, L>, pass: Pass<H>, bell: &B, clock: &C, rest: &T, work: &Work)
+    requires { IsPassOf shared.now.post pass }
+{
+    let mut pass = pass;
     for _turn in rt.forever() {
-        if serving.load(Ordering::SeqCst) == 0 {
+        if work.is_done() {
             return;
         }
-        shared.event(rt, Event::Settle { now: clock.now() });
+        if shared.is_in_doubt() {
+            shared.shut_all(rt);
+            work.ring(bell);
+        }
+        let (next, _went) = shared.event(rt, pass, Event::Settle { now: clock.now() });
+        pass = next;
         rest.rest();
     }
 }
@@ -98,65 +145,93 @@ fn begin<
     'e,
     R: Threads + Wait + Sync,
     H: Turns + Drop + Send,
+    Y: Syncs + Sync,
     G: Gate + Drop + Sync,
     L: Link + Drop + Send + 's,
     C: Clock + Sync,
 >(
     scope: &'s Scope<'s, &'e ()>,
     rt: &'e R,
-    shared: &'e Shared<H, G, L>,
+    shared: &'e Shared<H, Y, G, L>,
+    pass: Pass<H>,
     link: L,
     clock: &'e C,
-    serving: &'e AtomicUsize,
-) -> bool {
+    work: &'e Work,
+) -> (Pass<H>, bool)
+    requires { IsPassOf shared.now.post pass }
+    ensures { Follows shared.now.post pass result.0 }
+{
     let mut link = link;
-    match shared.event(rt, Event::Connect) {
+    let (pass, went) = shared.event(rt, pass, Event::Connect);
+    match went {
         Went::Open { session } => {
-            serving.fetch_add(1, Ordering::SeqCst);
-            let serve = move || {
-                serve_session(rt, shared, session, link, clock);
-                serving.fetch_sub(1, Ordering::SeqCst);
+            work.begin();
+            let (pass, theirs) = shared.split(pass);
+            let serve = move ||
+                requires { IsPassOf shared.now.post theirs }
+            {
+                serve_session(rt, shared, theirs, session, link, clock);
+                work.end();
             };
             // Without a thread the listener serves this session itself, and accepts nothing meanwhile.
             if let Err(refused) = scope.spawn(serve) {
                 (refused.value)();
             }
-            true
+            (pass, true)
         }
         Went::NotReady | Went::Closed | Went::Full | Went::Memory => {
             link.shut();
-            false
+            (pass, false)
         }
     }
 }
 
-/// Takes links off the network until of one a session has begun.
+/// Takes links off the network until of one a session has begun. Where the store is in doubt none begins
+/// any more.
 fn begin_next<
     's,
     'e,
     R: Threads + Wait + Sync,
     H: Turns + Drop + Send,
+    Y: Syncs + Sync,
     G: Gate + Drop + Sync,
     N: Network,
     C: Clock + Sync,
+    T: Rest,
 >(
     scope: &'s Scope<'s, &'e ()>,
     rt: &'e R,
-    shared: &'e Shared<H, G, N::L>,
+    shared: &'e Shared<H, Y, G, N::L>,
+    pass: Pass<H>,
     net: &mut N,
     clock: &'e C,
-    serving: &'e AtomicUsize,
-) -> Result<(), Failed>
+    rest: &T,
+    work: &'e Work,
+) -> (Pass<H>, Result<(), Stop>)
 where
     N::L: Drop + Send + 's,
-    ensures counted { OnOk result (CountsMore (N.accepted net.old) 1 (N.accepted net.new)) }
+    requires { IsPassOf shared.now.post pass }
+    ensures pass { Follows shared.now.post pass result.0 }
+    ensures counted { OnOk result.1 (CountsMore (N.accepted net.old) 1 (N.accepted net.new)) }
     ensures later { N.faults net.old ≤ N.faults net.new }
-    ensures cause { OnErr result (Rose (N.faults net.old) (N.faults net.new)) }
+    ensures cause { IsErrOf result.1 stops.Network → Rose (N.faults net.old) (N.faults net.new) }
 {
+    let mut pass = pass;
     for _turn in rt.forever() {
-        let link = net.accept()?;
-        if begin(scope, rt, shared, link, clock, serving) {
-            return Ok(());
+        let accepted = net.accept();
+        if shared.is_in_doubt() {
+            return (pass, Err(Stop::Doubt));
+        }
+        match accepted {
+            Ok(link) => {
+                let (next, begun) = begin(scope, rt, shared, pass, link, clock, work);
+                pass = next;
+                if begun {
+                    return (pass, Ok(()));
+                }
+            }
+            Err(AcceptError::Passing) => rest.rest(),
+            Err(AcceptError::Failed) => return (pass, Err(Stop::Network)),
         }
     }
     unreachable!()
@@ -168,79 +243,106 @@ fn accept_all<
     'e,
     R: Threads + Wait + Sync,
     H: Turns + Drop + Send,
+    Y: Syncs + Sync,
     G: Gate + Drop + Sync,
     N: Network,
     C: Clock + Sync,
+    T: Rest,
 >(
     scope: &'s Scope<'s, &'e ()>,
     rt: &'e R,
-    shared: &'e Shared<H, G, N::L>,
+    shared: &'e Shared<H, Y, G, N::L>,
+    pass: Pass<H>,
     net: &mut N,
     clock: &'e C,
-    serving: &'e AtomicUsize,
+    rest: &T,
+    work: &'e Work,
     sessions: u32,
-) -> Result<(), Failed>
+) -> (Pass<H>, Result<(), Stop>)
 where
     N::L: Drop + Send + 's,
-    ensures counted { OnOk result (CountsMore (N.accepted net.old) sessions (N.accepted net.new)) }
+    requires { IsPassOf shared.now.post pass }
+    ensures pass { Follows shared.now.post pass result.0 }
+    ensures counted { OnOk result.1 (CountsMore (N.accepted net.old) sessions (N.accepted net.new)) }
     ensures later { N.faults net.old ≤ N.faults net.new }
-    ensures cause { OnErr result (Rose (N.faults net.old) (N.faults net.new)) }
+    ensures cause { IsErrOf result.1 stops.Network → Rose (N.faults net.old) (N.faults net.new) }
 {
+    let mut pass = pass;
     for _at in 0..sessions {
-        begin_next(scope, rt, shared, net, clock, serving)?;
+        let (next, begun) = begin_next(scope, rt, shared, pass, net, clock, rest, work);
+        pass = next;
+        if let Err(stop) = begun {
+            return (pass, Err(stop));
+        }
     }
-    Ok(())
+    (pass, Ok(()))
 }
 
 /// Listens at a port and serves as many sessions as are asked for, each in threads of its own; it
 /// returns once they have ended. A link for which no session can stand is shut at once, and is none
 /// of these.
 ///
-/// `Ok` comes once at least so many links were accepted, and `Failed` only where the network's count
-/// of faults rose.
+/// `Ok` comes once at least so many links were accepted, `Network` only where the network's count of
+/// faults rose, and `Doubt` where the store could not be made sure of something.
 pub fn serve_links<
     'x,
     R: Threads + Wait + Sync,
     H: Turns + Drop + Send,
+    Y: Syncs + Sync,
     G: Gate + Drop + Sync,
     N: Network + Drop,
     C: Clock + Sync,
     T: Rest + Sync,
 >(
     rt: &'x R,
-    shared: &'x Shared<H, G, N::L>,
+    shared: &'x Shared<H, Y, G, N::L>,
+    pass: Pass<H>,
     net: N,
     clock: &'x C,
     rest: &'x T,
     port: u16,
     sessions: u32,
-) -> (Result<(), Failed>, N)
+) -> (Result<(), Stop>, N, Pass<H>)
 where
     N::L: Drop + Send,
+    requires { IsPassOf shared.now.post pass }
+    ensures pass { Follows shared.now.post pass result.2 }
     ensures counted { OnOk result.0 (CountsMore (N.accepted net) sessions (N.accepted result.1)) }
     ensures later { N.faults net ≤ N.faults result.1 }
-    ensures cause { OnErr result.0 (Rose (N.faults net) (N.faults result.1)) }
+    ensures cause { IsErrOf result.0 stops.Network → Rose (N.faults net) (N.faults result.1) }
 {
     let mut net = net;
-    if let Err(failed) = net.listen(port) {
-        return (Err(failed), net);
+    if net.listen(port).is_err() {
+        return (Err(Stop::Network), net, pass);
     }
-    let counted = AtomicUsize::new(1);
-    let serving = &counted;
+    let bell = net.bell();
+    let (pass, ticks_pass) = shared.split(pass);
+    let at_work = Work::new();
+    let work = &at_work;
     thread::scope(
         thread::scope_env(),
         rt,
-        move |scope| -> (Result<(), Failed>, N)
+        move |scope| -> (Result<(), Stop>, N, Pass<H>)
+            requires { IsPassOf shared.now.post pass × IsPassOf shared.now.post ticks_pass }
+            ensures pass { Follows shared.entry.now.post pass result.2 }
             ensures counted { OnOk result.0 (CountsMore (N.accepted net) sessions (N.accepted result.1)) }
             ensures later { N.faults net ≤ N.faults result.1 }
-            ensures cause { OnErr result.0 (Rose (N.faults net) (N.faults result.1)) }
+            ensures cause { IsErrOf result.0 stops.Network → Rose (N.faults net) (N.faults result.1) }
         {
-            let ticks = scope.spawn(move || tick(rt, shared, clock, rest, serving));
+            let ticks = scope.spawn(
+                move ||
+                    requires { IsPassOf shared.now.post ticks_pass }
+                {
+                    tick(rt, shared, ticks_pass, &bell, clock, rest, work);
+                },
+            );
             drop(ticks);
             let mut net = net;
-            let served = accept_all(scope, rt, shared, &mut net, clock, serving, sessions);
-            serving.fetch_sub(1, Ordering::SeqCst);
-            (served, net)
+            let (pass, served) = accept_all(
+                scope, rt, shared, pass, &mut net, clock, rest, work, sessions,
+            );
+            work.end_accepting();
+            (served, net, pass)
         },
     )
 }

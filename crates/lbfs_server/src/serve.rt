@@ -1,35 +1,41 @@
 //! Serving a store's tree on a port. `specs/Serve.antt` states which tree that is, and which record
 //! is told that breaks a rule.
 
-ghost use Rattle.std.specs.Prelude.{◌≡◌, ℕ, IfOk, IsErrOf};
+ghost use Rattle.std.specs.Prelude.{◌≡◌, ◌⊎◌, ℕ, IfOk, IsErrOf};
 ghost use Rattle.lb_base.specs.Causes.{Rose};
 ghost use Rattle.lbfs_server.specs.Ends.{CountsMore};
 ghost use Rattle.lbfs_server.specs.Serve.{IsServerOf, IsBad};
 ghost use Rattle.lbfs_server.specs.declared.serve.ServeError.TheVariants as errors;
 
 use crate::gate::Gate;
-use crate::held::Held;
-use crate::listener::serve_links;
+use crate::hints::{content_ids, learn_all};
+use crate::listener::{Stop, serve_links};
 use crate::shared::Shared;
-use lb_base::source::Failed;
 use links::clock::Clock;
 use links::network::Network;
 use links::rest::Rest;
 use server_core::server::Server;
+use server_held::held::Held;
 use std::alloc::Global;
 use std::sync::Wait;
 use std::thread::Threads;
 use store::store::{Store, StoreError};
+use synced_store::syncs::Synced;
 use tree_load::error::LoadError;
 use tree_load::load::load;
+use turn_post::post::Post;
+
+/// How many bytes of memory the temporary files of all sessions may hold together.
+const TEMPS_HELD_MOST: u64 = 1 << 30;
 
 /// What came of serving.
 #[derive(Clone, Copy)]
 pub struct Served {
     /// How many sessions were served.
     pub sessions: u32,
-    /// How many changes were made.
-    pub changes: usize,
+    /// How long the journal is that the listener has seen by its last turn, which it takes once all
+    /// sessions have ended.
+    pub front: u64,
 }
 
 /// Why nothing more is served.
@@ -37,7 +43,7 @@ pub struct Served {
 pub enum ServeError {
     /// The network failed.
     Network,
-    /// The store failed as its records were to be given.
+    /// The store failed as its records were to be given, or it was to be made sure of what it was given.
     Store,
     /// This record of the store, counted from 0, is the first that breaks a rule.
     BadRecord { which: usize },
@@ -58,27 +64,49 @@ fn opened<S: Store>(alloc: Global, store: &mut S, place: &str) -> Result<Server,
         Err(StoreError::Failed) => return Err(ServeError::Store),
         Err(StoreError::Memory) => return Err(ServeError::Memory),
     };
+    let files = match content_ids(alloc, &records) {
+        Ok(files) => files,
+        Err(_want) => return Err(ServeError::Memory),
+    };
     let tree = match load(alloc, records) {
         Ok(tree) => tree,
         Err(LoadError::BadRecord { which }) => return Err(ServeError::BadRecord { which }),
         Err(LoadError::Memory) => return Err(ServeError::Memory),
     };
     match Server::with_tree(alloc, tree) {
-        Ok(server) => Ok(server),
+        Ok(mut server) => {
+            server.bound_temps(TEMPS_HELD_MOST);
+            learn_all(&mut server, files.as_slice());
+            Ok(server)
+        }
         Err(_) => Err(ServeError::Memory),
+    }
+}
+
+/// Why nothing more is served once a store could not be closed: `Store`, where its count of faults is
+/// above the one before. Of a store that comes back from other threads nothing else tells that.
+fn store_error(before: u64, after: u64) -> ServeError
+    ensures store { result ≡ errors.Store → Rose before after }
+    ensures others { (result ≡ errors.Store) ⊎ (result ≡ errors.Memory) }
+{
+    if before < after || after == u64::MAX {
+        ServeError::Store
+    } else {
+        ServeError::Memory
     }
 }
 
 /// Loads the tree of a store, listens at a port, and serves as many sessions as are asked for, each
 /// in threads of its own; it returns once they have ended, and gives the store and the network back.
 ///
-/// An empty store has the root alone. `Store` comes only where the store's count of faults rose as
-/// it gave its records, `BadRecord` names the first of these that breaks a rule, and `Network` comes
-/// only where the network's count rose.
+/// An empty store has the root alone. `Store` comes only where the store's count of faults rose: as it
+/// gave its records, or as it was to be made sure of what it was given. Then nothing more goes out on
+/// any link. `BadRecord` names the first record that breaks a rule, and `Network` comes only where the
+/// network's count rose.
 #[tactic(auto, using(crate::proofs::Serving::none_held, crate::proofs::Serving::same_error))]
 pub fn serve<
     R: Threads + Wait + Sync,
-    S: Store + Drop + Send,
+    S: Synced + Drop + Send,
     N: Network + Drop,
     C: Clock + Sync,
     T: Rest + Sync,
@@ -103,17 +131,30 @@ where
     ensures record { (which : ℕ) → IsErrOf result.0 (errors.BadRecord which) → IsBad (S.records store) which }
 {
     let mut store = store;
+    let before = store.fault_count();
     let server = match opened(alloc, &mut store, place) {
         Ok(server) => server,
         Err(error) => return (Err(error), store, net),
     };
-    let shared = Shared::new(alloc, Held::new(alloc, server, store), gate);
-    let (served, net) = serve_links(rt, &shared, net, clock, rest, port, sessions);
-    let held = shared.into_held();
-    let changes = held.changes_made();
-    let store = held.into_store();
-    match served {
-        Ok(()) => (Ok(Served { sessions, changes }), store, net),
-        Err(Failed) => (Err(ServeError::Network), store, net),
+    let Ok(syncs) = store.syncs() else {
+        return (Err(ServeError::Memory), store, net);
+    };
+    let (post, pass) = match Post::new(alloc, Held::new(alloc, server, store)) {
+        Ok(made) => made,
+        Err(held) => return (Err(ServeError::Memory), held.into_store(), net),
+    };
+    let shared = Shared::new(alloc, post, syncs, gate);
+    let (ended, net, pass) = serve_links(rt, &shared, pass, net, clock, rest, port, sessions);
+    let (front, held) = shared.finish(rt, pass);
+    let mut store = held.into_store();
+    if store.close().is_err() {
+        let error = store_error(before, store.fault_count());
+        return (Err(error), store, net);
+    }
+    match ended {
+        Ok(()) => (Ok(Served { sessions, front }), store, net),
+        Err(Stop::Network) => (Err(ServeError::Network), store, net),
+        // Its close would have failed.
+        Err(Stop::Doubt) => (Err(ServeError::Memory), store, net),
     }
 }

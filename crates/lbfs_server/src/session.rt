@@ -6,62 +6,88 @@ ghost use Rattle.std.specs.Io.KnownBytes.{IsAtEnd};
 ghost use Rattle.lb_base.specs.Causes.{Rose};
 ghost use Rattle.record_ends.specs.declared.end.End.TheVariants as ends;
 ghost use Rattle.lbfs_server.specs.Ends.{IsSpoilt};
+ghost use Rattle.turn_post.specs.Passes.{IsPassOf, Follows};
 
 use crate::gate::Gate;
-use crate::shared::{Outgoing, Shared};
-use crate::turns::Turns;
+use crate::outgoing::{Sure, Taken};
+use crate::shared::Shared;
+use lb_base::source::Failed;
 use links::clock::Clock;
 use links::link::Link;
 use record_ends::end::End;
 use record_ends::inbox::Inbox;
 use record_ends::outgoing::put_out;
 use server_core::event::Event;
+use server_held::turns::Turns;
 use std::alloc::Global;
 use std::sync::{Mutex, Wait};
+use synced_store::syncs::Syncs;
+use turn_post::post::Pass;
 
-/// Gives a link what there is to say to a session, and answers whether more may follow; where none
-/// may it shuts the link.
-fn give_out<L: Link>(alloc: Global, link: &mut L, out: &Outgoing) -> bool
+/// Gives a link what may go out to a session, and answers whether more may follow.
+fn give<L: Link>(alloc: Global, link: &mut L, sure: &Sure) -> bool
     ensures come { L.left link.new ≡ L.left link.old }
     ensures later { L.faults link.old ≤ L.faults link.new }
 {
-    let said = put_out(alloc, link, &out.messages);
-    if said.is_err() || !out.stands {
+    let said = put_out(alloc, link, sure.messages());
+    said.is_ok() && sure.stands()
+}
+
+/// Gives a link what was taken for a session, once the store is sure of what was made before, and
+/// answers whether more may follow; where none may it shuts the link.
+fn give_out<W: Wait, H: Turns + Drop, Y: Syncs, G: Gate + Drop, L: Link + Drop>(
+    rt: &W,
+    shared: &Shared<H, Y, G, L>,
+    link: &mut L,
+    taken: Taken,
+) -> bool
+    ensures come { L.left link.new ≡ L.left link.old }
+    ensures later { L.faults link.old ≤ L.faults link.new }
+{
+    let follows = match shared.settle_taken(rt, taken) {
+        Ok(sure) => give(shared.alloc(), link, &sure),
+        Err(Failed) => false,
+    };
+    if !follows {
         link.shut();
-        return false;
     }
-    true
+    follows
 }
 
 /// Takes a session's records off its link, each in a turn of its own, and puts out what there is to
 /// say then: no other thread has to be woken for it. Whoever takes what there is to say holds the
 /// link, so that what is taken first goes out first.
-fn read_on<W: Wait, H: Turns + Drop, G: Gate + Drop, L: Link + Drop, C: Clock>(
+fn read_on<W: Wait, H: Turns + Drop, Y: Syncs, G: Gate + Drop, L: Link + Drop, C: Clock>(
     rt: &W,
-    shared: &Shared<H, G, L>,
+    shared: &Shared<H, Y, G, L>,
+    pass: Pass<H>,
     session: u32,
     link: &mut L,
     gives: &Mutex<L>,
     clock: &C,
-) -> End
-    ensures ended { result ≡ ends.InputEnd → IsAtEnd (L.left link.new) }
-    ensures failed { result ≡ ends.Failed → Rose (L.faults link.old) (L.faults link.new) }
-    ensures spoilt { result ≡ ends.Spoilt → IsSpoilt (L.left link.old) (L.left link.new) }
+) -> (Pass<H>, End)
+    requires { IsPassOf shared.now.post pass }
+    ensures pass { Follows shared.now.post pass result.0 }
+    ensures ended { result.1 ≡ ends.InputEnd → IsAtEnd (L.left link.new) }
+    ensures failed { result.1 ≡ ends.Failed → Rose (L.faults link.old) (L.faults link.new) }
+    ensures spoilt { result.1 ≡ ends.Spoilt → IsSpoilt (L.left link.old) (L.left link.new) }
     ensures out { L.held link.new ≡ L.held link.old }
     ensures later { L.faults link.old ≤ L.faults link.new }
 {
     let mut inbox = match Inbox::new(shared.alloc()) {
         Ok(inbox) => inbox,
-        Err(_) => return End::Memory,
+        Err(_) => return (pass, End::Memory),
     };
+    let mut pass = pass;
     for _turn in rt.forever() {
         match inbox.next(shared.alloc(), link) {
             Ok(record) => {
                 let mut gives = gives.lock(rt);
-                let out = shared.got(rt, session, record.as_slice(), clock.now());
-                give_out(shared.alloc(), &mut *gives, &out);
+                let (next, out) = shared.got(rt, pass, session, record.as_slice(), clock.now());
+                pass = next;
+                give_out(rt, shared, &mut *gives, out);
             }
-            Err(end) => return end,
+            Err(end) => return (pass, end),
         }
     }
     unreachable!()
@@ -73,69 +99,84 @@ fn read_on<W: Wait, H: Turns + Drop, G: Gate + Drop, L: Link + Drop, C: Clock>(
 ///
 /// `InputEnd` comes where the input ended, `Failed` only where the link's count of faults rose, and
 /// `Spoilt` only where no record can stand behind the bytes that came.
-pub fn session_in<W: Wait, H: Turns + Drop, G: Gate + Drop, L: Link + Drop, C: Clock>(
+pub fn session_in<W: Wait, H: Turns + Drop, Y: Syncs, G: Gate + Drop, L: Link + Drop, C: Clock>(
     rt: &W,
-    shared: &Shared<H, G, L>,
+    shared: &Shared<H, Y, G, L>,
+    pass: Pass<H>,
     session: u32,
     link: &mut L,
     gives: &Mutex<L>,
     clock: &C,
-) -> End
-    ensures ended { result ≡ ends.InputEnd → IsAtEnd (L.left link.new) }
-    ensures failed { result ≡ ends.Failed → Rose (L.faults link.old) (L.faults link.new) }
-    ensures spoilt { result ≡ ends.Spoilt → IsSpoilt (L.left link.old) (L.left link.new) }
+) -> (Pass<H>, End)
+    requires { IsPassOf shared.now.post pass }
+    ensures pass { Follows shared.now.post pass result.0 }
+    ensures ended { result.1 ≡ ends.InputEnd → IsAtEnd (L.left link.new) }
+    ensures failed { result.1 ≡ ends.Failed → Rose (L.faults link.old) (L.faults link.new) }
+    ensures spoilt { result.1 ≡ ends.Spoilt → IsSpoilt (L.left link.old) (L.left link.new) }
     ensures out { L.held link.new ≡ L.held link.old }
     ensures later { L.faults link.old ≤ L.faults link.new }
 {
-    let end = read_on(rt, shared, session, link, gives, clock);
-    shared.event(rt, Event::Hang { session });
+    let (pass, end) = read_on(rt, shared, pass, session, link, gives, clock);
+    let (pass, _went) = shared.event(rt, pass, Event::Hang { session });
     link.shut();
-    end
+    (pass, end)
 }
 
 /// Puts out what there is to say to a session until it is gone, or its link fails; then it shuts the
 /// link.
-pub fn session_out<W: Wait, H: Turns + Drop, G: Gate + Drop, L: Link + Drop>(
+pub fn session_out<W: Wait, H: Turns + Drop, Y: Syncs, G: Gate + Drop, L: Link + Drop>(
     rt: &W,
-    shared: &Shared<H, G, L>,
+    shared: &Shared<H, Y, G, L>,
+    pass: Pass<H>,
     session: u32,
     gives: &Mutex<L>,
-) {
+) -> Pass<H>
+    requires { IsPassOf shared.now.post pass }
+    ensures { Follows shared.now.post pass result }
+{
+    let mut pass = pass;
     for _turn in rt.forever() {
-        shared.await_said(rt, session);
+        pass = shared.await_said(rt, pass, session);
         let mut link = gives.lock(rt);
-        let out = shared.take_out(rt, session);
-        if !give_out(shared.alloc(), &mut *link, &out) {
-            return;
+        let (next, out) = shared.take_out(rt, pass, session);
+        pass = next;
+        if !give_out(rt, shared, &mut *link, out) {
+            return pass;
         }
     }
+    unreachable!()
 }
 
 /// Takes records off a session's link, and puts out by it what there is to say behind each, until it
 /// ends.
-fn both_on<W: Wait, H: Turns + Drop, G: Gate + Drop, L: Link + Drop, C: Clock>(
+fn both_on<W: Wait, H: Turns + Drop, Y: Syncs, G: Gate + Drop, L: Link + Drop, C: Clock>(
     rt: &W,
-    shared: &Shared<H, G, L>,
+    shared: &Shared<H, Y, G, L>,
+    pass: Pass<H>,
     session: u32,
     link: &mut L,
     clock: &C,
-) -> End
-    ensures ended { result ≡ ends.InputEnd → IsAtEnd (L.left link.new) }
-    ensures failed { result ≡ ends.Failed → Rose (L.faults link.old) (L.faults link.new) }
-    ensures spoilt { result ≡ ends.Spoilt → IsSpoilt (L.left link.old) (L.left link.new) }
+) -> (Pass<H>, End)
+    requires { IsPassOf shared.now.post pass }
+    ensures pass { Follows shared.now.post pass result.0 }
+    ensures ended { result.1 ≡ ends.InputEnd → IsAtEnd (L.left link.new) }
+    ensures failed { result.1 ≡ ends.Failed → Rose (L.faults link.old) (L.faults link.new) }
+    ensures spoilt { result.1 ≡ ends.Spoilt → IsSpoilt (L.left link.old) (L.left link.new) }
     ensures later { L.faults link.old ≤ L.faults link.new }
 {
     let mut inbox = match Inbox::new(shared.alloc()) {
         Ok(inbox) => inbox,
-        Err(_) => return End::Memory,
+        Err(_) => return (pass, End::Memory),
     };
+    let mut pass = pass;
     for _turn in rt.forever() {
         match inbox.next(shared.alloc(), link) {
             Ok(record) => {
-                let out = shared.got(rt, session, record.as_slice(), clock.now());
-                give_out(shared.alloc(), link, &out);
+                let (next, out) = shared.got(rt, pass, session, record.as_slice(), clock.now());
+                pass = next;
+                give_out(rt, shared, link, out);
             }
-            Err(end) => return end,
+            Err(end) => return (pass, end),
         }
     }
     unreachable!()
@@ -144,19 +185,22 @@ fn both_on<W: Wait, H: Turns + Drop, G: Gate + Drop, L: Link + Drop, C: Clock>(
 /// A session in one thread: each record is taken, a change of it that waits may be made, and what
 /// there is to say is put out. It answers as `session_in` does, and has shut the link where the session
 /// was closed before its input ended, but where memory was wanting before the first record.
-pub fn session_both<W: Wait, H: Turns + Drop, G: Gate + Drop, L: Link + Drop, C: Clock>(
+pub fn session_both<W: Wait, H: Turns + Drop, Y: Syncs, G: Gate + Drop, L: Link + Drop, C: Clock>(
     rt: &W,
-    shared: &Shared<H, G, L>,
+    shared: &Shared<H, Y, G, L>,
+    pass: Pass<H>,
     session: u32,
     link: &mut L,
     clock: &C,
-) -> End
-    ensures ended { result ≡ ends.InputEnd → IsAtEnd (L.left link.new) }
-    ensures failed { result ≡ ends.Failed → Rose (L.faults link.old) (L.faults link.new) }
-    ensures spoilt { result ≡ ends.Spoilt → IsSpoilt (L.left link.old) (L.left link.new) }
+) -> (Pass<H>, End)
+    requires { IsPassOf shared.now.post pass }
+    ensures pass { Follows shared.now.post pass result.0 }
+    ensures ended { result.1 ≡ ends.InputEnd → IsAtEnd (L.left link.new) }
+    ensures failed { result.1 ≡ ends.Failed → Rose (L.faults link.old) (L.faults link.new) }
+    ensures spoilt { result.1 ≡ ends.Spoilt → IsSpoilt (L.left link.old) (L.left link.new) }
     ensures later { L.faults link.old ≤ L.faults link.new }
 {
-    let end = both_on(rt, shared, session, link, clock);
-    shared.event(rt, Event::Hang { session });
-    end
+    let (pass, end) = both_on(rt, shared, pass, session, link, clock);
+    let (pass, _went) = shared.event(rt, pass, Event::Hang { session });
+    (pass, end)
 }

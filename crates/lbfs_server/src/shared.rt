@@ -2,29 +2,40 @@
 //! a call is what its contract says is proved of `Held`; of a turn no clause speaks, since another
 //! thread's may stand before and behind it.
 
-ghost use Rattle.std.specs.Prelude.{◌≡◌, ◌<◌, ◌^◌, ◌∷◌, All, Contains};
+ghost use Rattle.std.specs.Prelude.{◌≡◌, ◌<◌, ◌^◌, ◌∷◌, length, All, Contains};
 ghost use Rattle.std.specs.List.Sorted.{IsPermutation};
 ghost use Rattle.lbfs_server.specs.declared.shared.SessionLink.{SessionLink};
 ghost use Rattle.server_core.specs.Step.{IsTimed};
+ghost use Rattle.turn_post.specs.Passes.{IsPassOf, Follows, seen};
+ghost use mathlib.Core.List.{IsPrefix};
 
 use crate::gate::Gate;
-use crate::held::{Went, read_record};
-use crate::turns::Turns;
+use crate::outgoing::{Sure, Taken};
 use hash_calls::call::Commit;
 use hash_calls::message::Lb;
+use lb_base::source::Failed;
 use links::link::Link;
 use server_core::event::Event;
+use server_held::held::{Went, read_record};
+use server_held::turns::Turns;
 use std::alloc::Global;
-use std::sync::{Condvar, Mutex, Wait};
+use std::sync::atomic::{AtomicBool, AtomicU64, Ordering};
+use std::sync::{Mutex, Wait};
+use synced_store::syncs::Syncs;
 use tree_nodes::content::Content;
+use turn_post::post::{Pass, Post};
 use wire::fault::WireError;
 use wire::message::{Body, Message};
 
 /// What the threads of a server share, and by what those are woken that have nothing to say.
-pub struct Shared<H, G, L> {
-    held: Mutex<H>,
-    /// Something was put into a box that another thread has to take out, or a session went.
-    said: Condvar,
+pub struct Shared<H: Turns, Y, G, L> {
+    pub(crate) post: Post<H>,
+    /// What makes the store sure, beside its turns.
+    syncs: Y,
+    /// Whether it couldn't once.
+    in_doubt: AtomicBool,
+    /// Rung where something was put into a box that another thread has to take out, or a session went.
+    said: AtomicU64,
     /// A link of each session that has threads, by which whoever hangs it shuts it.
     links: Mutex<Vec<SessionLink<L>>>,
     gate: G,
@@ -32,16 +43,19 @@ pub struct Shared<H, G, L> {
 }
 
 // By hand: docs/PROVING.md, "Values that are let go".
-impl<H: Drop, G: Drop, L: Drop> Drop for Shared<H, G, L> {
+impl<H: Turns + Drop, Y: Drop, G: Drop, L: Drop> Drop for Shared<H, Y, G, L> {
     fn drop(self) {
         let Shared {
-            held,
+            post,
+            syncs,
+            in_doubt: _,
             said,
             links,
             gate,
             alloc: _,
         } = self;
-        drop(held);
+        drop(post);
+        drop(syncs);
         drop(said);
         drop(links);
         drop(gate);
@@ -53,14 +67,6 @@ impl<H: Drop, G: Drop, L: Drop> Drop for Shared<H, G, L> {
 struct SessionLink<L> {
     session: u32,
     link: L,
-}
-
-/// What there is to say to a session.
-#[derive(Drop)]
-pub struct Outgoing {
-    pub messages: Vec<Message>,
-    /// Whether more may follow.
-    pub stands: bool,
 }
 
 /// Lets a session's link go, where there is one; all others stay. A session's link is kept once
@@ -92,12 +98,16 @@ fn commit_in(read: &Result<Message, WireError>) -> Option<&Commit> {
     }
 }
 
-impl<H: Turns + Drop, G: Gate + Drop, L: Link + Drop> Shared<H, G, L> {
+impl<H: Turns + Drop, Y: Syncs, G: Gate + Drop, L: Link + Drop> Shared<H, Y, G, L> {
     /// What a server's threads share. It takes no memory.
-    pub fn new(alloc: Global, held: H, gate: G) -> Shared<H, G, L> {
+    pub fn new(alloc: Global, post: Post<H>, syncs: Y, gate: G) -> Shared<H, Y, G, L>
+        ensures { result.post ≡ post }
+    {
         Shared {
-            held: Mutex::new(held),
-            said: Condvar::new(),
+            post,
+            syncs,
+            in_doubt: AtomicBool::new(false),
+            said: AtomicU64::new(0),
             links: Mutex::new(Vec::new(alloc)),
             gate,
             alloc,
@@ -109,34 +119,40 @@ impl<H: Turns + Drop, G: Gate + Drop, L: Link + Drop> Shared<H, G, L> {
         self.alloc
     }
 
-    /// What was shared, once no thread does any more.
-    pub fn into_held(self) -> H {
-        let Shared {
-            held,
-            said,
-            links,
-            gate,
-            alloc: _,
-        } = self;
-        drop(said);
-        drop(links);
-        drop(gate);
-        held.into_inner()
+    /// Two passes in place of one, for a thread more.
+    pub fn split(&self, pass: Pass<H>) -> (Pass<H>, Pass<H>)
+        requires { IsPassOf self.now.post pass }
+        ensures { Follows self.now.post pass result.0 × Follows self.now.post pass result.1 }
+    {
+        self.post.split(pass)
+    }
+
+    /// The last turn: how long the journal is that the pass has seen by it, and what was shared.
+    pub fn finish<W: Wait>(&self, rt: &W, pass: Pass<H>) -> (u64, H)
+        requires { IsPassOf self.now.post pass }
+        ensures front { result.0 ≡ length (H.journal result.1) }
+        ensures seen { IsPrefix (seen pass) (H.journal result.1) }
+    {
+        let mut turn = self.post.enter(rt, pass);
+        let front = turn.value().count();
+        (front, turn.finish())
     }
 
     /// A turn of one event.
-    pub fn event<W: Wait>(&self, rt: &W, event: Event) -> Went
-        requires { IsTimed event }
+    pub fn event<W: Wait>(&self, rt: &W, pass: Pass<H>, event: Event) -> (Pass<H>, Went)
+        requires pass { IsPassOf self.now.post pass }
+        requires timed { IsTimed event }
+        ensures { Follows self.now.post pass result.0 }
     {
         self.gate.before();
-        let mut held = self.held.lock(rt);
-        let went = held.event(self.alloc, event);
+        let mut turn = self.post.enter(rt, pass);
+        let went = turn.value().event(self.alloc, event);
         // Where no change could be made nothing was said to anybody.
-        let says = !matches!(went, Went::NotReady) && !held.is_still();
-        drop(held);
-        self.wake(rt, went, says);
+        let says = !matches!(went, Went::NotReady) && !turn.value().is_still();
+        let pass = turn.leave();
+        let pass = self.wake(rt, pass, went, says);
         self.gate.after();
-        went
+        (pass, went)
     }
 
     /// What is made of a record before its turn: the content that its COMMITTMP comes to, cut and hashed
@@ -145,79 +161,165 @@ impl<H: Turns + Drop, G: Gate + Drop, L: Link + Drop> Shared<H, G, L> {
     fn ahead<W: Wait>(
         &self,
         rt: &W,
+        pass: Pass<H>,
         session: u32,
         read: &Result<Message, WireError>,
-    ) -> Option<Content> {
-        let commit = commit_in(read)?;
-        let mut held = self.held.lock(rt);
-        let bytes = held.share_temp(session, commit);
-        drop(held);
-        match Content::new(self.alloc, bytes?) {
-            Ok(content) => Some(content),
-            Err(_) => None,
+    ) -> (Pass<H>, Option<Content>)
+        requires { IsPassOf self.now.post pass }
+        ensures { Follows self.now.post pass result.0 }
+    {
+        let Some(commit) = commit_in(read) else {
+            return (pass, None);
+        };
+        let mut turn = self.post.enter(rt, pass);
+        let bytes = turn.value().share_temp(session, commit);
+        let pass = turn.leave();
+        let Some(bytes) = bytes else {
+            return (pass, None);
+        };
+        match Content::new(self.alloc, bytes) {
+            Ok(content) => (pass, Some(content)),
+            Err(_) => (pass, None),
         }
     }
 
     /// A turn of one record of a session, which is read before it. Where a change of the session waits
-    /// then, one that waits is made, if it may be; and what there is to say to the session is taken.
-    pub fn got<W: Wait>(&self, rt: &W, session: u32, bytes: &[u8], now: u64) -> Outgoing
-        requires { now < 2 ^ 63 }
+    /// then, one that waits is made in a turn behind it, if it may be; and what there is to say to the
+    /// session is taken.
+    pub fn got<W: Wait>(
+        &self,
+        rt: &W,
+        pass: Pass<H>,
+        session: u32,
+        bytes: &[u8],
+        now: u64,
+    ) -> (Pass<H>, Taken)
+        requires pass { IsPassOf self.now.post pass }
+        requires timed { now < 2 ^ 63 }
+        ensures { Follows self.now.post pass result.0 }
     {
         let read = read_record(self.alloc, bytes);
-        let ahead = self.ahead(rt, session, &read);
+        let (pass, ahead) = self.ahead(rt, pass, session, &read);
+        self.heard(rt, pass, session, read, ahead, now)
+    }
+
+    /// The turn of a record, and that of a change that waits.
+    fn heard<W: Wait>(
+        &self,
+        rt: &W,
+        pass: Pass<H>,
+        session: u32,
+        read: Result<Message, WireError>,
+        ahead: Option<Content>,
+        now: u64,
+    ) -> (Pass<H>, Taken)
+        requires pass { IsPassOf self.now.post pass }
+        requires timed { now < 2 ^ 63 }
+        ensures { Follows self.now.post pass result.0 }
+    {
         self.gate.before();
-        let mut held = self.held.lock(rt);
-        held.prepare(ahead);
-        let heard = held.heard(self.alloc, session, read, now);
-        held.prepare(None);
-        let settled = if held.waits(session) {
-            held.event(self.alloc, Event::Settle { now })
-        } else {
-            Went::NotReady
-        };
-        let messages = held.take_out(session);
-        let stands = held.stands(session);
-        let says = !held.is_still();
-        drop(held);
-        self.wake(rt, heard, says);
-        self.wake(rt, settled, false);
+        let mut turn = self.post.enter(rt, pass);
+        turn.value().prepare(ahead);
+        let heard = turn.value().heard(self.alloc, session, read, now);
+        turn.value().prepare(None);
+        if turn.value().waits(session) {
+            let pass = turn.leave();
+            self.gate.after();
+            let pass = self.wake(rt, pass, heard, false);
+            return self.settle(rt, pass, session, now);
+        }
+        let messages = turn.value().take_out(session);
+        let stands = turn.value().stands(session);
+        let says = !turn.value().is_still();
+        let pass = turn.leave();
+        let pass = self.wake(rt, pass, heard, says);
         self.gate.after();
-        Outgoing { messages, stands }
+        (pass, Taken::new(messages, stands))
+    }
+
+    /// A turn in which a change that waits is made, if it may be; what there is to say to a session is
+    /// taken.
+    fn settle<W: Wait>(&self, rt: &W, pass: Pass<H>, session: u32, now: u64) -> (Pass<H>, Taken)
+        requires pass { IsPassOf self.now.post pass }
+        requires timed { now < 2 ^ 63 }
+        ensures { Follows self.now.post pass result.0 }
+    {
+        self.gate.before();
+        let mut turn = self.post.enter(rt, pass);
+        let settled = turn.value().event(self.alloc, Event::Settle { now });
+        let messages = turn.value().take_out(session);
+        let stands = turn.value().stands(session);
+        let says = !turn.value().is_still();
+        let pass = turn.leave();
+        let pass = self.wake(rt, pass, settled, says);
+        self.gate.after();
+        (pass, Taken::new(messages, stands))
     }
 
     /// A turn that takes what there is to say to a session.
-    pub fn take_out<W: Wait>(&self, rt: &W, session: u32) -> Outgoing {
+    pub fn take_out<W: Wait>(&self, rt: &W, pass: Pass<H>, session: u32) -> (Pass<H>, Taken)
+        requires { IsPassOf self.now.post pass }
+        ensures { Follows self.now.post pass result.0 }
+    {
         self.gate.before();
-        let mut held = self.held.lock(rt);
-        let messages = held.take_out(session);
-        let stands = held.stands(session);
-        drop(held);
+        let mut turn = self.post.enter(rt, pass);
+        let messages = turn.value().take_out(session);
+        let stands = turn.value().stands(session);
+        let pass = turn.leave();
         self.gate.after();
-        Outgoing { messages, stands }
+        (pass, Taken::new(messages, stands))
+    }
+
+    /// What was taken may go out, once the store is sure of what was made before. Where it can't be,
+    /// nothing is to go out on any link any more (`is_in_doubt`).
+    pub fn settle_taken<W: Wait>(&self, rt: &W, taken: Taken) -> Result<Sure, Failed> {
+        let settled = taken.settle(rt, &self.syncs);
+        if settled.is_err() {
+            self.in_doubt.store(true, Ordering::SeqCst);
+        }
+        settled
+    }
+
+    /// Whether the store is in doubt.
+    pub fn is_in_doubt(&self) -> bool {
+        self.in_doubt.load(Ordering::SeqCst)
     }
 
     /// Waits until there is something to say to a session, or it is gone. Another may have taken it
     /// by then.
-    pub fn await_said<W: Wait>(&self, rt: &W, session: u32) {
-        let mut held = self.held.lock(rt);
+    pub fn await_said<W: Wait>(&self, rt: &W, pass: Pass<H>, session: u32) -> Pass<H>
+        requires { IsPassOf self.now.post pass }
+        ensures { Follows self.now.post pass result }
+    {
+        let mut pass = pass;
         for _turn in rt.forever() {
-            if !held.is_quiet(session) {
-                return;
+            let heard = self.said.load(Ordering::SeqCst);
+            let mut turn = self.post.enter(rt, pass);
+            let quiet = turn.value().is_quiet(session);
+            pass = turn.leave();
+            if !quiet {
+                return pass;
             }
-            held = self.said.wait(rt, held);
+            self.said.park(rt, (heard & 0xffff_ffff) as u32);
         }
+        unreachable!()
     }
 
     /// Wakes the threads that have nothing to say, where one of them has now, or its session went.
     /// Where memory was wanting, another thread's session may have been hung: its link is shut, so
     /// that its threads come back that wait there.
-    fn wake<W: Wait>(&self, rt: &W, went: Went, says: bool) {
+    fn wake<W: Wait>(&self, rt: &W, pass: Pass<H>, went: Went, says: bool) -> Pass<H>
+        requires { IsPassOf self.now.post pass }
+        ensures { Follows self.now.post pass result }
+    {
         if says || matches!(went, Went::Closed | Went::Memory) {
-            self.said.notify_all();
+            self.said.fetch_add(1, Ordering::SeqCst);
+            self.said.wake_all();
         }
         if matches!(went, Went::Memory) {
-            self.shut_links(rt);
+            return self.shut_links(rt, pass);
         }
+        pass
     }
 
     /// Keeps a link of a session's client, by which the session can be shut. Where memory is wanting
@@ -234,13 +336,38 @@ impl<H: Turns + Drop, G: Gate + Drop, L: Link + Drop> Shared<H, G, L> {
         remove_link(&mut *links, session);
     }
 
-    /// Shuts the links of the sessions that don't stand any more.
-    pub fn shut_links<W: Wait>(&self, rt: &W) {
+    /// Shuts the links of all sessions.
+    pub fn shut_all<W: Wait>(&self, rt: &W) {
         let mut links = self.links.lock(rt);
         for one in links.iter_mut() {
-            if !self.held.lock(rt).stands(one.session) {
+            one.link.shut();
+        }
+    }
+
+    /// Whether a session stands.
+    fn stands<W: Wait>(&self, rt: &W, pass: Pass<H>, session: u32) -> (Pass<H>, bool)
+        requires { IsPassOf self.now.post pass }
+        ensures { Follows self.now.post pass result.0 }
+    {
+        let mut turn = self.post.enter(rt, pass);
+        let stands = turn.value().stands(session);
+        (turn.leave(), stands)
+    }
+
+    /// Shuts the links of the sessions that don't stand any more.
+    pub fn shut_links<W: Wait>(&self, rt: &W, pass: Pass<H>) -> Pass<H>
+        requires { IsPassOf self.now.post pass }
+        ensures { Follows self.now.post pass result }
+    {
+        let mut pass = pass;
+        let mut links = self.links.lock(rt);
+        for one in links.iter_mut() {
+            let (next, stands) = self.stands(rt, pass, one.session);
+            pass = next;
+            if !stands {
                 one.link.shut();
             }
         }
+        pass
     }
 }

@@ -1,13 +1,14 @@
 //! Networks in memory: one that fails when told to, and its twin type that never fails. Their states
 //! stand in `specs/Memory.antt`.
 
-ghost use Rattle.std.specs.Prelude.{◌≡◌, ℕ, ◌+◌, ◌-◌, ◌^◌, ◌≤◌, ◌<◌, ◌↔◌, ◌⊎◌, if◌then◌else◌, List, [], ◌∷◌, min, Contains, Option, Some, Ok, IfOk, OnOk, OnErr, IsOk, IsErr, is_err, true, false};
+ghost use Rattle.std.specs.Prelude.{◌≡◌, ℕ, ◌+◌, ◌-◌, ◌^◌, ◌≤◌, ◌<◌, ◌↔◌, ◌⊎◌, if◌then◌else◌, List, [], ◌∷◌, min, Contains, Option, Some, Ok, Err, IfOk, OnOk, OnErr, IsOk, IsErr, IsErrOf, is_err, true, false};
 ghost use Rattle.lb_base.specs.Causes.{Rose};
 ghost use Rattle.links.specs.Memory.{LinkState, next_sure, no_sure_link};
+ghost use Rattle.links.specs.declared.network.AcceptError.TheVariants as errors;
 
 use crate::calls::Calls;
 use crate::mem_link::{MemLink, SureLink};
-use crate::network::Network;
+use crate::network::{AcceptError, Network, NoBell};
 use lb_base::faults::one_more;
 use lb_base::items::Items;
 use lb_base::source::Failed;
@@ -73,6 +74,8 @@ fn next_sure(alloc: Global, links: &mut Items<SureLink>) -> SureLink
 impl Network for SureNetwork {
     type L = SureLink;
 
+    type B = NoBell;
+
     ghost faults = { λ _. 0 };
 
     ghost accepted = { λ n. n.accepted };
@@ -84,7 +87,11 @@ impl Network for SureNetwork {
         Ok(())
     }
 
-    fn accept(&mut self) -> Result<SureLink, Failed>
+    fn bell(&self) -> NoBell {
+        NoBell
+    }
+
+    fn accept(&mut self) -> Result<SureLink, AcceptError>
         ensures counted { self.new.accepted ≡ min (self.old.accepted + 1) (2 ^ 64 - 1) }
         ensures sure { result ≡ Ok (next_sure self.old.coming).0 }
         ensures rest { (self.new.coming ≡ (next_sure self.old.coming).1) × (self.new.reached ≡ self.old.reached) }
@@ -162,19 +169,21 @@ impl MemNetwork {
         self.faults
     }
 
-    /// Counts a fault.
-    fn fail<T>(&mut self) -> Result<T, Failed>
-        ensures failed { IsErr result }
+    /// Counts a fault, and tells it.
+    fn fail<T, E>(&mut self, error: E) -> Result<T, E>
+        ensures failed { result ≡ Err error }
         ensures later { self.old.faults ≤ self.new.faults }
         ensures counts { self.new ≡ record self.old { faults = min (self.old.faults + 1) (2 ^ 64 - 1) } }
     {
         self.faults = one_more(self.faults);
-        Err(Failed)
+        Err(error)
     }
 }
 
 impl Network for MemNetwork {
     type L = MemLink;
+
+    type B = NoBell;
 
     ghost faults = { λ n. n.faults };
 
@@ -191,17 +200,22 @@ impl Network for MemNetwork {
         ensures rest { (self.new.coming ≡ self.old.coming) × (self.new.reached ≡ self.old.reached) }
     {
         if self.calls.next() {
-            return self.fail();
+            return self.fail(Failed);
         }
         self.listens = true;
         Ok(())
     }
 
-    fn accept(&mut self) -> Result<MemLink, Failed>
+    fn bell(&self) -> NoBell {
+        NoBell
+    }
+
+    fn accept(&mut self) -> Result<MemLink, AcceptError>
         ensures counted { OnOk result (self.new.accepted ≡ min (self.old.accepted + 1) (2 ^ 64 - 1)) }
         ensures failed { OnErr result (self.new.accepted ≡ self.old.accepted) }
         ensures later { self.old.faults ≤ self.new.faults }
-        ensures cause { OnErr result (Rose self.old.faults self.new.faults) }
+        ensures cause { IsErrOf result errors.Failed → Rose self.old.faults self.new.faults }
+        ensures sure { ¬ IsErrOf result errors.Passing }
         ensures fails { IsErr result ↔ (Contains self.old.calls.failing self.old.calls.made ⊎ ((self.old.listens ≡ false) ⊎ (self.old.coming ≡ []))) }
         ensures given { IfOk result (λ link. self.old.coming ≡ link ∷ self.new.coming) }
         ensures stays { OnErr result (self.new.coming ≡ self.old.coming) }
@@ -211,7 +225,7 @@ impl Network for MemNetwork {
     {
         let fails = self.calls.next();
         if fails || !self.listens || self.coming.is_empty() {
-            return self.fail();
+            return self.fail(AcceptError::Failed);
         }
         self.accepted = one_more(self.accepted);
         Ok(self.coming.remove(0))
@@ -230,7 +244,7 @@ impl Network for MemNetwork {
     {
         let fails = self.calls.next();
         if fails || self.reached.is_empty() {
-            return self.fail();
+            return self.fail(Failed);
         }
         Ok(self.reached.remove(0))
     }

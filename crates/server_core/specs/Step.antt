@@ -20,6 +20,7 @@ use Rattle.chunk_index.specs.Index.{Indexed, key_of, place_of, put, cleared}
 use Rattle.chunk_index.specs.declared.place.Place.{Place}
 use Rattle.temp_files.specs.Temps.{temp_at, without_session, room_fault, piece_fault}
 use Rattle.chunk_calls.specs.Entering.{with_told, IsLacking}
+use Rattle.chunk_calls.specs.Files.{file_at, chunks_at}
 use Rattle.server_core.specs.declared.event.Event.{Event}
 use Rattle.server_core.specs.declared.event.Event.TheVariants as event
 use Rattle.server_core.specs.declared.event.ServerStep.{ServerStep}
@@ -147,6 +148,14 @@ opens_with s dir name b = record s { tree = opens s.tree dir name b }
 -- the state with another index
 abbrev pub with_index : State → Indexed → State
 with_index s index = record s { index = index }
+
+-- The places of the chunks of a file's content enter the index, if there is such a file.
+abbrev pub learns : State → (file : ℕ) → State
+learns s id = record s { index = with_told s.index (chunks_at id (file_at s.tree id)) }
+
+-- the same, but for places that are left out, of which there is at least one
+abbrev pub LearnsSome : State → (file : ℕ) → State → Type 0
+LearnsSome s id new = (new ≡ record s { index = new.index }) × IsLacking s.index (chunks_at id (file_at s.tree id)) new.index
 
 -- a place is put under a key
 abbrev pub forges : State → (key : ℕ) → Place → State

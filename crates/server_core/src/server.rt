@@ -4,7 +4,7 @@ ghost use Rattle.std.specs.Prelude.{◌≡◌, ◌≤◌, length, false, true, S
 ghost use Rattle.server_core.specs.Closing.{has_waiting};
 ghost use Rattle.server_core.specs.Served.{IsServed};
 ghost use Rattle.server_core.specs.State.{empty, entries_held};
-ghost use Rattle.server_core.specs.Step.{server_step, server_step_under, with_tree, opens_with, forges, clears_index, IsTimed, Misses};
+ghost use Rattle.server_core.specs.Step.{server_step, server_step_under, with_tree, opens_with, forges, learns, LearnsSome, clears_index, IsTimed, Misses};
 ghost use Rattle.file_tree.specs.Stores.{Keeps};
 ghost use Rattle.file_tree.specs.Opening.{can_open};
 ghost use Rattle.temp_files.specs.Temps.{temp_at, whole_of};
@@ -15,6 +15,7 @@ use crate::journal::Entry;
 use crate::state::ServerState;
 use crate::unkept::NoStore;
 use crate::waiting::has_waiting;
+use chunk_calls::entering::enter_content;
 use chunk_index::place::Place;
 use file_tree::tree::Tree;
 use hash_calls::call::Commit;
@@ -125,6 +126,15 @@ impl Server {
         }
     }
 
+    /// The places of the chunks of a file's content enter the index, if there is such a file: a hint, as a
+    /// forged place is. Says whether some were left out, for want of memory.
+    pub fn learn(&mut self, file: u64) -> bool
+        ensures all { result ≡ false → self.new ≡ learns self.old file }
+        ensures lacks { result ≡ true → LearnsSome self.old file self.new }
+    {
+        enter_content(&mut self.state.index, &self.state.tree, file)
+    }
+
     /// Drops all pairs of the index of chunks. It takes no memory.
     pub fn clear_index(&mut self)
         ensures { self.new ≡ clears_index self.old }
@@ -167,6 +177,14 @@ impl Server {
         ensures same { self.new ≡ self.old }
     {
         self.state.temps.share(session, commit.fd, commit.size)
+    }
+
+    /// Lets the temporary files of all sessions hold so much memory together at most from now on: what
+    /// would need more is answered as where memory is wanting. Nothing changes.
+    pub fn bound_temps(&mut self, most: u64)
+        ensures { self.new ≡ self.old }
+    {
+        self.state.temps.bound(most);
     }
 
     /// Keeps a content that was made ahead, or none, in place of the one that was kept. A COMMITTMP whose

@@ -1,10 +1,12 @@
-//! The law of the server alone (`specs/Facts.antt`).
+//! The law of the server alone (`specs/Facts.antt`, `specs/Growth.antt`).
 
 ghost use Rattle.std.specs.Prelude.{◌≡◌, ℕ, [], List, Bool};
 ghost use Rattle.tree_reading.specs.Tree.{Tree};
 ghost use Rattle.server_core.specs.declared.event.Event.{Event};
 ghost use Rattle.server_core.specs.State.{State};
-ghost use Rattle.server_core.specs.Step.{server_step_under};
+ghost use Rattle.server_core.specs.Step.{server_step_under, Misses};
+ghost use Rattle.server_core.specs.declared.event.ServerStep.{ServerStep};
+ghost use Rattle.server_law.specs.Growth.{Grows};
 ghost use Rattle.server_law.specs.Facts.{Holds, IsGiven};
 
 /// Whatever happens to a server, and whether its store fails or not, its tree holds of each file what
@@ -14,4 +16,12 @@ ghost use Rattle.server_law.specs.Facts.{Holds, IsGiven};
 pub fn journal_tells()
     ensures opening { (s : State) → s.journal ≡ [] → IsGiven s.tree → Holds s.tree s }
     ensures step { (opening : Tree) (s : State) (fault : Bool) (e : Event) → Holds opening s → Holds opening (server_step_under s fault e).0 }
+{}
+
+/// Each step adds at most two entries to the journal, behind those that it has, whether its store fails
+/// or not (`step`), and also where memory is wanting (`missed`). It does nothing: a caller learns this by
+/// calling it.
+pub fn journal_grows()
+    ensures step { (s : State) (fault : Bool) (e : Event) → Grows s (server_step_under s fault e).0 }
+    ensures missed { (s : State) (e : Event) (n : State) (step : ServerStep) → Misses s e n step → Grows s n }
 {}

@@ -9,5 +9,6 @@ pub mod fault;
 mod front;
 pub mod gathering;
 pub mod pieces;
+mod room;
 pub mod temp;
 pub mod temps;

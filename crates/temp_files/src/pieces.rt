@@ -10,6 +10,7 @@ ghost use Rattle.temp_files.specs.Temps.{Tells};
 use crate::fault::TempError;
 use crate::front::Front;
 use crate::gathering::Placed;
+use crate::room::cost_of;
 use lb_base::items::Bytes;
 use server_rules::temps::follows;
 use shared_bytes::SharedBytes;
@@ -35,6 +36,8 @@ pub struct Pieces {
     lengths: Vec<usize>,
     /// The other pieces.
     rest: Placed,
+    /// How many bytes all pieces have. No clause speaks of it.
+    bytes: u64,
 }
 
 impl Model for Pieces {
@@ -86,6 +89,7 @@ impl Pieces {
             front: Front::new(alloc),
             lengths: Vec::new(alloc),
             rest: BTreeMap::new(alloc),
+            bytes: 0,
         }
     }
 
@@ -127,7 +131,9 @@ impl Pieces {
         ensures ok { OnOk result (self.new ≡ and_piece self.old offset bytes) }
         ensures err { OnErr result (self.new ≡ self.old) }
     {
+        let count = bytes.len() as u64;
         self.rest.insert(offset, bytes)?;
+        self.bytes = self.bytes.saturating_add(count);
         self.front.gather(&mut self.lengths, &mut self.rest);
         Ok(())
     }
@@ -138,6 +144,14 @@ impl Pieces {
         ensures apart { StandApart 0 self.now }
     {
         cover(self.front.len() as u64, &self.rest, size)
+    }
+
+    /// What they cost in memory. It takes none.
+    pub fn cost(&self) -> u64 {
+        cost_of(
+            self.lengths.len().saturating_add(self.rest.len()),
+            self.bytes,
+        )
     }
 
     /// Their bytes in parts, one behind the other: those of the front, and those of the other pieces.

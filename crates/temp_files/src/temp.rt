@@ -82,6 +82,11 @@ impl Temp {
         self.pieces.cover(size)
     }
 
+    /// What its pieces cost in memory. It takes none.
+    pub fn cost(&self) -> u64 {
+        self.pieces.cost()
+    }
+
     /// The bytes of its pieces in parts, one behind the other: some in one slice, and those of the
     /// other pieces.
     pub fn parts(&self) -> (&[u8], &Placed)

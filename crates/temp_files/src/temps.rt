@@ -14,6 +14,7 @@ ghost use Rattle.temp_files.specs.Temps.{key_of, temp_at, with_temp, without_tem
 
 use crate::fault::TempError;
 use crate::pieces::SIZE_MOST;
+use crate::room::{Held, Room, cost_of};
 use crate::temp::Temp;
 use lb_base::items::Bytes;
 use server_rules::sessions::stays;
@@ -215,6 +216,39 @@ fn take(
     Ok(Some(whole))
 }
 
+/// What all temporary files cost in memory, and which part of that is a session's, where each session has
+/// such a share. Those of one session stand behind each other.
+fn held_by(temps: &Keyed, session: u32, share: u64) -> Held {
+    let (mut all, mut above, mut own) = (0u64, 0u64, 0u64);
+    let (mut one, mut its) = (session, 0u64);
+    for (_key, temp) in temps.iter() {
+        if temp.session() != one {
+            above = above.saturating_add(its.saturating_sub(share));
+            one = temp.session();
+            its = 0;
+        }
+        let cost = temp.cost();
+        all = all.saturating_add(cost);
+        if one == session {
+            own = own.saturating_add(cost);
+        } else {
+            its = its.saturating_add(cost);
+        }
+    }
+    above = above.saturating_add(its.saturating_sub(share));
+    Held { all, above, own }
+}
+
+/// Takes room for a piece of so many bytes. The one error is that there is none.
+fn take_room(room: &mut Room, temps: &Keyed, session: u32, count: usize) -> Result<(), AllocError> {
+    let more = cost_of(1, count as u64);
+    if room.take_plenty(more) {
+        return Ok(());
+    }
+    let held = held_by(temps, session, room.share());
+    room.take(held, more)
+}
+
 /// The temporary files of all sessions. A session's own are told apart by numbers that its client
 /// picks; it has at most sixteen, each of at most 67,108,864 bytes.
 ///
@@ -222,11 +256,16 @@ fn take(
 pub struct Temps {
     alloc: Global,
     files: Keyed,
+    room: Room,
 }
 
 impl Drop for Temps {
     fn drop(self) {
-        let Temps { alloc: _, files } = self;
+        let Temps {
+            alloc: _,
+            files,
+            room: _,
+        } = self;
         drop(files);
     }
 }
@@ -251,7 +290,17 @@ impl Temps {
         Temps {
             alloc,
             files: BTreeMap::new(alloc),
+            room: Room::unbounded(),
         }
+    }
+
+    /// Lets all temporary files together hold so much memory at most from now on: a piece for which
+    /// there is no room is refused by `Memory`. Half of it is shared out among 64 sessions, each of which
+    /// may always hold its share. Nothing changes.
+    pub fn bound(&mut self, most: u64)
+        ensures { self.new ≡ self.old }
+    {
+        self.room.bound(most);
     }
 
     /// The temporary file that a session has under a number. It takes no memory.
@@ -286,14 +335,15 @@ impl Temps {
 
     /// Puts a piece at a place of a temporary file: `BadFd` where there is no such file, `Inval`
     /// where the piece is empty or ends beyond 2 ^ 64 - 1, `FBig` where it ends beyond 67,108,864
-    /// bytes, `Inval` where it meets another piece, `Memory` where that runs out. All stays as it was
-    /// where the call is refused.
+    /// bytes, `Inval` where it meets another piece, `Memory` where that runs out, or all temporary files
+    /// hold as much as they may. All stays as it was where the call is refused.
     pub fn put(&mut self, session: u32, fd: u32, offset: u64, bytes: Bytes) -> Result<(), TempError>
         ensures told { Tells result (piece_fault (temp_at self.old session fd) offset (length bytes)) }
         ensures ok { OnOk result (self.new ≡ with_more self.old (temp_at self.old session fd) offset bytes) }
         ensures err { OnErr result (self.new ≡ self.old) }
     {
         piece_fault(&self.files, session, fd, offset, bytes.len() as u64)?;
+        take_room(&mut self.room, &self.files, session, bytes.len())?;
         put(&mut self.files, session, fd, offset, bytes)?;
         Ok(())
     }

@@ -7,6 +7,7 @@ use crate::outside::{files, store};
 use crate::port::{Port, PortLink, PortNet};
 use crate::screen::{Screen, Typist};
 use crate::trial::Trial;
+use crate::tried_store::TriedStore;
 use crate::words::asked_of;
 use exit_status::status::Status;
 use lbfs_run::outside::Outside;
@@ -20,13 +21,12 @@ use std::alloc::Global;
 use std::sync::atomic::AtomicU64;
 use std::sync::{Arc, Wait};
 use std::thread::Threads;
-use store::mem_store::MemStore;
 
 /// The outside of each run.
 type Whole<'a, R> = Outside<
     Typist<'a>,
     Screen<'a>,
-    MemStore,
+    TriedStore,
     MemFiles,
     PortNet<R>,
     FixedClock,
@@ -82,7 +82,11 @@ fn put_end<R: Wait + Copy>(
         out.text(" faults");
         out.number(whole.network.faults());
         out.text(" records");
-        out.number(whole.store.records().len() as u64);
+        out.number(whole.store.len() as u64);
+        if trial.setting("counted").is_some() {
+            out.text(" settles");
+            out.number(whole.store.settles());
+        }
     }
     out.text("\n");
     out.letters(whole.sink.text());
@@ -106,11 +110,14 @@ fn put_run<'a, R: Threads + Wait + Sync + Send + Copy + Drop>(
     answers: &'a AtomicU64,
     out: &mut Out,
 ) {
+    let Ok(store) = store(alloc, trial, out) else {
+        return out.lack();
+    };
     let asked = asked_of(alloc, trial.words, out);
     let whole = Outside {
         source: Typist::new(alloc, trial, input, answers),
         sink: Screen::new(alloc, trial, answers),
-        store: store(alloc, trial, out),
+        store,
         files: files(alloc, trial, out),
         network: PortNet::new(*rt, port, trial),
         clock: FixedClock::at(0),

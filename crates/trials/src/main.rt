@@ -1,5 +1,5 @@
 //! The trials that the gate runs: what comes of lists, sources and sinks that fail, and streams that
-//! are interrupted, which no row of data can show; and of each row of `data/`. What is printed is
+//! are interrupted, and of turns at a post, which no row of data can show; and of each row of `data/`. What is printed is
 //! compared with the file `stdout`.
 #![tactic(auto)]
 
@@ -14,7 +14,10 @@ mod sessions;
 mod sinks;
 mod sources;
 mod streams;
+mod tally;
 mod trial;
+mod tried_store;
+mod turns;
 mod words;
 
 use row_text::out::Out;
@@ -59,7 +62,7 @@ const FILES: [(Kind, &str); 19] = [
 ];
 
 /// What comes of the trials without a row.
-fn plain_text(alloc: Global) -> Result<String, AllocError> {
+fn plain_text<R: Threads + Wait + Sync>(rt: &R, alloc: Global) -> Result<String, AllocError> {
     let mut out = Out::new(alloc);
     lists::put(alloc, &mut out);
     for limit in [6usize, 5, 4, 0] {
@@ -73,12 +76,13 @@ fn plain_text(alloc: Global) -> Result<String, AllocError> {
         streams::put_idle(interrupts, &mut out);
     }
     streams::put_memory(alloc, &mut out);
+    turns::put(rt, alloc, &mut out);
     out.done()
 }
 
 /// Prints what comes of the trials without a row.
-fn print_plain(rt: &HostRuntime) -> io::Result<()> {
-    let out = plain_text(rt.alloc())?;
+fn print_plain<R: Threads + Wait + Sync + AllocGlobal + Print>(rt: &R) -> io::Result<()> {
+    let out = plain_text(rt, rt.alloc())?;
     print!(rt; "{out}")
 }
 

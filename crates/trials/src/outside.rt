@@ -2,6 +2,7 @@
 //! wanting for a part, the output is short of it; so no part has an early exit.
 
 use crate::trial::Trial;
+use crate::tried_store::TriedStore;
 use lb_base::items::Items;
 use links::files::Files;
 use links::mem_files::MemFiles;
@@ -80,12 +81,13 @@ fn records(alloc: Global, trial: &Trial<'_>, out: &mut Out) -> Vec<Kept> {
 }
 
 /// The store.
-pub fn store(alloc: Global, trial: &Trial<'_>, out: &mut Out) -> MemStore {
+pub fn store(alloc: Global, trial: &Trial<'_>, out: &mut Out) -> Result<TriedStore, AllocError> {
     let records = records(alloc, trial, out);
-    MemStore::new(
+    let store = MemStore::new(
         Items::from_vec(records),
         failing(alloc, trial.setting("store"), out),
-    )
+    );
+    TriedStore::new(alloc, store, trial.setting("settle"))
 }
 
 /// The file `h` with the bytes `abc`, and no other.

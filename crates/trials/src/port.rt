@@ -1,7 +1,7 @@
 //! A port at which lines in memory begin, whose ends may be in threads of their own, and the network by
 //! which an end comes to them. They tell nothing of the bytes.
 
-ghost use Rattle.std.specs.Prelude.{◌≡◌, ◌≤◌, None, OnErr, IsErr};
+ghost use Rattle.std.specs.Prelude.{◌≡◌, ◌≤◌, None, Err, OnErr};
 ghost use Rattle.lb_base.specs.Causes.{Rose};
 
 use crate::line::{
@@ -13,7 +13,7 @@ use lb_base::faults::one_more;
 use lb_base::sink::GiveError;
 use lb_base::source::Failed;
 use links::link::Link;
-use links::network::Network;
+use links::network::{AcceptError, Network, NoBell};
 use row_text::out::Out;
 use std::alloc::{AllocError, Global};
 use std::sync::{Arc, Condvar, Mutex, MutexGuard, Wait};
@@ -164,6 +164,8 @@ pub struct PortNet<R> {
     port: Arc<Port>,
     /// The call that fails, numbered from 0, if one does.
     failing: Option<u64>,
+    /// How many more calls of `accept` meet a fault that passes.
+    passing: u64,
     lines: usize,
     next: usize,
     made: u64,
@@ -179,6 +181,7 @@ impl<R: Wait + Copy> PortNet<R> {
             rt,
             port,
             failing: trial.setting("network"),
+            passing: trial.setting("passing").unwrap_or(0),
             lines,
             next: 0,
             made: 0,
@@ -192,15 +195,15 @@ impl<R: Wait + Copy> PortNet<R> {
         self.faults
     }
 
-    /// Counts a fault.
-    fn fail<T>(&mut self) -> Result<T, Failed>
-        ensures failed { IsErr result }
+    /// Counts a fault, and tells it.
+    fn fail<T, E>(&mut self, error: E) -> Result<T, E>
+        ensures failed { result ≡ Err error }
         ensures accepted { self.new.accepted ≡ self.old.accepted }
         ensures later { self.old.faults ≤ self.new.faults }
         ensures cause { OnErr result (Rose self.old.faults self.new.faults) }
     {
         self.faults = one_more(self.faults);
-        Err(Failed)
+        Err(error)
     }
 
     /// Counts a call, and answers whether it is the one that is to fail.
@@ -222,13 +225,26 @@ impl<R: Wait + Copy> PortNet<R> {
         self.next = at.saturating_add(1);
         match PortLink::new(self.rt, &self.port, side, at) {
             Ok(link) => Ok(link),
-            Err(_) => self.fail(),
+            Err(_) => self.fail(Failed),
         }
+    }
+
+    /// Whether this call of `accept` is one of those that meet a fault which passes.
+    fn passes(&mut self) -> bool
+        ensures { (self.new.accepted ≡ self.old.accepted) × (self.new.faults ≡ self.old.faults) }
+    {
+        if self.passing == 0 {
+            return false;
+        }
+        self.passing -= 1;
+        true
     }
 }
 
 impl<R: Wait + Copy> Network for PortNet<R> {
     type L = PortLink<R>;
+
+    type B = NoBell;
 
     ghost faults = { λ n. n.faults };
 
@@ -236,23 +252,34 @@ impl<R: Wait + Copy> Network for PortNet<R> {
 
     fn listen(&mut self, _port: u16) -> Result<(), Failed> {
         if self.fails() {
-            return self.fail();
+            return self.fail(Failed);
         }
         Ok(())
     }
 
-    fn accept(&mut self) -> Result<PortLink<R>, Failed> {
-        if self.fails() {
-            return self.fail();
+    fn bell(&self) -> NoBell {
+        NoBell
+    }
+
+    fn accept(&mut self) -> Result<PortLink<R>, AcceptError> {
+        if self.passes() {
+            return Err(AcceptError::Passing);
         }
-        let link = self.link(Side::Listener)?;
-        self.accepted = one_more(self.accepted);
-        Ok(link)
+        if self.fails() {
+            return self.fail(AcceptError::Failed);
+        }
+        match self.link(Side::Listener) {
+            Ok(link) => {
+                self.accepted = one_more(self.accepted);
+                Ok(link)
+            }
+            Err(Failed) => Err(AcceptError::Failed),
+        }
     }
 
     fn dial(&mut self, _port: u16) -> Result<PortLink<R>, Failed> {
         if self.fails() || self.next >= self.lines {
-            return self.fail();
+            return self.fail(Failed);
         }
         self.link(Side::Dialler)
     }

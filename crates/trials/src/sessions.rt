@@ -1,11 +1,13 @@
 //! Sessions of a server without the program around it: why each ends, and that all its threads come
 //! back where its client takes nothing.
 
+ghost use Rattle.turn_post.specs.Passes.{IsPassOf};
+
 use crate::line::Side;
 use crate::port::{Port, PortLink};
+use crate::tried_store::{TriedStore, TriedSyncs};
 use lb_base::items::Items;
 use lbfs_server::gate::OpenGate;
-use lbfs_server::held::{Held, Went};
 use lbfs_server::session::{session_both, session_in, session_out};
 use lbfs_server::shared::Shared;
 use links::clock::FixedClock;
@@ -13,15 +15,21 @@ use record_ends::end::End;
 use row_text::out::Out;
 use server_core::event::Event;
 use server_core::server::Server;
+use server_held::held::{Held, Went};
 use std::alloc::{AllocError, Global};
 use std::sync::{Arc, Mutex, Wait};
 use std::thread;
 use std::thread::Threads;
 use store::mem_store::MemStore;
+use synced_store::syncs::Synced;
+use turn_post::post::{Pass, Post};
 use wire::message::{Message, RpcRefusal};
 
+/// What is handed from turn to turn.
+type MemHeld = Held<TriedStore>;
+
 /// What the threads of a server share.
-type PortShared<R> = Shared<Held<MemStore>, OpenGate, PortLink<R>>;
+type PortShared<R> = Shared<MemHeld, TriedSyncs, OpenGate, PortLink<R>>;
 
 /// Why a session ended.
 fn name_of(end: End) -> &'static str {
@@ -47,24 +55,25 @@ fn put_refused(went: Went, out: &mut Out) {
 fn speak_to<R: Wait + Copy + Drop>(
     rt: &R,
     shared: &PortShared<R>,
+    pass: Pass<MemHeld>,
     session: u32,
     port: &Port,
     hangs: bool,
-) {
+)
+    requires { IsPassOf shared.now.post pass }
+{
     let message = Message::Unfit(7, RpcRefusal::ProcUnavail);
     let now = 0;
-    shared.event(
-        rt,
-        Event::Got {
-            session,
-            message,
-            now,
-        },
-    );
+    let event = Event::Got {
+        session,
+        message,
+        now,
+    };
+    let (pass, _went) = shared.event(rt, pass, event);
     port.await_speaker(rt);
     if hangs {
-        shared.event(rt, Event::Hang { session });
-        shared.shut_links(rt);
+        let (pass, _went) = shared.event(rt, pass, Event::Hang { session });
+        drop(shared.shut_links(rt, pass));
     }
 }
 
@@ -73,61 +82,93 @@ fn speak_to<R: Wait + Copy + Drop>(
 fn run_threads<'x, R: Threads + Wait + Sync + Send + Copy + Drop>(
     rt: &'x R,
     shared: &'x PortShared<R>,
+    pass: Pass<MemHeld>,
     session: u32,
     port: &'x Port,
     gives: &'x Mutex<PortLink<R>>,
     takes: PortLink<R>,
     hangs: bool,
-) -> End {
-    thread::scope(thread::scope_env(), rt, move |scope| {
-        let mut takes = takes;
-        let giver = scope.spawn(move || session_out(rt, shared, session, gives));
-        drop(giver);
-        let speaker = scope.spawn(move || speak_to(rt, shared, session, port, hangs));
-        drop(speaker);
-        session_in(rt, shared, session, &mut takes, gives, &FixedClock::at(0))
-    })
+) -> End
+    requires { IsPassOf shared.now.post pass }
+{
+    let (pass, other) = shared.split(pass);
+    let (giving, speaking) = shared.split(other);
+    thread::scope(
+        thread::scope_env(),
+        rt,
+        move |scope| -> End
+            requires { IsPassOf shared.now.post pass × IsPassOf shared.now.post giving × IsPassOf shared.now.post speaking }
+        {
+            let mut takes = takes;
+            let giver = scope.spawn(
+                move ||
+                    requires { IsPassOf shared.now.post giving }
+                { drop(session_out(rt, shared, giving, session, gives)) },
+            );
+            drop(giver);
+            let speaker = scope.spawn(
+                move ||
+                    requires { IsPassOf shared.now.post speaking }
+                { speak_to(rt, shared, speaking, session, port, hangs) },
+            );
+            drop(speaker);
+            let clock = FixedClock::at(0);
+            let (_pass, end) = session_in(rt, shared, pass, session, &mut takes, gives, &clock);
+            end
+        },
+    )
 }
 
 /// Runs a session whose client takes nothing.
 fn run_deaf<R: Threads + Wait + Sync + Send + Copy + Drop>(
     rt: &R,
     shared: &PortShared<R>,
+    pass: Pass<MemHeld>,
     session: u32,
     port: &Arc<Port>,
     hangs: bool,
-) -> Result<End, AllocError> {
+) -> Result<End, AllocError>
+    requires { IsPassOf shared.now.post pass }
+{
     let takes = PortLink::new(*rt, port, Side::Listener, 0)?;
     let further = PortLink::new(*rt, port, Side::Listener, 0)?;
     let gives = Mutex::new(PortLink::new(*rt, port, Side::Listener, 0)?);
     shared.keep_link(rt, session, further);
-    Ok(run_threads(rt, shared, session, port, &gives, takes, hangs))
+    Ok(run_threads(rt, shared, pass, session, port, &gives, takes, hangs))
 }
 
 /// Runs a session in one thread.
 fn run_alone<R: Wait + Copy + Drop>(
     rt: &R,
     shared: &PortShared<R>,
+    pass: Pass<MemHeld>,
     session: u32,
     port: &Arc<Port>,
-) -> Result<End, AllocError> {
+) -> Result<End, AllocError>
+    requires { IsPassOf shared.now.post pass }
+{
     let mut link = PortLink::new(*rt, port, Side::Listener, 0)?;
-    Ok(session_both(rt, shared, session, &mut link, &FixedClock::at(0)))
+    let clock = FixedClock::at(0);
+    let (_pass, end) = session_both(rt, shared, pass, session, &mut link, &clock);
+    Ok(end)
 }
 
 /// Runs a session, in one thread or in several, and tells why it ended.
 fn put_session<R: Threads + Wait + Sync + Send + Copy + Drop>(
     rt: &R,
     shared: &PortShared<R>,
+    pass: Pass<MemHeld>,
     session: u32,
     port: &Arc<Port>,
     kind: &str,
     out: &mut Out,
-) {
+)
+    requires { IsPassOf shared.now.post pass }
+{
     let end = match kind {
-        "ends" => run_deaf(rt, shared, session, port, false),
-        "hung" => run_deaf(rt, shared, session, port, true),
-        _ => run_alone(rt, shared, session, port),
+        "ends" => run_deaf(rt, shared, pass, session, port, false),
+        "hung" => run_deaf(rt, shared, pass, session, port, true),
+        _ => run_alone(rt, shared, pass, session, port),
     };
     match end {
         Ok(end) => out.text(name_of(end)),
@@ -137,17 +178,29 @@ fn put_session<R: Threads + Wait + Sync + Send + Copy + Drop>(
 }
 
 /// How many connections in a row are told the next number, of 64, and how two more end.
-fn put_connections<R: Wait + Copy + Drop>(rt: &R, shared: &PortShared<R>, out: &mut Out) {
+fn put_connections<R: Wait + Copy + Drop>(
+    rt: &R,
+    shared: &PortShared<R>,
+    pass: Pass<MemHeld>,
+    out: &mut Out,
+)
+    requires { IsPassOf shared.now.post pass }
+{
+    let mut pass = pass;
     let mut told = 0u64;
     for next in 1..65u32 {
-        match shared.event(rt, Event::Connect) {
+        let (later, went) = shared.event(rt, pass, Event::Connect);
+        pass = later;
+        match went {
             Went::Open { session } if session == next => told = told.wrapping_add(1),
             _ => (),
         }
     }
     out.number(told);
     for _at in 0..2 {
-        put_refused(shared.event(rt, Event::Connect), out);
+        let (later, went) = shared.event(rt, pass, Event::Connect);
+        pass = later;
+        put_refused(went, out);
     }
     out.text("\n")
 }
@@ -156,17 +209,54 @@ fn put_connections<R: Wait + Copy + Drop>(rt: &R, shared: &PortShared<R>, out: &
 fn put_shared<R: Threads + Wait + Sync + Send + Copy + Drop>(
     rt: &R,
     shared: &PortShared<R>,
+    pass: Pass<MemHeld>,
+    port: &Arc<Port>,
+    kind: &str,
+    out: &mut Out,
+)
+    requires { IsPassOf shared.now.post pass }
+{
+    if kind == "connections" {
+        return put_connections(rt, shared, pass, out);
+    }
+    let (pass, went) = shared.event(rt, pass, Event::Connect);
+    match went {
+        Went::Open { session } => put_session(rt, shared, pass, session, port, kind, out),
+        went => put_refused(went, out),
+    }
+}
+
+/// What comes of a row at a server, with a pass of its post.
+fn put_held<R: Threads + Wait + Sync + Send + Copy + Drop>(
+    rt: &R,
+    alloc: Global,
+    held: MemHeld,
+    syncs: TriedSyncs,
     port: &Arc<Port>,
     kind: &str,
     out: &mut Out,
 ) {
-    if kind == "connections" {
-        return put_connections(rt, shared, out);
+    match Post::new(alloc, held) {
+        Ok((post, pass)) => {
+            let shared = Shared::new(alloc, post, syncs, OpenGate);
+            let (pass, last) = shared.split(pass);
+            put_shared(rt, &shared, pass, port, kind, out);
+            let (_front, held) = shared.finish(rt, last);
+            drop(held.into_store())
+        }
+        Err(held) => {
+            drop(held);
+            out.lack()
+        }
     }
-    match shared.event(rt, Event::Connect) {
-        Went::Open { session } => put_session(rt, shared, session, port, kind, out),
-        went => put_refused(went, out),
-    }
+}
+
+/// A store with no record, and what makes it sure.
+fn empty_store(alloc: Global) -> Result<(TriedStore, TriedSyncs), AllocError> {
+    let store = MemStore::new(Items::new(alloc), Items::new(alloc));
+    let store = TriedStore::new(alloc, store, None)?;
+    let syncs = store.syncs()?;
+    Ok((store, syncs))
 }
 
 /// What comes of a row: a session of a server of an empty store over the port's first line, or one
@@ -179,13 +269,16 @@ pub fn put<R: Threads + Wait + Sync + Send + Copy + Drop>(
     kind: &str,
     out: &mut Out,
 ) {
-    match Server::new(alloc) {
-        Ok(server) => {
-            let store = MemStore::new(Items::new(alloc), Items::new(alloc));
-            let shared = Shared::new(alloc, Held::new(alloc, server, store), OpenGate);
-            put_shared(rt, &shared, port, kind, out);
-            drop(shared.into_held().into_store())
-        }
-        Err(_) => out.lack(),
-    }
+    let (Ok(server), Ok((store, syncs))) = (Server::new(alloc), empty_store(alloc)) else {
+        return out.lack();
+    };
+    put_held(
+        rt,
+        alloc,
+        Held::new(alloc, server, store),
+        syncs,
+        port,
+        kind,
+        out,
+    )
 }

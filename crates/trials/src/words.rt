@@ -6,7 +6,8 @@ ghost use Rattle.program_words.specs.Words.{IsFew, command_in};
 use crate::trial::split;
 use limits::SESSIONS_EVER_MOST;
 use program_words::asked::{
-    Asked, Command, InputCommand, MountOptions, PORT_MOST, ServeOptions, StorePath, View,
+    Asked, CheckOptions, Command, InputCommand, MountOptions, PORT_MOST, ServeOptions, StorePath,
+    View,
 };
 use row_text::out::Out;
 use row_text::text::number;
@@ -36,7 +37,21 @@ fn serve_of(alloc: Global, words: &str, port: u16, out: &mut Out) -> Option<Aske
             term,
             sessions,
             store,
+            unsynced: false,
         })),
+        Err(_) => {
+            out.lack();
+            None
+        }
+    }
+}
+
+/// The option of `check`.
+fn check_of(alloc: Global, words: &str, out: &mut Out) -> Option<Asked>
+    ensures { IsFew (command_in result) }
+{
+    match StorePath::copy_of(alloc, behind(words, "--store")) {
+        Ok(store) => Some(Asked::Check(CheckOptions { store })),
         Err(_) => {
             out.lack();
             None
@@ -55,6 +70,7 @@ pub fn asked_of(alloc: Global, words: &str, out: &mut Out) -> Option<Asked>
         "cut" => Some(Asked::Command(Command::OfInput(InputCommand::Cut))),
         "show" => Some(Asked::Command(Command::OfInput(InputCommand::Show))),
         "serve" => serve_of(alloc, options, port, out),
+        "check" => check_of(alloc, options, out),
         "mount" => {
             let drift = number(behind(options, "--drift"));
             Some(Asked::Mount(MountOptions { port, drift }))

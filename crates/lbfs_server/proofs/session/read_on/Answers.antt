@@ -1,10 +1,12 @@
 use Rattle.std.specs.Prelude.{Err}
 use Rattle.std.proofs.Common.{refl, sym, ap, ◌∙◌, subst, arith}
+use Rattle.lbfs_server.proofs.Following.{follows_self, follows_trans}
 use Rattle.lbfs_server.proofs.Giving.{Taken, taken_none, taken_more, taken_spoilt}
 use Rattle.lbfs_server.proofs.session.read_on.Goals as goal
 
 pub loop-turn-init : goal.loop-turn-init
 loop-turn-init g c = record {
+  pass = follows_self c.args.shared.now.post c.args.pass c.requires;
   taken = subst (λ k. Taken (g.L.Link.left c.args.link.now) (g.L.Link.left c.args.link.now) k) (sym c.in-Ok.ensures) (taken_none (g.L.Link.left c.args.link.now));
   out = refl;
   later = omega arith;
@@ -13,6 +15,7 @@ loop-turn-init g c = record {
 pub loop-turn-preserved : goal.loop-turn-preserved
 loop-turn-preserved g c =
     let given = c.in-Ok-next.ensures.given in record {
+      pass = follows_trans c.args.shared.now.post c.args.pass c.loop-turn.pass c.got-next.result.0 c.loop-turn.invariant.pass c.got-next.ensures;
       taken = taken_more (g.L.Link.left c.args.link.now) (g.L.Link.left c.loop-turn.link) (g.L.Link.left c.next-in-loop-turn.new.link) c.loop-turn.inbox c.next-in-loop-turn.new.self given.0 _ c.loop-turn.invariant.taken given.1 given.2;
       out = c.in-Ok-next.ensures.out ∙ c.loop-turn.invariant.out;
       later = omega (arith, c.loop-turn.invariant.later, c.in-Ok-next.ensures.later);

@@ -1,9 +1,11 @@
 use Rattle.std.proofs.Common.{◌≡◌, ◌≤◌}
+use Rattle.turn_post.specs.Passes.{Follows}
 use Rattle.lbfs_server.proofs.Giving.{Taken}
 use Rattle.lbfs_server.proofs.session.read_on.Given as goal
 
 abbrev pub invariant-loop-turn : goal.invariant-loop-turn
 invariant-loop-turn g l = record {
+  pass : Follows l.shared.post l.fn.pass l.pass;
   taken : Taken (g.L.Link.left l.fn.link) (g.L.Link.left l.link) l.inbox;
   out : g.L.Link.held l.link ≡ g.L.Link.held l.fn.link;
   later : g.L.Link.faults l.fn.link ≤ g.L.Link.faults l.link;

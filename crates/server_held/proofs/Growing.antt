@@ -1,0 +1,71 @@
+-- What an event makes of what the threads share adds at most two entries to its journal.
+use Rattle.std.proofs.Common.{◌≡◌, refl, sym, ap, ◌∙◌, ℕ, ◌≤◌, List, [], ◌∷◌, ◌++◌, length, Option, Bool, true, false, Result, Ok, Err, subst, ◌⊎◌, ⊎_elim, arith}
+use Rattle.std.proofs.lemmas.List.{append-nil}
+use Rattle.store.specs.declared.record.Kept.{Kept}
+use Rattle.server_core.specs.declared.event.Event.{Event}
+use Rattle.server_core.specs.declared.event.Event.TheVariants as event
+use Rattle.server_core.specs.declared.event.ServerStep.{ServerStep}
+use Rattle.server_core.specs.State.{State}
+use Rattle.server_core.specs.Step.{hangs_if, stands}
+use Rattle.wire.specs.declared.fault.WireFault.{WireFault}
+use Rattle.wire.specs.declared.fault.WireFault.TheVariants.{NotRpc, UnknownXid, Garbage}
+use Rattle.wire.specs.declared.fault.WireError.{WireError}
+use Rattle.wire.specs.declared.fault.WireError.TheVariants as errors
+use Rattle.wire.specs.declared.message.Message.{Message}
+use Rattle.server_held.specs.Kept.{Steps}
+use Rattle.server_held.specs.declared.held.Held.{Held}
+use Rattle.server_held.specs.declared.held.Went.{Went}
+use Rattle.server_held.specs.Held.{hung, Took, Joined, Left, After, HeardOrLeft, Heard, Unheard, Unread}
+use Rattle.server_law.specs.Growth.{Grows}
+use Rattle.server_law.proofs.Growth.{step_grows, misses_grows}
+
+steps_grow : (before after : ℕ) (s : State) (e : Event) (n : State) (step : ServerStep) → Steps before after s e n step → Grows s n
+steps_grow before after s e n step h = by step.missed refl
+  where
+    by : (b : Bool) → step.missed ≡ b → Grows s n
+    by true is = misses_grows s e n step (h.1 is)
+    by false is = let d = h.0 is in subst (λ (p : State × ServerStep). Grows s p.0) d.is (step_grows s d.fault e)
+
+hang_same : (s : State) (k : ℕ) (b : Bool) → (hangs_if s b k).0.journal ≡ s.journal
+hang_same s k true = refl
+hang_same s k false = refl
+
+hung_same : (s : State) (ks : List ℕ) → (hung s ks).journal ≡ s.journal
+hung_same s [] = refl
+hung_same s (k ∷ ks) = hung_same (hangs_if s (stands s k) k).0 ks ∙ hang_same s k (stands s k)
+
+then_same : (s n m : State) → Grows s n → m.journal ≡ n.journal → Grows s m
+then_same s n m g e = (g.0, g.1 ∙ sym e, g.2)
+
+same : (s n : State) → n.journal ≡ s.journal → Grows s n
+same s n e = ([], append-nil s.journal ∙ sym e, omega arith)
+
+module _ {S : Type 0} (records : S → Option (List Kept)) (faults : S → ℕ) where
+  abbrev HeldGrows : Held S → Held S → Type 0
+  HeldGrows old new = Grows old.kept.server new.kept.server
+
+  pub took_grows : (old : Held S) (e : Event) (said : Went) (new : Held S) → Took records faults old e said new → HeldGrows old new
+  took_grows old e said new t = then_same old.kept.server t.between new.kept.server (steps_grow _ _ old.kept.server e t.between t.step t.stepped)
+      (ap (λ (x : State). x.journal) t.hangs ∙ hung_same t.between t.lost)
+
+  joined_grows : (old : Held S) (said : Went) (new : Held S) → Joined records faults old said new → HeldGrows old new
+  joined_grows old said new t = then_same old.kept.server t.between new.kept.server (steps_grow _ _ old.kept.server event.Connect t.between t.step t.stepped)
+      (ap (λ (x : State). x.journal) t.hangs ∙ hung_same t.between t.lost)
+
+  left_grows : (old : Held S) (session : ℕ) (new : Held S) → Left records faults old session new → HeldGrows old new
+  left_grows old session new l = same old.kept.server new.kept.server (ap (λ (x : State). x.journal) l.hangs ∙ hang_same old.kept.server session (stands old.kept.server session))
+
+  pub after_grows : (old : Held S) (e : Event) (said : Went) (new : Held S) → After records faults old e said new → HeldGrows old new
+  after_grows old event.Connect said new h = joined_grows old said new h
+  after_grows old (event.Got session message now) said new h = took_grows old (event.Got session message now) said new h
+  after_grows old (event.Settle now) said new h = took_grows old (event.Settle now) said new h
+  after_grows old (event.Hang session) said new h = left_grows old session new h.0
+
+  unheard_grows : (old : Held S) (session : ℕ) (fault : WireFault) (said : Went) (new : Held S) → Unheard records faults old session fault said new → HeldGrows old new
+  unheard_grows old session (UnknownXid xid) said new h = same old.kept.server new.kept.server (ap (λ (x : Held S). x.kept.server.journal) h.0)
+  unheard_grows old session (NotRpc at) said new h = left_grows old session new h.0
+  unheard_grows old session (Garbage at) said new h = left_grows old session new h.0
+
+  pub unread_grows : (old : Held S) (session : ℕ) (error : WireError) (said : Went) (new : Held S) → Unread records faults old session error said new → HeldGrows old new
+  unread_grows old session errors.Memory said new h = left_grows old session new h.0
+  unread_grows old session (errors.Fault fault) said new h = unheard_grows old session fault said new h

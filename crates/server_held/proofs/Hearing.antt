@@ -1,0 +1,27 @@
+-- A record of a session: the event of its message, or none.
+use Rattle.std.specs.Prelude.{◌≡◌, ◌⊎◌, ℕ, List, Result, Ok, Err, Option}
+use Rattle.std.proofs.Common.{inl, inr, refl, sym, subst}
+use Rattle.wire.specs.Parse.{IsParsed}
+use Rattle.wire.specs.declared.fault.WireError.{WireError}
+use Rattle.wire.specs.declared.fault.WireError.TheVariants as errors
+use Rattle.wire.specs.declared.fault.WireFault.{WireFault}
+use Rattle.wire.specs.declared.fault.WireFault.TheVariants.{NotRpc, Garbage}
+use Rattle.wire.specs.declared.message.Message.{Message}
+use Rattle.server_core.specs.declared.event.Event.TheVariants as event
+use Rattle.store.specs.declared.record.Kept.{Kept}
+use Rattle.server_held.specs.declared.held.Held.{Held}
+use Rattle.server_held.specs.declared.held.Went.{Went}
+use Rattle.server_held.specs.declared.held.Went.TheVariants as went
+use Rattle.server_held.specs.Held.{Took, Left, Heard, HeardOrLeft, Unheard, Unread}
+
+module _ {S : Type 0} (records : S → Option (List Kept)) (faults : S → ℕ) where
+  pub unheard_hung : (old : Held S) (session : ℕ) (fault : WireFault) (new : Held S) → ((at : ℕ) × (fault ≡ NotRpc at)) ⊎ ((at : ℕ) × (fault ≡ Garbage at)) → Left records faults old session new → Unheard records faults old session fault went.Closed new
+  unheard_hung old session fault new (inl e) left = subst (λ f. Unheard records faults old session f went.Closed new) (sym e.1) (left, refl)
+  unheard_hung old session fault new (inr e) left = subst (λ f. Unheard records faults old session f went.Closed new) (sym e.1) (left, refl)
+
+  pub heard_ok : (old : Held S) (session now : ℕ) (parsed : Result Message WireFault) (message : Message) (said : Went) (new : Held S) → parsed ≡ Ok message → Took records faults old (event.Got session message now) said new → HeardOrLeft records faults old session now parsed said new
+  heard_ok old session now parsed message said new is took = inl (subst (λ p. Heard records faults old session now p said new) (sym is) took)
+
+  pub heard_err : (old : Held S) (session now : ℕ) (parsed : Result Message WireFault) (error : WireError) (said : Went) (new : Held S) → IsParsed (Err error) parsed → Unread records faults old session error said new → HeardOrLeft records faults old session now parsed said new
+  heard_err old session now parsed errors.Memory said new is unread = inr unread
+  heard_err old session now parsed (errors.Fault fault) said new is unread = inl (subst (λ p. Heard records faults old session now p said new) (sym is) unread)

@@ -1,0 +1,9 @@
+pub mod Delivering
+pub mod Growing
+pub mod Hanging
+pub mod Hearing
+pub mod Joining
+pub mod Keeping
+pub mod Keys
+pub mod Quiet
+pub mod Telling

@@ -1,0 +1,4 @@
+pub mod Boxes
+pub mod Held
+pub mod Kept
+mod Rows

@@ -1,0 +1,371 @@
+//! What the threads of a server share: the server, and what it has to say to each session.
+//! `specs/Held.antt` states what an event makes of it.
+
+ghost use Rattle.std.specs.Prelude.{◌≡◌, ℕ, ◌<◌, ◌≤◌, ◌^◌, ◌↔◌, List, [], ◌∷◌, length, IsTrue, Result, false};
+ghost use Rattle.server_held.specs.Boxes.{AllEmpty, Holds, Lacks, KeepsOthers};
+ghost use Rattle.server_core.specs.Closing.{has_waiting};
+ghost use Rattle.server_core.specs.State.{entries_held};
+ghost use Rattle.server_core.specs.Step.{IsTimed};
+ghost use Rattle.server_core.specs.declared.event.Event.TheVariants as event;
+ghost use Rattle.wire.specs.Parse.{parse_of, IsParsed};
+ghost use Rattle.wire.specs.declared.fault.WireFault.{WireFault};
+ghost use Rattle.wire.specs.declared.message.Message.{Message};
+ghost use Rattle.server_law.specs.Growth.{MayAdd};
+ghost use Rattle.server_held.specs.Held.{After, Delivered, HeardOrLeft, Joined, Left, Stands, Took, Unread, server_waits, settled_as};
+ghost use Rattle.server_held.specs.declared.held.Went.TheVariants as went;
+
+use crate::kept::KeptServer;
+use crate::outboxes::Outboxes;
+use crate::turns::Turns;
+use hash_calls::call::Commit;
+use lb_base::items::Items;
+use send_list::SendList;
+use server_core::event::{Event, Sent, ServerStep};
+use server_core::journal::Entry;
+use server_core::server::Server;
+use server_rules::told::Told;
+use shared_bytes::SharedBytes;
+use std::alloc::Global;
+use store::store::Store;
+use tree_nodes::content::Content;
+use turn_post::journaled::Journaled;
+use wire::fault::{WireError, WireFault};
+use wire::message::{Message, Side, Waiting};
+use wire::parse::parse;
+
+/// What came of an event.
+#[derive(Clone, Copy)]
+pub enum Went {
+    /// It was done, and this session stands: the one that was made or that sent a message, or whose
+    /// change was settled.
+    Open {
+        /// Its number.
+        session: u32,
+    },
+    /// No change can be made yet.
+    NotReady,
+    /// The session doesn't stand any more.
+    Closed,
+    /// No further session can stand.
+    Full,
+    /// Memory ran out; a session that should have been told something is hung.
+    Memory,
+}
+
+/// What the threads of a server share.
+pub struct Held<S: Store> {
+    /// The server, and what keeps its tree from one start to the next.
+    kept: KeptServer<S>,
+    boxes: Outboxes<Message>,
+}
+
+// By hand: docs/PROVING.md, "Values that are let go".
+impl<S: Store + Drop> Drop for Held<S> {
+    fn drop(self) {
+        let Held { kept, boxes } = self;
+        drop(kept);
+        drop(boxes);
+    }
+}
+
+/// Whether both are so.
+fn both(one: bool, other: bool) -> bool
+    ensures { IsTrue result → IsTrue one × IsTrue other }
+{
+    one && other
+}
+
+/// The message that a record to a server is, or why it is none. The server has asked its clients for
+/// nothing, so no answer may come.
+pub fn read_record(alloc: Global, bytes: &[u8]) -> Result<Message, WireError>
+    ensures { IsParsed result (parse_of server_waits bytes.now) }
+{
+    let waiting = Waiting {
+        side: Side::Server,
+        calls: Items::new(alloc),
+    };
+    parse(alloc, bytes, &waiting)
+}
+
+/// What came of a change that was to be made.
+fn settled_as(told: Told) -> Went
+    ensures { result ≡ settled_as told }
+{
+    match told {
+        Told::Settled { session, .. } => Went::Open { session },
+        Told::Nothing | Told::Session(_) | Told::Full | Told::Memory | Told::NotReady => {
+            Went::NotReady
+        }
+    }
+}
+
+impl<S: Store + Drop> Held<S> {
+    /// A server and its store, which has room for what waits; there is nothing to say to any session.
+    /// It takes no memory.
+    pub fn new(alloc: Global, server: Server, store: S) -> Held<S>
+        requires { entries_held server.waiting ≤ S.spare store }
+        ensures kept { result.kept ≡ record { server = server; store = store } }
+        ensures boxes { (session : ℕ) → Lacks result.boxes session }
+    {
+        Held {
+            kept: KeptServer::new(server, store),
+            boxes: Outboxes::new(alloc),
+        }
+    }
+
+    /// How many changes were made.
+    pub fn changes_made(&self) -> usize
+        ensures { result ≡ length self.now.kept.server.journal }
+    {
+        self.kept.changes_made()
+    }
+
+    /// A session's connection is lost.
+    fn hang(&mut self, alloc: Global, session: u32)
+        ensures { Left S.records S.faults self.old session self.new }
+    {
+        let step = self.kept.step(alloc, Event::Hang { session });
+        drop(step);
+        self.boxes.close(session);
+    }
+
+    /// Puts a message into its session's box, and answers whether memory sufficed. Where it didn't
+    /// the session is hung.
+    fn put(&mut self, alloc: Global, sent: Sent) -> bool
+        ensures { Delivered S.records S.faults self.old (sent ∷ []) result self.new }
+    {
+        let Sent { session, message } = sent;
+        match self.boxes.put(session, message) {
+            Ok(()) => true,
+            Err(_) => {
+                self.hang(alloc, session);
+                false
+            }
+        }
+    }
+
+    /// Puts messages into the boxes, and answers whether memory sufficed.
+    fn put_all(&mut self, alloc: Global, messages: Vec<Sent>) -> bool
+        ensures { Delivered S.records S.faults self.old messages.items result self.new }
+    {
+        let mut all = true;
+        for sent in messages {
+            let put = self.put(alloc, sent);
+            all = both(all, put);
+        }
+        all
+    }
+
+    /// Puts the messages of a step into the boxes, and answers whether memory sufficed.
+    fn deliver(&mut self, alloc: Global, send: SendList<Sent>) -> bool
+        ensures { Delivered S.records S.faults self.old send result self.new }
+    {
+        let (first, rest) = send.into_parts();
+        match first {
+            Some(sent) => {
+                let put = self.put(alloc, sent);
+                let all = self.put_all(alloc, rest.into_vec());
+                both(put, all)
+            }
+            None => self.put_all(alloc, rest.into_vec()),
+        }
+    }
+
+    /// A connection is made. A session that was made is given an empty box; where memory is wanting for
+    /// it, it is hung.
+    fn connect(&mut self, alloc: Global) -> Went
+        ensures { Joined S.records S.faults self.old result self.new }
+    {
+        let step = self.kept.step(alloc, Event::Connect);
+        let told = step.told;
+        drop(step);
+        match told {
+            Told::Session(session) => match self.boxes.open(session) {
+                Ok(()) => Went::Open { session },
+                Err(_) => {
+                    self.hang(alloc, session);
+                    Went::Memory
+                }
+            },
+            Told::Full => Went::Full,
+            Told::Nothing | Told::Memory | Told::Settled { .. } | Told::NotReady => Went::Memory,
+        }
+    }
+
+    /// Whether a session stands.
+    fn standing(&self, session: u32) -> Went
+        ensures { Stands self.now session result × ¬ (result ≡ went.Memory) }
+    {
+        if self.boxes.has(session) {
+            Went::Open { session }
+        } else {
+            Went::Closed
+        }
+    }
+
+    /// A message of a session came.
+    fn take_message(&mut self, alloc: Global, session: u32, message: Message, now: u64) -> Went
+        requires { now < 2 ^ 63 }
+        ensures { Took S.records S.faults self.old (event.Got session message now) result self.new }
+    {
+        let event = Event::Got {
+            session,
+            message,
+            now,
+        };
+        let ServerStep { send, .. } = self.kept.step(alloc, event);
+        if self.deliver(alloc, send) {
+            self.standing(session)
+        } else {
+            Went::Memory
+        }
+    }
+
+    /// A change that waits may be made.
+    fn settle(&mut self, alloc: Global, now: u64) -> Went
+        requires { now < 2 ^ 63 }
+        ensures { Took S.records S.faults self.old (event.Settle now) result self.new }
+    {
+        let ServerStep { send, told, .. } = self.kept.step(alloc, Event::Settle { now });
+        if self.deliver(alloc, send) {
+            settled_as(told)
+        } else {
+            Went::Memory
+        }
+    }
+
+    /// A record came of which no message was read.
+    fn unread(&mut self, alloc: Global, session: u32, error: WireError) -> Went
+        ensures { Unread S.records S.faults self.old session error result self.new }
+    {
+        match error {
+            WireError::Fault(fault) => match fault {
+                WireFault::UnknownXid { .. } => self.standing(session),
+                WireFault::NotRpc { .. } | WireFault::Garbage { .. } => {
+                    self.hang(alloc, session);
+                    Went::Closed
+                }
+            },
+            WireError::Memory => {
+                self.hang(alloc, session);
+                Went::Memory
+            }
+        }
+    }
+
+    /// The store, once nobody is told anything any more.
+    pub fn into_store(self) -> S
+        ensures { result ≡ self.kept.store }
+    {
+        let Held { kept, boxes } = self;
+        drop(boxes);
+        kept.into_store()
+    }
+}
+
+impl<S: Store + Drop> Journaled for Held<S> {
+    type Entry = Entry;
+
+    ghost journal = { λ h. h.kept.server.journal };
+
+    fn count(&self) -> u64 {
+        self.changes_made() as u64
+    }
+}
+
+impl<S: Store + Drop> Turns for Held<S> {
+    /// Whether a session stands.
+    fn stands(&self, session: u32) -> bool
+        ensures some { IsTrue result → (messages : List Message) × Holds self.now.boxes session messages }
+        ensures none { result ≡ false → Lacks self.now.boxes session }
+    {
+        self.boxes.has(session)
+    }
+
+    /// Whether a session stands to which nothing is to be said.
+    fn is_quiet(&self, session: u32) -> bool
+        ensures { IsTrue result ↔ Holds self.now.boxes session [] }
+    {
+        self.boxes.is_quiet(session)
+    }
+
+    /// Whether nothing is to be said to any session.
+    fn is_still(&self) -> bool
+        ensures { IsTrue result ↔ AllEmpty self.now.boxes }
+    {
+        self.boxes.is_still()
+    }
+
+    /// Whether a change of the session waits.
+    fn waits(&self, session: u32) -> bool
+        ensures { result ≡ has_waiting self.now.kept.server.waiting session }
+    {
+        self.kept.waits(session)
+    }
+
+    /// One event of the server. What it sends goes into the boxes of its sessions; where memory is
+    /// wanting for that the session is hung.
+    fn event(&mut self, alloc: Global, event: Event) -> Went
+        requires { IsTimed event }
+        ensures after { After S.records S.faults self.old event result self.new }
+        ensures grows { MayAdd self.old.kept.server.journal self.new.kept.server.journal }
+    {
+        match event {
+            Event::Connect => self.connect(alloc),
+            Event::Got {
+                session,
+                message,
+                now,
+            } => self.take_message(alloc, session, message, now),
+            Event::Settle { now } => self.settle(alloc, now),
+            Event::Hang { session } => {
+                self.hang(alloc, session);
+                Went::Closed
+            }
+        }
+    }
+
+    /// A record of a session was read: the event of its message. A record that is no message hangs the
+    /// session, and an answer that nobody waits for is no event; want of memory hangs it too.
+    fn heard(
+        &mut self,
+        alloc: Global,
+        session: u32,
+        read: Result<Message, WireError>,
+        now: u64,
+    ) -> Went
+        requires { now < 2 ^ 63 }
+        ensures heard { (message : Result Message WireFault) → IsParsed read message → HeardOrLeft S.records S.faults self.old session now message result self.new }
+        ensures grows { MayAdd self.old.kept.server.journal self.new.kept.server.journal }
+    {
+        match read {
+            Ok(message) => self.take_message(alloc, session, message, now),
+            Err(error) => self.unread(alloc, session, error),
+        }
+    }
+
+    /// An owner of the whole content of a temporary file of a session, where it has one of this size
+    /// and memory suffices. Nothing changes.
+    fn share_temp(&mut self, session: u32, commit: &Commit) -> Option<SharedBytes>
+        ensures { self.new ≡ self.old }
+    {
+        self.kept.share_temp(session, commit)
+    }
+
+    /// Keeps a content that was made ahead, or none. Nothing changes.
+    fn prepare(&mut self, ahead: Option<Content>)
+        ensures { self.new ≡ self.old }
+    {
+        self.kept.prepare(ahead);
+    }
+
+    /// All that is to be said to a session, in order; nothing is left. It takes no memory.
+    fn take_out(&mut self, session: u32) -> Vec<Message>
+        ensures taken { (messages : List Message) → Holds self.old.boxes session messages → (result.items ≡ messages) × Holds self.new.boxes session [] }
+        ensures none { Lacks self.old.boxes session → (result.items ≡ []) × Lacks self.new.boxes session }
+        ensures others { KeepsOthers self.old.boxes self.new.boxes session }
+        ensures kept { self.new.kept ≡ self.old.kept }
+    {
+        self.boxes.take(session).into_vec()
+    }
+}

@@ -1,0 +1,59 @@
+//! What a turn asks of that which the threads of a server share. It is `Held`; the turns and the loops
+//! are written for any such thing, and so none of them is checked with all that a server consists of.
+
+ghost use Rattle.std.specs.Prelude.{◌≡◌, ◌<◌, ◌^◌};
+ghost use Rattle.server_law.specs.Growth.{MayAdd};
+ghost use Rattle.server_core.specs.Step.{IsTimed};
+
+use crate::held::Went;
+use hash_calls::call::Commit;
+use server_core::event::Event;
+use shared_bytes::SharedBytes;
+use std::alloc::Global;
+use tree_nodes::content::Content;
+use turn_post::journaled::Journaled;
+use wire::fault::WireError;
+use wire::message::Message;
+
+/// What a turn asks; `Held` says what each call does.
+pub trait Turns: Journaled {
+    /// Whether a session stands.
+    fn stands(&self, session: u32) -> bool;
+
+    /// Whether a session stands to which nothing is to be said.
+    fn is_quiet(&self, session: u32) -> bool;
+
+    /// Whether nothing is to be said to any session.
+    fn is_still(&self) -> bool;
+
+    /// Whether a change of the session waits.
+    fn waits(&self, session: u32) -> bool;
+
+    /// One event of the server.
+    fn event(&mut self, alloc: Global, event: Event) -> Went
+        requires { IsTimed event }
+        ensures { MayAdd (Self.journal self.old) (Self.journal self.new) };
+
+    /// A record of a session was read.
+    fn heard(
+        &mut self,
+        alloc: Global,
+        session: u32,
+        read: Result<Message, WireError>,
+        now: u64,
+    ) -> Went
+        requires { now < 2 ^ 63 }
+        ensures { MayAdd (Self.journal self.old) (Self.journal self.new) };
+
+    /// An owner of the whole content of a temporary file of a session.
+    fn share_temp(&mut self, session: u32, commit: &Commit) -> Option<SharedBytes>
+        ensures { Self.journal self.new ≡ Self.journal self.old };
+
+    /// Keeps a content that was made ahead, or none.
+    fn prepare(&mut self, ahead: Option<Content>)
+        ensures { Self.journal self.new ≡ Self.journal self.old };
+
+    /// All that is to be said to a session.
+    fn take_out(&mut self, session: u32) -> Vec<Message>
+        ensures { Self.journal self.new ≡ Self.journal self.old };
+}

@@ -1,0 +1,48 @@
+//! What makes sure what a store was given. A server holds an answer back until the change that it
+//! tells of outlasts a cut of power; it waits for that beside the store, so that others go on
+//! meanwhile, and changes that wait at once share a flush.
+
+ghost use Rattle.std.specs.Prelude.{◌≡◌, ℕ, ◌≤◌, OnOk, OnErr};
+ghost use Rattle.lb_base.specs.Causes.{Rose};
+
+use lb_base::source::Failed;
+use std::alloc::AllocError;
+use std::sync::Wait;
+use store::store::Store;
+
+/// Makes sure what a store was given. Threads share it, beside the store.
+pub trait Syncs {
+    /// What is known once `settle` has answered `Ok`; only `settle` tells it.
+    ghost settled: { Self → Type 0 };
+
+    /// `Ok` comes only once all that the store was given before the call outlasts a cut of power; where
+    /// nothing is flushed, once the store is known not to be in doubt. One that failed fails for ever.
+    fn settle<W: Wait>(&self, rt: &W) -> Result<(), Failed>
+        ensures { OnOk result (settled self.now) };
+}
+
+/// A store with such an object.
+pub trait Synced: Store {
+    /// The object.
+    type Y: Syncs + Drop + Sync;
+
+    /// The object, which threads share. The one error is want of memory.
+    fn syncs(&self) -> Result<Self::Y, AllocError>;
+
+    /// From now on nothing is flushed. It is for before the store is loaded.
+    fn leave_unflushed(&mut self)
+        ensures kept { Self.records self.new ≡ Self.records self.old }
+        ensures spare { Self.spare self.new ≡ Self.spare self.old }
+        ensures faults { Self.faults self.new ≡ Self.faults self.old };
+
+    /// Nothing more will be given: all is made sure. `Failed` comes where anything that the store was
+    /// given could not be made sure, by the object too; the count of faults rises then.
+    fn close(&mut self) -> Result<(), Failed>
+        ensures kept { Self.records self.new ≡ Self.records self.old }
+        ensures later { Self.faults self.old ≤ Self.faults self.new }
+        ensures cause { OnErr result (Rose (Self.faults self.old) (Self.faults self.new)) };
+
+    /// How many faults there were.
+    fn fault_count(&self) -> u64
+        ensures { result ≡ Self.faults self.now };
+}

@@ -1,0 +1,8 @@
+use Rattle.turn_post.specs.Passes.{IsPassOf}
+use Rattle.trials.proofs.sessions.put_connections.Given as goal
+
+abbrev pub invariant-loop-next : goal.invariant-loop-next
+invariant-loop-next g l = IsPassOf l.shared.post l.pass
+
+abbrev pub invariant-loop-at : goal.invariant-loop-at
+invariant-loop-at g l = IsPassOf l.shared.post l.pass

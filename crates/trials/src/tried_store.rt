@@ -1,0 +1,162 @@
+//! A store in memory that has to be made sure of what it is given, and what does so: the call that a row
+//! names fails, and so does each one behind it.
+
+ghost use Rattle.std.specs.Prelude.{None};
+
+use lb_base::faults::one_more;
+use lb_base::source::Failed;
+use std::alloc::{AllocError, Global};
+use std::sync::atomic::{AtomicBool, AtomicU64, Ordering};
+use std::sync::{Arc, Wait};
+use store::mem_store::MemStore;
+use store::record::{Change, Head, Kept};
+use store::store::{Store, StoreError};
+use synced_store::checks::{CheckedStore, Checks};
+use synced_store::syncs::{Synced, Syncs};
+
+/// How often the store was to be made sure, and whether that failed once.
+#[derive(Drop)]
+struct Settles {
+    made: AtomicU64,
+    /// The call that fails, numbered from 0, if one does.
+    failing: Option<u64>,
+    has_failed: AtomicBool,
+}
+
+impl Settles {
+    /// Counts a call, and answers whether it goes through.
+    fn next(&self) -> bool {
+        let made = self.made.fetch_add(1, Ordering::SeqCst);
+        if self.failing == Some(made) {
+            self.has_failed.store(true, Ordering::SeqCst);
+        }
+        !self.has_failed.load(Ordering::SeqCst)
+    }
+}
+
+/// What makes a store sure.
+#[derive(Drop)]
+pub struct TriedSyncs {
+    settles: Arc<Settles>,
+}
+
+impl Syncs for TriedSyncs {
+    ghost settled = { λ _. Unit {0} };
+
+    fn settle<W: Wait>(&self, _rt: &W) -> Result<(), Failed> {
+        if self.settles.next() {
+            Ok(())
+        } else {
+            Err(Failed)
+        }
+    }
+}
+
+/// The store. It tells nothing of its records.
+#[derive(Drop)]
+pub struct TriedStore {
+    store: MemStore,
+    settles: Arc<Settles>,
+    faults: u64,
+}
+
+impl TriedStore {
+    /// A store over another; of the calls that are to make it sure the one of this number fails, if one
+    /// does, and all behind it.
+    pub fn new(
+        alloc: Global,
+        store: MemStore,
+        failing: Option<u64>,
+    ) -> Result<TriedStore, AllocError> {
+        let settles = Settles {
+            made: AtomicU64::new(0),
+            failing,
+            has_failed: AtomicBool::new(false),
+        };
+        Ok(TriedStore {
+            store,
+            settles: Arc::new(alloc, settles)?,
+            faults: 0,
+        })
+    }
+
+    /// How many records there are.
+    pub fn len(&self) -> usize {
+        self.store.records().len()
+    }
+
+    /// How often it was to be made sure.
+    pub fn settles(&self) -> u64 {
+        self.settles.made.load(Ordering::SeqCst)
+    }
+}
+
+impl Store for TriedStore {
+    ghost records = { λ _. None };
+
+    ghost spare = { λ s. s.store.spare };
+
+    ghost faults = { λ s. s.faults };
+
+    fn load(&mut self, alloc: Global, place: &str) -> Result<Vec<Kept>, StoreError> {
+        match self.store.load(alloc, place) {
+            Ok(records) => Ok(records),
+            Err(StoreError::Memory) => Err(StoreError::Memory),
+            Err(StoreError::Failed) => {
+                self.faults = one_more(self.faults);
+                Err(StoreError::Failed)
+            }
+        }
+    }
+
+    fn reserve(&mut self, count: u32) -> Result<(), AllocError> {
+        self.store.reserve(count)
+    }
+
+    fn apply(&mut self, head: Head, first: Change, second: Option<Change>) -> Result<(), Failed> {
+        match self.store.apply(head, first, second) {
+            Ok(()) => Ok(()),
+            Err(Failed) => {
+                self.faults = one_more(self.faults);
+                Err(Failed)
+            }
+        }
+    }
+}
+
+impl Synced for TriedStore {
+    type Y = TriedSyncs;
+
+    fn syncs(&self) -> Result<TriedSyncs, AllocError> {
+        Ok(TriedSyncs {
+            settles: self.settles.clone()?,
+        })
+    }
+
+    fn leave_unflushed(&mut self) {}
+
+    fn close(&mut self) -> Result<(), Failed> {
+        if self.settles.has_failed.load(Ordering::SeqCst) {
+            self.faults = one_more(self.faults);
+            return Err(Failed);
+        }
+        Ok(())
+    }
+
+    fn fault_count(&self) -> u64 {
+        self.faults
+    }
+}
+
+impl Checks for TriedStore {
+    fn check(&mut self, alloc: Global, place: &str) -> Result<CheckedStore, StoreError> {
+        match self.store.check(alloc, place) {
+            Ok(found) => Ok(found),
+            Err(StoreError::Memory) => Err(StoreError::Memory),
+            Err(StoreError::Failed) => {
+                self.faults = one_more(self.faults);
+                Err(StoreError::Failed)
+            }
+        }
+    }
+}
