@@ -4,6 +4,7 @@
 ghost use Rattle.std.specs.Prelude.{◌≡◌, ℕ, ◌≤◌, None};
 
 use crate::format::{content_in, head_in, node_in, put_content, put_head, put_node};
+use crate::look::{look, tell_why};
 use crate::naming::{Which, held_by, put_name};
 use crate::redo::{Paths, carry_out};
 use lb_base::faults::one_more;
@@ -15,9 +16,12 @@ use std::fmt::Write as WriteText;
 use std::fs::File;
 use std::io::{ErrorKind, Write};
 use std::rt::Files;
+use std::sync::Wait;
 use std::{fs, io};
 use store::record::{Change, Head, Kept};
 use store::store::{Store, StoreError};
+use synced_store::checks::{CheckedStore, Checks};
+use synced_store::syncs::{Synced, Syncs};
 
 /// The most bytes of a file of the folder: a content, and its version.
 const READ_MOST: usize = FILE_MOST as usize + 8;
@@ -116,7 +120,11 @@ fn read_named<R: Files>(
 }
 
 /// The record that these bytes of its file say.
-fn record_in(alloc: Global, which: Which, bytes: Vec<u8>) -> Result<Option<Kept>, AllocError> {
+pub(crate) fn record_in(
+    alloc: Global,
+    which: Which,
+    bytes: Vec<u8>,
+) -> Result<Option<Kept>, AllocError> {
     match which {
         Which::Head => Ok(head_in(&bytes).map(Kept::Head)),
         Which::Node(id) => match node_in(alloc, id, &bytes)? {
@@ -148,7 +156,7 @@ fn read_record<R: Files>(
 }
 
 /// The records that the folder has files of, in the order in which it is loaded.
-fn records_there<R: Files + AllocGlobal + Clone + Drop>(
+pub(crate) fn records_there<R: Files + AllocGlobal + Clone + Drop>(
     rt: &R,
     alloc: Global,
     folder: &str,
@@ -324,7 +332,7 @@ impl Folder {
     }
 }
 
-impl<R: Files<File = File> + AllocGlobal + Clone + Drop> Store for FolderStore<R> {
+impl<R: Files<File = File> + AllocGlobal + Eprint + Clone + Drop> Store for FolderStore<R> {
     ghost records = { λ _. None };
 
     ghost spare = { λ s. s.spare };
@@ -340,6 +348,7 @@ impl<R: Files<File = File> + AllocGlobal + Clone + Drop> Store for FolderStore<R
                 Ok(records)
             }
             Err(StoreError::Failed) => {
+                tell_why(&self.rt, alloc, place);
                 self.faults = one_more(self.faults);
                 Err(StoreError::Failed)
             }
@@ -354,7 +363,14 @@ impl<R: Files<File = File> + AllocGlobal + Clone + Drop> Store for FolderStore<R
 
     fn apply(&mut self, head: Head, first: Change, second: Option<Change>) -> Result<(), Failed> {
         let made = match &mut self.folder {
-            Some(folder) => folder.apply(&self.rt, head, &first, &second).is_ok(),
+            Some(folder) => match folder.apply(&self.rt, head, &first, &second) {
+                Ok(()) => true,
+                Err(why) => {
+                    let rt = &self.rt;
+                    let _told = eprintln!(rt; "lbfs: a change can't be written: {why}");
+                    false
+                }
+            },
             None => false,
         };
         drop(first);
@@ -364,5 +380,48 @@ impl<R: Files<File = File> + AllocGlobal + Clone + Drop> Store for FolderStore<R
         }
         self.faults = one_more(self.faults);
         Err(Failed)
+    }
+}
+
+/// Nothing is flushed yet: each change is in the folder's files once `apply` has answered.
+#[derive(Clone, Copy)]
+pub struct FolderSyncs;
+
+impl Syncs for FolderSyncs {
+    ghost settled = { λ _. Unit {0} };
+
+    fn settle<W: Wait>(&self, _rt: &W) -> Result<(), Failed> {
+        Ok(())
+    }
+}
+
+impl<R: Files<File = File> + AllocGlobal + Eprint + Clone + Drop> Synced for FolderStore<R> {
+    type Y = FolderSyncs;
+
+    fn syncs(&self) -> Result<FolderSyncs, AllocError> {
+        Ok(FolderSyncs)
+    }
+
+    fn leave_unflushed(&mut self) {}
+
+    fn close(&mut self) -> Result<(), Failed> {
+        Ok(())
+    }
+
+    fn fault_count(&self) -> u64 {
+        self.faults
+    }
+}
+
+impl<R: Files<File = File> + AllocGlobal + Eprint + Clone + Drop> Checks for FolderStore<R> {
+    fn check(&mut self, alloc: Global, place: &str) -> Result<CheckedStore, StoreError> {
+        match look(&self.rt, alloc, place) {
+            Ok(found) => Ok(found),
+            Err(StoreError::Failed) => {
+                self.faults = one_more(self.faults);
+                Err(StoreError::Failed)
+            }
+            Err(StoreError::Memory) => Err(StoreError::Memory),
+        }
     }
 }

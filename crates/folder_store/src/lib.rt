@@ -5,5 +5,6 @@
 pub mod folder;
 pub mod format;
 pub mod laws;
+pub mod look;
 pub mod naming;
 pub mod redo;
