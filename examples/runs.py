@@ -35,10 +35,11 @@ class Run:
     """A run of the program, which is killed at the end where it hasn't ended."""
 
     def __init__(self, words, **how):
+        self.errors = tempfile.TemporaryFile()
         self.process = subprocess.Popen(
             [PROGRAM, *map(str, words)],
             stdout=subprocess.PIPE,
-            stderr=subprocess.STDOUT,
+            stderr=self.errors,
             start_new_session=True,
             **how,
         )
@@ -53,6 +54,10 @@ class Run:
         if self.process.poll() is None:
             os.killpg(self.process.pid, signal.SIGKILL)
         self.process.wait()
+
+    def said(self):
+        """The lines that it wrote on standard error so far."""
+        return os.pread(self.errors.fileno(), 1 << 20, 0).decode().splitlines()
 
 
 class Server(Run):

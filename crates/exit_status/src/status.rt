@@ -22,6 +22,8 @@ pub enum Status {
     Network,
     /// The store failed as it was opened, or one of its records breaks a rule; which, was written.
     Store,
+    /// A store that was looked over has files that break a rule; which, was written.
+    Broken,
 }
 
 impl Status {
@@ -38,6 +40,7 @@ impl Status {
             Status::Memory => 6,
             Status::Network => 7,
             Status::Store => 8,
+            Status::Broken => 8,
         }
     }
 }

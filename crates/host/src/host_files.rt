@@ -4,16 +4,17 @@ ghost use Rattle.std.specs.Prelude.{◌≡◌, ℕ, ◌≤◌, ◌<◌, length, 
 ghost use Rattle.limits.specs.declared.TheConstants.{FILE_MOST};
 ghost use Rattle.links.specs.declared.files.FilesError.TheVariants as errors;
 
+use crate::notes::{Note, tell};
 use lb_base::faults::one_more;
 use lb_base::items::{Bytes, Items};
 use lb_base::sink::GiveError;
-use lb_base::source::{ReadError, read_all};
+use lb_base::source::{Failed, ReadError, read_all};
 use lb_base::streams::StreamSource;
 use limits::FILE_MOST;
 use links::files::{Files, FilesError};
 use std::alloc::Global;
 use std::fs::OpenFile;
-use std::io::Write;
+use std::io::{Read, Write};
 use std::rt::Files as HostDisk;
 use std::{fs, io};
 
@@ -39,14 +40,31 @@ impl<R> HostFiles<R> {
     }
 }
 
-/// The bytes of a file, where it has at most `FILE_MOST`.
-fn read_file<R: HostDisk>(rt: &R, alloc: Global, name: &str) -> Result<Bytes, FilesError>
+/// Opens a file that is a regular one. Any other isn't opened: one that waits for a writer would be
+/// waited for. Why there is none is told.
+fn open_regular<R: HostDisk + Eprint>(rt: &R, name: &str) -> Result<R::File, Failed> {
+    let opened = match fs::metadata(rt, name) {
+        Ok(facts) if !facts.is_file() => {
+            tell(rt, &Note::NotRegular { name });
+            return Err(Failed);
+        }
+        Ok(_) => fs::open(rt, name),
+        Err(why) => Err(why),
+    };
+    match opened {
+        Ok(file) => Ok(file),
+        Err(why) => {
+            tell(rt, &Note::Read { name, why });
+            Err(Failed)
+        }
+    }
+}
+
+/// The bytes of an open file, where it has at most `FILE_MOST`.
+fn read_open<F: OpenFile + Read + Drop>(alloc: Global, file: F) -> Result<Bytes, FilesError>
     ensures within { IfOk result (λ bytes. length bytes ≤ FILE_MOST) }
     ensures big { (len : ℕ) → result ≡ Err (errors.TooBig len) → FILE_MOST < len }
 {
-    let Ok(file) = fs::open(rt, name) else {
-        return Err(FilesError::Failed);
-    };
     let Ok(facts) = file.metadata() else {
         return Err(FilesError::Failed);
     };
@@ -62,6 +80,17 @@ fn read_file<R: HostDisk>(rt: &R, alloc: Global, name: &str) -> Result<Bytes, Fi
     }
 }
 
+/// The bytes of a file, where it has at most `FILE_MOST`.
+fn read_file<R: HostDisk + Eprint>(rt: &R, alloc: Global, name: &str) -> Result<Bytes, FilesError>
+    ensures within { IfOk result (λ bytes. length bytes ≤ FILE_MOST) }
+    ensures big { (len : ℕ) → result ≡ Err (errors.TooBig len) → FILE_MOST < len }
+{
+    match open_regular(rt, name) {
+        Ok(file) => read_open(alloc, file),
+        Err(Failed) => Err(FilesError::Failed),
+    }
+}
+
 /// Writes a file beside the one of the name, and puts it in its place.
 fn write_file<R: HostDisk>(rt: &R, beside: &str, name: &str, bytes: &[u8]) -> io::Result<()> {
     let mut file = fs::create(rt, beside)?;
@@ -70,7 +99,7 @@ fn write_file<R: HostDisk>(rt: &R, beside: &str, name: &str, bytes: &[u8]) -> io
     fs::rename(rt, beside, name)
 }
 
-impl<R: HostDisk> Files for HostFiles<R> {
+impl<R: HostDisk + Eprint> Files for HostFiles<R> {
     ghost files = { λ _. None };
 
     ghost faults = { λ f. f.faults };
@@ -98,7 +127,8 @@ impl<R: HostDisk> Files for HostFiles<R> {
         let beside = format!(in alloc; "~{mark}")?;
         match write_file(&self.rt, beside.as_str(), name, bytes) {
             Ok(()) => Ok(()),
-            Err(_) => {
+            Err(why) => {
+                tell(&self.rt, &Note::Written { name, why });
                 let _gone = fs::remove_file(&self.rt, beside.as_str());
                 self.faults = one_more(self.faults);
                 Err(GiveError::Failed)

@@ -3,6 +3,12 @@
 //! counted.
 #![tactic(auto)]
 
+pub mod dialler;
 pub mod host_files;
+pub mod host_folder;
+pub mod notes;
+pub mod serving;
+pub mod streams;
 pub mod tcp;
 pub mod time;
+pub mod told_store;

@@ -5,36 +5,99 @@ ghost use Rattle.std.specs.Prelude.{◌≡◌, ℕ, ◌+◌, ◌-◌, ◌^◌, �
 ghost use Rattle.lb_base.specs.Causes.{Rose};
 ghost use Rattle.lb_base.specs.declared.sink.GiveError.TheVariants as errors;
 
+use crate::notes::{Note, tell};
+use crate::serving::Serving;
 use lb_base::faults::one_more;
 use lb_base::sink::GiveError;
 use lb_base::source::Failed;
 use links::link::Link;
-use links::network::Network;
+use links::network::{AcceptError, Bell, Network};
+use std::alloc::Global;
 use std::io;
 use std::io::{ErrorKind, Read, Write};
 use std::net::{Ipv4Addr, Net, Shutdown, SocketAddr, SocketAddrV4, TcpListener, TcpStream};
+use std::sync::Arc;
+use std::sync::atomic::{AtomicBool, Ordering};
 
-/// How many times in all a call is tried that is interrupted, or that accepts a peer who went, before that
-/// counts as a fault.
+/// How many times in all a call is tried that is interrupted before that counts as a fault.
 const RETRIES: u32 = 16;
 
-/// A link over a TCP connection. It tells nothing of the bytes.
+/// Linux's numbers of the errors by which descriptors (of the program, of all) or memory for a connection
+/// are wanting. They pass.
+const WANTING: [i32; 4] = [23, 24, 12, 105];
+
+/// A server that was dialled, for the twins of the link to it: whoever sees its connection end first
+/// tells it, unless this end has ended it.
 #[derive(Drop)]
-pub struct TcpLink {
-    stream: TcpStream,
-    faults: u64,
+struct Peer<R> {
+    rt: R,
+    port: u16,
+    is_over: AtomicBool,
 }
 
-impl TcpLink {
-    /// A link over a connection, with no fault so far.
-    pub fn new(stream: TcpStream) -> TcpLink
-        ensures { result ≡ record { stream = stream; faults = 0 } }
-    {
-        TcpLink { stream, faults: 0 }
+impl<R: Eprint> Peer<R> {
+    /// The connection failed, for this reason.
+    fn lose(&self, why: io::Error) {
+        if !self.is_over.swap(true, Ordering::SeqCst) {
+            let port = self.port;
+            tell(&self.rt, &Note::Lost { port, why });
+        }
+    }
+
+    /// The peer ended the connection.
+    fn end(&self) {
+        if !self.is_over.swap(true, Ordering::SeqCst) {
+            tell(&self.rt, &Note::Ended { port: self.port });
+        }
+    }
+
+    /// This end ends the connection, which isn't told.
+    fn leave(&self) {
+        self.is_over.store(true, Ordering::SeqCst);
     }
 }
 
-impl Link for TcpLink {
+/// A link over a TCP connection. It tells nothing of the bytes.
+#[derive(Drop)]
+pub struct TcpLink<R> {
+    stream: TcpStream,
+    faults: u64,
+    /// The server, where this end dialled it: one that serves says nothing of peers that went.
+    peer: Option<Arc<Peer<R>>>,
+}
+
+impl<R> TcpLink<R> {
+    /// A link over a connection, with no fault so far.
+    fn new(stream: TcpStream, peer: Option<Arc<Peer<R>>>) -> TcpLink<R>
+        ensures { result ≡ record { stream = stream; faults = 0; peer = peer } }
+    {
+        TcpLink {
+            stream,
+            faults: 0,
+            peer,
+        }
+    }
+}
+
+impl<R: Eprint> TcpLink<R> {
+    /// The connection failed, for this reason.
+    fn lose(&self, why: io::Error) {
+        if let Some(peer) = &self.peer {
+            peer.lose(why);
+        }
+    }
+
+    /// Of so many bytes that were asked for, so many came: none is the end.
+    fn note_end(&self, wanted: usize, came: usize) {
+        if wanted != 0 && came == 0 {
+            if let Some(peer) = &self.peer {
+                peer.end();
+            }
+        }
+    }
+}
+
+impl<R: Eprint + Drop> Link for TcpLink<R> {
     ghost left = { λ _. None };
 
     ghost held = { λ _. None };
@@ -44,9 +107,15 @@ impl Link for TcpLink {
     fn take(&mut self, into: &mut [u8]) -> Result<usize, Failed> {
         for _ in 0..RETRIES {
             match self.stream.read(into) {
-                Ok(count) => return Ok(count),
+                Ok(count) => {
+                    self.note_end(into.len(), count);
+                    return Ok(count);
+                }
                 Err(error) if error.kind() == ErrorKind::Interrupted => {}
-                Err(_) => break,
+                Err(error) => {
+                    self.lose(error);
+                    break;
+                }
             }
         }
         self.faults = one_more(self.faults);
@@ -59,7 +128,10 @@ impl Link for TcpLink {
                 Ok(0) if !from.is_empty() => break,
                 Ok(count) => return Ok(count),
                 Err(error) if error.kind() == ErrorKind::Interrupted => {}
-                Err(_) => break,
+                Err(error) => {
+                    self.lose(error);
+                    break;
+                }
             }
         }
         self.faults = one_more(self.faults);
@@ -67,13 +139,17 @@ impl Link for TcpLink {
     }
 
     fn shut(&mut self) {
+        if let Some(peer) = &self.peer {
+            peer.leave();
+        }
         let _ended = self.stream.shutdown(Shutdown::Both);
     }
 
-    fn twin(&mut self) -> Result<TcpLink, Failed> {
+    fn twin(&mut self) -> Result<TcpLink<R>, Failed> {
         match self.stream.try_clone() {
-            Ok(stream) => Ok(TcpLink::new(stream)),
-            Err(_) => {
+            Ok(stream) => Ok(TcpLink::new(stream, shared(&self.peer))),
+            Err(error) => {
+                self.lose(error);
                 self.faults = one_more(self.faults);
                 Err(Failed)
             }
@@ -81,11 +157,24 @@ impl Link for TcpLink {
     }
 }
 
+/// One owner more of a peer. Where there can be none more, nothing of it is told by that one.
+fn shared<R: Drop>(peer: &Option<Arc<Peer<R>>>) -> Option<Arc<Peer<R>>> {
+    match peer {
+        Some(peer) => Arc::try_clone(peer).ok(),
+        None => None,
+    }
+}
+
 /// A network over TCP, on 127.0.0.1 alone.
 #[derive(Drop)]
 pub struct TcpNetwork<R: Net<Listener = TcpListener, Stream = TcpStream>> {
     rt: R,
+    alloc: Global,
+    /// What is served, which is told once it listens.
+    serving: Option<Arc<Serving>>,
     listener: Option<TcpListener>,
+    /// The port that is listened at.
+    port: u16,
     accepted: u64,
     faults: u64,
 }
@@ -96,41 +185,93 @@ fn here(port: u16) -> SocketAddr {
 }
 
 /// A link that gives its bytes at once.
-fn prompt(stream: TcpStream) -> io::Result<TcpLink> {
+fn prompt<R: Drop>(stream: TcpStream, peer: Option<Arc<Peer<R>>>) -> io::Result<TcpLink<R>> {
     stream.set_nodelay(true)?;
-    Ok(TcpLink::new(stream))
+    Ok(TcpLink::new(stream, peer))
 }
 
-/// The link of the next peer that dialled. One that went before it was accepted is passed over, unless
-/// too many do at once: it is no fault of the network.
-fn next_link(listener: &TcpListener) -> io::Result<TcpLink> {
-    for _ in 0..RETRIES {
-        match listener.accept() {
-            Ok((stream, _peer)) => return prompt(stream),
-            Err(error) if error.kind() == ErrorKind::Interrupted => {}
-            Err(error) if error.kind() == ErrorKind::ConnectionAborted => {}
-            Err(error) => return Err(error),
-        }
+/// A link to a port of this host that says nothing on standard error: whoever dials it tells what failed.
+pub(crate) fn quiet_link<R: Net<Listener = TcpListener, Stream = TcpStream> + Drop>(
+    rt: &R,
+    port: u16,
+) -> io::Result<TcpLink<R>> {
+    let stream = TcpStream::connect(rt, here(port))?;
+    prompt(stream, None)
+}
+
+/// Whether accepting may go through after a rest: it was interrupted, the peer went before it was
+/// accepted, or descriptors or memory are wanting. That is no fault of the network.
+fn is_passing(error: &io::Error) -> bool {
+    match error.raw_os_error() {
+        Some(number) if WANTING.contains(&number) => true,
+        _ => matches!(
+            error.kind(),
+            ErrorKind::Interrupted | ErrorKind::ConnectionAborted
+        ),
     }
-    Err(io::Error::from(ErrorKind::Interrupted))
+}
+
+/// The link of the next peer that dialled. Of one that went since then no link is made.
+fn next_link<R: Drop>(listener: &TcpListener) -> Result<TcpLink<R>, AcceptError> {
+    match listener.accept() {
+        Ok((stream, _peer)) => match prompt(stream, None) {
+            Ok(link) => Ok(link),
+            Err(_) => Err(AcceptError::Passing),
+        },
+        Err(error) if is_passing(&error) => Err(AcceptError::Passing),
+        Err(_) => Err(AcceptError::Failed),
+    }
+}
+
+/// Dials the port that this host listens at, so that whoever accepts there has something to accept.
+#[derive(Drop)]
+pub struct TcpBell<R: Net<Listener = TcpListener, Stream = TcpStream>> {
+    rt: R,
+    port: u16,
+}
+
+impl<R: Net<Listener = TcpListener, Stream = TcpStream>> Bell for TcpBell<R> {
+    fn ring(&self) {
+        let _dialled = TcpStream::connect(&self.rt, here(self.port));
+    }
 }
 
 impl<R: Net<Listener = TcpListener, Stream = TcpStream>> TcpNetwork<R> {
     /// A network with no fault so far. It listens at no port yet.
-    pub fn new(rt: R) -> TcpNetwork<R>
+    pub fn new(rt: R, alloc: Global, serving: Option<Arc<Serving>>) -> TcpNetwork<R>
         ensures { (result.accepted ≡ 0) × (result.faults ≡ 0) }
     {
         TcpNetwork {
             rt,
+            alloc,
+            serving,
             listener: None,
+            port: 0,
             accepted: 0,
             faults: 0,
         }
     }
 }
 
-impl<R: Net<Listener = TcpListener, Stream = TcpStream>> Network for TcpNetwork<R> {
-    type L = TcpLink;
+impl<R: Net<Listener = TcpListener, Stream = TcpStream> + Copy + Drop> TcpNetwork<R> {
+    /// A link to a port of this host.
+    fn dialled(&self, port: u16) -> io::Result<TcpLink<R>> {
+        let stream = TcpStream::connect(&self.rt, here(port))?;
+        let peer = Peer {
+            rt: self.rt,
+            port,
+            is_over: AtomicBool::new(false),
+        };
+        let peer = Arc::new(self.alloc, peer)?;
+        prompt(stream, Some(peer))
+    }
+}
+
+impl<R: Net<Listener = TcpListener, Stream = TcpStream> + Eprint + Copy + Drop + Send> Network
+    for TcpNetwork<R> {
+    type L = TcpLink<R>;
+
+    type B = TcpBell<R>;
 
     ghost faults = { λ n. n.faults };
 
@@ -140,33 +281,53 @@ impl<R: Net<Listener = TcpListener, Stream = TcpStream>> Network for TcpNetwork<
         match TcpListener::bind(&self.rt, here(port)) {
             Ok(listener) => {
                 self.listener = Some(listener);
+                self.port = port;
+                if let Some(serving) = &self.serving {
+                    serving.tell_at(&self.rt, port);
+                }
                 Ok(())
             }
-            Err(_) => {
+            Err(why) => {
+                tell(&self.rt, &Note::Listen { port, why });
                 self.faults = one_more(self.faults);
                 Err(Failed)
             }
         }
     }
 
-    fn accept(&mut self) -> Result<TcpLink, Failed> {
-        if let Some(listener) = &self.listener {
-            if let Ok(link) = next_link(listener) {
-                self.accepted = one_more(self.accepted);
-                return Ok(link);
-            }
+    fn bell(&self) -> TcpBell<R> {
+        TcpBell {
+            rt: self.rt,
+            port: self.port,
         }
-        self.faults = one_more(self.faults);
-        Err(Failed)
     }
 
-    fn dial(&mut self, port: u16) -> Result<TcpLink, Failed> {
-        if let Ok(stream) = TcpStream::connect(&self.rt, here(port)) {
-            if let Ok(link) = prompt(stream) {
-                return Ok(link);
+    fn accept(&mut self) -> Result<TcpLink<R>, AcceptError> {
+        let next = match &self.listener {
+            Some(listener) => next_link(listener),
+            None => Err(AcceptError::Failed),
+        };
+        match next {
+            Ok(link) => {
+                self.accepted = one_more(self.accepted);
+                Ok(link)
+            }
+            Err(AcceptError::Passing) => Err(AcceptError::Passing),
+            Err(AcceptError::Failed) => {
+                self.faults = one_more(self.faults);
+                Err(AcceptError::Failed)
             }
         }
-        self.faults = one_more(self.faults);
-        Err(Failed)
+    }
+
+    fn dial(&mut self, port: u16) -> Result<TcpLink<R>, Failed> {
+        match self.dialled(port) {
+            Ok(link) => Ok(link),
+            Err(why) => {
+                tell(&self.rt, &Note::Dial { port, why });
+                self.faults = one_more(self.faults);
+                Err(Failed)
+            }
+        }
     }
 }

@@ -2,19 +2,36 @@
 //! in, TCP on this host and the host's clock. What it reads, writes and ends with is promised by `run`
 //! of the crate `lbfs_run`, which `status_of` there calls; that the words, the outside and the status are
 //! handed on no contract says, and the examples test it.
+//!
+//! On standard error a person is told what failed: by the adapters of `host` and `folder_store` as it
+//! happens, and here, once the run has ended, of words that are refused, of memory, and of the record that
+//! a server's store breaks a rule with.
 #![tactic(auto)]
 
 use exit_status::status::Status;
 use folder_store::folder::FolderStore;
 use host::host_files::HostFiles;
+use host::notes::{Note, tell};
+use host::serving::Serving;
+use host::streams::{ToldReader, ToldWriter};
 use host::tcp::TcpNetwork;
 use host::time::{HostClock, HostRest};
+use host::told_store::ToldStore;
 use lb_base::streams::{StreamSink, StreamSource};
 use lbfs_run::outside::Outside;
 use lbfs_run::run::status_of;
+use program_words::asked::Asked;
+use program_words::refusal::refusal;
+use program_words::words::asked_of;
+use std::alloc::{AllocError, Global};
 use std::io::ErrorKind;
 use std::process::ExitCode;
-use std::{env, io, process};
+use std::sync::{Arc, Wait};
+use std::thread::Threads;
+use std::{env, fs, io, process};
+use store_report::report::first_broken;
+use synced_store::checks::Checks;
+use synced_store::syncs::Synced;
 
 /// The program's name and the words behind it. Where one is no text there are none, and so no command
 /// either.
@@ -26,21 +43,134 @@ fn given_words(rt: &HostRuntime) -> io::Result<Vec<String>> {
     }
 }
 
-/// Runs the words over the outside, and ends with the status's number.
-fn main(rt: HostRuntime) -> ExitCode {
-    let Ok(words) = given_words(&rt) else {
-        return ExitCode::from(Status::Memory.code());
+/// The folder that the words have served; none where they ask for something else.
+fn served_place(alloc: Global, words: &[String]) -> Result<Option<String>, AllocError> {
+    match asked_of(alloc, words)? {
+        Some(Asked::Serve(options)) => Ok(Some(String::from_str(alloc, options.store.as_str())?)),
+        _ => Ok(None),
+    }
+}
+
+/// Whether the words have nothing flushed.
+fn is_unsynced(alloc: Global, words: &[String]) -> Result<bool, AllocError> {
+    match asked_of(alloc, words)? {
+        Some(Asked::Serve(options)) => Ok(options.unsynced),
+        _ => Ok(false),
+    }
+}
+
+/// What is served at a place, for those who tell it.
+fn serving_at(alloc: Global, place: &Option<String>) -> Result<Option<Arc<Serving>>, AllocError> {
+    match place {
+        Some(place) => {
+            let place = String::from_str(alloc, place.as_str())?;
+            Ok(Some(Arc::new(alloc, Serving::new(place))?))
+        }
+        None => Ok(None),
+    }
+}
+
+/// One owner more of what is served. Where there can be none more, it isn't told.
+fn shared(serving: &Option<Arc<Serving>>) -> Option<Arc<Serving>> {
+    match serving {
+        Some(serving) => Arc::try_clone(serving).ok(),
+        None => None,
+    }
+}
+
+/// Tells which record of a store breaks a rule, which is read again for that.
+fn tell_record<D: Synced + Checks + Drop>(rt: &HostRuntime, store: D, place: &str) {
+    let alloc = rt.alloc();
+    let mut store = store;
+    if let Ok(found) = store.check(alloc, place) {
+        if let Ok(Some(line)) = first_broken(alloc, &found) {
+            let _told = eprint!(rt; "lbfs: {place}/{line}");
+        }
+    }
+}
+
+/// Tells what is left to tell of a run that has ended; a store is for the folder that was served.
+fn tell_end<D: Synced + Checks + Drop>(
+    rt: &HostRuntime,
+    words: &[String],
+    store: D,
+    place: &Option<String>,
+    status: Status,
+) {
+    match status {
+        Status::BadWords => {
+            if let Ok(text) = refusal(rt.alloc(), words) {
+                let _told = eprint!(rt; "{text}");
+            }
+        }
+        Status::Memory => tell(rt, &Note::Memory),
+        Status::Store => {
+            if let Some(place) = place {
+                // A folder that can't be read was told of as it was opened.
+                if fs::read_dir(rt, place.as_str()).is_ok() {
+                    tell_record(rt, store, place.as_str());
+                }
+            }
+        }
+        _ => {}
+    }
+}
+
+/// What `main` needs before it runs: the folder that is served, if one is, and what is told of it.
+fn served(
+    alloc: Global,
+    words: &[String],
+) -> Result<(Option<String>, Option<Arc<Serving>>), AllocError> {
+    let place = served_place(alloc, words)?;
+    let serving = serving_at(alloc, &place)?;
+    Ok((place, serving))
+}
+
+/// The end of a program whose memory ran out before it ran.
+fn starved(rt: &HostRuntime) -> ExitCode {
+    tell(rt, &Note::Memory);
+    ExitCode::from(Status::Memory.code())
+}
+
+/// Runs the words behind the program's name over the outside, and ends with the status's number. Of the
+/// two stores the second is for what is told of the first.
+fn run<H: Threads + Wait + Sync, D: Synced + Checks + Drop + Send>(
+    handle: &H,
+    rt: HostRuntime,
+    words: &[String],
+    stores: (D, D),
+) -> ExitCode {
+    let (store, again) = stores;
+    let Ok((place, serving)) = served(rt.alloc(), words) else {
+        return starved(&rt);
     };
+    let Ok(unsynced) = is_unsynced(rt.alloc(), words) else {
+        return starved(&rt);
+    };
+    let mut store = ToldStore::new(rt, store, shared(&serving));
+    if unsynced {
+        store.leave_unflushed();
+    }
     let outside = Outside {
-        source: StreamSource::new(rt.stdin()),
-        sink: StreamSink::new(rt.stdout()),
-        store: FolderStore::new(rt),
+        source: StreamSource::new(ToldReader::new(rt, rt.stdin())),
+        sink: StreamSink::new(ToldWriter::new(rt, rt.stdout())),
+        store,
         files: HostFiles::new(rt, process::id(rt.process())),
-        network: TcpNetwork::new(rt),
+        network: TcpNetwork::new(rt, rt.alloc(), serving),
         clock: HostClock::new(rt),
         rest: HostRest::new(rt),
     };
+    let status = status_of(handle, rt.alloc(), words, outside);
+    tell_end(&rt, words, again, &place, status);
+    ExitCode::from(status.code())
+}
+
+/// Runs the words over the outside.
+fn main(rt: HostRuntime) -> ExitCode {
+    let Ok(words) = given_words(&rt) else {
+        return starved(&rt);
+    };
     let words = words.as_slice();
-    let behind = words.len().min(1);
-    ExitCode::from(status_of(&rt, rt.alloc(), &words[behind..], outside).code())
+    let words = &words[words.len().min(1)..];
+    run(&rt, rt, words, (FolderStore::new(rt), FolderStore::new(rt)))
 }

@@ -10,6 +10,7 @@ use Rattle.program_words.specs.declared.asked.Asked.{Asked}
 use Rattle.program_words.specs.declared.asked.Asked.TheVariants as ask
 use Rattle.program_words.specs.declared.asked.ServeOptions.{ServeOptions}
 use Rattle.program_words.specs.declared.asked.MountOptions.{MountOptions}
+use Rattle.program_words.specs.declared.asked.CheckOptions.{CheckOptions}
 use Rattle.program_words.specs.Words.{command_in}
 use Rattle.lbfs_run.specs.PlainEnds.{IsAnswered, IsAnsweredFrom, IsBegun, IsBegunFrom, IsBroken, IsBrokenFrom}
 use Rattle.lbfs_run.specs.Serving.{ServeEnds}
@@ -41,6 +42,15 @@ not_serve a c o e f = let both : Some (ask.Command c) ≡ Some (ask.Serve o) = s
 
 pub not_mount : {A : Type 0} (a : Option Asked) (c : Command) (o : MountOptions) → a ≡ Some (ask.Command c) → a ≡ Some (ask.Mount o) → A
 not_mount a c o e f = let both : Some (ask.Command c) ≡ Some (ask.Mount o) = sym e ∙ f in cc
+
+pub not_check : {A : Type 0} (a : Option Asked) (c : Command) (o : CheckOptions) → a ≡ Some (ask.Command c) → a ≡ Some (ask.Check o) → A
+not_check a c o e f = let both : Some (ask.Command c) ≡ Some (ask.Check o) = sym e ∙ f in cc
+
+pub check_not_serve : {A : Type 0} (a : Option Asked) (o : CheckOptions) (p : ServeOptions) → a ≡ Some (ask.Check o) → a ≡ Some (ask.Serve p) → A
+check_not_serve a o p e f = let both : Some (ask.Check o) ≡ Some (ask.Serve p) = sym e ∙ f in cc
+
+pub check_not_mount : {A : Type 0} (a : Option Asked) (o : CheckOptions) (p : MountOptions) → a ≡ Some (ask.Check o) → a ≡ Some (ask.Mount p) → A
+check_not_mount a o p e f = let both : Some (ask.Check o) ≡ Some (ask.Mount p) = sym e ∙ f in cc
 
 pub not_both : {A : Type 0} (a : Option Asked) (o : ServeOptions) (p : MountOptions) → a ≡ Some (ask.Serve o) → a ≡ Some (ask.Mount p) → A
 not_both a o p e f = let both : Some (ask.Serve o) ≡ Some (ask.Mount p) = sym e ∙ f in cc

@@ -1,6 +1,7 @@
 pub mod Accepted
 pub mod Asking
 pub mod Blocks
+pub mod Checked
 pub mod Clean
 pub mod Headline
 pub mod Mounted

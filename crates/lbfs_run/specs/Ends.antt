@@ -15,6 +15,7 @@ takes_input None = false
 takes_input (Some (asked.Command c)) = reads (Some c)
 takes_input (Some (asked.Serve o)) = false
 takes_input (Some (asked.Mount o)) = true
+takes_input (Some (asked.Check o)) = false
 
 -- the store's count of faults rose, or the record that was told is the first that breaks a rule
 abbrev pub StoreFails : (faults faults' : ℕ) → Option (List Kept) → (held held' : Option (List ℕ)) → Type 0

@@ -12,9 +12,9 @@ use Rattle.exit_status.specs.declared.status.Status.{Status}
 use Rattle.exit_status.specs.declared.status.Status.TheVariants as status
 use Rattle.lbfs_run.specs.Telling.{Tells}
 
--- how many sessions were served, and how many changes the server's journal tells
-abbrev pub served_text : (sessions changes : ℕ) → List ℕ
-served_text sessions changes = codes "sessions " ++ decimal sessions ++ codes " journal " ++ decimal changes ++ codes "\n"
+-- how many sessions were served, and how long the journal of the changes was in the end
+abbrev pub served_text : (sessions front : ℕ) → List ℕ
+served_text sessions front = codes "sessions " ++ decimal sessions ++ codes " journal " ++ decimal front ++ codes "\n"
 
 abbrev pub record_text : (which : ℕ) → List ℕ
 record_text which = codes "store record " ++ decimal which ++ codes "\n"
@@ -24,7 +24,7 @@ fault_text = codes "store fault\n"
 
 -- the status, and what is written
 abbrev pub serve_output : Result Served ServeError → Status × List ℕ
-serve_output (Ok s) = (status.Done, served_text s.sessions s.changes)
+serve_output (Ok s) = (status.Done, served_text s.sessions s.front)
 serve_output (Err errors.Network) = (status.Network, [])
 serve_output (Err errors.Store) = (status.Store, fault_text)
 serve_output (Err (errors.BadRecord which)) = (status.Store, record_text which)

@@ -4,9 +4,11 @@
 //! are told to.
 //!
 //! What each status says stands in the clauses of `run::run`: of `replay`, `gen`, `cut` and `show` by the
-//! definitions of `plain`, of `serve` by `specs/Serving.antt`, of `mount` by `specs/Mounting.antt`.
+//! definitions of `plain`, of `serve` by `specs/Serving.antt`, of `mount` by `specs/Mounting.antt`, of `check` by
+//! `specs/Checking.antt`.
 #![tactic(auto)]
 
+mod checking;
 mod chunk_lines;
 mod law;
 mod mounting;

@@ -13,16 +13,19 @@ ghost use Rattle.program_words.specs.declared.asked.SeedCommand.TheVariants as s
 ghost use Rattle.program_words.specs.declared.asked.Command.TheVariants.{OfInput, OfSeed};
 ghost use Rattle.program_words.specs.declared.asked.ServeOptions.{ServeOptions};
 ghost use Rattle.program_words.specs.declared.asked.MountOptions.{MountOptions};
+ghost use Rattle.program_words.specs.declared.asked.CheckOptions.{CheckOptions};
 ghost use Rattle.program_words.specs.declared.asked.Asked.TheVariants as ask;
 ghost use Rattle.exit_status.specs.declared.status.Status.TheVariants as status;
 ghost use Rattle.lbfs_run.specs.Output.{IsWhole};
 ghost use Rattle.lbfs_run.specs.PlainEnds.{IsAnswered, IsAnsweredFrom, IsBegun, IsBegunFrom, IsBroken, IsBrokenFrom, IsPlainEnd, IsReplayed, IsRun};
 ghost use Rattle.lbfs_mount.specs.Mounts.{IsFaulty};
+ghost use Rattle.lbfs_run.specs.Checking.{CheckEnds};
 ghost use Rattle.lbfs_run.specs.Ends.{StoreFails, takes_input};
 ghost use Rattle.lbfs_run.specs.Mounting.{MountEnds};
 ghost use Rattle.lbfs_run.specs.Serving.{ServeEnds};
 ghost use Rattle.lbfs_run.specs.Words.{words_as_bytes};
 
+use crate::checking::run_check;
 use crate::mounting::run_mount;
 use crate::outside::Outside;
 use crate::serving::run_serve;
@@ -38,7 +41,8 @@ use program_words::words::asked_of;
 use std::alloc::Global;
 use std::sync::Wait;
 use std::thread::Threads;
-use store::store::Store;
+use synced_store::checks::Checks;
+use synced_store::syncs::Synced;
 
 /// A run of a command that needs nothing but the source and the sink, or the refusal of the words. No
 /// link is left over.
@@ -94,7 +98,7 @@ pub fn run_asked<
     H: Threads + Wait + Sync,
     S: Source + Drop,
     K: Sink + Drop,
-    D: Store + Drop + Send,
+    D: Synced + Checks + Drop + Send,
     F: Files + Drop + Send,
     N: Network + Drop,
     C: Clock + Sync,
@@ -130,6 +134,8 @@ where
     ensures unfiled { (o : ServeOptions) → asked ≡ Some (ask.Serve o) → result.1.files ≡ out.files }
     ensures mounts { (o : MountOptions) → asked ≡ Some (ask.Mount o) → MountEnds (S.left out.source) (S.left result.1.source) (K.held out.sink) (K.held result.1.sink) (S.faults out.source) (S.faults result.1.source) (K.faults out.sink) (N.faults out.network) (N.faults result.1.network) (IsFaulty N.L.faults result.2) result.0 }
     ensures unstored { (o : MountOptions) → asked ≡ Some (ask.Mount o) → result.1.store ≡ out.store }
+    ensures checks { (o : CheckOptions) → asked ≡ Some (ask.Check o) → CheckEnds (D.faults out.store) (D.faults result.1.store) (D.records out.store) (K.held out.sink) (K.held result.1.sink) result.0 }
+    ensures unchanged { (o : CheckOptions) → asked ≡ Some (ask.Check o) → (D.records result.1.store ≡ D.records out.store) × (result.1.files ≡ out.files) × (result.1.network ≡ out.network) }
     ensures network_fault { result.0 ≡ status.Network → Rose (N.faults out.network) (N.faults result.1.network) ⊎ IsFaulty N.L.faults result.2 }
     ensures store_fault { result.0 ≡ status.Store → StoreFails (D.faults out.store) (D.faults result.1.store) (D.records out.store) (K.held out.sink) (K.held result.1.sink) }
 {
@@ -137,6 +143,7 @@ where
         Some(Asked::Command(command)) => run_plain(alloc, Some(command), out),
         Some(Asked::Serve(options)) => run_serve(rt, alloc, &options, out),
         Some(Asked::Mount(options)) => run_mount(rt, alloc, options, out),
+        Some(Asked::Check(options)) => run_check(alloc, &options, out),
         None => run_plain(alloc, None, out),
     }
 }
@@ -155,9 +162,10 @@ where
 /// `broken_off`). With `Memory` (6) nothing was written, or a front of the output (`starved`,
 /// `starved_off`). The store, the files and the network are untouched (`apart`).
 ///
-/// `serve` ends in one of the ways of `ServeEnds`, and `mount` in one of `MountEnds`, each with its
-/// cause and what was written (`serves`, `mounts`). `serve` touches neither the source nor the files,
-/// and `mount` not the store (`unread`, `unfiled`, `unstored`).
+/// `serve` ends in one of the ways of `ServeEnds`, `mount` in one of `MountEnds`, and `check` in one of
+/// `CheckEnds`, each with its cause and what was written (`serves`, `mounts`, `checks`). `serve` touches
+/// neither the source nor the files, `mount` not the store, and `check` changes nothing (`unread`,
+/// `unfiled`, `unstored`, `unchanged`).
 ///
 /// Of all words: with `ReadFault` the source failed and its faults rose, with `WriteFault` the sink's, with
 /// `Network` (7) the network's, or `mount` dialled a link that has no twin, which is then given back with
@@ -169,7 +177,7 @@ pub fn run<
     H: Threads + Wait + Sync,
     S: Source + Drop,
     K: Sink + Drop,
-    D: Store + Drop + Send,
+    D: Synced + Checks + Drop + Send,
     F: Files + Drop + Send,
     N: Network + Drop,
     C: Clock + Sync,
@@ -205,6 +213,8 @@ where
     ensures unfiled { (o : ServeOptions) → asked_of (words_as_bytes words.now) ≡ Some (ask.Serve o) → result.1.files ≡ out.files }
     ensures mounts { (o : MountOptions) → asked_of (words_as_bytes words.now) ≡ Some (ask.Mount o) → MountEnds (S.left out.source) (S.left result.1.source) (K.held out.sink) (K.held result.1.sink) (S.faults out.source) (S.faults result.1.source) (K.faults out.sink) (N.faults out.network) (N.faults result.1.network) (IsFaulty N.L.faults result.2) result.0 }
     ensures unstored { (o : MountOptions) → asked_of (words_as_bytes words.now) ≡ Some (ask.Mount o) → result.1.store ≡ out.store }
+    ensures checks { (o : CheckOptions) → asked_of (words_as_bytes words.now) ≡ Some (ask.Check o) → CheckEnds (D.faults out.store) (D.faults result.1.store) (D.records out.store) (K.held out.sink) (K.held result.1.sink) result.0 }
+    ensures unchanged { (o : CheckOptions) → asked_of (words_as_bytes words.now) ≡ Some (ask.Check o) → (D.records result.1.store ≡ D.records out.store) × (result.1.files ≡ out.files) × (result.1.network ≡ out.network) }
     ensures network_fault { result.0 ≡ status.Network → Rose (N.faults out.network) (N.faults result.1.network) ⊎ IsFaulty N.L.faults result.2 }
     ensures store_fault { result.0 ≡ status.Store → StoreFails (D.faults out.store) (D.faults result.1.store) (D.records out.store) (K.held out.sink) (K.held result.1.sink) }
 {
@@ -220,7 +230,7 @@ pub fn status_of<
     H: Threads + Wait + Sync,
     S: Source + Drop,
     K: Sink + Drop,
-    D: Store + Drop + Send,
+    D: Synced + Checks + Drop + Send,
     F: Files + Drop + Send,
     N: Network + Drop,
     C: Clock + Sync + Drop,

@@ -24,15 +24,15 @@ use std::alloc::{AllocError, Global};
 use std::fmt::Write;
 use std::sync::Wait;
 use std::thread::Threads;
-use store::store::Store;
+use synced_store::syncs::Synced;
 
-/// The line of a server that served so many sessions and made so many changes.
+/// The line of a server that served so many sessions, and whose journal was so long in the end.
 fn served_text(alloc: Global, served: Served) -> Result<Bytes, AllocError>
-    ensures { IfOk result (λ text. text ≡ served_text served.sessions served.changes) }
+    ensures { IfOk result (λ text. text ≡ served_text served.sessions served.front) }
 {
-    let Served { sessions, changes } = served;
+    let Served { sessions, front } = served;
     let mut text = String::new(alloc);
-    write!(text, "sessions {sessions} journal {changes}\n")?;
+    write!(text, "sessions {sessions} journal {front}\n")?;
     Ok(Items::from_vec(text.into_bytes()))
 }
 
@@ -76,7 +76,7 @@ pub(crate) fn run_serve<
     H: Threads + Wait + Sync,
     S,
     K: Sink,
-    D: Store + Drop + Send,
+    D: Synced + Drop + Send,
     F,
     N: Network + Drop,
     C: Clock + Sync,

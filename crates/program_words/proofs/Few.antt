@@ -14,7 +14,7 @@ use Rattle.program_words.specs.declared.asked.Command.TheVariants.{OfInput, OfSe
 use Rattle.program_words.specs.declared.asked.Asked.{Asked}
 use Rattle.program_words.specs.declared.asked.Asked.TheVariants as asked
 use Rattle.program_words.specs.Line.{lbfs}
-use Rattle.program_words.specs.Words.{given, if_given, is_set, view_of, replay_with, replay_of, gen_of, serve_with, serve_of, mount_of, named_of, entered_of, unless_fault, asked_of, command_in, IsFew}
+use Rattle.program_words.specs.Words.{given, if_given, is_set, view_of, replay_with, replay_of, gen_of, serve_with, serve_of, mount_of, check_of, named_of, entered_of, unless_fault, asked_of, command_in, IsFew}
 
 -- of what is there, if it is
 abbrev Holds : {A : Type 0} → (A → Type 0) → Option A → Type 0
@@ -114,6 +114,9 @@ of_mount rows =
     no_trace (given 1 PORT_MOST (codes "port") rows) _ (λ p.
     no_trace (given 0 DRIFT_MOST (codes "drift") rows) _ (λ e. tt))
 
+of_check : (rows : List Row) → Holds Fits (check_of rows)
+of_check rows = no_trace (first_of (codes "store") rows) _ (λ place. tt)
+
 of_named : (name : Text) (rows : List Row) → Holds Fits (named_of name rows)
 of_named name rows =
     by_test Fits (bytes_eq name (codes "replay")) (replay_of rows) _ (of_replay rows)
@@ -121,7 +124,8 @@ of_named name rows =
     (by_test Fits (bytes_eq name (codes "cut")) (Some (asked.Command (OfInput input.Cut))) _ tt
     (by_test Fits (bytes_eq name (codes "show")) (Some (asked.Command (OfInput input.Show))) _ tt
     (by_test Fits (bytes_eq name (codes "serve")) (serve_of rows) _ (of_serve rows)
-    (by_test Fits (bytes_eq name (codes "mount")) (mount_of rows) None (of_mount rows) tt)))))
+    (by_test Fits (bytes_eq name (codes "mount")) (mount_of rows) _ (of_mount rows)
+    (by_test Fits (bytes_eq name (codes "check")) (check_of rows) None (of_check rows) tt))))))
 
 of_entered : (o : Option (Text × List Row)) → Holds Fits (entered_of o)
 of_entered None = tt
@@ -141,6 +145,7 @@ command_fits (Some (asked.Command (OfInput c))) h = tt
 command_fits (Some (asked.Command (OfSeed s n c))) h = h
 command_fits (Some (asked.Serve o)) h = tt
 command_fits (Some (asked.Mount o)) h = tt
+command_fits (Some (asked.Check o)) h = tt
 
 pub few : (words : List Text) → IsFew (command_in (asked_of words))
 few words = command_fits (asked_of words) (all_fit words)

@@ -26,17 +26,20 @@ abbrev pub gen : App
 gen = with_rule (with_rule (new_app (codes "gen")) (placed (codes "seed"))) (placed (codes "blocks"))
 
 abbrev pub serve : App
-serve = with_rule (with_rule (with_rule (with_rule (new_app (codes "serve")) (required (codes "port"))) (required (codes "term"))) (required (codes "sessions"))) (required (codes "store"))
+serve = with_rule (with_rule (with_rule (with_rule (with_rule (new_app (codes "serve")) (required (codes "port"))) (required (codes "term"))) (required (codes "sessions"))) (required (codes "store"))) (flag (codes "unsynced"))
 
 abbrev pub mount : App
 mount = with_rule (with_rule (new_app (codes "mount")) (required (codes "port"))) (required (codes "drift"))
+
+abbrev pub check : App
+check = with_rule (new_app (codes "check")) (required (codes "store"))
 
 -- the words are those behind the program's name, and a command stands among them
 abbrev pub named : App
 named = record (new_app (codes "lbfs")) { top = record (new_app (codes "lbfs")).top { no_binary_name = true; subcommand_required = true } }
 
 abbrev pub with_commands : App → App
-with_commands a = with_subcommand (with_subcommand (with_subcommand (with_subcommand (with_subcommand (with_subcommand a replay.top) gen.top) (new_app (codes "cut")).top) (new_app (codes "show")).top) serve.top) mount.top
+with_commands a = with_subcommand (with_subcommand (with_subcommand (with_subcommand (with_subcommand (with_subcommand (with_subcommand a replay.top) gen.top) (new_app (codes "cut")).top) (new_app (codes "show")).top) serve.top) mount.top) check.top
 
 -- all commands of the program
 unfoldable pub lbfs : App

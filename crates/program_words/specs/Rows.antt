@@ -1,5 +1,5 @@
 -- Worked words.
-use Rattle.std.specs.Prelude.{◌≡◌, ℕ, List, [], ◌∷◌, Option, Some, None, codes, true, refl, map, replicate}
+use Rattle.std.specs.Prelude.{◌≡◌, ℕ, List, [], ◌∷◌, Option, Some, None, Bool, codes, true, false, refl, map, replicate}
 use Rattle.clap.specs.Words.{is_simple_and_free}
 use Rattle.clap.proofs.OnLiterals.{clap_on_literals}
 use Rattle.command_text.specs.Parts.{words_of}
@@ -25,8 +25,14 @@ said lines = map (λ line. asked_of (words_of line)) lines
 abbrev mount : (port drift : ℕ) → Option Asked
 mount p e = Some (asked.Mount (record { port = p; drift = e }))
 
+abbrev serve_as : Bool → (port term sessions : ℕ) → (store : List ℕ) → Option Asked
+serve_as u p t n d = Some (asked.Serve (record { port = p; term = t; sessions = n; store = d; unsynced = u }))
+
 abbrev serve : (port term sessions : ℕ) → (store : List ℕ) → Option Asked
-serve p t n d = Some (asked.Serve (record { port = p; term = t; sessions = n; store = d }))
+serve p t n d = serve_as false p t n d
+
+abbrev check : (store : List ℕ) → Option Asked
+check d = Some (asked.Check (record { store = d }))
 
 abbrev on_input : InputCommand → Option Asked
 on_input c = Some (asked.Command (OfInput c))
@@ -42,6 +48,15 @@ mounts = refl
 serves : said (codes "serve --port 7000 --term 1000 --sessions 1 --store d" ∷ codes "serve --store=d/e --sessions 4294967295 --term 1 --port 1" ∷ []) ≡ (serve 7000 1000 1 (codes "d") ∷ serve 1 1 4294967295 (codes "d/e") ∷ [])
 unfolding clap_on_literals lbfs asked_of
 serves = refl
+
+-- changes may be left unflushed; and a store is looked over
+unsynced : said (codes "serve --port 7000 --term 1000 --sessions 1 --store d --unsynced" ∷ codes "serve --unsynced --store=d --sessions 2 --term 1 --port 1" ∷ []) ≡ (serve_as true 7000 1000 1 (codes "d") ∷ serve_as true 1 1 2 (codes "d") ∷ [])
+unfolding clap_on_literals lbfs asked_of
+unsynced = refl
+
+checks : said (codes "check --store d" ∷ codes "check --store=d/e" ∷ codes "check" ∷ codes "check d" ∷ codes "check --store" ∷ codes "check --store d --store e" ∷ codes "check --store d --port 1" ∷ codes "serve --port 7000 --term 1000 --sessions 1 --store d --unsynced=true" ∷ codes "mount --port 7000 --drift 1 --unsynced" ∷ []) ≡ (check (codes "d") ∷ check (codes "d/e") ∷ replicate 7 None)
+unfolding clap_on_literals lbfs asked_of
+checks = refl
 
 -- a word `--` says that no option follows
 parted_off : said (codes "mount --port 7000 --drift 100 --" ∷ codes "mount -- --port 7000 --drift 100" ∷ []) ≡ (mount 7000 100 ∷ None ∷ [])

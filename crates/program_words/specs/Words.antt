@@ -61,7 +61,7 @@ serve_with rows place =
     given 1 PORT_MOST (codes "port") rows >>= λ p.
     given 1 TERM_MOST (codes "term") rows >>= λ t.
     given 1 SESSIONS_EVER_MOST (codes "sessions") rows >>= λ n.
-    Some (asked.Serve (record { port = p; term = t; sessions = n; store = place }))
+    Some (asked.Serve (record { port = p; term = t; sessions = n; store = place; unsynced = is_set (first_of (codes "unsynced") rows) }))
 
 abbrev pub serve_of : List Row → Option Asked
 serve_of rows = first_of (codes "store") rows >>= λ place. serve_with rows place
@@ -72,6 +72,9 @@ mount_of rows =
     given 0 DRIFT_MOST (codes "drift") rows >>= λ e.
     Some (asked.Mount (record { port = p; drift = e }))
 
+abbrev pub check_of : List Row → Option Asked
+check_of rows = first_of (codes "store") rows >>= λ place. Some (asked.Check (record { store = place }))
+
 -- what the command of this name asks for, by what its options were given
 abbrev pub named_of : Text → List Row → Option Asked
 named_of name rows =
@@ -81,6 +84,7 @@ named_of name rows =
     else if bytes_eq name (codes "show") then Some (asked.Command (OfInput input.Show))
     else if bytes_eq name (codes "serve") then serve_of rows
     else if bytes_eq name (codes "mount") then mount_of rows
+    else if bytes_eq name (codes "check") then check_of rows
     else None
 
 abbrev pub entered_of : Option (Text × List Row) → Option Asked

@@ -97,6 +97,15 @@ pub struct ServeOptions {
     pub sessions: u32,
     /// Where the store is.
     pub store: StorePath,
+    /// `--unsynced`: changes aren't flushed to the disk before they are told.
+    pub unsynced: bool,
+}
+
+/// Which store is looked over.
+#[derive(Drop)]
+pub struct CheckOptions {
+    /// Where it is.
+    pub store: StorePath,
 }
 
 /// How a server's tree is mounted.
@@ -118,4 +127,6 @@ pub enum Asked {
     Serve(ServeOptions),
     /// `mount`: the input's lines are commands on a server's tree.
     Mount(MountOptions),
+    /// `check`: a store is looked over, and stays as it is.
+    Check(CheckOptions),
 }

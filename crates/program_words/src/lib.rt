@@ -4,4 +4,5 @@
 
 pub mod asked;
 mod line;
+pub mod refusal;
 pub mod words;

@@ -2,7 +2,7 @@
 
 ghost use Rattle.std.specs.Prelude.{◌≡◌, IfOk, true, false};
 ghost use Rattle.clap.specs.Words.{App, Rule, app_of, rule_of, with_rule, with_subcommand};
-ghost use Rattle.program_words.specs.Line.{optional, required, flag, placed, replay, gen, serve, mount, lbfs, named, with_commands};
+ghost use Rattle.program_words.specs.Line.{optional, required, flag, placed, replay, gen, serve, mount, check, lbfs, named, with_commands};
 
 use clap::{Arg, ArgAction, Command};
 use std::alloc::{AllocError, Global};
@@ -82,7 +82,8 @@ fn serve_line<'a>(alloc: Global) -> Result<Command<'a>, AllocError>
     let command = with(Ok(Command::new(alloc, "serve")), required(alloc, "port"));
     let command = with(command, required(alloc, "term"));
     let command = with(command, required(alloc, "sessions"));
-    with(command, required(alloc, "store"))
+    let command = with(command, required(alloc, "store"));
+    with(command, flag(alloc, "unsynced"))
 }
 
 /// `mount` and its options.
@@ -91,6 +92,13 @@ fn mount_line<'a>(alloc: Global) -> Result<Command<'a>, AllocError>
 {
     let command = with(Ok(Command::new(alloc, "mount")), required(alloc, "port"));
     with(command, required(alloc, "drift"))
+}
+
+/// `check` and its option.
+fn check_line<'a>(alloc: Global) -> Result<Command<'a>, AllocError>
+    ensures { IfOk result (λ c. app_of c ≡ check) }
+{
+    with(Ok(Command::new(alloc, "check")), required(alloc, "store"))
 }
 
 /// A command with a command more below it; an error of either is `AllocError`.
@@ -126,7 +134,8 @@ fn with_commands<'a>(alloc: Global, named: Command<'a>) -> Result<Command<'a>, A
     let all = below(all, Ok(Command::new(alloc, "cut")));
     let all = below(all, Ok(Command::new(alloc, "show")));
     let all = below(all, serve_line(alloc));
-    below(all, mount_line(alloc))
+    let all = below(all, mount_line(alloc));
+    below(all, check_line(alloc))
 }
 
 /// All commands of the program. The one error is want of memory.

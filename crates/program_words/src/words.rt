@@ -5,11 +5,11 @@ ghost use Rattle.std.specs.Option.{option_map};
 ghost use Rattle.limits.specs.declared.TheConstants.{SESSIONS_EVER_MOST};
 ghost use Rattle.program_words.specs.declared.asked.TheConstants.{PORT_MOST};
 ghost use Rattle.clap.specs.Words.{first_of, found_of, rows_of, subcommand_rows_of};
-ghost use Rattle.program_words.specs.Words.{given, if_given, is_set, view_of, replay_with, replay_of, gen_of, serve_of, mount_of, named_of, entered_of, asked_of, command_in, IsFew};
+ghost use Rattle.program_words.specs.Words.{given, if_given, is_set, view_of, replay_with, replay_of, gen_of, serve_of, mount_of, check_of, named_of, entered_of, asked_of, command_in, IsFew};
 
 use crate::asked::{
-    Asked, Command, InputCommand, MountOptions, PORT_MOST, SEED_MOST, SeedCommand, ServeOptions,
-    StorePath, View,
+    Asked, CheckOptions, Command, InputCommand, MountOptions, PORT_MOST, SEED_MOST, SeedCommand,
+    ServeOptions, StorePath, View,
 };
 use crate::line::lbfs;
 use clap::ArgMatches;
@@ -22,7 +22,7 @@ use trace_generator::BLOCKS_MOST;
 // ---- values of options
 
 /// What an option was given first.
-fn first<'a>(name: &str, matches: &ArgMatches<'a>) -> Option<&'a str>
+pub(crate) fn first<'a>(name: &str, matches: &ArgMatches<'a>) -> Option<&'a str>
     ensures { option_map (λ s. s.now) result ≡ first_of name.now (rows_of (found_of matches.now)) }
 {
     matches.get_str(name)
@@ -139,6 +139,7 @@ fn serve_of(alloc: Global, matches: &ArgMatches) -> Result<Option<Asked>, AllocE
                 term,
                 sessions,
                 store: StorePath::copy_of(alloc, path)?,
+                unsynced: is_set("unsynced", matches),
             })))
         }
         _ => Ok(None),
@@ -152,6 +153,18 @@ fn mount_of(matches: &ArgMatches) -> Option<Asked>
     let port = port_of(matches)?;
     let drift = given(0, DRIFT_MOST, "drift", matches)?;
     Some(Asked::Mount(MountOptions { port, drift }))
+}
+
+/// The option of `check`.
+fn check_of(alloc: Global, matches: &ArgMatches) -> Result<Option<Asked>, AllocError>
+    ensures { IfOk result (λ asked. asked ≡ check_of (rows_of (found_of matches.now))) }
+{
+    match first("store", matches) {
+        Some(path) => Ok(Some(Asked::Check(CheckOptions {
+            store: StorePath::copy_of(alloc, path)?,
+        }))),
+        None => Ok(None),
+    }
 }
 
 /// What the command of this name asks for.
@@ -170,6 +183,8 @@ fn named_of(alloc: Global, name: &str, matches: &ArgMatches) -> Result<Option<As
         serve_of(alloc, matches)
     } else if name == "mount" {
         Ok(mount_of(matches))
+    } else if name == "check" {
+        check_of(alloc, matches)
     } else {
         Ok(None)
     }

@@ -1,4 +1,6 @@
+pub mod Broken
 pub mod Climbs
+pub mod Counted
 pub mod Keeps
 pub mod Loading
 pub mod Parting

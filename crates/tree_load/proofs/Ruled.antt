@@ -25,11 +25,11 @@ use Rattle.tree_load.specs.Load.{first_node, first_named, first_content, place_o
 
 -- ---- by what stands with them
 
-directory_same : (o : Option (ℕ × NodeRecord)) → is_directory_at (node_found o) ≡ is_directory_found o
+pub directory_same : (o : Option (ℕ × NodeRecord)) → is_directory_at (node_found o) ≡ is_directory_found o
 directory_same None = refl
 directory_same (Some p) = refl
 
-file_same : (k : ℕ) (o : Option (ℕ × NodeRecord)) → is_file_by k (node_found o) ≡ is_its_files k o
+pub file_same : (k : ℕ) (o : Option (ℕ × NodeRecord)) → is_file_by k (node_found o) ≡ is_its_files k o
 file_same k None = refl
 file_same k (Some p) = refl
 

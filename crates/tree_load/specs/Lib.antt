@@ -5,3 +5,7 @@ pub mod Load
 pub mod Loads
 pub mod Making
 pub mod Rows
+pub mod Rules
+pub mod Counts
+pub mod RuleRows
+pub mod Breaches

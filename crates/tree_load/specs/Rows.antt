@@ -21,16 +21,16 @@ long = replicate 256 97
 abbrev longest : List ℕ
 longest = replicate 255 97
 
-abbrev head : ℕ → ℕ → Kept
+abbrev pub head : ℕ → ℕ → Kept
 head next changes = kept.Head (record { next = next; changes = changes })
 
-abbrev kept_file : ℕ → ℕ → List ℕ → Kept
+abbrev pub kept_file : ℕ → ℕ → List ℕ → Kept
 kept_file id parent name = kept.Node (record { id = id; parent = parent; kind = node_kind.File; name = name })
 
-abbrev kept_directory : ℕ → ℕ → List ℕ → Kept
+abbrev pub kept_directory : ℕ → ℕ → List ℕ → Kept
 kept_directory id parent name = kept.Node (record { id = id; parent = parent; kind = node_kind.Directory; name = name })
 
-abbrev kept_content : ℕ → ℕ → List ℕ → Kept
+abbrev pub kept_content : ℕ → ℕ → List ℕ → Kept
 kept_content id version bytes = kept.Content (record { id = id; version = version; bytes = bytes })
 
 abbrev told : Result Tree ℕ → Option ℕ

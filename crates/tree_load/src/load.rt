@@ -14,7 +14,7 @@ use store::record::{Head, Kept};
 use tree_nodes::nodes::Nodes;
 
 /// The head that is the first record, if it is one.
-fn first_head(records: &[Kept]) -> Option<Head>
+pub(crate) fn first_head(records: &[Kept]) -> Option<Head>
     ensures { result ≡ first_head records.now }
 {
     match records.first() {

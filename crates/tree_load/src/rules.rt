@@ -63,7 +63,7 @@ pub fn learn<'a>(alloc: Global, records: &'a [Kept]) -> Result<Known<'a>, AllocE
 }
 
 /// What stands with a node.
-fn stands_with<'a>(
+pub fn stands_with<'a>(
     records: &[Kept],
     known: &Known<'a>,
     place: usize,
@@ -100,14 +100,14 @@ pub fn is_head_well(head: Head) -> bool
 }
 
 /// Whether a name may stand in a directory.
-fn is_name_well(name: &[u8]) -> bool
+pub fn is_name_well(name: &[u8]) -> bool
     ensures { result ≡ is_name_well name.now }
 {
     names::spelt(name).is_ok() && !names::is_dot(name) && !names::is_dot_dot(name)
 }
 
 /// Whether this is the place.
-fn is_at(place: usize, found: Option<usize>) -> bool
+pub fn is_at(place: usize, found: Option<usize>) -> bool
     ensures { result ≡ is_at place found }
 {
     match found {
@@ -117,7 +117,7 @@ fn is_at(place: usize, found: Option<usize>) -> bool
 }
 
 /// The place of what was found.
-fn found_place(found: Option<Found>) -> Option<usize>
+pub fn found_place(found: Option<Found>) -> Option<usize>
     ensures { result ≡ found_place found }
 {
     match found {
@@ -137,7 +137,7 @@ fn is_directory_kind(kind: NodeKind) -> bool
 }
 
 /// Whether what was found is a directory.
-fn is_directory_at(found: Option<Found>) -> bool
+pub fn is_directory_at(found: Option<Found>) -> bool
     ensures { result ≡ is_directory_at found }
 {
     match found {
@@ -157,7 +157,7 @@ fn is_before(place: usize, found: Option<usize>) -> bool
 }
 
 /// Whether a file has its content, and a directory none before it.
-fn fits(kind: NodeKind, place: usize, content: Option<usize>) -> bool
+pub fn fits(kind: NodeKind, place: usize, content: Option<usize>) -> bool
     ensures { result ≡ fits kind place content }
 {
     match kind {
@@ -181,7 +181,7 @@ fn is_node_well(head: Head, place: usize, node: &NodeRecord, around: Around) -> 
 }
 
 /// Whether a content's node isn't a directory before it.
-fn is_file_at(place: usize, found: Option<Found>) -> bool
+pub fn is_file_at(place: usize, found: Option<Found>) -> bool
     ensures { result ≡ is_file_by place found }
 {
     match found {
@@ -212,7 +212,7 @@ fn is_content_well(
 }
 
 /// How many bytes a content has.
-fn size_of(one: &Kept) -> u64
+pub fn size_of(one: &Kept) -> u64
     ensures { result ≡ size_of one.now }
 {
     match one {

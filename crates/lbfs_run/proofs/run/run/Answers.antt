@@ -1,6 +1,7 @@
 use Rattle.std.proofs.Common.{◌≡◌, Err, refl, ap, ◌∙◌, inl}
 use Rattle.lbfs_mount.specs.declared.mount_error.MountError.TheVariants as mount_errors
 use Rattle.lbfs_server.specs.declared.serve.ServeError.TheVariants as serve_errors
+use Rattle.store.specs.declared.store.StoreError.TheVariants as store_errors
 use Rattle.program_words.specs.declared.asked.View.TheVariants.{History}
 use Rattle.program_words.specs.Rows.{replay_alone}
 use Rattle.program_words.specs.Words.{asked_of, command_in, command_of, is_alone}
@@ -135,3 +136,21 @@ returns-in-Err-clause-serves g c =
 pub returns-in-Err-clause-mounts : goal.returns-in-Err-clause-mounts
 returns-in-Err-clause-mounts g c =
     λ o e. (Err mount_errors.Memory, (g.K.Sink.held c.args.out.sink), g.K.Sink.faults c.args.out.sink, nothing_written (g.K.Sink.held c.args.out.sink), inl (refl, nothing (g.K.Sink.held c.args.out.sink)))
+
+pub returns-in-Ok-clause-checks : goal.returns-in-Ok-clause-checks
+returns-in-Ok-clause-checks g c =
+    let is : c.in-Ok.asked ≡ asked_of (words_as_bytes c.args.words.now) = c.in-Ok.ensures.asked in
+    λ o e. c.run_asked.ensures.checks o (is ∙ e)
+
+pub returns-in-Ok-clause-unchanged : goal.returns-in-Ok-clause-unchanged
+returns-in-Ok-clause-unchanged g c =
+    let is : c.in-Ok.asked ≡ asked_of (words_as_bytes c.args.words.now) = c.in-Ok.ensures.asked in
+    λ o e. c.run_asked.ensures.unchanged o (is ∙ e)
+
+pub returns-in-Err-clause-checks : goal.returns-in-Err-clause-checks
+returns-in-Err-clause-checks g c =
+    λ o e. (Err store_errors.Memory, tt, inl (refl, nothing (g.K.Sink.held c.args.out.sink)))
+
+pub returns-in-Err-clause-unchanged : goal.returns-in-Err-clause-unchanged
+returns-in-Err-clause-unchanged g c =
+    λ o e. (refl, refl, refl)

@@ -3,7 +3,7 @@ use Rattle.program_words.specs.declared.asked.Command.{Command}
 use Rattle.program_words.specs.declared.asked.Asked.TheVariants as ask
 use Rattle.program_words.specs.Words.{command_in, is_alone}
 use Rattle.lbfs_run.specs.Ends.{takes_input}
-use Rattle.lbfs_run.proofs.Asking.{answered_by, taken_by, broken_by, broken_off_by, starved_by, starved_off_by, not_serve, not_mount, not_both, not_some, no_command, no_both, same_serve, serves_by, stays}
+use Rattle.lbfs_run.proofs.Asking.{answered_by, taken_by, broken_by, broken_off_by, starved_by, starved_off_by, not_serve, not_mount, not_check, not_both, check_not_serve, check_not_mount, not_some, no_command, no_both, same_serve, serves_by, stays}
 use Rattle.lbfs_run.proofs.run.run_asked.Goals as goal
 
 pub returns-in-Some-Command-clause-replayed : goal.returns-in-Some-Command-clause-replayed
@@ -426,3 +426,156 @@ pub returns-in-None-clause-unstored : goal.returns-in-None-clause-unstored
 returns-in-None-clause-unstored g c =
     let is : c.args.asked ≡ None = c.in-None.is in
     λ o e. not_some c.args.asked (ask.Mount o) is e
+
+pub returns-in-Some-Check-clause-replayed : goal.returns-in-Some-Check-clause-replayed
+returns-in-Some-Check-clause-replayed g c =
+    let is : c.args.asked ≡ Some (ask.Check c.in-Some-Check.options) = c.in-Some-Check.is ∙ ap Some c.in-Some-Check.field-0-is in
+    λ view asks done trace told. no_command c.args.asked _ (ap command_in is) asks
+
+pub returns-in-Some-Check-clause-generated : goal.returns-in-Some-Check-clause-generated
+returns-in-Some-Check-clause-generated g c =
+    let is : c.args.asked ≡ Some (ask.Check c.in-Some-Check.options) = c.in-Some-Check.is ∙ ap Some c.in-Some-Check.field-0-is in
+    λ view seed blocks asks done. no_command c.args.asked _ (ap command_in is) asks
+
+pub returns-in-Some-Check-clause-accepted : goal.returns-in-Some-Check-clause-accepted
+returns-in-Some-Check-clause-accepted g c =
+    let is : c.args.asked ≡ Some (ask.Check c.in-Some-Check.options) = c.in-Some-Check.is ∙ ap Some c.in-Some-Check.field-0-is in
+    λ seed blocks made asks refused. no_command c.args.asked _ (ap command_in is) asks
+
+pub returns-in-Some-Check-clause-read_again : goal.returns-in-Some-Check-clause-read_again
+returns-in-Some-Check-clause-read_again g c =
+    let is : c.args.asked ≡ Some (ask.Check c.in-Some-Check.options) = c.in-Some-Check.is ∙ ap Some c.in-Some-Check.field-0-is in
+    λ view seed blocks asks few told refused. no_command c.args.asked _ (ap command_in is) asks
+
+pub returns-in-Some-Check-clause-answered : goal.returns-in-Some-Check-clause-answered
+returns-in-Some-Check-clause-answered g c =
+    let is : c.args.asked ≡ Some (ask.Check c.in-Some-Check.options) = c.in-Some-Check.is ∙ ap Some c.in-Some-Check.field-0-is in
+    λ alone h. no_both (is_alone c.args.asked) (ap is_alone is) alone
+
+pub returns-in-Some-Check-clause-taken : goal.returns-in-Some-Check-clause-taken
+returns-in-Some-Check-clause-taken g c =
+    let is : c.args.asked ≡ Some (ask.Check c.in-Some-Check.options) = c.in-Some-Check.is ∙ ap Some c.in-Some-Check.field-0-is in
+    λ alone h. no_both (is_alone c.args.asked) (ap is_alone is) alone
+
+pub returns-in-Some-Check-clause-nothing : goal.returns-in-Some-Check-clause-nothing
+returns-in-Some-Check-clause-nothing g c =
+    let is : c.args.asked ≡ Some (ask.Check c.in-Some-Check.options) = c.in-Some-Check.is ∙ ap Some c.in-Some-Check.field-0-is in
+    λ alone h. no_both (is_alone c.args.asked) (ap is_alone is) alone
+
+pub returns-in-Some-Check-clause-broken : goal.returns-in-Some-Check-clause-broken
+returns-in-Some-Check-clause-broken g c =
+    let is : c.args.asked ≡ Some (ask.Check c.in-Some-Check.options) = c.in-Some-Check.is ∙ ap Some c.in-Some-Check.field-0-is in
+    λ alone h. no_both (is_alone c.args.asked) (ap is_alone is) alone
+
+pub returns-in-Some-Check-clause-broken_off : goal.returns-in-Some-Check-clause-broken_off
+returns-in-Some-Check-clause-broken_off g c =
+    let is : c.args.asked ≡ Some (ask.Check c.in-Some-Check.options) = c.in-Some-Check.is ∙ ap Some c.in-Some-Check.field-0-is in
+    λ alone h. no_both (is_alone c.args.asked) (ap is_alone is) alone
+
+pub returns-in-Some-Check-clause-starved : goal.returns-in-Some-Check-clause-starved
+returns-in-Some-Check-clause-starved g c =
+    let is : c.args.asked ≡ Some (ask.Check c.in-Some-Check.options) = c.in-Some-Check.is ∙ ap Some c.in-Some-Check.field-0-is in
+    λ alone h. no_both (is_alone c.args.asked) (ap is_alone is) alone
+
+pub returns-in-Some-Check-clause-starved_off : goal.returns-in-Some-Check-clause-starved_off
+returns-in-Some-Check-clause-starved_off g c =
+    let is : c.args.asked ≡ Some (ask.Check c.in-Some-Check.options) = c.in-Some-Check.is ∙ ap Some c.in-Some-Check.field-0-is in
+    λ alone h. no_both (is_alone c.args.asked) (ap is_alone is) alone
+
+pub returns-in-Some-Check-clause-known : goal.returns-in-Some-Check-clause-known
+returns-in-Some-Check-clause-known g c =
+    let is : c.args.asked ≡ Some (ask.Check c.in-Some-Check.options) = c.in-Some-Check.is ∙ ap Some c.in-Some-Check.field-0-is in
+    λ alone. no_both (is_alone c.args.asked) (ap is_alone is) alone
+
+pub returns-in-Some-Check-clause-apart : goal.returns-in-Some-Check-clause-apart
+returns-in-Some-Check-clause-apart g c =
+    let is : c.args.asked ≡ Some (ask.Check c.in-Some-Check.options) = c.in-Some-Check.is ∙ ap Some c.in-Some-Check.field-0-is in
+    λ alone. no_both (is_alone c.args.asked) (ap is_alone is) alone
+
+pub returns-in-Some-Check-clause-write_later : goal.returns-in-Some-Check-clause-write_later
+returns-in-Some-Check-clause-write_later g c =
+    c.run_check.ensures.write_later
+
+pub returns-in-Some-Check-clause-write_fault : goal.returns-in-Some-Check-clause-write_fault
+returns-in-Some-Check-clause-write_fault g c =
+    c.run_check.ensures.write_fault
+
+pub returns-in-Some-Check-clause-unread : goal.returns-in-Some-Check-clause-unread
+returns-in-Some-Check-clause-unread g c =
+    λ e. c.run_check.ensures.unread
+
+pub returns-in-Some-Check-clause-read_later : goal.returns-in-Some-Check-clause-read_later
+returns-in-Some-Check-clause-read_later g c =
+    stays g.S.Source.faults c.args.out.source c.run_check.result.1.source c.run_check.ensures.unread
+
+pub returns-in-Some-Check-clause-serves : goal.returns-in-Some-Check-clause-serves
+returns-in-Some-Check-clause-serves g c =
+    let is : c.args.asked ≡ Some (ask.Check c.in-Some-Check.options) = c.in-Some-Check.is ∙ ap Some c.in-Some-Check.field-0-is in
+    λ o e. check_not_serve c.args.asked c.in-Some-Check.options o is e
+
+pub returns-in-Some-Check-clause-unfiled : goal.returns-in-Some-Check-clause-unfiled
+returns-in-Some-Check-clause-unfiled g c =
+    let is : c.args.asked ≡ Some (ask.Check c.in-Some-Check.options) = c.in-Some-Check.is ∙ ap Some c.in-Some-Check.field-0-is in
+    λ o e. check_not_serve c.args.asked c.in-Some-Check.options o is e
+
+pub returns-in-Some-Check-clause-mounts : goal.returns-in-Some-Check-clause-mounts
+returns-in-Some-Check-clause-mounts g c =
+    let is : c.args.asked ≡ Some (ask.Check c.in-Some-Check.options) = c.in-Some-Check.is ∙ ap Some c.in-Some-Check.field-0-is in
+    λ o e. check_not_mount c.args.asked c.in-Some-Check.options o is e
+
+pub returns-in-Some-Check-clause-unstored : goal.returns-in-Some-Check-clause-unstored
+returns-in-Some-Check-clause-unstored g c =
+    let is : c.args.asked ≡ Some (ask.Check c.in-Some-Check.options) = c.in-Some-Check.is ∙ ap Some c.in-Some-Check.field-0-is in
+    λ o e. check_not_mount c.args.asked c.in-Some-Check.options o is e
+
+pub returns-in-Some-Check-clause-store_fault : goal.returns-in-Some-Check-clause-store_fault
+returns-in-Some-Check-clause-store_fault g c =
+    c.run_check.ensures.store_fault
+
+pub returns-in-Some-Check-clause-checks : goal.returns-in-Some-Check-clause-checks
+returns-in-Some-Check-clause-checks g c =
+    λ o e. c.run_check.ensures.checks
+
+pub returns-in-Some-Check-clause-unchanged : goal.returns-in-Some-Check-clause-unchanged
+returns-in-Some-Check-clause-unchanged g c =
+    λ o e. (c.run_check.ensures.kept, c.run_check.ensures.unfiled, c.run_check.ensures.apart)
+
+pub returns-in-Some-Command-clause-checks : goal.returns-in-Some-Command-clause-checks
+returns-in-Some-Command-clause-checks g c =
+    let is : c.args.asked ≡ Some (ask.Command c.in-Some-Command.command) = c.in-Some-Command.is ∙ ap Some c.in-Some-Command.field-0-is in
+    λ o e. not_check c.args.asked c.in-Some-Command.command o is e
+
+pub returns-in-Some-Command-clause-unchanged : goal.returns-in-Some-Command-clause-unchanged
+returns-in-Some-Command-clause-unchanged g c =
+    let is : c.args.asked ≡ Some (ask.Command c.in-Some-Command.command) = c.in-Some-Command.is ∙ ap Some c.in-Some-Command.field-0-is in
+    λ o e. not_check c.args.asked c.in-Some-Command.command o is e
+
+pub returns-in-Some-Serve-clause-checks : goal.returns-in-Some-Serve-clause-checks
+returns-in-Some-Serve-clause-checks g c =
+    let is : c.args.asked ≡ Some (ask.Serve c.in-Some-Serve.options) = c.in-Some-Serve.is ∙ ap Some c.in-Some-Serve.field-0-is in
+    λ o e. check_not_serve c.args.asked o c.in-Some-Serve.options e is
+
+pub returns-in-Some-Serve-clause-unchanged : goal.returns-in-Some-Serve-clause-unchanged
+returns-in-Some-Serve-clause-unchanged g c =
+    let is : c.args.asked ≡ Some (ask.Serve c.in-Some-Serve.options) = c.in-Some-Serve.is ∙ ap Some c.in-Some-Serve.field-0-is in
+    λ o e. check_not_serve c.args.asked o c.in-Some-Serve.options e is
+
+pub returns-in-Some-Mount-clause-checks : goal.returns-in-Some-Mount-clause-checks
+returns-in-Some-Mount-clause-checks g c =
+    let is : c.args.asked ≡ Some (ask.Mount c.in-Some-Mount.options) = c.in-Some-Mount.is ∙ ap Some c.in-Some-Mount.field-0-is in
+    λ o e. check_not_mount c.args.asked o c.in-Some-Mount.options e is
+
+pub returns-in-Some-Mount-clause-unchanged : goal.returns-in-Some-Mount-clause-unchanged
+returns-in-Some-Mount-clause-unchanged g c =
+    let is : c.args.asked ≡ Some (ask.Mount c.in-Some-Mount.options) = c.in-Some-Mount.is ∙ ap Some c.in-Some-Mount.field-0-is in
+    λ o e. check_not_mount c.args.asked o c.in-Some-Mount.options e is
+
+pub returns-in-None-clause-checks : goal.returns-in-None-clause-checks
+returns-in-None-clause-checks g c =
+    let is : c.args.asked ≡ None = c.in-None.is in
+    λ o e. not_some c.args.asked (ask.Check o) is e
+
+pub returns-in-None-clause-unchanged : goal.returns-in-None-clause-unchanged
+returns-in-None-clause-unchanged g c =
+    let is : c.args.asked ≡ None = c.in-None.is in
+    λ o e. not_some c.args.asked (ask.Check o) is e

@@ -1,0 +1,5 @@
+use Rattle.shell_words.proofs.Sizes.{left_size}
+use Rattle.host.proofs.host_folder.names_in.Given as goal
+
+abbrev pub decreases-names : goal.decreases-names
+decreases-names l = left_size l.rest

@@ -1,0 +1,238 @@
+//! The files and folders of the host, as a shell works with them. They tell nothing of what is in them.
+
+ghost use Rattle.std.specs.Prelude.{◌≤◌, length, IfOk};
+ghost use Rattle.limits.specs.declared.TheConstants.{FILE_MOST};
+
+use command_text::parts::first_part;
+use lb_base::items::{Bytes, Items, Name};
+use lb_base::source::{ReadError, read_all};
+use lb_base::streams::StreamSource;
+use limits::FILE_MOST;
+use shell_walks::folder::{Folder, Kind, LocalFault};
+use std::alloc::{AllocError, Global};
+use std::fs::{Metadata, OpenFile, OpenOptions};
+use std::io::{ErrorKind, Write};
+use std::rt::Files as HostDisk;
+use std::{fs, io};
+
+/// The most bytes that the names of a folder may have, each with a byte behind it.
+const LISTING_MOST: usize = 1_073_741_824;
+
+/// The files and folders of the host.
+#[derive(Drop)]
+pub struct HostFolder<R> {
+    rt: R,
+    mark: u32,
+    number: u32,
+}
+
+impl<R> HostFolder<R> {
+    /// The host's files. The mark is no other program's at the same time, as the process's number, and
+    /// the number no other thread's in the program: the file that is being written is named after them.
+    pub fn new(rt: R, mark: u32, number: u32) -> HostFolder<R> {
+        HostFolder { rt, mark, number }
+    }
+}
+
+/// Why the system didn't do it.
+fn fault_of(error: &io::Error) -> LocalFault {
+    match error.kind() {
+        ErrorKind::NotFound => LocalFault::Missing,
+        ErrorKind::AlreadyExists => LocalFault::Exists,
+        ErrorKind::IsADirectory => LocalFault::IsFolder,
+        ErrorKind::NotADirectory => LocalFault::NotFolder,
+        ErrorKind::PermissionDenied | ErrorKind::ReadOnlyFilesystem => LocalFault::Denied,
+        ErrorKind::StorageFull | ErrorKind::QuotaExceeded => LocalFault::Full,
+        ErrorKind::InvalidFilename | ErrorKind::InvalidInput => LocalFault::BadName,
+        ErrorKind::OutOfMemory => LocalFault::Memory,
+        _ => LocalFault::Failed,
+    }
+}
+
+/// The bytes of a file, where it has at most `FILE_MOST`.
+fn read_file<R: HostDisk>(rt: &R, alloc: Global, path: &str) -> Result<Bytes, LocalFault>
+    ensures { IfOk result (λ bytes. length bytes ≤ FILE_MOST) }
+{
+    let file = match fs::open(rt, path) {
+        Ok(file) => file,
+        Err(error) => return Err(fault_of(&error)),
+    };
+    let mut source = StreamSource::new(file);
+    match read_all(alloc, FILE_MOST as usize, &mut source) {
+        Ok(bytes) => Ok(Items::from_vec(bytes)),
+        Err(ReadError::Memory) => Err(LocalFault::Memory),
+        Err(ReadError::TooLong) => Err(LocalFault::TooBig),
+        Err(ReadError::Fault) => Err(LocalFault::Failed),
+    }
+}
+
+/// What is written, and what keeps its permissions where it is there.
+#[derive(Drop)]
+struct Target {
+    /// What the path leads to.
+    path: String,
+    kept: Option<Metadata>,
+}
+
+/// What a path leads to. A symbolic link that leads nowhere is none.
+fn target_of<R: HostDisk>(rt: &R, alloc: Global, path: &str) -> Result<Target, LocalFault> {
+    match rt.metadata(path) {
+        Ok(kept) => {
+            if kept.is_dir() {
+                return Err(LocalFault::IsFolder);
+            }
+            if !kept.is_file() {
+                return Err(LocalFault::Odd);
+            }
+            match rt.canonicalize(alloc, path) {
+                Ok(real) => Ok(Target {
+                    path: copied(alloc, real.as_str())?,
+                    kept: Some(kept),
+                }),
+                Err(error) => Err(fault_of(&error)),
+            }
+        }
+        Err(error) if error.kind() == ErrorKind::NotFound => new_target(rt, alloc, path),
+        Err(error) => Err(fault_of(&error)),
+    }
+}
+
+/// A copy of a path.
+fn copied(alloc: Global, path: &str) -> Result<String, LocalFault> {
+    match String::from_str(alloc, path) {
+        Ok(text) => Ok(text),
+        Err(AllocError) => Err(LocalFault::Memory),
+    }
+}
+
+/// A path at which nothing is there yet.
+fn new_target<R: HostDisk>(rt: &R, alloc: Global, path: &str) -> Result<Target, LocalFault> {
+    match rt.symlink_metadata(path) {
+        Ok(_link) => Err(LocalFault::Missing),
+        Err(_) => Ok(Target {
+            path: copied(alloc, path)?,
+            kept: None,
+        }),
+    }
+}
+
+/// The file beside a target, in its folder.
+fn beside(alloc: Global, target: &str, mark: u32, number: u32) -> Result<String, AllocError> {
+    let mut path = String::new(alloc);
+    if let Some((folder, _name)) = target.rsplit_once('/') {
+        path.push_str(folder)?;
+        path.push_str("/")?;
+    }
+    let name = format!(in alloc; "~lbfs-{mark}-{number}")?;
+    path.push_str(name.as_str())?;
+    Ok(path)
+}
+
+/// Writes the file beside, with the permissions of the one that it is to replace, and puts it in its
+/// place.
+fn replace<R: HostDisk>(rt: &R, beside: &str, target: &Target, bytes: &[u8]) -> io::Result<()> {
+    let mut file = OpenOptions::new()
+        .write(true)
+        .create_new(true)
+        .open(rt, beside)?;
+    file.write_all(bytes)?;
+    if let Some(kept) = &target.kept {
+        file.set_permissions(kept.permissions())?;
+    }
+    drop(file);
+    fs::rename(rt, beside, target.path.as_str())
+}
+
+/// The names that end each by a NUL, without `.` and `..`.
+fn names_in(alloc: Global, listing: &[u8]) -> Result<Items<Name>, AllocError> {
+    let mut names = Items::new(alloc);
+    let mut rest = Some(listing);
+    'names: while let Some(text) = rest {
+        let (name, after) = first_part(0, text);
+        let is_dots = name == b".".as_slice() || name == b"..".as_slice();
+        if !name.is_empty() && !is_dots {
+            names.push(Name::copy_of(alloc, name)?)?;
+        }
+        rest = after;
+    }
+    Ok(names)
+}
+
+/// The names in a folder, each ended by a NUL.
+fn read_names<R: HostDisk>(rt: &R, alloc: Global, path: &str) -> Result<Vec<u8>, LocalFault> {
+    let folder = match format!(in alloc; "{path}/") {
+        Ok(folder) => folder,
+        Err(_) => return Err(LocalFault::Memory),
+    };
+    let dir = match rt.open_dir(folder.as_str()) {
+        Ok(dir) => dir,
+        Err(error) => return Err(fault_of(&error)),
+    };
+    let mut source = StreamSource::new(dir);
+    match read_all(alloc, LISTING_MOST, &mut source) {
+        Ok(listing) => Ok(listing),
+        Err(ReadError::Memory) => Err(LocalFault::Memory),
+        Err(ReadError::TooLong | ReadError::Fault) => Err(LocalFault::Failed),
+    }
+}
+
+impl<R: HostDisk> Folder for HostFolder<R> {
+    ghost finds = { λ _ _ _ _. Unit {0} };
+
+    ghost reads = { λ _ _ _ _. Unit {0} };
+
+    ghost writes = { λ _ _ _ _ _. Unit {0} };
+
+    ghost lists = { λ _ _ _ _. Unit {0} };
+
+    ghost makes = { λ _ _ _ _. Unit {0} };
+
+    fn kind(&mut self, path: &str) -> Kind {
+        match self.rt.metadata(path) {
+            Ok(facts) => {
+                if facts.is_dir() {
+                    Kind::Folder
+                } else if facts.is_file() {
+                    Kind::File
+                } else {
+                    Kind::Other
+                }
+            }
+            Err(error) if error.kind() == ErrorKind::NotFound => Kind::Missing,
+            Err(_) => Kind::Other,
+        }
+    }
+
+    fn read(&mut self, alloc: Global, path: &str) -> Result<Bytes, LocalFault> {
+        read_file(&self.rt, alloc, path)
+    }
+
+    fn write(&mut self, alloc: Global, path: &str, bytes: &[u8]) -> Result<(), LocalFault> {
+        let target = target_of(&self.rt, alloc, path)?;
+        let Ok(beside) = beside(alloc, target.path.as_str(), self.mark, self.number) else {
+            return Err(LocalFault::Memory);
+        };
+        match replace(&self.rt, beside.as_str(), &target, bytes) {
+            Ok(()) => Ok(()),
+            Err(error) => {
+                let _gone = fs::remove_file(&self.rt, beside.as_str());
+                Err(fault_of(&error))
+            }
+        }
+    }
+
+    fn names(&mut self, alloc: Global, path: &str) -> Result<Items<Name>, LocalFault> {
+        let listing = read_names(&self.rt, alloc, path)?;
+        match names_in(alloc, listing.as_slice()) {
+            Ok(names) => Ok(names),
+            Err(AllocError) => Err(LocalFault::Memory),
+        }
+    }
+
+    fn make_folder(&mut self, path: &str) -> Result<(), LocalFault> {
+        match fs::create_dir(&self.rt, path) {
+            Ok(()) => Ok(()),
+            Err(error) => Err(fault_of(&error)),
+        }
+    }
+}

@@ -1,0 +1,66 @@
+//! What a person is told on standard error of what happens outside, one line each: what failed, on which
+//! file or port, and the system's reason. All these words stand here. Nothing of it goes to standard
+//! output, and no contract speaks of it.
+
+use std::fmt::Display;
+use std::io;
+use thiserror::Error;
+
+/// What a person is told.
+#[derive(Debug, Drop, Error)]
+pub enum Note<'a> {
+    #[error("standard input can't be read: {0}")]
+    Input(io::Error),
+    #[error("standard output can't be written: {0}")]
+    Output(io::Error),
+    #[error("{name} can't be read: {why}")]
+    Read {
+        name: &'a str,
+        why: io::Error,
+    },
+    #[error("{name} is no regular file")]
+    NotRegular {
+        name: &'a str,
+    },
+    #[error("{name} can't be written: {why}")]
+    Written {
+        name: &'a str,
+        why: io::Error,
+    },
+    #[error("127.0.0.1, port {port}: can't listen there: {why}")]
+    Listen {
+        port: u16,
+        why: io::Error,
+    },
+    #[error("127.0.0.1, port {port}: can't connect there: {why}")]
+    Dial {
+        port: u16,
+        why: io::Error,
+    },
+    #[error("127.0.0.1, port {port}: the connection is lost: {why}")]
+    Lost {
+        port: u16,
+        why: io::Error,
+    },
+    #[error("127.0.0.1, port {port}: the server ended the connection")]
+    Ended {
+        port: u16,
+    },
+    #[error("{place}: loading")]
+    Loading {
+        place: &'a str,
+    },
+    #[error("{place}: served at 127.0.0.1, port {port}; files: {files}")]
+    Serving {
+        place: &'a str,
+        port: u16,
+        files: u64,
+    },
+    #[error("memory ran out")]
+    Memory,
+}
+
+/// Tells it on standard error. Where that can't be written either nobody is there to be told.
+pub fn tell<R: Eprint, D: Display>(rt: &R, what: &D) {
+    let _told = eprintln!(rt; "lbfs: {what}");
+}

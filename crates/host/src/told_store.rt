@@ -1,0 +1,103 @@
+//! A store that tells on standard error that it is being loaded, and is in all else the one that it
+//! stands over.
+
+ghost use Rattle.std.specs.Prelude.{◌≡◌};
+
+use crate::notes::{Note, tell};
+use crate::serving::Serving;
+use lb_base::source::Failed;
+use std::alloc::{AllocError, Global};
+use std::sync::Arc;
+use store::record::{Change, Head, Kept, NodeKind};
+use store::store::{Store, StoreError};
+use synced_store::checks::{CheckedStore, Checks};
+use synced_store::syncs::Synced;
+
+/// A store whose loading is told.
+#[derive(Drop)]
+pub struct ToldStore<R, S> {
+    rt: R,
+    store: S,
+    /// What is served, which gets the number of files.
+    serving: Option<Arc<Serving>>,
+}
+
+impl<R, S> ToldStore<R, S> {
+    /// This store, whose loading is told by that runtime.
+    pub fn new(rt: R, store: S, serving: Option<Arc<Serving>>) -> ToldStore<R, S>
+        ensures { result ≡ record { rt = rt; store = store; serving = serving } }
+    {
+        ToldStore { rt, store, serving }
+    }
+}
+
+/// Whether a record is that of a file.
+fn is_file(kept: &Kept) -> bool {
+    match kept {
+        Kept::Node(node) => match node.kind {
+            NodeKind::File => true,
+            NodeKind::Directory => false,
+        },
+        Kept::Head(_) | Kept::Content(_) => false,
+    }
+}
+
+/// How many files there are.
+fn files_in(records: &[Kept]) -> u64 {
+    records.iter().filter(|kept| is_file(kept)).count() as u64
+}
+
+impl<R: Eprint, S: Store> Store for ToldStore<R, S> {
+    ghost records = { λ s. S.records s.store };
+
+    ghost spare = { λ s. S.spare s.store };
+
+    ghost faults = { λ s. S.faults s.store };
+
+    fn load(&mut self, alloc: Global, place: &str) -> Result<Vec<Kept>, StoreError> {
+        tell(&self.rt, &Note::Loading { place });
+        match self.store.load(alloc, place) {
+            Ok(records) => {
+                if let Some(serving) = &self.serving {
+                    serving.note_files(files_in(records.as_slice()));
+                }
+                Ok(records)
+            }
+            Err(why) => Err(why),
+        }
+    }
+
+    fn reserve(&mut self, count: u32) -> Result<(), AllocError> {
+        self.store.reserve(count)
+    }
+
+    fn apply(&mut self, head: Head, first: Change, second: Option<Change>) -> Result<(), Failed> {
+        self.store.apply(head, first, second)
+    }
+}
+
+impl<R: Eprint, S: Checks> Checks for ToldStore<R, S> {
+    fn check(&mut self, alloc: Global, place: &str) -> Result<CheckedStore, StoreError> {
+        self.store.check(alloc, place)
+    }
+}
+
+impl<R: Eprint + Drop, S: Synced + Drop> Synced for ToldStore<R, S> {
+    type Y = S::Y;
+
+    fn syncs(&self) -> Result<S::Y, AllocError> {
+        self.store.syncs()
+    }
+
+    fn leave_unflushed(&mut self) {
+        self.store.leave_unflushed();
+    }
+
+    fn close(&mut self) -> Result<(), Failed> {
+        self.store.close()
+    }
+
+    fn fault_count(&self) -> u64 {
+        self.store.fault_count()
+    }
+}

@@ -1,0 +1,115 @@
+//! What a person is told on standard error whose words are refused: what is wrong with them, and which
+//! words there are.
+
+use crate::asked::{PORT_MOST, SEED_MOST};
+use crate::line::lbfs;
+use crate::words::first;
+use clap::error::ErrorKind;
+use clap::{ArgMatches, Error};
+use command_text::fields::number_within;
+use limits::{DRIFT_MOST, SESSIONS_EVER_MOST, TERM_MOST};
+use std::alloc::{AllocError, Global};
+use std::fmt::Write;
+use trace_generator::BLOCKS_MOST;
+
+/// The words that there are.
+const USAGE: &str = "usage: lbfs COMMAND
+  replay [--summary]                    runs the trace on standard input
+  replay --seed S --blocks N [--summary]
+                                        runs a trace of N blocks that is made from a seed
+  gen S N                               writes such a trace
+  cut                                   lists the chunks of standard input
+  show                                  lists the RPC records of standard input
+  serve --port P --term MS --sessions N --store DIR [--unsynced]
+                                        serves a folder, until N sessions have ended
+  mount --port P --drift MS             runs the commands on standard input on a served folder
+  check --store DIR                     looks over a folder that isn't served
+docs/COMMANDS.md says what each reads, writes and ends with.
+";
+
+/// An option whose value is a number, and between which numbers it lies.
+#[derive(Clone, Copy)]
+struct Range {
+    name: &'static str,
+    low: u64,
+    high: u64,
+}
+
+/// A range of these numbers.
+fn between(name: &'static str, low: u64, high: u64) -> Range {
+    Range { name, low, high }
+}
+
+/// Says of an option that its value isn't in its range; the answer is whether it isn't.
+fn put_if_past(text: &mut String, range: Range, matches: &ArgMatches) -> Result<bool, AllocError> {
+    let Range { name, low, high } = range;
+    let Some(word) = first(name, matches) else {
+        return Ok(false);
+    };
+    if number_within(low, high, word.as_bytes()).is_some() {
+        return Ok(false);
+    }
+    write!(
+        text,
+        "lbfs: {name} '{word}' is no number from {low} to {high}\n"
+    )?;
+    Ok(true)
+}
+
+/// Says which value isn't in its range, or what else is wrong with words of which `clap` takes each.
+fn put_past(text: &mut String, matches: &ArgMatches) -> Result<(), AllocError> {
+    let ranges = [
+        between("port", 1, PORT_MOST),
+        between("term", 1, TERM_MOST),
+        between("sessions", 1, SESSIONS_EVER_MOST),
+        between("drift", 0, DRIFT_MOST),
+        between("seed", 0, SEED_MOST),
+        between("blocks", 1, BLOCKS_MOST),
+    ];
+    for range in ranges.iter() {
+        if put_if_past(text, *range, matches)? {
+            return Ok(());
+        }
+    }
+    text.push_str("lbfs: --seed and --blocks stand together\n")
+}
+
+/// Says what `clap` finds wrong: the first paragraph of its text, as one line.
+fn put_fault(alloc: Global, text: &mut String, error: &Error) -> Result<(), AllocError> {
+    let told = format!(in alloc; "{error}")?;
+    text.push_str("lbfs:")?;
+    for line in told.as_str().lines() {
+        if line.is_empty() {
+            break;
+        }
+        text.push_str(" ")?;
+        text.push_str(line.trim().trim_start_matches("error: "))?;
+    }
+    text.push_str("\n")
+}
+
+/// What is wrong with the words, where they are more than a call for help.
+fn put_reason(alloc: Global, text: &mut String, words: &[String]) -> Result<(), AllocError> {
+    let line = lbfs(alloc)?;
+    match line.try_get_matches_from(words) {
+        Ok(matches) => match matches.subcommand() {
+            Some((_name, matches)) => put_past(text, matches),
+            None => Ok(()),
+        },
+        Err(error) => match error.kind() {
+            ErrorKind::DisplayHelp
+            | ErrorKind::DisplayHelpOnMissingArgumentOrSubcommand
+            | ErrorKind::MissingSubcommand => Ok(()),
+            _ => put_fault(alloc, text, &error),
+        },
+    }
+}
+
+/// What is told of words that ask for nothing: a line that says what is wrong with them, unless they are
+/// none or a call for help, and the words that there are. The one error is want of memory.
+pub fn refusal(alloc: Global, words: &[String]) -> Result<String, AllocError> {
+    let mut text = String::new(alloc);
+    put_reason(alloc, &mut text, words)?;
+    text.push_str(USAGE)?;
+    Ok(text)
+}
