@@ -1,0 +1,106 @@
+-- What a command that a shell asks for comes to, by the client's own steps.
+use Rattle.std.specs.Prelude.{◌≡◌, ◌⊎◌, ℕ, Option, Some, None, Result, Bool, true, false}
+use Rattle.command_text.specs.declared.command.Command.{Command}
+use Rattle.command_text.specs.declared.command.Command.TheVariants as command
+use Rattle.command_text.specs.declared.path.PathCommand.{PathCommand}
+use Rattle.command_text.specs.declared.path.PathCommand.TheVariants as path
+use Rattle.wire.specs.declared.fault.WireFault.{WireFault}
+use Rattle.wire.specs.declared.message.Message.{Message}
+use Rattle.xdr_codec.specs.Status.{status_number}
+use Rattle.xdr_codec.specs.declared.attr.Kind.{Kind}
+use Rattle.xdr_codec.specs.declared.attr.Kind.TheVariants as kind
+use Rattle.client_state.specs.Ending.{cut, joined}
+use Rattle.client_state.specs.State.{State}
+use Rattle.client_state.specs.declared.step.BadPeer.{BadPeer}
+use Rattle.client_state.specs.declared.step.BadPeer.TheVariants as bad
+use Rattle.client_state.specs.declared.step.ClientStep.{ClientStep}
+use Rattle.client_state.specs.declared.step.Ended.{Ended}
+use Rattle.client_state.specs.declared.step.Outcome.{Outcome}
+use Rattle.client_state.specs.declared.step.Outcome.TheVariants as outcome
+use Rattle.lbfs_client.specs.Client.{Takes, Hears}
+use Rattle.shell_walks.specs.declared.remote.Answer.{Answer}
+use Rattle.shell_walks.specs.declared.remote.Answer.TheVariants as answer
+use Rattle.shell_walks.specs.declared.remote.Why.TheVariants as why
+
+-- ---- how a command ended, as a shell is told it
+
+abbrev pub fault_number : BadPeer → ℕ
+fault_number (bad.Garbage at) = 1
+fault_number (bad.UnknownXid xid) = 2
+fault_number (bad.Digest got wanted) = 3
+fault_number (bad.Denied code) = 4
+fault_number (bad.Shape got wanted) = 5
+
+abbrev pub is_directory : Kind → Bool
+is_directory kind.Directory = true
+is_directory kind.File = false
+
+abbrev pub answer_of : Outcome → Answer
+answer_of (outcome.Opened file len sha1) = answer.Opened file
+answer_of (outcome.Closed file version len sha1) = answer.Closed version
+answer_of outcome.Done = answer.Done
+answer_of (outcome.Piece len sha1) = answer.Done
+answer_of (outcome.Names names) = answer.Names names
+answer_of (outcome.Seen id k version len) = answer.Seen (record { id = id; is_dir = is_directory k; version = version; len = len })
+answer_of outcome.Busy = answer.Failed why.Order
+answer_of outcome.NotOpen = answer.Failed why.Order
+answer_of outcome.AlreadyOpen = answer.Failed why.Order
+answer_of (outcome.TooBig size) = answer.Failed why.TooBig
+answer_of outcome.Lost = answer.Failed why.Lost
+answer_of (outcome.Changed first last) = answer.Failed why.Changed
+answer_of outcome.NoLink = answer.Failed why.NoLink
+answer_of (outcome.Refused status) = answer.Failed (why.Refused (status_number status))
+answer_of outcome.PeerMemory = answer.Failed why.PeerMemory
+answer_of (outcome.BadPeer fault) = answer.Failed (why.BadPeer (fault_number fault))
+answer_of outcome.Memory = answer.Failed why.Memory
+
+abbrev pub is_lost : Answer → Bool
+is_lost (answer.Failed why.Lost) = true
+is_lost a = false
+
+-- ---- one command, from its first step to its end
+
+-- how a command ended: as it did before, or else as the loss of the connection ends it
+abbrev pub kept : Option Ended → Option Ended → Option Ended
+kept None later = later
+kept (Some e) later = Some e
+
+-- The client takes the command; then it hears what comes, or is told that the connection is lost, until the command has ended.
+pub data Runs (old : State) (c : Command) : State → Option Ended → Type 0 where
+  takes : (s : State) (now : ℕ) (step : ClientStep) → Takes old c now s step → Runs old c s step.ended
+  hears : (s t : State) (m : Result Message WireFault) (now : ℕ) (step : ClientStep) → Runs old c s None → Hears s m now t step → Runs old c t step.ended
+  loses : (s : State) (ended : Option Ended) → Runs old c s ended → Runs old c (cut s).0 (kept ended (cut s).1.ended)
+
+-- where more was heard than can be counted, it ends as for want of memory
+abbrev pub told_of : Option Ended → Answer
+told_of (Some e) = answer_of e.outcome
+told_of None = answer.Failed why.Memory
+
+pub record Once (old : State) (c : Command) (a : Answer) (new : State) : Type 0 where
+  pub ended : Option Ended
+  pub runs : Runs old c new ended
+  pub told : a ≡ told_of ended
+
+-- messages went out, or the connection is lost
+abbrev pub Sends : State → Option Ended → State → Option Ended → Type 0
+Sends old ended new then = ((new ≡ old) × (then ≡ ended)) ⊎ ((new ≡ (cut old).0) × (then ≡ kept ended (cut old).1.ended))
+
+-- ---- and again
+
+-- a command on names that changes nothing
+abbrev pub reads : PathCommand → Bool
+reads (path.Find spot) = true
+reads (path.Look spot) = true
+reads path.LookRoot = true
+reads (path.List names) = true
+reads p = false
+
+abbrev pub rereads : Command → Bool
+rereads (command.Named p) = reads p
+rereads c = false
+
+-- A connection may be joined first. Where it was lost meanwhile, what changes nothing is asked once more.
+pub data Asks (old : State) (c : Command) : Answer → State → Type 0 where
+  at_once : (a : Answer) (new : State) → Once old c a new → Asks old c a new
+  joined_first : (a : Answer) (new : State) → Once (joined old) c a new → Asks old c a new
+  again : (s : State) (b a : Answer) (new : State) → rereads c ≡ true → is_lost b ≡ true → Asks old c b s → Once (joined s) c a new → Asks old c a new

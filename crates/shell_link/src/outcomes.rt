@@ -1,0 +1,107 @@
+//! What a shell makes of how a command ended, and which commands may be asked again: `specs/Asking.antt`.
+
+ghost use Rattle.std.specs.Prelude.{◌≡◌, true, IfOk, IfSome};
+ghost use Rattle.shell_link.specs.Asking.{fault_number, is_directory, answer_of, is_lost, reads, rereads};
+
+use client_state::step::{BadPeer, Outcome};
+use command_text::command::Command;
+use command_text::path::{PathCommand, Spot};
+use shell_walks::remote::{Answer, Seen, Why};
+use shell_words::path::copy_of;
+use std::alloc::{AllocError, Global};
+use xdr_codec::attr::Kind;
+use xdr_codec::status;
+
+/// The number of a peer's fault.
+fn fault_number(fault: &BadPeer) -> u32
+    ensures { result ≡ fault_number fault.now }
+{
+    match fault {
+        BadPeer::Garbage { .. } => 1,
+        BadPeer::UnknownXid { .. } => 2,
+        BadPeer::Digest { .. } => 3,
+        BadPeer::Denied { .. } => 4,
+        BadPeer::Shape { .. } => 5,
+    }
+}
+
+/// Whether a kind is a directory's.
+fn is_directory(kind: Kind) -> bool
+    ensures { result ≡ is_directory kind }
+{
+    matches!(kind, Kind::Directory)
+}
+
+/// How a command ended, as a shell is told it.
+pub(crate) fn answer_of(outcome: Outcome) -> Answer
+    ensures { result ≡ answer_of outcome }
+{
+    match outcome {
+        Outcome::Opened { file, .. } => Answer::Opened(file),
+        Outcome::Closed { version, .. } => Answer::Closed(version),
+        Outcome::Done | Outcome::Piece { .. } => Answer::Done,
+        Outcome::Names(names) => Answer::Names(names),
+        Outcome::Seen {
+            id,
+            kind,
+            version,
+            len,
+        } => Answer::Seen(Seen {
+            id,
+            is_dir: is_directory(kind),
+            version,
+            len,
+        }),
+        Outcome::Busy | Outcome::NotOpen | Outcome::AlreadyOpen => Answer::Failed(Why::Order),
+        Outcome::TooBig(_) => Answer::Failed(Why::TooBig),
+        Outcome::Lost => Answer::Failed(Why::Lost),
+        Outcome::Changed { .. } => Answer::Failed(Why::Changed),
+        Outcome::NoLink => Answer::Failed(Why::NoLink),
+        Outcome::Refused(status) => Answer::Failed(Why::Refused(status::number(status))),
+        Outcome::PeerMemory => Answer::Failed(Why::PeerMemory),
+        Outcome::BadPeer(fault) => Answer::Failed(Why::BadPeer(fault_number(&fault))),
+        Outcome::Memory => Answer::Failed(Why::Memory),
+    }
+}
+
+/// Whether the connection was lost meanwhile.
+pub(crate) fn is_lost(answer: &Answer) -> bool
+    ensures { result ≡ is_lost answer.now }
+{
+    matches!(answer, Answer::Failed(Why::Lost))
+}
+
+/// The same name in the same directory.
+fn copy_of_spot(alloc: Global, spot: &Spot) -> Result<Spot, AllocError>
+    ensures { IfOk result (λ copy. copy ≡ spot.now) }
+{
+    let dirs = copy_of(alloc, spot.dirs.as_slice())?;
+    let name = spot.name.try_clone(alloc)?;
+    Ok(Spot { dirs, name })
+}
+
+/// The same command on names, where it changes nothing; else none.
+fn copy_of_reading(alloc: Global, command: &PathCommand) -> Result<Option<PathCommand>, AllocError>
+    ensures { IfOk result (λ again. IfSome again (λ copy. (copy ≡ command.now) × (reads command.now ≡ true))) }
+{
+    match command {
+        PathCommand::Find(spot) => Ok(Some(PathCommand::Find(copy_of_spot(alloc, spot)?))),
+        PathCommand::Look(spot) => Ok(Some(PathCommand::Look(copy_of_spot(alloc, spot)?))),
+        PathCommand::LookRoot => Ok(Some(PathCommand::LookRoot)),
+        PathCommand::List(path) => Ok(Some(PathCommand::List(copy_of(alloc, path.as_slice())?))),
+        _ => Ok(None),
+    }
+}
+
+/// The same command, where it may be asked again; none where it may not, or where memory runs out.
+pub(crate) fn again_of(alloc: Global, command: &Command) -> Option<Command>
+    ensures { IfSome result (λ copy. (copy ≡ command.now) × (rereads command.now ≡ true)) }
+{
+    match command {
+        Command::Named(command) => match copy_of_reading(alloc, command) {
+            Ok(Some(command)) => Some(Command::Named(command)),
+            _ => None,
+        },
+        _ => None,
+    }
+}

@@ -1,0 +1,306 @@
+//! A client on its connection. `specs/Asking.antt` says what a command comes to.
+
+ghost use Rattle.std.specs.Prelude.{◌≡◌, true, false, None};
+ghost use Rattle.client_state.specs.State.{State, local_bytes};
+ghost use Rattle.client_state.specs.Ending.{cut, joined};
+ghost use Rattle.command_text.specs.declared.command.Command.{Command};
+ghost use Rattle.shell_link.specs.Asking.{answer_of, told_of, kept, Sends, Runs, Once, Asks, rereads};
+
+use crate::outcomes::{again_of, answer_of, is_lost};
+use client_state::step::{ClientStep, Ended, Outcome};
+use command_text::command::Command;
+use lb_base::items::Items;
+use links::clock::Clock;
+use links::link::Link;
+use open_close::client::Client;
+use record_ends::end::End;
+use record_ends::inbox::Inbox;
+use record_ends::outgoing::put_out;
+use send_list::{SendList, append};
+use shell_walks::dials::Dials;
+use shell_walks::remote::{Answer, Remote, Why};
+use std::alloc::{AllocError, Global};
+use std::mem;
+use wire::fault::WireFault;
+use wire::message::Message;
+use wire::parse::message_of;
+
+/// Where the bytes of a connection come and go.
+#[derive(Drop)]
+struct Line<L> {
+    link: L,
+    inbox: Inbox,
+}
+
+/// A client, its connection, and what gives it another.
+#[derive(Drop)]
+pub struct Session<'e, D: Dials, C> {
+    client: Client,
+    line: Option<Line<D::L>>,
+    dialler: &'e D,
+    clock: &'e C,
+}
+
+/// Gives messages to the line, where there are any. It answers whether they went out.
+fn give<L: Link>(alloc: Global, line: &mut Option<Line<L>>, messages: SendList<Message>) -> bool {
+    let mut list = Items::new(alloc);
+    if append(alloc, &mut list, messages).is_err() {
+        return false;
+    }
+    if list.is_empty() {
+        return true;
+    }
+    match line {
+        Some(line) => put_out(alloc, &mut line.link, list.as_slice()).is_ok(),
+        None => false,
+    }
+}
+
+/// The client is told that its connection is lost.
+fn lose(alloc: Global, client: &mut Client, ended: Option<Ended>) -> Option<Ended>
+    ensures { (client.new ≡ (cut client.old).0) × (result ≡ kept ended (cut client.old).1.ended) }
+{
+    let (messages, later) = client.cut(alloc).into_parts();
+    drop(messages);
+    match ended {
+        Some(ended) => {
+            drop(later);
+            Some(ended)
+        }
+        None => later,
+    }
+}
+
+/// What a step says goes out, or the connection is lost.
+fn send<L: Link>(
+    alloc: Global,
+    client: &mut Client,
+    line: &mut Option<Line<L>>,
+    step: ClientStep,
+) -> Option<Ended>
+    ensures { Sends client.old step.ended client.new result }
+{
+    let (messages, ended) = step.into_parts();
+    if give(alloc, line, messages) {
+        ended
+    } else {
+        lose(alloc, client, ended)
+    }
+}
+
+/// The next record of the line as a message, or as none; nothing where no more come.
+fn next_message<L: Link>(
+    alloc: Global,
+    client: &Client,
+    line: &mut Option<Line<L>>,
+) -> Option<Result<Message, WireFault>> {
+    let Some(line) = line else {
+        return None;
+    };
+    match line.inbox.next(alloc, &mut line.link) {
+        Ok(record) => message_of(alloc, record.as_slice(), client.waiting()).ok(),
+        Err(End::Spoilt) => Some(Err(WireFault::NotRpc { at: 0 })),
+        Err(_) => None,
+    }
+}
+
+/// The client takes a command, and what it says goes out.
+fn begin<L: Link>(
+    alloc: Global,
+    client: &mut Client,
+    line: &mut Option<Line<L>>,
+    command: Command,
+    now: u64,
+) -> Option<Ended>
+    ensures { Runs client.old command client.new result }
+{
+    let step = client.command(alloc, command, now);
+    send(alloc, client, line, step)
+}
+
+/// The client hears a message, and what it says goes out.
+fn hear<L: Link>(
+    alloc: Global,
+    client: &mut Client,
+    line: &mut Option<Line<L>>,
+    message: Result<Message, WireFault>,
+    now: u64,
+) -> Option<Ended>
+    ensures { (o : State) (k : Command) → Runs o k client.old None → Runs o k client.new result }
+{
+    let step = client.got(alloc, message, now);
+    send(alloc, client, line, step)
+}
+
+/// The client hears the next message, or that its connection is lost.
+fn go_on<L: Link>(
+    alloc: Global,
+    client: &mut Client,
+    line: &mut Option<Line<L>>,
+    now: u64,
+) -> Option<Ended>
+    ensures { (o : State) (k : Command) → Runs o k client.old None → Runs o k client.new result }
+{
+    match next_message(alloc, client, line) {
+        Some(message) => hear(alloc, client, line, message, now),
+        None => lose(alloc, client, None),
+    }
+}
+
+/// How a command ended, as a shell is told it.
+fn tell(mut ended: Ended) -> Answer
+    ensures { result ≡ answer_of ended.outcome }
+{
+    answer_of(mem::replace(&mut ended.outcome, Outcome::Done))
+}
+
+/// What is told where a command has ended, or where more was heard than can be counted.
+fn told(ended: Option<Ended>) -> Answer
+    ensures { result ≡ told_of ended }
+{
+    match ended {
+        Some(ended) => tell(ended),
+        None => Answer::Failed(Why::Memory),
+    }
+}
+
+/// The client takes a command, and hears what comes until it has ended.
+fn run<L: Link, C: Clock>(
+    alloc: Global,
+    client: &mut Client,
+    line: &mut Option<Line<L>>,
+    command: Command,
+    clock: &C,
+) -> Answer
+    ensures { Once client.old command result client.new }
+{
+    let mut ended = begin(alloc, client, line, command, clock.now());
+    for _turn in 0..u64::MAX {
+        if ended.is_some() {
+            return told(ended);
+        }
+        ended = go_on(alloc, client, line, clock.now());
+    }
+    told(ended)
+}
+
+/// A line is shut, where there is one.
+fn shut<L: Link + Drop>(line: &mut Option<Line<L>>) {
+    if let Some(line) = line {
+        line.link.shut();
+    }
+    *line = None;
+}
+
+/// A new line to the server.
+fn dial<D: Dials>(alloc: Global, dialler: &D) -> Option<Line<D::L>>
+where
+    D::L: Drop,
+{
+    let inbox = Inbox::new(alloc).ok()?;
+    let link = dialler.dial().ok()?;
+    Some(Line { link, inbox })
+}
+
+impl<'e, D: Dials, C: Clock> Session<'e, D, C>
+where
+    D::L: Drop,
+{
+    /// A client that isn't connected yet. The one error is want of memory.
+    pub fn new(
+        alloc: Global,
+        dialler: &'e D,
+        clock: &'e C,
+    ) -> Result<Session<'e, D, C>, AllocError> {
+        Ok(Session {
+            client: Client::new(alloc)?,
+            line: None,
+            dialler,
+            clock,
+        })
+    }
+
+    /// Joins a connection. It answers whether there is one.
+    pub fn join(&mut self, alloc: Global) -> bool
+        ensures joined { result ≡ true → self.new.client ≡ joined self.old.client }
+        ensures stays { result ≡ false → self.new.client ≡ self.old.client }
+    {
+        shut(&mut self.line);
+        match dial(alloc, self.dialler) {
+            Some(line) => {
+                self.line = Some(line);
+                self.client.joined(alloc);
+                true
+            }
+            None => false,
+        }
+    }
+
+    /// Runs a command on the connection that there is.
+    fn once(&mut self, alloc: Global, command: Command) -> Answer
+        ensures { Once self.old.client command result self.new.client }
+    {
+        let answer = run(alloc, &mut self.client, &mut self.line, command, self.clock);
+        if !self.client.linked() {
+            shut(&mut self.line);
+        }
+        answer
+    }
+
+    /// Runs a command, on a new connection where there is none.
+    #[tactic(auto, using(crate::proofs::Again::at_first, crate::proofs::Again::at_joined))]
+    fn first(&mut self, alloc: Global, command: Command) -> Answer
+        ensures { Asks self.old.client command result self.new.client }
+    {
+        if self.client.linked() {
+            return self.once(alloc, command);
+        }
+        if self.join(alloc) {
+            self.once(alloc, command)
+        } else {
+            self.once(alloc, command)
+        }
+    }
+
+    /// A command that may be asked again is, where its answer was that the connection is lost and a new one
+    /// is joined.
+    #[tactic(auto, using(crate::proofs::Again::at_again, crate::proofs::Again::stayed))]
+    fn repeat(&mut self, alloc: Global, command: Command, answer: Answer) -> Answer
+        ensures { (o : State) → rereads command ≡ true → Asks o command answer self.old.client → Asks o command result self.new.client }
+    {
+        if !is_lost(&answer) {
+            return answer;
+        }
+        if self.join(alloc) {
+            drop(answer);
+            self.once(alloc, command)
+        } else {
+            answer
+        }
+    }
+}
+
+impl<'e, D: Dials, C: Clock> Remote for Session<'e, D, C>
+where
+    D::L: Drop,
+{
+    ghost asks = { λ s c a t. Asks s.client c a t.client };
+
+    ghost content = { λ s file. local_bytes s.client.opened file };
+
+    fn ask(&mut self, alloc: Global, command: Command) -> Answer {
+        let again = again_of(alloc, &command);
+        let answer = self.first(alloc, command);
+        match again {
+            Some(command) => self.repeat(alloc, command, answer),
+            None => answer,
+        }
+    }
+
+    fn content(&self, file: u64) -> &[u8] {
+        match self.client.local(file) {
+            Some(bytes) => bytes,
+            None => &[],
+        }
+    }
+}

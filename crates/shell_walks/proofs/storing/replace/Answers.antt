@@ -1,0 +1,12 @@
+use Rattle.std.proofs.Common.{sym, ◌∙◌}
+use Rattle.shell_walks.specs.Storing.{Replaces.at_trunc, Replaces.at_write, Replaces.at_close}
+use Rattle.shell_walks.proofs.storing.replace.Goals as goal
+
+pub returns-then-not-is_done : goal.returns-then-not-is_done
+returns-then-not-is_done g c = at_trunc c.ask-emptied.ensures (sym c.is_done.ensures ∙ c.if-not-is_done.true)
+
+pub returns-then-not-is_done-2 : goal.returns-then-not-is_done-2
+returns-then-not-is_done-2 g c = at_write _ _ c.ask-emptied.ensures (sym c.is_done.ensures ∙ c.if-not-is_done.false) c.ask-written.ensures (sym c.is_done-2.ensures ∙ c.if-not-is_done-2.true)
+
+pub returns : goal.returns
+returns g c = at_close _ _ _ _ c.ask-emptied.ensures (sym c.is_done.ensures ∙ c.if-not-is_done.false) c.ask-written.ensures (sym c.is_done-2.ensures ∙ c.if-not-is_done-2.false) c.ask.ensures

@@ -1,0 +1,39 @@
+-- The commands of a client that stand for a path, and what asking for one comes to, over what a client does at any command (`asks`).
+use Rattle.std.specs.Prelude.{◌≡◌, ℕ, ◌&&◌, List, Bool, true, false, length, nat_lt, Option, Some, None, if◌then◌else◌}
+use Rattle.command_text.specs.Paths.{spot_at}
+use Rattle.command_text.specs.declared.command.Command.{Command}
+use Rattle.command_text.specs.declared.command.Command.TheVariants.{Named}
+use Rattle.command_text.specs.declared.path.PathCommand.TheVariants as paths
+use Rattle.shell_walks.specs.declared.asking.Deed.{Deed}
+use Rattle.shell_walks.specs.declared.asking.Deed.TheVariants as deed
+use Rattle.shell_walks.specs.declared.remote.Answer.{Answer}
+use Rattle.shell_walks.specs.declared.remote.Answer.TheVariants as answer
+use Rattle.shell_walks.specs.declared.remote.Why.TheVariants as why
+
+abbrev pub command_at : Deed → List (List ℕ) → Command
+command_at deed.Find path = Named (paths.Find (spot_at path))
+command_at deed.Look path = Named (paths.Look (spot_at path))
+command_at deed.Make path = Named (paths.Make (spot_at path))
+command_at deed.MakeDir path = Named (paths.MakeDir (spot_at path))
+command_at deed.Remove path = Named (paths.Remove (spot_at path))
+command_at deed.RemoveDir path = Named (paths.RemoveDir (spot_at path))
+command_at deed.List path = Named (paths.List path)
+
+-- the root can be looked at and listed
+abbrev pub on_root : Deed → List (List ℕ) → Option Command
+on_root deed.Look path = Some (Named paths.LookRoot)
+on_root deed.List path = Some (Named (paths.List path))
+on_root d path = None
+
+abbrev pub command_on : Deed → List (List ℕ) → Option Command
+command_on d path = if nat_lt 0 (length path) then Some (command_at d path) else on_root d path
+
+abbrev pub rename_of : List (List ℕ) → List (List ℕ) → Option Command
+rename_of from to =
+    if nat_lt 0 (length from) && nat_lt 0 (length to) then Some (Named (paths.Rename (spot_at from) (spot_at to)))
+    else None
+
+-- a command is asked for; where there is none, nothing is
+abbrev pub AsksOn : {R : Type 0} → (asks : R → Command → Answer → R → Type 0) → R → Option Command → Answer → R → Type 0
+AsksOn asks old (Some c) a new = asks old c a new
+AsksOn asks old None a new = (new ≡ old) × (a ≡ answer.Failed (why.Refused 22))

@@ -1,0 +1,53 @@
+-- How the content of a file becomes the host's, over what a client does at any command (`asks`), what it has open (`content`), and what comes of a writing of the host's (`writes`).
+use Rattle.std.specs.Prelude.{◌≡◌, ℕ, List, length, Option, Some, None, Result, Ok, Err}
+use Rattle.command_text.specs.declared.command.Command.{Command}
+use Rattle.command_text.specs.declared.command.Command.TheVariants as command
+use Rattle.shell_walks.specs.Asking.{command_on, AsksOn}
+use Rattle.shell_walks.specs.Storing.{opened_file}
+use Rattle.shell_walks.specs.Telling.{fine, refused_told, why_of}
+use Rattle.shell_walks.specs.declared.asking.Deed.TheVariants as deed
+use Rattle.shell_walks.specs.declared.fetching.Got.{Got}
+use Rattle.shell_walks.specs.declared.fetching.Got.TheVariants as got
+use Rattle.shell_walks.specs.declared.folder.LocalFault.{LocalFault}
+use Rattle.shell_walks.specs.declared.remote.Answer.{Answer}
+use Rattle.shell_walks.specs.declared.told.Told.{Told}
+
+abbrev pub got_of : ℕ → Result Unit LocalFault → Got
+got_of len (Ok u) = got.Fine len
+got_of len (Err fault) = got.Fault fault
+
+-- exactly the open file's content is written, to that one path, and the file is abandoned
+pub record Keeps {R F : Type 0} (asks : R → Command → Answer → R → Type 0) (content : R → ℕ → List ℕ) (writes : F → List ℕ → List ℕ → Result Unit LocalFault → F → Type 0) (old : R) (host : F) (file : ℕ) (local : List ℕ) (g : Got) (new : R) (host' : F) : Type 0 where
+  pub wrote : Result Unit LocalFault
+  pub written : writes host local (content old file) wrote host'
+  pub answer : Answer
+  pub abandons : asks old (command.Abandon file) answer new
+  pub told : g ≡ got_of (length (content old file)) wrote
+
+abbrev pub GetsIf : {R F : Type 0} → (asks : R → Command → Answer → R → Type 0) → (content : R → ℕ → List ℕ) → (writes : F → List ℕ → List ℕ → Result Unit LocalFault → F → Type 0) → R → F → Option ℕ → Answer → List ℕ → Got → R → F → Type 0
+GetsIf asks content writes old host (Some file) opened local g new host' = Keeps asks content writes old host file local g new host'
+GetsIf asks content writes old host None opened local g new host' = (new ≡ old) × (host' ≡ host) × (g ≡ got.Refused (why_of opened))
+
+-- the file is opened, and kept where it was
+pub record Gets {R F : Type 0} (asks : R → Command → Answer → R → Type 0) (content : R → ℕ → List ℕ) (writes : F → List ℕ → List ℕ → Result Unit LocalFault → F → Type 0) (old : R) (host : F) (path : List (List ℕ)) (local : List ℕ) (g : Got) (new : R) (host' : F) : Type 0 where
+  pub opened : Answer
+  pub between : R
+  pub opens : AsksOn asks old (command_on deed.Find path) opened between
+  pub goes_on : GetsIf asks content writes between host (opened_file opened) opened local g new host'
+
+-- ---- cat
+
+pub record CatsOpen {R : Type 0} (asks : R → Command → Answer → R → Type 0) (content : R → ℕ → List ℕ) (old : R) (file : ℕ) (told : Told) (new : R) : Type 0 where
+  pub answer : Answer
+  pub abandons : asks old (command.Abandon file) answer new
+  pub is_told : told ≡ fine (content old file)
+
+abbrev pub CatsIf : {R : Type 0} → (asks : R → Command → Answer → R → Type 0) → (content : R → ℕ → List ℕ) → R → Option ℕ → Answer → List (List ℕ) → Told → R → Type 0
+CatsIf asks content old (Some file) opened path told new = CatsOpen asks content old file told new
+CatsIf asks content old None opened path told new = (new ≡ old) × (told ≡ refused_told path (why_of opened))
+
+pub record Cats {R : Type 0} (asks : R → Command → Answer → R → Type 0) (content : R → ℕ → List ℕ) (old : R) (path : List (List ℕ)) (told : Told) (new : R) : Type 0 where
+  pub opened : Answer
+  pub between : R
+  pub opens : AsksOn asks old (command_on deed.Find path) opened between
+  pub goes_on : CatsIf asks content between (opened_file opened) opened path told new

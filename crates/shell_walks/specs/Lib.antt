@@ -1,0 +1,5 @@
+pub mod Asking
+pub mod Fetching
+pub mod Storing
+pub mod Tasks
+pub mod Telling

@@ -1,0 +1,35 @@
+-- The tasks for what is in a folder, or in a directory: one for each of its names, and for no other.
+use Rattle.std.specs.Prelude.{ℕ, List, [], ◌∷◌, ◌++◌, Bool, true, ◌||◌, false, bytes_eq, if◌then◌else◌}
+use Rattle.shell_words.specs.Local.{is_local, below}
+use Rattle.shell_walks.specs.declared.tasks.Storing.{Storing}
+use Rattle.shell_walks.specs.declared.tasks.Task.{Task}
+use Rattle.shell_walks.specs.declared.tasks.Task.TheVariants as task
+
+-- what has the name in the folder goes to what has it in the directory; nothing where this host can't have the name
+abbrev pub put_more : (local : List ℕ) → (path : List (List ℕ)) → Storing → (name : List ℕ) → List Task
+put_more local path s name = if is_local name then task.Put (below local name) (path ++ name ∷ []) s ∷ [] else []
+
+abbrev pub put_tasks : (local : List ℕ) → (path : List (List ℕ)) → Storing → (names : List (List ℕ)) → List Task
+put_tasks local path s [] = []
+put_tasks local path s (name ∷ names) = put_more local path s name ++ put_tasks local path s names
+
+-- and the other way round: so each local path is that of a name in the folder, which is one component
+abbrev pub get_more : (path : List (List ℕ)) → (local : List ℕ) → (name : List ℕ) → List Task
+get_more path local name = if is_local name then task.Get (path ++ name ∷ []) (below local name) true ∷ [] else []
+
+abbrev pub get_tasks : (path : List (List ℕ)) → (local : List ℕ) → (names : List (List ℕ)) → List Task
+get_tasks path local [] = []
+get_tasks path local (name ∷ names) = get_more path local name ++ get_tasks path local names
+
+-- ---- what a folder hasn't
+
+abbrev pub is_among : List ℕ → List (List ℕ) → Bool
+is_among name [] = false
+is_among name (other ∷ names) = bytes_eq other name || is_among name names
+
+abbrev pub remove_more : (path held : List (List ℕ)) → (name : List ℕ) → List Task
+remove_more path held name = if is_among name held then [] else task.Remove (path ++ name ∷ []) ∷ []
+
+abbrev pub removals : (path held names : List (List ℕ)) → List Task
+removals path held [] = []
+removals path held (name ∷ names) = remove_more path held name ++ removals path held names

@@ -1,0 +1,134 @@
+-- What is written, and said, of what a command came to.
+use Rattle.std.specs.Prelude.{◌≡◌, ℕ, ◌-◌, List, [], ◌∷◌, ◌++◌, Bool, true, false, length, replicate, ◌==◌, Result, Ok, Err, codes, decimal, if◌then◌else◌}
+use Rattle.shell_words.specs.Quoting.{quoted}
+use Rattle.shell_words.specs.declared.mistake.Mistake.{Mistake}
+use Rattle.shell_words.specs.declared.mistake.Mistake.TheVariants as mistake
+use Rattle.shell_walks.specs.declared.folder.LocalFault.{LocalFault}
+use Rattle.shell_walks.specs.declared.folder.LocalFault.TheVariants as fault
+use Rattle.shell_walks.specs.declared.remote.Answer.{Answer}
+use Rattle.shell_walks.specs.declared.remote.Answer.TheVariants as answer
+use Rattle.shell_walks.specs.declared.remote.Seen.{Seen}
+use Rattle.shell_walks.specs.declared.remote.Why.{Why}
+use Rattle.shell_walks.specs.declared.remote.Why.TheVariants as why
+use Rattle.shell_walks.specs.declared.told.Told.{Told}
+
+abbrev pub fine : List ℕ → Told
+fine text = record { text = text; note = [] }
+
+abbrev pub notes : List ℕ → Told
+notes note = record { text = []; note = note }
+
+-- ---- why something wasn't done, in words
+
+-- the statuses that a server of this project answers (RFC 1813, section 2.6)
+abbrev pub status_words : ℕ → List ℕ
+status_words n =
+    if n == 2 then codes "no such file or directory"
+    else if n == 5 then codes "the server's store failed"
+    else if n == 13 then codes "the server takes no such name"
+    else if n == 17 then codes "it is there already"
+    else if n == 20 then codes "not a directory"
+    else if n == 21 then codes "it is a directory"
+    else if n == 22 then codes "that can't be"
+    else if n == 27 then codes "the file is too large"
+    else if n == 28 then codes "the server has no more room"
+    else if n == 63 then codes "the name is too long"
+    else if n == 66 then codes "the directory isn't empty"
+    else if n == 70 then codes "it is gone"
+    else []
+
+-- any other is told by its number
+abbrev pub status_text : ℕ → List ℕ
+status_text n =
+    if length (status_words n) == 0 then codes "the server refused it, with status " ++ decimal n
+    else status_words n
+
+abbrev pub why_text : Why → List ℕ
+why_text why.Order = codes "the client has no such file open"
+why_text why.TooBig = codes "the file is too large"
+why_text why.Lost = codes "the connection was lost; it may have been done, or not"
+why_text why.Changed = codes "the file changed each time that it was fetched"
+why_text why.NoLink = codes "there is no connection"
+why_text (why.Refused n) = status_text n
+why_text why.PeerMemory = codes "the server has no memory left"
+why_text (why.BadPeer n) = codes "the server broke the protocol (" ++ decimal n ++ codes ")"
+why_text why.Memory = codes "no memory is left"
+
+abbrev pub fault_text : LocalFault → List ℕ
+fault_text fault.Missing = codes "no such file or folder here"
+fault_text fault.Exists = codes "it is here already"
+fault_text fault.IsFolder = codes "it is a folder here"
+fault_text fault.NotFolder = codes "it is no folder here"
+fault_text fault.Denied = codes "permission denied here"
+fault_text fault.Full = codes "the disk here is full"
+fault_text fault.TooBig = codes "the file is too large"
+fault_text fault.BadName = codes "no file here can have this name"
+fault_text fault.Odd = codes "it is neither a file nor a folder here"
+fault_text fault.Failed = codes "the system failed here"
+fault_text fault.Memory = codes "no memory is left"
+
+abbrev pub mistake_text : Mistake → List ℕ
+mistake_text mistake.BadEscape = codes "a backslash stands before what it gives no meaning"
+mistake_text mistake.OpenQuote = codes "a quote isn't closed"
+mistake_text mistake.Unknown = codes "there is no such command (help lists them)"
+mistake_text mistake.BadOption = codes "there is no such option"
+mistake_text mistake.TooFew = codes "a word is wanting"
+mistake_text mistake.TooMany = codes "there is a word too many"
+mistake_text mistake.LongName = codes "a name is too long"
+mistake_text mistake.LongPath = codes "a path has too many names"
+
+-- ---- lines
+
+-- a path of the server's, from its root
+abbrev pub slashed : List (List ℕ) → List ℕ
+slashed [] = []
+slashed (name ∷ names) = 47 ∷ name ++ slashed names
+
+abbrev pub path_text : List (List ℕ) → List ℕ
+path_text [] = codes "/"
+path_text (name ∷ names) = quoted (slashed (name ∷ names))
+
+-- what something is about, and what is said of it
+abbrev pub note_line : (about words : List ℕ) → List ℕ
+note_line about words = about ++ codes ": " ++ words ++ codes "\n"
+
+abbrev pub names_text : List (List ℕ) → List ℕ
+names_text [] = []
+names_text (name ∷ names) = quoted name ++ codes "\n" ++ names_text names
+
+-- a number at the right of so many columns
+abbrev pub padded : ℕ → ℕ → List ℕ
+padded columns n = replicate (columns - length (decimal n)) 32 ++ decimal n
+
+abbrev pub kind_text : Bool → List ℕ
+kind_text true = codes "dir "
+kind_text false = codes "file"
+
+-- a line of `ls -l`: what it is, its bytes or names, its version and its name
+abbrev pub long_line : Seen → List ℕ → List ℕ
+long_line seen name = kind_text seen.is_dir ++ padded 10 seen.len ++ padded 7 seen.version ++ codes " " ++ quoted name ++ codes "\n"
+
+abbrev pub stat_text : List (List ℕ) → Seen → List ℕ
+stat_text path seen =
+    path_text path ++ codes "\n" ++ kind_text seen.is_dir ++ codes " id " ++ decimal seen.id ++ codes " version " ++ decimal seen.version ++ codes " length " ++ decimal seen.len ++ codes "\n"
+
+-- an answer that a command has no use for is a fault of the client's
+abbrev pub why_of : Answer → Why
+why_of (answer.Failed w) = w
+why_of a = why.Order
+
+abbrev pub refused_told : List (List ℕ) → Why → Told
+refused_told path w = notes (note_line (path_text path) (why_text w))
+
+-- of what has nothing to tell
+abbrev pub done_told : List (List ℕ) → Answer → Told
+done_told path answer.Done = fine []
+done_told path a = refused_told path (why_of a)
+
+abbrev pub names_told : List (List ℕ) → Answer → Told
+names_told path (answer.Names names) = fine (names_text names)
+names_told path a = refused_told path (why_of a)
+
+abbrev pub stat_told : List (List ℕ) → Answer → Told
+stat_told path (answer.Seen seen) = fine (stat_text path seen)
+stat_told path a = refused_told path (why_of a)

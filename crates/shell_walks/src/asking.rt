@@ -1,0 +1,118 @@
+//! The commands of a client that stand for a path, and asking for them: `specs/Asking.antt`.
+
+ghost use Rattle.std.specs.Prelude.{◌≡◌, ◌<◌, length, IfOk};
+ghost use Rattle.command_text.specs.Paths.{spot_at};
+ghost use Rattle.shell_walks.specs.Asking.{command_at, command_on, AsksOn, rename_of};
+
+use crate::remote::{Answer, Remote, Why};
+use command_text::command::Command;
+use command_text::path::{Path, PathCommand, Spot};
+use lb_base::items::Name;
+use shell_words::path::copy_of;
+use std::alloc::{AllocError, Global};
+
+/// What is done with the one path that a command is about.
+#[derive(Clone, Copy)]
+pub enum Deed {
+    /// Its file is opened.
+    Find,
+    /// What it stands for is told.
+    Look,
+    /// A file is made.
+    Make,
+    /// A directory is made.
+    MakeDir,
+    /// A file is removed.
+    Remove,
+    /// A directory that has no entry is removed.
+    RemoveDir,
+    /// The names in a directory are told.
+    List,
+}
+
+/// The status of what can't be done with the root: NFS3ERR_INVAL.
+const INVAL: u32 = 22;
+
+/// The last name of a path, in the directory of those before it. It takes no memory.
+fn spot_at(mut names: Path) -> Spot
+    requires { 0 < length names }
+    ensures { result ≡ spot_at names }
+{
+    let last = names.len() - 1;
+    let name = names.remove(last);
+    Spot { dirs: names, name }
+}
+
+/// The command on a path other than the root.
+fn command_at(deed: Deed, path: Path) -> Command
+    requires { 0 < length path }
+    ensures { result ≡ command_at deed path }
+{
+    Command::Named(match deed {
+        Deed::Find => PathCommand::Find(spot_at(path)),
+        Deed::Look => PathCommand::Look(spot_at(path)),
+        Deed::Make => PathCommand::Make(spot_at(path)),
+        Deed::MakeDir => PathCommand::MakeDir(spot_at(path)),
+        Deed::Remove => PathCommand::Remove(spot_at(path)),
+        Deed::RemoveDir => PathCommand::RemoveDir(spot_at(path)),
+        Deed::List => PathCommand::List(path),
+    })
+}
+
+/// The command on a path, where there is one.
+fn command_on(deed: Deed, path: Path) -> Option<Command>
+    ensures { result ≡ command_on deed path }
+{
+    if path.len() > 0 {
+        return Some(command_at(deed, path));
+    }
+    match deed {
+        Deed::Look => Some(Command::Named(PathCommand::LookRoot)),
+        Deed::List => Some(Command::Named(PathCommand::List(path))),
+        _ => None,
+    }
+}
+
+/// Asks for what is done with a path.
+pub fn ask_on<R: Remote>(
+    alloc: Global,
+    remote: &mut R,
+    deed: Deed,
+    path: &[Name],
+) -> Result<Answer, AllocError>
+    ensures { IfOk result (λ answer. AsksOn R.asks remote.old (command_on deed path.now) answer remote.new) }
+{
+    let path = copy_of(alloc, path)?;
+    match command_on(deed, path) {
+        Some(command) => Ok(remote.ask(alloc, command)),
+        None => Ok(Answer::Failed(Why::Refused(INVAL))),
+    }
+}
+
+/// The command that gives one path's file or directory another.
+fn rename_of(from: Path, to: Path) -> Option<Command>
+    ensures { result ≡ rename_of from to }
+{
+    if from.len() > 0 && to.len() > 0 {
+        Some(Command::Named(PathCommand::Rename(spot_at(from), spot_at(to))))
+    } else {
+        None
+    }
+}
+
+/// Asks for another name.
+pub fn ask_rename<R: Remote>(
+    alloc: Global,
+    remote: &mut R,
+    from: &[Name],
+    to: &[Name],
+) -> Result<Answer, AllocError>
+    ensures { IfOk result (λ answer. AsksOn R.asks remote.old (rename_of from.now to.now) answer remote.new) }
+{
+    let from = copy_of(alloc, from)?;
+    let to = copy_of(alloc, to)?;
+    match rename_of(from, to) {
+        Some(command) => Ok(remote.ask(alloc, command)),
+        None => Ok(Answer::Failed(Why::Refused(INVAL))),
+    }
+}

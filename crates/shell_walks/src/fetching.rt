@@ -1,0 +1,90 @@
+//! How the content of a file becomes the host's: `specs/Fetching.antt`.
+
+ghost use Rattle.std.specs.Prelude.{◌≡◌, length, IfOk};
+ghost use Rattle.shell_walks.specs.Fetching.{got_of, Keeps, Gets, CatsOpen, Cats};
+ghost use Rattle.shell_walks.specs.Telling.{fine};
+
+use crate::asking::{Deed, ask_on};
+use crate::folder::{Folder, LocalFault};
+use crate::remote::{Remote, Why};
+use crate::storing::opened_file;
+use crate::telling::{refused_told, why_of};
+use crate::told::{Told, fine};
+use command_text::command::Command;
+use lb_base::items::{Items, Name};
+use std::alloc::{AllocError, Global};
+
+/// What the fetching of a file came to.
+#[derive(Clone, Copy)]
+pub enum Got {
+    /// The file of the host has its so many bytes.
+    Fine(u64),
+    /// It isn't open.
+    Refused(Why),
+    /// The file of the host wasn't written.
+    Fault(LocalFault),
+}
+
+/// What it came to where the file of the host was written, or wasn't.
+fn got_of(len: usize, wrote: Result<(), LocalFault>) -> Got
+    ensures { result ≡ got_of len wrote }
+{
+    match wrote {
+        Ok(()) => Got::Fine(len as u64),
+        Err(fault) => Got::Fault(fault),
+    }
+}
+
+/// The content of an open file goes into one of the host, and the file is abandoned.
+fn keep<R: Remote, F: Folder>(
+    alloc: Global,
+    remote: &mut R,
+    folder: &mut F,
+    file: u64,
+    local: &str,
+) -> Got
+    ensures { Keeps R.asks R.content F.writes remote.old folder.old file local.now result remote.new folder.new }
+{
+    let content = remote.content(file);
+    let len = content.len();
+    let wrote = folder.write(alloc, local, content);
+    drop(remote.ask(alloc, Command::Abandon(file)));
+    got_of(len, wrote)
+}
+
+/// Fetches a file into one of the host.
+pub fn get<R: Remote, F: Folder>(
+    alloc: Global,
+    remote: &mut R,
+    folder: &mut F,
+    path: &[Name],
+    local: &str,
+) -> Result<Got, AllocError>
+    ensures { IfOk result (λ got. Gets R.asks R.content F.writes remote.old folder.old path.now local.now got remote.new folder.new) }
+{
+    let opened = ask_on(alloc, remote, Deed::Find, path)?;
+    match opened_file(&opened) {
+        Some(file) => Ok(keep(alloc, remote, folder, file, local)),
+        None => Ok(Got::Refused(why_of(&opened))),
+    }
+}
+
+/// The content of an open file is told, and the file is abandoned.
+fn tell<R: Remote>(alloc: Global, remote: &mut R, file: u64) -> Result<Told, AllocError>
+    ensures { IfOk result (λ told. CatsOpen R.asks R.content remote.old file told remote.new) }
+{
+    let text = Items::copy_of(alloc, remote.content(file))?;
+    drop(remote.ask(alloc, Command::Abandon(file)));
+    Ok(fine(alloc, text))
+}
+
+/// Tells the content of a file.
+pub fn cat<R: Remote>(alloc: Global, remote: &mut R, path: &[Name]) -> Result<Told, AllocError>
+    ensures { IfOk result (λ told. Cats R.asks R.content remote.old path.now told remote.new) }
+{
+    let opened = ask_on(alloc, remote, Deed::Find, path)?;
+    match opened_file(&opened) {
+        Some(file) => tell(alloc, remote, file),
+        None => refused_told(alloc, path, why_of(&opened)),
+    }
+}

@@ -1,0 +1,85 @@
+//! What a shell asks of the host's files, by their paths.
+
+ghost use Rattle.std.specs.Prelude.{◌≡◌, ℕ, ◌≤◌, List, length, Result, IfOk};
+ghost use Rattle.limits.specs.declared.TheConstants.{FILE_MOST};
+ghost use Rattle.shell_walks.specs.declared.folder.Kind.{Kind};
+ghost use Rattle.shell_walks.specs.declared.folder.LocalFault.{LocalFault};
+
+use lb_base::items::{Bytes, Items, Name};
+use std::alloc::Global;
+
+/// Why something wasn't done with a file of the host.
+#[derive(Clone, Copy)]
+pub enum LocalFault {
+    /// There is none.
+    Missing,
+    /// It is there already.
+    Exists,
+    /// It is a folder.
+    IsFolder,
+    /// It is no folder.
+    NotFolder,
+    /// It may not be read, or written.
+    Denied,
+    /// The disk is full.
+    Full,
+    /// The file has more bytes than any may have.
+    TooBig,
+    /// The name can't be one of this host's.
+    BadName,
+    /// It is neither a file nor a folder.
+    Odd,
+    /// The system failed otherwise.
+    Failed,
+    /// Memory ran out.
+    Memory,
+}
+
+/// What a path stands for. A symbolic link stands for what it leads to.
+#[derive(Clone, Copy)]
+pub enum Kind {
+    Missing,
+    File,
+    Folder,
+    Other,
+}
+
+/// The host's files.
+pub trait Folder {
+    /// What a path may be found to stand for.
+    ghost finds: { Self → List ℕ → Kind → Self → Type 0 };
+
+    /// What the reading of a file may come to.
+    ghost reads: { Self → List ℕ → Result (List ℕ) LocalFault → Self → Type 0 };
+
+    /// What the writing of a file may come to.
+    ghost writes: { Self → List ℕ → List ℕ → Result Unit LocalFault → Self → Type 0 };
+
+    /// What the listing of a folder may come to.
+    ghost lists: { Self → List ℕ → Result (List (List ℕ)) LocalFault → Self → Type 0 };
+
+    /// What the making of a folder may come to.
+    ghost makes: { Self → List ℕ → Result Unit LocalFault → Self → Type 0 };
+
+    /// What a path stands for.
+    fn kind(&mut self, path: &str) -> Kind
+        ensures { finds self.old path.now result self.new };
+
+    /// The bytes of a file, which has at most `FILE_MOST`.
+    fn read(&mut self, alloc: Global, path: &str) -> Result<Bytes, LocalFault>
+        ensures read { reads self.old path.now result self.new }
+        ensures within { IfOk result (λ bytes. length bytes ≤ FILE_MOST) };
+
+    /// Makes a file with these bytes, or puts them in the place of those that it has: as a whole, or not
+    /// at all. Its permissions stay, and where the path is a symbolic link, what it leads to is replaced.
+    fn write(&mut self, alloc: Global, path: &str, bytes: &[u8]) -> Result<(), LocalFault>
+        ensures { writes self.old path.now bytes.now result self.new };
+
+    /// The names in a folder, in no order.
+    fn names(&mut self, alloc: Global, path: &str) -> Result<Items<Name>, LocalFault>
+        ensures { lists self.old path.now result self.new };
+
+    /// Makes a folder. `Exists` comes where something has the name already.
+    fn make_folder(&mut self, path: &str) -> Result<(), LocalFault>
+        ensures { makes self.old path.now result self.new };
+}

@@ -1,0 +1,20 @@
+//! The commands of a shell, as walks of what a client is asked: which commands of the client each makes, in
+//! which order, what becomes of the host's files, and what is told.
+//!
+//! `remote` is what a shell asks of its client, and `folder` what it asks of the host's files; both are
+//! traits. `specs/Walks.antt` has what each command comes to, over whatever the client does at one command
+//! (`asks`), and `specs/Telling.antt` what is written then.
+#![tactic(auto)]
+
+pub mod asking;
+pub mod dials;
+pub mod fetching;
+pub mod folder;
+pub mod remote;
+pub mod removing;
+pub mod shell;
+pub mod storing;
+pub mod tasks;
+pub mod telling;
+pub mod told;
+pub mod visiting;

@@ -1,0 +1,79 @@
+//! What a shell asks of its client: one command after the other, each done before the next.
+
+ghost use Rattle.std.specs.Prelude.{◌≡◌, ℕ, List};
+ghost use Rattle.command_text.specs.declared.command.Command.{Command};
+ghost use Rattle.shell_walks.specs.declared.remote.Answer.{Answer};
+
+use command_text::command::Command;
+use lb_base::items::{Items, Name};
+use std::alloc::Global;
+
+/// Why a command wasn't done.
+#[derive(Clone, Copy)]
+pub enum Why {
+    /// The file isn't open, or is, or an operation is under way: a shell makes no such command.
+    Order,
+    /// The file would be larger than any may be.
+    TooBig,
+    /// The connection was lost meanwhile: it may have been done, or not.
+    Lost,
+    /// The file changed each time that it was fetched.
+    Changed,
+    /// There is no connection, and none can be had.
+    NoLink,
+    /// The server refused it, with this status (nfsstat3 of RFC 1813, section 2.6, or one of LBFS).
+    Refused(u32),
+    /// The server lacked memory.
+    PeerMemory,
+    /// The other end broke the protocol; the number says how.
+    BadPeer(u32),
+    /// Memory ran out.
+    Memory,
+}
+
+/// What a name stands for.
+#[derive(Clone, Copy)]
+pub struct Seen {
+    /// Its id.
+    pub id: u64,
+    /// Whether it is a directory.
+    pub is_dir: bool,
+    /// Its version.
+    pub version: u64,
+    /// The bytes of a file, or the names in a directory.
+    pub len: u64,
+}
+
+/// How a command ended.
+#[derive(Drop)]
+pub enum Answer {
+    /// It was done, and has nothing to tell.
+    Done,
+    /// The file with this id is open.
+    Opened(u64),
+    /// The file was stored, and has this version.
+    Closed(u64),
+    /// What the name stands for.
+    Seen(Seen),
+    /// The names in a directory, in its order.
+    Names(Items<Name>),
+    /// It wasn't done.
+    Failed(Why),
+}
+
+/// A client that is asked one command after the other.
+pub trait Remote {
+    /// What a command may come to, and leave.
+    ghost asks: { Self → Command → Answer → Self → Type 0 };
+
+    /// The content of an open file; no bytes where it isn't open.
+    ghost content: { Self → ℕ → List ℕ };
+
+    /// Asks for a command, and waits until it has ended.
+    fn ask(&mut self, alloc: Global, command: Command) -> Answer
+        ensures { asks self.old command result self.new };
+
+    /// The content of an open file; no bytes where it isn't open.
+    fn content(&self, file: u64) -> &[u8]
+        ensures { result.now ≡ content self.now file };
+}

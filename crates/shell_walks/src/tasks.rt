@@ -1,0 +1,184 @@
+//! What `get`, `put` and `sync` do, in tasks: each is about one path, and those for what is in a directory
+//! come from it. `specs/Tasks.antt` says which.
+
+ghost use Rattle.std.specs.Prelude.{◌≡◌, ◌++◌, ◌∷◌, [], IfOk, OnOk};
+ghost use Rattle.shell_walks.specs.Tasks.{put_more, put_tasks, get_more, get_tasks, is_among, remove_more, removals};
+
+use command_text::path::Path;
+use command_text::words::is;
+use lb_base::items::{Items, Name};
+use shell_words::local::{LocalPath, local_name};
+use shell_words::path::copy_of;
+use std::alloc::{AllocError, Global};
+
+/// How things are stored.
+#[derive(Clone, Copy)]
+pub struct Storing {
+    /// Whether what is in folders is stored too.
+    pub deep: bool,
+    /// Whether only what differs is.
+    pub changed_only: bool,
+    /// Whether what a folder has not is removed.
+    pub deletes: bool,
+    /// Whether nothing is there yet where it is stored.
+    pub fresh: bool,
+}
+
+/// A task.
+#[derive(Drop)]
+pub enum Task {
+    /// A file or a folder of the host is stored under a path.
+    Put {
+        local: LocalPath,
+        path: Path,
+        storing: Storing,
+    },
+    /// What has a path is fetched, to a file or a folder of the host.
+    Get {
+        path: Path,
+        local: LocalPath,
+        deep: bool,
+    },
+    /// What has a path is removed, with all that is in it.
+    Remove(Path),
+}
+
+/// A path with a name more.
+pub fn longer(alloc: Global, path: &[Name], name: &[u8]) -> Result<Path, AllocError>
+    ensures { IfOk result (λ more. more ≡ path.now ++ name.now ∷ []) }
+{
+    let mut more = copy_of(alloc, path)?;
+    more.push(Name::copy_of(alloc, name)?)?;
+    Ok(more)
+}
+
+/// The task of a name in a folder that is stored goes behind those that there are, where this host can
+/// have the name.
+fn put_more(
+    alloc: Global,
+    tasks: &mut Items<Task>,
+    local: &str,
+    path: &[Name],
+    storing: Storing,
+    name: &[u8],
+) -> Result<(), AllocError>
+    ensures { OnOk result (tasks.new ≡ tasks.old ++ put_more local.now path.now storing name.now) }
+{
+    match local_name(name) {
+        Some(text) => {
+            let local = LocalPath::below(alloc, local, text)?;
+            let path = longer(alloc, path, name)?;
+            tasks.push(Task::Put {
+                local,
+                path,
+                storing,
+            })?;
+            Ok(())
+        }
+        None => Ok(()),
+    }
+}
+
+/// The tasks of the names in a folder that is stored.
+pub fn put_tasks(
+    alloc: Global,
+    local: &str,
+    path: &[Name],
+    storing: Storing,
+    names: &[Name],
+) -> Result<Items<Task>, AllocError>
+    ensures { IfOk result (λ tasks. tasks ≡ put_tasks local.now path.now storing names.now) }
+{
+    let mut tasks = Items::new(alloc);
+    for name in names {
+        put_more(alloc, &mut tasks, local, path, storing, name.as_slice())?;
+    }
+    Ok(tasks)
+}
+
+/// The task of a name in a directory that is fetched goes behind those that there are, where this host
+/// can have the name.
+fn get_more(
+    alloc: Global,
+    tasks: &mut Items<Task>,
+    path: &[Name],
+    local: &str,
+    name: &[u8],
+) -> Result<(), AllocError>
+    ensures { OnOk result (tasks.new ≡ tasks.old ++ get_more path.now local.now name.now) }
+{
+    match local_name(name) {
+        Some(text) => {
+            let path = longer(alloc, path, name)?;
+            let local = LocalPath::below(alloc, local, text)?;
+            tasks.push(Task::Get {
+                path,
+                local,
+                deep: true,
+            })?;
+            Ok(())
+        }
+        None => Ok(()),
+    }
+}
+
+/// The tasks of the names in a directory that is fetched.
+pub fn get_tasks(
+    alloc: Global,
+    path: &[Name],
+    local: &str,
+    names: &[Name],
+) -> Result<Items<Task>, AllocError>
+    ensures { IfOk result (λ tasks. tasks ≡ get_tasks path.now local.now names.now) }
+{
+    let mut tasks = Items::new(alloc);
+    for name in names {
+        get_more(alloc, &mut tasks, path, local, name.as_slice())?;
+    }
+    Ok(tasks)
+}
+
+/// Whether a name is among these.
+fn is_among(name: &[u8], names: &[Name]) -> bool
+    ensures { result ≡ is_among name.now names.now }
+{
+    for other in names {
+        if is(other.as_slice(), name) {
+            return true;
+        }
+    }
+    false
+}
+
+/// The task that removes what has a name, where the folder hasn't it, goes behind those that there are.
+fn remove_more(
+    alloc: Global,
+    tasks: &mut Items<Task>,
+    path: &[Name],
+    held: &[Name],
+    name: &[u8],
+) -> Result<(), AllocError>
+    ensures { OnOk result (tasks.new ≡ tasks.old ++ remove_more path.now held.now name.now) }
+{
+    if is_among(name, held) {
+        return Ok(());
+    }
+    tasks.push(Task::Remove(longer(alloc, path, name)?))?;
+    Ok(())
+}
+
+/// The tasks that remove what a folder hasn't: those of the directory's names that are none of these.
+pub fn put_removals(
+    alloc: Global,
+    tasks: &mut Items<Task>,
+    path: &[Name],
+    held: &[Name],
+    names: &[Name],
+) -> Result<(), AllocError>
+    ensures { OnOk result (tasks.new ≡ tasks.old ++ removals path.now held.now names.now) }
+{
+    for name in names {
+        remove_more(alloc, tasks, path, held, name.as_slice())?;
+    }
+    Ok(())
+}

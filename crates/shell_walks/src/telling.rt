@@ -1,0 +1,305 @@
+//! What is written, and said, of what a command came to: `specs/Telling.antt`. Each `put_` puts its text
+//! behind what is there; the one error is want of memory.
+
+ghost use Rattle.std.specs.Prelude.{◌≡◌, ◌+◌, ◌-◌, ◌++◌, ◌∷◌, [], IfOk, OnOk, codes, decimal, length, replicate};
+ghost use Rattle.shell_walks.specs.declared.remote.Why.TheVariants as whys;
+ghost use Rattle.shell_words.specs.Quoting.{quoted};
+ghost use Rattle.shell_walks.specs.Telling.{status_words, status_text, why_text, fault_text, mistake_text, slashed, path_text, note_line, names_text, padded, kind_text, long_line, stat_text, why_of, refused_told, done_told, names_told, stat_told};
+
+use crate::folder::LocalFault;
+use crate::remote::{Answer, Seen, Why};
+use crate::told::{Told, fine, notes};
+use lb_base::items::{Bytes, Items, Name};
+use shell_words::mistake::Mistake;
+use shell_words::quoting::quoted;
+use std::alloc::{AllocError, Global};
+use std::fmt::Write;
+
+/// A number in decimal.
+fn decimal(alloc: Global, number: u64) -> Result<Bytes, AllocError>
+    ensures { IfOk result (λ text. text ≡ decimal number) }
+{
+    let mut text = String::new(alloc);
+    write!(text, "{number}")?;
+    Ok(Items::from_vec(text.into_bytes()))
+}
+
+/// A number.
+fn put_number(alloc: Global, out: &mut Bytes, number: u64) -> Result<(), AllocError>
+    ensures { OnOk result (out.new ≡ out.old ++ decimal number) }
+{
+    let text = decimal(alloc, number)?;
+    out.extend_from_slice(text.as_slice())
+}
+
+/// A status, where its words have no number.
+fn status_words(status: u32) -> &'static [u8]
+    ensures { result.now ≡ status_words status }
+{
+    match status {
+        2 => b"no such file or directory",
+        5 => b"the server's store failed",
+        13 => b"the server takes no such name",
+        17 => b"it is there already",
+        20 => b"not a directory",
+        21 => b"it is a directory",
+        22 => b"that can't be",
+        27 => b"the file is too large",
+        28 => b"the server has no more room",
+        63 => b"the name is too long",
+        66 => b"the directory isn't empty",
+        70 => b"it is gone",
+        _ => b"",
+    }
+}
+
+/// A status that has no words.
+fn numbered_status(alloc: Global, status: u32) -> Result<Bytes, AllocError>
+    ensures { IfOk result (λ text. text ≡ codes "the server refused it, with status " ++ decimal status) }
+{
+    let mut text = String::new(alloc);
+    write!(text, "the server refused it, with status {status}")?;
+    Ok(Items::from_vec(text.into_bytes()))
+}
+
+/// A status in words.
+fn put_status(alloc: Global, out: &mut Bytes, status: u32) -> Result<(), AllocError>
+    ensures { OnOk result (out.new ≡ out.old ++ status_text status) }
+{
+    let words = status_words(status);
+    if words.len() == 0 {
+        let text = numbered_status(alloc, status)?;
+        return out.extend_from_slice(text.as_slice());
+    }
+    out.extend_from_slice(words)
+}
+
+/// A fault of the server's in words.
+fn bad_peer_text(alloc: Global, fault: u32) -> Result<Bytes, AllocError>
+    ensures { IfOk result (λ text. text ≡ why_text (whys.BadPeer fault)) }
+{
+    let mut text = String::new(alloc);
+    write!(text, "the server broke the protocol ({fault})")?;
+    Ok(Items::from_vec(text.into_bytes()))
+}
+
+/// The same, behind what is there.
+fn put_bad_peer(alloc: Global, out: &mut Bytes, fault: u32) -> Result<(), AllocError>
+    ensures { OnOk result (out.new ≡ out.old ++ why_text (whys.BadPeer fault)) }
+{
+    let text = bad_peer_text(alloc, fault)?;
+    out.extend_from_slice(text.as_slice())
+}
+
+/// Why a command wasn't done, in words.
+pub fn put_why(alloc: Global, out: &mut Bytes, why: Why) -> Result<(), AllocError>
+    ensures { OnOk result (out.new ≡ out.old ++ why_text why) }
+{
+    match why {
+        Why::Order => out.extend_from_slice(b"the client has no such file open"),
+        Why::TooBig => out.extend_from_slice(b"the file is too large"),
+        Why::Lost => {
+            out.extend_from_slice(b"the connection was lost; it may have been done, or not")
+        }
+        Why::Changed => out.extend_from_slice(b"the file changed each time that it was fetched"),
+        Why::NoLink => out.extend_from_slice(b"there is no connection"),
+        Why::Refused(status) => put_status(alloc, out, status),
+        Why::PeerMemory => out.extend_from_slice(b"the server has no memory left"),
+        Why::BadPeer(fault) => put_bad_peer(alloc, out, fault),
+        Why::Memory => out.extend_from_slice(b"no memory is left"),
+    }
+}
+
+/// Why something wasn't done with a file of the host, in words.
+pub fn fault_words(fault: LocalFault) -> &'static [u8]
+    ensures { result.now ≡ fault_text fault }
+{
+    match fault {
+        LocalFault::Missing => b"no such file or folder here",
+        LocalFault::Exists => b"it is here already",
+        LocalFault::IsFolder => b"it is a folder here",
+        LocalFault::NotFolder => b"it is no folder here",
+        LocalFault::Denied => b"permission denied here",
+        LocalFault::Full => b"the disk here is full",
+        LocalFault::TooBig => b"the file is too large",
+        LocalFault::BadName => b"no file here can have this name",
+        LocalFault::Odd => b"it is neither a file nor a folder here",
+        LocalFault::Failed => b"the system failed here",
+        LocalFault::Memory => b"no memory is left",
+    }
+}
+
+/// A mistake in words.
+pub fn mistake_words(mistake: Mistake) -> &'static [u8]
+    ensures { result.now ≡ mistake_text mistake }
+{
+    match mistake {
+        Mistake::BadEscape => b"a backslash stands before what it gives no meaning",
+        Mistake::OpenQuote => b"a quote isn't closed",
+        Mistake::Unknown => b"there is no such command (help lists them)",
+        Mistake::BadOption => b"there is no such option",
+        Mistake::TooFew => b"a word is wanting",
+        Mistake::TooMany => b"there is a word too many",
+        Mistake::LongName => b"a name is too long",
+        Mistake::LongPath => b"a path has too many names",
+    }
+}
+
+/// The names of a path, each behind a slash.
+fn slashed(alloc: Global, path: &[Name]) -> Result<Bytes, AllocError>
+    ensures { IfOk result (λ text. text ≡ slashed path.now) }
+{
+    let mut out = Items::new(alloc);
+    for name in path {
+        out.extend_from_slice(b"/")?;
+        out.extend_from_slice(name.as_slice())?;
+    }
+    Ok(out)
+}
+
+/// A path, as it is shown.
+pub fn path_text(alloc: Global, path: &[Name]) -> Result<Bytes, AllocError>
+    ensures { IfOk result (λ text. text ≡ path_text path.now) }
+{
+    if path.is_empty() {
+        return Items::copy_of(alloc, b"/");
+    }
+    let text = slashed(alloc, path)?;
+    quoted(alloc, text.as_slice())
+}
+
+/// What something is about, and what is said of it.
+pub fn note_line(alloc: Global, about: &[u8], words: &[u8]) -> Result<Bytes, AllocError>
+    ensures { IfOk result (λ text. text ≡ note_line about.now words.now) }
+{
+    let mut out = Items::copy_of(alloc, about)?;
+    out.extend_from_slice(b": ")?;
+    out.extend_from_slice(words)?;
+    out.extend_from_slice(b"\n")?;
+    Ok(out)
+}
+
+/// A name, as it is shown, and a line feed.
+fn put_name(alloc: Global, out: &mut Bytes, name: &[u8]) -> Result<(), AllocError>
+    ensures { OnOk result (out.new ≡ out.old ++ (quoted name.now ++ codes "\n")) }
+{
+    let shown = quoted(alloc, name)?;
+    out.extend_from_slice(shown.as_slice())?;
+    out.extend_from_slice(b"\n")
+}
+
+/// Names, a line for each.
+fn names_text(alloc: Global, names: &[Name]) -> Result<Bytes, AllocError>
+    ensures { IfOk result (λ text. text ≡ names_text names.now) }
+{
+    let mut out = Items::new(alloc);
+    for name in names {
+        put_name(alloc, &mut out, name.as_slice())?;
+    }
+    Ok(out)
+}
+
+/// So many blanks.
+fn put_blanks(out: &mut Bytes, count: usize) -> Result<(), AllocError>
+    ensures { OnOk result (out.new ≡ out.old ++ replicate count 32) }
+{
+    for _at in 0..count {
+        out.extend_from_slice(b" ")?;
+    }
+    Ok(())
+}
+
+/// A number at the right of so many columns.
+fn put_padded(alloc: Global, out: &mut Bytes, columns: usize, number: u64) -> Result<(), AllocError>
+    ensures { OnOk result (out.new ≡ out.old ++ padded columns number) }
+{
+    let text = decimal(alloc, number)?;
+    put_blanks(out, columns.saturating_sub(text.len()))?;
+    out.extend_from_slice(text.as_slice())
+}
+
+/// Whether it is a directory, in four letters.
+fn kind_words(is_dir: bool) -> &'static [u8]
+    ensures { result.now ≡ kind_text is_dir }
+{
+    if is_dir { b"dir " } else { b"file" }
+}
+
+/// A line of `ls -l`.
+pub fn long_line(alloc: Global, seen: &Seen, name: &[u8]) -> Result<Bytes, AllocError>
+    ensures { IfOk result (λ text. text ≡ long_line seen.now name.now) }
+{
+    let mut out = Items::copy_of(alloc, kind_words(seen.is_dir))?;
+    put_padded(alloc, &mut out, 10, seen.len)?;
+    put_padded(alloc, &mut out, 7, seen.version)?;
+    out.extend_from_slice(b" ")?;
+    put_name(alloc, &mut out, name)?;
+    Ok(out)
+}
+
+/// What `stat` writes.
+fn stat_text(alloc: Global, path: &[Name], seen: &Seen) -> Result<Bytes, AllocError>
+    ensures { IfOk result (λ text. text ≡ stat_text path.now seen.now) }
+{
+    let mut out = path_text(alloc, path)?;
+    out.extend_from_slice(b"\n")?;
+    out.extend_from_slice(kind_words(seen.is_dir))?;
+    out.extend_from_slice(b" id ")?;
+    put_number(alloc, &mut out, seen.id)?;
+    out.extend_from_slice(b" version ")?;
+    put_number(alloc, &mut out, seen.version)?;
+    out.extend_from_slice(b" length ")?;
+    put_number(alloc, &mut out, seen.len)?;
+    out.extend_from_slice(b"\n")?;
+    Ok(out)
+}
+
+/// Why an answer is of no use. One that tells something else is a fault of the client's.
+pub fn why_of(answer: &Answer) -> Why
+    ensures { result ≡ why_of answer.now }
+{
+    match answer {
+        Answer::Failed(why) => *why,
+        _ => Why::Order,
+    }
+}
+
+/// A command on this path wasn't done.
+pub fn refused_told(alloc: Global, path: &[Name], why: Why) -> Result<Told, AllocError>
+    ensures { IfOk result (λ told. told ≡ refused_told path.now why) }
+{
+    let about = path_text(alloc, path)?;
+    let mut words = Items::new(alloc);
+    put_why(alloc, &mut words, why)?;
+    Ok(notes(alloc, note_line(alloc, about.as_slice(), words.as_slice())?))
+}
+
+/// Of a command that has nothing to tell.
+pub fn done_told(alloc: Global, path: &[Name], answer: &Answer) -> Result<Told, AllocError>
+    ensures { IfOk result (λ told. told ≡ done_told path.now answer.now) }
+{
+    match answer {
+        Answer::Done => Ok(fine(alloc, Items::new(alloc))),
+        answer => refused_told(alloc, path, why_of(answer)),
+    }
+}
+
+/// Of a listing.
+pub fn names_told(alloc: Global, path: &[Name], answer: &Answer) -> Result<Told, AllocError>
+    ensures { IfOk result (λ told. told ≡ names_told path.now answer.now) }
+{
+    match answer {
+        Answer::Names(names) => Ok(fine(alloc, names_text(alloc, names.as_slice())?)),
+        answer => refused_told(alloc, path, why_of(answer)),
+    }
+}
+
+/// Of what a name stands for.
+pub fn stat_told(alloc: Global, path: &[Name], answer: &Answer) -> Result<Told, AllocError>
+    ensures { IfOk result (λ told. told ≡ stat_told path.now answer.now) }
+{
+    match answer {
+        Answer::Seen(seen) => Ok(fine(alloc, stat_text(alloc, path, seen)?)),
+        answer => refused_told(alloc, path, why_of(answer)),
+    }
+}

@@ -1,0 +1,43 @@
+//! What a command of a shell comes to, as whoever gave it is told.
+
+ghost use Rattle.std.specs.Prelude.{◌≡◌, ◌++◌, [], IfOk};
+ghost use Rattle.shell_walks.specs.Telling.{fine, notes};
+
+use lb_base::items::{Bytes, Items};
+use std::alloc::{AllocError, Global};
+
+/// What a command comes to.
+#[derive(Drop)]
+pub struct Told {
+    /// What is written.
+    pub text: Bytes,
+    /// What is said of it beside that, on standard error: why it wasn't done.
+    pub note: Bytes,
+}
+
+impl Told {
+    /// Whether it was done.
+    pub fn is_fine(&self) -> bool {
+        self.note.is_empty()
+    }
+}
+
+/// It was done, and this is written.
+pub fn fine(alloc: Global, text: Bytes) -> Told
+    ensures { result ≡ fine text }
+{
+    Told {
+        text,
+        note: Items::new(alloc),
+    }
+}
+
+/// It wasn't done, and this is said.
+pub fn notes(alloc: Global, note: Bytes) -> Told
+    ensures { result ≡ notes note }
+{
+    Told {
+        text: Items::new(alloc),
+        note,
+    }
+}

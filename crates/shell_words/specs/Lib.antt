@@ -1,0 +1,6 @@
+pub mod Commands
+pub mod Giving
+pub mod Local
+pub mod Paths
+pub mod Quoting
+pub mod Words
