@@ -1,0 +1,10 @@
+pub mod Steps
+pub mod Logs
+pub mod Redo
+pub mod Stage
+pub mod Add
+pub mod Hold
+pub mod End
+pub mod Framing
+pub mod Meets
+pub mod Coding

@@ -1,0 +1,9 @@
+pub mod Names
+pub mod Disk
+pub mod Lines
+pub mod Sound
+pub mod Making
+pub mod Store
+pub mod Frames
+pub mod Pending
+pub mod Entries
