@@ -7,8 +7,8 @@ use Rattle.store.specs.declared.record.NodeKind.{NodeKind}
 use Rattle.store.specs.declared.record.NodeKind.TheVariants as kind
 use Rattle.store.specs.declared.record.NodeRecord.{NodeRecord}
 use Rattle.store.specs.declared.record.ContentRecord.{ContentRecord}
-use Rattle.folder_store.specs.declared.naming.Which.{Which}
-use Rattle.folder_store.specs.declared.naming.Which.TheVariants as which
+use Rattle.log_store.specs.declared.which.Which.{Which}
+use Rattle.log_store.specs.declared.which.Which.TheVariants as which
 
 -- ---- names
 

@@ -1,2 +1,3 @@
 pub mod Folder
+pub mod Untold
 pub mod Rows

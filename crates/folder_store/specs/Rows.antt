@@ -3,7 +3,7 @@ use Rattle.std.specs.Prelude.{◌≡◌, [], ◌∷◌, Some, None, codes}
 use Rattle.std.proofs.Common.{refl}
 use Rattle.store.specs.declared.record.NodeKind.TheVariants as kind
 use Rattle.store.specs.declared.record.NodeRecord.{NodeRecord}
-use Rattle.folder_store.specs.declared.naming.Which.TheVariants as which
+use Rattle.log_store.specs.declared.which.Which.TheVariants as which
 use Rattle.folder_store.specs.Folder.{which_of, node_bytes, node_in, content_bytes, content_in, head_bytes, head_in}
 
 which_row : which_of (codes "c120") ≡ Some (which.Content 120)

@@ -1,39 +1,41 @@
 //! A store in a folder of the host. It tells nothing of its records; what is proved is that each
-//! fault is counted.
+//! fault is counted. How a change is made, and what a cut of power leaves, `log_store` proves of a folder
+//! that does what its calls say; that the host's does is trusted (`disk_folder`).
 
-ghost use Rattle.std.specs.Prelude.{◌≡◌, ℕ, ◌≤◌, None};
+ghost use Rattle.std.specs.Prelude.{◌≡◌, None};
 
-use crate::format::{content_in, head_in, node_in, put_content, put_head, put_node};
-use crate::look::{look, tell_why};
-use crate::naming::{Which, held_by, put_name};
-use crate::redo::{Paths, carry_out};
+use crate::commit::FolderSyncs;
+use crate::disk_folder::DiskFolder;
+use crate::format::{content_front, content_in, head_bytes, head_in, node_front, node_in};
+use crate::look::look;
+use crate::naming::put_name;
 use lb_base::faults::one_more;
-use lb_base::source::{Failed, ReadError, read_all};
-use lb_base::streams::StreamSource;
-use limits::FILE_MOST;
+use lb_base::source::Failed;
+use log_store::edit::{Edit, Parts, What};
+use log_store::records::LogStore;
+use log_store::which::Which;
 use std::alloc::{AllocError, Global};
-use std::fmt::Write as WriteText;
+use std::fs;
 use std::fs::File;
-use std::io::{ErrorKind, Write};
 use std::rt::Files;
-use std::sync::Wait;
-use std::{fs, io};
 use store::record::{Change, Head, Kept};
 use store::store::{Store, StoreError};
 use synced_store::checks::{CheckedStore, Checks};
-use synced_store::syncs::{Synced, Syncs};
+use synced_store::syncs::Synced;
 
-/// The most bytes of a file of the folder: a content, and its version.
-const READ_MOST: usize = FILE_MOST as usize + 8;
+/// A record of more bytes is written in a file of its own before the log names it.
+const LARGE: usize = 32 << 10;
 
-/// How many bytes the list of a change has at most: three lines.
-const LIST_ROOM: usize = 128;
+/// How many edits a change is at most: two of each part, and the head's.
+const EDITS_MOST: usize = 5;
 
 /// A store in a folder.
 pub struct FolderStore<R> {
     rt: R,
     /// The folder, once it was loaded.
-    folder: Option<Folder>,
+    held: Option<Held<R>>,
+    /// Whether nothing is flushed.
+    unsynced: bool,
     spare: u32,
     faults: u64,
 }
@@ -43,38 +45,28 @@ impl<R: Drop> Drop for FolderStore<R> {
     fn drop(self) {
         let FolderStore {
             rt,
-            folder,
+            held,
+            unsynced: _unsynced,
             spare: _spare,
             faults: _faults,
         } = self;
         drop(rt);
-        drop(folder);
+        drop(held);
     }
 }
 
 /// A folder that is loaded.
-struct Folder {
-    /// The folder itself, which is locked as long as this is open.
-    lock: File,
-    paths: Paths,
-    /// What the change does that is being written, or that was made last.
-    list: String,
-    /// Whether the change that was made last may not have been carried out to its end.
-    unfinished: bool,
+struct Held<R> {
+    store: LogStore<DiskFolder<R>>,
+    syncs: FolderSyncs<R>,
 }
 
 // By hand: docs/PROVING.md, "Values that are let go".
-impl Drop for Folder {
+impl<R: Drop> Drop for Held<R> {
     fn drop(self) {
-        let Folder {
-            lock,
-            paths,
-            list,
-            unfinished: _unfinished,
-        } = self;
-        drop(lock);
-        drop(paths);
-        drop(list);
+        let Held { store, syncs } = self;
+        drop(store);
+        drop(syncs);
     }
 }
 
@@ -85,37 +77,11 @@ impl<R> FolderStore<R> {
     {
         FolderStore {
             rt,
-            folder: None,
+            held: None,
+            unsynced: false,
             spare: 0,
             faults: 0,
         }
-    }
-}
-
-/// Why the host failed, as a store tells it.
-fn store_error(error: io::Error) -> StoreError {
-    if error.kind() == ErrorKind::OutOfMemory {
-        return StoreError::Memory;
-    }
-    StoreError::Failed
-}
-
-/// The bytes of the file that is named, if it is there.
-fn read_named<R: Files>(
-    rt: &R,
-    alloc: Global,
-    paths: &Paths,
-) -> Result<Option<Vec<u8>>, StoreError> {
-    let file = match fs::open(rt, paths.at()) {
-        Ok(file) => file,
-        Err(error) if error.kind() == ErrorKind::NotFound => return Ok(None),
-        Err(error) => return Err(store_error(error)),
-    };
-    let mut source = StreamSource::new(file);
-    match read_all(alloc, READ_MOST, &mut source) {
-        Ok(bytes) => Ok(Some(bytes)),
-        Err(ReadError::Memory) => Err(StoreError::Memory),
-        Err(ReadError::Fault | ReadError::TooLong) => Err(StoreError::Failed),
     }
 }
 
@@ -138,197 +104,207 @@ pub(crate) fn record_in(
     }
 }
 
-/// Reads the record that the folder has a file of.
-fn read_record<R: Files>(
+/// Tells that a record's file says no record.
+fn tell_no_record<R: Eprint>(
     rt: &R,
     alloc: Global,
-    paths: &mut Paths,
+    place: &str,
+    which: Which,
+) -> Result<(), AllocError> {
+    let mut name = String::new(alloc);
+    put_name(&mut name, which)?;
+    let _told = eprintln!(rt; "lbfs: {place}/{name}: no such record");
+    Ok(())
+}
+
+/// Reads a record that the store has.
+fn read_record<R: Files<File = File> + AllocGlobal + Eprint + Clone + Drop>(
+    rt: &R,
+    alloc: Global,
+    place: &str,
+    store: &mut LogStore<DiskFolder<R>>,
     which: Which,
 ) -> Result<Kept, StoreError> {
-    paths.name(which)?;
-    let Some(bytes) = read_named(rt, alloc, paths)? else {
+    let Some(bytes) = store.read(which)? else {
         return Err(StoreError::Failed);
     };
     match record_in(alloc, which, bytes)? {
         Some(record) => Ok(record),
-        None => Err(StoreError::Failed),
-    }
-}
-
-/// The records that the folder has files of, in the order in which it is loaded.
-pub(crate) fn records_there<R: Files + AllocGlobal + Clone + Drop>(
-    rt: &R,
-    alloc: Global,
-    folder: &str,
-) -> io::Result<Vec<Which>> {
-    let mut found = Vec::new(alloc);
-    for entry in fs::read_dir(rt, folder)? {
-        let entry = entry?;
-        if let Some(one) = held_by(entry.file_name().as_bytes()) {
-            found.push(one)?;
+        None => {
+            tell_no_record(rt, alloc, place, which)?;
+            Err(StoreError::Failed)
         }
     }
-    found.sort()?;
-    Ok(found)
 }
 
-/// Carries out a change that was made when the program ended.
-fn finish<R: Files>(rt: &R, alloc: Global, paths: &mut Paths) -> Result<(), StoreError> {
-    paths.name_list()?;
-    let Some(list) = read_named(rt, alloc, paths)? else {
-        return Ok(());
-    };
-    match carry_out(rt, paths, &list) {
-        Ok(()) => Ok(()),
-        Err(error) => Err(store_error(error)),
-    }
-}
-
-/// Locks a folder, which no other program may have locked.
-fn lock_folder<R: Files<File = File>>(rt: &R, folder: &str) -> Result<File, StoreError> {
-    let Ok(file) = fs::open(rt, folder) else {
-        return Err(StoreError::Failed);
-    };
-    match file.try_lock() {
-        Ok(()) => Ok(file),
-        Err(_) => Err(StoreError::Failed),
-    }
-}
-
-/// Adds the record that is named to those that were read.
-fn add_record<R: Files>(
-    records: &mut Vec<Kept>,
-    rt: &R,
-    alloc: Global,
-    paths: &mut Paths,
-    which: Which,
-) -> Result<(), StoreError> {
-    let record = read_record(rt, alloc, paths, which)?;
-    match records.push(record) {
-        Ok(()) => Ok(()),
-        Err(_) => Err(StoreError::Memory),
-    }
-}
-
-/// The records of a folder, once the change is carried out that was made last.
-fn records_of<R: Files + AllocGlobal + Clone + Drop>(
-    rt: &R,
-    alloc: Global,
-    paths: &mut Paths,
-) -> Result<Vec<Kept>, StoreError> {
-    finish(rt, alloc, paths)?;
-    let there = match records_there(rt, alloc, paths.folder()) {
-        Ok(there) => there,
-        Err(error) => return Err(store_error(error)),
-    };
-    let mut records = Vec::new(alloc);
-    for which in there.iter() {
-        add_record(&mut records, rt, alloc, paths, *which)?;
-    }
-    Ok(records)
-}
-
-/// Opens a folder, and reads its records.
-fn load_folder<R: Files<File = File> + AllocGlobal + Clone + Drop>(
+/// What is sure of a store whose log is at a place.
+fn syncs_of<R: Files<File = File> + Eprint + Clone + Drop>(
     rt: &R,
     alloc: Global,
     place: &str,
-) -> Result<(Folder, Vec<Kept>), StoreError> {
-    let mut folder = Folder::open(rt, alloc, place)?;
-    let records = records_of(rt, alloc, &mut folder.paths)?;
-    Ok((folder, records))
+    unsynced: bool,
+) -> Result<FolderSyncs<R>, StoreError> {
+    let path = format!(in alloc; "{place}/log")?;
+    let log = if unsynced {
+        None
+    } else {
+        match fs::open(rt, path.as_str()) {
+            Ok(log) => Some(log),
+            Err(why) => {
+                let _told = eprintln!(rt; "lbfs: {path}: {why}");
+                return Err(StoreError::Failed);
+            }
+        }
+    };
+    let rt = rt.clone()?;
+    Ok(FolderSyncs::new(rt, alloc, path.as_str(), log)?)
 }
 
-impl Folder {
-    /// A folder that is locked, and of which nothing was read.
-    fn open<R: Files<File = File>>(
-        rt: &R,
-        alloc: Global,
-        place: &str,
-    ) -> Result<Folder, StoreError> {
-        let list = String::with_capacity(alloc, LIST_ROOM)?;
-        let paths = Paths::new(alloc, place)?;
-        let lock = lock_folder(rt, place)?;
-        Ok(Folder {
-            lock,
-            paths,
-            list,
-            unfinished: false,
-        })
+/// Opens a folder, and reads its records.
+fn load_folder<R: Files<File = File> + AllocGlobal + Eprint + Clone + Drop>(
+    rt: &R,
+    alloc: Global,
+    place: &str,
+    unsynced: bool,
+) -> Result<(Held<R>, Vec<Kept>), StoreError> {
+    let folder = DiskFolder::open(rt.clone()?, alloc, place, unsynced)?;
+    let mut store = LogStore::new(folder, alloc);
+    let there = store.load()?;
+    let mut records = Vec::with_capacity(alloc, there.len())?;
+    for which in there.iter() {
+        let record = read_record(rt, alloc, place, &mut store, *which)?;
+        match records.push(record) {
+            Ok(()) => {}
+            Err(_want) => return Err(StoreError::Memory),
+        }
+    }
+    let syncs = syncs_of(rt, alloc, place, unsynced)?;
+    Ok((Held { store, syncs }, records))
+}
+
+/// A record's bytes, where the log says them or where they are many.
+fn put_of<'a>(front: &'a [u8], body: &'a [u8]) -> What<'a> {
+    let parts = Parts { front, body };
+    if LARGE < front.len().saturating_add(body.len()) {
+        What::Large(parts)
+    } else {
+        What::Put(parts)
+    }
+}
+
+/// The bytes that stand in front of a change's record.
+fn front_of(change: &Change) -> [u8; 12] {
+    match change {
+        Change::Node(node) => node_front(node),
+        Change::Content(content) => {
+            let mut front = [0u8; 12];
+            front[..8].copy_from_slice(&content_front(content));
+            front
+        }
+        Change::Drop(_) => [0u8; 12],
+    }
+}
+
+/// The edits of a change, the head's first.
+#[derive(Clone, Copy, Drop)]
+struct Edits<'a> {
+    list: [Edit<'a>; EDITS_MOST],
+    count: usize,
+}
+
+impl<'a> Edits<'a> {
+    /// That of the head.
+    fn new(head: &'a [u8; 16]) -> Edits<'a> {
+        let (front, behind) = head.split_at(8);
+        let edit = Edit {
+            which: Which::Head,
+            what: put_of(front, behind),
+        };
+        Edits {
+            list: [edit; EDITS_MOST],
+            count: 1,
+        }
     }
 
-    /// Names a file that the change makes, and opens it beside the one that it replaces.
-    fn create<R: Files>(&mut self, rt: &R, which: Which) -> io::Result<R::File> {
-        self.list.push_str("+")?;
-        put_name(&mut self.list, which)?;
-        self.list.push_str("\n")?;
-        self.paths.name(which)?;
-        fs::create(rt, self.paths.beside())
+    fn push(&mut self, which: Which, what: What<'a>) {
+        if self.count < EDITS_MOST {
+            self.list[self.count] = Edit { which, what };
+            self.count += 1;
+        }
     }
 
-    /// Adds a change to the list; what it makes is written beside the file that it replaces.
-    fn write_change<R: Files>(&mut self, rt: &R, change: &Change) -> io::Result<()> {
+    /// Adds those of a part of the change.
+    fn add(&mut self, change: &'a Change, front: &'a [u8; 12]) {
         match change {
             Change::Node(node) => {
-                let mut file = self.create(rt, Which::Node(node.id))?;
-                put_node(&mut file, node)
+                self.push(Which::Node(node.id), put_of(front, node.name.as_slice()));
             }
             Change::Content(content) => {
-                let mut file = self.create(rt, Which::Content(content.id))?;
-                put_content(&mut file, content)
+                let (front, _rest) = front.split_at(8);
+                self.push(
+                    Which::Content(content.id),
+                    put_of(front, content.bytes.as_slice()),
+                );
             }
             Change::Drop(id) => {
-                let id = *id;
-                writeln!(&mut self.list, "-{id}")?;
-                Ok(())
+                self.push(Which::Node(*id), What::Goes);
+                self.push(Which::Content(*id), What::Goes);
             }
         }
     }
 
-    /// The same of the head.
-    fn write_head<R: Files>(&mut self, rt: &R, head: Head) -> io::Result<()> {
-        let mut file = self.create(rt, Which::Head)?;
-        put_head(&mut file, head)
+    fn as_slice(&self) -> &[Edit<'a>] {
+        let (edits, _rest) = self.list.split_at(self.count.min(EDITS_MOST));
+        edits
     }
+}
 
-    /// Makes the change: its list becomes the folder's, by one renaming.
-    fn make<R: Files>(&mut self, rt: &R) -> io::Result<()> {
-        self.paths.name_list()?;
-        let mut file = fs::create(rt, self.paths.beside())?;
-        file.write_all(self.list.as_str().as_bytes())?;
-        drop(file);
-        fs::rename(rt, self.paths.beside(), self.paths.at())
-    }
-
-    /// Carries out the change that was made last.
-    fn carry_out<R: Files>(&mut self, rt: &R) -> io::Result<()> {
-        let done = carry_out(rt, &mut self.paths, self.list.as_str().as_bytes());
-        self.unfinished = done.is_err();
-        done
-    }
-
-    /// Makes a change, or leaves the records as they were.
-    fn apply<R: Files>(
+impl<R: Files<File = File> + AllocGlobal + Eprint + Clone + Drop> Held<R> {
+    /// Makes a change of these parts, whose fronts are given. Whether it was made.
+    fn apply_parts<'a>(
         &mut self,
-        rt: &R,
-        head: Head,
-        first: &Change,
-        second: &Option<Change>,
-    ) -> io::Result<()> {
-        if self.unfinished {
-            self.carry_out(rt)?;
-        }
-        self.list.clear();
-        self.write_change(rt, first)?;
+        head: &'a [u8; 16],
+        first: &'a Change,
+        front: &'a [u8; 12],
+        second: &'a Option<Change>,
+        behind: &'a [u8; 12],
+    ) -> bool {
+        let mut edits = Edits::new(head);
+        edits.add(first, front);
         if let Some(second) = second {
-            self.write_change(rt, second)?;
+            edits.add(second, behind);
         }
-        self.write_head(rt, head)?;
-        self.make(rt)?;
-        // It is made. What can't be done now is done before the next change, or when the folder is
-        // loaded.
-        let _later = self.carry_out(rt);
-        Ok(())
+        self.store.apply(edits.as_slice()).is_ok()
+    }
+
+    /// Makes a change, or leaves the records as they were, or is in doubt.
+    fn apply(&mut self, head: Head, first: &Change, second: &Option<Change>) -> Result<(), Failed> {
+        if self.syncs.commit().is_in_doubt() {
+            return Err(Failed);
+        }
+        let head = head_bytes(head);
+        let front = front_of(first);
+        let behind = match second {
+            Some(second) => front_of(second),
+            None => [0u8; 12],
+        };
+        let made = self.apply_parts(&head, first, &front, second, &behind);
+        self.syncs.commit().note_given();
+        if self.store.is_in_doubt() {
+            self.syncs.commit().note_doubt();
+        }
+        if made { Ok(()) } else { Err(Failed) }
+    }
+
+    /// The log is carried out, and nothing but records' files is left.
+    fn close(&mut self) -> Result<(), Failed> {
+        if self.syncs.commit().is_in_doubt() {
+            return Err(Failed);
+        }
+        match self.store.close() {
+            Ok(()) => Ok(()),
+            Err(_why) => Err(Failed),
+        }
     }
 }
 
@@ -341,14 +317,13 @@ impl<R: Files<File = File> + AllocGlobal + Eprint + Clone + Drop> Store for Fold
 
     fn load(&mut self, alloc: Global, place: &str) -> Result<Vec<Kept>, StoreError> {
         // The folder that was loaded before is let go, so that it may be this one.
-        self.folder = None;
-        match load_folder(&self.rt, alloc, place) {
-            Ok((folder, records)) => {
-                self.folder = Some(folder);
+        self.held = None;
+        match load_folder(&self.rt, alloc, place, self.unsynced) {
+            Ok((held, records)) => {
+                self.held = Some(held);
                 Ok(records)
             }
             Err(StoreError::Failed) => {
-                tell_why(&self.rt, alloc, place);
                 self.faults = one_more(self.faults);
                 Err(StoreError::Failed)
             }
@@ -362,50 +337,43 @@ impl<R: Files<File = File> + AllocGlobal + Eprint + Clone + Drop> Store for Fold
     }
 
     fn apply(&mut self, head: Head, first: Change, second: Option<Change>) -> Result<(), Failed> {
-        let made = match &mut self.folder {
-            Some(folder) => match folder.apply(&self.rt, head, &first, &second) {
-                Ok(()) => true,
-                Err(why) => {
-                    let rt = &self.rt;
-                    let _told = eprintln!(rt; "lbfs: a change can't be written: {why}");
-                    false
-                }
-            },
-            None => false,
+        let made = match &mut self.held {
+            Some(held) => held.apply(head, &first, &second),
+            None => Err(Failed),
         };
         drop(first);
         drop(second);
-        if made {
-            return Ok(());
+        if made.is_err() {
+            self.faults = one_more(self.faults);
         }
-        self.faults = one_more(self.faults);
-        Err(Failed)
+        made
     }
 }
 
-/// Nothing is flushed yet: each change is in the folder's files once `apply` has answered.
-#[derive(Clone, Copy)]
-pub struct FolderSyncs;
+impl<R: Files<File = File> + AllocGlobal + Eprint + Clone + Drop + Send + Sync> Synced
+    for FolderStore<R> {
+    type Y = FolderSyncs<R>;
 
-impl Syncs for FolderSyncs {
-    ghost settled = { λ _. Unit {0} };
-
-    fn settle<W: Wait>(&self, _rt: &W) -> Result<(), Failed> {
-        Ok(())
-    }
-}
-
-impl<R: Files<File = File> + AllocGlobal + Eprint + Clone + Drop> Synced for FolderStore<R> {
-    type Y = FolderSyncs;
-
-    fn syncs(&self) -> Result<FolderSyncs, AllocError> {
-        Ok(FolderSyncs)
+    fn syncs(&self) -> Result<FolderSyncs<R>, AllocError> {
+        match &self.held {
+            Some(held) => held.syncs.share(),
+            None => Err(AllocError),
+        }
     }
 
-    fn leave_unflushed(&mut self) {}
+    fn leave_unflushed(&mut self) {
+        self.unsynced = true;
+    }
 
     fn close(&mut self) -> Result<(), Failed> {
-        Ok(())
+        let done = match &mut self.held {
+            Some(held) => held.close(),
+            None => Ok(()),
+        };
+        if done.is_err() {
+            self.faults = one_more(self.faults);
+        }
+        done
     }
 
     fn fault_count(&self) -> u64 {

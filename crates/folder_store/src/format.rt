@@ -1,14 +1,11 @@
 //! The bytes of a record in its file. `specs/Folder.antt` states them.
 
-ghost use Rattle.std.specs.Prelude.{◌≡◌, ◌≤◌, ◌^◌, List, ℕ, length, drop, IfOk, OnOk};
-ghost use Rattle.std.specs.Io.KnownBytes.{Appends};
+ghost use Rattle.std.specs.Prelude.{◌≡◌, ◌≤◌, ◌++◌, length, drop, IfOk};
 ghost use Rattle.folder_store.specs.Folder.{head_bytes, node_bytes, content_bytes, head_in, node_in, content_in, word_in, kind_number, kind_in};
 
 use lb_base::items::Items;
 use shared_bytes::SharedBytes;
 use std::alloc::{AllocError, Global};
-use std::io;
-use std::io::Write;
 use store::record::{ContentRecord, Head, NodeKind, NodeRecord};
 
 /// The number that a kind is in its file.
@@ -32,30 +29,31 @@ fn kind_in(number: u32) -> Option<NodeKind>
     }
 }
 
-/// Writes the head's bytes.
-pub fn put_head<W: Write>(out: &mut W, head: Head) -> io::Result<()>
-    ensures { OnOk result (Appends (W.contents out.old) (W.contents out.new) (head_bytes head)) }
+/// The head's bytes.
+pub fn head_bytes(head: Head) -> [u8; 16]
+    ensures { result ≡ head_bytes head }
 {
-    out.write_all(&head.next.to_be_bytes())?;
-    out.write_all(&head.changes.to_be_bytes())
+    let mut bytes = [0u8; 16];
+    bytes[..8].copy_from_slice(&head.next.to_be_bytes());
+    bytes[8..].copy_from_slice(&head.changes.to_be_bytes());
+    bytes
 }
 
-/// Writes a node's bytes.
-pub fn put_node<W: Write>(out: &mut W, node: &NodeRecord) -> io::Result<()>
-    ensures { OnOk result (Appends (W.contents out.old) (W.contents out.new) (node_bytes node.now)) }
+/// A node's bytes, up to its name.
+pub fn node_front(node: &NodeRecord) -> [u8; 12]
+    ensures { result ++ node.now.name ≡ node_bytes node.now }
 {
-    let kind = kind_number(node.kind);
-    out.write_all(&node.parent.to_be_bytes())?;
-    out.write_all(&kind.to_be_bytes())?;
-    out.write_all(node.name.as_slice())
+    let mut front = [0u8; 12];
+    front[..8].copy_from_slice(&node.parent.to_be_bytes());
+    front[8..].copy_from_slice(&kind_number(node.kind).to_be_bytes());
+    front
 }
 
-/// Writes a content's bytes.
-pub fn put_content<W: Write>(out: &mut W, content: &ContentRecord) -> io::Result<()>
-    ensures { OnOk result (Appends (W.contents out.old) (W.contents out.new) (content_bytes content.now)) }
+/// A content's bytes, up to those of its file.
+pub fn content_front(content: &ContentRecord) -> [u8; 8]
+    ensures { result ++ content.now.bytes ≡ content_bytes content.now }
 {
-    out.write_all(&content.version.to_be_bytes())?;
-    out.write_all(content.bytes.as_slice())
+    content.version.to_be_bytes()
 }
 
 /// The number in eight bytes.

@@ -2,7 +2,7 @@
 
 ghost use Rattle.std.specs.Prelude.{◌≡◌, Some};
 ghost use Rattle.folder_store.specs.Folder.{name_of, which_of, IsWord};
-ghost use Rattle.folder_store.specs.declared.naming.Which.{Which};
+ghost use Rattle.log_store.specs.declared.which.Which.{Which};
 
 /// The name of a record's file tells the record, so no two records have one file.
 pub fn a_name_tells_its_record()

@@ -4,17 +4,9 @@ ghost use Rattle.std.specs.Prelude.{◌≡◌, ◌++◌, OnOk, string_bytes};
 ghost use Rattle.folder_store.specs.Folder.{name_of, which_of, lettered};
 
 use command_text::fields::number;
+use log_store::which::Which;
 use std::alloc::AllocError;
 use std::fmt::Write;
-
-/// Which record: the head, or a node or a content by its id. They are ordered as a folder is
-/// loaded: the head, then the nodes by their ids, then the contents by theirs.
-#[derive(Clone, Copy, PartialEq, Eq, PartialOrd, Ord)]
-pub enum Which {
-    Head,
-    Node(u64),
-    Content(u64),
-}
 
 /// The record that a letter and a number name, if they name one.
 fn lettered(letter: u8, digits: &[u8]) -> Option<Which>

@@ -1,127 +1,40 @@
-//! What a change does to the files of the folder, as a list that is carried out again, from its
-//! beginning, where the program ended in the middle of it.
+//! What an earlier form of the folder has of a change that was made and not carried out: the file `change`, a
+//! list of what is to be done, which this form makes no more.
 //!
-//! A change writes each file that it makes beside the one that it replaces. Then the list becomes
-//! the file `change`, by one renaming: from then on the change is made. Each line of the list is a
-//! renaming or a removal; whatever was done already is passed over. At a line that is neither, it fails
-//! and stays. At last the list goes.
+//! Each line renames a file that was written beside its record's, or removes a node's files. The last line is
+//! that of the head, so a list that ends otherwise isn't whole: no change was told of that, and nothing of it
+//! is carried out.
 
-use crate::naming::{Which, held_by, put_name};
+use crate::disk_files::{READ_MOST, read_file, unless_gone};
+use crate::naming::held_by;
+use crate::paths::Paths;
 use command_text::fields::number;
-use std::alloc::{AllocError, Global};
+use log_store::edit::{Line, Task};
+use log_store::which::Which;
+use std::alloc::Global;
+use std::fs::File;
 use std::io::ErrorKind;
 use std::rt::Files;
 use std::{fs, io};
 
-/// Stands behind the name of a file that is not in its place yet.
-const BESIDE: &str = "~";
-
-/// The name of the list.
-const CHANGE: &str = "change";
-
-/// How many bytes a name has at most: a letter, twenty digits, and what stands behind them.
-const NAME_ROOM: usize = 32;
-
-/// The paths of the folder's files. They have room for the longest, so that naming one takes no
-/// memory.
-pub struct Paths {
-    folder: String,
-    at: String,
-    beside: String,
-}
-
-// By hand: docs/PROVING.md, "Values that are let go".
-impl Drop for Paths {
-    fn drop(self) {
-        let Paths { folder, at, beside } = self;
-        drop(folder);
-        drop(at);
-        drop(beside);
-    }
-}
-
-/// A text of these bytes, with room for a name behind them.
-fn roomy(alloc: Global, text: &str) -> Result<String, AllocError> {
-    let mut copy = String::from_str(alloc, text)?;
-    copy.reserve(NAME_ROOM)?;
-    Ok(copy)
-}
-
-impl Paths {
-    /// The paths of the folder at a place. The one error is want of memory.
-    pub fn new(alloc: Global, place: &str) -> Result<Paths, AllocError> {
-        let mut folder = roomy(alloc, place)?;
-        folder.push_str("/")?;
-        Ok(Paths {
-            at: roomy(alloc, folder.as_str())?,
-            beside: roomy(alloc, folder.as_str())?,
-            folder,
-        })
-    }
-
-    /// The folder.
-    pub fn folder(&self) -> &str {
-        self.folder.as_str()
-    }
-
-    /// The path that was named last.
-    pub fn at(&self) -> &str {
-        self.at.as_str()
-    }
-
-    /// The path of the new file beside the one named last (`NAME~`).
-    pub fn beside(&self) -> &str {
-        self.beside.as_str()
-    }
-
-    /// Names a record's file.
-    pub fn name(&mut self, which: Which) -> Result<(), AllocError> {
-        self.begin()?;
-        put_name(&mut self.at, which)?;
-        put_name(&mut self.beside, which)?;
-        self.beside.push_str(BESIDE)
-    }
-
-    /// Names the list.
-    pub fn name_list(&mut self) -> Result<(), AllocError> {
-        self.begin()?;
-        self.at.push_str(CHANGE)?;
-        self.beside.push_str(CHANGE)?;
-        self.beside.push_str(BESIDE)
-    }
-
-    /// Both paths are the folder's again, with no name behind.
-    fn begin(&mut self) -> Result<(), AllocError> {
-        self.at.clear();
-        self.beside.clear();
-        self.at.push_str(self.folder.as_str())?;
-        self.beside.push_str(self.folder.as_str())
-    }
-}
+/// How a whole list ends.
+const LAST: &[u8] = b"+head\n";
 
 /// The error of a line that no change has in its list.
 fn no_line() -> io::Error {
     io::Error::from(ErrorKind::InvalidData)
 }
 
-/// A file that isn't there any more is as good as done.
-fn done_or_gone(done: io::Result<()>) -> io::Result<()> {
-    match done {
-        Err(error) if error.kind() == ErrorKind::NotFound => Ok(()),
-        other => other,
-    }
-}
-
 /// Puts the new file of a record in its place.
 fn put_in_place<R: Files>(rt: &R, paths: &mut Paths, which: Which) -> io::Result<()> {
     paths.name(which)?;
-    done_or_gone(fs::rename(rt, paths.beside(), paths.at()))
+    unless_gone(fs::rename(rt, paths.beside(), paths.at()))
 }
 
 /// Removes the file of a record.
 fn remove<R: Files>(rt: &R, paths: &mut Paths, which: Which) -> io::Result<()> {
     paths.name(which)?;
-    done_or_gone(fs::remove_file(rt, paths.at()))
+    unless_gone(fs::remove_file(rt, paths.at()))
 }
 
 /// Removes the files of a node.
@@ -170,15 +83,78 @@ fn are_lines(list: &[u8]) -> bool {
     true
 }
 
-/// Carries out a list that is made, and takes it away; it stays where a line of it fails. Of a list with
-/// a line that no change has nothing is carried out.
-pub fn carry_out<R: Files>(rt: &R, paths: &mut Paths, list: &[u8]) -> io::Result<()> {
-    if !are_lines(list) {
-        return Err(no_line());
+/// Whether a list shows that it is whole.
+fn is_whole(list: &[u8]) -> bool {
+    list.ends_with(LAST)
+}
+
+/// The record that a file of this name holds; a list has no other names.
+fn record_named(text: &[u8]) -> io::Result<Which> {
+    match held_by(text) {
+        Some(which) => Ok(which),
+        None => Err(no_line()),
     }
-    for line in list.split(|byte| *byte == b'\n') {
-        carry_out_line(rt, paths, line)?;
+}
+
+/// Adds what a line of the list tells of records.
+fn add_told(lines: &mut Vec<Line>, line: &[u8]) -> io::Result<()> {
+    let Some((sign, text)) = line.split_first() else {
+        return Ok(());
+    };
+    match *sign {
+        b'+' => {
+            let which = record_named(text)?;
+            lines.push(Line {
+                which,
+                task: Task::Moves(0),
+            })?;
+            Ok(())
+        }
+        b'-' => match number(text) {
+            Some(id) => {
+                for which in [Which::Node(id), Which::Content(id)] {
+                    lines.push(Line {
+                        which,
+                        task: Task::Goes,
+                    })?;
+                }
+                Ok(())
+            }
+            None => Err(no_line()),
+        },
+        _ => Err(no_line()),
+    }
+}
+
+/// What the list at a path tells of records, as lines of a log would; nothing where it isn't there, or isn't
+/// whole.
+pub(crate) fn told_by<R: Files<File = File>>(
+    rt: &R,
+    alloc: Global,
+    path: &str,
+) -> io::Result<Vec<Line>> {
+    let mut lines = Vec::new(alloc);
+    if let Some(list) = read_file(rt, alloc, path, READ_MOST)? {
+        if is_whole(list.as_slice()) {
+            for line in list.split(|byte| *byte == b'\n') {
+                add_told(&mut lines, line)?;
+            }
+        }
+    }
+    Ok(lines)
+}
+
+/// Carries out a list that is whole, and takes it away; it stays where a line of it fails. Of one with a
+/// line that no change has nothing is carried out. One that isn't whole goes, and nothing else is done.
+pub(crate) fn carry_out<R: Files>(rt: &R, paths: &mut Paths, list: &[u8]) -> io::Result<()> {
+    if is_whole(list) {
+        if !are_lines(list) {
+            return Err(no_line());
+        }
+        for line in list.split(|byte| *byte == b'\n') {
+            carry_out_line(rt, paths, line)?;
+        }
     }
     paths.name_list()?;
-    done_or_gone(fs::remove_file(rt, paths.at()))
+    unless_gone(fs::remove_file(rt, paths.at()))
 }

@@ -1,5 +1,6 @@
 -- Records taken apart, and joined to nodes.
-use Rattle.std.proofs.Common.{◌≡◌, ℕ, List, [], ◌∷◌, ◌++◌, map, Option, Some, None, Bool, true, false, ◌==◌, refl, ap, ◌∙◌, subst, if◌then◌else◌, is_some}
+use Rattle.std.proofs.Common.{◌≡◌, ℕ, List, [], ◌∷◌, ◌++◌, map, Option, Some, None, Bool, true, false, ◌==◌, ◌<◌, length, take, slice_index_or, refl, sym, ap, ◌∙◌, subst, if◌then◌else◌, is_some}
+use Rattle.std.proofs.lemmas.List.{ext_get_or}
 use Rattle.std.specs.BTreeMap.{BTreeMap, get, Updates}
 use Rattle.std.specs.List.{AllByRecursion}
 use Rattle.std.specs.Ordering.{nat_cmp}
@@ -78,6 +79,26 @@ one_parted records ns ns' m m' r left parted more noted = record {
   nodes = ap (λ z. z ++ node_list left) more ∙ list_more ns r left ∙ parted.nodes;
   contents = λ id. ap (λ o. or_else o (content_with left id)) (noted id) ∙ content_more (get nat_cmp m id) r left id ∙ parted.contents id;
 }
+
+-- all records were gone over
+pub all_gone_over : (all gone left : List Kept) (n : ℕ) → n ≡ length left → n ≡ 0 → gone ++ left ≡ all → gone ≡ all
+all_gone_over all gone left n len none are = sym (append_none gone) ∙ ap (λ l. gone ++ l) (sym (is_none left (sym len ∙ none))) ∙ are
+  where
+    is_none : (xs : List Kept) → length xs ≡ 0 → xs ≡ []
+    is_none [] e = refl
+    is_none (x ∷ xs) e = absurd cc
+
+    append_none : (xs : List Kept) → xs ++ [] ≡ xs
+    append_none [] = refl
+    append_none (x ∷ xs) = ap (λ l. x ∷ l) (append_none xs)
+
+pub taken_back : (xs ys : List Kept) → take (length xs) (xs ++ ys) ≡ xs
+taken_back [] ys = refl
+taken_back (x ∷ xs) ys = ap (λ l. x ∷ l) (taken_back xs ys)
+
+-- records that are the same at each place
+pub each_same : (old new : List Kept) → length new ≡ length old → ((i : ℕ) (d : Kept) → i < length old → slice_index_or new i d ≡ slice_index_or old i d) → new ≡ old
+each_same old new len each = let d : Kept = kept.Head (record { next = 0; changes = 0 }) in ext_get_or d new old len (λ i below. each i d (subst (λ n. i < n) len below))
 
 -- ---- nodes joined to their contents
 

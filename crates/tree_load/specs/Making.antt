@@ -21,6 +21,12 @@ node_list (kept.Content c ∷ rs) = node_list rs
 abbrev pub stored : ContentRecord → Stored
 stored c = record { version = c.version; content = c.bytes }
 
+-- the bytes of a content
+abbrev pub bytes_of : Kept → List ℕ
+bytes_of (kept.Head h) = []
+bytes_of (kept.Node n) = []
+bytes_of (kept.Content c) = c.bytes
+
 -- the first content of an id
 abbrev pub content_with : List Kept → ℕ → Option Stored
 content_with [] id = None

@@ -5,6 +5,7 @@
 
 mod above;
 pub mod breaches;
+mod coming;
 pub mod counts;
 pub mod error;
 mod firsts;

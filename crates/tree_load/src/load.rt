@@ -10,6 +10,7 @@ use crate::error::LoadError;
 use crate::{making, rules};
 use file_tree::tree::Tree;
 use std::alloc::{AllocError, Global};
+use std::thread::Threads;
 use store::record::{Head, Kept};
 use tree_nodes::nodes::Nodes;
 
@@ -38,20 +39,25 @@ fn fault(alloc: Global, head: Head, records: &[Kept]) -> Result<Option<usize>, A
 
 /// The tree of records that break no rule.
 #[tactic(auto, using(crate::proofs::Loading::ids_of, crate::proofs::Loading::apart_of, crate::proofs::Loading::below_of, crate::proofs::Loading::limits_of, crate::proofs::Loading::tree_is))]
-fn tree_of(alloc: Global, head: Head, records: Vec<Kept>) -> Result<Tree, AllocError>
+fn tree_of<R: Threads + Sync>(
+    rt: &R,
+    alloc: Global,
+    head: Head,
+    records: Vec<Kept>,
+) -> Result<Tree, AllocError>
     requires head { first_head records.items ≡ Some head }
     requires well { fault head (drop 1 records.items) ≡ None }
     ensures { IfOk result (λ t. t.tree ≡ loaded_tree head records.items) }
 {
-    let nodes = making::nodes_of(alloc, head, records)?;
+    let nodes = making::nodes_of(rt, alloc, head, records)?;
     let nodes = Nodes::from_list(alloc, nodes, head.next)?;
     Ok(Tree::from_nodes(alloc, nodes, head.changes))
 }
 
-/// The tree of these records; an empty list is the root alone. Else the first record that breaks a
-/// rule is named, or memory ran out.
+/// The tree of these records, whose contents several threads cut into chunks; an empty list is the root
+/// alone. Else the first record that breaks a rule is named, or memory ran out.
 #[tactic(auto, using(crate::proofs::Loading::load_none, crate::proofs::Loading::load_headless, crate::proofs::Loading::load_bad, crate::proofs::Loading::load_good))]
-pub fn load(alloc: Global, records: Vec<Kept>) -> Result<Tree, LoadError>
+pub fn load<R: Threads + Sync>(rt: &R, alloc: Global, records: Vec<Kept>) -> Result<Tree, LoadError>
     ensures exact { Loads (load records.items) result }
     ensures stored { IfOk result (λ t. IsStored records.items t.tree) }
 {
@@ -65,6 +71,6 @@ pub fn load(alloc: Global, records: Vec<Kept>) -> Result<Tree, LoadError>
     if let Some(which) = fault(alloc, head, records.as_slice())? {
         return Err(LoadError::BadRecord { which });
     }
-    let tree = tree_of(alloc, head, records)?;
+    let tree = tree_of(rt, alloc, head, records)?;
     Ok(tree)
 }

@@ -1,16 +1,21 @@
 //! The nodes of records that break no rule: `loaded_nodes` in `specs/Load.antt`, as they are on the
 //! way to the tree in `specs/Making.antt`.
 
-ghost use Rattle.std.specs.Prelude.{◌≡◌, ℕ, ◌++◌, [], ◌∷◌, map, ◌==◌, false, IfOk, OnOk};
+ghost use Rattle.std.specs.Prelude.{◌≡◌, ℕ, ◌++◌, [], ◌∷◌, map, ◌==◌, false, IfOk, IfSome, OnOk};
 ghost use Rattle.std.specs.BTreeMap.{get};
 ghost use Rattle.std.specs.Ordering.{nat_cmp};
+ghost use Rattle.chunk_cut.specs.Chunks.{chunks_of};
 ghost use Rattle.tree_reading.specs.Tree.{root};
 ghost use Rattle.store.specs.declared.record.Kept.TheVariants as kept;
-ghost use Rattle.tree_load.specs.Making.{node_list, content_with, content_at, or_else, with_stored, node_by, AreIdsApart};
+ghost use Rattle.tree_load.specs.Making.{node_list, bytes_of, content_with, content_at, or_else, with_stored, node_by, AreIdsApart};
 
-use lb_base::items::Name;
+use crate::coming::{Coming, cut_all};
+use chunk_cut::chunk::Chunk;
+use lb_base::items::{Items, Name};
+use shared_bytes::SharedBytes;
 use std::alloc::{AllocError, Global};
 use std::collections::BTreeMap;
+use std::thread::Threads;
 use store::record::{ContentRecord, Head, Kept, NodeKind, NodeRecord};
 use tree_nodes::content::Content;
 use tree_nodes::node::{Body, Node};
@@ -29,19 +34,37 @@ pub struct Parted {
     pub contents: BTreeMap<u64, Stored>,
 }
 
+/// A content whose chunks may be known; else it is cut. The one error is want of memory.
+fn content_of(
+    alloc: Global,
+    bytes: SharedBytes,
+    chunks: Option<Items<Chunk>>,
+) -> Result<Content, AllocError>
+    requires { IfSome chunks (λ known. known ≡ chunks_of bytes) }
+    ensures { IfOk result (λ content. content ≡ bytes) }
+{
+    let chunks = match chunks {
+        Some(chunks) => chunks,
+        None => chunk_cut::cut(alloc, bytes.as_slice())?,
+    };
+    Ok(Content::loaded(bytes, chunks))
+}
+
 /// Keeps a content, unless its id has one.
 #[tactic(auto, using(crate::proofs::Parting::kept_new, crate::proofs::Parting::kept_old))]
 fn keep(
     alloc: Global,
     contents: &mut BTreeMap<u64, Stored>,
     one: ContentRecord,
+    chunks: Option<Items<Chunk>>,
 ) -> Result<(), AllocError>
+    requires { IfSome chunks (λ known. known ≡ chunks_of one.bytes) }
     ensures { OnOk result ((id : ℕ) → get nat_cmp contents.new id ≡ or_else (get nat_cmp contents.old id) (content_at (kept.Content one) id)) }
 {
     if contents.contains_key(&one.id) {
         return Ok(());
     }
-    let content = Content::new(alloc, one.bytes)?;
+    let content = content_of(alloc, one.bytes, chunks)?;
     let stored = Stored {
         version: one.version,
         content,
@@ -52,22 +75,23 @@ fn keep(
 }
 
 /// Takes a record apart from the others.
-fn sort_out(alloc: Global, parted: &mut Parted, one: Kept) -> Result<(), AllocError>
+fn sort_out(alloc: Global, parted: &mut Parted, one: Coming) -> Result<(), AllocError>
     ensures nodes { OnOk result (parted.new.nodes.items ≡ parted.old.nodes.items ++ node_list (one ∷ [])) }
     ensures contents { OnOk result ((id : ℕ) → get nat_cmp parted.new.contents id ≡ or_else (get nat_cmp parted.old.contents id) (content_at one id)) }
 {
+    let (one, chunks) = one.into_parts();
     match one {
         Kept::Head(_) => Ok(()),
         Kept::Node(node) => {
             parted.nodes.push(node)?;
             Ok(())
         }
-        Kept::Content(content) => keep(alloc, &mut parted.contents, content),
+        Kept::Content(content) => keep(alloc, &mut parted.contents, content, chunks),
     }
 }
 
 /// The nodes and the contents of records.
-fn part(alloc: Global, records: Vec<Kept>) -> Result<Parted, AllocError>
+fn part(alloc: Global, records: Vec<Coming>) -> Result<Parted, AllocError>
     ensures nodes { IfOk result (λ p. p.nodes.items ≡ node_list records.items) }
     ensures contents { IfOk result (λ p. (id : ℕ) → get nat_cmp p.contents id ≡ content_with records.items id) }
 {
@@ -161,10 +185,16 @@ fn join(alloc: Global, changes: u64, parted: Parted) -> Result<Vec<Node>, AllocE
 
 /// The root and the nodes of records, of which no two nodes have one id. The one error is want of
 /// memory.
-pub fn nodes_of(alloc: Global, head: Head, records: Vec<Kept>) -> Result<Vec<Node>, AllocError>
+pub fn nodes_of<R: Threads + Sync>(
+    rt: &R,
+    alloc: Global,
+    head: Head,
+    records: Vec<Kept>,
+) -> Result<Vec<Node>, AllocError>
     requires { AreIdsApart (node_list records.items) }
     ensures { IfOk result (λ v. v.items ≡ root head.changes ∷ map (λ n. node_by head.changes n (content_with records.items n.id)) (node_list records.items)) }
 {
-    let parted = part(alloc, records)?;
+    let coming = cut_all(rt, alloc, records)?;
+    let parted = part(alloc, coming)?;
     join(alloc, head.changes, parted)
 }

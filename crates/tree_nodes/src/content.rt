@@ -10,12 +10,13 @@ use shared_bytes::SharedBytes;
 use std::alloc::{AllocError, Global};
 use std::marker::Model;
 
-/// The bytes of a file, cut into chunks and hashed once, when they came. A store may own them too.
-/// Contracts see the bytes.
+/// The bytes of a file, cut into chunks once, when they came. A store may own them too. Contracts see
+/// the bytes.
 pub struct Content {
     bytes: SharedBytes,
     chunks: Items<Chunk>,
-    digest: [u8; 20],
+    /// The digest of all bytes, where they were hashed when they came.
+    digest: Option<[u8; 20]>,
 }
 
 impl Drop for Content {
@@ -31,7 +32,7 @@ impl Drop for Content {
 }
 
 impl Model for Content {
-    ghost use Rattle.std.specs.Prelude.{List, ℕ, ◌≡◌};
+    ghost use Rattle.std.specs.Prelude.{List, ℕ, ◌≡◌, IfSome};
     ghost use Rattle.sha1.specs.Sha1.{sha1};
     ghost use Rattle.chunk_cut.specs.Chunks.{chunks_of};
 
@@ -39,7 +40,7 @@ impl Model for Content {
 
     ghost view = { λ c. c.bytes };
 
-    ghost invariant = { λ c. (c.chunks ≡ chunks_of c.bytes) × (c.digest ≡ sha1 c.bytes) };
+    ghost invariant = { λ c. (c.chunks ≡ chunks_of c.bytes) × IfSome c.digest (λ d. d ≡ sha1 c.bytes) };
 }
 
 impl Content {
@@ -50,7 +51,7 @@ impl Content {
         Content {
             bytes: SharedBytes::empty(),
             chunks: Items::new(alloc),
-            digest: chunk_cut::digest(&[]),
+            digest: Some(chunk_cut::digest(&[])),
         }
     }
 
@@ -62,7 +63,8 @@ impl Content {
         Ok(Content::with_chunks(bytes, chunks))
     }
 
-    /// A content of these bytes, whose chunks were cut before. It takes no memory.
+    /// A content of these bytes, whose chunks were cut before, and which is to be told of: all bytes are
+    /// hashed. It takes no memory.
     pub fn with_chunks(bytes: SharedBytes, chunks: Items<Chunk>) -> Content
         requires { chunks ≡ chunks_of bytes }
         ensures { result ≡ bytes }
@@ -71,7 +73,20 @@ impl Content {
         Content {
             bytes,
             chunks,
-            digest,
+            digest: Some(digest),
+        }
+    }
+
+    /// The same of a content that was told of before, as one that a store gives: its bytes are hashed only
+    /// where its digest is asked for. It takes no memory.
+    pub fn loaded(bytes: SharedBytes, chunks: Items<Chunk>) -> Content
+        requires { chunks ≡ chunks_of bytes }
+        ensures { result ≡ bytes }
+    {
+        Content {
+            bytes,
+            chunks,
+            digest: None,
         }
     }
 
@@ -107,6 +122,9 @@ impl Content {
     pub fn digest(&self) -> [u8; 20]
         ensures { result ≡ sha1 self.now }
     {
-        self.digest
+        match self.digest {
+            Some(digest) => digest,
+            None => chunk_cut::digest(self.bytes.as_slice()),
+        }
     }
 }

@@ -1,0 +1,91 @@
+//! Files of the host, as a store's folder wants them: whole, and by their paths.
+
+use limits::FILE_MOST;
+use std::alloc::Global;
+use std::fs::{File, OpenOptions};
+use std::io::{Error, ErrorKind, Read, Write};
+use std::os::unix::fs::MetadataExt;
+use std::rt::Files;
+use std::{fs, io};
+
+/// The most bytes of a file of the folder: a content, and its version.
+pub const READ_MOST: u64 = FILE_MOST + 8;
+
+/// How many bytes a block has in which the system counts a file's room.
+const BLOCK: u64 = 512;
+
+/// A file takes room in pieces of so many bytes at most.
+const PAGE: u64 = 4096;
+
+/// What isn't there is as good as nothing.
+pub fn unless_gone(done: io::Result<()>) -> io::Result<()> {
+    match done {
+        Err(error) if error.kind() == ErrorKind::NotFound => Ok(()),
+        other => other,
+    }
+}
+
+/// The bytes of a regular file, if it is there. One that is longer than a record, or than `most`, isn't read.
+pub fn read_file<R: Files<File = File>>(
+    rt: &R,
+    alloc: Global,
+    path: &str,
+    most: u64,
+) -> io::Result<Option<Vec<u8>>> {
+    let mut file = match fs::open(rt, path) {
+        Ok(file) => file,
+        Err(error) if error.kind() == ErrorKind::NotFound => return Ok(None),
+        Err(error) => return Err(error),
+    };
+    let facts = file.metadata()?;
+    if facts.is_dir() {
+        return Err(Error::from(ErrorKind::IsADirectory));
+    }
+    if !facts.is_file() {
+        return Err(Error::from(ErrorKind::InvalidInput));
+    }
+    if most < facts.len() {
+        return Err(Error::from(ErrorKind::FileTooLarge));
+    }
+    let mut bytes = Vec::with_capacity(alloc, facts.len() as usize)?;
+    let _count = file.read_to_end(&mut bytes)?;
+    Ok(Some(bytes))
+}
+
+/// Writes a file whole: these bytes, and those behind them. Where it is there it is written in its place,
+/// so that it needs no room but for what it grows by.
+pub fn write_file<R: Files<File = File>>(
+    rt: &R,
+    path: &str,
+    front: &[u8],
+    body: &[u8],
+) -> io::Result<File> {
+    let mut options = OpenOptions::new();
+    options.write(true).create(true);
+    let mut file = options.open(rt, path)?;
+    file.write_all(front)?;
+    file.write_all(body)?;
+    file.set_len((front.len() as u64).saturating_add(body.len() as u64))?;
+    Ok(file)
+}
+
+/// How many bytes of room a file at a path has; none where it isn't there.
+fn room_of<R: Files<File = File>>(rt: &R, path: &str) -> u64 {
+    match fs::metadata(rt, path) {
+        Ok(facts) if facts.is_file() => facts.blocks().saturating_mul(BLOCK),
+        _ => 0,
+    }
+}
+
+/// Whether so many bytes need no more room than the file at a path has.
+pub fn has_room<R: Files<File = File>>(rt: &R, path: &str, len: u64) -> bool {
+    len <= room_of(rt, path)
+}
+
+/// How much more room than the file at a path has so many bytes need at most.
+pub fn more_room<R: Files<File = File>>(rt: &R, path: &str, len: u64) -> u64 {
+    if has_room(rt, path, len) {
+        return 0;
+    }
+    (len / PAGE).saturating_add(1).saturating_mul(PAGE)
+}

@@ -1,0 +1,451 @@
+//! A folder of the host that is open, by the system's calls: what `disk_folder` counts the faults of.
+
+use crate::disk_files::{READ_MOST, has_room, more_room, read_file, unless_gone, write_file};
+use crate::log_file::{LogFile, RESERVE};
+use crate::naming::held_by;
+use crate::paths::Paths;
+use crate::redo::carry_out;
+use log_store::edit::{Edit, Line, What};
+use log_store::entry::add_lines;
+use log_store::frame::{FRONT, frame_at, number_at};
+use log_store::which::{FileName, Which, is_same};
+use std::alloc::{AllocError, Global};
+use std::fs::{File, TryLockError};
+use std::io::{Error, ErrorKind};
+use std::rt::Files;
+use std::{fs, io};
+
+/// The most bytes of a log: those after which it is carried out, and the entry that makes it so long.
+const LOG_MOST: u64 = 4 << 20;
+
+/// The file that was written last, until it is flushed.
+struct Written {
+    name: FileName,
+    file: File,
+}
+
+// By hand: docs/PROVING.md, "Values that are let go".
+impl Drop for Written {
+    fn drop(self) {
+        let Written { name: _name, file } = self;
+        drop(file);
+    }
+}
+
+/// A folder that is locked. Where a call of it fails the path that was named last is the file at fault.
+pub(crate) struct OpenFolder<R> {
+    rt: R,
+    alloc: Global,
+    /// The folder itself, which is locked as long as this is open.
+    lock: File,
+    paths: Paths,
+    /// The log, once it was made.
+    log: Option<LogFile>,
+    written: Option<Written>,
+    /// Whether the reserve is there.
+    reserve: bool,
+    /// Whether nothing is flushed.
+    unsynced: bool,
+    /// Whether a flush failed: of what wasn't on the disk then nothing is known, and no later flush tells.
+    lost: bool,
+}
+
+// By hand: docs/PROVING.md, "Values that are let go".
+impl<R: Drop> Drop for OpenFolder<R> {
+    fn drop(self) {
+        let OpenFolder {
+            rt,
+            alloc: _alloc,
+            lock,
+            paths,
+            log,
+            written,
+            reserve: _reserve,
+            unsynced: _unsynced,
+            lost: _lost,
+        } = self;
+        drop(rt);
+        drop(lock);
+        drop(paths);
+        drop(log);
+        drop(written);
+    }
+}
+
+/// Opens a folder, and locks it.
+fn lock_folder<R: Files<File = File>>(rt: &R, place: &str) -> Result<File, TryLockError> {
+    let file = match fs::open(rt, place) {
+        Ok(file) => file,
+        Err(why) => return Err(TryLockError::Error(why)),
+    };
+    match file.try_lock() {
+        Ok(()) => Ok(file),
+        Err(why) => Err(why),
+    }
+}
+
+/// The record that a file's name is of, and whether the file is a new one beside it.
+fn file_named(name: &[u8]) -> Option<(Which, bool)> {
+    match name.split_last() {
+        Some((b'~', front)) => {
+            let which = held_by(front)?;
+            Some((which, true))
+        }
+        _ => {
+            let which = held_by(name)?;
+            Some((which, false))
+        }
+    }
+}
+
+/// The files of a folder, by their records.
+pub(crate) fn files_there<R: Files + AllocGlobal + Clone + Drop>(
+    rt: &R,
+    alloc: Global,
+    folder: &str,
+) -> io::Result<Vec<(Which, bool)>> {
+    let mut found = Vec::new(alloc);
+    for entry in fs::read_dir(rt, folder)? {
+        let entry = entry?;
+        if let Some(one) = file_named(entry.file_name().as_bytes()) {
+            found.push(one)?;
+        }
+    }
+    found.sort()?;
+    Ok(found)
+}
+
+/// Adds the lines of the frames that stand in front, up to one that isn't whole. A whole one has lines alone.
+fn add_frames(alloc: Global, lines: &mut Vec<Line>, log: &[u8]) -> io::Result<()> {
+    let Some(first) = number_at(log) else {
+        return Ok(());
+    };
+    let mut left = log;
+    let mut number = first;
+    for _frame in 0..log.len() {
+        let Some(payload) = frame_at(number, left) else {
+            return Ok(());
+        };
+        if !add_lines(alloc, lines, payload)? {
+            return Err(Error::from(ErrorKind::InvalidData));
+        }
+        let Some((_frame, behind)) = left.split_at_checked(FRONT.saturating_add(payload.len()))
+        else {
+            return Ok(());
+        };
+        left = behind;
+        number = number.saturating_add(1);
+    }
+    Ok(())
+}
+
+/// The lines of the log at a path; none where there is none.
+pub(crate) fn read_log<R: Files<File = File>>(
+    rt: &R,
+    alloc: Global,
+    path: &str,
+) -> io::Result<Vec<Line>> {
+    let mut lines = Vec::new(alloc);
+    if let Some(bytes) = read_file(rt, alloc, path, LOG_MOST)? {
+        add_frames(alloc, &mut lines, bytes.as_slice())?;
+    }
+    Ok(lines)
+}
+
+/// Whether two are one file.
+fn is_same_file(one: FileName, other: FileName) -> bool {
+    match (one, other) {
+        (FileName::Record(one), FileName::Record(other)) => is_same(one, other),
+        (FileName::New(one), FileName::New(other)) => is_same(one, other),
+        _ => false,
+    }
+}
+
+/// The error where a flush failed before.
+fn lost_before() -> Error {
+    Error::from(ErrorKind::BrokenPipe)
+}
+
+impl<R: Files<File = File> + AllocGlobal + Clone + Drop> OpenFolder<R> {
+    /// The folder at a place, locked.
+    pub(crate) fn open(
+        rt: R,
+        alloc: Global,
+        place: &str,
+        unsynced: bool,
+    ) -> Result<OpenFolder<R>, TryLockError> {
+        let paths = match Paths::new(alloc, place) {
+            Ok(paths) => paths,
+            Err(want) => return Err(TryLockError::Error(Error::from(want))),
+        };
+        match lock_folder(&rt, place) {
+            Ok(lock) => {
+                let mut folder = OpenFolder {
+                    rt,
+                    alloc,
+                    lock,
+                    paths,
+                    log: None,
+                    written: None,
+                    reserve: false,
+                    unsynced,
+                    lost: false,
+                };
+                folder.find_reserve();
+                Ok(folder)
+            }
+            Err(why) => Err(why),
+        }
+    }
+
+    /// By what the folder is reached.
+    pub(crate) fn rt(&self) -> &R {
+        &self.rt
+    }
+
+    /// The path of the file that was named last.
+    pub(crate) fn at(&self) -> &str {
+        self.paths.at()
+    }
+
+    /// The log and the reserve go.
+    pub(crate) fn drop_log(&mut self) -> io::Result<()> {
+        self.remove_reserve()?;
+        self.log = None;
+        self.paths.name_log()?;
+        unless_gone(fs::remove_file(&self.rt, self.paths.at()))?;
+        self.flush_folder()
+    }
+
+    /// Looks whether an earlier run left the reserve, for what it left in its log.
+    fn find_reserve(&mut self) {
+        self.reserve = match self.paths.name_reserve() {
+            Ok(()) => has_room(&self.rt, self.paths.at(), RESERVE as u64),
+            Err(_want) => false,
+        };
+    }
+
+    /// How much room carrying out these edits needs at most.
+    fn need_of(&mut self, edits: &[Edit<'_>]) -> io::Result<u64> {
+        let mut need = 0u64;
+        for edit in edits.iter() {
+            if let What::Put(parts) = edit.what {
+                self.paths.name(edit.which)?;
+                let len = (parts.front.len() as u64).saturating_add(parts.body.len() as u64);
+                need = need.saturating_add(more_room(&self.rt, self.paths.at(), len));
+            }
+        }
+        Ok(need)
+    }
+
+    fn remove_reserve(&mut self) -> io::Result<()> {
+        self.paths.name_reserve()?;
+        self.reserve = false;
+        unless_gone(fs::remove_file(&self.rt, self.paths.at()))
+    }
+
+    /// A change of an earlier form that was made is carried out, and goes.
+    pub(crate) fn finish_list(&mut self) -> io::Result<()> {
+        self.paths.name_list()?;
+        unless_gone(fs::remove_file(&self.rt, self.paths.beside()))?;
+        let Some(list) = read_file(&self.rt, self.alloc, self.paths.at(), READ_MOST)? else {
+            return Ok(());
+        };
+        carry_out(&self.rt, &mut self.paths, list.as_slice())?;
+        self.flush_folder()
+    }
+
+    /// The bytes of a file, if it is there.
+    pub(crate) fn read(&mut self, alloc: Global, name: FileName) -> io::Result<Option<Vec<u8>>> {
+        self.paths.name_file(name)?;
+        read_file(&self.rt, alloc, self.paths.at(), READ_MOST)
+    }
+
+    /// The files that are there, by their records.
+    pub(crate) fn names(&mut self, alloc: Global) -> io::Result<Vec<FileName>> {
+        self.paths.name_folder()?;
+        let there = files_there(&self.rt, alloc, self.paths.folder())?;
+        let mut names = Vec::with_capacity(alloc, there.len())?;
+        for (which, is_new) in there.iter() {
+            names.push(if *is_new {
+                FileName::New(*which)
+            } else {
+                FileName::Record(*which)
+            })?;
+        }
+        Ok(names)
+    }
+
+    /// Writes a file; a record's that finds no room gets the reserve's.
+    pub(crate) fn write(&mut self, name: FileName, front: &[u8], body: &[u8]) -> io::Result<()> {
+        self.written = None;
+        self.paths.name_file(name)?;
+        let file = match write_file(&self.rt, self.paths.at(), front, body) {
+            Err(why) if why.kind() == ErrorKind::StorageFull && self.may_take(name) => {
+                self.remove_reserve()?;
+                self.paths.name_file(name)?;
+                write_file(&self.rt, self.paths.at(), front, body)?
+            }
+            done => done?,
+        };
+        self.written = Some(Written { name, file });
+        Ok(())
+    }
+
+    /// Whether a file that finds no room may have the reserve's.
+    fn may_take(&self, name: FileName) -> bool {
+        match name {
+            FileName::Record(_) => self.reserve,
+            FileName::New(_) => false,
+        }
+    }
+
+    /// The bytes of a file are on the disk.
+    pub(crate) fn flush(&mut self, name: FileName) -> io::Result<()> {
+        self.paths.name_file(name)?;
+        if self.unsynced {
+            return Ok(());
+        }
+        if self.lost {
+            return Err(lost_before());
+        }
+        let done = match self.written.take() {
+            Some(written) if is_same_file(written.name, name) => written.file.sync_data(),
+            _ => fs::open(&self.rt, self.paths.at())?.sync_data(),
+        };
+        self.lost = done.is_err();
+        done
+    }
+
+    /// The new file of a record takes its place, if there is one.
+    pub(crate) fn rename(&mut self, which: Which) -> io::Result<()> {
+        self.paths.name(which)?;
+        unless_gone(fs::rename(&self.rt, self.paths.beside(), self.paths.at()))
+    }
+
+    /// A file goes, if it is there.
+    pub(crate) fn remove(&mut self, name: FileName) -> io::Result<()> {
+        self.paths.name_file(name)?;
+        unless_gone(fs::remove_file(&self.rt, self.paths.at()))
+    }
+
+    /// The names are on the disk.
+    pub(crate) fn flush_folder(&mut self) -> io::Result<()> {
+        self.paths.name_folder()?;
+        if self.unsynced {
+            return Ok(());
+        }
+        if self.lost {
+            return Err(lost_before());
+        }
+        let done = self.lock.sync_all();
+        self.lost = done.is_err();
+        done
+    }
+
+    /// The lines of the log.
+    pub(crate) fn lines(&mut self, alloc: Global) -> io::Result<Vec<Line>> {
+        self.paths.name_log()?;
+        read_log(&self.rt, alloc, self.paths.at())
+    }
+
+    /// Adds an entry to the log.
+    pub(crate) fn append(&mut self, edits: &[Edit<'_>]) -> io::Result<()> {
+        let need = self.need_of(edits)?;
+        self.paths.name_log()?;
+        match &mut self.log {
+            Some(log) => log.append(edits, need),
+            None => Err(Error::from(ErrorKind::NotFound)),
+        }
+    }
+
+    /// The log has so many entries; the first call makes its file anew.
+    pub(crate) fn cut_log(&mut self, count: usize) -> io::Result<()> {
+        self.paths.name_log()?;
+        match &mut self.log {
+            Some(log) => log.cut(count),
+            None => {
+                self.log = Some(LogFile::make(&self.rt, self.alloc, self.paths.at())?);
+                self.flush_folder()
+            }
+        }
+    }
+
+    /// The log is on the disk.
+    pub(crate) fn flush_log(&mut self) -> io::Result<()> {
+        self.paths.name_log()?;
+        if self.unsynced {
+            return Ok(());
+        }
+        if self.lost {
+            return Err(lost_before());
+        }
+        let done = match &self.log {
+            Some(log) => log.flush(),
+            None => self.flush_left_log(),
+        };
+        self.lost = done.is_err();
+        done
+    }
+
+    /// A log that an earlier run left is on the disk, with its name: the run may have been killed before it was.
+    fn flush_left_log(&mut self) -> io::Result<()> {
+        match fs::open(&self.rt, self.paths.at()) {
+            Ok(log) => log.sync_data()?,
+            Err(error) if error.kind() == ErrorKind::NotFound => {}
+            Err(error) => return Err(error),
+        }
+        self.lock.sync_all()
+    }
+
+    /// How many entries the log has.
+    pub(crate) fn count(&self) -> usize {
+        match &self.log {
+            Some(log) => log.count(),
+            None => 0,
+        }
+    }
+
+    /// Whether the log is to be carried out.
+    pub(crate) fn is_long(&self) -> bool {
+        match &self.log {
+            Some(log) => log.is_long(),
+            None => false,
+        }
+    }
+
+    /// Whether the reserve is there.
+    pub(crate) fn has_reserve(&self) -> bool {
+        self.reserve
+    }
+
+    /// Makes the reserve, if it isn't there.
+    pub(crate) fn take_reserve(&mut self) -> io::Result<()> {
+        if self.reserve {
+            return Ok(());
+        }
+        self.paths.name_reserve()?;
+        let bytes = vec![in self.alloc; 1u8; RESERVE]?;
+        let done = write_file(&self.rt, self.paths.at(), bytes.as_slice(), &[]);
+        match done {
+            Ok(file) => {
+                drop(file);
+                self.reserve = true;
+                Ok(())
+            }
+            Err(why) => {
+                // What there is of it would take room from others.
+                self.remove_reserve()?;
+                Err(why)
+            }
+        }
+    }
+
+    /// Whether so many bytes need no more room than the record's file has.
+    pub(crate) fn fits(&mut self, which: Which, len: u64) -> bool {
+        match self.paths.name(which) {
+            Ok(()) => has_room(&self.rt, self.paths.at(), len),
+            Err(_want) => false,
+        }
+    }
+}
