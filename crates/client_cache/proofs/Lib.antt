@@ -1,3 +1,4 @@
-pub mod Held
-pub mod There
 mod Entries
+pub mod Held
+mod Shown
+pub mod There

@@ -1,5 +1,5 @@
 -- A client's cache: what is kept of at most 256 files, the most recent first.
-use Rattle.std.specs.Prelude.{ℕ, List, ◌∷◌, take, Option, Some, None, Bool, ◌&&◌, ◌==◌, nat_lt, if◌then◌else◌, nat_eq, unwrap_or}
+use Rattle.std.specs.Prelude.{ℕ, ◌+◌, List, [], ◌∷◌, length, take, Option, Some, None, Bool, ◌&&◌, ◌==◌, nat_lt, if◌then◌else◌, nat_eq, unwrap_or}
 use Rattle.std.specs.Borrow.{Bor}
 use Rattle.std.specs.Map.{lookup, remove_entry, set_value}
 use Rattle.chunk_index.specs.Placed.{bytes_placed}
@@ -59,6 +59,28 @@ bytes_in (Some c) place = bytes_placed c.bytes place
 
 abbrev pub bytes_at : Entries → Place → Option (List ℕ)
 bytes_at entries place = bytes_in (content_of entries place.file) place
+
+-- the contents that are kept, each behind its file, the most recent first
+abbrev pub with_shown : (file : ℕ) → Option Content → List (ℕ × List ℕ) → List (ℕ × List ℕ)
+with_shown file None others = others
+with_shown file (Some c) others = (file, c.bytes) ∷ others
+
+abbrev pub contents_in : Entries → List (ℕ × List ℕ)
+contents_in [] = []
+contents_in ((file, k) ∷ entries) = with_shown file k.content (contents_in entries)
+
+-- how many bytes these have, and all that are kept
+abbrev pub bytes_sum : List (ℕ × List ℕ) → ℕ
+bytes_sum [] = 0
+bytes_sum (c ∷ cs) = length c.1 + bytes_sum cs
+
+abbrev pub kept_bytes : Entries → ℕ
+kept_bytes entries = bytes_sum (contents_in entries)
+
+-- a file, and the bytes that are lent of its content
+abbrev pub shown : Option (ℕ × Bor (List ℕ)) → Option (ℕ × List ℕ)
+shown None = None
+shown (Some p) = Some (p.0, p.1.now)
 
 -- ---- what is changed
 

@@ -1,9 +1,9 @@
 //! The cache. `specs/Cache.antt` says what each call makes of it, and what it lends.
 
-ghost use Rattle.std.specs.Prelude.{◌≡◌, ◌≤◌, [], length, IfOk, OnOk, OnErr, IsSome};
+ghost use Rattle.std.specs.Prelude.{◌≡◌, ◌≤◌, ◌==◌, [], length, slice_get, nat_le, IfOk, OnOk, OnErr, IsSome};
 ghost use Rattle.std.specs.Option.{option_copied};
 ghost use Rattle.lru.specs.LruCache.{lru_cache};
-ghost use Rattle.client_cache.specs.Cache.{kept_of, content_of, fresh_of, bytes_at, reserved, with_content, with_note, without_note, without_content, notes, is_fresh, lent, files_most};
+ghost use Rattle.client_cache.specs.Cache.{kept_of, content_of, fresh_of, bytes_at, reserved, with_content, with_note, without_note, without_content, notes, is_fresh, lent, shown, contents_in, kept_bytes, files_most};
 
 use crate::kept::{Content, Kept, Note};
 use chunk_index::place::Place;
@@ -101,6 +101,39 @@ fn drop_content(entries: &mut Keyed, file: u64)
     }
 }
 
+/// The content at a place among those that are kept, with its file.
+fn content_at(entries: &Keyed, place: usize) -> Option<(u64, &SharedBytes)>
+    ensures { shown result ≡ slice_get (contents_in entries.now.entries) place }
+{
+    let mut left = place;
+    for (file, kept) in entries.iter() {
+        if let Some(content) = &kept.content {
+            if left == 0 {
+                return Some((*file, &content.bytes));
+            }
+            left -= 1;
+        }
+    }
+    None
+}
+
+/// Whether the contents that are kept have at most so many bytes.
+fn has_at_most(entries: &Keyed, most: u64) -> bool
+    ensures { result ≡ nat_le (kept_bytes entries.now.entries) most }
+{
+    let mut left = most;
+    for (_file, kept) in entries.iter() {
+        if let Some(content) = &kept.content {
+            let len = content.bytes.len() as u64;
+            if len > left {
+                return false;
+            }
+            left -= len;
+        }
+    }
+    true
+}
+
 impl Cache {
     /// An empty cache. The one error is want of memory.
     pub fn new(alloc: Global) -> Result<Cache, AllocError>
@@ -142,6 +175,29 @@ impl Cache {
         let bytes = content.bytes.as_slice();
         let end = range_end(place.offset, place.count, bytes.len() as u64)?;
         Some(&bytes[place.offset as usize..end as usize])
+    }
+
+    /// The content that stands at this place among those that are kept, the most recent first, with its
+    /// file; none exactly past the last. It takes no memory, and changes no order.
+    pub fn at(&self, place: usize) -> Option<(u64, &SharedBytes)>
+        ensures shown { shown result ≡ slice_get (contents_in self.now) place }
+        ensures most { length (contents_in self.now) ≤ files_most }
+    {
+        content_at(&self.entries, place)
+    }
+
+    /// Whether no file has an entry. It takes no memory.
+    pub fn is_empty(&self) -> bool
+        ensures { result ≡ (length self.now == 0) }
+    {
+        self.entries.is_empty()
+    }
+
+    /// Whether the contents that are kept have at most so many bytes, all together. It takes no memory.
+    pub fn has_at_most(&self, most: u64) -> bool
+        ensures { result ≡ nat_le (kept_bytes self.now) most }
+    {
+        has_at_most(&self.entries, most)
     }
 
     /// Gives a file an entry, with nothing in it where it had none, and a note's place with it. The

@@ -13,6 +13,7 @@ use Rattle.client_state.specs.declared.task.Stage.TheVariants as stage
 
 stage_there : (cache : Entries) (other file : ℕ) (p : Stage) → StageIsThere cache file p → StageIsThere (without_content cache other) file p
 stage_there cache other file (stage.Asking xid) h = evicted_there cache other file h
+stage_there cache other file (stage.Rewriting xid) h = evicted_there cache other file h
 stage_there cache other file (stage.Hashing tries xid) h = evicted_there cache other file h
 stage_there cache other file (stage.Listing xid f) h = evicted_there cache other file h
 stage_there cache other file (stage.Reading f) h = evicted_there cache other file h
@@ -24,6 +25,7 @@ stage_there cache other file (stage.Walking xid w) h = tt
 -- a file whose entry is there has one at any stage
 pub entry_there : (cache : Entries) (file : ℕ) (p : Stage) → IsThere cache file → StageIsThere cache file p
 entry_there cache file (stage.Asking xid) h = h
+entry_there cache file (stage.Rewriting xid) h = h
 entry_there cache file (stage.Hashing tries xid) h = h
 entry_there cache file (stage.Listing xid f) h = h
 entry_there cache file (stage.Reading f) h = h

@@ -1,3 +1,4 @@
+pub mod Bounding
 pub mod State
 pub mod Local
 pub mod Counting

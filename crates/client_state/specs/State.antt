@@ -105,6 +105,7 @@ nfs_pending p xid = record { xid = xid; program = program.Nfs p } ∷ []
 
 abbrev pub pending_in : Stage → List Pending
 pending_in (stage.Asking xid) = lb_pending lb_proc.GetLease xid
+pending_in (stage.Rewriting xid) = lb_pending lb_proc.GetLease xid
 pending_in (stage.Hashing tries xid) = lb_pending lb_proc.GetHash xid
 pending_in (stage.Listing xid f) = lb_pending lb_proc.GetHash xid
 pending_in (stage.Reading f) = map read_pending f.under

@@ -105,9 +105,10 @@ calls_after_all (c ∷ cs) = calls_after c.way + calls_after_all cs
 abbrev pub store_left : Store → ℕ
 store_left st = 2 * (length st.chunks - st.named) + calls_after_all st.under + 1
 
--- the calls of the open that may follow: a GETLEASE, and all attempts
+-- the calls that may follow of the open, a GETLEASE and all attempts, or of the rewrite, a GETLEASE
 abbrev pub open_left : Goal → ℕ
 open_left (goal.Find name) = 2 + attempt_most + later_left 1
+open_left (goal.Rewrite name) = 1
 open_left g = 0
 
 -- the most calls that a walk may still send behind its next one
@@ -116,6 +117,7 @@ walk_left w = calls_behind w + open_left w.goal
 
 abbrev pub calls_left : Stage → ℕ
 calls_left (stage.Asking xid) = 1 + attempt_most + later_left 1
+calls_left (stage.Rewriting xid) = 0
 calls_left (stage.Hashing tries xid) = attempt_most + later_left tries
 calls_left (stage.Listing xid f) = attempt_most - length f.chunks + later_left f.tries
 calls_left (stage.Reading f) = length f.chunks - f.asked + 1 + later_left f.tries

@@ -6,6 +6,7 @@
 //! opens a file, and what closes one, stands in crates above.
 #![tactic(auto)]
 
+pub mod bounding;
 pub mod hints;
 pub mod local;
 pub mod parts;

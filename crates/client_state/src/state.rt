@@ -102,6 +102,7 @@ fn open_left(goal: &Goal) -> u128
 {
     match goal {
         Goal::Find(_) => OPEN_CALLS_MOST,
+        Goal::Rewrite(_) => 1,
         _ => 0,
     }
 }

@@ -115,7 +115,7 @@ pub struct ClientStep {
     /// How the operation under way ended, if it did.
     pub ended: Option<Ended>,
     pub counts: Counts,
-    /// The id that the path of an open or of a look was found to stand for, in the step that found it.
+    /// The id that the path of an open, a rewrite or a look was found to stand for, in the step that found it.
     pub found: Option<u64>,
     /// Whether memory ran out: then the operation under way ended with Memory.
     pub missed: bool,

@@ -8,7 +8,8 @@ use shared_bytes::SharedBytes;
 /// What a client has of an open file. It stands under the file's id.
 #[derive(Drop)]
 pub struct Local {
-    /// The version that its content was fetched in.
+    /// The version that its content was fetched in; of a file that is written anew the one that the server
+    /// told as that began.
     pub version: u64,
     /// Its local content.
     pub bytes: SharedBytes,
@@ -79,6 +80,8 @@ pub struct Store {
 pub enum Stage {
     /// An open: a GETLEASE is under way with this xid, for the version of a content that is kept.
     Asking(u32),
+    /// A rewrite: a GETLEASE is under way with this xid, for the file's version.
+    Rewriting(u32),
     /// An open: the first GETHASH of an attempt is under way.
     Hashing {
         /// Which attempt it is, 1 to 4.
@@ -108,10 +111,10 @@ pub enum Stage {
     },
 }
 
-/// An operation under way: an open, a close, or a command on names.
+/// An operation under way: an open, a rewrite, a close, or a command on names.
 #[derive(Drop)]
 pub struct Task {
-    /// The file that is opened or closed. 0 while names are looked up.
+    /// The file that is opened, written anew or closed. 0 while names are looked up.
     pub file: u64,
     pub stage: Stage,
 }

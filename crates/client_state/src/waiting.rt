@@ -64,7 +64,9 @@ pub fn pending_in(alloc: Global, stage: &Stage) -> Result<Vec<Pending>, AllocErr
     ensures { IfOk result (λ ps. ps.items ≡ pending_in stage.now) }
 {
     match stage {
-        Stage::Asking(xid) => one_pending(alloc, *xid, Program::Lb(LbProc::GetLease)),
+        Stage::Asking(xid) | Stage::Rewriting(xid) => {
+            one_pending(alloc, *xid, Program::Lb(LbProc::GetLease))
+        }
         Stage::Hashing { tries: _, xid } => one_pending(alloc, *xid, Program::Lb(LbProc::GetHash)),
         Stage::Listing { xid, fetch: _ } => one_pending(alloc, *xid, Program::Lb(LbProc::GetHash)),
         Stage::Reading(fetch) => reads_pending(alloc, fetch.under.as_slice()),

@@ -1,12 +1,12 @@
 -- What the words of a command say.
 use Rattle.std.specs.Prelude.{ℕ, List, [], ◌∷◌, Option, Some, None, codes, bytes_eq, if◌then◌else◌}
 use Rattle.command_text.specs.declared.command.Command.{Command}
-use Rattle.command_text.specs.declared.command.Command.TheVariants.{Open, Write, Trunc, Read, Close, Abandon, Named}
+use Rattle.command_text.specs.declared.command.Command.TheVariants.{Open, Rewrite, Write, Trunc, Read, Close, Abandon, Named}
 use Rattle.command_text.specs.declared.content.Part.{Part}
 use Rattle.command_text.specs.declared.naming.Deed.{Deed}
 use Rattle.command_text.specs.declared.naming.Deed.TheVariants as deeds
 use Rattle.command_text.specs.declared.path.PathCommand.{PathCommand}
-use Rattle.command_text.specs.declared.path.PathCommand.TheVariants.{Find, Look, LookRoot, List as Lists, Make, MakeDir, Remove, RemoveDir, Rename}
+use Rattle.command_text.specs.declared.path.PathCommand.TheVariants.{Find, Rewrite as Renew, Look, LookRoot, List as Lists, Make, MakeDir, Remove, RemoveDir, Rename}
 use Rattle.command_text.specs.declared.path.Spot.{Spot}
 use Rattle.command_text.specs.Fields.{◌>>=◌, number_of, content_of, id_of}
 use Rattle.command_text.specs.Paths.{spot_of, path_of}
@@ -23,6 +23,19 @@ open_at word None = find_of word
 abbrev pub open_of : List (List ℕ) → Option Command
 open_of (place ∷ []) = open_at place (id_of place)
 open_of words = None
+
+-- a name, whose file is to be written anew
+abbrev pub renew_of : List ℕ → Option Command
+renew_of word = spot_of word >>= λ s. Some (Named (Renew s))
+
+-- rewrite #ID, or rewrite PATH
+abbrev pub rewrite_at : List ℕ → Option ℕ → Option Command
+rewrite_at word (Some n) = Some (Rewrite n)
+rewrite_at word None = renew_of word
+
+abbrev pub rewrite_of : List (List ℕ) → Option Command
+rewrite_of (place ∷ []) = rewrite_at place (id_of place)
+rewrite_of words = None
 
 -- a write of this content, if it is one
 abbrev pub write_with : ℕ → ℕ → Option (List Part) → Option Command
@@ -123,6 +136,7 @@ path_command_of word words =
 abbrev pub command_of : List ℕ → List (List ℕ) → Option Command
 command_of word words =
     if bytes_eq word (codes "open") then open_of words
+    else if bytes_eq word (codes "rewrite") then rewrite_of words
     else if bytes_eq word (codes "write") then write_of words
     else if bytes_eq word (codes "trunc") then trunc_of words
     else if bytes_eq word (codes "read") then read_of words

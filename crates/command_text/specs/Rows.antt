@@ -2,9 +2,9 @@
 use Rattle.std.specs.Prelude.{◌≡◌, ℕ, zero, suc, length, List, [], ◌∷◌, ◌++◌, Option, Some, None, refl, codes, replicate, map}
 use Rattle.hex.specs.Hex.{decode_pairs}
 use Rattle.command_text.specs.declared.command.Command.{Command}
-use Rattle.command_text.specs.declared.command.Command.TheVariants.{Open, Write, Trunc, Read, Close, Abandon, Named}
+use Rattle.command_text.specs.declared.command.Command.TheVariants.{Open, Rewrite, Write, Trunc, Read, Close, Abandon, Named}
 use Rattle.command_text.specs.declared.content.Part.TheVariants.{Bytes, Zeros, Marks, Random}
-use Rattle.command_text.specs.declared.path.PathCommand.TheVariants.{Find, Look, LookRoot, List as Lists, Make, MakeDir, Remove, RemoveDir, Rename}
+use Rattle.command_text.specs.declared.path.PathCommand.TheVariants.{Find, Rewrite as Renew, Look, LookRoot, List as Lists, Make, MakeDir, Remove, RemoveDir, Rename}
 use Rattle.command_text.specs.declared.path.Spot.{Spot}
 use Rattle.command_text.specs.Commands.{command_of}
 use Rattle.command_text.specs.Paths.{spot_of}
@@ -108,6 +108,13 @@ commands = refl
 -- no command
 refused_commands : said (codes "" ∷ codes "open" ∷ codes "open #3 #4" ∷ codes " open #3" ∷ codes "Open #3" ∷ codes "write #3 4" ∷ codes "trunc #3" ∷ codes "read #3 4" ∷ codes "close" ∷ codes "abandoned #3" ∷ codes "list #3" ∷ []) ≡ replicate 11 None
 refused_commands = refl
+
+-- a file that is to be written anew, by its id or by its path
+rewrites : said (codes "rewrite #3" ∷ codes "rewrite d/a" ∷ codes "rewrite 3" ∷ []) ≡ (Some (Rewrite 3) ∷ Some (Named (Renew (record { dirs = codes "d" ∷ []; name = codes "a" }))) ∷ Some (Named (Renew (record { dirs = []; name = codes "3" }))) ∷ [])
+rewrites = refl
+
+refused_rewrites : said (codes "rewrite" ∷ codes "rewrite /" ∷ codes "rewrite #3 #4" ∷ codes "rewrite #03" ∷ codes "rewrite a/../b" ∷ codes "rewrites #3" ∷ codes "Rewrite #3" ∷ []) ≡ replicate 7 None
+refused_rewrites = refl
 
 -- ---- commands on names
 

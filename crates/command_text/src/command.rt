@@ -19,6 +19,9 @@ use std::alloc::Global;
 pub enum Command {
     /// `open #ID`: opens the file with this id. (`open PATH` is a command on names.)
     Open(u64),
+    /// `rewrite #ID`: opens that file with no bytes in it, to be written anew: what the server has of
+    /// it isn't fetched. (`rewrite PATH` is a command on names.)
+    Rewrite(u64),
     /// `write #ID OFFSET CONTENT`: puts the content into the open file, from the offset on. The
     /// content may be of any length, also none, and its bytes are not built yet.
     Write {
@@ -124,6 +127,8 @@ impl Command {
     {
         if is(word, b"open") {
             naming::open(alloc, words)
+        } else if is(word, b"rewrite") {
+            naming::rewrite(alloc, words)
         } else if is(word, b"write") {
             write(alloc, words)
         } else if is(word, b"trunc") {

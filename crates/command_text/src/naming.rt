@@ -1,7 +1,7 @@
-//! Commands on names, and `open`, as `specs/Commands.antt` has their words.
+//! Commands on names, `open` and `rewrite`, as `specs/Commands.antt` has their words.
 
 ghost use Rattle.std.specs.Prelude.{◌≡◌};
-ghost use Rattle.command_text.specs.Commands.{find_of, open_of, spot_command, command_on, rename_of, list_of, look_of, path_command_of};
+ghost use Rattle.command_text.specs.Commands.{find_of, open_of, renew_of, rewrite_of, spot_command, command_on, rename_of, list_of, look_of, path_command_of};
 ghost use Rattle.command_text.specs.Reading.{Gives};
 
 use crate::command::Command;
@@ -29,6 +29,26 @@ pub fn open(alloc: Global, words: &mut Words) -> Result<Command, LineError>
     match fields::id(word) {
         Some(file) => Ok(Command::Open(file)),
         None => find(alloc, word),
+    }
+}
+
+/// `rewrite PATH`.
+fn renew(alloc: Global, word: &[u8]) -> Result<Command, LineError>
+    ensures { Gives result (renew_of word.now) }
+{
+    Ok(Command::Named(PathCommand::Rewrite(path::read_spot(alloc, word)?)))
+}
+
+/// `rewrite #ID`, or `rewrite PATH`.
+pub fn rewrite(alloc: Global, words: &mut Words) -> Result<Command, LineError>
+    ensures { Gives result (rewrite_of words.old) }
+{
+    let Some(word) = one(words) else {
+        return Err(LineError::BadLine);
+    };
+    match fields::id(word) {
+        Some(file) => Ok(Command::Rewrite(file)),
+        None => renew(alloc, word),
     }
 }
 

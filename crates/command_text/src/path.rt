@@ -30,6 +30,8 @@ pub struct Spot {
 pub enum PathCommand {
     /// `open PATH`: opens the file of this name.
     Find(Spot),
+    /// `rewrite PATH`: opens the file of this name with no bytes in it, to be written anew.
+    Rewrite(Spot),
     /// `look PATH`: tells what a name stands for.
     Look(Spot),
     /// `look /`: tells of the root.

@@ -3,7 +3,7 @@ use Rattle.std.proofs.Common.{◌≡◌, refl, sym, ap, subst, ◌∙◌, ℕ, �
 use Rattle.std.proofs.lemmas.Bool.Decides.{nat_tests}
 use Rattle.std.proofs.lemmas.List.{length-take, length-drop}
 use Rattle.std.specs.List.{All}
-use Rattle.std.specs.Prelude.{Option, Some, None, is_some, nat_le, bytes_eq, unwrap_or, if◌then◌else◌}
+use Rattle.std.specs.Prelude.{not, ◌&&◌, Option, Some, None, is_some, nat_le, bytes_eq, unwrap_or, if◌then◌else◌}
 use Rattle.sha1.specs.Sha1.{sha1}
 use Rattle.chunk_cut.specs.declared.chunk.Chunk.{Chunk}
 use Rattle.chunk_index.specs.Index.{Indexed, key_of, place_of}
@@ -66,7 +66,7 @@ content_small cache file version bytes h e = by (kept_of cache file) refl e
 
     within : (o : Option Content) → IsContentBounded o → content_in version o ≡ Some bytes → length bytes ≤ file_limit
     within None b e = absurd (none_some e)
-    within (Some c) b e = inside c b (c.version == version) e
+    within (Some c) b e = inside c b ((c.version == version) && not (version == 0)) e
 
     by : (o : Option Kept) → kept_of cache file ≡ o → content_in version (content_in_kept o) ≡ Some bytes → length bytes ≤ file_limit
     by None is e = absurd (none_some e)

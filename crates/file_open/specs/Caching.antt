@@ -1,5 +1,5 @@
 -- Which bytes a chunk of a fetch finds by a client's index, among what is kept of files.
-use Rattle.std.specs.Prelude.{ℕ, List, Option, Some, None, ◌==◌, if◌then◌else◌}
+use Rattle.std.specs.Prelude.{ℕ, List, Option, Some, None, not, ◌==◌, ◌&&◌, if◌then◌else◌}
 use Rattle.chunk_cut.specs.declared.chunk.Chunk.{Chunk}
 use Rattle.chunk_index.specs.Index.{Indexed, key_of, place_of}
 use Rattle.chunk_index.specs.declared.place.Place.{Place}
@@ -8,10 +8,10 @@ pub use Rattle.chunk_places.specs.Places.{found_all}
 use Rattle.client_cache.specs.Cache.{Entries, bytes_at}
 use Rattle.client_cache.specs.declared.kept.Content.{Content}
 
--- a content that is kept in this version
+-- a content that is kept in this version; what is no file's has the version 0, which no file has
 abbrev pub content_in : (version : ℕ) → Option Content → Option (List ℕ)
 content_in version None = None
-content_in version (Some c) = if c.version == version then Some c.bytes else None
+content_in version (Some c) = if (c.version == version) && not (version == 0) then Some c.bytes else None
 
 -- the bytes of a place that has as many as the chunk, where its file's content is kept and has the range
 abbrev pub bytes_there : Entries → Chunk → Option Place → Option (List ℕ)

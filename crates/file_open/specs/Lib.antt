@@ -4,3 +4,4 @@ pub mod Opening
 pub mod Looking
 pub mod Fetching
 pub mod Sending
+pub mod Rewriting

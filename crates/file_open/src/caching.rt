@@ -27,14 +27,15 @@ pub fn is_kept(cache: &Cache, file: u64) -> bool
     }
 }
 
-/// One more owner of the content that is kept of a file in this version.
+/// One more owner of the content that is kept of a file in this version. Nothing is in version 0, which
+/// no file has: what is kept in it is no file's, so a server that tells it doesn't open that.
 pub fn content_in(cache: &Cache, file: u64, version: u64) -> Result<Option<SharedBytes>, AllocError>
     ensures { IfOk result (λ bytes. bytes ≡ content_in version (content_of cache.now file)) }
 {
     let Some((kept, bytes)) = cache.content(file) else {
         return Ok(None);
     };
-    if pieces::is_of_version(version, kept) {
+    if pieces::is_of_version(version, kept) && version != 0 {
         Ok(Some(bytes.share()?))
     } else {
         Ok(None)

@@ -11,7 +11,7 @@ use Rattle.nfs3_calls.specs.declared.listing.Listing.{Listing}
 use Rattle.nfs3_calls.specs.declared.message.Nfs.{Nfs}
 use Rattle.nfs3_calls.specs.declared.message.Nfs.TheVariants as nfs
 use Rattle.nfs3_calls.specs.declared.place.Found.{Found}
-use Rattle.path_calls.specs.Told.{changed_by, goes_down, finds, told_goal, told_found, told_page, told_attr, lists_on, more_pages, asks_page, with_page, walk_told, sees}
+use Rattle.path_calls.specs.Told.{changed_by, goes_down, finds, finds_anew, told_goal, told_found, told_page, told_attr, lists_on, more_pages, asks_page, with_page, walk_told, sees}
 use Rattle.path_calls.specs.Walk.{arrives, pages_most}
 use Rattle.path_calls.specs.declared.walk.Goal.{Goal}
 use Rattle.path_calls.specs.declared.walk.Goal.TheVariants as goal
@@ -30,6 +30,7 @@ arrives_xids : (next dir id : ℕ) (n : List ℕ) (ns : List (List ℕ)) (g : Go
 arrives_xids next dir id n (m ∷ ns) g h = omega (arith, h)
 arrives_xids next dir id n [] (goal.RenameFrom name to) h = omega (arith, h)
 arrives_xids next dir id n [] (goal.Find name) h = omega (arith, h)
+arrives_xids next dir id n [] (goal.Rewrite name) h = omega (arith, h)
 arrives_xids next dir id n [] (goal.Look name) h = omega (arith, h)
 arrives_xids next dir id n [] goal.LookRoot h = omega (arith, h)
 arrives_xids next dir id n [] (goal.List p) h = omega (arith, h)
@@ -47,6 +48,10 @@ finds_xids : (next dir : ℕ) (name : List ℕ) (o : Option ℕ) → HasXids nex
 finds_xids next dir name None h = tt
 finds_xids next dir name (Some id) h = omega (arith, h)
 
+anew_xids : (next dir : ℕ) (name : List ℕ) (o : Option ℕ) → HasXids next (stage.Walking 0 (at dir [] (goal.Rewrite name))) → HasXidsFor next (finds_anew o)
+anew_xids next dir name None h = tt
+anew_xids next dir name (Some id) h = omega (arith, h)
+
 sees_xids : (next : ℕ) (o : Option ℕ) (a : Option Attr) → HasXidsFor next (sees o a)
 sees_xids next (Some id) (Some a) = tt
 sees_xids next (Some id) None = tt
@@ -54,6 +59,7 @@ sees_xids next None a = tt
 
 goal_xids : (next dir : ℕ) (g : Goal) (f : Found) → HasXids next (stage.Walking 0 (at dir [] g)) → HasXidsFor next (told_goal g f)
 goal_xids next dir (goal.Find name) f h = finds_xids next dir name (file_of f.handle) h
+goal_xids next dir (goal.Rewrite name) f h = anew_xids next dir name (file_of f.handle) h
 goal_xids next dir (goal.Look name) f h = sees_xids next (file_of f.handle) f.attr
 goal_xids next dir g f h = tt
 

@@ -5,9 +5,11 @@ use Rattle.chunk_cut.specs.Search.{next_end, closed_ends}
 use Rattle.chunk_cut.specs.declared.chunk.Chunk.{Chunk}
 use Rattle.command_text.specs.declared.command.Command.{Command}
 use Rattle.command_text.specs.declared.command.Command.TheVariants as command
+use Rattle.command_text.specs.declared.content.Part.TheVariants as part
 use Rattle.xdr_codec.specs.declared.answer.Answer.TheVariants.{Done, Failed}
 use Rattle.xdr_codec.specs.declared.attr.Attr.{Attr}
 use Rattle.xdr_codec.specs.declared.attr.Kind.TheVariants as kind
+use Rattle.xdr_codec.specs.declared.status.Status.{Status}
 use Rattle.xdr_codec.specs.declared.status.Status.TheVariants as status
 use Rattle.hash_calls.specs.declared.call.Pair.{Pair}
 use Rattle.hash_calls.specs.declared.message.Lb.TheVariants as lb
@@ -271,6 +273,34 @@ refused_close : (after opened (Does (command.Close 2) ∷ made 1 ∷ Gets (messa
 unfolding calls_most fronted closed_ends next_end
 refused_close = refl
 
+-- ---- a file that is written anew
+
+-- its version is asked for and nothing else, and it is open with nothing in it; what is under way, and what is open, comes before
+rewritten : steps (joined start) (Does (command.Rewrite 2) ∷ Does (command.Rewrite 3) ∷ leased_are 1 5 ∷ Does (command.Read 2 0 9) ∷ Does (command.Rewrite 2) ∷ Does (command.Open 2) ∷ []) ≡ (sends_one (lease_call 1 2) 0 ∷ ends outcome.Busy 0 0 ∷ ends outcome.Done 1 0 ∷ ends (outcome.Piece 0 (sha1 [])) 0 0 ∷ ends outcome.AlreadyOpen 0 0 ∷ ends outcome.AlreadyOpen 0 0 ∷ [])
+rewritten = refl
+
+-- it is open in the version that was told, and has an entry in the cache
+rewritten_state : after (joined start) (Does (command.Rewrite 2) ∷ leased_are 1 5 ∷ []) ≡ record (joined start) { next_xid = 2; opened = (2, record { version = 5; bytes = [] }) ∷ []; cache = (2, nothing) ∷ [] }
+unfolding fronted
+rewritten_state = refl
+
+-- a content that is kept of it stays kept, and isn't opened, whatever version is told
+rewritten_kept : (after seen (Does (command.Rewrite 2) ∷ leased_are 3 1 ∷ []) ≡ record seen { next_xid = 4; opened = (2, record { version = 1; bytes = [] }) ∷ [] }) × (after seen (Does (command.Rewrite 2) ∷ leased_are 3 2 ∷ []) ≡ record seen { next_xid = 4; opened = (2, record { version = 2; bytes = [] }) ∷ [] })
+unfolding calls_most fronted key_of sha1 digest_bytes hash_after compress rounds schedule first_words
+rewritten_kept = (refl, refl)
+
+-- what is written is stored, fewer bytes than the file had as well
+rewritten_closed : steps opened (Does (command.Abandon 2) ∷ Does (command.Rewrite 2) ∷ leased_are 1 1 ∷ Does (command.Write 2 0 (part.Bytes (codes "b") ∷ [])) ∷ Does (command.Close 2) ∷ made 2 ∷ Gets (message.Answer 3 (body.Lb (lb.CondWriteAnswer (Done tt)))) ∷ committed 4 2 ∷ []) ≡ (ends outcome.Done 0 0 ∷ sends_one (lease_call 1 2) 0 ∷ ends outcome.Done 1 0 ∷ ends outcome.Done 0 0 ∷ sends_one (make_call 2 1 2) 0 ∷ sends (cond_call 3 1 (chunk_of 0 (codes "b") 1) ∷ []) (record no_counts { cond_writes = 1 }) ∷ sends (commit_call 4 1 2 1 ∷ []) no_counts ∷ ends (outcome.Closed 2 2 1 (sha1 (codes "b"))) 4 0 ∷ [])
+unfolding calls_most closed_ends next_end
+rewritten_closed = refl
+
+-- the server refuses a directory, and a file that is gone; the connection isn't joined, or is lost meanwhile
+abbrev rewrite_fails : Status → List ClientStep
+rewrite_fails s = steps (joined start) (Does (command.Rewrite 2) ∷ Gets (message.Answer 1 (body.Lb (lb.GetLeaseAnswer (Failed s tt)))) ∷ Does (command.Read 2 0 9) ∷ [])
+
+refused_rewrites : (rewrite_fails status.IsDir ∷ rewrite_fails status.Stale ∷ steps start (Does (command.Rewrite 2) ∷ []) ∷ steps (joined start) (Does (command.Rewrite 2) ∷ Cut ∷ Does (command.Read 2 0 9) ∷ []) ∷ []) ≡ ((sends_one (lease_call 1 2) 0 ∷ ends (outcome.Refused status.IsDir) 1 0 ∷ ends outcome.NotOpen 0 0 ∷ []) ∷ (sends_one (lease_call 1 2) 0 ∷ ends (outcome.Refused status.Stale) 1 0 ∷ ends outcome.NotOpen 0 0 ∷ []) ∷ (ends outcome.NoLink 0 0 ∷ []) ∷ (sends_one (lease_call 1 2) 0 ∷ ends outcome.Lost 0 0 ∷ ends outcome.NotOpen 0 0 ∷ []) ∷ [])
+refused_rewrites = refl
+
 -- ---- which places enter the index
 
 abbrev enters_at : State → Event → Option Entering
@@ -324,6 +354,13 @@ opens_path = refl
 -- while names are looked up no file is known, and another command finds an operation under way
 looks_up : (after (joined start) (named (path.Find (below (codes "f"))) ∷ []) ≡ walking 1 (begun (path.Find (below (codes "f"))))) × (steps (joined start) (named (path.Find (below (codes "f"))) ∷ named (path.List []) ∷ []) ≡ (calls 1 (nfs.Lookup (place 1 (codes "d"))) ∷ ends outcome.Busy 0 0 ∷ []))
 looks_up = (refl, refl)
+
+-- so does a rewrite, which then asks for the version of the file that was found
+rewrites_path : steps (joined start) (named (path.Rewrite (below (codes "f"))) ∷ found_is 1 2 ∷ found_is 2 5 ∷ leased_are 3 1 ∷ Does (command.Read 5 0 9) ∷ []) ≡ (calls 1 (nfs.Lookup (place 1 (codes "d"))) ∷ calls 2 (nfs.Lookup (place 2 (codes "f"))) ∷ finds 5 (sends_one (lease_call 3 5) 0) ∷ ends outcome.Done 3 0 ∷ ends (outcome.Piece 0 (sha1 [])) 0 0 ∷ [])
+rewrites_path = refl
+
+rewrites_open_path : steps opened (named (path.Rewrite (at_root (codes "f"))) ∷ found_is 1 2 ∷ []) ≡ (calls 1 (nfs.Lookup (place 1 (codes "f"))) ∷ finds 2 (ends outcome.AlreadyOpen 0 0) ∷ [])
+rewrites_open_path = refl
 
 -- that a file is open already is told behind the look-ups
 already_open : steps opened (named (path.Find (at_root (codes "f"))) ∷ found_is 1 2 ∷ []) ≡ (calls 1 (nfs.Lookup (place 1 (codes "f"))) ∷ finds 2 (ends outcome.AlreadyOpen 0 0) ∷ [])

@@ -31,6 +31,7 @@ use Rattle.client_state.specs.declared.task.Task.{Task}
 use Rattle.file_open.specs.Fetching.{opens, told_hashes, told_first, told_lease, told_piece, MayMissOpen, Lacks}
 use Rattle.file_open.specs.Looking.{entering}
 use Rattle.file_open.specs.Opening.{read_at}
+use Rattle.file_open.specs.Rewriting.{rewrites, told_anew}
 use Rattle.file_close.specs.Closing.{store_at}
 use Rattle.file_close.specs.Storing.{closes, told_temp, told_stored, closed}
 use Rattle.open_close.specs.Walking.{walks, is_its, told_walk, MayMissWalk}
@@ -63,6 +64,7 @@ abandons s file l = (record s { opened = without_local s.opened file }, ends out
 -- a command, at a reading of the client's clock
 abbrev pub command_step : State → Command → (now : ℕ) → State × ClientStep
 command_step s (command.Open file) now = opens s file s.task
+command_step s (command.Rewrite file) now = rewrites s file s.task
 command_step s (command.Write file offset content) now = on_local s s.task (local_at s.opened file) (writes s file offset content)
 command_step s (command.Trunc file size) now = on_local s s.task (local_at s.opened file) (truncates s file size)
 command_step s (command.Read file offset count) now = on_local s s.task (local_at s.opened file) (reads s offset count)
@@ -75,6 +77,7 @@ command_step s (command.Named c) now = walks s c s.task
 -- an answer to a call of the operation under way
 abbrev pub took : State → (calls : List Pending) → (file : ℕ) → Stage → (xid : ℕ) → Body → State × ClientStep
 took s calls file (stage.Asking asked) xid (body.Lb (lb.GetLeaseAnswer a)) = told_lease s calls file xid a
+took s calls file (stage.Rewriting asked) xid (body.Lb (lb.GetLeaseAnswer a)) = told_anew s calls file xid a
 took s calls file (stage.Hashing tries asked) xid (body.Lb (lb.GetHashAnswer a)) = told_first s calls file xid tries a
 took s calls file (stage.Listing asked f) xid (body.Lb (lb.GetHashAnswer a)) = told_hashes s calls file xid f a
 took s calls file (stage.Reading f) xid (body.Nfs (nfs.ReadAnswer (Failed status a))) = refused s calls xid status
@@ -124,6 +127,7 @@ WriteTakes offset content l = (content_length content ≡ 0 → ⊥) × (written
 -- Which commands may meet want of memory: those that send a call, and those that make a local content. What is told at once takes none.
 abbrev pub MayMissCommand : State → Command → Type 0
 MayMissCommand s (command.Open file) = MayMissOpen s file s.task
+MayMissCommand s (command.Rewrite file) = MayMissOpen s file s.task
 MayMissCommand s (command.Write file offset content) = MayMissOn s.task (local_at s.opened file) (WriteTakes offset content)
 MayMissCommand s (command.Trunc file size) = MayMissOn s.task (local_at s.opened file) (λ l. size ≤ local_most)
 MayMissCommand s (command.Read file offset count) = ⊥

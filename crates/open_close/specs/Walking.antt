@@ -26,6 +26,7 @@ use Rattle.client_state.specs.declared.step.Outcome.{Outcome}
 use Rattle.client_state.specs.declared.task.Stage.TheVariants as stage
 use Rattle.client_state.specs.declared.task.Task.{Task}
 use Rattle.file_open.specs.Fetching.{asks_file}
+use Rattle.file_open.specs.Rewriting.{asks_anew}
 
 -- ---- its calls
 
@@ -52,6 +53,11 @@ abbrev pub finds_if : State → (calls : List Pending) → (xid id : ℕ) → (i
 finds_if s calls xid id true = finding id (forgets s calls xid, ends outcome.AlreadyOpen 0 0)
 finds_if s calls xid id false = finding id (asks_file s id true)
 
+-- so does a rewrite, whose file is asked for its version
+abbrev pub renews_if : State → (calls : List Pending) → (xid id : ℕ) → (is_open : Bool) → State × ClientStep
+renews_if s calls xid id true = finding id (forgets s calls xid, ends outcome.AlreadyOpen 0 0)
+renews_if s calls xid id false = finding id (asks_anew s id true)
+
 abbrev pub outcome_of : WalkEnd → Outcome
 outcome_of ended.Done = outcome.Done
 outcome_of (ended.Names names) = outcome.Names names
@@ -73,6 +79,7 @@ seen_in l e = None
 abbrev pub walked : State → (calls : List Pending) → (xid : ℕ) → (is_look : Bool) → Told → State × ClientStep
 walked s calls xid l (told.Asks w) = asks_next s w
 walked s calls xid l (told.Finds id) = finds_if s calls xid id (is_open s.opened id)
+walked s calls xid l (told.Rewrites id) = renews_if s calls xid id (is_open s.opened id)
 walked s calls xid l (told.Ends e) = (forgets s calls xid, record (ends (outcome_of e) xid 0) { found = seen_in l e })
 walked s calls xid l (told.Shape got wanted) = bad_peer s (bad.Shape got wanted) 0
 walked s calls xid l told.Other = unknown s xid
@@ -98,4 +105,5 @@ MayMissWalk s c (Some t) = ⊥
 abbrev pub HasXidsFor : ℕ → Told → Type 0
 HasXidsFor next (told.Asks w) = HasXids (next + 1) (stage.Walking 0 w)
 HasXidsFor next (told.Finds id) = HasXids (next + 1) (stage.Asking 0)
+HasXidsFor next (told.Rewrites id) = HasXids (next + 1) (stage.Rewriting 0)
 HasXidsFor next t = Unit {0}

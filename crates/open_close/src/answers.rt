@@ -13,7 +13,7 @@ use client_state::state::ClientState;
 use client_state::step::ClientStep;
 use client_state::task::{Fetch, Store};
 use file_close::{calls, closing, stores};
-use file_open::{fetch, kept, opening};
+use file_open::{fetch, kept, opening, rewriting};
 use hash_calls::message::Lb;
 use nfs3_calls::message::Nfs;
 use std::alloc::{AllocError, Global};
@@ -41,6 +41,32 @@ pub fn took_lease(
         Body::Lb(Lb::GetLeaseAnswer(answer)) => match answer {
             Answer::Failed(status, _) => Ok(state.refused(alloc, xid, *status)),
             Answer::Done(leased) => kept::told_leased(alloc, state, file, xid, leased.version),
+        },
+        _ => Ok(state.unknown(alloc, xid)),
+    }
+}
+
+/// An answer while the version of a file is asked for that is written anew. An `Err` changes nothing.
+pub fn took_version(
+    alloc: Global,
+    state: &mut ClientState,
+    file: u64,
+    xid: u32,
+    body: &Body,
+) -> Result<ClientStep, AllocError>
+    requires held { IsHeld state.old }
+    ensures ok { IfOk result (λ a. took (state_of state.old) state.old.waiting.calls file (stage.Rewriting 0) xid body.now ≡ (state_of state.new, a)) }
+    ensures done { IfOk result (λ a. a.missed ≡ false) }
+    ensures err { OnErr result (whole_of state.new ≡ whole_of state.old) }
+    ensures sound { OnOk result (IsSound state.new) }
+    ensures held { OnErr result (IsHeld state.new) }
+{
+    match body {
+        Body::Lb(Lb::GetLeaseAnswer(answer)) => match answer {
+            Answer::Failed(status, _) => Ok(state.refused(alloc, xid, *status)),
+            Answer::Done(leased) => {
+                rewriting::open_empty(alloc, state, file, xid, leased.version)
+            }
         },
         _ => Ok(state.unknown(alloc, xid)),
     }

@@ -2,7 +2,8 @@
 
 ghost use Rattle.limits.specs.declared.TheConstants.{FILE_MOST};
 ghost use Rattle.std.specs.Prelude.{◌≡◌, ◌≤◌, length, false, true, option_map, Some, IfOk, OnOk, OnErr};
-ghost use Rattle.client_state.specs.Hints.{Learns, Offers};
+ghost use Rattle.client_state.specs.Bounding.{kept_within};
+ghost use Rattle.client_state.specs.Hints.{Learns, Offers, Warms};
 ghost use Rattle.std.specs.Option.{option_copied};
 ghost use Rattle.client_state.specs.State.{start, evicted, forged, index_cleared, waiting_of, local_at};
 ghost use Rattle.client_state.specs.Counting.{misses, by_memory};
@@ -17,7 +18,7 @@ use client_state::parts;
 use client_state::state::ClientState;
 use client_state::step::{ClientStep, Ended, Outcome};
 use command_text::command::Command;
-use lb_base::items::Items;
+use lb_base::items::{Bytes, Items};
 use send_list::SendList;
 use shared_bytes::SharedBytes;
 use std::alloc::{AllocError, Global};
@@ -171,6 +172,33 @@ impl Client {
         ensures err { OnErr result (self.new ≡ self.old) }
     {
         self.state.offer(alloc, content)
+    }
+
+    /// The items of a cache file are kept, one behind the other, in place of those before, and their places
+    /// enter the index, each under the digest of its bytes: so a chunk of a fetch that is one of them doesn't
+    /// travel. They are no file's, so they are never opened. While an operation is under way nothing is done,
+    /// and neither where they have more bytes than a file may have. Says whether some places were left out,
+    /// for want of memory. An `Err`, which is want of memory too, changes nothing.
+    pub fn warm(&mut self, alloc: Global, items: &[Bytes]) -> Result<bool, AllocError>
+        ensures ok { IfOk result (λ left_out. Warms self.old items.now left_out self.new) }
+        ensures err { OnErr result (self.new ≡ self.old) }
+    {
+        self.state.warm(alloc, items)
+    }
+
+    /// Contents that are kept are dropped, the oldest first, until all have at most so many bytes together.
+    /// One that is open, or that an operation is under way on, stays. It takes no memory.
+    pub fn keep_within(&mut self, most: u64)
+        ensures { self.new ≡ kept_within most self.old }
+    {
+        self.state.keep_within(most);
+    }
+
+    /// What is kept of files. It takes no memory.
+    pub fn cache(&self) -> &Cache
+        ensures { result.now ≡ self.now.cache }
+    {
+        &self.state.cache
     }
 
     /// What may come: answers to the calls that wait, those of ended operations and attempts too.

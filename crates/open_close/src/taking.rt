@@ -15,7 +15,7 @@ use client_state::task::{Stage, Task};
 use client_state::{parts, waiting};
 use command_text::command::Command;
 use file_close::closing;
-use file_open::opening;
+use file_open::{opening, rewriting};
 use std::alloc::{AllocError, Global};
 use wire::fault::WireFault;
 use wire::message::{Body, Message, RpcRefusal};
@@ -36,6 +36,7 @@ pub fn command(
 {
     match command {
         Command::Open(file) => opening::open(alloc, state, file),
+        Command::Rewrite(file) => rewriting::rewrite(alloc, state, file),
         Command::Write {
             file,
             offset,
@@ -91,6 +92,7 @@ fn took(
     let Task { file, stage } = task;
     match stage {
         Stage::Asking(_) => answers::took_lease(alloc, state, file, xid, body),
+        Stage::Rewriting(_) => answers::took_version(alloc, state, file, xid, body),
         Stage::Hashing { tries, xid: _ } => answers::took_first(
             alloc, state, file, tries, xid, body,
         ),

@@ -6,7 +6,7 @@ ghost use Rattle.client_state.specs.Ending.{is_open};
 ghost use Rattle.client_state.specs.View.{state_of, whole_of, IsHeld, IsSound, HasXids};
 ghost use Rattle.client_state.specs.declared.task.Stage.TheVariants as stage;
 ghost use Rattle.open_close.specs.Step.{took};
-ghost use Rattle.open_close.specs.Walking.{asks_next, walks, finds_if, outcome_of, is_look, seen_in, walked, HasXidsFor, MayMissWalk};
+ghost use Rattle.open_close.specs.Walking.{asks_next, walks, finds_if, renews_if, outcome_of, is_look, seen_in, walked, HasXidsFor, MayMissWalk};
 ghost use Rattle.path_calls.specs.declared.answers.Told.TheVariants as told;
 
 use client_state::parts;
@@ -14,7 +14,7 @@ use client_state::state::ClientState;
 use client_state::step::{BadPeer, ClientStep, Outcome};
 use client_state::task::Stage;
 use command_text::path::PathCommand;
-use file_open::opening;
+use file_open::{opening, rewriting};
 use path_calls::answers::{Ended, Told};
 use path_calls::walk::{Goal, Walk};
 use std::alloc::{AllocError, Global};
@@ -90,6 +90,29 @@ fn found(
         return Ok(finding(id, parts::ends(alloc, Outcome::AlreadyOpen, 0, 0)));
     }
     let step = opening::ask_file(alloc, state, id)?;
+    Ok(finding(id, step))
+}
+
+/// The name whose file is to be written anew stands for this id. An `Err` changes nothing.
+fn renewed(
+    alloc: Global,
+    state: &mut ClientState,
+    xid: u32,
+    id: u64,
+) -> Result<ClientStep, AllocError>
+    requires held { IsHeld state.old }
+    requires xids { HasXids (state.old.next_xid + 1) (stage.Rewriting 0) }
+    ensures ok { IfOk result (λ a. renews_if (state_of state.old) state.old.waiting.calls xid id (is_open state.old.opened.entries id) ≡ (state_of state.new, a)) }
+    ensures done { IfOk result (λ a. a.missed ≡ false) }
+    ensures err { OnErr result (whole_of state.new ≡ whole_of state.old) }
+    ensures sound { OnOk result (IsSound state.new) }
+    ensures held { OnErr result (IsHeld state.new) }
+{
+    if parts::is_open(&state.opened, id) {
+        state.forget(alloc, xid);
+        return Ok(finding(id, parts::ends(alloc, Outcome::AlreadyOpen, 0, 0)));
+    }
+    let step = rewriting::ask_anew(alloc, state, id)?;
     Ok(finding(id, step))
 }
 
@@ -169,6 +192,7 @@ fn walked(
     match told {
         Told::Asks(walk) => ask_next(alloc, state, walk),
         Told::Finds(id) => found(alloc, state, xid, id),
+        Told::Rewrites(id) => renewed(alloc, state, xid, id),
         Told::Ends(ended) => Ok(ends(alloc, state, xid, looks, ended)),
         Told::Shape { got, wanted } => {
             Ok(state.bad_peer(alloc, BadPeer::Shape { got, wanted }, 0))

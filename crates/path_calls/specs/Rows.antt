@@ -71,10 +71,20 @@ rename_asks = refl
 rename_at_once : next_call (begun (command.Rename (at_root (codes "a")) (at_root (codes "b")))) ≡ rename_call 1 (codes "a") 1 (codes "b")
 rename_at_once = refl
 
--- ---- open, look
+-- ---- open, rewrite, look
 
 finds_file : walk_told (begun (command.Find (at_root (codes "a")))) (found 4 None) ≡ told.Finds 4
 finds_file = refl
+
+-- a file that is to be written anew is looked up as one that is opened
+rewrite_looks_up : next_call (begun (command.Rewrite (below (codes "a")))) ≡ nfs.Lookup (place 1 (codes "d"))
+rewrite_looks_up = refl
+
+rewrite_goes_down : walk_told (begun (command.Rewrite (below (codes "a")))) (found 2 None) ≡ told.Asks (record { dir = 2; left = []; goal = goal.Rewrite (codes "a") })
+rewrite_goes_down = refl
+
+rewrites_file : walk_told (begun (command.Rewrite (at_root (codes "a")))) (found 4 None) ≡ told.Rewrites 4
+rewrites_file = refl
 
 sees_file : walk_told (begun (command.Look (at_root (codes "a")))) (found 4 (Some (attr kind.File 3))) ≡ told.Ends (ended.Seen 4 kind.File 7 3)
 sees_file = refl

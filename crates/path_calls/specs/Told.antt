@@ -38,6 +38,10 @@ finds (Some id) = told.Finds id
 abbrev pub shown_version : Attr → ℕ
 shown_version a = a.mtime.seconds * 1000000000 + a.mtime.nanoseconds
 
+abbrev pub finds_anew : Option ℕ → Told
+finds_anew None = lacks
+finds_anew (Some id) = told.Rewrites id
+
 abbrev pub seen : ℕ → Attr → Told
 seen id a = told.Ends (ended.Seen id a.kind (shown_version a) a.size)
 
@@ -47,6 +51,7 @@ sees id a = lacks
 
 abbrev pub told_goal : Goal → Found → Told
 told_goal (goal.Find name) f = finds (file_of f.handle)
+told_goal (goal.Rewrite name) f = finds_anew (file_of f.handle)
 told_goal (goal.Look name) f = sees (file_of f.handle) f.attr
 told_goal g f = told.Other
 

@@ -35,6 +35,7 @@ arrives dir (n ∷ ns) g = record { dir = dir; left = n ∷ ns; goal = g }
 
 abbrev pub begun : PathCommand → Walk
 begun (command.Find s) = from_root s.dirs (goal.Find s.name)
+begun (command.Rewrite s) = from_root s.dirs (goal.Rewrite s.name)
 begun (command.Look s) = from_root s.dirs (goal.Look s.name)
 begun command.LookRoot = from_root [] goal.LookRoot
 begun (command.List path) = from_root path (goal.List no_pages)
@@ -71,6 +72,7 @@ rename_call from name to to_name = nfs.Rename (record { from = place from name; 
 -- what is asked for in the directory that was reached
 abbrev pub goal_call : (dir : ℕ) → Goal → Nfs
 goal_call dir (goal.Find name) = nfs.Lookup (place dir name)
+goal_call dir (goal.Rewrite name) = nfs.Lookup (place dir name)
 goal_call dir (goal.Look name) = nfs.Lookup (place dir name)
 goal_call dir goal.LookRoot = nfs.GetAttr (handle_bytes dir)
 goal_call dir (goal.List p) = page_call dir p

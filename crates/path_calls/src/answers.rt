@@ -46,6 +46,8 @@ pub enum Told {
     Asks(Walk),
     /// The name that was to be opened stands for this file or directory.
     Finds(u64),
+    /// The name whose file is to be written anew stands for this one.
+    Rewrites(u64),
     Ends(Ended),
     /// A number that came breaks a bound: 0 where none came.
     Shape { got: u64, wanted: u64 },
@@ -104,6 +106,10 @@ fn told_goal(goal: &Goal, found: &Found) -> Told
         Goal::Find(_) => match found.handle.file_of() {
             None => Told::Shape { got: 0, wanted: 1 },
             Some(id) => Told::Finds(id),
+        },
+        Goal::Rewrite(_) => match found.handle.file_of() {
+            None => Told::Shape { got: 0, wanted: 1 },
+            Some(id) => Told::Rewrites(id),
         },
         Goal::Look(_) => see(found),
         _ => Told::Other,

@@ -55,9 +55,9 @@ fn goal_call(alloc: Global, dir: u64, goal: &Goal) -> Result<Nfs, AllocError>
     ensures { IfOk result (λ c. c ≡ goal_call dir goal.now) }
 {
     match goal {
-        Goal::Find(name) | Goal::Look(name) | Goal::RenameFrom(name, _) => {
-            Ok(Nfs::Lookup(place(alloc, dir, name)?))
-        }
+        Goal::Find(name) | Goal::Rewrite(name) | Goal::Look(name) | Goal::RenameFrom(name, _) => Ok(
+            Nfs::Lookup(place(alloc, dir, name)?),
+        ),
         Goal::LookRoot => Ok(Nfs::GetAttr(Handle::of_file(alloc, dir)?)),
         Goal::List(pages) => Ok(Nfs::ReadDir(ListRange {
             dir: Handle::of_file(alloc, dir)?,
@@ -84,7 +84,9 @@ fn goal_procedure(goal: &Goal) -> NfsProc
     ensures { (dir : ℕ) → result ≡ nfs_proc (goal_call dir goal.now) }
 {
     match goal {
-        Goal::Find(_) | Goal::Look(_) | Goal::RenameFrom(_, _) => NfsProc::Lookup,
+        Goal::Find(_) | Goal::Rewrite(_) | Goal::Look(_) | Goal::RenameFrom(_, _) => {
+            NfsProc::Lookup
+        }
         Goal::LookRoot => NfsProc::GetAttr,
         Goal::List(_) => NfsProc::ReadDir,
         Goal::Make(_) => NfsProc::Create,

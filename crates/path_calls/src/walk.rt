@@ -14,6 +14,8 @@ use xdr_codec::handle::ROOT;
 pub enum Goal {
     /// The name is looked up, to be opened.
     Find(Name),
+    /// The name is looked up, and its file written anew.
+    Rewrite(Name),
     /// The name is looked up, to be told of.
     Look(Name),
     /// The directory itself is told of.
@@ -70,6 +72,7 @@ impl Walk {
     {
         match command {
             PathCommand::Find(spot) => from_root(spot.dirs, Goal::Find(spot.name)),
+            PathCommand::Rewrite(spot) => from_root(spot.dirs, Goal::Rewrite(spot.name)),
             PathCommand::Look(spot) => from_root(spot.dirs, Goal::Look(spot.name)),
             PathCommand::LookRoot => from_root(Items::new(alloc), Goal::LookRoot),
             PathCommand::List(path) => {

@@ -212,8 +212,9 @@ told = record {
       ∷ op 1 word.List 0 15 (Some 17) None (outcome.Names (codes "a" ∷ [])) [] (sent 0 0 0 0)
       ∷ op 1 word.Look 2 18 (Some 20) None (outcome.Seen 2 1 1 1) [] (sent 0 0 0 0)
       ∷ op 1 word.Open 0 21 (Some 23) None (outcome.Refused 2) [] (sent 0 0 0 0)
+      ∷ op 1 word.Rewrite 2 24 (Some 26) None outcome.Done [] (sent 0 0 0 0)
       ∷ [];
-  steps = 23;
+  steps = 26;
 }
 
 pub text_of_told : history_text told ≡ codes "lbfs-history 1\n"
@@ -228,7 +229,8 @@ pub text_of_told : history_text told ≡ codes "lbfs-history 1\n"
     ++ codes "op 9 client 1 list file 0 begin 15 end 17 point - Names 1 61 cond 0 tmp 0 read 0 data 0\n"
     ++ codes "op 10 client 1 look file 2 begin 18 end 20 point - Seen 2 1 1 1 cond 0 tmp 0 read 0 data 0\n"
     ++ codes "op 11 client 1 open file 0 begin 21 end 23 point - Refused 2 cond 0 tmp 0 read 0 data 0\n"
-    ++ codes "end ops 11 steps 23\n"
+    ++ codes "op 12 client 1 rewrite file 2 begin 24 end 26 point - Done cond 0 tmp 0 read 0 data 0\n"
+    ++ codes "end ops 12 steps 26\n"
 unfolding digits encode_with
 text_of_told = refl
 

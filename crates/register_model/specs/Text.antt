@@ -19,6 +19,7 @@ use Rattle.register_model.specs.Summary.{counts_of, totals_of}
 -- a word as the command of a trace has it
 abbrev pub word_text : Word → List ℕ
 word_text word.Open = codes "open"
+word_text word.Rewrite = codes "rewrite"
 word_text word.Write = codes "write"
 word_text word.Trunc = codes "trunc"
 word_text word.Read = codes "read"

@@ -17,6 +17,8 @@ const STALE: u32 = 70;
 pub enum Word {
     /// Opens a file: the client gets its whole content, as it is at one moment.
     Open,
+    /// Opens a file with an empty copy, to be written anew: its content isn't fetched.
+    Rewrite,
     /// Writes bytes into the client's copy of an open file.
     Write,
     /// Cuts that copy to a length, or fills it with zeros up to it.

@@ -19,6 +19,7 @@ fn word_of(word: Word) -> &'static str
 {
     match word {
         Word::Open => "open",
+        Word::Rewrite => "rewrite",
         Word::Write => "write",
         Word::Trunc => "trunc",
         Word::Read => "read",

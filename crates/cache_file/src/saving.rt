@@ -1,0 +1,109 @@
+//! Writing a cache file: `saved` of `specs/Saved.antt`. `specs/Filling.antt` says what is written while
+//! there is room.
+
+ghost use Rattle.std.specs.Prelude.{◌≡◌, ◌∷◌, [], ◌++◌, IfOk};
+ghost use Rattle.limits.specs.declared.TheConstants.{FILE_MOST};
+ghost use Rattle.chunk_cut.specs.Places.{chunk_bytes};
+ghost use Rattle.cache_file.specs.Filling.{Puts};
+ghost use Rattle.cache_file.specs.Items.{spelled};
+ghost use Rattle.cache_file.specs.Saved.{pieces_of, pieces_in, within, taken};
+
+use chunk_cut::chunk::Chunk;
+use client_cache::cache::Cache;
+use lb_base::items::Bytes;
+use limits::FILE_MOST;
+use std::alloc::{AllocError, Global};
+use xdr_codec::writer::Writer;
+
+/// What was written so far, and for how many bytes there is room.
+pub struct Saving {
+    writer: Writer,
+    room: u64,
+}
+
+// By hand: docs/PROVING.md, "Values that are let go".
+impl Drop for Saving {
+    fn drop(self) {
+        let Saving { writer, room: _ } = self;
+        drop(writer);
+    }
+}
+
+/// How many bytes an item takes in the file: its number, its bytes, and zeros up to a multiple of four.
+fn taken(item: &[u8]) -> u64
+    ensures { result ≡ taken item.now }
+{
+    let len = item.len() as u64;
+    4 + len + (4 - len % 4) % 4
+}
+
+/// The bytes of a chunk of the content.
+fn chunk_bytes<'a>(content: &'a [u8], chunk: &Chunk) -> &'a [u8]
+    ensures { result.now ≡ chunk_bytes content.now chunk.now }
+{
+    let start = chunk.start.min(content.len() as u64) as usize;
+    let rest = &content[start..];
+    let len = chunk.len.min(rest.len() as u64) as usize;
+    &rest[..len]
+}
+
+impl Saving {
+    /// Nothing yet, and room for as much as a cache file may have. It takes no memory.
+    pub fn new(alloc: Global) -> Saving
+        ensures { result ≡ record { writer = []; room = FILE_MOST } }
+    {
+        Saving {
+            writer: Writer::new(alloc),
+            room: FILE_MOST,
+        }
+    }
+
+    /// The bytes that were written. It takes no memory.
+    pub fn done(self) -> Bytes
+        ensures { result ≡ self.writer }
+    {
+        let Saving { writer, room: _ } = self;
+        writer.done()
+    }
+
+    /// Writes an item, where there is room for it; says whether there was. The one error is want of
+    /// memory.
+    fn item(&mut self, item: &[u8]) -> Result<bool, AllocError>
+        ensures { IfOk result (λ goes. Puts self.old (item.now ∷ []) goes self.new) }
+    {
+        let taken = taken(item);
+        if taken > self.room {
+            return Ok(false);
+        }
+        self.writer.opaque(item)?;
+        self.room -= taken;
+        Ok(true)
+    }
+
+    /// Writes the chunks of a content, as many as there is room for; says whether that was for all.
+    fn content(&mut self, alloc: Global, content: &[u8]) -> Result<bool, AllocError>
+        ensures { IfOk result (λ goes. Puts self.old (pieces_of content.now) goes self.new) }
+    {
+        let chunks = chunk_cut::cut(alloc, content)?;
+        for chunk in chunks.as_slice() {
+            if !self.item(chunk_bytes(content, chunk))? {
+                return Ok(false);
+            }
+        }
+        Ok(true)
+    }
+
+    /// Writes the chunks of all contents that are kept, as many as there is room for.
+    pub fn contents(&mut self, alloc: Global, cache: &Cache) -> Result<(), AllocError>
+        ensures { IfOk result (λ _. self.new.writer ≡ self.old.writer ++ spelled (within self.old.room (pieces_in cache.now))) }
+    {
+        let mut place = 0;
+        'contents: while let Some((_file, content)) = cache.at(place) {
+            if !self.content(alloc, content.as_slice())? {
+                return Ok(());
+            }
+            place += 1;
+        }
+        Ok(())
+    }
+}
