@@ -29,8 +29,8 @@ def with_names(maker):
         def command(self, client):
             if self.random.random() < 0.6:
                 return super().command(client)
-            kinds = ("open", "make", "mkdir", "remove", "rmdir", "rename", "list", "look")
-            kind = self.random.choices(kinds, (6, 4, 2, 3, 2, 5, 3, 3))[0]
+            kinds = ("open", "rewrite", "make", "mkdir", "remove", "rmdir", "rename", "list", "look")
+            kind = self.random.choices(kinds, (6, 3, 4, 2, 3, 2, 5, 3, 3))[0]
             if kind == "rename":
                 return f"rename {self.path()} {self.path()}"
             if kind == "list" or kind == "look" and self.random.random() < 0.4:

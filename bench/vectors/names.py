@@ -215,7 +215,7 @@ class Walks:
         if word == "rename":
             size = 40 + opaque(names[0]) + opaque(names[1])
             return self.ask(client, "rename", size, dir, names[0], client.reached[1], names[1])
-        kinds = {"open": "lookup", "look": "lookup", "make": "create", "mkdir": "mkdir", "remove": "remove", "rmdir": "rmdir"}
+        kinds = {"open": "lookup", "rewrite": "lookup", "look": "lookup", "make": "create", "mkdir": "mkdir", "remove": "remove", "rmdir": "rmdir"}
         self.ask_name(client, kinds[word], dir, names[0])
 
     def ask_name(self, client, kind, dir, name):

@@ -99,6 +99,18 @@ class Index:
         return self.pairs.get(name[:16])
 
 
+def cached_items(file):
+    """The whole items that begin the bytes of a cache file: a length in four bytes, so many bytes, and zeros up to four."""
+    items = []
+    while True:
+        length = int.from_bytes(file[:4], "big")
+        end = 4 + (length + 3) // 4 * 4
+        if not 1 <= length <= 65536 or len(file) < end or any(file[4 + length : end]):
+            return items
+        items.append(file[4 : 4 + length])
+        file = file[end:]
+
+
 def held(files, place, length, name):
     """The bytes at a place, where they are there and have the length and the digest."""
     if place is None or place[2] != length or place[0] not in files:
@@ -269,6 +281,9 @@ class World(Served, Walks):
         getattr(self, "took_" + kind)(client, xid, rest, said)
 
     def took_lease(self, client, xid, rest, said):
+        if client.op.word == "rewrite":
+            client.opened[client.op.file] = b""
+            return self.end(client, "Done")
         version, bytes_ = client.kept.get(client.op.file, (None, None))
         if version == said[1]:
             client.opened[client.op.file] = bytes_
@@ -386,7 +401,7 @@ class World(Served, Walks):
                     self.sessions[client.session - 1].closing = op
                 return self.walk(client, word, args)
             op.out = "NoLink"
-        elif word == "open":
+        elif word in ("open", "rewrite"):
             if mine is not None:
                 op.out = "AlreadyOpen"
             elif not client.linked:
@@ -416,7 +431,7 @@ class World(Served, Walks):
 
     def open_file(self, client):
         client.tries = 1
-        if client.op.file in client.kept:
+        if client.op.word == "rewrite" or client.op.file in client.kept:
             self.ask(client, "lease", 20, client.op.file)
         else:
             self.ask_hashes(client)
@@ -477,6 +492,12 @@ class World(Served, Walks):
             (self.index if words[1] == "server" else self.clients[int(words[1]) - 1].index).pairs.clear()
         elif kind == "evict":
             self.clients[int(words[1]) - 1].kept.pop(int(words[2]), None)
+        elif kind == "warm":
+            client, items, at = self.clients[int(words[1]) - 1], cached_items(content(words[2])), 0
+            client.kept[0] = (0, b"".join(items))
+            for item in items:
+                client.index.enter(0, [(at, len(item), hashlib.sha1(item).hexdigest())])
+                at += len(item)
 
     def history(self):
         return ["lbfs-history 1"] + [op.text(k + 1) for k, op in enumerate(self.ops)] + [f"end ops {len(self.ops)} steps {self.step}"]

@@ -1,7 +1,10 @@
 -- Another index, or other contents that are kept: no step, and what is kept stays kept.
 use Rattle.std.proofs.Common.{inl, inr, ◌≡◌, ℕ, List, length, Option, Some, None, Bool, refl, sym, ap, ◌∙◌, subst}
 use Rattle.chunk_index.specs.Index.{Indexed, put, cleared}
+use Rattle.cache_file.specs.Items.{items}
 use Rattle.client_cache.specs.Cache.{without_content}
+use Rattle.client_state.specs.Hints.{warms}
+use Rattle.command_text.specs.Content.{content_bytes}
 use Rattle.server_core.specs.State as server
 use Rattle.server_core.specs.Step.{with_index}
 use Rattle.client_state.specs.State as client
@@ -14,7 +17,7 @@ use Rattle.kept_promise.proofs.Lists.{some_is, same_or_not}
 use Rattle.kept_promise.proofs.Orderly.{Orderly}
 use Rattle.kept_promise.proofs.Facts.{Cached, IsTalk, IsSession, IsSeat, IsServer, IsKept}
 use Rattle.kept_promise.proofs.Turns.{Around, around_with}
-use Rattle.kept_promise.proofs.Caches.{cached_without, AddsNone, same_notes, without_notes}
+use Rattle.kept_promise.proofs.Caches.{cached_without, cached_warm, AddsNone, same_notes, without_notes, warm_notes}
 
 -- ---- a client with another cache and index
 
@@ -151,4 +154,5 @@ adjusts_is book k qs (adjustment.Forge who.Server key place) kept = server_adjus
 adjusts_is book k qs (adjustment.Clear who.Server) kept = server_adjusts book k qs (adjustment.Clear who.Server) (cleared k.server.index) kept refl
 adjusts_is book k qs (adjustment.Forge (who.Client c) key place) kept = client_adjusts book k qs (adjustment.Forge (who.Client c) key place) c (λ s. s.client.cache) (λ s. put s.client.index key place) kept (λ s h. h) (λ s. same_notes s.client.cache) (numbered k.seats c) refl refl
 adjusts_is book k qs (adjustment.Clear (who.Client c)) kept = client_adjusts book k qs (adjustment.Clear (who.Client c)) c (λ s. s.client.cache) (λ s. cleared s.client.index) kept (λ s h. h) (λ s. same_notes s.client.cache) (numbered k.seats c) refl refl
+adjusts_is book k qs (adjustment.Warm c content) kept = client_adjusts book k qs (adjustment.Warm c content) c (λ s. (warms s.client (items (content_bytes content))).cache) (λ s. (warms s.client (items (content_bytes content))).index) kept (λ s h. cached_warm book s.client (items (content_bytes content)) h) (λ s. warm_notes s.client (items (content_bytes content))) (numbered k.seats c) refl refl
 adjusts_is book k qs (adjustment.Evict c file) kept = client_adjusts book k qs (adjustment.Evict c file) c (λ s. without_content s.client.cache file) (λ s. s.client.index) kept (λ s h. cached_without book s.client.cache file h) (λ s. without_notes s.client.cache file) (numbered k.seats c) refl refl

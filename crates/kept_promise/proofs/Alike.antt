@@ -8,6 +8,8 @@ use Rattle.tree_calls.specs.Waiting.{commits, settles as tree_settles}
 use Rattle.trace_replay.specs.declared.stage.Stage.{Stage as Part}
 use Rattle.trace_replay.specs.declared.stage.Stage.TheVariants as part
 use Rattle.trace_replay.specs.declared.turn.Turn.TheVariants as turn
+use Rattle.cache_file.specs.Items.{items}
+use Rattle.client_state.specs.Hints.{warms}
 use Rattle.client_state.specs.State as client
 use Rattle.trace_text.specs.declared.line.Who.TheVariants as who
 use Rattle.trace_ends.specs.declared.adjusting.Adjustment.{Adjustment}
@@ -281,6 +283,11 @@ adjusted_same k (adjustment.Evict c file) = by (numbered k.seats c)
     by : (o : Option Seat) → tree (with_client k c (λ s. client.evicted s file) o) ≡ tree k
     by None = refl
     by (Some seat) = refl
+adjusted_same k (adjustment.Warm c content) = by (numbered k.seats c)
+  where
+    by : (o : Option Seat) → tree (with_client k c (λ s. warms s (items (content_bytes content))) o) ≡ tree k
+    by None = refl
+    by (Some seat) = refl
 
 adjusted_steps : (k : Core) (a : Adjustment) → (adjusted k a).steps ≡ k.steps
 adjusted_steps k (adjustment.Forge who.Server key place) = refl
@@ -298,6 +305,11 @@ adjusted_steps k (adjustment.Clear (who.Client c)) = by (numbered k.seats c)
 adjusted_steps k (adjustment.Evict c file) = by (numbered k.seats c)
   where
     by : (o : Option Seat) → (with_client k c (λ s. client.evicted s file) o).steps ≡ k.steps
+    by None = refl
+    by (Some seat) = refl
+adjusted_steps k (adjustment.Warm c content) = by (numbered k.seats c)
+  where
+    by : (o : Option Seat) → (with_client k c (λ s. warms s (items (content_bytes content))) o).steps ≡ k.steps
     by None = refl
     by (Some seat) = refl
 

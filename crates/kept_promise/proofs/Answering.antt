@@ -8,6 +8,7 @@ use Rattle.path_calls.specs.Walk.{begun, arrives}
 use Rattle.path_calls.specs.declared.walk.Goal.TheVariants as goal
 use Rattle.command_text.specs.declared.path.Spot.{Spot}
 use Rattle.client_state.specs.Ending.{may_walk, has_xids}
+use Rattle.file_open.specs.Rewriting.{asks_anew, rewrites_if, rewrites}
 use Rattle.client_state.specs.View.{walk_left}
 use Rattle.client_cache.specs.Cache.{reserved, content_of}
 use Rattle.client_cache.specs.declared.kept.Content.{Content}
@@ -146,6 +147,17 @@ opened_answer s file free = subst (λ (t : Option Task). IsAnswered s (command.O
         ask true = kept (content_of s.cache file)
         ask false = (stays s, so s (command.Open file) outcome.NoLink told.NoLink refl (λ v. refl) (λ v l. refl))
 
+rewritten_answer : (s : client.State) (file : ℕ) → s.task ≡ None → IsAnswered s (command.Rewrite file) (rewrites s file s.task)
+rewritten_answer s file free = subst (λ (t : Option Task). IsAnswered s (command.Rewrite file) (rewrites s file t)) (sym free) (by (client.local_at s.opened file))
+  where
+    by : (o : Option Local) → (let r = rewrites_if s file (is_some o) in Stays s r.0 × AnswersBy s (command.Rewrite file) r (free_answer (may_ask s) (command.Rewrite file) (option_map (λ (z : Local). z.bytes) o)))
+    by (Some l) = (stays s, so s (command.Rewrite file) outcome.AlreadyOpen told.AlreadyOpen refl (λ v. refl) (λ v l. refl))
+    by None = ask (may_ask s)
+      where
+        ask : (b : Bool) → (let r = asks_anew s file b in Stays s r.0 × AnswersBy s (command.Rewrite file) r (unless_asks b))
+        ask true = ((let o = some_call in omega (arith, o), refl), (refl, refl, tt))
+        ask false = (stays s, so s (command.Rewrite file) outcome.NoLink told.NoLink refl (λ v. refl) (λ v l. refl))
+
 closed_answer : (s : client.State) (file : ℕ) (l : Local) → local_of s file ≡ Some l.bytes → (let r = closes s file l in Stays s r.0 × AnswersBy s (command.Close file) r (unless_asks (may_ask s)))
 closed_answer s file l at = ask (may_ask s)
   where
@@ -192,6 +204,7 @@ own_named asks k (Some x) = refl
 
 no_link_leaves : (k : PathCommand) (v : List ℕ) (l : Option (List ℕ)) → leaves (command.Named k) told.NoLink v l ≡ l
 no_link_leaves (path.Find s) v l = refl
+no_link_leaves (path.Rewrite s) v l = refl
 no_link_leaves k v l = refl
 
 named_answer : (s : client.State) (k : PathCommand) → HasNames k → s.task ≡ None → IsAnswered s (command.Named k) (walks s k s.task)
@@ -209,6 +222,7 @@ named_answer s k names free =
 -- with nothing under way
 pub free_answers : (s : client.State) (d : Command) (now : ℕ) → IsSmall d → s.task ≡ None → IsAnswered s d (command_step s d now)
 free_answers s (command.Open file) now small free = opened_answer s file free
+free_answers s (command.Rewrite file) now small free = rewritten_answer s file free
 free_answers s (command.Write file offset content) now small free = local_one s (command.Write file offset content) file (writes s file offset content) free refl refl (λ v l. refl) (λ l e at. wrote s file offset content l at)
 free_answers s (command.Trunc file size) now small free = local_one s (command.Trunc file size) file (truncates s file size) free refl refl (λ v l. refl) (λ l e at. edited s (command.Trunc file size) file l size (truncated l.bytes size) refl at (λ v. refl) (λ n v x. refl))
 free_answers s (command.Read file offset count) now small free = local_one s (command.Read file offset count) file (reads s offset count) free refl refl (λ v l. refl) (λ l e at. (stays s, so s (command.Read file offset count) (outcome.Piece (length (part_of l.bytes offset count)) (sha1 (part_of l.bytes offset count))) (told.Piece (length (part_of l.bytes offset count)) (sha1 (part_of l.bytes offset count))) refl (λ v. refl) (λ v l. refl)))
@@ -229,6 +243,7 @@ free_answers s (command.Named k) now small free = named_answer s k small free
 -- with an operation under way it is busy
 busy_by : (s : client.State) (d : Command) (t : Task) (now : ℕ) → s.task ≡ Some t → command_step s d now ≡ (s, ends outcome.Busy 0 0)
 busy_by s (command.Open file) t now e = ap (opens s file) e
+busy_by s (command.Rewrite file) t now e = ap (rewrites s file) e
 busy_by s (command.Write file offset content) t now e = ap (λ z. on_local s z (client.local_at s.opened file) (writes s file offset content)) e
 busy_by s (command.Trunc file size) t now e = ap (λ z. on_local s z (client.local_at s.opened file) (truncates s file size)) e
 busy_by s (command.Read file offset count) t now e = ap (λ z. on_local s z (client.local_at s.opened file) (reads s offset count)) e

@@ -10,7 +10,7 @@ use Rattle.kept_promise.proofs.Common.{nat_tests, slice_get, cond, ◌==◌, Pen
 use Rattle.kept_promise.proofs.Statements.{CallFits}
 use Rattle.kept_promise.proofs.Lists.{some_is, nothing_there, same_or_not, at_end, of_appended, false_and_true, all_map, all_unless}
 use Rattle.kept_promise.proofs.Keys.{times, times_append, own, on_way, ask_key, change_key, told_key, pending_key, IsOurs, call_ours}
-use Rattle.kept_promise.proofs.Messages.{Job, job, stage_word, AllAsks, Rising, hash_offset, read_chunk, CallOf, IsAsked, AnswerOf, IsAnswer, FetchOf, IsCommit, CommitOf, IsNamed, IsPiece, PieceOf, TempUnder, AreParts, CloseOf, Trying, IsCreating, WaitsFor}
+use Rattle.kept_promise.proofs.Messages.{lease_xid, Job, job, stage_word, AllAsks, Rising, hash_offset, read_chunk, CallOf, IsAsked, AnswerOf, IsAnswer, FetchOf, IsCommit, CommitOf, IsNamed, IsPiece, PieceOf, TempUnder, AreParts, CloseOf, Trying, IsCreating, WaitsFor}
 use Rattle.kept_promise.proofs.Rights.{IsRight, WasThere}
 use Rattle.kept_promise.proofs.PathNames.{is_creating}
 use Rattle.kept_promise.proofs.History.{onward, goes_appended, still_appended}
@@ -58,17 +58,17 @@ pub record First (next : ℕ) (s : Stage) (a : Ask) : Type 0 where
   pub read : (y : ℕ) → read_chunk s y ≡ None
   pub commit : (y : ℕ) → s ≡ stage.Committing y → ⊥
   pub walk : (y : ℕ) (w : Walk) → y < next → s ≡ stage.Walking y w → ⊥
-  pub lease : (y : ℕ) → y < next → s ≡ stage.Asking y → ⊥
+  pub lease : (y : ℕ) → y < next → lease_xid s ≡ Some y → ⊥
 
 pub call_first : (next : ℕ) (j : Job) (s : Stage) (a : Ask) → First next s a → j.stage ≡ s → (y : ℕ) (c : Call) → y < next → CallOf (Some j) y c
-call_first next j s a f is y (Lease g) lt = λ i e w. absurd (f.lease y lt (sym is ∙ ap (λ (z : Job). z.stage) (some_is j i e) ∙ w))
+call_first next j s a f is y (Lease g) lt = λ i e w. absurd (f.lease y lt (ap lease_xid (sym is) ∙ ap (λ (z : Job). lease_xid z.stage) (some_is j i e) ∙ w))
 call_first next j s a f is y (Hash g o) lt = λ i p e w. absurd (f.hash y p lt (ap (λ (z : Stage). hash_offset z y) (sym is) ∙ ap (λ (z : Job). hash_offset z.stage y) (some_is j i e) ∙ w))
 call_first next j s a f is y (Read g d) lt = λ i p e w. nothing_there p (sym (f.read y) ∙ ap (λ (z : Stage). read_chunk z y) (sym is) ∙ ap (λ (z : Job). read_chunk z.stage y) (some_is j i e) ∙ w)
 call_first next j s a f is y (Walks w) lt = λ i v e at. absurd (f.walk y v lt (sym is ∙ ap (λ (z : Job). z.stage) (some_is j i e) ∙ at))
 call_first next j s a f is y _ lt = tt
 
 pub answer_first : (book : Book) (taken : List TakenCall) (closing : Option ℕ) (next : ℕ) (j : Job) (s : Stage) (a : Ask) → First next s a → j.stage ≡ s → (y : ℕ) (r : Reply) → y < next → AnswerOf book taken closing (Some j) y r
-answer_first book taken closing next j s a f is y (Versioned h) lt = λ i e w. absurd (f.lease y lt (sym is ∙ ap (λ (z : Job). z.stage) (some_is j i e) ∙ w))
+answer_first book taken closing next j s a f is y (Versioned h) lt = λ i e w. absurd (f.lease y lt (ap lease_xid (sym is) ∙ ap (λ (z : Job). lease_xid z.stage) (some_is j i e) ∙ w))
 answer_first book taken closing next j s a f is y (Hashed h) lt = λ i p e w. absurd (f.hash y p lt (ap (λ (z : Stage). hash_offset z y) (sym is) ∙ ap (λ (z : Job). hash_offset z.stage y) (some_is j i e) ∙ w))
 answer_first book taken closing next j s a f is y (Bytes h) lt = λ i g c e at w. nothing_there c (sym (f.read y) ∙ ap (λ (z : Stage). read_chunk z y) (sym is) ∙ ap (λ (z : Job). read_chunk z.stage y) (some_is j i e) ∙ w)
 answer_first book taken closing next j s a f is y (Changed h) lt = λ i e w. absurd (f.commit y (sym is ∙ ap (λ (z : Job). z.stage) (some_is j i e) ∙ w))

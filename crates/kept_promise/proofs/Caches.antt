@@ -1,13 +1,18 @@
 -- What a client keeps of files, through what changes it: a content that is found then was there, or is the one that was put.
-use Rattle.std.proofs.Common.{◌⊎◌, inl, inr, ◌≡◌, ℕ, zero, suc, ◌+◌, ◌≤◌, List, [], ◌∷◌, ◌++◌, length, drop, Option, Some, None, Bool, true, false, refl, sym, ap, ◌∙◌, subst, arith, take, eqb-true, ne_eqb}
+use Rattle.std.proofs.Common.{◌⊎◌, inl, inr, ◌≡◌, ℕ, zero, suc, ◌+◌, ◌<◌, ◌≤◌, List, [], ◌∷◌, ◌++◌, length, drop, Option, Some, None, Bool, true, false, refl, sym, ap, ◌∙◌, subst, arith, take, eqb-true, ne_eqb}
 use Rattle.std.proofs.lemmas.List.{length-take, length-drop}
 use Rattle.std.proofs.lemmas.Slice.Eq.{bytes_eq-Decides}
 use Rattle.std.specs.Prelude.{nat_eq, cond, unwrap_or}
+use Rattle.std.specs.List.{concat}
 use Rattle.std.specs.Map.{remove_entry, set_value}
+use Rattle.std.proofs.lemmas.Bool.{leb-true}
 use Rattle.client_cache.specs.Cache.{Entries, files_most, kept_of, nothing, content_in, content_of, bytes_in, fronted, reserved, keeps, evicts, with_content, without_content}
 use Rattle.client_cache.specs.declared.kept.Content.{Content}
 use Rattle.client_cache.specs.declared.kept.Kept.{Kept}
 use Rattle.client_cache.specs.declared.kept.Note.{Note}
+use Rattle.client_state.specs.Hints.{keeps_items, can_warm, warms}
+use Rattle.client_state.specs.State as client
+use Rattle.client_state.specs.declared.task.Task.{Task}
 use Rattle.chunk_index.specs.Index.{Indexed, key_of, place_of}
 use Rattle.chunk_index.specs.declared.place.Place.{Place}
 use Rattle.file_open.specs.Caching.{bytes_there, with_digest, from_index}
@@ -80,8 +85,9 @@ cached_reserved book es file h f c e = elim (front_content es f file (unwrap_or 
     there None e = nothing_there c e
     there (Some k) e = e
 
-pub cached_with : (book : Book) (es : Entries) (file version : ℕ) (bytes : List ℕ) → HadContent book file version bytes → length bytes ≤ 67108864 → Cached book es → Cached book (with_content es file version bytes)
-cached_with book es file version bytes had short h = by (kept_of es file)
+-- a content of a file, or one that is no file's
+pub cached_as : (book : Book) (es : Entries) (file version : ℕ) (bytes : List ℕ) → (0 < file → HadContent book file version bytes) → length bytes ≤ 67108864 → Cached book es → Cached book (with_content es file version bytes)
+cached_as book es file version bytes had short h = by (kept_of es file)
   where
     new : Content
     new = record { version = version; bytes = bytes }
@@ -89,9 +95,24 @@ cached_with book es file version bytes had short h = by (kept_of es file)
     by : (o : Option Kept) → Cached book (keeps es file version bytes o)
     by None f c e = h f c e
     by (Some k) f c e = elim (front_content es f file (record k { content = Some (record { version = version; bytes = bytes }) }) c e) [
-      | inl here ↦ subst (λ (z : Content). HadContent book f z.version z.bytes × (length z.bytes ≤ 67108864)) (some_is new c here.1) (subst (λ (z : ℕ). HadContent book z version bytes) (sym here.0) had, short)
+      | inl here ↦ subst (λ (z : Content). (0 < f → HadContent book f z.version z.bytes) × (length z.bytes ≤ 67108864)) (some_is new c here.1) (λ positive. subst (λ (z : ℕ). HadContent book z version bytes) (sym here.0) (had (subst (λ (z : ℕ). 0 < z) here.0 positive)), short)
       | inr old ↦ h f c old
     ]
+
+pub cached_with : (book : Book) (es : Entries) (file version : ℕ) (bytes : List ℕ) → HadContent book file version bytes → length bytes ≤ 67108864 → Cached book es → Cached book (with_content es file version bytes)
+cached_with book es file version bytes had short h = cached_as book es file version bytes (λ positive. had) short h
+
+-- the items of a cache file
+pub cached_warm : (book : Book) (s : client.State) (items : List (List ℕ)) → Cached book s.cache → Cached book (warms s items).cache
+cached_warm book s items h = by (can_warm s.task items) refl
+  where
+    short : (t : Option Task) → can_warm t items ≡ true → length (concat items) ≤ 67108864
+    short None e = leb-true (length (concat items)) 67108864 e
+    short (Some t) e = absurd cc
+
+    by : (b : Bool) → can_warm s.task items ≡ b → Cached book (if b then (keeps_items s items).cache else s.cache)
+    by true e = cached_as book (reserved s.cache 0) 0 0 (concat items) (λ none. absurd (omega arith)) (short s.task e) (cached_reserved book s.cache 0 h)
+    by false e = h
 
 pub cached_without : (book : Book) (es : Entries) (file : ℕ) → Cached book es → Cached book (without_content es file)
 cached_without book es file h = by (kept_of es file)
@@ -100,7 +121,7 @@ cached_without book es file h = by (kept_of es file)
     by None f c e = h f c e
     by (Some k) f c e = found (kept_of (set_value (nat_eq file) es (record k { content = None })) f) refl e
       where
-        found : (o : Option Kept) → kept_of (set_value (nat_eq file) es (record k { content = None })) f ≡ o → content_in o ≡ Some c → HadContent book f c.version c.bytes × (length c.bytes ≤ 67108864)
+        found : (o : Option Kept) → kept_of (set_value (nat_eq file) es (record k { content = None })) f ≡ o → content_in o ≡ Some c → (0 < f → HadContent book f c.version c.bytes) × (length c.bytes ≤ 67108864)
         found None at e = nothing_there c e
         found (Some x) at e = elim (set_found es f file (record k { content = None }) x at) [ inl gone ↦ nothing_there c (ap (λ (z : Kept). z.content) gone.1 ∙ e) | inr old ↦ h f c (ap content_in old ∙ e) ]
 
@@ -144,6 +165,13 @@ without_notes es file = by (kept_of es file) refl
       | inl gone ↦ (k, ap (kept_of es) gone.0 ∙ at, ap (λ (z : Kept). z.note) gone.1 ∙ is)
       | inr old ↦ (x, old, is)
     ]
+
+pub warm_notes : (s : client.State) (items : List (List ℕ)) → AddsNone s.cache (warms s items).cache
+warm_notes s items = by (can_warm s.task items)
+  where
+    by : (b : Bool) → AddsNone s.cache (if b then (keeps_items s items).cache else s.cache)
+    by true f k n at is = let h = with_notes (reserved s.cache 0) 0 0 (concat items) f k n at is in reserved_notes s.cache 0 f h.0 n h.1 h.2
+    by false f k n at is = same_notes s.cache f k n at is
 
 -- ---- what the index gives of it
 

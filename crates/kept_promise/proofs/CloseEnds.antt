@@ -18,7 +18,7 @@ use Rattle.kept_promise.proofs.Lists.{some_is, nothing_there, same_or_not}
 use Rattle.kept_promise.proofs.Keys.{times, times_append, own, on_way, ask_key, change_key, told_key, pending_key, there_by, key, key_xid, wanted_program}
 use Rattle.kept_promise.proofs.Messages.{IsCreating, Job, job, stage_word, AllAsks, IsCommit, CommitOf, WaitsFor, AsksFor, walk_for, walk_is as asked_walk}
 use Rattle.kept_promise.proofs.PathNames.{is_creating}
-use Rattle.kept_promise.proofs.Rights.{is_remote, IsRight, IsUnmade, IsMade, RefusedBy}
+use Rattle.kept_promise.proofs.Rights.{is_remote, may_point, IsRight, IsUnmade, IsMade, RefusedBy}
 use Rattle.kept_promise.proofs.Growth.{entered_later, Grows, value_later}
 use Rattle.kept_promise.proofs.History.{onward, Becomes, grows_becomes}
 use Rattle.kept_promise.proofs.Orderly.{NoRoom, Denied, Went}
@@ -335,7 +335,7 @@ stops_closed book k qs n x q t ts j g tr version quiet waits made =
           },
         );
         begun = let b = r.begun in omega (arith, b);
-        pointed = λ p e. let here = some_is made.1 p (sym point ∙ e) in (omega (arith, begun, here), omega (arith, le, here), ap is_remote word);
+        pointed = λ p e. let here = some_is made.1 p (sym point ∙ e) in (omega (arith, begun, here), omega (arith, le, here), ap may_point word);
         past = λ e s. let is = some_is (book.steps + 1) e s in let b = r.begun in (omega (arith, b, is), omega (arith, is));
         ends = refl;
         within = λ l p e f s. let here = some_is made.1 p (sym point ∙ f) in let is = some_is (book.steps + 1) e s in omega (arith, le, here, is);

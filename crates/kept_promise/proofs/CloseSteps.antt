@@ -106,10 +106,10 @@ known_on book j i s known e = subst (λ (z : Job). WasThere book z.file) (some_i
 
 -- no stage of a close waits for a GETHASH or a READ, and a commit's xid is new
 again_storing : (next : ℕ) (j : Job) (st : Store) → Again next j (stage.Storing st)
-again_storing next j st = record { lease = λ y lt e. absurd cc; walk = λ y w lt e. absurd cc; hash = λ y o lt e. nothing_there o e; commit = λ y lt e. absurd cc; read = λ y c f lt e. absurd cc }
+again_storing next j st = record { lease = λ y lt e. nothing_there y e; walk = λ y w lt e. absurd cc; hash = λ y o lt e. nothing_there o e; commit = λ y lt e. absurd cc; read = λ y c f lt e. absurd cc }
 
 again_committing : (next : ℕ) (j : Job) (y : ℕ) → next ≤ y → Again next j (stage.Committing y)
-again_committing next j y le = record { lease = λ z lt e. absurd cc; walk = λ z w lt e. absurd cc; hash = λ z o lt e. nothing_there o e; commit = λ z lt e. let same : y ≡ z = ap xid_of e in omega (arith, le, lt, same); read = λ z c f lt e. absurd cc }
+again_committing next j y le = record { lease = λ z lt e. nothing_there z e; walk = λ z w lt e. absurd cc; hash = λ z o lt e. nothing_there o e; commit = λ z lt e. let same : y ≡ z = ap xid_of e in omega (arith, le, lt, same); read = λ z c f lt e. absurd cc }
   where
     xid_of : Stage → ℕ
     xid_of (stage.Committing y) = y

@@ -19,7 +19,7 @@ use Rattle.kept_promise.proofs.Messages.{Job, stage_word}
 use Rattle.kept_promise.proofs.CountedRuns.{no_fault_after}
 use Rattle.kept_promise.proofs.Counted.{traffic_is}
 use Rattle.kept_promise.proofs.VersionRuns.{close_not_opened, word_after}
-use Rattle.kept_promise.proofs.StepCases.{IsFault, IsUnknown, bytes_came, names_keep, StoreIn, open_and_close, OfCloses, of_closes, took_cases, IsOfFile}
+use Rattle.kept_promise.proofs.StepCases.{IsFault, IsUnknown, bytes_came, names_keep, StoreIn, open_and_close, renew_and_close, OfCloses, of_closes, took_cases, IsOfFile}
 use Rattle.kept_promise.proofs.Paying.{owing_join, pays_join, pays_end, pays_whole, asked_of, asked_more, asked_whole, asked_without, asked_found, owing_at, plain_pays, whole_pays, owing_plain}
 use Rattle.kept_promise.proofs.Logs.{Going, Ending}
 use Rattle.kept_promise.proofs.LogSums.{sent_more, named_join, made_join, commits_join, came_in, came_join, none_came, asked_in, counts_log, commit_log, whole_number, whole_in}
@@ -178,6 +178,7 @@ ready_asked v log x b w ms asked r known owes =
 leaves_cases : (log : List Deal) (s : client.State) (file : ℕ) (v : List ℕ) (st : Stage) (x : ℕ) (b : Body) → ClosesBy log file v st → (stage_word st ≡ words.Close → v ≡ client.local_bytes s.opened file) → OfCloses (Leaves log x b v st) s file st x b
 leaves_cases log s file v st x b h value = record {
   opens = λ open_ found r goes. (λ f u running is of. none_open (log ++ deals_with (message.Answer x b ∷ []) found r.1.send) f v u.stage of (goes u running is), λ close. absurd (open_and_close (stage_word st) open_ close));
+  renews = λ renew r e came. ((λ f u running is of. nothing_there e.ended (sym running ∙ e.ended_is)), λ close. absurd (renew_and_close (stage_word st) renew close));
   ends = λ close r e came. (
     λ f u running is of. nothing_there e.ended (sym running ∙ e.ended_is),
     λ close. elim came [
@@ -289,6 +290,7 @@ closes_laws all = record {
   none = λ w file v u un same log names. none w file v u log names;
   asks = λ log names x file v. tt;
   opens = λ log names x file v. tt;
+  renews = λ log names x file v. tt;
   closes = λ x temp file v. (record { named = refl; paid = (tt, tt, refl); made = refl; commits = refl; came = refl }, refl);
   moves = λ log file other v w u gets. by_getting (λ z. CloseNamed log z file v u → CloseNamed log z other v u) (λ h. h) (λ h. h) (λ h. h) w gets;
   other = λ log file v st u of p un same. other log file v st u of p;

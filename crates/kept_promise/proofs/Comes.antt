@@ -9,7 +9,7 @@ use Rattle.register_model.specs.declared.op.Word.TheVariants as words
 use Rattle.kept_promise.proofs.Common.{refused, slice_get, slice_set, not, Pending, Status, Entries, Indexed, no_counts, idle, ClientStep, Ended, Local, Stage, Op, Traffic, Word, Core, Session, has_point, point_if, counted, ended_op, Book, value_at, IsOpenRefused, is_running, Ask, Told, Queue, ask_message, changes}
 use Rattle.kept_promise.proofs.Lists.{some_is, nothing_there, false_and_true, true_and_false}
 use Rattle.kept_promise.proofs.Messages.{Job, stage_word, IsTold, RefusedTold}
-use Rattle.kept_promise.proofs.Rights.{is_remote, Caused, RefusedBy, WasThere}
+use Rattle.kept_promise.proofs.Rights.{is_remote, may_point, Caused, RefusedBy, WasThere}
 use Rattle.tree_reading.specs.Tree.{directory_of}
 use Rattle.trace_replay.specs.Causes.{IsDirectory}
 use Rattle.trace_replay.specs.Naming.{tree_at}
@@ -112,8 +112,8 @@ stops_open book k qs n x q t ts j g tr p u v opened quiet word stopped_ point ca
         cause = cause more grows refl;
         begun = let b = right.begun in omega (arith, b);
         pointed = λ m e. elim (point m e) [
-          | inl was ↦ let old = right.pointed m was in let le = old.1 in (old.0, omega (arith, le), ap is_remote w)
-          | inr new ↦ let le = new.1 in (new.0, omega (arith, le), ap is_remote w)
+          | inl was ↦ let old = right.pointed m was in let le = old.1 in (old.0, omega (arith, le), ap may_point w)
+          | inr new ↦ let le = new.1 in (new.0, omega (arith, le), ap may_point w)
         ];
         past = λ e s. let is = some_is (book.steps + 1) e s in let b = right.begun in (omega (arith, b, is), omega (arith, is));
         ends = sym (ap not stopped_);
@@ -148,7 +148,7 @@ told_point book k qs n x q t ts j g y v version is m e =
         let same : is.op ≡ of.op = some_is is.op of.op (sym is.there ∙ of.there) in
         subst (λ (o : Op). o.begin ≤ is.moment) same is.after
 
-abbrev refused_at : client.State → (xid : ℕ) → Status → client.State × ClientStep
+abbrev pub refused_at : client.State → (xid : ℕ) → Status → client.State × ClientStep
 refused_at c xid s = refused (idle c) (client.calls_of c) xid s
 
 pub comes_refused : (book : Book) (k : Core) (qs : List Queue) (n : ℕ) (x : Session) (q : Queue) (t : Told) (ts : List Told) (j : Job) (g : Here book k qs n x q t ts j) (s : Status) → stage_word j.stage ≡ words.Open → Quiet k n q → RefusedTold book x.taken j t.xid s

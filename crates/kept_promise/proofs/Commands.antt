@@ -10,6 +10,7 @@ use Rattle.command_text.specs.declared.path.Spot.{Spot}
 use Rattle.path_calls.specs.declared.walk.Goal.TheVariants as goal
 use Rattle.path_calls.specs.declared.walk.Walk.{Walk}
 use Rattle.client_state.specs.Ending.{may_walk}
+use Rattle.file_open.specs.Rewriting.{asks_version, asks_anew, rewrites_if, rewrites}
 use Rattle.open_close.specs.Walking.{asks_next, walks, walks_if}
 use Rattle.trace_ends.specs.Commands.{path_word}
 use Rattle.client_state.specs.declared.step.Outcome.TheVariants as outcome
@@ -88,7 +89,7 @@ has_local book k qs c seat file l bytes g at short f v is =
           (subst (λ (z : ℕ). WasThere book z) (sym same) (seat_is.opened file l at).0, omega (arith, len, short))
     ]
 
-edited : (book : Book) (k : Core) (qs : List Queue) (c : ℕ) (seat : Seat) (w : Word) (file : ℕ) (value : List ℕ) (l : Local) (size : ℕ) (bytes : List ℕ) → changes w ≡ false → Idle book k qs c seat → client.local_at seat.client.opened file ≡ Some l → length bytes ≡ size → Answers book k qs c seat w file value (edits seat.client file l size bytes)
+edited : (book : Book) (k : Core) (qs : List Queue) (c : ℕ) (seat : Seat) (w : Word) (file : ℕ) (value : List ℕ) (l : Local) (size : ℕ) (bytes : List ℕ) → Rattle.kept_promise.proofs.Rights.is_remote w ≡ false → Idle book k qs c seat → client.local_at seat.client.opened file ≡ Some l → length bytes ≡ size → Answers book k qs c seat w file value (edits seat.client file l size bytes)
 edited book k qs c seat w file value l size bytes plain g at is = by (nat_lt local_most size) refl
   where
     by : (b : Bool) → nat_lt local_most size ≡ b → Answers book k qs c seat w file value (if b then Rattle.open_close.specs.Step.too_big seat.client size else done_with seat.client file l bytes)
@@ -153,17 +154,17 @@ hash_first next file = record {
   read = λ y. refl;
   commit = λ y e. absurd cc;
   walk = λ y w lt e. absurd cc;
-  lease = λ y lt e. absurd cc;
+  lease = λ y lt e. nothing_there y e;
 }
 
-asking_is : (x y : ℕ) → stage.Asking x ≡ stage.Asking y → x ≡ y
-asking_is x y e = cc
-
 pub lease_first : (next file : ℕ) → First next (stage.Asking next) (record { xid = next; call = Lease file })
-lease_first next file = record { xid = refl; pending = refl; hash = λ y o lt e. nothing_there o e; read = λ y. refl; commit = λ y e. absurd cc; walk = λ y w lt e. absurd cc; lease = λ y lt e. (let same = asking_is next y e in omega (arith, lt, same)) }
+lease_first next file = record { xid = refl; pending = refl; hash = λ y o lt e. nothing_there o e; read = λ y. refl; commit = λ y e. absurd cc; walk = λ y w lt e. absurd cc; lease = λ y lt e. (let same = some_is next y e in omega (arith, lt, same)) }
+
+pub renew_first : (next file : ℕ) → First next (stage.Rewriting next) (record { xid = next; call = Lease file })
+renew_first next file = record { xid = refl; pending = refl; hash = λ y o lt e. nothing_there o e; read = λ y. refl; commit = λ y e. absurd cc; walk = λ y w lt e. absurd cc; lease = λ y lt e. (let same = some_is next y e in omega (arith, lt, same)) }
 
 make_first : (next temp file : ℕ) → First next (stage.Making next temp) (record { xid = next; call = Make temp file })
-make_first next temp file = record { xid = refl; pending = refl; hash = λ y o lt e. nothing_there o e; read = λ y. refl; commit = λ y e. absurd cc; walk = λ y w lt e. absurd cc; lease = λ y lt e. absurd cc }
+make_first next temp file = record { xid = refl; pending = refl; hash = λ y o lt e. nothing_there o e; read = λ y. refl; commit = λ y e. absurd cc; walk = λ y w lt e. absurd cc; lease = λ y lt e. nothing_there y e }
 
 begun_right : (more : Book) (c : ℕ) (w : Word) (file : ℕ) (value : List ℕ) (step : ℕ) → Rattle.kept_promise.proofs.Rights.is_remote w ≡ true → more.steps ≡ step → IsRight more (begun c w file value step)
 begun_right more c w file value step remote now = record {
@@ -321,6 +322,42 @@ lease_begins book k qs c seat file v fits g l room =
       tree = λ e. absurd cc;
     })
 
+-- ---- a rewrite
+
+renew_begins : (book : Book) (k : Core) (qs : List Queue) (c : ℕ) (seat : Seat) (file : ℕ) → file < 18446744073709551616 → (g : Idle book k qs c seat) → Linked book k qs c seat → seat.client.next_xid < 4293967297
+    → Answers book k qs c seat words.Rewrite file [] (asks_version (record seat.client { cache = reserved seat.client.cache file }) file)
+renew_begins book k qs c seat file fits g l room =
+    let s = seat.client in
+    let a : Ask = record { xid = s.next_xid; call = Lease file } in
+    let was = (g.kept.seats c seat g.here).next in
+    let steps = g.kept.steps in
+    leads_begins book k qs c seat words.Rewrite file [] (reserved s.cache file) s.next_temp (stage.Rewriting s.next_xid) a (asks_version (record s { cache = reserved s.cache file }) file).1 g l refl refl refl refl (λ closing is. record {
+      first = renew_first s.next_xid file;
+      of_client = refl;
+      word = refl;
+      of_file = refl;
+      running = refl;
+      pointless = refl;
+      right = begun_right (onward book 1 (book.ops ++ begun c words.Rewrite file [] (k.steps + 1) ∷ [])) c words.Rewrite file [] (k.steps + 1) refl (ap (λ z. z + 1) steps);
+      asked = λ i e w. ap (λ (z : Job). z.file) (sym (some_is (record { place = length book.ops; file = file; stage = stage.Rewriting s.next_xid }) i e));
+      commit = λ contents. tt;
+      fits = (omega (arith, room), fits);
+      under = tt;
+      piece = λ f. tt;
+      cached = cached_reserved book s.cache file (g.kept.seats c seat g.here).kept;
+      temps = omega arith;
+      short = omega arith;
+      fetch = λ taken. tt;
+      closes = λ contents e. tt;
+      trying = λ m y e. absurd cc;
+      xids = omega (arith, room);
+      bounded = (omega (arith, room), let le = was.1 in omega (arith, le));
+      closing_is = inl is;
+      place = λ d e. tt;
+      begins = tt;
+      tree = λ e. absurd cc;
+    })
+
 may : (s : client.State) → may_ask s ≡ true → (s.linked ≡ true) × (s.next_xid < 4293967297)
 may s e = by s.linked refl e
   where
@@ -343,10 +380,21 @@ opened_new book k qs c seat file fits g = subst (λ (t : Option Task). Answers b
     by true = own_same book k qs c seat words.Open file [] outcome.AlreadyOpen tt g
     by false = ask (may_ask seat.client) refl
 
+renewed_new : (book : Book) (k : Core) (qs : List Queue) (c : ℕ) (seat : Seat) (file : ℕ) → file < 18446744073709551616 → Idle book k qs c seat → Answers book k qs c seat words.Rewrite file [] (rewrites seat.client file seat.client.task)
+renewed_new book k qs c seat file fits g = subst (λ (t : Option Task). Answers book k qs c seat words.Rewrite file [] (rewrites seat.client file t)) (sym g.task) (by (is_open seat.client.opened file))
+  where
+    ask : (b : Bool) → may_ask seat.client ≡ b → Answers book k qs c seat words.Rewrite file [] (asks_anew seat.client file b)
+    ask true e = let m = may seat.client e in renew_begins book k qs c seat file fits g (linked book k qs c seat g m.0) m.1
+    ask false e = own_same book k qs c seat words.Rewrite file [] outcome.NoLink tt g
+
+    by : (b : Bool) → Answers book k qs c seat words.Rewrite file [] (rewrites_if seat.client file b)
+    by true = own_same book k qs c seat words.Rewrite file [] outcome.AlreadyOpen tt g
+    by false = ask (may_ask seat.client) refl
+
 -- ---- a walk
 
 pub walk_first : (next : ℕ) (w : Walk) → First next (stage.Walking next w) (record { xid = next; call = Walks w })
-walk_first next w = record { xid = refl; pending = refl; hash = λ y o lt e. nothing_there o e; read = λ y. refl; commit = λ y e. absurd cc; walk = λ y v lt e. (let same = xid_is next y w v e in omega (arith, lt, same)); lease = λ y lt e. absurd cc }
+walk_first next w = record { xid = refl; pending = refl; hash = λ y o lt e. nothing_there o e; read = λ y. refl; commit = λ y e. absurd cc; walk = λ y v lt e. (let same = xid_is next y w v e in omega (arith, lt, same)); lease = λ y lt e. nothing_there y e }
   where
     xid_is : (x y : ℕ) (w v : Walk) → stage.Walking x w ≡ stage.Walking y v → x ≡ y
     xid_is x y w v e = cc
@@ -486,6 +534,7 @@ closed_new book k qs c seat file g = subst (λ (t : Option Task). AnswersClose b
 
 idle_does : (book : Book) (k : Core) (qs : List Queue) (c now : ℕ) (seat : Seat) (d : Command) → IsSmall d → Idle book k qs c seat → Answers book k qs c seat (word_of d) (file_of d) (value_at_begin seat.client (word_of d) (file_of d) (command_step seat.client d now).1.ended) (command_step seat.client d now)
 idle_does book k qs c now seat (command.Open file) fits g = opened_new book k qs c seat file fits g
+idle_does book k qs c now seat (command.Rewrite file) fits g = renewed_new book k qs c seat file fits g
 idle_does book k qs c now seat (command.Write file offset content) fits g = local_one book k qs c seat words.Write file [] (writes seat.client file offset content) g (λ l at. wrote book k qs c seat file offset content [] l g at)
 idle_does book k qs c now seat (command.Trunc file size) fits g = local_one book k qs c seat words.Trunc file [] (truncates seat.client file size) g (λ l at. edited book k qs c seat words.Trunc file [] l size (truncated l.bytes size) refl g at (truncated_length l.bytes size))
 idle_does book k qs c now seat (command.Read file offset count) fits g = local_one book k qs c seat words.Read file [] (reads seat.client offset count) g (λ l at. own_same book k qs c seat words.Read file [] (outcome.Piece (length (part_of l.bytes offset count)) (sha1 (part_of l.bytes offset count))) tt g)
@@ -499,6 +548,7 @@ idle_does book k qs c now seat (command.Abandon file) fits g = local_one book k 
 
 busy_step : (s : client.State) (t : Task) (d : Command) (now : ℕ) → s.task ≡ Some t → command_step s d now ≡ (s, ends outcome.Busy 0 0)
 busy_step s t (command.Open file) now e = ap (opens s file) e
+busy_step s t (command.Rewrite file) now e = ap (rewrites s file) e
 busy_step s t (command.Write file offset content) now e = ap (λ z. on_local s z (client.local_at s.opened file) (writes s file offset content)) e
 busy_step s t (command.Trunc file size) now e = ap (λ z. on_local s z (client.local_at s.opened file) (truncates s file size)) e
 busy_step s t (command.Read file offset count) now e = ap (λ z. on_local s z (client.local_at s.opened file) (reads s offset count)) e

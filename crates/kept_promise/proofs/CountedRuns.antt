@@ -39,7 +39,7 @@ walk_silent : (x : ℕ) (w : Walk) → sent_sum (message.Call x (body.Nfs (next_
 walk_silent x w = ap (λ (t : Traffic). both t no_traffic) (call_counts x w)
 
 pub silent_command : (s : client.State) (d : Command) (now : ℕ) → IsSmall d → IsSilent (command_step s d now)
-silent_command s d now small = command_cases IsSilent s d now (record { busy = λ t is. (refl, refl); answers = λ free opened o plain. (refl, refl); fetches = λ file is free may. (refl, refl); asks = λ file c is free may at. (refl, refl); closes = λ file l is free may at. (refl, refl); walks = λ c is free may. (walk_silent s.next_xid (walk_begun c), refl) })
+silent_command s d now small = command_cases IsSilent s d now (record { busy = λ t is. (refl, refl); answers = λ free opened o plain. (refl, refl); fetches = λ file is free may. (refl, refl); asks = λ file c is free may at. (refl, refl); renews = λ file is free may. (refl, refl); closes = λ file l is free may at. (refl, refl); walks = λ c is free may. (walk_silent s.next_xid (walk_begun c), refl) })
 
 -- ---- one more moment
 

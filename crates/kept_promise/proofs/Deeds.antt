@@ -10,19 +10,20 @@ use Rattle.kept_promise.proofs.Common.{nat_tests, slice_get, nat_lt, option_map,
 use Rattle.kept_promise.proofs.Lists.{some_is, nothing_there, same_or_not, of_appended, within, take_before, take_whole}
 use Rattle.kept_promise.proofs.Locally.{Idles, other_client, leaves_alike, leaves_none, idles_by, local_same, local_more, in_taken, keeps, busy_by, free_each, busy_same, busy_more, keeps_is, keeps_if, keeps_not, leaves_untold}
 use Rattle.kept_promise.proofs.PathNames.{IsSmall}
+use Rattle.register_model.specs.declared.op.Word.{Word}
 
 -- ---- what is said
 
--- none of a client's own answers
-abbrev pub FromServer : Outcome → Type 0
-FromServer (told.Piece len digest) = ⊥
-FromServer told.Done = ⊥
-FromServer told.Busy = ⊥
-FromServer told.NotOpen = ⊥
-FromServer told.AlreadyOpen = ⊥
-FromServer (told.TooBig size) = ⊥
-FromServer told.NoLink = ⊥
-FromServer u = Unit {0}
+-- none of a client's own answers to a command with this word
+abbrev pub FromServer : (what : Word) → Outcome → Type 0
+FromServer what (told.Piece len digest) = ⊥
+FromServer what told.Done = what ≡ words.Rewrite
+FromServer what told.Busy = ⊥
+FromServer what told.NotOpen = ⊥
+FromServer what told.AlreadyOpen = ⊥
+FromServer what (told.TooBig size) = ⊥
+FromServer what told.NoLink = ⊥
+FromServer what u = Unit {0}
 
 -- a command on names
 abbrev pub IsOnNames : Command → Type 0
@@ -32,9 +33,9 @@ IsOnNames d = ⊥
 -- how a command on names ends is what its walk leads to
 abbrev pub ByServer : Command → Outcome → Type 0
 ByServer (command.Named k) u = Unit {0}
-ByServer d u = FromServer u
+ByServer d u = FromServer (word_of d) u
 
-pub by_server : (d : Command) (u : Outcome) → FromServer u → ByServer d u
+pub by_server : (d : Command) (u : Outcome) → FromServer (word_of d) u → ByServer d u
 by_server (command.Named k) u h = tt
 by_server _ u h = h
 
@@ -114,7 +115,7 @@ pub record StaysBy (d : Command) (o r : Op) : Type 0 where
 pub stays_same : (d : Command) (o : Op) → StaysBy d o o
 stays_same d o = record { file = λ h. h; asked = λ h. h }
 
-pub stays_by : (d : Command) (o r : Op) → r.file ≡ o.file → (FromServer o.outcome → FromServer r.outcome) → StaysBy d o r
+pub stays_by : (d : Command) (o r : Op) → r.file ≡ o.file → (FromServer (word_of d) o.outcome → FromServer (word_of d) r.outcome) → StaysBy d o r
 stays_by (command.Named k) o r e h = record { file = λ x. x; asked = λ x. x }
 stays_by _ o r e h = record { file = λ x. e ∙ x; asked = h }
 
@@ -193,12 +194,14 @@ own_told true asks k l = refl
 own_told false asks (command.Named n) None = asks_told asks
 own_told false asks (command.Named n) (Some x) = asks_told asks
 own_told false asks (command.Open f) None = asks_told asks
+own_told false asks (command.Rewrite f) None = asks_told asks
 own_told false asks (command.Write f offset content) None = refl
 own_told false asks (command.Trunc f size) None = refl
 own_told false asks (command.Read f offset count) None = refl
 own_told false asks (command.Close f) None = refl
 own_told false asks (command.Abandon f) None = refl
 own_told false asks (command.Open f) (Some x) = refl
+own_told false asks (command.Rewrite f) (Some x) = refl
 own_told false asks (command.Write f offset content) (Some x) = written_told (length x) offset (content_length content)
 own_told false asks (command.Trunc f size) (Some x) = sized_told size
 own_told false asks (command.Read f offset count) (Some x) = refl

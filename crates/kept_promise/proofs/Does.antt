@@ -8,7 +8,7 @@ use Rattle.register_model.specs.declared.op.Word.TheVariants as words
 use Rattle.kept_promise.proofs.Common.{slice_get, slice_set, not, ends, Ended, Outcome, Local, Op, Word, TakenCall, Core, Seat, Session, Loss.Nothing, CoreStep, numbered, with_numbered, session_of, commanded_sessions, begun, has_point, point_if, told_of, op_after, place_with, closing_with, Book, is_running, Ask, Told, Queue}
 use Rattle.kept_promise.proofs.Lists.{some_is, nothing_there, same_or_not, of_appended}
 use Rattle.kept_promise.proofs.Messages.{Job, job, AllTolds, IsAnswer}
-use Rattle.kept_promise.proofs.Rights.{Caused, IsRight, WasThere, DoneBy}
+use Rattle.kept_promise.proofs.Rights.{Caused, IsRight, WasThere, DoneBy, is_remote}
 use Rattle.kept_promise.proofs.History.{onward, goes_appended, still_appended, grows_appended}
 use Rattle.kept_promise.proofs.Later.{same_view}
 use Rattle.kept_promise.proofs.Turns.{Around, around_with, turned_core}
@@ -123,7 +123,7 @@ kept_cleared book k qs n x seat h at here free = record {
 -- ---- what a client answers by itself
 
 abbrev pub IsOwn : Word → Outcome → Type 0
-IsOwn w outcome.Done = changes w ≡ false
+IsOwn w outcome.Done = is_remote w ≡ false
 IsOwn w outcome.Busy = Unit {0}
 IsOwn w outcome.NotOpen = Unit {0}
 IsOwn w outcome.AlreadyOpen = Unit {0}
@@ -154,10 +154,11 @@ own_right more step c w file value s o own now = record {
     none words.Open o i = absurd i
     none w o i = refl
 
-    done_by : (z : Word) → changes z ≡ false → DoneBy (op_after (begun c w file value step) s [] step (ends outcome.Done 0 0)) z
+    done_by : (z : Word) → is_remote z ≡ false → DoneBy more (op_after (begun c w file value step) s [] step (ends outcome.Done 0 0)) z
     done_by words.Make i = absurd cc
     done_by words.Remove i = absurd cc
     done_by words.Rename i = absurd cc
+    done_by words.Rewrite i = absurd cc
     done_by _ i = tt
 
     cause : (o : Outcome) → IsOwn w o → Caused more (op_after (begun c w file value step) s [] step (ends o 0 0)) (told_of o)

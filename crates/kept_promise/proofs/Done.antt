@@ -1,5 +1,5 @@
 -- Each command has its operation, which came to what its client answered, or to what the server's answers led to.
-use Rattle.std.proofs.Common.{inl, inr, ◌≡◌, ℕ, ◌*◌, ◌≤◌, zero, suc, List, length, Option, Some, None, Bool, true, false, refl, sym, ap, ◌∙◌, subst}
+use Rattle.std.proofs.Common.{inl, inr, ◌≡◌, ℕ, ◌*◌, ◌≤◌, zero, suc, List, length, Option, Some, None, Bool, IsSome, true, false, refl, sym, ap, ◌∙◌, subst}
 use Rattle.command_text.specs.declared.command.Command.TheVariants as command
 use Rattle.register_model.specs.Register.{success}
 use Rattle.register_model.specs.declared.op.Outcome.{Outcome}
@@ -7,19 +7,21 @@ use Rattle.register_model.specs.declared.op.Outcome.TheVariants as told
 use Rattle.register_model.specs.declared.op.Word.TheVariants as words
 use Rattle.kept_promise.proofs.Common.{slice_get, nat_lt, if◌then◌else◌, content_length, Command, local_most, written_size, is_closed, is_untold, Op, Word, word_of, file_of, World, calls_most, Moment, Deed, deeds_of, Book, book_of, can_ask, IsOpened, IsClosed, IsChanged, IsOpenRefused, HasCause, is_busy, local_before, own_answer, unless_asks, write_outcome, sized_outcome, CameTo, IsDone, Queue, changes}
 use Rattle.command_text.specs.declared.path.PathCommand.{PathCommand}
-use Rattle.trace_replay.specs.Causes.{NamedCause}
+use Rattle.trace_replay.specs.Causes.{NamedCause, IsRewritten, IsRewriteRefused}
 use Rattle.trace_replay.specs.Complete.{EndsNamed}
 use Rattle.trace_replay.specs.Faithful.{HasFile, FindsOpen, StoresLocal}
-use Rattle.kept_promise.proofs.Rights.{AreLeased, opened_if, RefusedBy, Caused, IsRight}
+use Rattle.kept_promise.proofs.Rights.{AreLeased, opened_if, may_point, RewriteRefused, Renewed, RefusedBy, DoneBy, Caused, IsRight}
+use Rattle.kept_promise.proofs.Lists.{true_and_false}
 use Rattle.kept_promise.proofs.Facts.{IsKept}
 use Rattle.kept_promise.proofs.Deeds.{FromServer, ByServer, Stores, HasIdFile, Came, IsDeed}
 use Rattle.kept_promise.proofs.Following.{IsFollowed}
 
 -- ---- own answers
 
--- a client's own answer is no success of a close, and one that is told; where it has none an open, a close, or a command on names asks the server
+-- a client's own answer is no success of a close, and one that is told; where it has none an open, a rewrite, a close, or a command on names asks the server
 abbrev AsksRemote : Command → Type 0
 AsksRemote (command.Open f) = Unit {0}
+AsksRemote (command.Rewrite f) = Unit {0}
 AsksRemote (command.Close f) = Unit {0}
 AsksRemote (command.Named n) = Unit {0}
 AsksRemote k = ⊥
@@ -48,12 +50,14 @@ own_plain true asks k l = (refl, refl)
 own_plain false asks (command.Named n) None = asks_plain (command.Named n) asks tt
 own_plain false asks (command.Named n) (Some x) = asks_plain (command.Named n) asks tt
 own_plain false asks (command.Open f) None = asks_plain (command.Open f) asks tt
+own_plain false asks (command.Rewrite f) None = asks_plain (command.Rewrite f) asks tt
 own_plain false asks (command.Write f offset content) None = (refl, refl)
 own_plain false asks (command.Trunc f size) None = (refl, refl)
 own_plain false asks (command.Read f offset count) None = (refl, refl)
 own_plain false asks (command.Close f) None = (refl, refl)
 own_plain false asks (command.Abandon f) None = (refl, refl)
 own_plain false asks (command.Open f) (Some x) = (refl, refl)
+own_plain false asks (command.Rewrite f) (Some x) = (refl, refl)
 own_plain false asks (command.Write f offset content) (Some x) = written_plain (command.Write f offset content) (length x) offset (content_length content)
 own_plain false asks (command.Trunc f size) (Some x) = sized_plain (command.Trunc f size) size
 own_plain false asks (command.Read f offset count) (Some x) = (refl, refl)
@@ -62,7 +66,7 @@ own_plain false asks (command.Abandon f) (Some x) = (refl, refl)
 
 -- ---- causes
 
-open_cause : (book : Book) (f : ℕ) (o : Op) (u : Outcome) → AreLeased book.moments → o.word ≡ words.Open → o.file ≡ f → ((status : ℕ) → u ≡ told.Refused status → IsOpenRefused book f o status) → FromServer u → Caused book o u → HasCause book (command.Open f) o u
+open_cause : (book : Book) (f : ℕ) (o : Op) (u : Outcome) → AreLeased book.moments → o.word ≡ words.Open → o.file ≡ f → ((status : ℕ) → u ≡ told.Refused status → IsOpenRefused book f o status) → FromServer words.Open u → Caused book o u → HasCause book (command.Open f) o u
 open_cause book f o (told.Opened n d) leased w e r s h = subst (λ (x : ℕ). IsOpened book x o n d) e (opened_if book o.file o n d leased h.1)
 open_cause book f o (told.Refused t) leased w e r s h = r t refl
 open_cause book f o (told.Changed a b) leased w e r s h = subst (λ (x : ℕ). IsChanged book x o a b) e h.1
@@ -83,9 +87,58 @@ open_cause book f o (told.Seen a b c d) leased w e r s h = absurd (apart (sym h 
   where
     apart : words.Look ≡ words.Open → ⊥
     apart e = absurd cc
+open_cause book f o told.Done leased w e r s h = absurd (apart s)
+  where
+    apart : words.Open ≡ words.Rewrite → ⊥
+    apart e = absurd cc
 open_cause book f o _ leased w e r s h = s
 
-close_cause : (book : Book) (f : ℕ) (o : Op) (u : Outcome) → o.word ≡ words.Close → o.file ≡ f → FromServer u → Caused book o u → HasCause book (command.Close f) o u
+-- a rewrite has no point
+pub rewrite_pointless : (book : Book) (o : Op) → IsRight book o → o.word ≡ words.Rewrite → o.point ≡ None
+rewrite_pointless book o right w = by o.point refl
+  where
+    by : (t : Option ℕ) → o.point ≡ t → t ≡ None
+    by None e = refl
+    by (Some p) e = absurd (true_and_false (may_point o.word) (right.pointed p e).2 (ap may_point w))
+
+pub rewrite_done : (book : Book) (o : Op) → o.point ≡ None → Renewed book o → IsRewritten book o
+rewrite_done book o none h = record { pointless = none; step = h.step; inside = h.inside; there = subst (λ (v : Option (List ℕ)). IsSome v) (sym h.value_is) refl; xid = h.xid; taken = h.taken }
+
+pub rewrite_refusal : (book : Book) (o : Op) (status : ℕ) → o.point ≡ None → RewriteRefused book o status → IsRewriteRefused book o status
+rewrite_refusal book o status none (inl h) = inl (h.0, none, h.1)
+rewrite_refusal book o status none (inr h) = inr (record { status_is = h.0; pointless = none; step = h.1.0; inside = h.1.1; value_is = h.1.3 })
+
+rewrite_cause : (book : Book) (f : ℕ) (o : Op) (u : Outcome) → o.word ≡ words.Rewrite → o.point ≡ None → ((status : ℕ) → u ≡ told.Refused status → RewriteRefused book o status) → FromServer words.Rewrite u → Caused book o u → HasCause book (command.Rewrite f) o u
+rewrite_cause book f o told.Done w none r s h = rewrite_done book o none (subst (DoneBy book o) w h)
+rewrite_cause book f o (told.Refused t) w none r s h = rewrite_refusal book o t none (r t refl)
+rewrite_cause book f o told.Lost w none r s h = h.1
+rewrite_cause book f o told.Running w none r s h = h.1
+rewrite_cause book f o (told.Opened n d) w none r s h = absurd (apart (sym h.0 ∙ w))
+  where
+    apart : words.Open ≡ words.Rewrite → ⊥
+    apart e = absurd cc
+rewrite_cause book f o (told.Changed a b) w none r s h = absurd (apart (sym h.0 ∙ w))
+  where
+    apart : words.Open ≡ words.Rewrite → ⊥
+    apart e = absurd cc
+rewrite_cause book f o (told.Closed v n d) w none r s h = absurd (apart (sym h.0 ∙ w))
+  where
+    apart : words.Close ≡ words.Rewrite → ⊥
+    apart e = absurd cc
+rewrite_cause book f o told.PeerMemory w none r s h = h
+rewrite_cause book f o (told.BadPeer n) w none r s h = h
+rewrite_cause book f o told.Memory w none r s h = h
+rewrite_cause book f o (told.Names n) w none r s h = absurd (apart (sym h ∙ w))
+  where
+    apart : words.List ≡ words.Rewrite → ⊥
+    apart e = absurd cc
+rewrite_cause book f o (told.Seen a b c d) w none r s h = absurd (apart (sym h ∙ w))
+  where
+    apart : words.Look ≡ words.Rewrite → ⊥
+    apart e = absurd cc
+rewrite_cause book f o _ w none r s h = s
+
+close_cause : (book : Book) (f : ℕ) (o : Op) (u : Outcome) → o.word ≡ words.Close → o.file ≡ f → FromServer words.Close u → Caused book o u → HasCause book (command.Close f) o u
 close_cause book f o (told.Closed v n d) w e s h = subst (λ (x : ℕ). IsClosed book x o v n d) e h.1
 close_cause book f o (told.Refused t) w e s h = elim (subst (λ (x : Word). RefusedBy book o x t) w h) [ inl full ↦ inl full | inr gone ↦ inr gone.0 ]
 close_cause book f o told.Lost w e s h = h.1
@@ -108,6 +161,10 @@ close_cause book f o (told.Names n) w e s h = absurd (apart (sym h ∙ w))
 close_cause book f o (told.Seen a b c d) w e s h = absurd (apart (sym h ∙ w))
   where
     apart : words.Look ≡ words.Close → ⊥
+    apart e = absurd cc
+close_cause book f o told.Done w e s h = absurd (apart s)
+  where
+    apart : words.Close ≡ words.Rewrite → ⊥
     apart e = absurd cc
 close_cause book f o _ w e s h = s
 
@@ -135,10 +192,11 @@ came_to : (book : Book) (d : Deed) (o : Op) (l : Option (List ℕ)) (x : Option 
 came_to book d o l (Some own) right stores cause plain c = (c.0, c.1, pointless book o own right c.0 plain c.2)
 came_to book d o l None right stores cause plain c = (cause plain c.1, stores c.0)
 
--- what is known beside: why an open by an id was refused, and why a command on names that asked the server ended so
+-- what is known beside: why an open, or a rewrite, by an id was refused, and why a command on names that asked the server ended so
 pub record IsKnown (book : Book) (d : Deed) (o : Op) (l : Option (List ℕ)) : Type 0 where
   pub refused : (f : ℕ) → d.command ≡ command.Open f → (status : ℕ) → o.outcome ≡ told.Refused status → IsOpenRefused book f o status
-  pub named : (n : PathCommand) → d.command ≡ command.Named n → own_answer (is_busy book.ops o) (can_ask d.joined d.calls) d.command None ≡ None → (o.end ≡ Some o.begin → ⊥) → NamedCause book n o o.outcome × FindsOpen o.outcome l
+  pub renewed : (f : ℕ) → d.command ≡ command.Rewrite f → (status : ℕ) → o.outcome ≡ told.Refused status → RewriteRefused book o status
+  pub named : (n : PathCommand) → d.command ≡ command.Named n → own_answer (is_busy book.ops o) (can_ask d.joined d.calls) d.command None ≡ None → (o.end ≡ Some o.begin → ⊥) → NamedCause book n o o.outcome × FindsOpen n o.outcome l
   -- the status of one that was refused so is one that it may have
   pub ends : (n : PathCommand) → d.command ≡ command.Named n → (o.end ≡ Some o.begin → ⊥) → (status : ℕ) → o.outcome ≡ told.Refused status → EndsNamed n (told.Refused status)
 
@@ -166,7 +224,7 @@ module _ (book : Book) (ds : List Deed) (i : ℕ) (d : Deed) (o : Op) (leased : 
       by false None = refl
       by false (Some x) = refl
 
-  named_part : (n : PathCommand) → (own_answer busy asks (command.Named n) None ≡ None → (o.end ≡ Some o.begin → ⊥) → NamedCause book n o o.outcome × FindsOpen o.outcome (before o.file)) → Came (record d { command = command.Named n }) o (before 0) (own (command.Named n) 0) → Part (command.Named n) o.file
+  named_part : (n : PathCommand) → (own_answer busy asks (command.Named n) None ≡ None → (o.end ≡ Some o.begin → ⊥) → NamedCause book n o o.outcome × FindsOpen n o.outcome (before o.file)) → Came (record d { command = command.Named n }) o (before 0) (own (command.Named n) 0) → Part (command.Named n) o.file
   named_part n known c =
       subst (λ (x : Option Outcome). HasFile (command.Named n) o x × CameTo book (record d { command = command.Named n }) o (before o.file) x) (sym (own_named n (before o.file)))
       (by (own_answer busy asks (command.Named n) None) refl (own_plain busy asks (command.Named n) None) (subst (Came (record d { command = command.Named n }) o (before 0)) (own_named n (before 0)) c))
@@ -175,16 +233,17 @@ module _ (book : Book) (ds : List Deed) (i : ℕ) (d : Deed) (o : Op) (leased : 
       by (Some own) e plain c = (c.3, (c.0, c.1, pointless book o own right c.0 plain c.2))
       by None e plain c = (tt, known e c.2)
 
-  part : (k : Command) → HasIdFile k o → o.word ≡ word_of k → ((f : ℕ) → k ≡ command.Open f → (status : ℕ) → o.outcome ≡ told.Refused status → IsOpenRefused book f o status) → ((n : PathCommand) → k ≡ command.Named n → own_answer busy asks k None ≡ None → (o.end ≡ Some o.begin → ⊥) → NamedCause book n o o.outcome × FindsOpen o.outcome (before o.file))
+  part : (k : Command) → HasIdFile k o → o.word ≡ word_of k → ((f : ℕ) → k ≡ command.Open f → (status : ℕ) → o.outcome ≡ told.Refused status → IsOpenRefused book f o status) → ((f : ℕ) → k ≡ command.Rewrite f → (status : ℕ) → o.outcome ≡ told.Refused status → RewriteRefused book o status) → ((n : PathCommand) → k ≡ command.Named n → own_answer busy asks k None ≡ None → (o.end ≡ Some o.begin → ⊥) → NamedCause book n o o.outcome × FindsOpen n o.outcome (before o.file))
       → Came (record d { command = k }) o (before (file_of k)) (own k (file_of k)) → Part k o.file
-  part (command.Open f) e w refused named c = id_part (command.Open f) e (λ x. e) (λ s. s) (λ a s. open_cause book f o o.outcome leased w e (refused f refl) s right.cause) c
-  part (command.Close f) e w refused named c = id_part (command.Close f) e (λ x. e) (λ s. s) (λ a s. close_cause book f o o.outcome w e s right.cause) c
-  part (command.Named n) e w refused named c = named_part n (named n refl) c
-  part d e w refused named c = id_part d e (λ x. e) (λ s. s) (λ a s. absurd a) c
+  part (command.Rewrite f) e w refused renewed named c = id_part (command.Rewrite f) e (λ x. e) (λ s. s) (λ a s. rewrite_cause book f o o.outcome w (rewrite_pointless book o right w) (renewed f refl) s right.cause) c
+  part (command.Open f) e w refused renewed named c = id_part (command.Open f) e (λ x. e) (λ s. s) (λ a s. open_cause book f o o.outcome leased w e (refused f refl) s right.cause) c
+  part (command.Close f) e w refused renewed named c = id_part (command.Close f) e (λ x. e) (λ s. s) (λ a s. close_cause book f o o.outcome w e s right.cause) c
+  part (command.Named n) e w refused renewed named c = named_part n (named n refl) c
+  part d e w refused renewed named c = id_part d e (λ x. e) (λ s. s) (λ a s. absurd a) c
 
 pub is_done : (book : Book) (ds : List Deed) (i : ℕ) (d : Deed) (o : Op) → AreLeased book.moments → d.calls ≤ calls_most * d.begin → IsRight book o → IsDeed ds book.ops i d o → IsKnown book d o (local_before ds book.ops i d.client o.file) → IsDone book d o (local_before ds book.ops i d.client o.file)
 is_done book ds i d o leased few right h known =
-    let p = part book ds i d o leased right (is_busy book.ops o) (can_ask d.joined d.calls) d.command h.file h.word known.refused known.named h.came in
+    let p = part book ds i d o leased right (is_busy book.ops o) (can_ask d.joined d.calls) d.command h.file h.word known.refused known.renewed known.named h.came in
     record {
       client = h.client;
       word = h.word;

@@ -30,6 +30,14 @@ opened_well book f o told.Lost lost runs h = absurd (lost h)
 opened_well book f o told.Running lost runs h = absurd (runs h)
 opened_well book f o _ lost runs h = absurd h
 
+rewritten_well : (book : Book) (f : ℕ) (o : Op) (outcome : Outcome) → (IsLost book o → ⊥) → (o.end ≡ None → ⊥) → HasCause book (command.Rewrite f) o outcome → EndsWell (command.Rewrite f) None outcome
+rewritten_well book f o told.Done lost runs h = tt
+rewritten_well book f o (told.Refused status) lost runs (inl h) = inl h.0
+rewritten_well book f o (told.Refused status) lost runs (inr h) = inr h.status_is
+rewritten_well book f o told.Lost lost runs h = absurd (lost h)
+rewritten_well book f o told.Running lost runs h = absurd (runs h)
+rewritten_well book f o _ lost runs h = absurd h
+
 closed_well : (book : Book) (f : ℕ) (x : List ℕ) (o : Op) (outcome : Outcome) → (IsLost book o → ⊥) → (o.end ≡ None → ⊥) → HasCause book (command.Close f) o outcome → EndsWell (command.Close f) (Some x) outcome
 closed_well book f x o (told.Closed version len digest) lost runs h = tt
 closed_well book f x o (told.Refused status) lost runs (inl h) = inl h.status_is
@@ -43,6 +51,8 @@ named_well : (book : Book) (n : PathCommand) (o : Op) (outcome : Outcome) → ((
 named_well book (path.Find s) o (told.Opened len digest) refused lost runs h = tt
 named_well book (path.Find s) o told.AlreadyOpen refused lost runs h = tt
 named_well book (path.Find s) o (told.Changed first last) refused lost runs h = tt
+named_well book (path.Rewrite s) o told.Done refused lost runs h = tt
+named_well book (path.Rewrite s) o told.AlreadyOpen refused lost runs h = tt
 named_well book (path.Look s) o (told.Seen id kind version len) refused lost runs h = tt
 named_well book path.LookRoot o (told.Seen id kind version len) refused lost runs h = tt
 named_well book (path.List p) o (told.Names names) refused lost runs h = tt
@@ -61,6 +71,7 @@ came_well : (book : Book) (d : Deed) (o : Op) (l : Option (List ℕ)) (k : Comma
 came_well book d o None (command.Named n) e named lost runs h = named_well book n o o.outcome (named n refl) lost runs h.0
 came_well book d o (Some x) (command.Named n) e named lost runs h = named_well book n o o.outcome (named n refl) lost runs h.0
 came_well book d o None (command.Open f) e named lost runs h = opened_well book f o o.outcome lost runs h.0
+came_well book d o None (command.Rewrite f) e named lost runs h = rewritten_well book f o o.outcome lost runs h.0
 came_well book d o (Some x) (command.Close f) e named lost runs h = closed_well book f x o o.outcome lost runs h.0
 came_well book d o _ _ e named lost runs h = tt
 

@@ -34,6 +34,7 @@ names_in (c ∷ cs) = elim c.way [ way.Named ↦ suc (names_in cs) | way.Whole �
 -- each call that an operation may still send has an xid
 abbrev pub HasXids : (next : ℕ) → Stage → Type 0
 HasXids next (stage.Asking x) = next + 380001 ≤ 4294967296
+HasXids next (stage.Rewriting x) = next ≤ 4294967296
 HasXids next (stage.Hashing tries x) = (spare : ℕ) × (tries + spare ≡ 4) × (next + 100000 * spare + 80000 ≤ 4294967296)
 HasXids next (stage.Listing x f) = (spare : ℕ) × (f.tries + spare ≡ 4) × (next + 100000 * spare + 80000 ≤ 4294967296 + length f.chunks)
 HasXids next (stage.Reading f) = (spare : ℕ) × (f.tries + spare ≡ 4) × (next + 100000 * spare + 40000 ≤ 4294967296 + f.asked)
@@ -114,9 +115,9 @@ pub record IsOf (book : Book) (i : ℕ) (j : Job) : Type 0 where
   pub file : is_naming j.stage ≡ false → op.file ≡ j.file
   pub running : op.outcome ≡ told.Running
 
--- each content that is kept is what its file had in its version
+-- each content that is kept of a file is what it had in its version: what is kept under 0 is no file's
 abbrev pub Cached : Book → Entries → Type 0
-Cached book cache = (f : ℕ) (c : Content) → kept_of cache f ≡ Some c → HadContent book f c.version c.bytes × (length c.bytes ≤ 67108864)
+Cached book cache = (f : ℕ) (c : Content) → kept_of cache f ≡ Some c → (0 < f → HadContent book f c.version c.bytes) × (length c.bytes ≤ 67108864)
 
 -- an operation is under way where a task is
 abbrev pub IsMatched : Seat → Type 0

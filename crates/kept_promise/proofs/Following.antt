@@ -22,7 +22,7 @@ use Rattle.kept_promise.proofs.Deeds.{also_there, local_of, HasDeeds, Moved, All
 use Rattle.kept_promise.proofs.Ways.{HasWays, InDeeds, stage_case, job_parts, command_goes, ways_added, ways_acted}
 use Rattle.kept_promise.proofs.WalkLeaves.{EndsNeither, walk_left, got_file}
 use Rattle.kept_promise.proofs.StepCases.{IsOfFile}
-use Rattle.kept_promise.proofs.Messages.{job, job_of}
+use Rattle.kept_promise.proofs.Messages.{job, job_of, stage_word}
 use Rattle.kept_promise.proofs.Acting.{all_set, stay_set, HasWord, caused_word, locals_with, Acts, acted_follows, set_same}
 use Rattle.kept_promise.proofs.Doing.{with_end, asks_by, new_op, fixed, does_follows}
 use Rattle.kept_promise.proofs.Found.{got_finds, cut_finds, command_finds}
@@ -32,6 +32,7 @@ use Rattle.kept_promise.proofs.MakingGoals.{file_unnamed}
 use Rattle.kept_promise.proofs.Rights.{gets_file}
 use Rattle.kept_promise.proofs.EventCases.{IsChange, Remembers, Settled, IsIdle, joins_now, event_turns, cuts_silent}
 use Rattle.kept_promise.proofs.Actors.{Heard, heard_acts}
+use Rattle.register_model.specs.declared.op.Word.{Word}
 
 -- ---- what is carried
 
@@ -210,7 +211,7 @@ ops_words : (opening : List Opening) (after : Core) (all : List Moment) (qs : Li
 ops_words opening after all qs kept i r at = caused_word (book_at opening after all) r r.outcome (kept.sound.rights i r at).cause
 
 acts_by : (opening : List Opening) (all : List Moment) (ds : List Deed) (k : Core) (qs : List Queue) (c : ℕ) (seat : Seat) (t : client.State) (acts : ClientStep) → IsKept (book_at opening k all) k qs → numbered k.seats c ≡ Some seat → (seat.client.task ≡ None → (t.opened ≡ seat.client.opened) × (acts.ended ≡ None))
-    → ((x : Task) (p : ℕ) → seat.client.task ≡ Some x → seat.place ≡ Some p → ((acts.found ≡ None) × ((file : ℕ) → (is_naming x.stage ≡ false → file ≡ x.file) → Leaves seat.client.opened t.opened file acts.ended)) ⊎ (((d : Deed) → slice_get ds p ≡ Some d → IsOnNames d.command) × (t.opened ≡ seat.client.opened) × EndsNeither acts.ended))
+    → ((x : Task) (p : ℕ) → seat.client.task ≡ Some x → seat.place ≡ Some p → ((acts.found ≡ None) × ((file : ℕ) → (is_naming x.stage ≡ false → file ≡ x.file) → Leaves (stage_word x.stage) seat.client.opened t.opened file acts.ended)) ⊎ (((d : Deed) → slice_get ds p ≡ Some d → IsOnNames d.command) × (t.opened ≡ seat.client.opened) × EndsNeither (stage_word x.stage) acts.ended))
     → ((i : ℕ) (r : Op) → slice_get (acted k c seat t acts).core.ops i ≡ Some r → HasWord r.word r.outcome) → Acts ds k c seat t acts
 acts_by opening all ds k qs c seat t acts kept here idle busy word =
     let s = kept.seats c seat here in
@@ -218,7 +219,7 @@ acts_by opening all ds k qs c seat t acts kept here idle busy word =
       here = here;
       matched = s.matched;
       begins = begins opening k all qs kept;
-      op = λ j e. let of = s.task j e in (of.op, of.there, of.client, of.file, of.running, with_end (book_at opening k all) of.op (kept.sound.rights j.place of.op of.there) of.running);
+      op = λ j e. let of = s.task j e in (of.op, of.there, of.client, of.file, of.running, with_end (book_at opening k all) of.op (kept.sound.rights j.place of.op of.there) of.running, of.word);
       idle = idle;
       busy = busy;
       words = word;
@@ -251,15 +252,15 @@ ended_idle : (task : Option Task) (e : Ended) → task ≡ None → (ended_by ta
 ended_idle None e is = refl
 ended_idle (Some t) e is = absurd cc
 
-ended_busy : (opened : List (ℕ × Rattle.client_state.specs.declared.task.Local.Local)) (file : ℕ) (task : Option Task) (t : Task) → task ≡ Some t → Leaves opened opened file (ended_by task (record { outcome = outcome.Lost; rests_on = 0 })).ended
-ended_busy opened file (Some x) t e = refl
-ended_busy opened file None t e = absurd cc
+ended_busy : (what : Word) (opened : List (ℕ × Rattle.client_state.specs.declared.task.Local.Local)) (file : ℕ) (task : Option Task) (t : Task) → task ≡ Some t → Leaves what opened opened file (ended_by task (record { outcome = outcome.Lost; rests_on = 0 })).ended
+ended_busy what opened file (Some x) t e = refl
+ended_busy what opened file None t e = absurd cc
 
 goes_cuts : (past : List Moment) (opening : List Opening) (all : List Moment) (k : Core) (qs after : List Queue) (c : ℕ) (seat : Seat) → IsKept (book_at opening k all) k qs → IsFollowed past k → numbered k.seats c ≡ Some seat → IsKept (book_at opening (cuts_if k c seat true).core all) (cuts_if k c seat true).core after → Goes past k (Cuts c) (cuts_if k c seat true).core
 unfolding calls_most
 goes_cuts past opening all k qs after c seat kept h here left =
     let r = cut seat.client in
-    let a = acts_by opening all (deeds_of past) k qs c seat r.0 r.1 kept here (λ f. (refl, ended_idle seat.client.task _ f)) (λ x p f g. inl (cut_finds seat.client, λ file is. ended_busy seat.client.opened file seat.client.task x f)) (ops_words opening (cuts_if k c seat true).core all after left) in
+    let a = acts_by opening all (deeds_of past) k qs c seat r.0 r.1 kept here (λ f. (refl, ended_idle seat.client.task _ f)) (λ x p f g. inl (cut_finds seat.client, λ file is. ended_busy (stage_word x.stage) seat.client.opened file seat.client.task x f)) (ops_words opening (cuts_if k c seat true).core all after left) in
     let f = acted_follows (deeds_of past) k c seat r.0 r.1 h.deeds a in
     let now : Seat = record seat { client = r.0; place = Rattle.trace_ends.specs.Ops.place_after seat.place r.1.ended } in
     goes_by past k (Cuts c) (cuts_if k c seat true).core h refl f.moved f.deeds (ways_acted (deeds_of past) k.seats c seat r.0 r.1 h.ways here (occupied seat (kept.seats c seat here).matched) (λ t u e known at. nothing_there u at)) (omega arith) (cuts_off past c k.seats seat now h.joined here refl)
@@ -352,8 +353,8 @@ goes_hears laws past opening all k qs mid after n now bytes kept h w left =
         by (inr walk) = (walk_left seat.client m now t walk.0 walk.1 e walk.2).0
 
     busy : (m : Result Message WireFault) (x : Task) (p : ℕ) → seat.client.task ≡ Some x → seat.place ≡ Some p → IsOfFile x.stage ⊎ ((y : ℕ) × (w : Walk) × (x.stage ≡ stage.Walking y w))
-        → (let r = got_step seat.client m now in ((r.1.found ≡ None) × ((file : ℕ) → (is_naming x.stage ≡ false → file ≡ x.file) → Leaves seat.client.opened r.0.opened file r.1.ended)) ⊎ (((d : Deed) → slice_get (deeds_of past) p ≡ Some d → IsOnNames d.command) × (r.0.opened ≡ seat.client.opened) × EndsNeither r.1.ended))
-    busy m x p f g (inl known) = inl (got_finds seat.client m now (λ u e. subst (λ (z : Task). IsOfFile z.stage) (some_is x u (sym f ∙ e)) known), λ file is. subst (λ (z : ℕ). Leaves seat.client.opened (got_step seat.client m now).0.opened z (got_step seat.client m now).1.ended) (sym (is (file_unnamed x.stage known))) (step_left seat.client m now x f known).1)
+        → (let r = got_step seat.client m now in ((r.1.found ≡ None) × ((file : ℕ) → (is_naming x.stage ≡ false → file ≡ x.file) → Leaves (stage_word x.stage) seat.client.opened r.0.opened file r.1.ended)) ⊎ (((d : Deed) → slice_get (deeds_of past) p ≡ Some d → IsOnNames d.command) × (r.0.opened ≡ seat.client.opened) × EndsNeither (stage_word x.stage) r.1.ended))
+    busy m x p f g (inl known) = inl (got_finds seat.client m now (λ u e. subst (λ (z : Task). IsOfFile z.stage) (some_is x u (sym f ∙ e)) known), λ file is. subst (λ (z : ℕ). Leaves (stage_word x.stage) seat.client.opened (got_step seat.client m now).0.opened z (got_step seat.client m now).1.ended) (sym (is (file_unnamed x.stage known))) (step_left seat.client m now x f known).1)
     busy m x p f g (inr walk) =
         let left = walk_left seat.client m now x walk.0 walk.1 f walk.2 in
         inr (
@@ -362,7 +363,7 @@ goes_hears laws past opening all k qs mid after n now bytes kept h w left =
             | inr names ↦ names
           ]),
           left.1,
-          left.2,
+          subst (λ (z : Word). EndsNeither z (got_step seat.client m now).1.ended) (sym (ap stage_word walk.2)) left.2,
         )
 
 -- ---- a command

@@ -11,6 +11,7 @@ use Rattle.client_state.specs.declared.task.Stage.TheVariants as stage
 use Rattle.client_state.specs.declared.task.Way.TheVariants as way
 use Rattle.file_open.specs.Caching.{content_in, found_all}
 use Rattle.file_open.specs.Fetching.{changes as gives_up}
+use Rattle.file_open.specs.Rewriting.{asks_anew, rewrites_if, rewrites, told_anew}
 use Rattle.kept_promise.proofs.Common.{Word, changes, Op, TakenCall, op_after, op_ended, counted, Book, Core, Queue, ends, too_big, done_with, Part, content_length, content_bytes, nat_lt, ◌==◌, if◌then◌else◌, slice_get, Answer, Done, Failed, Hashes, Leased, Piece, Body, Message, Pending, WireFault, Content, Chunk, Command, Broken, broken_of, with_hashes, listed, reads_all, is_here, looked_up, read_at, with_bytes, fault_in, other_version, fetch_of, tries_most, State, local_at, local_bytes, calls_of, idle, may_ask, is_open, ended_by, cut, on_local, local_most, written_size, written, truncated, edits, writes, truncates, reads, abandons, opens, opens_if, asks_file, asks_kept, retries, reads_if, reads_on, lists_on, told_shape, told_version, told_hashes, told_first, uses_kept, told_lease, misfits, told_bytes, told_chunk, told_piece, store_of, store_at, answered, names_all, is_stored, goes_if, goes_on, told_temp, sends_whole, told_named, told_whole, told_way, told_stored, closes, asks_temp, command_step, took, got_step, BadPeer, ClientStep, Ended, Fetch, Local, ReadCall, Stage, Store, StoreCall, Task, Way}
 use Rattle.trace_ends.specs.Ops.{file_with}
 use Rattle.kept_promise.proofs.Lists.{some_is, nothing_there}
@@ -26,7 +27,7 @@ use Rattle.client_state.specs.Ending.{may_walk}
 use Rattle.kept_promise.proofs.StepCases.{IsOfFile, IsOpenedBy, walk_cases, got_cases}
 use Rattle.path_calls.specs.declared.answers.Ended.{Ended as WalkEnd}
 use Rattle.path_calls.specs.declared.answers.Ended.TheVariants as walk_end
-use Rattle.kept_promise.proofs.FindsOpen.{finds_open}
+use Rattle.kept_promise.proofs.FindsOpen.{finds_open, finds_rewrite}
 use Rattle.path_calls.specs.declared.walk.Walk.{Walk}
 use Rattle.nfs3_calls.specs.declared.message.Nfs.{Nfs}
 use Rattle.register_model.specs.declared.op.Word.TheVariants as words
@@ -67,6 +68,18 @@ opens_none s file None = by (is_open s.opened file)
     by true = refl
     by false = asks_none s file (may_ask s)
 
+renews_none : (s : State) (file : ℕ) (b : Bool) → FindsNone (asks_anew s file b)
+renews_none s file true = refl
+renews_none s file false = refl
+
+rewrites_none : (s : State) (file : ℕ) (t : Option Task) → FindsNone (rewrites s file t)
+rewrites_none s file (Some t) = refl
+rewrites_none s file None = by (is_open s.opened file)
+  where
+    by : (b : Bool) → FindsNone (rewrites_if s file b)
+    by true = refl
+    by false = renews_none s file (may_ask s)
+
 local_none : (s : State) (t : Option Task) (l : Option Local) (does : Local → State × ClientStep) → ((l : Local) → FindsNone (does l)) → FindsNone (on_local s t l does)
 local_none s (Some t) l does h = refl
 local_none s None None does h = refl
@@ -95,6 +108,7 @@ closes_none s file l = by (may_ask s)
 
 pub command_finds : (s : State) (d : Command) (now : ℕ) → IsSmall d → (command_step s d now).1.found ≡ None
 command_finds s (command.Open file) now small = opens_none s file s.task
+command_finds s (command.Rewrite file) now small = rewrites_none s file s.task
 command_finds s (command.Write file offset content) now small = local_none s s.task (local_at s.opened file) (writes s file offset content) (λ l. writes_none s file offset content l)
 command_finds s (command.Trunc file size) now small = local_none s s.task (local_at s.opened file) (truncates s file size) (λ l. edits_none s file l size (truncated l.bytes size))
 command_finds s (command.Read file offset count) now small = local_none s s.task (local_at s.opened file) (reads s offset count) (λ l. refl)
@@ -154,6 +168,10 @@ lease_none s calls file xid (Done l) = by (content_in l.version (content_of s.ca
     by None = refl
     by (Some bytes) = refl
 
+anew_none : (s : State) (calls : List Pending) (file xid : ℕ) (a : Answer Leased Unit) → FindsNone (told_anew s calls file xid a)
+anew_none s calls file xid (Failed t u) = refl
+anew_none s calls file xid (Done l) = refl
+
 piece_none : (s : State) (calls : List Pending) (file xid : ℕ) (f : Fetch) (p : Piece) (o : Option ReadCall) → FindsNone (told_piece s calls file xid f p o)
 piece_none s calls file xid f p None = refl
 piece_none s calls file xid f p (Some c) = chunk (slice_get f.chunks c.index)
@@ -209,6 +227,7 @@ stored_none s calls file xid content st b (Some c) = by c.way b
 
 pub took_finds : (s : State) (calls : List Pending) (file : ℕ) (st : Stage) (xid : ℕ) (b : Body) → IsOfFile st → (took s calls file st xid b).1.found ≡ None
 took_finds s calls file (stage.Asking y) xid (body.Lb (lb.GetLeaseAnswer a)) of = lease_none s calls file xid a
+took_finds s calls file (stage.Rewriting y) xid (body.Lb (lb.GetLeaseAnswer a)) of = anew_none s calls file xid a
 took_finds s calls file (stage.Hashing tries y) xid (body.Lb (lb.GetHashAnswer a)) of = first_none s calls file xid tries a
 took_finds s calls file (stage.Listing y f) xid (body.Lb (lb.GetHashAnswer a)) of = hashes_none s calls file xid f a
 took_finds s calls file (stage.Reading f) xid (body.Nfs (nfs.ReadAnswer (Failed t a))) of = refl
@@ -270,6 +289,8 @@ took_makes s calls file (stage.Walking y w) x b make = walk_cases FindsNone s ca
   open_already = λ id k is. absurd (never k.asked k.walk k.answer id k.stage_is k.told_is);
   fetches = λ id k shut none. absurd (never k.asked k.walk k.answer id k.stage_is k.told_is);
   leases = λ id c k shut there. absurd (never k.asked k.walk k.answer id k.stage_is k.told_is);
+  renew_already = λ id k is. absurd (never_anew k.asked k.walk k.answer id k.stage_is k.told_is);
+  renews = λ id k shut. absurd (never_anew k.asked k.walk k.answer id k.stage_is k.told_is);
   ends = λ v e k same. ap (λ (b : Bool). seen_in b e) (unseen v.goal (ap (λ (z : Walk). gets_file (goal_word z.goal)) (sym (walk_is k.asked k.walk k.stage_is ∙ same)) ∙ make)) ∙ none_seen e;
 })
   where
@@ -281,6 +302,12 @@ took_makes s calls file (stage.Walking y w) x b make = walk_cases FindsNone s ca
 
     never : (z : ℕ) (v : Walk) (a : Nfs) (id : ℕ) → stage.Walking y w ≡ stage.Walking z v → walk_told v a ≡ walk_told_as.Finds id → ⊥
     never z v a id e told = open_not (sym (ap (λ (u : Walk). gets_file (goal_word u.goal)) (walk_is z v e) ∙ ap gets_file (finds_open v a id told)) ∙ make)
+
+    renew_not : gets_file words.Rewrite ≡ true → ⊥
+    renew_not e = absurd cc
+
+    never_anew : (z : ℕ) (v : Walk) (a : Nfs) (id : ℕ) → stage.Walking y w ≡ stage.Walking z v → walk_told v a ≡ walk_told_as.Rewrites id → ⊥
+    never_anew z v a id e told = renew_not (sym (ap (λ (u : Walk). gets_file (goal_word u.goal)) (walk_is z v e) ∙ ap gets_file (finds_rewrite v a id told)) ∙ make)
 
     unseen : (g : Goal) → gets_file (goal_word g) ≡ true → is_look g ≡ false
     unseen (goal.Look n) e = absurd cc
@@ -326,9 +353,10 @@ heard_apart book k qs n now bytes mid kept h m j is =
 
 -- ---- a step that finds one
 
--- an open begins for it, or ends; and nothing is opened in it
+-- an open or a rewrite begins for it, or ends; and nothing is opened in it
 abbrev pub IsFresh : Stage → Type 0
 IsFresh (stage.Asking x) = Unit {0}
+IsFresh (stage.Rewriting x) = Unit {0}
 IsFresh (stage.Hashing tries x) = Unit {0}
 IsFresh st = ⊥
 
@@ -353,6 +381,8 @@ took_found s calls file (stage.Walking y w) x b = walk_cases WhereFound s calls 
   open_already = λ found k is id e. record { begins = λ u at. nothing_there u at; unopened = λ d at. subst (λ (z : Ended). IsOpenedBy z.outcome → ⊥) (some_is _ d at) (λ h. h) };
   fetches = λ found k shut none id e. record { begins = λ u at. subst (λ (z : Task). IsFresh z.stage) (some_is _ u at) tt; unopened = λ d at. nothing_there d at };
   leases = λ found c k shut there id e. record { begins = λ u at. subst (λ (z : Task). IsFresh z.stage) (some_is _ u at) tt; unopened = λ d at. nothing_there d at };
+  renew_already = λ found k is id e. record { begins = λ u at. nothing_there u at; unopened = λ d at. subst (λ (z : Ended). IsOpenedBy z.outcome → ⊥) (some_is _ d at) (λ h. h) };
+  renews = λ found k shut id e. record { begins = λ u at. subst (λ (z : Task). IsFresh z.stage) (some_is _ u at) tt; unopened = λ d at. nothing_there d at };
   ends = λ v end k same id e. record { begins = λ u at. nothing_there u at; unopened = λ d at. subst (λ (z : Ended). IsOpenedBy z.outcome → ⊥) (some_is _ d at) (end_plain end) };
 })
 took_found s calls file st x b = found_none (took s calls file st x b) (took_finds s calls file st x b tt)

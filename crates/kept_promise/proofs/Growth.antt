@@ -10,7 +10,7 @@ use Rattle.trace_replay.specs.OwnCalls.{WaitsFor, TakesCall}
 use Rattle.kept_promise.proofs.Common.{Body, slice_get, bytes_eq, Contains, sha1, Entry, File, Value, content_of, Op, Opening, Word, Moment, hashed_of, Book, Or, Collides, history, value_at, version_at, Tried, IsEntered}
 use Rattle.kept_promise.proofs.Lists.{false_and_true}
 use Rattle.kept_promise.proofs.Marks.{Mark, marks, latest_mark, left_by, value_is, count_is}
-use Rattle.kept_promise.proofs.Rights.{AreLeased, WasThere, gets_file, Caused, WasWalk, RefusedBy, IsRight, IsUnmade, IsMade, IsHeld, IsFitted}
+use Rattle.kept_promise.proofs.Rights.{AreLeased, WasThere, gets_file, Caused, WasWalk, RefusedBy, DoneBy, IsRight, IsUnmade, IsMade, IsHeld, IsFitted}
 
 -- what becomes of an operation; at most one is made, and at most one goes on, or ends, by a step of its client
 pub record Follows (book : Book) (made ended : Option ℕ) (k : ℕ) (o r : Op) : Type 0 where
@@ -132,9 +132,25 @@ refused_later : (book more : Book) (made ended : Option ℕ) (o : Op) (w : Word)
 refused_later book more made ended o words.Open s g past (inl (inl h)) = inl (inl (h.0, record { moment = h.1.moment; there = g.happened h.1.moment h.1.there; inside = h.1.inside; node = h.1.node; node_is = h.1.node_is }))
 refused_later book more made ended o words.Open s g past (inl (inr h)) = inl (inr (h.0, (h.1.0, h.1.1, value_later book more made ended o.file h.1.0 g (let le = past h.1.0 h.1.1.0 in omega (arith, le)) ∙ h.1.2)))
 refused_later book more made ended o words.Open s g past (inr h) = inr (h.0, h.1, was_walk_later book more made ended o g h.2)
+refused_later book more made ended o words.Rewrite s g past (inl (inl h)) = inl (inl (h.0, record { moment = h.1.moment; there = g.happened h.1.moment h.1.there; inside = h.1.inside; node = h.1.node; node_is = h.1.node_is }))
+refused_later book more made ended o words.Rewrite s g past (inl (inr h)) = let le = h.1.2 in let n = g.passes in inl (inr (h.0, (h.1.0, h.1.1, omega (arith, le, n), value_later book more made ended o.file h.1.0 g (omega (arith, le)) ∙ h.1.3)))
+refused_later book more made ended o words.Rewrite s g past (inr h) = inr (h.0, was_walk_later book more made ended o g h.1)
 refused_later book more made ended o words.Close s g past (inl h) = inl (record { status_is = h.status_is; pointless = h.pointless; end = h.end; end_is = h.end_is; moment = h.moment; there = g.happened h.moment h.there; session = h.session; now = h.now; bytes = h.bytes; event_is = h.event_is; xid = h.xid; call = h.call; parsed = h.parsed; size = h.size; after = h.after; before = h.before; waits = h.waits; full = h.full })
 refused_later book more made ended o words.Close s g past (inr (h, before)) = let n = g.passes in inr (record { status_is = h.status_is; pointless = h.pointless; step = h.step; inside = h.inside; value_is = value_later book more made ended o.file h.step g (omega (arith, before)) ∙ h.value_is }, omega (arith, before, n))
 refused_later book more made ended o _ s g past h = h
+
+done_later : (book more : Book) (made ended : Option ℕ) (o : Op) (w : Word) → Grows book more made ended → DoneBy book o w → DoneBy more o w
+done_later book more made ended o words.Rewrite g h = let le = h.past in let n = g.passes in record {
+  step = h.step;
+  inside = h.inside;
+  past = omega (arith, le, n);
+  value = h.value;
+  value_is = value_later book more made ended o.file h.step g (omega (arith, le)) ∙ h.value_is;
+  xid = h.xid;
+  taken = takes_later book more made ended o.client o.client h.step h.xid _ g refl h.taken;
+  known = there_later book more made ended o.file g h.known;
+}
+done_later book more made ended o _ g h = h
 
 cause_later : (book more : Book) (made ended : Option ℕ) (o : Op) (u : Outcome) → Grows book more made ended → IsRight book o → Caused book o u → Caused more o u
 cause_later book more made ended o (told.Opened len digest) g r h = (
@@ -176,7 +192,7 @@ cause_later book more made ended o told.PeerMemory g r h = h
 cause_later book more made ended o told.Memory g r h = h
 cause_later book more made ended o (told.Names names) g r h = h
 cause_later book more made ended o (told.Seen file kind version len) g r h = h
-cause_later book more made ended o told.Done g r h = h
+cause_later book more made ended o told.Done g r h = done_later book more made ended o o.word g h
 cause_later book more made ended o _ g r h = tt
 
 pub right_later : (book more : Book) (made ended : Option ℕ) (o : Op) → Grows book more made ended → IsRight book o → IsRight more o

@@ -13,7 +13,7 @@ use Rattle.register_model.specs.declared.op.Outcome.TheVariants as told
 use Rattle.register_model.specs.declared.op.Word.TheVariants as words
 use Rattle.kept_promise.proofs.Common.{nat_tests, slice_get, cond, ◌==◌, nat_lt, Pending, no_counts, tries_most, idle, retries, Fetch, Stage, Op, Traffic, Core, Session, has_point, point_if, counted, Book, version_at, Tried, Call.Hash, Ask, Told, Queue}
 use Rattle.kept_promise.proofs.Lists.{some_is, nothing_there}
-use Rattle.kept_promise.proofs.Messages.{Job, stage_word, hash_offset, FetchOf, CloseOf, IsFetch, Trying}
+use Rattle.kept_promise.proofs.Messages.{Job, stage_word, hash_offset, FetchOf, CloseOf, IsFetch, Trying, lease_xid}
 use Rattle.kept_promise.proofs.Growth.{version_later, tried_later}
 use Rattle.kept_promise.proofs.Facts.{HasXids, IsSession, IsOf, IsKept}
 use Rattle.kept_promise.proofs.Heard.{Moves}
@@ -60,7 +60,7 @@ unwalking_at xid y p e = absurd (lb_not_nfs p lb_proc.GetHash (by e))
 
 -- a GETHASH goes out
 pub goes_hash : (book : Book) (k : Core) (qs : List Queue) (n : ℕ) (x : Session) (q : Queue) (t : Told) (ts : List Told) (j : Job) (g : Here book k qs n x q t ts j) (s : Stage) (offset : ℕ) (forgotten : List Pending) → (let c = client_at book k qs n x q t ts j g in
-    Quiet k n q → stage_word s ≡ stage_word j.stage → ((y : ℕ) → hash_offset s y ≡ cond (c.next_xid == y) (Some offset) None) → ((y : ℕ) → s ≡ stage.Committing y → ⊥) → ((y : ℕ) → s ≡ stage.Asking y → ⊥) → ((f : Fetch) → s ≡ stage.Reading f → ⊥) → client.pending_in s ≡ client.lb_pending lb_proc.GetHash c.next_xid
+    Quiet k n q → stage_word s ≡ stage_word j.stage → ((y : ℕ) → hash_offset s y ≡ cond (c.next_xid == y) (Some offset) None) → ((y : ℕ) → s ≡ stage.Committing y → ⊥) → ((y : ℕ) → lease_xid s ≡ Some y → ⊥) → ((f : Fetch) → s ≡ stage.Reading f → ⊥) → client.pending_in s ≡ client.lb_pending lb_proc.GetHash c.next_xid
     → Moves (client.calls_of c) (client.pending_in s ++ forgotten) t (hash_ask c.next_xid j.file offset ∷ []) → j.file < 18446744073709551616 → offset ≤ 67108864 → FetchOf book x.taken (on j s) s
     → CloseOf book x.closing (session_at book k qs n x q t ts j g).contents c.next_temp (on j s) (client.local_bytes c.opened j.file) s
     → ((m y : ℕ) → s ≡ stage.Hashing m y → Trying book (on j s) m) → HasXids (c.next_xid + 1) s → c.next_xid + 1 ≤ 4294967296 → stage_word j.stage ≡ words.Open → GoesOn book k qs n x q t ts j g s (c.next_xid + 1) forgotten (hash_ask c.next_xid j.file offset ∷ []))
@@ -174,7 +174,7 @@ comes_changed book k qs n x q t ts j g f last version bytes fact word quiet lt l
       cache = c.cache;
       index = c.index;
       asks = hash_ask c.next_xid j.file 0 ∷ [];
-      shows = goes_hash book k qs n x q t ts j g s 0 forgotten quiet (sym word) (λ y. refl) (λ y e. absurd cc) (λ y e. absurd cc) (λ f e. absurd cc) refl moves small (omega arith) tt tt
+      shows = goes_hash book k qs n x q t ts j g s 0 forgotten quiet (sym word) (λ y. refl) (λ y e. absurd cc) (λ y e. nothing_there y e) (λ f e. absurd cc) refl moves small (omega arith) tt tt
           (λ m y e. subst (λ v. Trying book (on j s) v) (ap tries_of e) (tried_again book x.taken j s f last fact lt le (λ same. apart (sym is ∙ same)))) (xids (grind (arith, nat_tests, less))) (let b = left.2 in let z = left.0 in omega (arith, b)) word;
       cached = (g.kept.seats x.owner h.seat h.owner).kept;
       state_is = refl;

@@ -12,7 +12,7 @@ use Rattle.trace_ends.specs.Core.{is_of_file}
 use Rattle.kept_promise.proofs.Common.{slice_get, slice_set, not, is_some, sha1, Entry, changes, changed_before, value_from, is_lost, is_untold, content_of, Op, Word, Book, Or, value_at, version_at, is_running, unwrap_or}
 use Rattle.kept_promise.proofs.Lists.{some_is, nothing_there, within, in_front, of_more, more_there, of_replicate, replicate_there, of_appended, kept_appended, of_replaced, at_replaced, else_replaced, true_and_false}
 use Rattle.kept_promise.proofs.Marks.{marks, mark_of, left_by, ArePast, unpointed, unchanging, made_before, marks_appended, marks_neither, marks_same, marks_before, marks_elsewhere, marks_later, marks_made, all_below, inserted_count, inserted_latest}
-use Rattle.kept_promise.proofs.Rights.{kind_changes, gets_file, is_remote, Caused, IsRight, IsSound, IsUnmade, IsFitted}
+use Rattle.kept_promise.proofs.Rights.{kind_changes, gets_file, may_point, Caused, IsRight, IsSound, IsUnmade, IsFitted}
 use Rattle.kept_promise.proofs.Growth.{Follows, follows_same, Grows, or_later, value_seen, version_seen, version_later, right_later, fitted_later, value_later}
 
 -- so many steps later, with these operations
@@ -377,7 +377,7 @@ right_made : (book : Book) (es : List Entry) (f j : ℕ) (o : Op) → IsRight bo
 right_made book es f j o r u = record {
   cause = by o.outcome u.2 r.cause;
   begun = let b = r.begun in omega (arith, b);
-  pointed = λ p q. let is = some_is (book.steps + 1) p q in let b = r.begun in (omega (arith, b, is), omega (arith, is), remote o.outcome u.2 r.cause);
+  pointed = λ p q. let is = some_is (book.steps + 1) p q in let b = r.begun in (omega (arith, b, is), omega (arith, is), may_change o.word u.0);
   past = λ d q. let p = r.past d q in let le = p.1 in (p.0, omega (arith, le));
   ends = r.ends;
   within = λ l p d g s. absurd (ended o.outcome u.2 l d s r.ends);
@@ -389,10 +389,14 @@ right_made book es f j o r u = record {
     ended told.Running u l d s ends = absurd (true_and_false (is_some o.end) (ap is_some s) ends)
     ended _ u l d s ends = absurd cc
 
-    remote : (t : Outcome) → is_untold t ≡ true → Caused book o t → is_remote o.word ≡ true
-    remote told.Lost u h = h.0
-    remote told.Running u h = h.0
-    remote t u h = absurd cc
+    may_change : (w : Word) → changes w ≡ true → may_point w ≡ true
+    may_change words.Close c = refl
+    may_change words.Make c = refl
+    may_change words.Mkdir c = refl
+    may_change words.Remove c = refl
+    may_change words.Rmdir c = refl
+    may_change words.Rename c = refl
+    may_change w c = absurd cc
 
     by : (t : Outcome) → is_untold t ≡ true → Caused book o t → Caused (made_book book es j f o) (made_op book f o) t
     by told.Lost u h = (h.0, record { end = h.1.end; end_is = h.1.end_is; moment = h.1.moment; there = h.1.there; step_is = h.1.step_is; event_is = h.1.event_is })

@@ -1,4 +1,4 @@
--- An open that is told the version in which its client keeps a content ends by that content, and counts nothing.
+-- An open that is told the version in which its client keeps a content ends by that content, and counts nothing; so does a rewrite that is told any.
 use Rattle.std.proofs.Common.{◌⊎◌, inl, inr, ◌≡◌, ℕ, ◌+◌, ◌≤◌, List, [], ◌∷◌, ◌++◌, Option, Some, None, Ok, true, refl, sym, ap, ◌∙◌, subst, arith}
 use Rattle.hash_calls.specs.declared.message.Lb.TheVariants as lb
 use Rattle.wire.specs.declared.message.Body.TheVariants as body
@@ -8,8 +8,10 @@ use Rattle.file_open.specs.Caching.{content_in}
 use Rattle.client_state.specs.State as client
 use Rattle.register_model.specs.declared.op.Word.TheVariants as words
 use Rattle.trace_ends.specs.Session.{taken_of as session_taken}
-use Rattle.trace_replay.specs.Saving.{lease_told, EndsBy, UsesKept, TellsLease}
-use Rattle.kept_promise.proofs.Common.{Contains, Contains-push_cases, no_counts, slice_get, option_map, unwrap_or, Done, Message, Pending, got_step, took, uses_kept, idle, hash_call, ClientStep, Local, Stage, Op, Opening, TakenCall, op_after, counted, no_traffic, Core, Seat, Event, Event.Hears, numbered, session_of, happens, Moment, step_of, client_of, owner_in, taken_by, is_in, local_at_itself, hashed_of, deals_of, Book, Queue, told_message}
+use Rattle.trace_replay.specs.Saving.{lease_told, EndsBy, UsesKept, TellsLease, EndsAnew, FetchesNone}
+use Rattle.hash_calls.specs.declared.call.Leased.{Leased}
+use Rattle.client_state.specs.declared.task.Stage.TheVariants as stage
+use Rattle.kept_promise.proofs.Common.{Contains, Contains-push_cases, no_counts, slice_get, option_map, unwrap_or, Done, Message, Pending, got_step, took, uses_kept, idle, hash_call, ClientStep, Local, Stage, Op, Word, Opening, TakenCall, op_after, counted, no_traffic, Core, Seat, Event, Event.Hears, numbered, session_of, happens, Moment, step_of, client_of, owner_in, taken_by, is_in, local_at_itself, hashed_of, deals_of, CountsOwn, Book, Queue, told_message}
 use Rattle.kept_promise.proofs.Lists.{some_is, nothing_there, of_appended, of_replaced, true_and_false}
 use Rattle.kept_promise.proofs.Messages.{stage_word}
 use Rattle.kept_promise.proofs.Fits.{FitLaws}
@@ -19,60 +21,87 @@ use Rattle.kept_promise.proofs.Actors.{acts_alone, Heard, heard_at}
 use Rattle.kept_promise.proofs.Counted.{early, running_past}
 use Rattle.kept_promise.proofs.JobFacts.{ops_shape}
 use Rattle.kept_promise.proofs.Logs.{IsSilent}
-use Rattle.kept_promise.proofs.LogSums.{counts_log}
+use Rattle.kept_promise.proofs.LogSums.{IsSum, counts_log}
 use Rattle.kept_promise.proofs.LogEvents.{LogsAt, file_stays}
 use Rattle.kept_promise.proofs.CountedRuns.{CountedAt}
-use Rattle.kept_promise.proofs.Leases.{HeardLease, HasFile, heard_lease, none_leased, none_shut, leased_now, leased_stays, shut_now, shut_stays}
+use Rattle.kept_promise.proofs.Leases.{AsksLease, HeardLease, HasFile, heard_lease, none_leased, none_shut, leased_now, leased_stays, shut_now, shut_stays}
 use Rattle.kept_promise.proofs.OpsAfter.{OpsAfter, Becomes, ops_after_event}
 use Rattle.kept_promise.proofs.OpensLog.{OpensBy, OpenRead, bare_counts}
-use Rattle.kept_promise.proofs.OwnLog.{OwnBy, OpOwn}
+use Rattle.kept_promise.proofs.OwnLog.{OwnBy, OpOwn, own_counts}
+use Rattle.kept_promise.proofs.VersionRuns.{word_after}
 
 -- ---- what is carried
+
+-- what an operation of this word comes to by the answer to its GETLEASE
+abbrev pub EndsOf : Word → Moment → Op → Leased → Type 0
+EndsOf words.Open m o l = (seat : Seat) → numbered m.before.seats (client_of m.before m.event) ≡ Some seat → EndsBy o (step_of m) (happens m.before m.event).up (content_in l.version (content_of seat.client.cache o.file))
+EndsOf words.Rewrite m o l = EndsAnew o (step_of m) (happens m.before m.event).up
+EndsOf w m o l = Unit {0}
+
+abbrev pub Follows : Moment → Op → Type 0
+Follows m o = (x : ℕ) (l : Leased) → is_in o (step_of m) (client_of m.before m.event) ≡ true → Contains (taken_by m.before (client_of m.before m.event) m.event) (lease_told x l) → EndsOf o.word m o l
+
+pub follows_used : (m : Moment) (o : Op) → Follows m o → UsesKept m o
+follows_used m o h x l seat word mine here there = subst (λ (w : Word). EndsOf w m o l) word (h x l mine there) seat here
+
+pub follows_anew : (m : Moment) (o : Op) → Follows m o → FetchesNone m o
+follows_anew m o h x l word mine there = subst (λ (w : Word). EndsOf w m o l) word (h x l mine there)
 
 pub record AreUsed (past : List Moment) (book : Book) : Type 0 where
   pub by : (m : Moment) → Contains past m → (step_of m ≤ book.steps) ⊎ IsSilent m
   pub leased : (m : Moment) → Contains past m → (p : ℕ) (o : Op) → slice_get book.ops p ≡ Some o → TellsLease book m o
-  pub each : (m : Moment) → Contains past m → (p : ℕ) (o : Op) → slice_get book.ops p ≡ Some o → UsesKept m o
+  pub each : (m : Moment) → Contains past m → (p : ℕ) (o : Op) → slice_get book.ops p ≡ Some o → Follows m o
   pub shut : (m : Moment) → Contains past m → (p : ℕ) (o : Op) → slice_get book.ops p ≡ Some o → HasFile m o
 
 abbrev pub UsedAt : (all past : List Moment) → List Opening → Core → Type 0
 UsedAt all past opening k = AreUsed past (book_at opening k all)
 
 -- nothing is taken then
-none_taken : (m : Moment) (o : Op) → taken_by m.before (client_of m.before m.event) m.event ≡ [] → UsesKept m o
-none_taken m o none x l seat mine here there = (let lt = (subst (λ (ms : List Message). Contains ms (message.Answer x (body.Lb (lb.GetLeaseAnswer (Done l))))) none there).1 in absurd (omega (arith, lt)))
+none_taken : (m : Moment) (o : Op) → taken_by m.before (client_of m.before m.event) m.event ≡ [] → Follows m o
+none_taken m o none x l mine there = (let lt = (subst (λ (ms : List Message). Contains ms (message.Answer x (body.Lb (lb.GetLeaseAnswer (Done l))))) none there).1 in absurd (omega (arith, lt)))
 
 -- ---- what is past stays
 
 -- an operation that went on had not ended
-went_on : (m : Moment) (n : ℕ) (q : Op) (c : client.State) (taken : List TakenCall) (acts : ClientStep) → (acts.found ≡ None) ⊎ (q.file ≡ 0) → HasFile m q → step_of m ≤ n → q.end ≡ None → UsesKept m q → UsesKept m (op_after q c taken (n + 1) acts)
-went_on m n q c taken acts (inr none) shut le running h x l seat mine here there = absurd (shut x l (sym (running_past q c taken n acts running (step_of m) (client_of m.before m.event) le) ∙ mine) there none)
-went_on m n q c taken acts (inl none) shut le running h x l seat mine here there =
-    let new : Op = op_after q c taken (n + 1) acts in
+went_on : (m : Moment) (n : ℕ) (q : Op) (c : client.State) (taken : List TakenCall) (acts : ClientStep) → (acts.found ≡ None) ⊎ (q.file ≡ 0) → HasFile m q → step_of m ≤ n → q.end ≡ None → Follows m q → Follows m (op_after q c taken (n + 1) acts)
+went_on m n q c taken acts (inr none) shut le running h x l mine there = absurd (shut x l (sym (running_past q c taken n acts running (step_of m) (client_of m.before m.event) le) ∙ mine) there none)
+went_on m n q c taken acts (inl none) shut le running h x l mine there =
     let was : is_in q (step_of m) (client_of m.before m.event) ≡ true = sym (running_past q c taken n acts running (step_of m) (client_of m.before m.event) le) ∙ mine in
-    let file : new.file ≡ q.file = file_stays q c taken (n + 1) acts none in
-    subst (λ f. EndsBy (op_after q c taken (n + 1) acts) (step_of m) (happens m.before m.event).up (content_in l.version (content_of seat.client.cache f))) (sym file) (by (content_in l.version (content_of seat.client.cache q.file)) (h x l seat was here there))
+    subst (λ (w : Word). EndsOf w m (op_after q c taken (n + 1) acts) l) (sym (word_after q c taken (n + 1) acts)) (each q.word (h x l was there))
   where
+    file : (op_after q c taken (n + 1) acts).file ≡ q.file
+    file = file_stays q c taken (n + 1) acts none
+
     by : (kept : Option (List ℕ)) → EndsBy q (step_of m) (happens m.before m.event).up kept → EndsBy (op_after q c taken (n + 1) acts) (step_of m) (happens m.before m.event).up kept
     by (Some bytes) e = nothing_there (step_of m) (sym running ∙ e.1)
     by None e = (e.0, e.1 ∙ ap (λ f. hash_call e.0 f 0 ∷ []) (sym (file_stays q c taken (n + 1) acts none)))
 
-stays : (book : Book) (k : Core) (qs : List Queue) (e : Event) (ops : List Op) (m : Moment) → IsKept book k qs → step_of m ≤ k.steps → OpsAfter e k ops → ((p : ℕ) (o : Op) → slice_get k.ops p ≡ Some o → UsesKept m o) → ((p : ℕ) (o : Op) → slice_get k.ops p ≡ Some o → HasFile m o) → (p : ℕ) (o : Op) → slice_get ops p ≡ Some o → UsesKept m o
+    each : (w : Word) → EndsOf w m q l → EndsOf w m (op_after q c taken (n + 1) acts) l
+    each words.Open e = λ seat here. subst (λ f. EndsBy (op_after q c taken (n + 1) acts) (step_of m) (happens m.before m.event).up (content_in l.version (content_of seat.client.cache f))) (sym file) (by (content_in l.version (content_of seat.client.cache q.file)) (e seat here))
+    each words.Rewrite e = nothing_there (step_of m) (sym running ∙ e.1)
+    each w e = tt
+
+changed_ends : (m : Moment) (o : Op) (step : ℕ) (l : Leased) (w : Word) → EndsOf w m o l → EndsOf w m (record o { point = Some step }) l
+changed_ends m o step l words.Open e = e
+changed_ends m o step l words.Rewrite e = e
+changed_ends m o step l w e = tt
+
+stays : (book : Book) (k : Core) (qs : List Queue) (e : Event) (ops : List Op) (m : Moment) → IsKept book k qs → step_of m ≤ k.steps → OpsAfter e k ops → ((p : ℕ) (o : Op) → slice_get k.ops p ≡ Some o → Follows m o) → ((p : ℕ) (o : Op) → slice_get k.ops p ≡ Some o → HasFile m o) → (p : ℕ) (o : Op) → slice_get ops p ≡ Some o → Follows m o
 stays book k qs e ops m kept le (inl same) h shut p o at = h p o (ap (λ (l : List Op). slice_get l p) (sym same) ∙ at)
 stays book k qs e ops m kept le (inr (inl n)) h shut p o at = elim (of_appended k.ops n.new p o (ap (λ (l : List Op). slice_get l p) (sym n.is) ∙ at)) [
-  | inl last ↦ subst (UsesKept m) (sym last.1) (λ x l seat mine here there. (let lt = n.late in absurd (true_and_false (is_in n.new (step_of m) (client_of m.before m.event)) mine (early n.new (step_of m) (client_of m.before m.event) (omega (arith, lt, le))))))
+  | inl last ↦ subst (Follows m) (sym last.1) (λ x l mine there. (let lt = n.late in absurd (true_and_false (is_in n.new (step_of m) (client_of m.before m.event)) mine (early n.new (step_of m) (client_of m.before m.event) (omega (arith, lt, le))))))
   | inr old ↦ h p o old
 ]
 stays book k qs e ops m kept le (inr (inr (inl a))) h shut p o at = elim (ops_shape k.ops a.seat.place a.after (session_taken (session_of k.sessions a.seat.session)) (k.steps + 1) a.acts p o (ap (λ (l : List Op). slice_get l p) (sym a.is) ∙ at)) [
-  | inl mine ↦ subst (UsesKept m) (sym mine.3) (went_on m k.steps mine.0 a.after (session_taken (session_of k.sessions a.seat.session)) a.acts (a.apart p mine.0 mine.1 mine.2) (shut p mine.0 mine.2) le ((acts_alone book k qs a.index a.seat kept a.here).own p mine.0 mine.1 mine.2).1 (h p mine.0 mine.2))
+  | inl mine ↦ subst (Follows m) (sym mine.3) (went_on m k.steps mine.0 a.after (session_taken (session_of k.sessions a.seat.session)) a.acts (a.apart p mine.0 mine.1 mine.2) (shut p mine.0 mine.2) le ((acts_alone book k qs a.index a.seat kept a.here).own p mine.0 mine.1 mine.2).1 (h p mine.0 mine.2))
   | inr old ↦ h p o old.1
 ]
 stays book k qs e ops m kept le (inr (inr (inr (inl same)))) h shut p o at = h p o (ap (λ (l : List Op). slice_get l p) (sym same) ∙ at)
 stays book k qs e ops m kept le (inr (inr (inr (inr s)))) h shut p o at = elim (of_replaced k.ops s.place (record s.op { file = s.file; point = Some (k.steps + 1) }) p o (ap (λ (l : List Op). slice_get l p) (sym s.is) ∙ at)) [
   | inr old ↦ h p o old.1
-  | inl made ↦ subst (UsesKept m) (sym made.1) (elim s.kind [
-    | inl close ↦ subst (λ (f : ℕ). UsesKept m (record s.op { file = f; point = Some (k.steps + 1) })) (sym close.1) (λ x l seat mine here there. h s.place s.op s.there x l seat mine here there)
-    | inr make ↦ λ x l seat mine here there. absurd (shut s.place s.op s.there x l mine there make.1)
+  | inl made ↦ subst (Follows m) (sym made.1) (elim s.kind [
+    | inl close ↦ subst (λ (f : ℕ). Follows m (record s.op { file = f; point = Some (k.steps + 1) })) (sym close.1) (λ x l mine there. changed_ends m s.op (k.steps + 1) l s.op.word (h s.place s.op s.there x l mine there))
+    | inr make ↦ λ x l mine there. absurd (shut s.place s.op s.there x l mine there make.1)
   ])
 ]
 
@@ -96,30 +125,64 @@ pub record Known (all past : List Moment) (k : Core) : Type 0 where
   pub counted : CountedAt past k
 
 used_hears : FitLaws → (all past : List Moment) (opening : List Opening) (k : Core) (qs after : List Queue) (n now : ℕ) (bytes : List ℕ) (mid : List Queue) → (kept : IsKept (book_at opening k all) k qs) → (h : Heard k qs n now bytes mid) → IsKept (book_at opening (happens k (Hears n now bytes)).core all) (happens k (Hears n now bytes)).core after → Known all past k
-    → (p : ℕ) (o : Op) → slice_get (happens k (Hears n now bytes)).core.ops p ≡ Some o → UsesKept (moment k (Hears n now bytes)) o
-used_hears fits all past opening k qs after n now bytes mid kept h left known p o at x l seat mine here there = by (heard_lease fits all opening k qs after n now bytes mid kept h left p o at x l mine there)
+    → (p : ℕ) (o : Op) → slice_get (happens k (Hears n now bytes)).core.ops p ≡ Some o → Follows (moment k (Hears n now bytes)) o
+used_hears fits all past opening k qs after n now bytes mid kept h left known p o at x l mine there = by (heard_lease fits all opening k qs after n now bytes mid kept h left p o at x l mine there)
   where
-    same_seat : h.seat ≡ seat
-    same_seat = some_is h.seat seat (sym h.owner ∙ ap (numbered k.seats) (sym (ap owner_in h.at)) ∙ here)
+    m : Moment
+    m = moment k (Hears n now bytes)
 
-    by : (told_message h.told ≡ lease_told x l) × ((happens k (Hears n now bytes)).up ≡ (got_step h.seat.client (Ok (lease_told x l)) now).1.send) × HeardLease k h.seat now x l p o → EndsBy o (k.steps + 1) (happens k (Hears n now bytes)).up (content_in l.version (content_of seat.client.cache o.file))
-    by (same, up, w) =
-        let r_is : (got_step h.seat.client (Ok (lease_told x l)) now) ≡ uses_kept (idle h.seat.client) (client.calls_of h.seat.client) w.of.file x l.version (content_in l.version (content_of h.seat.client.cache w.of.file)) = w.got ∙ ap (λ (st : Stage). took (idle h.seat.client) (client.calls_of h.seat.client) w.of.file st x (body.Lb (lb.GetLeaseAnswer (Done l)))) w.asking in
-        let at_place : slice_get k.ops w.of.place ≡ Some w.old = ap (slice_get k.ops) w.place ∙ w.was in
-        let bare = (subst (OpensBy (deals_of w.old past) w.old.file w.old.value) w.asking (known.opens.jobs h.session.owner h.seat w.of w.old h.owner w.job_is at_place)).0 in
-        let of = (kept.seats h.session.owner h.seat h.owner).task w.of w.job_is in
-        let word : w.old.word ≡ words.Open = ap (λ (z : Op). z.word) (some_is w.old of.op (sym at_place ∙ ap (λ (l : List Op). slice_get l w.of.place) (sym kept.ops) ∙ of.there)) ∙ of.word ∙ ap stage_word w.asking in
-        let none = bare_counts past w.old word (known.own.each p w.old w.was) bare (counts_log w.old past (known.counted.counts p w.old w.was)) in
-        subst (λ (z : Op). EndsBy z (k.steps + 1) (happens k (Hears n now bytes)).up (content_in l.version (content_of seat.client.cache z.file))) (sym w.is)
-        (subst (λ ms. EndsBy (op_after w.old (got_step h.seat.client (Ok (lease_told x l)) now).0 (session_taken (session_of k.sessions h.seat.session)) (k.steps + 1) (got_step h.seat.client (Ok (lease_told x l)) now).1) (k.steps + 1) ms (content_in l.version (content_of seat.client.cache (op_after w.old (got_step h.seat.client (Ok (lease_told x l)) now).0 (session_taken (session_of k.sessions h.seat.session)) (k.steps + 1) (got_step h.seat.client (Ok (lease_told x l)) now).1).file))) (sym up)
-        (subst (λ f. EndsBy (op_after w.old (got_step h.seat.client (Ok (lease_told x l)) now).0 (session_taken (session_of k.sessions h.seat.session)) (k.steps + 1) (got_step h.seat.client (Ok (lease_told x l)) now).1) (k.steps + 1) (got_step h.seat.client (Ok (lease_told x l)) now).1.send (content_in l.version (content_of seat.client.cache f))) (sym (file_stays w.old (got_step h.seat.client (Ok (lease_told x l)) now).0 (session_taken (session_of k.sessions h.seat.session)) (k.steps + 1) (got_step h.seat.client (Ok (lease_told x l)) now).1 w.finds ∙ w.file))
-        (subst (λ (c : Seat). EndsBy (op_after w.old (got_step h.seat.client (Ok (lease_told x l)) now).0 (session_taken (session_of k.sessions h.seat.session)) (k.steps + 1) (got_step h.seat.client (Ok (lease_told x l)) now).1) (k.steps + 1) (got_step h.seat.client (Ok (lease_told x l)) now).1.send (content_in l.version (content_of c.client.cache w.of.file))) same_seat
-        (subst (λ (z : client.State × ClientStep). EndsBy (op_after w.old z.0 (session_taken (session_of k.sessions h.seat.session)) (k.steps + 1) z.1) (k.steps + 1) z.1.send (content_in l.version (content_of h.seat.client.cache w.of.file))) (sym r_is)
-        (kept_ends w.old (idle h.seat.client) (client.calls_of h.seat.client) w.of.file x l.version (k.steps + 1) (session_taken (session_of k.sessions h.seat.session)) w.file none (content_in l.version (content_of h.seat.client.cache w.of.file)))))))
+    taken : List TakenCall
+    taken = session_taken (session_of k.sessions h.seat.session)
+
+    by : (told_message h.told ≡ lease_told x l) × ((happens k (Hears n now bytes)).up ≡ (got_step h.seat.client (Ok (lease_told x l)) now).1.send) × HeardLease k h.seat now x l p o → EndsOf o.word m o l
+    by (same, up, w) = subst (λ (z : Op). EndsOf z.word m z l) (sym w.is) (subst (λ (z : Word). EndsOf z m (op_after w.old r.0 taken (k.steps + 1) r.1) l) (sym (word_after w.old r.0 taken (k.steps + 1) r.1 ∙ word)) (each w.asking))
+      where
+        r : client.State × ClientStep
+        r = got_step h.seat.client (Ok (lease_told x l)) now
+
+        at_place : slice_get k.ops w.of.place ≡ Some w.old
+        at_place = ap (slice_get k.ops) w.place ∙ w.was
+
+        word : w.old.word ≡ stage_word w.of.stage
+        word =
+            let of = (kept.seats h.session.owner h.seat h.owner).task w.of w.job_is in
+            ap (λ (z : Op). z.word) (some_is w.old of.op (sym at_place ∙ ap (λ (l : List Op). slice_get l w.of.place) (sym kept.ops) ∙ of.there)) ∙ of.word
+
+        own : OpOwn (deals_of w.old past) w.old.word w.old.file w.old.value w.old.outcome
+        own = known.own.each p w.old w.was
+
+        sum : IsSum w.old.traffic (deals_of w.old past)
+        sum = counts_log w.old past (known.counted.counts p w.old w.was)
+
+        became : (st : Stage) → w.of.stage ≡ st → got_step h.seat.client (Ok (lease_told x l)) now ≡ took (idle h.seat.client) (client.calls_of h.seat.client) w.of.file st x (body.Lb (lb.GetLeaseAnswer (Done l)))
+        became st is = w.got ∙ ap (λ (st : Stage). took (idle h.seat.client) (client.calls_of h.seat.client) w.of.file st x (body.Lb (lb.GetLeaseAnswer (Done l)))) is
+
+        -- an open
+        opened : w.of.stage ≡ stage.Asking x → EndsOf words.Open m (op_after w.old r.0 taken (k.steps + 1) r.1) l
+        opened asking seat here =
+            let same_seat : h.seat ≡ seat = some_is h.seat seat (sym h.owner ∙ ap (numbered k.seats) (sym (ap owner_in h.at)) ∙ here) in
+            let bare = (subst (OpensBy (deals_of w.old past) w.old.file w.old.value) asking (known.opens.jobs h.session.owner h.seat w.of w.old h.owner w.job_is at_place)).0 in
+            let none = bare_counts past w.old (word ∙ ap stage_word asking) own bare sum in
+            subst (λ ms. EndsBy (op_after w.old r.0 taken (k.steps + 1) r.1) (k.steps + 1) ms (content_in l.version (content_of seat.client.cache (op_after w.old r.0 taken (k.steps + 1) r.1).file))) (sym up)
+            (subst (λ f. EndsBy (op_after w.old r.0 taken (k.steps + 1) r.1) (k.steps + 1) r.1.send (content_in l.version (content_of seat.client.cache f))) (sym (file_stays w.old r.0 taken (k.steps + 1) r.1 w.finds ∙ w.file))
+            (subst (λ (c : Seat). EndsBy (op_after w.old r.0 taken (k.steps + 1) r.1) (k.steps + 1) r.1.send (content_in l.version (content_of c.client.cache w.of.file))) same_seat
+            (subst (λ (z : client.State × ClientStep). EndsBy (op_after w.old z.0 taken (k.steps + 1) z.1) (k.steps + 1) z.1.send (content_in l.version (content_of h.seat.client.cache w.of.file))) (sym (became (stage.Asking x) asking))
+            (kept_ends w.old (idle h.seat.client) (client.calls_of h.seat.client) w.of.file x l.version (k.steps + 1) taken w.file none (content_in l.version (content_of h.seat.client.cache w.of.file))))))
+
+        -- a rewrite
+        renewed : w.of.stage ≡ stage.Rewriting x → EndsOf words.Rewrite m (op_after w.old r.0 taken (k.steps + 1) r.1) l
+        renewed asking =
+            let none : w.old.traffic ≡ no_traffic = subst (λ (z : Word). CountsOwn z w.old.traffic) (word ∙ ap stage_word asking) (own_counts past w.old own sum) in
+            subst (EndsAnew (op_after w.old r.0 taken (k.steps + 1) r.1) (k.steps + 1)) (sym up)
+            (subst (λ (z : client.State × ClientStep). EndsAnew (op_after w.old z.0 taken (k.steps + 1) z.1) (k.steps + 1) z.1.send) (sym (became (stage.Rewriting x) asking)) (refl, refl, refl, ap (λ t. counted t no_counts) none))
+
+        each : AsksLease x w.of.stage → EndsOf (stage_word w.of.stage) m (op_after w.old r.0 taken (k.steps + 1) r.1) l
+        each (inl asking) = subst (λ (z : Word). EndsOf z m (op_after w.old r.0 taken (k.steps + 1) r.1) l) (sym (ap stage_word asking)) (opened asking)
+        each (inr asking) = subst (λ (z : Word). EndsOf z m (op_after w.old r.0 taken (k.steps + 1) r.1) l) (sym (ap stage_word asking)) (renewed asking)
 
 -- ---- any event
 
-used_now : FitLaws → (all past rest : List Moment) (opening : List Opening) (k : Core) (qs : List Queue) (e : Event) (mid after : List Queue) → Step all past rest opening k qs e mid after → Known all past k → (p : ℕ) (o : Op) → slice_get (happens k e).core.ops p ≡ Some o → UsesKept (moment k e) o
+used_now : FitLaws → (all past rest : List Moment) (opening : List Opening) (k : Core) (qs : List Queue) (e : Event) (mid after : List Queue) → Step all past rest opening k qs e mid after → Known all past k → (p : ℕ) (o : Op) → slice_get (happens k e).core.ops p ≡ Some o → Follows (moment k e) o
 used_now fits all past rest opening k qs (Hears n now bytes) mid after s known p o at = used_hears fits all past opening k qs after n now bytes mid s.kept (heard_at (book_at opening k all) k qs n now bytes mid s.kept s.finds) s.left known p o at
 used_now fits all past rest opening k qs e mid after s known p o at = none_taken (moment k e) o refl
 
@@ -141,7 +204,7 @@ used_event fits all past rest opening k qs e mid after s known said h = record {
       | inl lt ↦ stays (book_at opening k all) k qs e (happens k e).core.ops z s.kept lt w.0 (h.each z old) (h.shut z old) p o at
       | inr silent ↦ none_taken z o silent.0
     ]
-    | inr new ↦ subst (λ (y : Moment). UsesKept y o) new (used_now fits all past rest opening k qs e mid after s known p o at)
+    | inr new ↦ subst (λ (y : Moment). Follows y o) new (used_now fits all past rest opening k qs e mid after s known p o at)
   ];
   shut = λ z there p o at. elim (Contains-push_cases past (moment k e) z there) [
     | inl old ↦ elim (h.by z old) [

@@ -1,12 +1,12 @@
 -- Why a command on names that asked the server ended as it did, by what its names led to.
-use Rattle.std.proofs.Common.{◌⊎◌, inl, inr, ◌≡◌, ℕ, zero, suc, ◌<◌, List, [], ◌∷◌, ◌++◌, Some, Result, Bool, true, false, refl, sym, ap, ◌∙◌, subst, arith}
+use Rattle.std.proofs.Common.{◌⊎◌, inl, inr, ◌≡◌, ℕ, zero, suc, ◌<◌, List, [], ◌∷◌, ◌++◌, Some, None, Result, Bool, true, false, refl, sym, ap, ◌∙◌, subst, arith}
 use Rattle.command_text.specs.declared.path.PathCommand.{PathCommand}
 use Rattle.command_text.specs.declared.path.PathCommand.TheVariants as path
 use Rattle.command_text.specs.declared.path.Spot.{Spot}
 use Rattle.register_model.specs.declared.op.Outcome.{Outcome}
 use Rattle.register_model.specs.declared.op.Outcome.TheVariants as told
 use Rattle.register_model.specs.declared.op.Word.TheVariants as words
-use Rattle.trace_replay.specs.Causes.{NamedCause, IsPathRefused}
+use Rattle.trace_replay.specs.Causes.{NamedCause, IsPathRefused, IsRenewRefused}
 use Rattle.trace_replay.specs.Complete.{EndsNamed}
 use Rattle.trace_ends.specs.Commands.{path_word, word_of}
 use Rattle.trace_replay.specs.Trail.{step_of}
@@ -25,12 +25,12 @@ use Rattle.server_core.specs.Closing.{entries_by}
 use Rattle.trace_replay.specs.OwnCalls.{ComesTo}
 use Rattle.trace_replay.specs.Naming.{Leads, all_names, FindsFile, HasFound, IsSeen, IsRootSeen, IsListed, ListsTooLong, IsRefused, Makes, MakesIn, Renames}
 use Rattle.kept_promise.proofs.Common.{Op, Word, Book, IsOpenRefused, Contains, Contains-push}
-use Rattle.kept_promise.proofs.Rights.{AreLeased, opened_if, RefusedBy, Caused}
+use Rattle.kept_promise.proofs.Rights.{AreLeased, opened_if, RewriteRefused, RefusedBy, DoneBy, Caused}
 use Rattle.command_text.specs.declared.command.Command.TheVariants as command
 use Rattle.kept_promise.proofs.Common.{Command, Deed, local_before, slice_get}
 use Rattle.kept_promise.proofs.WalkRuns.{bare, EndsAs, IsOver, takes_on}
-use Rattle.kept_promise.proofs.Opens.{FindsBy, HasOpens}
-use Rattle.kept_promise.proofs.Done.{IsKnown}
+use Rattle.kept_promise.proofs.Opens.{FindsBy, finds_so, HasOpens}
+use Rattle.kept_promise.proofs.Done.{IsKnown, rewrite_done, rewrite_refusal}
 
 -- it makes a file or a directory, or removes one
 abbrev is_making_command : PathCommand → Bool
@@ -60,7 +60,7 @@ listed_in : (book : Book) (o : Op) (p list : List (List ℕ)) → IsListed (bare
 listed_in book o p list h = record { dir = h.dir; found_at = h.found_at; found = leads_in book o.begin ROOT p h.dir h.found_at h.found; moment = h.moment; there = h.there; inside = h.inside; node = h.node; directory = h.directory; names_are = h.names_are }
 
 abbrev refused_in : (book : Book) (o : Op) (status : ℕ) → IsRefused (bare book.moments) o status → IsRefused book o status
-refused_in book o status h = record { moment = h.moment; there = h.there; inside = h.inside; session = h.session; xid = h.xid; answer = h.answer; sent = h.sent; refuses = h.refuses; taken = h.taken; taken_there = h.taken_there; now = h.now; bytes = h.bytes; event_is = h.event_is; ends = h.ends; takes = h.takes }
+refused_in book o status h = record { moment = h.moment; there = h.there; inside = h.inside; session = h.session; xid = h.xid; answer = h.answer; sent = h.sent; refuses = h.refuses; waits = h.waits; tells = h.tells; taken = h.taken; taken_there = h.taken_there; now = h.now; bytes = h.bytes; event_is = h.event_is; ends = h.ends; takes = h.takes }
 
 makes_in : (book : Book) (o : Op) (behind : ℕ) (asks : Nfs) (call : Tree → Held → Tree × Result Changed Status) → Makes (bare book.moments) o behind asks call → Makes book o behind asks call
 makes_in book o behind asks call h =
@@ -94,6 +94,21 @@ open_list e = absurd cc
 open_look : words.Open ≡ words.Look → ⊥
 open_look e = absurd cc
 
+open_rewrite : words.Open ≡ words.Rewrite → ⊥
+open_rewrite e = absurd cc
+
+rewrite_open : words.Rewrite ≡ words.Open → ⊥
+rewrite_open e = absurd cc
+
+rewrite_close : words.Rewrite ≡ words.Close → ⊥
+rewrite_close e = absurd cc
+
+rewrite_list : words.Rewrite ≡ words.List → ⊥
+rewrite_list e = absurd cc
+
+rewrite_look : words.Rewrite ≡ words.Look → ⊥
+rewrite_look e = absurd cc
+
 -- the id 0 is no file's
 has_found : (book : Book) (o : Op) (s : Spot) → (FindsFile (bare book.moments) o s → o.file ≡ 0 → ⊥) → FindsFile (bare book.moments) o s → HasFound book o s
 has_found book o s positive f = (finds_in book o s f, by o.file (positive f))
@@ -122,12 +137,40 @@ found_as book o s told.Memory leased w positive h ends = absurd h
 found_as book o s (told.Names list) leased w positive h ends = absurd (apart words.Open words.List open_list o.word w h)
 found_as book o s (told.Seen id kind version len) leased w positive h ends = absurd (apart words.Open words.Look open_look o.word w h)
 found_as book o s (told.Piece len digest) leased w positive h (inl f) = absurd f.2
-found_as book o s told.Done leased w positive h (inl f) = absurd f.2
+found_as book o s told.Done leased w positive h (inl f) = absurd (open_rewrite f.2)
 found_as book o s told.Busy leased w positive h (inl f) = absurd f.2
 found_as book o s told.NotOpen leased w positive h (inl f) = absurd f.2
 found_as book o s (told.TooBig size) leased w positive h (inl f) = absurd f.2
 found_as book o s told.NoLink leased w positive h (inl f) = absurd f.2
 found_as book o s _ leased w positive h (inr x) = absurd x.1
+
+-- ---- a rewrite
+
+renew_refused : (book : Book) (o : Op) (s : Spot) (status : ℕ) → (FindsFile (bare book.moments) o s → o.file ≡ 0 → ⊥) → o.point ≡ None → RefusedBy book o words.Rewrite status → EndsAs book.moments (path.Rewrite s) o (told.Refused status) → IsRenewRefused book o s status
+renew_refused book o s status positive none (inl r) (inl f) = inl (has_found book o s positive f.0, rewrite_refusal book o status none r)
+renew_refused book o s status positive none (inr z) (inl f) = absurd (positive f.0 z.0)
+renew_refused book o s status positive none r (inr u) = inr (refused_in book o status u.1.0, u.1.1)
+
+renewed_as : (book : Book) (o : Op) (s : Spot) (u : Outcome) → o.word ≡ words.Rewrite → o.point ≡ None → (FindsFile (bare book.moments) o s → o.file ≡ 0 → ⊥) → Caused book o u → EndsAs book.moments (path.Rewrite s) o u → NamedCause book (path.Rewrite s) o u
+renewed_as book o s told.Done w none positive h (inl f) = (has_found book o s positive f.0, rewrite_done book o none (subst (DoneBy book o) w h))
+renewed_as book o s told.AlreadyOpen w none positive h (inl f) = (has_found book o s positive f.0, none)
+renewed_as book o s (told.Refused status) w none positive h ends = renew_refused book o s status positive none (subst (λ (v : Word). RefusedBy book o v status) w h) ends
+renewed_as book o s told.Lost w none positive h ends = h.1
+renewed_as book o s told.Running w none positive h ends = h.1
+renewed_as book o s (told.Opened len digest) w none positive h ends = absurd (apart words.Rewrite words.Open rewrite_open o.word w h.0)
+renewed_as book o s (told.Changed first last) w none positive h ends = absurd (apart words.Rewrite words.Open rewrite_open o.word w h.0)
+renewed_as book o s (told.Closed version len digest) w none positive h ends = absurd (apart words.Rewrite words.Close rewrite_close o.word w h.0)
+renewed_as book o s told.PeerMemory w none positive h ends = absurd h
+renewed_as book o s (told.BadPeer n) w none positive h ends = absurd h
+renewed_as book o s told.Memory w none positive h ends = absurd h
+renewed_as book o s (told.Names list) w none positive h ends = absurd (apart words.Rewrite words.List rewrite_list o.word w h)
+renewed_as book o s (told.Seen id kind version len) w none positive h ends = absurd (apart words.Rewrite words.Look rewrite_look o.word w h)
+renewed_as book o s (told.Piece len digest) w none positive h (inl f) = absurd f.1
+renewed_as book o s told.Busy w none positive h (inl f) = absurd f.1
+renewed_as book o s told.NotOpen w none positive h (inl f) = absurd f.1
+renewed_as book o s (told.TooBig size) w none positive h (inl f) = absurd f.1
+renewed_as book o s told.NoLink w none positive h (inl f) = absurd f.1
+renewed_as book o s _ w none positive h (inr x) = absurd x.1
 
 -- ---- a look, and a listing
 
@@ -199,30 +242,39 @@ found_status book o s status positive (inl (inr stale)) (inl f) = inl (inr (inr 
 found_status book o s status positive (inr z) (inl f) = absurd (positive f.0 z.0)
 found_status book o s status positive r (inr u) = u.1.2
 
+renewed_status : (book : Book) (o : Op) (s : Spot) (status : ℕ) → (FindsFile (bare book.moments) o s → o.file ≡ 0 → ⊥) → RefusedBy book o words.Rewrite status → EndsAs book.moments (path.Rewrite s) o (told.Refused status) → EndsNamed (path.Rewrite s) (told.Refused status)
+renewed_status book o s status positive (inl (inl directory)) (inl f) = inr (subst (Contains (21 ∷ [])) (sym directory.0) (Contains-push [] 21))
+renewed_status book o s status positive (inl (inr stale)) (inl f) = inl (inr (inr stale.0))
+renewed_status book o s status positive (inr z) (inl f) = absurd (positive f.0 z.0)
+renewed_status book o s status positive r (inr u) = u.1.2
+
 named_status : (book : Book) (o : Op) (c : PathCommand) (status : ℕ) → o.word ≡ path_word c → Caused book o (told.Refused status) → IsGiven book c o → EndsAs book.moments c o (told.Refused status) → EndsNamed c (told.Refused status)
 named_status book o (path.Find s) status w h g ends = found_status book o s status (g.positive s) (subst (λ (v : Word). RefusedBy book o v status) w h) ends
+named_status book o (path.Rewrite s) status w h g ends = renewed_status book o s status (g.positive s) (subst (λ (v : Word). RefusedBy book o v status) w h) ends
 named_status book o _ status w h g ends = ends.2
 
 -- one that asked the server, which isn't over in its first step
-pub named_cause : (book : Book) (o : Op) (c : PathCommand) → AreLeased book.moments → o.word ≡ path_word c → Caused book o o.outcome → IsGiven book c o → (o.outcome ≡ told.Running) ⊎ EndsAs book.moments c o o.outcome → NamedCause book c o o.outcome
-named_cause book o c leased word h given (inl running) = running_as book o c running h
-named_cause book o c leased word h given (inr ends) = by c word given ends
+pub named_cause : (book : Book) (o : Op) (c : PathCommand) → AreLeased book.moments → o.word ≡ path_word c → (o.word ≡ words.Rewrite → o.point ≡ None) → Caused book o o.outcome → IsGiven book c o → (o.outcome ≡ told.Running) ⊎ EndsAs book.moments c o o.outcome → NamedCause book c o o.outcome
+named_cause book o c leased word bare_ h given (inl running) = running_as book o c running h
+named_cause book o c leased word bare_ h given (inr ends) = by c word given ends
   where
     by : (c : PathCommand) → o.word ≡ path_word c → IsGiven book c o → EndsAs book.moments c o o.outcome → NamedCause book c o o.outcome
     by (path.Find s) w g ends = found_as book o s o.outcome leased w (g.positive s) h ends
+    by (path.Rewrite s) w g ends = renewed_as book o s o.outcome w (bare_ w) (g.positive s) h ends
     by (path.Look s) w g ends = look_as book o s o.outcome h ends
     by path.LookRoot w g ends = root_as book o o.outcome h ends
     by (path.List p) w g ends = list_as book o p o.outcome (g.too_long p refl) h ends
     by e w g ends = change_as book o e o.outcome refl h ends
 
 -- all that is known of a command, for what it came to
-pub known_by : (book : Book) (ds : List Deed) (i : ℕ) (d : Deed) (o : Op) → o.word ≡ word_of d.command → AreLeased book.moments → Caused book o o.outcome → IsOver book.moments d.command o → HasOpens ds book.ops → slice_get ds i ≡ Some d → slice_get book.ops i ≡ Some o
-    → ((c : PathCommand) → d.command ≡ command.Named c → (o.end ≡ Some o.begin → ⊥) → IsGiven book c o) → ((f : ℕ) → d.command ≡ command.Open f → (status : ℕ) → o.outcome ≡ told.Refused status → IsOpenRefused book f o status) → IsKnown book d o (local_before ds book.ops i d.client o.file)
-known_by book ds i d o word leased cause over opens at is given refused = record {
+pub known_by : (book : Book) (ds : List Deed) (i : ℕ) (d : Deed) (o : Op) → o.word ≡ word_of d.command → AreLeased book.moments → (o.word ≡ words.Rewrite → o.point ≡ None) → Caused book o o.outcome → IsOver book.moments d.command o → HasOpens ds book.ops → slice_get ds i ≡ Some d → slice_get book.ops i ≡ Some o
+    → ((c : PathCommand) → d.command ≡ command.Named c → (o.end ≡ Some o.begin → ⊥) → IsGiven book c o) → ((f : ℕ) → d.command ≡ command.Open f → (status : ℕ) → o.outcome ≡ told.Refused status → IsOpenRefused book f o status) → ((f : ℕ) → d.command ≡ command.Rewrite f → (status : ℕ) → o.outcome ≡ told.Refused status → RewriteRefused book o status) → IsKnown book d o (local_before ds book.ops i d.client o.file)
+known_by book ds i d o word leased bare_ cause over opens at is given refused renewed = record {
   refused = refused;
+  renewed = renewed;
   named = λ c e own late. (
     by c (word ∙ ap word_of e) (given c e late) (subst (λ (k : Command). IsOver book.moments k o) e over) late,
-    subst (λ (k : Command). FindsBy k o.outcome (local_before ds book.ops i d.client o.file)) e (opens i d o at is),
+    finds_so c o.outcome (local_before ds book.ops i d.client o.file) (subst (λ (k : Command). FindsBy k o.outcome (local_before ds book.ops i d.client o.file)) e (opens i d o at is)),
   );
   ends = λ c e late status at_end. ended c status (word ∙ ap word_of e) at_end (given c e late) (subst (λ (k : Command). IsOver book.moments k o) e over) late;
 }
@@ -236,6 +288,6 @@ known_by book ds i d o word leased cause over opens at is given refused = record
     ended c status w at_end g (word_is, inr (inr ends)) late = named_status book o c status w (subst (Caused book o) at_end cause) g (subst (EndsAs book.moments c o) at_end ends)
 
     by : (c : PathCommand) → o.word ≡ path_word c → IsGiven book c o → IsOver book.moments (command.Named c) o → (o.end ≡ Some o.begin → ⊥) → NamedCause book c o o.outcome
-    by c w g (word_is, inl running) late = named_cause book o c leased w cause g (inl running)
+    by c w g (word_is, inl running) late = named_cause book o c leased w bare_ cause g (inl running)
     by c w g (word_is, inr (inl first)) late = absurd (late first)
-    by c w g (word_is, inr (inr ends)) late = named_cause book o c leased w cause g (inr ends)
+    by c w g (word_is, inr (inr ends)) late = named_cause book o c leased w bare_ cause g (inr ends)

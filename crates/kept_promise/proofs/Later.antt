@@ -311,6 +311,7 @@ Stays sessions after i = (n : ℕ) (x : Session) → numbered sessions n ≡ Som
 
 goal_gets : (g : Goal) → changes (goal_word g) ≡ false → gets_file (goal_word g) ≡ false
 goal_gets (goal.Find n) e = refl
+goal_gets (goal.Rewrite n) e = refl
 goal_gets (goal.Look n) e = refl
 goal_gets goal.LookRoot e = refl
 goal_gets (goal.List p) e = refl
@@ -331,14 +332,16 @@ of_later book more made ended i j g apart h =
 pub cached_later : (book more : Book) (made ended : Option ℕ) (cache : Entries) → Grows book more made ended → Cached book cache → Cached more cache
 cached_later book more made ended cache g h = λ f c e.
     let o = h f c e in
-    let le = o.0.past in
     let n = g.passes in (
-      record {
-        moment = o.0.moment;
-        past = omega (arith, le, n);
-        version_is = version_later book more made ended f o.0.moment g (omega (arith, le)) ∙ o.0.version_is;
-        value_is = or_later book more made ended _ _ g (λ v. value_later book more made ended f o.0.moment g (omega (arith, le)) ∙ v) o.0.value_is;
-      },
+      λ positive.
+          let had = o.0 positive in
+          let le = had.past in
+          record {
+            moment = had.moment;
+            past = omega (arith, le, n);
+            version_is = version_later book more made ended f had.moment g (omega (arith, le)) ∙ had.version_is;
+            value_is = or_later book more made ended _ _ g (λ v. value_later book more made ended f had.moment g (omega (arith, le)) ∙ v) had.value_is;
+          },
       o.1,
     )
 

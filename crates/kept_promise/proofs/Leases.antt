@@ -15,7 +15,7 @@ use Rattle.trace_replay.specs.Saving.{lease_told, LeasedAt, TellsLease}
 use Rattle.trace_replay.specs.Book.{first_version}
 use Rattle.kept_promise.proofs.Common.{◌==◌, Contains, Contains-push_cases, Way, answered, slice_get, Answer, Done, Body, Message, Pending, got_step, took, took_if, told_stored, told_way, idle, ClientStep, Ended, Stage, Store, StoreCall, Task, store_at, Op, Opening, TakenCall, op_after, Core, Seat, Event, Event.Hears, CoreStep, numbered, session_of, acted, happens, Moment, step_of, client_of, owner_in, wanted_if, taken_by, is_in, Book, version_at, changed_before, content_of, filter, Queue, Reply, Reply.Versioned, told_message, reply_body}
 use Rattle.kept_promise.proofs.Lists.{some_is, of_appended, of_replaced, true_and_false}
-use Rattle.kept_promise.proofs.Messages.{Job, job, lease_body, AllTolds, IsLeased, LeaseTold, AnswerOf, IsAnswer}
+use Rattle.kept_promise.proofs.Messages.{Job, job, lease_xid, lease_body, AllTolds, IsLeased, LeaseTold, AnswerOf, IsAnswer}
 use Rattle.kept_promise.proofs.Fits.{FitLaws}
 use Rattle.kept_promise.proofs.Facts.{IsKept, IsSession, is_naming}
 use Rattle.kept_promise.proofs.RunsCarried.{book_at, moment, Step}
@@ -23,7 +23,7 @@ use Rattle.kept_promise.proofs.Actors.{job_task, acts_alone, Heard, heard_at, he
 use Rattle.kept_promise.proofs.Counted.{IsActor, early, running_past}
 use Rattle.kept_promise.proofs.CountedRuns.{no_fault_after}
 use Rattle.kept_promise.proofs.JobFacts.{ops_shape}
-use Rattle.kept_promise.proofs.StepCases.{IsFault}
+use Rattle.kept_promise.proofs.StepCases.{IsFault, IsOfFile}
 use Rattle.kept_promise.proofs.VersionRuns.{or_none}
 use Rattle.kept_promise.proofs.LogEvents.{file_stays}
 use Rattle.kept_promise.proofs.Versions.{version_in}
@@ -42,8 +42,25 @@ store_fault s calls file x content st l (Some c) = by c.way
     by way.Named = (bad.UnknownXid x, refl)
     by way.Whole = (bad.UnknownXid x, refl)
 
-takes_lease : (s : client.State) (calls : List Pending) (file : ℕ) (st : Stage) (x : ℕ) (l : Leased) → IsFault (took s calls file st x (body.Lb (lb.GetLeaseAnswer (Done l)))).1.ended ⊎ ((y : ℕ) × (st ≡ stage.Asking y))
-takes_lease s calls file (stage.Asking y) x l = inr (y, refl)
+-- an open waits for a GETLEASE, or a rewrite does
+abbrev pub AsksLease : (xid : ℕ) → Stage → Type 0
+AsksLease x st = (st ≡ stage.Asking x) ⊎ (st ≡ stage.Rewriting x)
+
+asks_xid : (st : Stage) (x : ℕ) → AsksLease x st → lease_xid st ≡ Some x
+asks_xid st x (inl e) = ap lease_xid e
+asks_xid st x (inr e) = ap lease_xid e
+
+asks_file : (st : Stage) (x : ℕ) → AsksLease x st → IsOfFile st
+asks_file st x (inl e) = subst IsOfFile (sym e) tt
+asks_file st x (inr e) = subst IsOfFile (sym e) tt
+
+asks_unnamed : (st : Stage) (x : ℕ) → AsksLease x st → is_naming st ≡ false
+asks_unnamed st x (inl e) = ap is_naming e
+asks_unnamed st x (inr e) = ap is_naming e
+
+takes_lease : (s : client.State) (calls : List Pending) (file : ℕ) (st : Stage) (x : ℕ) (l : Leased) → IsFault (took s calls file st x (body.Lb (lb.GetLeaseAnswer (Done l)))).1.ended ⊎ ((y : ℕ) × AsksLease y st)
+takes_lease s calls file (stage.Asking y) x l = inr (y, inl refl)
+takes_lease s calls file (stage.Rewriting y) x l = inr (y, inr refl)
 takes_lease s calls file (stage.Storing st) x l = inl (store_fault s calls file x (client.local_bytes s.opened file) st l (store_at st.under x))
 takes_lease s calls file _ x l = inl (bad.UnknownXid x, refl)
 
@@ -55,7 +72,7 @@ pub record HeardLease (k : Core) (seat : Seat) (now : ℕ) (x : ℕ) (l : Leased
   pub job_is : job seat ≡ Some of
   pub place : of.place ≡ p
   pub file : old.file ≡ of.file
-  pub asking : of.stage ≡ stage.Asking x
+  pub asking : AsksLease x of.stage
   pub got : got_step seat.client (Ok (lease_told x l)) now ≡ took (idle seat.client) (client.calls_of seat.client) of.file of.stage x (body.Lb (lb.GetLeaseAnswer (Done l)))
   pub finds : (got_step seat.client (Ok (lease_told x l)) now).1.found ≡ None
   pub is : o ≡ op_after old (got_step seat.client (Ok (lease_told x l)) now).0 (session_taken (session_of k.sessions seat.session)) (k.steps + 1) (got_step seat.client (Ok (lease_told x l)) now).1
@@ -115,10 +132,13 @@ heard_lease fits all opening k qs after n now bytes mid kept h left p o at x l m
             of = j;
             job_is = job_is;
             place = at_place;
-            file = file (ap is_naming asking);
-            asking = asking ∙ ap (λ z. stage.Asking z) (eqb-true y x (or_none (y == x) (ap (λ st. client.has_call (client.pending_in st) x) (sym asking) ∙ ap (λ (t : Option Task). client.has_call (client.pending t) x) (sym task) ∙ waits)));
+            file = file (asks_unnamed j.stage y asking);
+            asking = elim asking [
+              | inl e ↦ inl (e ∙ ap (λ z. stage.Asking z) (eqb-true y x (or_none (y == x) (ap (λ st. client.has_call (client.pending_in st) x) (sym e) ∙ ap (λ (t : Option Task). client.has_call (client.pending t) x) (sym task) ∙ waits))))
+              | inr e ↦ inr (e ∙ ap (λ z. stage.Rewriting z) (eqb-true y x (or_none (y == x) (ap (λ st. client.has_call (client.pending_in st) x) (sym e) ∙ ap (λ (t : Option Task). client.has_call (client.pending t) x) (sym task) ∙ waits))))
+            ];
             got = got;
-            finds = ap (λ (z : client.State × ClientStep). z.1.found) got ∙ ap (λ (st : Stage). (took (idle h.seat.client) (client.calls_of h.seat.client) j.file st x (body.Lb (lb.GetLeaseAnswer (Done l)))).1.found) asking ∙ took_finds (idle h.seat.client) (client.calls_of h.seat.client) j.file (stage.Asking y) x (body.Lb (lb.GetLeaseAnswer (Done l))) tt;
+            finds = ap (λ (z : client.State × ClientStep). z.1.found) got ∙ took_finds (idle h.seat.client) (client.calls_of h.seat.client) j.file j.stage x (body.Lb (lb.GetLeaseAnswer (Done l))) (asks_file j.stage y asking);
             is = is;
           }
         ]
@@ -168,16 +188,16 @@ abbrev pub HasFile : Moment → Op → Type 0
 HasFile m o = (x : ℕ) (l : Leased) → is_in o (step_of m) (client_of m.before m.event) ≡ true → Contains (taken_by m.before (client_of m.before m.event) m.event) (lease_told x l) → o.file ≡ 0 → ⊥
 
 -- an answer that is waited for is of a file that is there
-known_by : (book : Book) (taken : List TakenCall) (closing : Option ℕ) (j : Job) (x : ℕ) (l : Leased) (r : Reply) → j.stage ≡ stage.Asking x → reply_body r ≡ body.Lb (lb.GetLeaseAnswer (Done l)) → AnswerOf book taken closing (Some j) x r → WasThere book j.file
-known_by book taken closing j x l (Versioned a) asking is answer = (subst (LeaseTold book taken j x) (same a is) (answer j refl asking)).known
+known_by : (book : Book) (taken : List TakenCall) (closing : Option ℕ) (j : Job) (x : ℕ) (l : Leased) (r : Reply) → AsksLease x j.stage → reply_body r ≡ body.Lb (lb.GetLeaseAnswer (Done l)) → AnswerOf book taken closing (Some j) x r → WasThere book j.file
+known_by book taken closing j x l (Versioned a) asking is answer = (subst (LeaseTold book taken j x) (same a is) (answer j refl (asks_xid j.stage x asking))).known
   where
     same : (a : Answer Leased Unit) → body.Lb (lb.GetLeaseAnswer a) ≡ body.Lb (lb.GetLeaseAnswer (Done l)) → a ≡ Done l
     same a e = cc
 known_by book taken closing j x l r asking is answer = absurd cc
 
 -- an answer that is waited for is that of the version then
-leased_by : (book : Book) (k : Core) (taken : List TakenCall) (closing : Option ℕ) (j : Job) (m : Moment) (o : Op) (x : ℕ) (l : Leased) (r : Reply) → book.ops ≡ k.ops → book.steps < step_of m → slice_get k.ops j.place ≡ Some o → o.file ≡ j.file → j.stage ≡ stage.Asking x → reply_body r ≡ body.Lb (lb.GetLeaseAnswer (Done l)) → AnswerOf book taken closing (Some j) x r → LeasedAt book o m x l.version
-leased_by book k taken closing j m o x l (Versioned a) ops steps at file asking is answer = by (subst (LeaseTold book taken j x) (same a is) (answer j refl asking))
+leased_by : (book : Book) (k : Core) (taken : List TakenCall) (closing : Option ℕ) (j : Job) (m : Moment) (o : Op) (x : ℕ) (l : Leased) (r : Reply) → book.ops ≡ k.ops → book.steps < step_of m → slice_get k.ops j.place ≡ Some o → o.file ≡ j.file → AsksLease x j.stage → reply_body r ≡ body.Lb (lb.GetLeaseAnswer (Done l)) → AnswerOf book taken closing (Some j) x r → LeasedAt book o m x l.version
+leased_by book k taken closing j m o x l (Versioned a) ops steps at file asking is answer = by (subst (LeaseTold book taken j x) (same a is) (answer j refl (asks_xid j.stage x asking)))
   where
     same : (a : Answer Leased Unit) → body.Lb (lb.GetLeaseAnswer a) ≡ body.Lb (lb.GetLeaseAnswer (Done l)) → a ≡ Done l
     same a e = cc

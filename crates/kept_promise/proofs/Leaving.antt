@@ -15,32 +15,53 @@ use Rattle.client_state.specs.State as client
 use Rattle.client_state.specs.declared.step.Outcome.TheVariants as outcome
 use Rattle.client_state.specs.declared.task.Stage.TheVariants as stage
 use Rattle.client_state.specs.declared.task.Way.TheVariants as way
+use Rattle.register_model.specs.declared.op.Word.TheVariants as words
 use Rattle.kept_promise.proofs.Common.{nat_tests, slice_get, nat_lt, if◌then◌else◌, ◌==◌, ◌&&◌, Chunk, Answer, Done, Failed, Status, Hashes, Piece, Body, Message, Pending, WireFault, names_from, names_next, names_more, names_all, is_stored, store_of, store_at, answered, calls_most, is_none, fetch_of, with_hashes, listed, reads_from, reads_next, reads_more, reads_all, is_here, read_at, fault_in, other_version, with_bytes, Broken, broken_of, idle, refused, reads_if, reads_on, lists_on, told_shape, told_version, told_hashes, told_first, retries, misfits, told_bytes, told_chunk, told_piece, goes_if, goes_on, told_temp, sends_whole, told_named, told_whole, told_way, told_stored, took, got_step, Names, Reads, BadPeer, ClientStep, Ended, Outcome, Fetch, Local, ReadCall, Stage, Store, StoreCall, Task, Way}
 use Rattle.kept_promise.proofs.Lists.{some_is, nothing_there}
 use Rattle.kept_promise.proofs.StepCases.{some_call, IsOfFile, got_cases}
+use Rattle.kept_promise.proofs.Messages.{stage_word}
+use Rattle.register_model.specs.declared.op.Word.{Word}
 
 -- ---- what is said
 
--- An operation on a file that asked the server, and ended so, leaves these files open: what an open got is under its number, a closed one
--- is gone, and else all is as it was. What a client answers by itself is none of its ends.
-abbrev pub EndsWith : (opened after : List (ℕ × Local)) → (file : ℕ) → Outcome → Type 0
-EndsWith opened after file (outcome.Opened g len digest) = (g ≡ file) × ((l : Local) × (after ≡ client.with_local opened file l))
-EndsWith opened after file (outcome.Closed g version len digest) = (g ≡ file) × (after ≡ client.without_local opened file)
-EndsWith opened after file (outcome.Piece len digest) = ⊥
-EndsWith opened after file outcome.Done = ⊥
-EndsWith opened after file outcome.Busy = ⊥
-EndsWith opened after file outcome.NotOpen = ⊥
-EndsWith opened after file outcome.AlreadyOpen = ⊥
-EndsWith opened after file (outcome.TooBig size) = ⊥
-EndsWith opened after file outcome.NoLink = ⊥
-EndsWith opened after file o = after ≡ opened
+-- An operation on a file that asked the server, and ended so, leaves these files open: what an open got is under its number, a file that is written
+-- anew stands there with nothing in it, a closed one is gone, and else all is as it was. What a client answers by itself is none of its ends.
+abbrev pub EndsWith : (what : Word) → (opened after : List (ℕ × Local)) → (file : ℕ) → Outcome → Type 0
+EndsWith what opened after file (outcome.Opened g len digest) = (g ≡ file) × ((l : Local) × (after ≡ client.with_local opened file l))
+EndsWith what opened after file (outcome.Closed g version len digest) = (g ≡ file) × (after ≡ client.without_local opened file)
+EndsWith what opened after file (outcome.Piece len digest) = ⊥
+EndsWith what opened after file outcome.Done = (what ≡ words.Rewrite) × ((l : Local) × (l.bytes ≡ []) × (after ≡ client.with_local opened file l))
+EndsWith what opened after file outcome.Busy = ⊥
+EndsWith what opened after file outcome.NotOpen = ⊥
+EndsWith what opened after file outcome.AlreadyOpen = ⊥
+EndsWith what opened after file (outcome.TooBig size) = ⊥
+EndsWith what opened after file outcome.NoLink = ⊥
+EndsWith what opened after file o = after ≡ opened
 
-abbrev pub Leaves : (opened after : List (ℕ × Local)) → (file : ℕ) → Option Ended → Type 0
-Leaves opened after file None = after ≡ opened
-Leaves opened after file (Some e) = EndsWith opened after file e.outcome
+abbrev pub Leaves : (what : Word) → (opened after : List (ℕ × Local)) → (file : ℕ) → Option Ended → Type 0
+Leaves what opened after file None = after ≡ opened
+Leaves what opened after file (Some e) = EndsWith what opened after file e.outcome
 
-abbrev pub IsLeft : client.State → (file : ℕ) → client.State × ClientStep → Type 0
-IsLeft s file r = (r.0.next_xid ≤ s.next_xid + calls_most) × Leaves s.opened r.0.opened file r.1.ended
+abbrev pub IsLeftBy : (what : Word) → client.State → (file : ℕ) → client.State × ClientStep → Type 0
+IsLeftBy what s file r = (r.0.next_xid ≤ s.next_xid + calls_most) × Leaves what s.opened r.0.opened file r.1.ended
+
+-- of an open or a close, neither of which is done
+abbrev IsLeft : client.State → (file : ℕ) → client.State × ClientStep → Type 0
+IsLeft s file r = IsLeftBy words.Open s file r
+
+left_ends : (what : Word) (opened after : List (ℕ × Local)) (file : ℕ) (o : Outcome) → EndsWith words.Open opened after file o → EndsWith what opened after file o
+left_ends what opened after file outcome.Done h = absurd (never h.0)
+  where
+    never : words.Open ≡ words.Rewrite → ⊥
+    never e = absurd cc
+left_ends what opened after file _ h = h
+
+left_by : (what : Word) (s : client.State) (file : ℕ) (r : client.State × ClientStep) → IsLeft s file r → IsLeftBy what s file r
+left_by what s file r h = (h.0, by r.1.ended h.1)
+  where
+    by : (e : Option Ended) → Leaves words.Open s.opened r.0.opened file e → Leaves what s.opened r.0.opened file e
+    by None left = left
+    by (Some e) left = left_ends what s.opened r.0.opened file e.outcome left
 
 -- ---- how many calls go out
 
@@ -198,23 +219,36 @@ told_stored_left s calls file xid content st b (Some c) = told_way_left s calls 
 
 -- ---- any answer
 
-pub took_left : (s : client.State) (calls : List Pending) (file : ℕ) (t : Stage) (xid : ℕ) (b : Body) → IsOfFile t → IsLeft s file (took s calls file t xid b)
-took_left s calls file (stage.Asking asked) xid (body.Lb (lb.GetLeaseAnswer a)) known = told_lease_left s calls file xid a
-took_left s calls file (stage.Hashing tries asked) xid (body.Lb (lb.GetHashAnswer a)) known = told_first_left s calls file xid tries a
-took_left s calls file (stage.Listing asked f) xid (body.Lb (lb.GetHashAnswer a)) known = told_hashes_left s calls file xid f a
-took_left s calls file (stage.Reading f) xid (body.Nfs (nfs.ReadAnswer (Failed t a))) known = refused_left s calls file xid t
-took_left s calls file (stage.Reading f) xid (body.Nfs (nfs.ReadAnswer (Done piece))) known = told_piece_left s calls file xid f piece (read_at f.under xid)
-took_left s calls file (stage.Making asked temp) xid (body.Lb (lb.MkTmpFileAnswer a)) known = told_temp_left s calls file xid temp (client.local_bytes s.opened file) a
-took_left s calls file (stage.Storing st) xid b known = told_stored_left s calls file xid (client.local_bytes s.opened file) st b (store_at st.under xid)
-took_left s calls file (stage.Committing asked) xid (body.Lb (lb.CommitTmpAnswer (Failed t u))) known = refused_left s calls file xid t
-took_left s calls file (stage.Committing asked) xid (body.Lb (lb.CommitTmpAnswer (Done c))) known = (omega arith, (refl, refl))
+-- no rewrite is
+abbrev IsNoRewrite : Stage → Type 0
+IsNoRewrite (stage.Rewriting asked) = ⊥
+IsNoRewrite t = Unit {0}
+
+took_plainly : (s : client.State) (calls : List Pending) (file : ℕ) (t : Stage) (xid : ℕ) (b : Body) → IsOfFile t → IsNoRewrite t → IsLeft s file (took s calls file t xid b)
+took_plainly s calls file (stage.Asking asked) xid (body.Lb (lb.GetLeaseAnswer a)) known other = told_lease_left s calls file xid a
+took_plainly s calls file (stage.Rewriting asked) xid b known other = absurd other
+took_plainly s calls file (stage.Hashing tries asked) xid (body.Lb (lb.GetHashAnswer a)) known other = told_first_left s calls file xid tries a
+took_plainly s calls file (stage.Listing asked f) xid (body.Lb (lb.GetHashAnswer a)) known other = told_hashes_left s calls file xid f a
+took_plainly s calls file (stage.Reading f) xid (body.Nfs (nfs.ReadAnswer (Failed t a))) known other = refused_left s calls file xid t
+took_plainly s calls file (stage.Reading f) xid (body.Nfs (nfs.ReadAnswer (Done piece))) known other = told_piece_left s calls file xid f piece (read_at f.under xid)
+took_plainly s calls file (stage.Making asked temp) xid (body.Lb (lb.MkTmpFileAnswer a)) known other = told_temp_left s calls file xid temp (client.local_bytes s.opened file) a
+took_plainly s calls file (stage.Storing st) xid b known other = told_stored_left s calls file xid (client.local_bytes s.opened file) st b (store_at st.under xid)
+took_plainly s calls file (stage.Committing asked) xid (body.Lb (lb.CommitTmpAnswer (Failed t u))) known other = refused_left s calls file xid t
+took_plainly s calls file (stage.Committing asked) xid (body.Lb (lb.CommitTmpAnswer (Done c))) known other = (omega arith, (refl, refl))
+took_plainly s calls file (stage.Walking asked w) xid b known other = absurd known
+took_plainly s calls file p xid b known other = (omega arith, refl)
+
+pub took_left : (s : client.State) (calls : List Pending) (file : ℕ) (t : Stage) (xid : ℕ) (b : Body) → IsOfFile t → IsLeftBy (stage_word t) s file (took s calls file t xid b)
+took_left s calls file (stage.Rewriting asked) xid (body.Lb (lb.GetLeaseAnswer (Done l))) known = (omega arith, (refl, (_, refl, refl)))
+took_left s calls file (stage.Rewriting asked) xid (body.Lb (lb.GetLeaseAnswer (Failed t u))) known = (omega arith, refl)
+took_left s calls file (stage.Rewriting asked) xid b known = (omega arith, refl)
 took_left s calls file (stage.Walking asked w) xid b known = absurd known
-took_left s calls file p xid b known = (omega arith, refl)
+took_left s calls file t xid b known = left_by (stage_word t) s file (took s calls file t xid b) (took_plainly s calls file t xid b known tt)
 
 -- whatever comes
-pub step_left : (s : client.State) (m : Result Message WireFault) (now : ℕ) (t : Task) → s.task ≡ Some t → IsOfFile t.stage → IsLeft s t.file (got_step s m now)
-step_left s m now t at known = got_cases (IsLeft s t.file) s m now (record {
-  took = λ u is xid b. subst (λ (z : Task). IsLeft s t.file (took (idle s) (client.calls_of s) z.file z.stage xid b)) (some_is t u (sym at ∙ is)) (took_left (idle s) (client.calls_of s) t.file t.stage xid b known);
+pub step_left : (s : client.State) (m : Result Message WireFault) (now : ℕ) (t : Task) → s.task ≡ Some t → IsOfFile t.stage → IsLeftBy (stage_word t.stage) s t.file (got_step s m now)
+step_left s m now t at known = got_cases (IsLeftBy (stage_word t.stage) s t.file) s m now (record {
+  took = λ u is xid b. subst (λ (z : Task). IsLeftBy (stage_word t.stage) s t.file (took (idle s) (client.calls_of s) z.file z.stage xid b)) (some_is t u (sym at ∙ is)) (took_left (idle s) (client.calls_of s) t.file t.stage xid b known);
   memory = λ u is xid. (omega arith, refl);
   bad = λ u is f. (omega arith, refl);
   off = λ none. (omega arith, refl);

@@ -122,6 +122,7 @@ command_silent s d now off = command_cases IsSilent s d now (record {
   answers = λ free opened o plain. (refl, (_, refl));
   fetches = λ file is free may. absurd (true_and_false (may_ask s) may (not_joined s off));
   asks = λ file c is free may at. absurd (true_and_false (may_ask s) may (not_joined s off));
+  renews = λ file is free may. absurd (true_and_false (may_ask s) may (not_joined s off));
   walks = λ c is free may. absurd (true_and_false (may_ask s) (both_first (may_ask s) (nat_lt (s.next_xid + 1 + walk_left (begun c)) 4294967296) may) (not_joined s off));
   closes = λ file l is free may at. absurd (true_and_false (may_ask s) may (not_joined s off));
 })
@@ -147,7 +148,7 @@ closing_stays c place w o e is = ap (closing_with c place w) is ∙ by w
 
 -- ---- what waits at the server
 
-got_waits : (s : server.State) (n now : ℕ) (a : Ask) (b : Bool) → CallFits a.xid a.call → Waits s.waiting n (λ d. change_number a.call ≡ 1) (got_if s b n (ask_message a) now).0.waiting
+pub got_waits : (s : server.State) (n now : ℕ) (a : Ask) (b : Bool) → CallFits a.xid a.call → Waits s.waiting n (λ d. change_number a.call ≡ 1) (got_if s b n (ask_message a) now).0.waiting
 got_waits s n now a b fits = by (makes_call a.call) refl
   where
     of_commit : (d : Change) (c : Call) → IsByCommit (ask_message (record { xid = a.xid; call = c })) d → change_number c ≡ 1
@@ -211,10 +212,10 @@ own_filter n m (c ∷ ws) = by (c.session == m) (own_filter n m ws)
 -- ---- what an event leaves of a session that its client left
 
 -- it was there, and remembers the same close
-abbrev SessionWas : Core → (n : ℕ) → Session → Type 0
+abbrev pub SessionWas : Core → (n : ℕ) → Session → Type 0
 SessionWas k n y = (x : Session) × (numbered k.sessions n ≡ Some x) × (y.closing ≡ x.closing)
 
-abbrev SessionsWere : Core → List Session → Type 0
+abbrev pub SessionsWere : Core → List Session → Type 0
 SessionsWere k sessions = (n : ℕ) (y : Session) → numbered sessions n ≡ Some y → y.cut ≡ true → SessionWas k n y
 
 were_same : (k : Core) → SessionsWere k k.sessions
@@ -235,11 +236,11 @@ abbrev LeftSo : Core → List Queue → Core → (n : ℕ) → Queue → Type 0
 LeftSo k qs after n r = (y : Session) → numbered after.sessions n ≡ Some y → y.cut ≡ true → CommitsWere k qs after.server.waiting n r
 
 -- what an event is to show
-record Leaves (k : Core) (qs mid : List Queue) (t : CoreStep) : Type 0 where
-  were : SessionsWere k t.core.sessions
+pub record Leaves (k : Core) (qs mid : List Queue) (t : CoreStep) : Type 0 where
+  pub were : SessionsWere k t.core.sessions
   count : length mid ≡ length qs
   taken : QueuesHave (LeftSo k qs t.core) mid
-  quiet : (n : ℕ) (y : Session) → t.session ≡ Some n → numbered t.core.sessions n ≡ Some y → y.cut ≡ true → t.up ≡ []
+  pub quiet : (n : ℕ) (y : Session) → t.session ≡ Some n → numbered t.core.sessions n ≡ Some y → y.cut ≡ true → t.up ≡ []
 
 no_asks : (us : List Ask) → [] ≡ map ask_message us → us ≡ []
 no_asks [] e = refl
@@ -466,7 +467,7 @@ leaves_serves laws opening all k qs mid m now bytes kept f =
           quiet = λ n y is there gone. nothing_there n is;
         }
 
-leaves : FitLaws → (opening : List Opening) (all : List Moment) (k : Core) (qs mid : List Queue) (e : Event) → IsKept (book_at opening k all) k qs → Finds k qs e mid → Leaves k qs mid (happens k e)
+pub leaves : FitLaws → (opening : List Opening) (all : List Moment) (k : Core) (qs mid : List Queue) (e : Event) → IsKept (book_at opening k all) k qs → Finds k qs e mid → Leaves k qs mid (happens k e)
 leaves laws opening all k qs mid (Joins c) kept f = leaves_joins k qs mid c f.5
 leaves laws opening all k qs mid (Does c now d) kept f = leaves_does opening all k qs mid c now d kept f.3
 leaves laws opening all k qs mid (Serves n now bytes) kept f = leaves_serves laws opening all k qs mid n now bytes kept f

@@ -114,6 +114,7 @@ pub mod Steps
 pub mod MakingGoals
 pub mod MakingFiles
 pub mod FindsOpen
+pub mod Undone
 pub mod Moves
 pub mod ReadCalls
 pub mod Attempts
@@ -129,6 +130,7 @@ pub mod Comes
 pub mod Hashings
 pub mod Listings
 pub mod OpenSteps
+pub mod Renews
 pub mod ReadSteps
 pub mod Bytes
 pub mod Places
@@ -193,8 +195,12 @@ pub mod CountedRuns
 pub mod SentDown
 pub mod SentUp
 pub mod NameAnswers
+pub mod RefusedCalls
+pub mod EntriesGrow
+pub mod Awaiting
 pub mod Leases
 pub mod KeptUsed
+pub mod FoundAsked
 pub mod Saved
 pub mod Promised
 pub mod Shapes
@@ -207,6 +213,8 @@ pub mod Points
 pub mod OpenedOnce
 pub mod StoredWhole
 pub mod MadeRuns
+pub mod OnTheWay
+pub mod ChainedRuns
 pub mod Promise
 pub mod Arrivals
 pub mod Notes

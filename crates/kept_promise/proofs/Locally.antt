@@ -130,12 +130,14 @@ leaves_all k (told.Opened n d) v l h = absurd h
 leaves_all k (told.Closed w n d) v l h = absurd h
 leaves_all k told.Done v l h = absurd h
 leaves_all (command.Open f) u v l h = refl
+leaves_all (command.Rewrite f) u v l h = refl
 leaves_all (command.Write f offset content) u v l h = refl
 leaves_all (command.Trunc f size) u v l h = refl
 leaves_all (command.Read f offset count) u v l h = refl
 leaves_all (command.Close f) u v l h = refl
 leaves_all (command.Abandon f) u v l h = refl
 leaves_all (command.Named (path.Find t)) u v l h = refl
+leaves_all (command.Named (path.Rewrite t)) u v l h = refl
 leaves_all (command.Named t) u v l h = refl
 
 -- by an operation that is not done

@@ -61,11 +61,16 @@ creates_making [] (goal.Remove n) e = refl
 creates_making [] (goal.RenameTo from n to) e = refl
 creates_making _ _ e = absurd cc
 
--- it's no open
+-- it's no open, and no rewrite
 pub making_unopened : (left : List (List ℕ)) (g : Goal) → makes_at left g ≡ true → goal_word g ≡ words.Open → ⊥
 making_unopened [] (goal.Find n) e w = absurd cc
 making_unopened (m ∷ ms) g e w = absurd cc
 making_unopened [] g e w = absurd cc
+
+pub making_unrenewed : (left : List (List ℕ)) (g : Goal) → makes_at left g ≡ true → goal_word g ≡ words.Rewrite → ⊥
+making_unrenewed [] (goal.Rewrite n) e w = absurd cc
+making_unrenewed (m ∷ ms) g e w = absurd cc
+making_unrenewed [] g e w = absurd cc
 
 -- what makes, removes or renames something has such a goal
 abbrev pub MakesGoal : Goal → Type 0

@@ -55,6 +55,7 @@ job seat = job_of seat.place seat.client.task
 -- what a walk is for
 abbrev pub goal_word : Goal → Word
 goal_word (goal.Find name) = words.Open
+goal_word (goal.Rewrite name) = words.Rewrite
 goal_word (goal.Look name) = words.Look
 goal_word goal.LookRoot = words.Look
 goal_word (goal.List pages) = words.List
@@ -69,6 +70,7 @@ abbrev pub stage_word : Stage → Word
 stage_word (stage.Making x temp) = words.Close
 stage_word (stage.Storing st) = words.Close
 stage_word (stage.Committing x) = words.Close
+stage_word (stage.Rewriting x) = words.Rewrite
 stage_word (stage.Walking x w) = goal_word w.goal
 stage_word _ = words.Open
 
@@ -105,9 +107,15 @@ abbrev pub read_chunk : Stage → (xid : ℕ) → Option Chunk
 read_chunk (stage.Reading f) y = chunk_for f.chunks (read_at f.under y)
 read_chunk _ y = None
 
+-- the GETLEASE that is waited for, of an open or of a rewrite
+abbrev pub lease_xid : Stage → Option ℕ
+lease_xid (stage.Asking x) = Some x
+lease_xid (stage.Rewriting x) = Some x
+lease_xid _ = None
+
 -- a call that the owner waits for asks for what its task wants
 abbrev pub CallOf : Option Job → (xid : ℕ) → Call → Type 0
-CallOf job x (Lease g) = (j : Job) → job ≡ Some j → j.stage ≡ stage.Asking x → j.file ≡ g
+CallOf job x (Lease g) = (j : Job) → job ≡ Some j → lease_xid j.stage ≡ Some x → j.file ≡ g
 CallOf job x (Hash g offset) = (j : Job) (o : ℕ) → job ≡ Some j → hash_offset j.stage x ≡ Some o → (j.file ≡ g) × (o ≡ offset)
 CallOf job x (Walks w) = (j : Job) (v : Walk) → job ≡ Some j → j.stage ≡ stage.Walking x v → v ≡ w
 CallOf job x (Read g c) = (j : Job) (k : Chunk) → job ≡ Some j → read_chunk j.stage x ≡ Some k → (j.file ≡ g) × (k ≡ c)
@@ -342,7 +350,7 @@ TriedBy book taken j x _ = Unit {0}
 
 -- an answer that the owner waits for is true
 abbrev pub AnswerOf : Book → List TakenCall → (closing : Option ℕ) → Option Job → (xid : ℕ) → Reply → Type 0
-AnswerOf book taken closing job x (Versioned a) = (j : Job) → job ≡ Some j → j.stage ≡ stage.Asking x → LeaseTold book taken j x a
+AnswerOf book taken closing job x (Versioned a) = (j : Job) → job ≡ Some j → lease_xid j.stage ≡ Some x → LeaseTold book taken j x a
 AnswerOf book taken closing job x (Hashed a) = (j : Job) (o : ℕ) → job ≡ Some j → hash_offset j.stage x ≡ Some o → HashTold book taken j x o a × TriedBy book taken j x j.stage
 AnswerOf book taken closing job x (Bytes a) = (j : Job) (f : Fetch) (c : Chunk) → job ≡ Some j → j.stage ≡ stage.Reading f → read_chunk j.stage x ≡ Some c → ReadTold book taken j x f.first c a
 AnswerOf book taken closing job x (Changed a) = (j : Job) → job ≡ Some j → j.stage ≡ stage.Committing x → CommitTold book closing j a

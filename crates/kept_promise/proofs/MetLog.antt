@@ -18,7 +18,7 @@ use Rattle.kept_promise.proofs.Lists.{some_is, nothing_there}
 use Rattle.kept_promise.proofs.Messages.{Job, stage_word}
 use Rattle.kept_promise.proofs.Rights.{IsRight, Caused}
 use Rattle.kept_promise.proofs.VersionRuns.{word_after}
-use Rattle.kept_promise.proofs.StepCases.{reads_keep, FetchIn, FetchNow, FetchNow.all_told, FetchNow.one_came, GaveUp, IsChangedBy, reads_of, open_and_close, OfOpens, of_opens, took_cases, IsOfFile}
+use Rattle.kept_promise.proofs.StepCases.{reads_keep, FetchIn, FetchNow, FetchNow.all_told, FetchNow.one_came, GaveUp, IsChangedBy, reads_of, open_and_close, renew_and_open, OfOpens, of_opens, took_cases, IsOfFile}
 use Rattle.kept_promise.proofs.Logs.{Going, Ending}
 use Rattle.kept_promise.proofs.LogSums.{sent_more, begins_in, attempts_log}
 use Rattle.kept_promise.proofs.LogEvents.{IsUnchanged, Answering, Answered, found_in, LogLaws, by_getting}
@@ -219,6 +219,7 @@ meets_cases log s calls file v st x b p = record {
     λ first last is. absurd (unchanged first last is),
     λ open_. absurd (open_and_close (stage_word st) open_ close),
   );
+  renews = λ renew r e unchanged. ((λ g w u running is. nothing_there e.ended (sym running ∙ e.ended_is)), (λ first last is. absurd (unchanged first last is)), λ open_. absurd (renew_and_open (stage_word st) renew open_));
   ends = λ open_ r e unchanged. (
     λ g w u running. nothing_there e.ended (sym running ∙ e.ended_is),
     λ first last is. absurd (unchanged first last is),
@@ -350,6 +351,7 @@ meets_laws all = record {
   none = λ w file v u un same log names. none w file v u same log names;
   asks = λ log names x file v. names_begun log (Sent (lease_call x file)) names;
   opens = λ log names x file v. subst (λ (t : Attempts). Tries t 1 new_attempt) (sym (names_begun log (Sent (hash_call x file 0)) names)) (refl, refl, tt, (let le : 1 ≤ tries_most = omega arith in le));
+  renews = λ log names x file v. tt;
   closes = λ x temp file v. tt;
   moves = λ log file other v w u gets. by_getting (λ z. OpenMet log z file v u → OpenMet log z other v u) (λ h. h) (λ h. h) (λ h. h) w gets;
   other = λ log file v st u of p un same. other log file v st u of p same;
@@ -366,6 +368,7 @@ meets_laws all = record {
 
     other : (log : List Deal) (file : ℕ) (v : List ℕ) (st : Stage) (u : History) → IsOfFile st → MeetsBy log file v st → IsUnchanged u → OpenMet log (stage_word st) file v u
     other log file v (stage.Walking x w) u of p same = absurd of
+    other log file v (stage.Rewriting x) u of p same = tt
     other log file v (stage.Making x temp) u of p same = tt
     other log file v (stage.Storing st) u of p same = tt
     other log file v (stage.Committing x) u of p same = tt

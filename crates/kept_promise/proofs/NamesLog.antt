@@ -16,7 +16,7 @@ use Rattle.trace_replay.specs.Traffic.{Attempts, attempts_with, attempts_from, n
 use Rattle.kept_promise.proofs.Common.{Deal, Deal.Sent, Deal.Took}
 use Rattle.kept_promise.proofs.Lists.{false_and_true}
 use Rattle.kept_promise.proofs.LogSums.{came_in, asked_in, begins_in, whole_in}
-pub use Rattle.kept_promise.proofs.FindsOpen.{finds_open}
+pub use Rattle.kept_promise.proofs.FindsOpen.{finds_open, finds_rewrite}
 
 -- ---- such messages
 

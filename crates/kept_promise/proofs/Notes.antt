@@ -15,7 +15,7 @@ use Rattle.client_state.specs.declared.task.Way.TheVariants as way
 use Rattle.transfer_rules.specs.Answers.{wants_bytes}
 use Rattle.file_open.specs.Caching.{content_in, found_all}
 use Rattle.file_close.specs.Storing.{named_if}
-use Rattle.open_close.specs.Walking.{finds_if, is_look, walked, is_its, told_walk}
+use Rattle.open_close.specs.Walking.{finds_if, is_look, walked, is_its, told_walk, renews_if}
 use Rattle.kept_promise.proofs.Common.{slice_get, ◌==◌, nat_lt, Command, Answer, Done, Failed, Chunk, Hashes, Leased, Piece, Pending, Body, Message, WireFault, Broken, broken_of, State, local_bytes, Fetch, ReadCall, Store, StoreCall, Stage, Way, Names, Reads, BadPeer, ClientStep, is_here, is_open, is_stored, names_all, store_of, store_at, answered, read_at, with_hashes, with_bytes, fetch_of, listed, fault_in, other_version, tries_most, took, got_step, command_step, reads_if, lists_on, retries, told_shape, told_version, told_hashes, told_first, told_lease, uses_kept, misfits, told_bytes, told_chunk, told_piece, goes_if, told_temp, told_way, told_stored, told_whole, sends_whole, calls_of, idle, Core, Seat, Event, numbered, with_numbered, happens, hears, slots_bytes, reads_all, looked_up, reads_on, goes_on, asks_kept, told_message, Moment, Opening, Queue}
 use Rattle.kept_promise.proofs.Caches.{AddsNone, same_notes, reserved_notes, with_notes}
 use Rattle.kept_promise.proofs.StepCases.{fronts, command_cases, got_cases}
@@ -23,6 +23,7 @@ use Rattle.kept_promise.proofs.Versions.{of_numbered}
 use Rattle.kept_promise.proofs.Fits.{FitLaws}
 use Rattle.kept_promise.proofs.RunsCarried.{Step}
 use Rattle.kept_promise.proofs.EventCases.{event_cases}
+use Rattle.file_open.specs.Rewriting.{told_anew}
 
 -- ---- a command
 
@@ -35,6 +36,7 @@ command_notes s d now = command_cases (StepAdds s) s d now (record {
   answers = λ free opened o plain. same_notes s.cache;
   fetches = λ file is free may. reserved_notes s.cache file;
   asks = λ file c is free may at. reserved_notes s.cache file;
+  renews = λ file is free may. reserved_notes s.cache file;
   walks = λ c is free may. same_notes s.cache;
   closes = λ file l is free may at. same_notes s.cache;
 })
@@ -140,9 +142,18 @@ module _ (s : State) (calls : List Pending) (file xid : ℕ) where
   finds id true = same_notes s.cache
   finds id false = asks_again id (content_of s.cache id)
 
+  anew : (id : ℕ) (opened : Bool) → StepAdds s (renews_if s calls xid id opened)
+  anew id true = same_notes s.cache
+  anew id false = reserved_notes s.cache id
+
+  renewed : (a : Answer Leased Unit) → StepAdds s (told_anew s calls file xid a)
+  renewed (Failed e u) = same_notes s.cache
+  renewed (Done l) = same_notes s.cache
+
   walks_on : (look : Bool) (t : WalkTold) → StepAdds s (walked s calls xid look t)
   walks_on look (walk_told_as.Asks w) = same_notes s.cache
   walks_on look (walk_told_as.Finds id) = finds id (is_open s.opened id)
+  walks_on look (walk_told_as.Rewrites id) = anew id (is_open s.opened id)
   walks_on look (walk_told_as.Ends e) = same_notes s.cache
   walks_on look (walk_told_as.Shape got wanted) = same_notes s.cache
   walks_on look walk_told_as.Other = same_notes s.cache
@@ -153,6 +164,7 @@ module _ (s : State) (calls : List Pending) (file xid : ℕ) where
 
   took_notes : (st : Stage) (b : Body) → StepAdds s (took s calls file st xid b)
   took_notes (stage.Asking y) (body.Lb (lb.GetLeaseAnswer a)) = leased a
+  took_notes (stage.Rewriting y) (body.Lb (lb.GetLeaseAnswer a)) = renewed a
   took_notes (stage.Hashing tries y) (body.Lb (lb.GetHashAnswer a)) = first_hashed tries a
   took_notes (stage.Listing y f) (body.Lb (lb.GetHashAnswer a)) = hashed f a
   took_notes (stage.Reading f) (body.Nfs (nfs.ReadAnswer (Failed e a))) = same_notes s.cache

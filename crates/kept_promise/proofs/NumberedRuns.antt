@@ -82,6 +82,8 @@ answer_numbers s calls file (stage.Walking y w) x b = walk_cases (Numbers s) s c
   open_already = λ id k is. tt;
   fetches = λ id k shut none. (refl, tt);
   leases = λ id c k shut some. (refl, tt);
+  renew_already = λ id k is. tt;
+  renews = λ id k shut. (refl, tt);
   ends = λ w e k is. tt;
 })
 answer_numbers s calls file st x b = took_cases (λ found r. Numbers s r) s calls file st x b tt (took_numbers s calls file st x b)
@@ -103,6 +105,7 @@ command_numbers s d now = command_cases (Numbers s) s d now (record {
   answers = λ un opened o plain. tt;
   fetches = λ file is un may. (refl, tt);
   asks = λ file kept is un may at. (refl, tt);
+  renews = λ file is un may. (refl, tt);
   walks = λ c is un may. (refl, tt);
   closes = λ file l is un may at. (refl, tt);
 })

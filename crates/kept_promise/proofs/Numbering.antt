@@ -22,6 +22,7 @@ use Rattle.path_calls.specs.declared.walk.Walk.{Walk}
 use Rattle.client_state.specs.Ending.{may_walk}
 use Rattle.open_close.specs.Walking.{walks, walks_if}
 use Rattle.kept_promise.proofs.StepCases.{reads_keep, walk_cases, got_cases}
+use Rattle.file_open.specs.Rewriting.{told_anew, asks_anew, rewrites_if, rewrites}
 
 -- ---- a client's step
 
@@ -150,6 +151,10 @@ stored_number : (s : client.State) (calls : List Pending) (file xid : ℕ) (cont
 stored_number s calls file xid content st b None = omega arith
 stored_number s calls file xid content st b (Some c) = way_number s calls file xid content (answered st xid) c c.way b
 
+anew_number : (s : client.State) (calls : List Pending) (file xid : ℕ) (a : Answer Leased Unit) → Numbers s (told_anew s calls file xid a)
+anew_number s calls file xid (Failed t u) = omega arith
+anew_number s calls file xid (Done l) = omega arith
+
 walk_number : (s : client.State) (calls : List Pending) (file asked : ℕ) (w : Walk) (xid : ℕ) (b : Body) → Numbers s (took s calls file (stage.Walking asked w) xid b)
 walk_number s calls file asked w xid b = walk_cases (Numbers s) s calls file asked w xid b (record {
   fault = λ f bad. omega arith;
@@ -157,11 +162,14 @@ walk_number s calls file asked w xid b = walk_cases (Numbers s) s calls file ask
   open_already = λ id k is. omega arith;
   fetches = λ id k shut none. refl;
   leases = λ id c k shut some. refl;
+  renew_already = λ id k is. omega arith;
+  renews = λ id k shut. refl;
   ends = λ w e k is. omega arith;
 })
 
 took_number : (s : client.State) (calls : List Pending) (file : ℕ) (t : Stage) (xid : ℕ) (b : Body) → Numbers s (took s calls file t xid b)
 took_number s calls file (stage.Asking asked) xid (body.Lb (lb.GetLeaseAnswer a)) = lease_number s calls file xid a
+took_number s calls file (stage.Rewriting asked) xid (body.Lb (lb.GetLeaseAnswer a)) = anew_number s calls file xid a
 took_number s calls file (stage.Hashing tries asked) xid (body.Lb (lb.GetHashAnswer a)) = first_numbers s calls file xid tries a
 took_number s calls file (stage.Listing asked f) xid (body.Lb (lb.GetHashAnswer a)) = hashes_number s calls file xid f a
 took_number s calls file (stage.Reading f) xid (body.Nfs (nfs.ReadAnswer (Failed t a))) = omega arith
@@ -215,8 +223,21 @@ opens_number s file None = by (is_open s.opened file)
     by true = omega arith
     by false = asks (may_ask s)
 
+rewrites_number : (s : client.State) (file : ℕ) (t : Option Task) → Numbers s (rewrites s file t)
+rewrites_number s file (Some t) = omega arith
+rewrites_number s file None = by (is_open s.opened file)
+  where
+    asks : (b : Bool) → Numbers s (asks_anew s file b)
+    asks true = refl
+    asks false = omega arith
+
+    by : (b : Bool) → Numbers s (rewrites_if s file b)
+    by true = omega arith
+    by false = asks (may_ask s)
+
 pub command_number : (s : client.State) (d : Command) (now : ℕ) → Numbers s (command_step s d now)
 command_number s (command.Open file) now = opens_number s file s.task
+command_number s (command.Rewrite file) now = rewrites_number s file s.task
 command_number s (command.Write file offset content) now = local_number s s.task (client.local_at s.opened file) (writes s file offset content) (λ l. by l (content_length content == 0))
   where
     by : (l : Local) (b : Bool) → Numbers s (if b then (s, ends outcome.Done 0 0) else edits s file l (written_size (length l.bytes) offset (content_length content)) (written l.bytes offset (content_bytes content)))

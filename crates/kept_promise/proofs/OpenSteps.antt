@@ -7,10 +7,11 @@ use Rattle.file_open.specs.Looking.{listed_if, listed_by, reading_by}
 use Rattle.client_state.specs.State as client
 use Rattle.client_state.specs.declared.task.Stage.TheVariants as stage
 use Rattle.register_model.specs.declared.op.Word.TheVariants as words
+use Rattle.std.specs.Prelude.{not, ◌&&◌}
 use Rattle.kept_promise.proofs.Common.{nat_tests, slice_get, cond, ◌==◌, chunks_of, end_of, Answer, Done, Failed, Hashes, read_pending, fetch_of, with_hashes, listed, read_at, broken_of, idle, told_first, told_hashes, told_version, told_shape, lists_on, told_lease, uses_kept, if◌then◌else◌, Content, Pending, Fetch, ReadCall, Stage, Core, Session, hashed_of, Book, value_at, Reply.Hashed, Reply.Versioned, Told, Queue, reply_program, reply_body}
 use Rattle.kept_promise.proofs.Lists.{some_is, nothing_there}
 use Rattle.kept_promise.proofs.Keys.{times}
-use Rattle.kept_promise.proofs.Messages.{Job, job, stage_word, AllTolds, hash_offset, AnswerOf, IsAnswer, HashTold, IsHashed, IsLeased, LeaseTold, IsAfter, IsTried, Trying, TriedBy, IsFetch, FetchOf}
+use Rattle.kept_promise.proofs.Messages.{Job, job, stage_word, AllTolds, hash_offset, AnswerOf, IsAnswer, HashTold, IsHashed, IsLeased, LeaseTold, IsAfter, IsTried, Trying, TriedBy, IsFetch, FetchOf, lease_xid}
 use Rattle.kept_promise.proofs.Growth.{or_map}
 use Rattle.kept_promise.proofs.Facts.{HasXids, IsSession, IsOf}
 use Rattle.kept_promise.proofs.Chunks.{row_of, sum_sound}
@@ -129,7 +130,7 @@ lists_come book k qs n x q t ts j g f h may = subst (λ b. Comes book k qs n x q
       cache = c.cache;
       index = c.index;
       asks = hash_ask c.next_xid j.file (end_of after.chunks) ∷ [];
-      shows = goes_hash book k qs n x q t ts j g s (end_of after.chunks) c.forgotten may.quiet (sym may.word) (λ y. refl) (λ y e2. absurd cc) (λ y e2. absurd cc) (λ u e2. absurd cc) refl moves small ends (fetch_on book x.taken j s after next.fetch, may.bare.0, may.bare.1) tt (λ m y e2. absurd cc) (xids (next.more e)) bound may.word;
+      shows = goes_hash book k qs n x q t ts j g s (end_of after.chunks) c.forgotten may.quiet (sym may.word) (λ y. refl) (λ y e2. absurd cc) (λ y e2. nothing_there y e2) (λ u e2. absurd cc) refl moves small ends (fetch_on book x.taken j s after next.fetch, may.bare.0, may.bare.1) tt (λ m y e2. absurd cc) (xids (next.more e)) bound may.word;
       cached = (g.kept.seats x.owner is.seat is.owner).kept;
       state_is = refl;
       send_is = refl;
@@ -243,15 +244,16 @@ comes_listing book k qs n x q t ts j g f a at e looked = by a e (answer_at book 
 
 content_found : (version : ℕ) (o : Option Content) (b : List ℕ) → content_in version o ≡ Some b → (c : Content) × (o ≡ Some c) × (c.version ≡ version) × (c.bytes ≡ b)
 content_found version None b e = nothing_there b e
-content_found version (Some c) b e = by (c.version == version) refl e
+content_found version (Some c) b e = by (c.version == version) (not (version == 0)) refl e
   where
-    by : (t : Bool) → (c.version == version) ≡ t → (if t then Some c.bytes else None) ≡ Some b → (d : Content) × (Some c ≡ Some d) × (d.version ≡ version) × (d.bytes ≡ b)
-    by true same e = (c, refl, eqb-true c.version version same, some_is c.bytes b e)
-    by false same e = nothing_there b e
+    by : (t u : Bool) → (c.version == version) ≡ t → (if t && u then Some c.bytes else None) ≡ Some b → (d : Content) × (Some c ≡ Some d) × (d.version ≡ version) × (d.bytes ≡ b)
+    by true true same e = (c, refl, eqb-true c.version version same, some_is c.bytes b e)
+    by true false same e = nothing_there b e
+    by false u same e = nothing_there b e
 
 pub comes_leased : (book : Book) (k : Core) (qs : List Queue) (n : ℕ) (x : Session) (q : Queue) (t : Told) (ts : List Told) (j : Job) (g : Here book k qs n x q t ts j) (a : Answer Leased Unit) → j.stage ≡ stage.Asking t.xid → t.reply ≡ Versioned a
     → Comes book k qs n x q t ts j g (told_lease (idle (client_at book k qs n x q t ts j g)) (client.calls_of (client_at book k qs n x q t ts j g)) j.file t.xid a)
-comes_leased book k qs n x q t ts j g a at e = by a (subst (AnswerOf book x.taken x.closing (Some j) t.xid) e (said book k qs n x q t ts j g) j refl at)
+comes_leased book k qs n x q t ts j g a at e = by a (subst (AnswerOf book x.taken x.closing (Some j) t.xid) e (said book k qs n x q t ts j g) j refl (ap lease_xid at))
   where
     h : IsSession book k.seats k.server n x q
     h = session_at book k qs n x q t ts j g
@@ -297,14 +299,15 @@ comes_leased book k qs n x q t ts j g a at e = by a (subst (AnswerOf book x.take
     kept : (l : Leased) → IsLeased book x.taken j t.xid l → (bytes : List ℕ) → content_in l.version (content_of c.cache j.file) ≡ Some bytes → Gets book k qs n x q t ts j g t.xid l.version bytes
     kept l told bytes is =
         let f = content_found l.version (content_of c.cache j.file) bytes is in
-        let had = (g.kept.seats x.owner h.seat h.owner).kept j.file f.0 f.1 in
+        let held = (g.kept.seats x.owner h.seat h.owner).kept j.file f.0 f.1 in
+        let had = held.0 (let some = told.known.positive in omega (arith, some)) in
         record {
           quiet = quiet;
           word = word;
           value = told.value;
           told_ = told.told;
-          value_is = or_map book (value_at book j.file had.0.moment ≡ Some f.0.bytes) (bytes ≡ told.value) (λ v. sym f.3 ∙ one_content book j.file had.0.moment told.told.moment f.0.bytes told.value v told.told.value (had.0.version_is ∙ f.2 ∙ sym told.told.version_is)) had.0.value_is;
-          short = subst (λ (b : List ℕ). length b ≤ 67108864) f.3 had.1;
+          value_is = or_map book (value_at book j.file had.moment ≡ Some f.0.bytes) (bytes ≡ told.value) (λ v. sym f.3 ∙ one_content book j.file had.moment told.told.moment f.0.bytes told.value v told.told.value (had.version_is ∙ f.2 ∙ sym told.told.version_is)) had.value_is;
+          short = subst (λ (b : List ℕ). length b ≤ 67108864) f.3 held.1;
           known = told.known;
         }
 
@@ -317,7 +320,7 @@ comes_leased book k qs n x q t ts j g a at e = by a (subst (AnswerOf book x.take
       cache = c.cache;
       index = c.index;
       asks = hash_ask c.next_xid j.file 0 ∷ [];
-      shows = goes_hash book k qs n x q t ts j g s 0 forgotten quiet (sym word) (λ y. refl) (λ y e. absurd cc) (λ y e. absurd cc) (λ f e. absurd cc) refl moves (file_small book k qs j.file g.kept told.known) (omega arith) tt tt (λ m y e. begun m (ap tries_of e)) (3, refl, (let r = room in omega (arith, r))) (let r = room in omega (arith, r)) word;
+      shows = goes_hash book k qs n x q t ts j g s 0 forgotten quiet (sym word) (λ y. refl) (λ y e. absurd cc) (λ y e. nothing_there y e) (λ f e. absurd cc) refl moves (file_small book k qs j.file g.kept told.known) (omega arith) tt tt (λ m y e. begun m (ap tries_of e)) (3, refl, (let r = room in omega (arith, r))) (let r = room in omega (arith, r)) word;
       cached = (g.kept.seats x.owner h.seat h.owner).kept;
       state_is = refl;
       send_is = refl;

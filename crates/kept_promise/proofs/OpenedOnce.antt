@@ -118,6 +118,8 @@ quiet_took s calls file (stage.Walking y w) x b = walk_cases IsQuiet s calls fil
   open_already = λ id k is d e. refl;
   fetches = λ id k shut none d e. nothing_there d e;
   leases = λ id c k shut there d e. nothing_there d e;
+  renew_already = λ id k is d e. refl;
+  renews = λ id k shut d e. nothing_there d e;
   ends = λ v end k same d e. refl;
 })
 quiet_took s calls file st x b = took_cases (λ found r. IsQuiet r) s calls file st x b tt (quiet_cases s calls file st x b)
@@ -143,6 +145,7 @@ begun_by log file v st h word lt = by st h word
     by (stage.Hashing tries x) h w = tried tries _ h
     by (stage.Listing x f) h w = tried f.tries _ h.1
     by (stage.Reading f) h w = tried f.tries _ h.1
+    by (stage.Rewriting x) h w = absurd cc
     by (stage.Making x temp) h w = absurd cc
     by (stage.Storing st) h w = absurd cc
     by (stage.Committing x) h w = absurd cc

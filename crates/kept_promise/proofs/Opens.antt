@@ -2,6 +2,7 @@
 use Rattle.std.proofs.Common.{inl, inr, ◌≡◌, ℕ, zero, suc, ◌<◌, List, [], ◌∷◌, ◌++◌, length, Option, Some, None, IsSome, Bool, true, false, refl, sym, ap, ◌∙◌, subst, arith, Result, take}
 use Rattle.command_text.specs.declared.command.Command.TheVariants as command
 use Rattle.command_text.specs.declared.path.PathCommand.{PathCommand}
+use Rattle.command_text.specs.declared.path.PathCommand.TheVariants as path
 use Rattle.path_calls.specs.declared.answers.Ended.TheVariants as walk_end
 use Rattle.path_calls.specs.declared.answers.Ended.{Ended as WalkEnd}
 use Rattle.path_calls.specs.declared.walk.Walk.{Walk}
@@ -13,9 +14,11 @@ use Rattle.client_state.specs.declared.task.Stage.TheVariants as stage
 use Rattle.open_close.specs.Walking.{outcome_of, walks, walks_if}
 use Rattle.register_model.specs.declared.op.Outcome.{Outcome as Told}
 use Rattle.register_model.specs.declared.op.Outcome.TheVariants as told
+use Rattle.register_model.specs.declared.op.Word.{Word}
+use Rattle.register_model.specs.declared.op.Word.TheVariants as words
 use Rattle.trace_replay.specs.Faithful.{FindsOpen}
 use Rattle.trace_ends.specs.Ops.{file_with}
-use Rattle.kept_promise.proofs.Common.{slice_get, option_map, is_some, Body, Message, Pending, WireFault, Command, command_step, idle, took, got_step, ClientStep, Ended, Outcome, Local, Stage, Task, TakenCall, Op, Seat, numbered, with_numbered, place_with, place_after, op_after, op_ended, ops_with, counted, told_of, Deed, can_ask, is_busy, after_one, local_from, local_before, own_answer}
+use Rattle.kept_promise.proofs.Common.{word_of, slice_get, option_map, is_some, Body, Message, Pending, WireFault, Command, command_step, idle, took, got_step, ClientStep, Ended, Outcome, Local, Stage, Task, TakenCall, Op, Seat, numbered, with_numbered, place_with, place_after, op_after, op_ended, ops_with, counted, told_of, Deed, can_ask, is_busy, after_one, local_from, local_before, own_answer}
 use Rattle.kept_promise.proofs.Lists.{some_is, nothing_there, same_or_not, of_appended, within}
 use Rattle.kept_promise.proofs.Messages.{Job, job, job_of}
 use Rattle.kept_promise.proofs.Turns.{around_with}
@@ -26,12 +29,37 @@ use Rattle.kept_promise.proofs.Locally.{Idles, local_idle}
 use Rattle.kept_promise.proofs.Deeds.{also_there, IsOnNames, Came, IsDeed, local_of, HasDeeds, Moved, AllMoved, local_before_same, before_more, busy_behind}
 use Rattle.kept_promise.proofs.Ways.{job_parts, InDeeds}
 use Rattle.kept_promise.proofs.WalkLeaves.{IsNeither}
+use Rattle.trace_ends.specs.Commands.{path_word}
+use Rattle.command_text.specs.declared.path.Spot.{Spot}
 
 -- ---- what is said
 
+-- what an outcome tells of the local content, of an operation with this word
+abbrev pub FindsFor : Word → Told → Option (List ℕ) → Type 0
+FindsFor w told.AlreadyOpen l = IsSome l
+FindsFor w (told.Opened len digest) l = l ≡ None
+FindsFor words.Rewrite told.Done l = l ≡ None
+FindsFor w u l = Unit {0}
+
 abbrev pub FindsBy : Command → Told → Option (List ℕ) → Type 0
-FindsBy (command.Named k) u l = FindsOpen u l
+FindsBy (command.Named k) u l = FindsFor (path_word k) u l
 FindsBy d u l = Unit {0}
+
+-- so it is in the promise
+found_so : (s : Spot) (u : Told) (l : Option (List ℕ)) → FindsFor words.Open u l → FindsOpen (path.Find s) u l
+found_so s told.AlreadyOpen l h = h
+found_so s (told.Opened len digest) l h = h
+found_so s u l h = tt
+
+renewed_so : (s : Spot) (u : Told) (l : Option (List ℕ)) → FindsFor words.Rewrite u l → FindsOpen (path.Rewrite s) u l
+renewed_so s told.AlreadyOpen l h = h
+renewed_so s told.Done l h = h
+renewed_so s u l h = tt
+
+pub finds_so : (k : PathCommand) (u : Told) (l : Option (List ℕ)) → FindsFor (path_word k) u l → FindsOpen k u l
+finds_so (path.Find s) u l h = found_so s u l h
+finds_so (path.Rewrite s) u l h = renewed_so s u l h
+finds_so k u l h = tt
 
 abbrev pub HasOpens : List Deed → List Op → Type 0
 HasOpens ds ops = (i : ℕ) (d : Deed) (o : Op) → slice_get ds i ≡ Some d → slice_get ops i ≡ Some o → FindsBy d.command o.outcome (local_before ds ops i d.client o.file)
@@ -51,21 +79,31 @@ finds_busy (command.Named k) l = tt
 finds_busy _ l = tt
 
 -- only one on names says anything
-pub finds_by : (d : Command) (u : Told) (l : Option (List ℕ)) → (IsOnNames d → FindsOpen u l) → FindsBy d u l
+pub finds_by : (d : Command) (u : Told) (l : Option (List ℕ)) → (IsOnNames d → FindsFor (word_of d) u l) → FindsBy d u l
 finds_by (command.Named k) u l h = h tt
 finds_by _ u l h = tt
 
 -- the end of a fetch of a file that wasn't open
-pub fetched_finds : (u : Outcome) (opened after : List (ℕ × Local)) (file : ℕ) (l : Option (List ℕ)) → EndsWith opened after file u → l ≡ None → FindsOpen (told_of u) l
-fetched_finds (outcome.Opened g len digest) opened after file l h none = none
-fetched_finds outcome.AlreadyOpen opened after file l h none = absurd h
-fetched_finds _ opened after file l h none = tt
+pub fetched_finds : (what w : Word) (u : Outcome) (opened after : List (ℕ × Local)) (file : ℕ) (l : Option (List ℕ)) → EndsWith what opened after file u → l ≡ None → FindsFor w (told_of u) l
+fetched_finds what w (outcome.Opened g len digest) opened after file l h none = none
+fetched_finds what w outcome.AlreadyOpen opened after file l h none = absurd h
+fetched_finds what w outcome.Done opened after file l h none = by w
+  where
+    by : (w : Word) → FindsFor w told.Done l
+    by words.Rewrite = none
+    by w = tt
+fetched_finds what w _ opened after file l h none = tt
 
 -- the end of a walk
-pub walked_finds : (u : Outcome) (l : Option (List ℕ)) → IsNeither u → (u ≡ outcome.AlreadyOpen → IsSome l) → FindsOpen (told_of u) l
-walked_finds (outcome.Opened g len digest) l h some = absurd h
-walked_finds outcome.AlreadyOpen l h some = some refl
-walked_finds _ l h some = tt
+pub walked_finds : (w : Word) (u : Outcome) (l : Option (List ℕ)) → IsNeither w u → (u ≡ outcome.AlreadyOpen → IsSome l) → FindsFor w (told_of u) l
+walked_finds w (outcome.Opened g len digest) l h some = absurd h
+walked_finds w outcome.AlreadyOpen l h some = some refl
+walked_finds w outcome.Done l h some = by w h
+  where
+    by : (w : Word) → (w ≡ words.Rewrite → ⊥) → FindsFor w told.Done l
+    by words.Rewrite apart = absurd (apart refl)
+    by w apart = tt
+walked_finds w _ l h some = tt
 
 -- ---- the local contents when an operation that goes on began
 
@@ -121,7 +159,7 @@ pub record EndsOpen (ds : List Deed) (ops : List Op) (c p : ℕ) (s : client.Sta
   pub client : op.client ≡ c
   pub under : op.end ≡ None
   pub running : op.outcome ≡ told.Running
-  pub finds : (d : Deed) (e : Ended) → slice_get ds p ≡ Some d → acts.ended ≡ Some e → IsOnNames d.command → FindsOpen (told_of e.outcome) (local_of s (file_with op.file acts.found))
+  pub finds : (d : Deed) (e : Ended) → slice_get ds p ≡ Some d → acts.ended ≡ Some e → IsOnNames d.command → FindsFor (word_of d.command) (told_of e.outcome) (local_of s (file_with op.file acts.found))
 
 pub opens_acted : (ds : List Deed) (ops : List Op) (seats : List Seat) (place : Option ℕ) (c : ℕ) (seat : Seat) (t : client.State) (taken : List TakenCall) (step : ℕ) (acts : ClientStep) → HasDeeds ds ops seats → HasOpens ds ops → numbered seats c ≡ Some seat → AllMoved step ops (ops_with ops place t taken step acts)
     → ((p : ℕ) → place ≡ Some p → EndsOpen ds ops c p seat.client acts) → HasOpens ds (ops_with ops place t taken step acts)
@@ -150,7 +188,7 @@ opens_acted ds ops seats place c seat t taken step acts h opens here moved ends 
             ∙ sym (local_until c q.file None ds ops i d w.op at w.there (Rattle.kept_promise.proofs.Locally.idles_by c q.file d w.op (λ l. Rattle.kept_promise.proofs.Locally.leaves_none d.command w.op.outcome w.op.value l (inl w.running))) (λ n e z lt a b. subst (λ (y : ℕ). Idles y q.file e z) w.client (busy_behind ds ops i w.op q.file h.rising h.each w.there w.under n e z lt a b)))
             ∙ ap (λ (y : ℕ). local_before ds ops i y q.file) (sym of) in
             subst (λ (z : Op). FindsBy d.command z.outcome (local_before ds ops i d.client z.file)) (sym (ap (λ (z : Option Ended). op_ended q t taken step z) some))
-            (finds_by d.command (told_of e.outcome) (local_before ds ops i d.client q.file) (λ names. subst (FindsOpen (told_of e.outcome)) before (w.finds d e at some names)))
+            (finds_by d.command (told_of e.outcome) (local_before ds ops i d.client q.file) (λ names. subst (FindsFor (word_of d.command) (told_of e.outcome)) before (w.finds d e at some names)))
 
 -- ---- a walk leads to a file
 
@@ -211,6 +249,8 @@ took_leads s calls file y w xid b = walk_cases (Leads s) s calls file y w xid b 
   open_already = λ id is o. record { shut = λ u at known. nothing_there u at; open_ = λ e at already. (id, refl, o) };
   fetches = λ id is shut e. fetching s _ _ refl shut refl;
   leases = λ id c is shut e. fetching s _ _ refl shut refl;
+  renew_already = λ id is o. record { shut = λ u at known. nothing_there u at; open_ = λ e at already. (id, refl, o) };
+  renews = λ id is shut. fetching s _ _ refl shut refl;
   ends = λ v e is same. over s _ _ refl refl (end_not e);
 })
 
@@ -298,6 +338,7 @@ command_begins s d now = command_cases (Begins s d) s d now (record {
   answers = λ free opened o plain. record { busy = λ x at. nothing_there x (sym free ∙ at); walks = λ u none at names known. nothing_there u (sym free ∙ at) };
   fetches = λ file is free may. record { busy = λ x at. nothing_there x (sym free ∙ at); walks = λ u none at names known. absurd (subst IsOnNames is names) };
   asks = λ file c is free may has. record { busy = λ x at. nothing_there x (sym free ∙ at); walks = λ u none at names known. absurd (subst IsOnNames is names) };
+  renews = λ file is free may. record { busy = λ x at. nothing_there x (sym free ∙ at); walks = λ u none at names known. absurd (subst IsOnNames is names) };
   walks = λ c is free may. record { busy = λ x at. nothing_there x (sym free ∙ at); walks = λ u none at names known. subst (λ (z : Task). IsOfFile z.stage → ⊥) (some_is _ u at) (λ h. h) known };
   closes = λ file l is free may has. record { busy = λ x at. nothing_there x (sym free ∙ at); walks = λ u none at names known. absurd (subst IsOnNames is names) };
 })
@@ -344,27 +385,27 @@ shut_added ds seats c n seat d r h inside here count occupied free begins z x j 
 
 -- ---- a new operation
 
-named_ends : (s : client.State) (k : PathCommand) (now : ℕ) (e : Ended) (l : Option (List ℕ)) → (command_step s (command.Named k) now).1.ended ≡ Some e → FindsOpen (told_of e.outcome) l
+named_ends : (s : client.State) (k : PathCommand) (now : ℕ) (e : Ended) (l : Option (List ℕ)) → (command_step s (command.Named k) now).1.ended ≡ Some e → FindsFor (path_word k) (told_of e.outcome) l
 named_ends s k now e l is = by s.task (may_walk s (walk_begun k)) is
   where
-    found : (x : Ended) → ◌≡◌ {A = Option Ended} (Some x) (Some e) → FindsOpen (told_of x.outcome) l → FindsOpen (told_of e.outcome) l
-    found x at h = subst (λ (z : Ended). FindsOpen (told_of z.outcome) l) (some_is x e at) h
+    found : (x : Ended) → ◌≡◌ {A = Option Ended} (Some x) (Some e) → FindsFor (path_word k) (told_of x.outcome) l → FindsFor (path_word k) (told_of e.outcome) l
+    found x at h = subst (λ (z : Ended). FindsFor (path_word k) (told_of z.outcome) l) (some_is x e at) h
 
-    walked : (b : Bool) → (walks_if s (walk_begun k) b).1.ended ≡ Some e → FindsOpen (told_of e.outcome) l
+    walked : (b : Bool) → (walks_if s (walk_begun k) b).1.ended ≡ Some e → FindsFor (path_word k) (told_of e.outcome) l
     walked true at = nothing_there e at
     walked false at = found _ at tt
 
-    by : (t : Option Task) (b : Bool) → (walks s k t).1.ended ≡ Some e → FindsOpen (told_of e.outcome) l
+    by : (t : Option Task) (b : Bool) → (walks s k t).1.ended ≡ Some e → FindsFor (path_word k) (told_of e.outcome) l
     by (Some t) b at = found _ at tt
     by None b at = walked (may_walk s (walk_begun k)) at
 
 pub new_opens : (s : client.State) (d : Command) (now : ℕ) (o : Op) (taken : List TakenCall) (step : ℕ) → o.outcome ≡ told.Running → (t : client.State) → (l : Option (List ℕ)) → FindsBy d (op_after o t taken step (command_step s d now).1).outcome l
 new_opens s d now o taken step running t l = finds_by d (op_after o t taken step (command_step s d now).1).outcome l (by d)
   where
-    ended : (d : Command) (x : Option Ended) → (command_step s d now).1.ended ≡ x → ((e : Ended) → x ≡ Some e → FindsOpen (told_of e.outcome) l) → FindsOpen (op_after o t taken step (command_step s d now).1).outcome l
-    ended d None is h = subst (λ (z : Told). FindsOpen z l) (sym (ap (λ (y : Option Ended). (op_ended (record o { file = file_with o.file (command_step s d now).1.found; traffic = counted o.traffic (command_step s d now).1.counts }) t taken step y).outcome) is ∙ running)) tt
-    ended d (Some e) is h = subst (λ (z : Told). FindsOpen z l) (sym (ap (λ (y : Option Ended). (op_ended (record o { file = file_with o.file (command_step s d now).1.found; traffic = counted o.traffic (command_step s d now).1.counts }) t taken step y).outcome) is)) (h e refl)
+    ended : (d : Command) (x : Option Ended) → (command_step s d now).1.ended ≡ x → ((e : Ended) → x ≡ Some e → FindsFor (word_of d) (told_of e.outcome) l) → FindsFor (word_of d) (op_after o t taken step (command_step s d now).1).outcome l
+    ended d None is h = subst (λ (z : Told). FindsFor (word_of d) z l) (sym (ap (λ (y : Option Ended). (op_ended (record o { file = file_with o.file (command_step s d now).1.found; traffic = counted o.traffic (command_step s d now).1.counts }) t taken step y).outcome) is ∙ running)) tt
+    ended d (Some e) is h = subst (λ (z : Told). FindsFor (word_of d) z l) (sym (ap (λ (y : Option Ended). (op_ended (record o { file = file_with o.file (command_step s d now).1.found; traffic = counted o.traffic (command_step s d now).1.counts }) t taken step y).outcome) is)) (h e refl)
 
-    by : (d : Command) → IsOnNames d → FindsOpen (op_after o t taken step (command_step s d now).1).outcome l
+    by : (d : Command) → IsOnNames d → FindsFor (word_of d) (op_after o t taken step (command_step s d now).1).outcome l
     by (command.Named k) names = ended (command.Named k) (command_step s (command.Named k) now).1.ended refl (λ e is. named_ends s k now e l is)
     by _ names = absurd names

@@ -19,7 +19,7 @@ use Rattle.kept_promise.proofs.Rights.{AreLeased, IsOpenedIf, Caused}
 use Rattle.kept_promise.proofs.VersionRuns.{opened_by, word_after}
 use Rattle.kept_promise.proofs.Counted.{traffic_is}
 use Rattle.kept_promise.proofs.Taking.{Taking, IsApart, same_value}
-use Rattle.kept_promise.proofs.StepCases.{bytes_came, IsOpenedBy, JustEnds, FetchIn, FetchNow, FetchNow.all_told, FetchNow.one_came, GaveUp, reads_of, given, open_and_close, OfOpens, of_opens, took_cases, IsOfFile}
+use Rattle.kept_promise.proofs.StepCases.{bytes_came, IsOpenedBy, JustEnds, FetchIn, FetchNow, FetchNow.all_told, FetchNow.one_came, GaveUp, reads_of, given, open_and_close, renew_and_open, OfOpens, of_opens, took_cases, IsOfFile}
 use Rattle.kept_promise.proofs.Logs.{Going, Ending}
 use Rattle.kept_promise.proofs.LogSums.{came_in, came_join, asked_in, read_number, begins_in, sum_join, IsSum}
 use Rattle.kept_promise.proofs.LogEvents.{IsUnopened, Answering, Answered, found_in, LogLaws, file_stays, by_getting}
@@ -192,6 +192,7 @@ log_is log x b found ms = appended log (Took (message.Answer x b) ∷ []) (map F
 gets_cases : (log : List Deal) (s : client.State) (calls : List Pending) (file : ℕ) (v : List ℕ) (st : Stage) (x : ℕ) (b : Body) → OpensBy log file v st → IsApart x st → OfOpens (Gets log x b st) s calls file st x b
 gets_cases log s calls file v st x b p apart = record {
   closes = λ close r goes unopened unchanged. (λ g w u running is. none_close (log ++ deals_with (message.Answer x b ∷ []) [] r.1.send) g w u.stage (goes u running is), λ e is opened. absurd (unopened e is opened), λ open_. absurd (open_and_close (stage_word st) open_ close));
+  renews = λ renew r e unchanged. ((λ g w u running is. nothing_there e.ended (sym running ∙ e.ended_is)), λ d is opened. absurd (e.unopened (subst (λ (z : Ended). IsOpenedBy z.outcome) (some_is d e.ended (sym is ∙ e.ended_is)) opened)), λ open_. absurd (renew_and_open (stage_word st) renew open_));
   ends = λ open_ r e unchanged. ended r e;
   changed = λ r f version e open_ gave last is. ended r e;
   uses = λ y l bytes at is kept.
@@ -421,6 +422,7 @@ opens_laws all = record {
   none = λ w file v u un same log names. (nothing w log names, other log v u un);
   asks = λ log names x file v. asked log names x file;
   opens = λ log names x file v. begun log names x file;
+  renews = λ log names x file v. tt;
   closes = λ x temp file v. tt;
   moves = λ log file other v w u gets. by_getting (λ z. OpenRead all log z file v u → OpenRead all log z other v u) (λ h. h) (λ h. h) (λ h. h) w gets;
   other = λ log file v st u of p un same. (any (stage_word st) st refl log file v p, other log v u un);
@@ -534,9 +536,9 @@ once_is past o all len digest is open_ own read s few =
     counts (inr (one, more)) le lf = one.few few
 
 -- an open got its content by what was kept, or reached each of its chunks
-pub got_by : (book : Book) (o : Op) (len : ℕ) (digest : List ℕ) → o.outcome ≡ told.Opened len digest → o.word ≡ words.Open → OpOwn (deals_of o book.moments) o.word o.file o.value o.outcome → OpenRead book.moments (deals_of o book.moments) o.word o.file o.value o.outcome → IsSum o.traffic (deals_of o book.moments) → AreLeased book.moments → Or book (GotBy o (deals_of o book.moments))
+pub got_by : (book : Book) (o : Op) (len : ℕ) (digest : List ℕ) → o.outcome ≡ told.Opened len digest → o.word ≡ words.Open → OpOwn (deals_of o book.moments) o.word o.file o.value o.outcome → OpenRead book.moments (deals_of o book.moments) o.word o.file o.value o.outcome → IsSum o.traffic (deals_of o book.moments) → AreLeased book.moments → GotBy book o (deals_of o book.moments)
 got_by book o len digest is open_ own read s leased = by (subst (GotAll book.moments (deals_of o book.moments) o.value) is read.1)
   where
-    by : (IsBare (deals_of o book.moments) ⊎ (OneFetch (deals_of o book.moments) × ((content : List ℕ) × ReachesAll content (last_fetch (deals_of o book.moments)) × (AreLeased book.moments → (o.value ≡ content) ⊎ Collides (hashed_of book.moments))))) → Or book (GotBy o (deals_of o book.moments))
-    by (inl bare) = inl (inl (Rattle.kept_promise.proofs.MetLog.none_begun (deals_of o book.moments) bare.0, bare_counts book.moments o open_ own bare s))
-    by (inr (one, (content, all, so))) = elim (so leased) [ inr collides ↦ inr collides | inl same ↦ inl (inr (subst (λ (c : List ℕ). ReachesAll c (last_fetch (deals_of o book.moments))) (sym same) all)) ]
+    by : (IsBare (deals_of o book.moments) ⊎ (OneFetch (deals_of o book.moments) × ((content : List ℕ) × ReachesAll content (last_fetch (deals_of o book.moments)) × (AreLeased book.moments → (o.value ≡ content) ⊎ Collides (hashed_of book.moments))))) → GotBy book o (deals_of o book.moments)
+    by (inl bare) = inl (Rattle.kept_promise.proofs.MetLog.none_begun (deals_of o book.moments) bare.0, bare_counts book.moments o open_ own bare s)
+    by (inr (one, (content, all, so))) = inr (content, all, so leased)

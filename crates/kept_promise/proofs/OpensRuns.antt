@@ -6,13 +6,12 @@ use Rattle.client_state.specs.declared.step.Outcome.TheVariants as outcome
 use Rattle.client_state.specs.declared.task.Stage.TheVariants as stage
 use Rattle.register_model.specs.declared.op.Outcome.{Outcome as Told}
 use Rattle.register_model.specs.declared.op.Outcome.TheVariants as told
-use Rattle.trace_replay.specs.Faithful.{FindsOpen}
 use Rattle.trace_ends.specs.Ops.{file_with, begun as op_begun}
 use Rattle.trace_ends.specs.Session.{taken_of as session_taken}
 use Rattle.kept_promise.proofs.Common.{slice_get, Command, ClientStep, Ended, ended_by, cut, joined, command_step, got_step, told_message, Task, Op, Opening, TakenCall, told_of, word_of, file_of, value_at_begin, session_of, Core, Seat, CoreStep, Event, Event.Does, Event.Hears, Event.Cuts, numbered, does, cuts_if, happens, Moment, Deed, deed_by, deeds_of, joined_from, calls_from, Queue, is_untold, acted}
 use Rattle.kept_promise.proofs.Lists.{some_is, nothing_there, of_replaced}
 use Rattle.kept_promise.proofs.Actors.{Heard}
-use Rattle.kept_promise.proofs.Messages.{Job, job, job_of}
+use Rattle.kept_promise.proofs.Messages.{Job, job, job_of, goal_word, stage_word}
 use Rattle.kept_promise.proofs.Facts.{IsMatched, IsKept, is_naming}
 use Rattle.kept_promise.proofs.Fits.{FitLaws}
 use Rattle.kept_promise.proofs.RunsCarried.{book_at, moment, Step, Carried}
@@ -23,11 +22,12 @@ use Rattle.kept_promise.proofs.Found.{got_finds}
 use Rattle.kept_promise.proofs.Deeds.{IsOnNames, local_of, AllMoved}
 use Rattle.kept_promise.proofs.Doing.{with_end}
 use Rattle.kept_promise.proofs.Ways.{stage_case}
-use Rattle.kept_promise.proofs.WalkLeaves.{walk_left}
+use Rattle.kept_promise.proofs.WalkLeaves.{walk_left, EndsNeither}
 use Rattle.kept_promise.proofs.Following.{IsFollowed, goes, no_deed, occupied, jobs_inside, carried_deeds}
-use Rattle.kept_promise.proofs.Opens.{HasOpens, HasShut, AreOpen, EndsOpen, open_bytes, shut_bytes, fetched_finds, walked_finds, opens_moved, opens_added, opens_acted, walk_leads, keeps_file, shut_acted, shut_added, command_begins, new_opens, finds_by}
+use Rattle.kept_promise.proofs.Opens.{FindsFor, HasOpens, HasShut, AreOpen, EndsOpen, open_bytes, shut_bytes, fetched_finds, walked_finds, opens_moved, opens_added, opens_acted, walk_leads, keeps_file, shut_acted, shut_added, command_begins, new_opens, finds_by}
 use Rattle.kept_promise.proofs.MakingGoals.{file_unnamed}
 use Rattle.kept_promise.proofs.EventCases.{Settled, IsChange, IsStill, event_cases}
+use Rattle.register_model.specs.declared.op.Word.{Word}
 
 pub record IsOpening (past : List Moment) (k : Core) : Type 0 where
   pub opens : HasOpens (deeds_of past) k.ops
@@ -48,10 +48,10 @@ still_shut past k e t still h = λ c seat j d at is there names known. h.shut c 
 -- ---- a change is made
 
 -- with an outcome that its client wasn't told nothing is said
-untold_open : (u : Told) (l : Option (List ℕ)) → is_untold u ≡ true → FindsOpen u l
-untold_open told.Running l e = tt
-untold_open told.Lost l e = tt
-untold_open u l e = absurd cc
+untold_open : (w : Word) (u : Told) (l : Option (List ℕ)) → is_untold u ≡ true → FindsFor w u l
+untold_open w told.Running l e = tt
+untold_open w told.Lost l e = tt
+untold_open w u l e = absurd cc
 
 change_opening : (past : List Moment) (k : Core) (e : Event) (t : CoreStep) → IsStill k e t → IsFollowed past k → AllMoved (k.steps + 1) k.ops t.core.ops → IsChange k t.core.ops → IsOpening past k → IsOpening (past ++ moment k e ∷ []) t.core
 change_opening past k e t still f moved c h = by_events past k e t.core (still.deedless past) (opens_moved (k.steps + 1) (deeds_of past) k.ops t.core.ops k.seats f.deeds moved fresh) (still_shut past k e t still h)
@@ -59,7 +59,7 @@ change_opening past k e t still f moved c h = by_events past k e t.core (still.d
     fresh : AreOpen (deeds_of past) k.ops t.core.ops
     fresh i d r deed there = elim (of_replaced k.ops c.place (record c.op { file = c.file; point = Some (k.steps + 1) }) i r (ap (λ (l : List Op). slice_get l i) (sym c.is) ∙ there)) [
       | inr else ↦ h.opens i d r deed else.1
-      | inl here ↦ subst (λ (z : Op). Rattle.kept_promise.proofs.Opens.FindsBy d.command z.outcome (Rattle.kept_promise.proofs.Common.local_before (deeds_of past) k.ops i d.client z.file)) (sym here.1) (finds_by d.command c.op.outcome (Rattle.kept_promise.proofs.Common.local_before (deeds_of past) k.ops i d.client c.file) (λ names. untold_open c.op.outcome (Rattle.kept_promise.proofs.Common.local_before (deeds_of past) k.ops i d.client c.file) c.unmade.2))
+      | inl here ↦ subst (λ (z : Op). Rattle.kept_promise.proofs.Opens.FindsBy d.command z.outcome (Rattle.kept_promise.proofs.Common.local_before (deeds_of past) k.ops i d.client z.file)) (sym here.1) (finds_by d.command c.op.outcome (Rattle.kept_promise.proofs.Common.local_before (deeds_of past) k.ops i d.client c.file) (λ names. untold_open (word_of d.command) c.op.outcome (Rattle.kept_promise.proofs.Common.local_before (deeds_of past) k.ops i d.client c.file) c.unmade.2))
     ]
 
 still_opening : (past : List Moment) (k : Core) (e : Event) (t : CoreStep) → IsStill k e t → IsFollowed past k → AllMoved (k.steps + 1) k.ops t.core.ops → IsOpening past k → IsOpening (past ++ moment k e ∷ []) t.core
@@ -73,7 +73,7 @@ still_opening past k e t still f moved h = by still.ops
 
 -- the operation at its place, and how it ends
 ends_open : (opening : List Opening) (all : List Moment) (ds : List Deed) (k : Core) (qs : List Queue) (c p : ℕ) (seat : Seat) (x : Task) (acts : ClientStep) → (kept : IsKept (book_at opening k all) k qs) → (here : numbered k.seats c ≡ Some seat) → seat.client.task ≡ Some x → seat.place ≡ Some p
-    → ((op : Op) → (is_naming x.stage ≡ false → op.file ≡ x.file) → (d : Deed) (e : Ended) → slice_get ds p ≡ Some d → acts.ended ≡ Some e → IsOnNames d.command → FindsOpen (told_of e.outcome) (local_of seat.client (file_with op.file acts.found)))
+    → ((op : Op) → (is_naming x.stage ≡ false → op.file ≡ x.file) → (d : Deed) (e : Ended) → slice_get ds p ≡ Some d → acts.ended ≡ Some e → IsOnNames d.command → FindsFor (word_of d.command) (told_of e.outcome) (local_of seat.client (file_with op.file acts.found)))
     → EndsOpen ds k.ops c p seat.client acts
 ends_open opening all ds k qs c p seat x acts kept here task place finds =
     let j : Job = record { place = p; file = x.file; stage = x.stage } in
@@ -115,18 +115,23 @@ hears_opening past opening all k qs n now bytes mid kept w f moved h = by_events
     no_found : (x : Task) → seat.client.task ≡ Some x → IsOfFile x.stage → r.1.found ≡ None
     no_found x task known = got_finds seat.client (Ok (told_message w.told)) now (λ u e. subst (λ (z : Task). IsOfFile z.stage) (some_is x u (sym task ∙ e)) known)
 
+    goal_at : (p : ℕ) (x : Task) (y : ℕ) (v : Walk) → seat.place ≡ Some p → seat.client.task ≡ Some x → x.stage ≡ stage.Walking y v → (d : Deed) → slice_get (deeds_of past) p ≡ Some d → word_of d.command ≡ goal_word v.goal
+    goal_at p x y v place task is d there =
+        let of = (kept.seats c seat here).task (record { place = p; file = x.file; stage = x.stage }) (job_is p x place task) in
+        sym (f.deeds.each p d of.op there of.there).word ∙ of.word ∙ ap stage_word is
+
     at_place : (p : ℕ) → seat.place ≡ Some p → (t : Task) × (seat.client.task ≡ Some t) → EndsOpen (deeds_of past) k.ops c p seat.client r.1
     at_place p place (x, task) = ends_open opening all (deeds_of past) k qs c p seat x r.1 kept here task place (λ op file d e there ended names. by (stage_case x.stage) op file d e there ended names)
       where
-        by : IsOfFile x.stage ⊎ ((y : ℕ) × (v : Walk) × (x.stage ≡ stage.Walking y v)) → (op : Op) → (is_naming x.stage ≡ false → op.file ≡ x.file) → (d : Deed) (e : Ended) → slice_get (deeds_of past) p ≡ Some d → r.1.ended ≡ Some e → IsOnNames d.command → FindsOpen (told_of e.outcome) (local_of seat.client (file_with op.file r.1.found))
+        by : IsOfFile x.stage ⊎ ((y : ℕ) × (v : Walk) × (x.stage ≡ stage.Walking y v)) → (op : Op) → (is_naming x.stage ≡ false → op.file ≡ x.file) → (d : Deed) (e : Ended) → slice_get (deeds_of past) p ≡ Some d → r.1.ended ≡ Some e → IsOnNames d.command → FindsFor (word_of d.command) (told_of e.outcome) (local_of seat.client (file_with op.file r.1.found))
         by (inl known) op file d e there ended names =
-            let left : EndsWith seat.client.opened r.0.opened x.file e.outcome = subst (Leaves seat.client.opened r.0.opened x.file) ended (step_left seat.client (Ok (told_message w.told)) now x task known).1 in
-            fetched_finds e.outcome seat.client.opened r.0.opened x.file (local_of seat.client (file_with op.file r.1.found)) left
+            let left : EndsWith (stage_word x.stage) seat.client.opened r.0.opened x.file e.outcome = subst (Leaves (stage_word x.stage) seat.client.opened r.0.opened x.file) ended (step_left seat.client (Ok (told_message w.told)) now x task known).1 in
+            fetched_finds (stage_word x.stage) (word_of d.command) e.outcome seat.client.opened r.0.opened x.file (local_of seat.client (file_with op.file r.1.found)) left
             (ap (λ (z : Option ℕ). local_of seat.client (file_with op.file z)) (no_found x task known) ∙ ap (local_of seat.client) (file (file_unnamed x.stage known)) ∙ h.shut c seat (record { place = p; file = x.file; stage = x.stage }) d here (job_is p x place task) there names known)
         by (inr (y, v, is)) op file d e there ended names =
             let left = walk_left seat.client (Ok (told_message w.told)) now x y v task is in
             let leads = walk_leads seat.client (Ok (told_message w.told)) now x y v task is in
-            walked_finds e.outcome (local_of seat.client (file_with op.file r.1.found)) (subst Rattle.kept_promise.proofs.WalkLeaves.EndsNeither ended left.2)
+            walked_finds (word_of d.command) e.outcome (local_of seat.client (file_with op.file r.1.found)) (subst (λ (z : Word). EndsNeither z (Some e)) (sym (goal_at p x y v place task is d there)) (subst (EndsNeither (goal_word v.goal)) ended left.2))
             (λ already. (let o = leads.open_ e ended already in subst (λ (z : Option ℕ). Rattle.std.proofs.Common.IsSome (local_of seat.client (file_with op.file z))) (sym o.1) (open_bytes seat.client.opened o.0 o.2)))
 
     goes_on : (j : Job) (d : Deed) → seat.place ≡ Some j.place → r.1.ended ≡ None → r.0.task ≡ Some (record { file = j.file; stage = j.stage }) → slice_get (deeds_of past) j.place ≡ Some d → IsOnNames d.command → IsOfFile j.stage → (t : Task) × (seat.client.task ≡ Some t) → local_of r.0 j.file ≡ None
@@ -134,7 +139,7 @@ hears_opening past opening all k qs n now bytes mid kept w f moved h = by_events
       where
         by : IsOfFile x.stage ⊎ ((y : ℕ) × (v : Walk) × (x.stage ≡ stage.Walking y v)) → local_of r.0 j.file ≡ None
         by (inl known) =
-            let opened : r.0.opened ≡ seat.client.opened = subst (Leaves seat.client.opened r.0.opened x.file) ended (step_left seat.client (Ok (told_message w.told)) now x task known).1 in
+            let opened : r.0.opened ≡ seat.client.opened = subst (Leaves (stage_word x.stage) seat.client.opened r.0.opened x.file) ended (step_left seat.client (Ok (told_message w.told)) now x task known).1 in
             ap (λ (l : List (ℕ × Rattle.kept_promise.proofs.Common.Local)). Rattle.kept_promise.proofs.Common.option_map (λ (z : Rattle.kept_promise.proofs.Common.Local). z.bytes) (client.local_at l j.file)) opened
             ∙ ap (local_of seat.client) (keeps_file seat.client (Ok (told_message w.told)) now x task known (record { file = j.file; stage = j.stage }) now_task)
             ∙ h.shut c seat (record { place = j.place; file = x.file; stage = x.stage }) d here (job_is j.place x place task) there names known
@@ -145,15 +150,15 @@ hears_opening past opening all k qs n now bytes mid kept w f moved h = by_events
             ∙ shut_bytes seat.client.opened j.file (leads.shut (record { file = j.file; stage = j.stage }) now_task now_known)
 
 -- a connection is lost
-lost_open : (d : Ended) (task : Option Task) (l : Option (List ℕ)) → (ended_by task (record { outcome = outcome.Lost; rests_on = 0 })).ended ≡ Some d → FindsOpen (told_of d.outcome) l
-lost_open d None l is = nothing_there d is
-lost_open d (Some t) l is = subst (λ (z : Ended). FindsOpen (told_of z.outcome) l) (some_is (record { outcome = outcome.Lost; rests_on = 0 }) d is) tt
+lost_open : (w : Word) (d : Ended) (task : Option Task) (l : Option (List ℕ)) → (ended_by task (record { outcome = outcome.Lost; rests_on = 0 })).ended ≡ Some d → FindsFor w (told_of d.outcome) l
+lost_open w d None l is = nothing_there d is
+lost_open w d (Some t) l is = subst (λ (z : Ended). FindsFor w (told_of z.outcome) l) (some_is (record { outcome = outcome.Lost; rests_on = 0 }) d is) tt
 
 cuts_opening : (past : List Moment) (opening : List Opening) (all : List Moment) (k : Core) (qs : List Queue) (c : ℕ) (seat : Seat) → IsKept (book_at opening k all) k qs → numbered k.seats c ≡ Some seat → IsFollowed past k → AllMoved (k.steps + 1) k.ops (cuts_if k c seat true).core.ops → IsOpening past k → IsOpening (past ++ moment k (Cuts c) ∷ []) (cuts_if k c seat true).core
 cuts_opening past opening all k qs c seat kept here f moved h =
     let r = cut seat.client in
     by_events past k (Cuts c) (cuts_if k c seat true).core refl
-    (opens_acted (deeds_of past) k.ops k.seats seat.place c seat r.0 (session_taken (session_of k.sessions seat.session)) (k.steps + 1) r.1 f.deeds h.opens here moved (λ p place. (let t = occupied seat (kept.seats c seat here).matched p place in ends_open opening all (deeds_of past) k qs c p seat t.0 r.1 kept here t.1 place (λ op file d e there ended names. lost_open e seat.client.task (local_of seat.client (file_with op.file r.1.found)) ended))))
+    (opens_acted (deeds_of past) k.ops k.seats seat.place c seat r.0 (session_taken (session_of k.sessions seat.session)) (k.steps + 1) r.1 f.deeds h.opens here moved (λ p place. (let t = occupied seat (kept.seats c seat here).matched p place in ends_open opening all (deeds_of past) k qs c p seat t.0 r.1 kept here t.1 place (λ op file d e there ended names. lost_open (word_of d.command) e seat.client.task (local_of seat.client (file_with op.file r.1.found)) ended))))
     (shut_acted (deeds_of past) k.seats c seat r.0 r.1 h.shut here (λ j d place ended task there names known. nothing_there _ task))
 
 -- a command

@@ -346,6 +346,7 @@ place_first book n temps hung q a us seat first h = (subst (AllAsks (IsInPlace (
 -- its first stage, and the call that goes out
 abbrev pub BeginsWith : Stage → Ask → Type 0
 BeginsWith (stage.Asking x) a = Unit {0}
+BeginsWith (stage.Rewriting x) a = Unit {0}
 BeginsWith (stage.Hashing t x) a = Unit {0}
 BeginsWith (stage.Walking x w) a = Unit {0}
 BeginsWith (stage.Making x m) a = (f : ℕ) × (a ≡ record { xid = x; call = Make m f })
@@ -375,6 +376,7 @@ orderly_begun book n temps hung q a d j is place begins tree clear = record {
   where
     by : (s : Stage) → BeginsWith s a → (b : Bool) → b ≡ false → NoTemp temps n → HeldIn temps n (unless b q.ups (a ∷ [])) q.downs (locals_of d.client j.file) s
     by (stage.Asking x) begins b up none = none
+    by (stage.Rewriting x) begins b up none = none
     by (stage.Hashing t x) begins b up none = none
     by (stage.Walking x w) begins b up none = none
     by (stage.Making x m) begins false up none = (λ u. none, (λ u d. absurd (u (length q.ups, m, begins.0, at_end q.ups a ∙ ap (λ (z : Ask). Some z) begins.1))), λ d. none)

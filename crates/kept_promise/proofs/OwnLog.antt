@@ -1,5 +1,5 @@
 -- A run carries that an operation sends its own calls alone, or calls on names: an open asks for chunks and bytes of its file, a close stores its value and
--- commits it to its file, and for any other nothing else is said.
+-- commits it to its file, a rewrite asks for the version of its file, and for any other nothing else is said.
 use Rattle.std.proofs.Common.{◌⊎◌, append-nil, inl, inr, ◌≡◌, ℕ, ◌+◌, ◌-◌, List, [], ◌∷◌, ◌++◌, length, Option, Some, None, true, false, refl, sym, ap, ◌∙◌, subst, arith, map}
 use Rattle.hash_calls.specs.declared.message.Lb.TheVariants as lb
 use Rattle.nfs3_calls.specs.declared.message.Nfs.TheVariants as nfs
@@ -8,19 +8,23 @@ use Rattle.wire.specs.declared.message.Message.TheVariants as message
 use Rattle.client_state.specs.State as client
 use Rattle.client_state.specs.declared.task.Stage.TheVariants as stage
 use Rattle.register_model.specs.declared.op.Word.TheVariants as words
-use Rattle.trace_replay.specs.Traffic.{IsFetchCall, IsStoreCall, IsOwnCall, AreOwn, named_by, named_in}
+use Rattle.trace_replay.specs.Traffic.{IsFetchCall, IsVersionCall, IsStoreCall, bytes_in, IsOwnCall, AreOwn, named_by, named_in}
 use Rattle.register_model.specs.declared.op.Outcome.{Outcome as History}
 use Rattle.kept_promise.proofs.Common.{chunks_of, Chunk, Body, Message, Pending, lease_call, hash_call, cond_call, commit_call, names_from, names_all, calls_most, read_call, reads_from, reads_chunk, with_hashes, idle, forgets, tries_anew, lists_on, reads_if, goes_if, sends_whole, took, Reads, ClientStep, Ended, Fetch, Stage, Store, Task, Op, Word, TakenCall, op_after, no_traffic, Moment, Deal, Deal.Took, Deal.Found, Deal.Sent, deals_with, deals_of, CountsOwn, first_number, Book}
 use Rattle.kept_promise.proofs.Lists.{some_is, nothing_there}
 use Rattle.kept_promise.proofs.Messages.{Job, stage_word}
 use Rattle.kept_promise.proofs.Counted.{traffic_is}
-use Rattle.kept_promise.proofs.VersionRuns.{close_not_opened, word_after}
-use Rattle.kept_promise.proofs.StepCases.{reads_keep, names_keep, JustEnds, StoreIn, reads_of, looked, in_open, now_open, either_word, Cases, took_cases, IsOfFile}
+use Rattle.kept_promise.proofs.CountedRuns.{no_fault_after}
+use Rattle.kept_promise.proofs.VersionRuns.{close_not_opened, rewrite_not_opened, word_after}
+use Rattle.kept_promise.proofs.StepCases.{IsFault, reads_keep, names_keep, JustEnds, StoreIn, reads_of, looked, in_open, now_open, either_word, Cases, took_cases, IsOfFile}
 use Rattle.kept_promise.proofs.Logs.{Going, Ending}
-use Rattle.kept_promise.proofs.LogSums.{sent_more, asked_in, read_number, begins_in, IsSum, whole_in}
+use Rattle.kept_promise.proofs.LogSums.{sent_more, came_in, came_join, asked_in, read_number, begins_in, IsSum, whole_in}
 use Rattle.kept_promise.proofs.NamesLog.{IsNameDeal, NamesOnly, one_none, names_count}
 use Rattle.kept_promise.proofs.WalkRuns.{took_file}
 use Rattle.kept_promise.proofs.LogEvents.{Answering, Answered, found_in, LogLaws, value_stays, file_stays}
+use Rattle.file_open.specs.Looking.{reading_by, with_file}
+use Rattle.trace_replay.specs.Trail.{given_in}
+use Rattle.xdr_codec.specs.declared.answer.Answer.TheVariants.{Done, Failed}
 use Rattle.kept_promise.proofs.Rights.{gets_file}
 
 -- ---- what is carried
@@ -39,29 +43,26 @@ abbrev pub AreNear : Word → (file : ℕ) → (value : List ℕ) → List Deal 
 AreNear w file v [] = Unit {0}
 AreNear w file v (d ∷ ds) = IsNear w file v d × AreNear w file v ds
 
-abbrev pub OwnBy : Going
-OwnBy log file v (stage.Walking x w) = NamesOnly log
-OwnBy log file v st = AreNear (stage_word st) file v log × StageChunks st v
-
--- for any other nothing was said, but by a walk
+-- no bytes came for a rewrite; for any other than an open and a close nothing was said, but by a walk
 abbrev IsBare : Word → List Deal → Type 0
 IsBare words.Open log = Unit {0}
 IsBare words.Close log = Unit {0}
+IsBare words.Rewrite log = came_in log ≡ 0
 IsBare w log = NamesOnly log
+
+abbrev pub OwnBy : Going
+OwnBy log file v (stage.Walking x w) = NamesOnly log
+OwnBy log file v st = AreNear (stage_word st) file v log × (StageChunks st v × IsBare (stage_word st) log)
 
 abbrev pub OpOwn : Ending
 OpOwn log w file v u = AreNear w file v log × IsBare w log
 
-of_stage : (st : Stage) → IsOfFile st → (l : List Deal) → IsBare (stage_word st) l
-of_stage (stage.Walking x w) of l = absurd of
-of_stage _ of l = tt
-
 -- at a stage of a file
-own_at : (log : List Deal) (file : ℕ) (v : List ℕ) (st : Stage) → IsOfFile st → AreNear (stage_word st) file v log × StageChunks st v → OwnBy log file v st
+own_at : (log : List Deal) (file : ℕ) (v : List ℕ) (st : Stage) → IsOfFile st → AreNear (stage_word st) file v log × (StageChunks st v × IsBare (stage_word st) log) → OwnBy log file v st
 own_at log file v (stage.Walking x w) of h = absurd of
 own_at log file v st of h = h
 
-own_of : (log : List Deal) (file : ℕ) (v : List ℕ) (st : Stage) → IsOfFile st → OwnBy log file v st → AreNear (stage_word st) file v log × StageChunks st v
+own_of : (log : List Deal) (file : ℕ) (v : List ℕ) (st : Stage) → IsOfFile st → OwnBy log file v st → AreNear (stage_word st) file v log × (StageChunks st v × IsBare (stage_word st) log)
 own_of log file v (stage.Walking x w) of h = absurd of
 own_of log file v st of h = h
 
@@ -163,6 +164,17 @@ sends_cases s calls file v st x b h same = record {
     closing : stage_word st ≡ words.Close → (r : client.State × ClientStep) → Sends words.Close file v r → Sends (stage_word st) file v r
     closing is r k = subst (λ w. Sends w file v r) (sym is) k
 
+-- no bytes come for a rewrite
+silent_after : (log : List Deal) (s : client.State) (calls : List Pending) (file : ℕ) (st : Stage) (x : ℕ) (b : Body) → IsOfFile st → IsBare (stage_word st) log → (let r = took s calls file st x b in IsFault r.1.ended ⊎ IsBare (stage_word st) (log ++ deals_with (message.Answer x b ∷ []) (given_in s (with_file file (reading_by st x b))) r.1.send))
+silent_after log s calls file (stage.Walking y w) x b of was = absurd of
+silent_after log s calls file (stage.Rewriting y) x b of was = by b
+  where
+    by : (b : Body) → (let r = took s calls file (stage.Rewriting y) x b in IsFault r.1.ended ⊎ IsBare words.Rewrite (log ++ deals_with (message.Answer x b ∷ []) [] r.1.send))
+    by (body.Lb (lb.GetLeaseAnswer (Done l))) = inr (let m = message.Answer x (body.Lb (lb.GetLeaseAnswer (Done l))) in let j = came_join log (Took m ∷ []) in omega (arith, j, was))
+    by (body.Lb (lb.GetLeaseAnswer (Failed t u))) = inr (let m = message.Answer x (body.Lb (lb.GetLeaseAnswer (Failed t u))) in let j = came_join log (Took m ∷ []) in omega (arith, j, was))
+    by b = inl (_, refl)
+silent_after log s calls file st x b of was = inr tt
+
 own_heard : (book more : Book) (taken : List TakenCall) (j : Job) (o : Op) (p : ℕ) (s : client.State) (x : ℕ) (b : Body) → Answering book more taken j o p s x b (took (idle s) (client.calls_of s) j.file j.stage x b) → (log : List Deal) → OwnBy log o.file o.value j.stage
     → Answered OwnBy OpOwn book taken o log x b (found_in s j.file j.stage x b) (took (idle s) (client.calls_of s) j.file j.stage x b)
 own_heard book more taken j o p s x b a log h = record {
@@ -170,11 +182,11 @@ own_heard book more taken j o p s x b a log h = record {
       let w = sends.0 u running is in
       own_at log2 new.file new.value u.stage (took_file (idle s) (client.calls_of s) j.file j.stage x b a.known u is) (
         subst (λ z. AreNear z new.file new.value log2) (a.taking.word ∙ sym w.0) each,
-        subst (StageChunks u.stage) (sym (running_value r.1.ended running)) w.1,
+        (subst (StageChunks u.stage) (sym (running_value r.1.ended running)) w.1, subst (λ z. IsBare z log2) (sym w.0) bare),
       );
   each = (
     subst (λ z. AreNear z (op_after o r.0 taken (book.steps + 1) r.1).file (op_after o r.0 taken (book.steps + 1) r.1).value log2) (sym (word_after o r.0 taken (book.steps + 1) r.1)) each,
-    subst (λ z. IsBare z log2) (sym (word_after o r.0 taken (book.steps + 1) r.1 ∙ a.taking.word)) (of_stage j.stage a.known log2),
+    subst (λ z. IsBare z log2) (sym (word_after o r.0 taken (book.steps + 1) r.1 ∙ a.taking.word)) bare,
   );
 }
   where
@@ -187,11 +199,17 @@ own_heard book more taken j o p s x b a log h = record {
     log2 : List Deal
     log2 = log ++ deals_with (message.Answer x b ∷ []) (found_in s j.file j.stage x b) (took (idle s) (client.calls_of s) j.file j.stage x b).1.send
 
-    had : AreNear (stage_word j.stage) o.file o.value log × StageChunks j.stage o.value
+    had : AreNear (stage_word j.stage) o.file o.value log × (StageChunks j.stage o.value × IsBare (stage_word j.stage) log)
     had = own_of log o.file o.value j.stage a.known h
 
     sends : Sends (stage_word j.stage) j.file o.value (took (idle s) (client.calls_of s) j.file j.stage x b)
-    sends = took_cases (λ found r. Sends (stage_word j.stage) j.file o.value r) (idle s) (client.calls_of s) j.file j.stage x b a.known (sends_cases (idle s) (client.calls_of s) j.file o.value j.stage x b had.1 a.value)
+    sends = took_cases (λ found r. Sends (stage_word j.stage) j.file o.value r) (idle s) (client.calls_of s) j.file j.stage x b a.known (sends_cases (idle s) (client.calls_of s) j.file o.value j.stage x b had.1.0 a.value)
+
+    bare : IsBare (stage_word j.stage) log2
+    bare = elim (silent_after log (idle s) (client.calls_of s) j.file j.stage x b a.known had.1.1) [
+      | inl fault ↦ absurd (no_fault_after more o r.0 taken (book.steps + 1) r.1 a.right fault)
+      | inr silent ↦ silent
+    ]
 
     running_value : (e : Option Ended) → e ≡ None → (op_after o r.0 taken (book.steps + 1) (record r.1 { ended = e })).value ≡ o.value
     running_value None is = refl
@@ -207,7 +225,8 @@ own_heard book more taken j o p s x b a log h = record {
     each : AreNear o.word (op_after o r.0 taken (book.steps + 1) r.1).file (op_after o r.0 taken (book.steps + 1) r.1).value log2
     each = subst (λ f. AreNear o.word f (op_after o r.0 taken (book.steps + 1) r.1).value log2) (sym (file_stays o r.0 taken (book.steps + 1) r.1 a.finds)) (elim (either_word j.stage a.known) [
       | inl open_ ↦ (let w : o.word ≡ words.Open = a.taking.word ∙ open_ in subst (λ z. AreNear z o.file (op_after o r.0 taken (book.steps + 1) r.1).value log2) (sym w) (open_near o.file o.value (op_after o r.0 taken (book.steps + 1) r.1).value log2 (subst (λ z. AreNear z o.file o.value log2) w all)))
-      | inr close ↦ (let w : o.word ≡ words.Close = a.taking.word ∙ close in subst (λ v. AreNear o.word o.file v log2) (sym (value_stays o r.0 taken (book.steps + 1) r.1 (λ len digest z. close_not_opened more (op_after o r.0 taken (book.steps + 1) r.1) len digest a.right (word_after o r.0 taken (book.steps + 1) r.1 ∙ w) z))) all)
+      | inr (inl close) ↦ (let w : o.word ≡ words.Close = a.taking.word ∙ close in subst (λ v. AreNear o.word o.file v log2) (sym (value_stays o r.0 taken (book.steps + 1) r.1 (λ len digest z. close_not_opened more (op_after o r.0 taken (book.steps + 1) r.1) len digest a.right (word_after o r.0 taken (book.steps + 1) r.1 ∙ w) z))) all)
+      | inr (inr renew) ↦ (let w : o.word ≡ words.Rewrite = a.taking.word ∙ renew in subst (λ v. AreNear o.word o.file v log2) (sym (value_stays o r.0 taken (book.steps + 1) r.1 (λ len digest z. rewrite_not_opened more (op_after o r.0 taken (book.steps + 1) r.1) len digest a.right (word_after o r.0 taken (book.steps + 1) r.1 ∙ w) z))) all)
     ])
 
 -- an operation that gets its file from the server
@@ -222,17 +241,19 @@ own_laws all = record {
   walks = λ log file v x w h. h;
   walked = λ log file v x w h. h;
   none = λ w file v u un same log names. (near_names w file v log names, none w log names);
-  asks = λ log names x file v. (near_join words.Open file v log (Sent (lease_call x file) ∷ []) (near_names words.Open file v log names) (inl refl, tt), tt);
-  opens = λ log names x file v. (near_join words.Open file v log (Sent (hash_call x file 0) ∷ []) (near_names words.Open file v log names) (inl refl, tt), tt);
-  closes = λ x temp file v. ((inl refl, tt), tt);
+  asks = λ log names x file v. (near_join words.Open file v log (Sent (lease_call x file) ∷ []) (near_names words.Open file v log names) (inl refl, tt), (tt, tt));
+  renews = λ log names x file v. (near_join words.Rewrite file v log (Sent (lease_call x file) ∷ []) (near_names words.Rewrite file v log names) (inl refl, tt), (tt, (let j = came_join log (Sent (lease_call x file) ∷ []) in let n = (names_count log names).came in omega (arith, j, n))));
+  opens = λ log names x file v. (near_join words.Open file v log (Sent (hash_call x file 0) ∷ []) (near_names words.Open file v log names) (inl refl, tt), (tt, tt));
+  closes = λ x temp file v. ((inl refl, tt), (tt, tt));
   moves = λ log file other v w u gets h. moves_own log file other v w u gets h;
-  other = λ log file v st u of p un same. ((own_of log file v st of p).0, of_stage st of log);
+  other = λ log file v st u of p un same. let own = own_of log file v st of p in (own.0, own.1.1);
   heard = λ book more taken j o p s x b all_is a log h. own_heard book more taken j o p s x b a log h;
 }
   where
     none : (w : Word) (log : List Deal) → NamesOnly log → IsBare w log
     none words.Open log names = tt
     none words.Close log names = tt
+    none words.Rewrite log names = (names_count log names).came
     none w log names = names
 
 -- ---- what it makes of the promise
@@ -287,6 +308,32 @@ close_asks file v (Sent m ∷ log) h = let l = close_asks file v log h.1 in elim
     by (message.Call xid (body.Lb (lb.CommitTmp z))) own = refl
     by m own = absurd own
 
+-- a rewrite does neither, and sends no bytes
+pub renew_counts : (file : ℕ) (v : List ℕ) (log : List Deal) → AreNear words.Rewrite file v log → (begins_in log ≡ 0) × (length (named_in log) ≡ 0) × (whole_in log ≡ 0) × (asked_in log ≡ 0) × (bytes_in log ≡ 0)
+renew_counts file v [] h = (refl, refl, refl, refl, refl)
+renew_counts file v (Took m ∷ log) h = let l = renew_counts file v log h.1 in let a = l.0 in let b = l.1 in let c = l.2 in let d = l.3 in let e = l.4 in (omega (arith, a), omega (arith, b), omega (arith, c), omega (arith, d), omega (arith, e))
+renew_counts file v (Found z ∷ log) h = let l = renew_counts file v log h.1 in let a = l.0 in let b = l.1 in let c = l.2 in let d = l.3 in let e = l.4 in (omega (arith, a), omega (arith, b), omega (arith, c), omega (arith, d), omega (arith, e))
+renew_counts file v (Sent m ∷ log) h = (let l = renew_counts file v log h.1 in elim h.0 [
+  | inl own ↦ by m own l.0 l.1 l.2 l.3 l.4
+  | inr name ↦
+      let n = one_none (Sent m) name in
+      let a = l.0 in
+      let b = l.1 in
+      let c = l.2 in
+      let d = l.3 in
+      let e = l.4 in
+      let p = n.begins in
+      let q = ap length (ap (λ k. k ++ named_in log) (sym (append-nil (named_by (Sent m))) ∙ n.named)) in
+      let r = n.whole in
+      let t = n.asked in
+      let u = n.bytes in
+      (omega (arith, a, p), omega (arith, b, q), omega (arith, c, r), omega (arith, d, t), omega (arith, e, u))
+])
+  where
+    by : (m : Message) → IsVersionCall file m → begins_in log ≡ 0 → length (named_in log) ≡ 0 → whole_in log ≡ 0 → asked_in log ≡ 0 → bytes_in log ≡ 0 → (let d = Sent m ∷ log in (begins_in d ≡ 0) × (length (named_in d) ≡ 0) × (whole_in d ≡ 0) × (asked_in d ≡ 0) × (bytes_in d ≡ 0))
+    by (message.Call xid (body.Lb (lb.GetLease handle))) own a b c d e = (omega (arith, a), omega (arith, b), omega (arith, c), omega (arith, d), omega (arith, e))
+    by m own a b c d e = absurd own
+
 -- and neither begins an attempt but an open
 pub none_begin : (past : List Moment) (o : Op) → (o.word ≡ words.Open → ⊥) → OpOwn (deals_of o past) o.word o.file o.value o.outcome → begins_in (deals_of o past) ≡ 0
 none_begin past o other h = by o.word refl h
@@ -310,6 +357,7 @@ none_begin past o other h = by o.word refl h
     by : (w : Word) → o.word ≡ w → OpOwn (deals_of o past) w o.file o.value o.outcome → begins_in (deals_of o past) ≡ 0
     by words.Open e h = absurd (other e)
     by words.Close e h = close (deals_of o past) h.0
+    by words.Rewrite e h = (renew_counts o.file o.value (deals_of o past) h.0).0
     by w e h = (names_count (deals_of o past) h.1).begins
 
 pub own_counts : (past : List Moment) (o : Op) → OpOwn (deals_of o past) o.word o.file o.value o.outcome → IsSum o.traffic (deals_of o past) → CountsOwn o.word o.traffic
@@ -318,6 +366,18 @@ own_counts past o h s = by o.word h
     by : (w : Word) → OpOwn (deals_of o past) w o.file o.value o.outcome → CountsOwn w o.traffic
     by words.Open h = let n = open_stores o.file o.value (deals_of o past) h.0 in (s.cond ∙ n.0, s.tmp ∙ n.1)
     by words.Close h = s.read ∙ close_asks o.file o.value (deals_of o past) h.0
+    by words.Rewrite h =
+        let n = renew_counts o.file o.value (deals_of o past) h.0 in
+        let came = h.1 in
+        let a = n.1 in
+        let b = n.2 in
+        let c = n.3 in
+        let e = n.4 in
+        let p = s.cond in
+        let q = s.tmp in
+        let r = s.read in
+        let d = s.data_is in
+        traffic_is o.traffic no_traffic (omega (arith, p, a)) (omega (arith, q, b)) (omega (arith, r, c)) (omega (arith, d, e, came))
     by w h =
         let c = names_count (deals_of o past) h.1 in
         let n = ap length c.named in

@@ -1,7 +1,10 @@
 -- What the owners of the sessions are, and the stage, once a line was run.
 use Rattle.std.proofs.Common.{◌≡◌, ℕ, zero, suc, List, [], ◌∷◌, ◌++◌, length, Option, Some, None, Bool, true, false, refl, sym, ap, ◌∙◌, map, take, subst}
 use Rattle.trace_text.specs.declared.line.Who.TheVariants as who
+use Rattle.cache_file.specs.Items.{items}
+use Rattle.client_state.specs.Hints.{warms}
 use Rattle.client_state.specs.State as client
+use Rattle.command_text.specs.Content.{content_bytes}
 use Rattle.trace_ends.specs.Core.{with_client, adjusted}
 use Rattle.trace_replay.specs.World.{adjusts}
 use Rattle.trace_ends.specs.declared.adjusting.Adjustment.{Adjustment}
@@ -121,6 +124,7 @@ adjusted_sessions k (adjustment.Forge (who.Client c) key place) = client_session
 adjusted_sessions k (adjustment.Clear who.Server) = refl
 adjusted_sessions k (adjustment.Clear (who.Client c)) = client_sessions k c client.index_cleared (numbered k.seats c)
 adjusted_sessions k (adjustment.Evict c file) = client_sessions k c (λ s. client.evicted s file) (numbered k.seats c)
+adjusted_sessions k (adjustment.Warm c content) = client_sessions k c (λ s. warms s (items (content_bytes content))) (numbered k.seats c)
 
 adjusts_same : (w : World) (a : Adjustment) → Same w (adjusts w a)
 adjusts_same w a = record { stage = refl; owners = ap (λ (xs : List Session). owners xs) (adjusted_sessions w.core a) }

@@ -7,7 +7,7 @@ use Rattle.tree_reading.specs.Names.{is_misspelt}
 use Rattle.command_text.specs.Fields.{is_letter, is_text, is_name, name_of}
 use Rattle.command_text.specs.Parts.{cut_at}
 use Rattle.command_text.specs.Paths.{names_of, within_path, names_in, spot_at, spot_in, spot_of, path_of}
-use Rattle.command_text.specs.Commands.{find_of, spot_command, rename_of, list_of, look_of, path_command_of}
+use Rattle.command_text.specs.Commands.{find_of, renew_of, spot_command, rename_of, list_of, look_of, path_command_of}
 use Rattle.command_text.specs.declared.command.Command.{Command}
 use Rattle.command_text.specs.declared.command.Command.TheVariants as command
 use Rattle.command_text.specs.declared.path.PathCommand.{PathCommand}
@@ -130,6 +130,7 @@ path_named word = gives_if AreNames (bytes_eq word (codes "/")) (Some []) (names
 
 abbrev pub HasNames : PathCommand → Type 0
 HasNames (path.Find s) = IsSpot s
+HasNames (path.Rewrite s) = IsSpot s
 HasNames (path.Look s) = IsSpot s
 HasNames path.LookRoot = Unit {0}
 HasNames (path.List p) = AreNames p
@@ -156,6 +157,9 @@ IsNamed d = ⊥
 
 pub find_named : (word : List ℕ) → Gives IsNamed (find_of word)
 find_named word = gives_after IsSpot IsNamed (spot_of word) _ (spot_named word) (λ s h. gives_some IsNamed (command.Named (path.Find s)) h)
+
+pub renew_named : (word : List ℕ) → Gives IsNamed (renew_of word)
+renew_named word = gives_after IsSpot IsNamed (spot_of word) _ (spot_named word) (λ s h. gives_some IsNamed (command.Named (path.Rewrite s)) h)
 
 spot_command_named : (k : Spot → PathCommand) → ((s : Spot) → IsSpot s → HasNames (k s)) → (words : List (List ℕ)) → Gives IsNamed (spot_command k words)
 spot_command_named k has [] = gives_none IsNamed
@@ -188,6 +192,7 @@ path_command_named word words =
 
 abbrev pub IsGoalNamed : Goal → Type 0
 IsGoalNamed (goal.Find n) = IsName n
+IsGoalNamed (goal.Rewrite n) = IsName n
 IsGoalNamed (goal.Look n) = IsName n
 IsGoalNamed goal.LookRoot = Unit {0}
 IsGoalNamed (goal.List p) = Unit {0}
@@ -221,6 +226,7 @@ begun_named _ h = h
 -- it asks behind an entry, and of a directory, whose number has a spelling
 abbrev pub IsAsking : Goal → Type 0
 IsAsking (goal.Find n) = Unit {0}
+IsAsking (goal.Rewrite n) = Unit {0}
 IsAsking (goal.Look n) = Unit {0}
 IsAsking goal.LookRoot = Unit {0}
 IsAsking (goal.List p) = (p.cookie < 18446744073709551616) × (p.verifier < 18446744073709551616)
@@ -335,6 +341,7 @@ begun_small k h = record { dir = dir k; named = begun_named k h; asking = asking
 
     ahead : (k : PathCommand) → IsAhead (begun k).left (begun k).goal
     ahead (path.Find s) = ahead_else s.dirs (goal.Find s.name) refl
+    ahead (path.Rewrite s) = ahead_else s.dirs (goal.Rewrite s.name) refl
     ahead (path.Look s) = ahead_else s.dirs (goal.Look s.name) refl
     ahead path.LookRoot = tt
     ahead (path.List p) = ahead_else p (goal.List no_pages) refl
@@ -356,6 +363,7 @@ begun_small k h = record { dir = dir k; named = begun_named k h; asking = asking
 -- the calls of the open that may follow
 abbrev pub open_calls : Goal → ℕ
 open_calls (goal.Find n) = 380002
+open_calls (goal.Rewrite n) = 1
 open_calls g = 0
 
 -- what it may still send behind its next call

@@ -12,7 +12,7 @@ use Rattle.trace_replay.specs.Faithful.{IsFirstOf, HasPoint, OpensAt}
 use Rattle.trace_replay.specs.Traffic.{attempts_in, no_attempt}
 use Rattle.kept_promise.proofs.Common.{◌==◌, cond, slice_get, Contains, Body, Done, has_call, got_step, ClientStep, Ended, Outcome, Stage, State, Op, TakenCall, has_point, point_if, taken_at, op_after, Moment, deals_of, Deal, Book, Reply, Reply.Versioned, Reply.Hashed, Reply.Bytes, Told, told_message, reply_body, Reply.Walked, NameReply.LookedUp}
 use Rattle.kept_promise.proofs.Lists.{some_is}
-use Rattle.kept_promise.proofs.Messages.{Job, stage_word, lease_body, hash_body, hash_offset, IsServed, IsLeased, AnswerOf, FetchOf, TriedBy}
+use Rattle.kept_promise.proofs.Messages.{Job, stage_word, lease_body, hash_body, hash_offset, IsServed, IsLeased, AnswerOf, FetchOf, TriedBy, lease_xid}
 use Rattle.kept_promise.proofs.VersionRuns.{opened_by, or_none}
 use Rattle.kept_promise.proofs.Shapes.{StageGood, TaskGood, OutcomeGood, EndGood, TookIn, TaskTook, good_answer}
 use Rattle.kept_promise.proofs.LogSums.{begins_in, attempts_log}
@@ -22,15 +22,16 @@ use Rattle.kept_promise.proofs.MetLog.{MeetsBy, Tries, count_of, begun_count}
 
 abbrev pub StageCall : Book → List TakenCall → Job → Stage → (xid : ℕ) → Type 0
 StageCall book taken j (stage.Asking y) x = IsServed book taken j x (lease_body j.file)
--- no walk opens anything
+-- no walk opens anything, nor a rewrite by an answer to an open
 StageCall book taken j (stage.Walking y w) x = ⊥
+StageCall book taken j (stage.Rewriting y) x = ⊥
 StageCall book taken j st x = IsServed book taken j x (hash_body j.file 0)
 
 served_in : (book : Book) (taken : List TakenCall) (closing : Option ℕ) (t : Told) (j : Job) → has_call (client.pending_in j.stage) t.xid ≡ true → FetchOf book taken j j.stage → AnswerOf book taken closing (Some j) t.xid t.reply
     → (st : Stage) → j.stage ≡ st → (r : Reply) → t.reply ≡ r → TookIn (λ v x. StageCall book taken j st x) st t.xid (reply_body r)
 served_in book taken closing t j has fetch answer (stage.Asking y) at (Versioned (Done l)) is =
     let own : (y == t.xid) ≡ true = or_none (y == t.xid) (ap (λ z. has_call (client.pending_in z) t.xid) (sym at) ∙ has) in
-    let h : IsLeased book taken j t.xid l = subst (AnswerOf book taken closing (Some j) t.xid) is answer j refl (at ∙ ap (λ z. stage.Asking z) (eqb-true y t.xid own)) in
+    let h : IsLeased book taken j t.xid l = subst (AnswerOf book taken closing (Some j) t.xid) is answer j refl (ap lease_xid at ∙ ap (λ z. Some z) (eqb-true y t.xid own)) in
     h.call
 served_in book taken closing t j has fetch answer (stage.Hashing tries y) at (Hashed (Done g)) is =
     let own : (y == t.xid) ≡ true = or_none (y == t.xid) (ap (λ z. has_call (client.pending_in z) t.xid) (sym at) ∙ has) in
@@ -99,6 +100,7 @@ first_of log file v st h word book taken j x served = by st h word served
     by (stage.Hashing tries y) h w served = (hash_body j.file 0, served, some (begins_in log) (tried tries _ h))
     by (stage.Listing y f) h w served = (hash_body j.file 0, served, some (begins_in log) (tried f.tries _ h.1))
     by (stage.Reading f) h w served = (hash_body j.file 0, served, some (begins_in log) (tried f.tries _ h.1))
+    by (stage.Rewriting y) h w served = absurd served
     by (stage.Making y temp) h w served = absurd cc
     by (stage.Storing store) h w served = absurd cc
     by (stage.Committing y) h w served = absurd cc

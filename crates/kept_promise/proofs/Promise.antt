@@ -4,7 +4,7 @@ use Rattle.register_model.specs.declared.op.Outcome.TheVariants as told
 use Rattle.register_model.specs.declared.op.Word.TheVariants as words
 use Rattle.trace_replay.specs.Traces.{IsKeptPromise}
 use Rattle.command_text.specs.declared.command.Command.TheVariants as command
-use Rattle.kept_promise.proofs.Common.{Command, Contains-append_right, Contains-push, World, Op, slice_get, passes, run, accepted, Moment, deeds_of, moments, local_before, Deed, hashed_of, book_of, rounds, deals_of}
+use Rattle.kept_promise.proofs.Common.{Command, Contains-append_right, Contains-push, World, Op, slice_get, passes, run, accepted, Moment, deeds_of, moments, local_before, Deed, book_of, rounds, deals_of}
 use Rattle.kept_promise.proofs.Statements.{ClocksKeepTheRule}
 use Rattle.kept_promise.proofs.Rounds.{passes_are_rounds}
 use Rattle.kept_promise.proofs.Laws.{fit_laws, kept_laws}
@@ -13,9 +13,10 @@ use Rattle.kept_promise.proofs.RunsEvents.{Fact}
 use Rattle.kept_promise.proofs.Runs.{carried_run, kept_run, clocks_kept}
 use Rattle.kept_promise.proofs.RunsOpening.{opening_said}
 use Rattle.kept_promise.proofs.RunsMessages.{holds_messages}
+use Rattle.kept_promise.proofs.ChainedRuns.{run_chained}
 use Rattle.kept_promise.proofs.Commanded.{events_said, commands_said}
 use Rattle.kept_promise.proofs.StepsCount.{steps_counted}
-use Rattle.kept_promise.proofs.Done.{deeds_counted, deeds_done, asked_late, IsKnown}
+use Rattle.kept_promise.proofs.Done.{deeds_counted, deeds_done, asked_late, IsKnown, rewrite_pointless}
 use Rattle.kept_promise.proofs.CutEnds.{AreFollowed, carried_follow, cuts_end}
 use Rattle.kept_promise.proofs.StoredWhole.{Stored, carried_stored, has_stored, have_stored, made_sent}
 use Rattle.kept_promise.proofs.VersionRuns.{Versions, carried_versions, opens_version}
@@ -30,7 +31,7 @@ use Rattle.kept_promise.proofs.WalkRuns.{Walks, bare}
 use Rattle.kept_promise.proofs.OneSession.{OneSession, carried_one_session}
 use Rattle.kept_promise.proofs.WalkEvents.{WalksAt, carried_walks}
 use Rattle.kept_promise.proofs.Known.{known_by}
-use Rattle.kept_promise.proofs.Refusals.{open_refused}
+use Rattle.kept_promise.proofs.Refusals.{open_refused, rewrite_refused}
 use Rattle.kept_promise.proofs.OwnedRuns.{AllOwned, carried_owned, is_for}
 use Rattle.kept_promise.proofs.NumberedRuns.{AllNumbered, carried_numbered}
 use Rattle.kept_promise.proofs.LogSums.{counts_log}
@@ -44,15 +45,18 @@ use Rattle.kept_promise.proofs.MetLog.{attempts_met, attempts_end}
 use Rattle.kept_promise.proofs.OwnLog.{OwnBy, OpOwn, own_laws, own_counts}
 use Rattle.kept_promise.proofs.Completed.{completes}
 use Rattle.kept_promise.proofs.EndedWell.{ends_well}
-use Rattle.kept_promise.proofs.KeptUsed.{UsedAt, used_event}
+use Rattle.kept_promise.proofs.KeptUsed.{UsedAt, used_event, follows_used, follows_anew}
 use Rattle.kept_promise.proofs.WalkSaid.{AreSaid, GaveNow, said_event, own_calls}
 use Rattle.kept_promise.proofs.WalkPages.{begun_pages}
 use Rattle.kept_promise.proofs.Messages.{job}
 use Rattle.kept_promise.proofs.Lists.{nothing_there}
 use Rattle.kept_promise.proofs.Saved.{none_unknown}
+use Rattle.kept_promise.proofs.EntriesGrow.{journal_grows}
+use Rattle.kept_promise.proofs.Awaiting.{AllAwaited, carried_awaited, changed_by}
 use Rattle.kept_promise.proofs.NamesMove.{AllNamed, carried_named, names_change}
 use Rattle.kept_promise.proofs.Unnoted.{AllUnnoted, carried_unnoted, none_fresh}
 use Rattle.kept_promise.proofs.Promised.{no_fault, legal_kept, holds_files, holds_contents, holds_values}
+use Rattle.kept_promise.proofs.Saved.{asks_version}
 
 -- ---- facts that are carried together
 
@@ -95,6 +99,10 @@ Walked all past opening k qs = WalksAt all past opening k qs × ((IsFollowed pas
 abbrev More : Fact
 More all past opening k qs = Used all past opening k qs × (AllNamed all past opening k qs × (SmallDeeds all past opening k qs × Walked all past opening k qs))
 
+-- and by which calls the journal grew, and which operations waited for those, which needs none of it
+abbrev Whole : Fact
+Whole all past opening k qs = More all past opening k qs × AllAwaited all past opening k qs
+
 told_carried : Carried Told
 told_carried =
     carried_both Follows (λ all past opening k qs. Stored all past opening k qs × (Versions all past opening k qs × (Changes all past opening k qs × Logs all past opening k qs))) (carried_follow fit_laws)
@@ -124,6 +132,9 @@ more_carried =
     (carried_both AllNamed (λ all past opening k qs. SmallDeeds all past opening k qs × Walked all past opening k qs) (carried_named fit_laws)
     (carried_both SmallDeeds Walked (carried_small fit_laws) walked_carried))
 
+whole_carried : Carried Whole
+whole_carried = carried_both More AllAwaited more_carried (carried_awaited fit_laws)
+
 -- ---- the promise of what a run leaves
 
 -- what is known of each command
@@ -131,15 +142,16 @@ is_known : (w : World) (all : List Moment) (leased : AreLeased all) (h : Stands 
 is_known w all leased h walks k d o was at =
     let deeds = h.more.0.0.0.followed.deeds in
     let cause = (h.kept.sound.rights k o at).cause in
-    known_by (book_of w all) (deeds_of all) k d o (deeds.each k d o was at).word leased cause (walks.over k d o was at) h.more.1.1.1.1.0.1.opens was at
+    known_by (book_of w all) (deeds_of all) k d o (deeds.each k d o was at).word leased (rewrite_pointless (book_of w all) o (h.kept.sound.rights k o at)) cause (walks.over k d o was at) h.more.1.1.1.1.0.1.opens was at
     (λ c is late. record {
       positive = λ s found. finds_positive (bare all) h.more.1.1.1.1.1.0 o s found;
       too_long = λ p list none. begun_pages p (deals_of o all) (subst (λ (x : Command). GaveNow x o.outcome o.end o.begin (deals_of o all)) (is ∙ ap (λ z. command.Named z) list) (h.more.0.1.1.each k o at d was).gave none late);
     })
     (λ f is status refused. open_refused (book_of w all) (deeds_of all) deeds.rising deeds.each deeds.count walks.before k d o was at f is cause status refused)
+    (λ f is status refused. rewrite_refused (book_of w all) (deeds_of all) deeds.rising deeds.each deeds.count walks.before k d o was at f is cause status refused)
 
-promise_of : (input : List ℕ) (w : World) → AreLeased (moments input) → run input ≡ Ok w → Stands More (moments input) (moments input) w → IsKeptPromise input w
-promise_of input w leased ran h =
+promise_of : (input : List ℕ) (w : World) → AreLeased (moments input) → run input ≡ Ok w → (h : Stands More (moments input) (moments input) w) → AllAwaited (moments input) (moments input) w.opening w.core h.queues → IsKeptPromise input w
+promise_of input w leased ran h awaited =
     let all : List Moment = moments input in
     let stored : Stored all all w.opening w.core h.queues = h.more.0.0.1.0 in
     let versions : Versions all all w.opening w.core h.queues = h.more.0.0.1.1.0 in
@@ -147,6 +159,7 @@ promise_of input w leased ran h =
     let logs : Logs all all w.opening w.core h.queues = h.more.0.0.1.1.1.1 in
     let walks : Walks all all w.core = h.more.1.1.1.0 (runs_in_order input) (w.core.steps, steps_counted (kept_laws fit_laws) fit_laws input w ran) h.more.1.1.1.1.1.1.each in
     record {
+      chained = run_chained input w ran;
       faithful = record {
         opening = opening_said input w ran;
         lines = events_said input w ran;
@@ -168,6 +181,8 @@ promise_of input w leased ran h =
         owned = λ m there. is_for w.core.ops m (changes.1.0.each m there);
         files = λ k d o was at. (h.more.0.1.1.each k o at d was).filed;
         names = λ m there. names_change (book_of w all) m (h.more.1.0.named.each m there) changes.1.0.each;
+        entered = λ m there. journal_grows (book_of w all) m (awaited.entered.each m there) changes.1.0.each;
+        whose = λ k p o at alters point. changed_by all all w.opening w.core h.queues awaited k p o at alters point;
         calls = λ k d o at is. own_calls d.command o (deals_of o all) (h.more.0.1.1.each k o is d at).each (logs.1.1.each k o is).0;
         numbered = λ n. changes.1.1.each n;
         silent = stored.counted.silent;
@@ -190,8 +205,11 @@ promise_of input w leased ran h =
         told = λ m there. (h.more.1.0.saved.each m there).1;
         saved = λ k o at close known. saves_all all o close (stored.closes.each k o at) (stored.counted.counts k o at) (none_unknown all o (λ m there. (h.more.1.0.saved.each m there).1) known);
         asked = λ m there. (h.more.1.0.saved.each m there).2;
+        found = λ m there. (h.more.1.0.saved.each m there).3;
         leased = λ m k o there at. h.more.0.1.0.leased m there k o at;
-        used = λ m k o there at. h.more.0.1.0.each m there k o at;
+        used = λ m k o there at. follows_used m o (h.more.0.1.0.each m there k o at);
+        spares = λ m there. asks_version m;
+        anew = λ m k o there at. follows_anew m o (h.more.0.1.0.each m there k o at);
       };
       waiting = holds_values (book_of w all) w h.queues h.kept (have_stored (book_of w all) all all w.opening w.core h.queues h.kept stored (λ p o at. logs.1.1.each p o at));
       tree = holds_files (book_of w all) w h.queues refl h.kept;
@@ -215,4 +233,5 @@ pub promise_accepted : (input : List ℕ) (w : World) → accepted input ≡ Ok 
 promise_accepted input w e =
     let ran = ((accepted_exactly input w).0 e).0 in
     let unnoted = carried_run (λ all past opening k qs. AllUnnoted past k.seats) (kept_laws fit_laws) fit_laws (carried_unnoted fit_laws) input w ran in
-    promise_of input w (none_fresh (moments input) w.core.seats unnoted.more) ran (carried_run More (kept_laws fit_laws) fit_laws more_carried input w ran)
+    let h = carried_run Whole (kept_laws fit_laws) fit_laws whole_carried input w ran in
+    promise_of input w (none_fresh (moments input) w.core.seats unnoted.more) ran (record { queues = h.queues; kept = h.kept; carry = h.carry; rested = h.rested; more = h.more.0 }) h.more.1

@@ -85,10 +85,10 @@ closed_point book o r closed = by o.outcome r.cause closed
     by (told.Closed version len digest) h e = subst (λ (t : Option ℕ). IsSome t) (sym h.1.within.0) refl
     by u h e = absurd cc
 
-done_by : (book : Book) (o : Op) → IsRight book o → register.is_done o.outcome ≡ true → DoneBy o o.word
+done_by : (book : Book) (o : Op) → IsRight book o → register.is_done o.outcome ≡ true → DoneBy book o o.word
 done_by book o r done = by o.outcome r.cause done
   where
-    by : (u : Outcome) → Caused book o u → register.is_done u ≡ true → DoneBy o o.word
+    by : (u : Outcome) → Caused book o u → register.is_done u ≡ true → DoneBy book o o.word
     by told.Done h e = h
     by u h e = absurd cc
 
@@ -106,9 +106,9 @@ succeeds book o r so = by o.word refl so
   where
     by : (w : Word) → o.word ≡ w → register.success w o.file o.outcome ≡ true → IsSome o.point
     by words.Close w e = closed_point book o r e
-    by words.Make w e = subst (λ (z : Word). DoneBy o z) w (done_by book o r e)
-    by words.Remove w e = subst (λ (z : Word). DoneBy o z) w (done_by book o r e)
-    by words.Rename w e = subst (λ (z : Word). DoneBy o z) w (done_by book o r (both_first (register.is_done o.outcome) (nat_lt 0 o.file) e)) (both_second (register.is_done o.outcome) (nat_lt 0 o.file) e)
+    by words.Make w e = subst (λ (z : Word). DoneBy book o z) w (done_by book o r e)
+    by words.Remove w e = subst (λ (z : Word). DoneBy book o z) w (done_by book o r e)
+    by words.Rename w e = subst (λ (z : Word). DoneBy book o z) w (done_by book o r (both_first (register.is_done o.outcome) (nat_lt 0 o.file) e)) (both_second (register.is_done o.outcome) (nat_lt 0 o.file) e)
     by _ w e = absurd cc
 
 changes_once : (book : Book) (o : Op) → IsRight book o → IsFitted book o → ChangesOnce (history book) o
@@ -137,7 +137,7 @@ holds_files book w qs now kept = λ file. by file (the_files.file_at w.core.serv
     by file (Some g) h =
         let v : value_at book file (w.core.steps + 1) ≡ Some h.3.value = ap (λ n. value_at book file (n + 1)) (sym now) ∙ h.3.is in
         let u : version_at book file (w.core.steps + 1) ≡ g.version = ap (λ n. version_at book file (n + 1)) (sym now) ∙ h.4 in
-        subst (HoldsFile book w file (Some g)) (sym v) (or_map book _ _ (λ e. sym e) h.3.same, sym u)
+        subst (HoldsFile book w file (Some g)) (sym v) (sym h.3.size, or_map book _ _ (λ e. sym e) h.3.same, sym u)
 
 -- and what clients keep
 pub holds_contents : (book : Book) (w : World) (qs : List Queue) → IsKept book w.core qs → HoldsContents book w

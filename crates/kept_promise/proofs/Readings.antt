@@ -21,6 +21,7 @@ use Rattle.trace_replay.specs.Run.{refused, place_for, file_asks, directory_asks
 use Rattle.kept_promise.proofs.Common.{nat_le, nat_lt, lines_of, Part, line_of, Line, LineFault, Grammar, Refused, Turn, Core, Seat, numbered, World, start, line_most, sessions_most, asks_if, sized, joins_if, joins_within, event_asks, asks_at, asks, asked, asked_by, turned, ended, in_header, run_from, run, owners_of, accepted, KeepsClocks}
 use Rattle.kept_promise.proofs.Statements.{ClocksKeepTheRule}
 use Rattle.kept_promise.proofs.Owners.{stage_after, owners_after, MayTurn, turned_to}
+use Rattle.trace_replay.proofs.Warming.{warms_turn, warm_taken}
 use Rattle.kept_promise.proofs.RunsResults.{asking, turn_is, refused_line, no_world, ran_by}
 use Rattle.kept_promise.proofs.RunsAsked.{within}
 
@@ -134,6 +135,7 @@ event_on os s k (line.Pass n rounds at r) t here e = goes_if os _ s (line.Pass n
 event_on os s k (line.Forge u key file offset count) t here e = goes_if os _ s (line.Forge u key file offset count) (turn.Adjust (adjustment.Forge u key (record { file = file; offset = offset; count = count }))) t e (record { from = λ xs h. here xs h; owners = refl })
 event_on os s k (line.Clear u) t here e = goes_if os _ s (line.Clear u) (turn.Adjust (adjustment.Clear u)) t e (record { from = λ xs h. here xs h; owners = refl })
 event_on os s k (line.Evict c file) t here e = goes_if os _ s (line.Evict c file) (turn.Adjust (adjustment.Evict c file)) t e (record { from = λ xs h. here xs h; owners = refl })
+event_on os s k (line.Warm c content) t here e = goes os s (line.Warm c content) (warms_turn c content) t (warm_taken c content (numbered k.seats c) t e) (record { from = λ xs h. here xs h; owners = refl })
 event_on os s k l t here e = refused_line Grammar t e
 
 directory_on : (os : List ℕ) (spot : Spot) (o : Option ℕ) (t : Turn) → directory_asks o spot.name ≡ asking t → GoesOn os stage.Files (line.Dir spot) t

@@ -8,7 +8,12 @@ use Rattle.register_model.specs.declared.op.Outcome.TheVariants as told
 use Rattle.register_model.specs.declared.op.Word.TheVariants as words
 use Rattle.tree_reading.specs.declared.entry.EntryKind.{EntryKind}
 use Rattle.register_model.specs.Register.{succeeded, IsFit}
-use Rattle.trace_replay.specs.Causes.{HasNoRoom, IsGone, Within}
+use Rattle.xdr_codec.specs.Handle.{handle_bytes}
+use Rattle.hash_calls.specs.declared.message.Lb.TheVariants as lb
+use Rattle.wire.specs.declared.message.Body.TheVariants as body
+use Rattle.trace_replay.specs.Causes.{HasNoRoom, IsGone, IsDirectory, Within}
+use Rattle.trace_replay.specs.Naming.{IsInside}
+use Rattle.trace_replay.specs.OwnCalls.{TakesCall}
 use Rattle.trace_replay.specs.Faithful.{IsKind, HasJournal}
 use Rattle.std.proofs.Common.{List, Option}
 use Rattle.client_cache.specs.Cache.{content_of as kept_of, fresh_of}
@@ -52,6 +57,7 @@ close_not_open e = absurd cc
 -- it goes to the server
 abbrev pub is_remote : Word → Bool
 is_remote words.Open = true
+is_remote words.Rewrite = true
 is_remote words.Close = true
 is_remote words.Look = true
 is_remote words.List = true
@@ -61,6 +67,11 @@ is_remote words.Rmdir = true
 is_remote words.Remove = true
 is_remote words.Rename = true
 is_remote _ = false
+
+-- it may have a point: what goes to the server, but a rewrite
+abbrev pub may_point : Word → Bool
+may_point words.Rewrite = false
+may_point w = is_remote w
 
 -- it has no file before it has made its change
 abbrev pub gets_file : Word → Bool
@@ -96,9 +107,25 @@ pub record WasWalk (book : Book) (o : Op) : Type 0 where
   pub then_is : slice_get at.before.ops place ≡ Some then_op
   pub then_began : then_op.begin ≡ o.begin
 
+-- a rewrite was refused, by now
+abbrev pub RewriteRefused : Book → Op → (status : ℕ) → Type 0
+RewriteRefused book o status = ((status ≡ 21) × IsDirectory book o o.file) ⊎ ((status ≡ 70) × ((step : ℕ) × IsInside o o.begin step × (step ≤ book.steps) × (value_at book o.file step ≡ None)))
+
+-- the file of a rewrite that is done was there when the server took its GETLEASE, by now
+pub record Renewed (book : Book) (o : Op) : Type 0 where
+  pub step : ℕ
+  pub inside : IsInside o o.begin step
+  pub past : step ≤ book.steps
+  pub value : List ℕ
+  pub value_is : value_at book o.file step ≡ Some value
+  pub xid : ℕ
+  pub taken : TakesCall book o.client step xid (body.Lb (lb.GetLease (handle_bytes o.file)))
+  pub known : WasThere book o.file
+
 abbrev pub RefusedBy : Book → Op → Word → (status : ℕ) → Type 0
 -- one of a path may be refused before its file is known
 RefusedBy book o words.Open status = IsOpenRefused book o.file o status ⊎ ((o.file ≡ 0) × (status ≡ 70 → (p : ℕ) × Within o p) × WasWalk book o)
+RefusedBy book o words.Rewrite status = RewriteRefused book o status ⊎ ((o.file ≡ 0) × WasWalk book o)
 RefusedBy book o words.Look status = Unit {0}
 RefusedBy book o words.List status = Unit {0}
 RefusedBy book o words.Make status = Unit {0}
@@ -110,11 +137,12 @@ RefusedBy book o words.Close status = HasNoRoom book o status ⊎ ((h : IsGone b
 RefusedBy book o w status = ⊥
 
 -- what is done and changes a file has its point; a rename changes one where there was one at its new place
-abbrev pub DoneBy : Op → Word → Type 0
-DoneBy o words.Make = IsSome o.point
-DoneBy o words.Remove = IsSome o.point
-DoneBy o words.Rename = nat_lt 0 o.file ≡ true → IsSome o.point
-DoneBy o w = Unit {0}
+abbrev pub DoneBy : Book → Op → Word → Type 0
+DoneBy book o words.Make = IsSome o.point
+DoneBy book o words.Remove = IsSome o.point
+DoneBy book o words.Rename = nat_lt 0 o.file ≡ true → IsSome o.point
+DoneBy book o words.Rewrite = Renewed book o
+DoneBy book o w = Unit {0}
 
 -- The cause of an outcome, by the word alone; what a client answers by itself has none here.
 abbrev pub Caused : Book → Op → Outcome → Type 0
@@ -129,13 +157,13 @@ Caused book o told.PeerMemory = ⊥
 Caused book o told.Memory = ⊥
 Caused book o (told.Names names) = o.word ≡ words.List
 Caused book o (told.Seen file kind version len) = o.word ≡ words.Look
-Caused book o told.Done = DoneBy o o.word
+Caused book o told.Done = DoneBy book o o.word
 Caused book o _ = Unit {0}
 
 pub record IsRight (book : Book) (o : Op) : Type 0 where
   pub cause : Caused book o o.outcome
   pub begun : o.begin ≤ book.steps
-  pub pointed : (p : ℕ) → o.point ≡ Some p → (o.begin ≤ p) × (p ≤ book.steps) × (is_remote o.word ≡ true)
+  pub pointed : (p : ℕ) → o.point ≡ Some p → (o.begin ≤ p) × (p ≤ book.steps) × (may_point o.word ≡ true)
   pub past : (e : ℕ) → o.end ≡ Some e → (o.begin ≤ e) × (e ≤ book.steps)
   pub ends : is_some o.end ≡ not (is_running o.outcome)
   -- its point is not behind its end, unless it was lost

@@ -8,6 +8,7 @@ use Rattle.trace_replay.specs.declared.stage.Stage.{Stage}
 use Rattle.trace_replay.specs.declared.stage.Stage.TheVariants as stage
 use Rattle.trace_replay.specs.declared.turn.Turn.TheVariants as turn
 use Rattle.kept_promise.proofs.Common.{nat_lt, nat_le, Part, Line, LineFault, Grammar, Turn, Core, Seat, numbered, World, line_most, sessions_most, asks_if, sized, joins_if, joins_within, event_asks, asks_at, asks, asks_within, asked}
+use Rattle.trace_replay.proofs.Warming.{warms_turn, warm_taken}
 use Rattle.kept_promise.proofs.RunsResults.{asking, refused_line}
 
 -- what it asks for, if its path leads to this directory
@@ -30,6 +31,7 @@ turn_of dir (line.Pass n rounds at r) = turn.Pass n rounds at r
 turn_of dir (line.Forge w key file offset count) = turn.Adjust (adjustment.Forge w key (record { file = file; offset = offset; count = count }))
 turn_of dir (line.Clear w) = turn.Adjust (adjustment.Clear w)
 turn_of dir (line.Evict m file) = turn.Adjust (adjustment.Evict m file)
+turn_of dir (line.Warm m content) = warms_turn m content
 
 turn_is : (s t : Turn) → asking s ≡ asking t → t ≡ s
 turn_is s t e = cc
@@ -59,6 +61,7 @@ event_turn k (line.Pass n rounds at r) t e = goes_if _ (turn.Pass n rounds at r)
 event_turn k (line.Forge w key file offset count) t e = goes_if _ (turn.Adjust (adjustment.Forge w key (record { file = file; offset = offset; count = count }))) t e
 event_turn k (line.Clear w) t e = goes_if _ (turn.Adjust (adjustment.Clear w)) t e
 event_turn k (line.Evict m file) t e = goes_if _ (turn.Adjust (adjustment.Evict m file)) t e
+event_turn k (line.Warm m content) t e = turn_is (warms_turn m content) t (warm_taken m content (numbered k.seats m) t e)
 event_turn k l t e = refused_line Grammar t e
 
 sized_turn : (long much : Bool) (u t : Turn) → sized long much u ≡ asking t → t ≡ u

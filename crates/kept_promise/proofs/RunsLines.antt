@@ -1,14 +1,14 @@
 -- What a line that is taken asks for: it names what is there, within the limits, and its numbers are of 64 bits.
 use Rattle.std.proofs.Common.{◌≡◌, ℕ, ◌+◌, ◌^◌, ◌<◌, ◌≤◌, List, [], ◌∷◌, length, Option, Some, None, Bool, true, false, refl, sym, ap, ◌∙◌, subst, arith, Result, Ok, Err, drop, take}
 use Rattle.std.specs.Prelude.{codes}
-use Rattle.command_text.specs.Commands.{command_of, open_of, open_at, write_of, trunc_of, read_of, close_of, abandon_of, path_command_of}
+use Rattle.command_text.specs.Commands.{command_of, open_of, open_at, rewrite_of, rewrite_at, write_of, trunc_of, read_of, close_of, abandon_of, path_command_of}
 use Rattle.command_text.specs.Fields.{value_from, is_decimal, value_of, number_of, number_within, content_of, id_of}
 use Rattle.command_text.specs.Parts.{words_of}
 use Rattle.command_text.specs.Paths.{spot_of}
 use Rattle.command_text.specs.declared.command.Command.TheVariants as command
 use Rattle.command_text.specs.declared.path.Spot.{Spot}
 use Rattle.trace_text.specs.Fields.{reading_of, amount_of, who_of, key_of}
-use Rattle.trace_text.specs.Grammar.{version_of, term_of, drift_of, clients_of, dir_of, file_of, join_of, do_of, up_of, down_of, pass_of, settle_of, cut_of, hang_of, forge_of, clear_of, evict_of, event_from, line_from, said_by, is_skipped}
+use Rattle.trace_text.specs.Grammar.{version_of, term_of, drift_of, clients_of, dir_of, file_of, join_of, do_of, up_of, down_of, pass_of, settle_of, cut_of, hang_of, forge_of, clear_of, evict_of, warm_of, event_from, line_from, said_by, is_skipped}
 use Rattle.trace_text.specs.declared.line.Line.TheVariants as line
 use Rattle.trace_ends.specs.declared.adjusting.Adjustment.TheVariants as adjustment
 use Rattle.trace_replay.specs.declared.stage.Stage.{Stage}
@@ -17,7 +17,8 @@ use Rattle.trace_replay.specs.declared.turn.Turn.TheVariants as turn
 use Rattle.trace_replay.specs.Run.{file_most, tree_most, is_there, place_for, free_in, led_to, file_asks, directory_asks}
 use Rattle.kept_promise.proofs.Common.{nat_tests, nat_lt, nat_le, if◌then◌else◌, bytes_eq, content_length, Command, Part, line_of, Line, LineFault, Grammar, Turn, Seat, Session, numbered, World, line_most, sessions_most, asks_if, sized, joins_if, joins_within, event_asks, asks_at, asks, asks_within, asked, can_open}
 use Rattle.kept_promise.proofs.Parsed.{Gives, gives_some, gives_none, gives_if, gives_after, gives_then}
-use Rattle.kept_promise.proofs.PathNames.{IsNamed, IsPlain, IsSmall, find_named, path_command_named}
+use Rattle.kept_promise.proofs.PathNames.{IsNamed, IsPlain, IsSmall, find_named, renew_named, path_command_named}
+use Rattle.trace_replay.proofs.Warming.{warms_turn, warm_taken}
 use Rattle.kept_promise.proofs.RunsResults.{asking, turn_is, refused_line}
 use Rattle.kept_promise.proofs.Lists.{some_is, nothing_there}
 use Rattle.tree_reading.specs.Tree.{Tree}
@@ -52,6 +53,14 @@ open_small (place ∷ []) = by (id_of place) (id_small place)
     by None h = named_small (open_at place None) (find_named place)
 open_small _ = gives_none IsPlain
 
+rewrite_small : (words : List (List ℕ)) → Gives IsPlain (rewrite_of words)
+rewrite_small (place ∷ []) = by (id_of place) (id_small place)
+  where
+    by : (o : Option ℕ) → Gives (λ n. n < 18446744073709551616) o → Gives IsPlain (rewrite_at place o)
+    by (Some n) h = gives_some IsPlain (command.Rewrite n) (h n refl)
+    by None h = named_small (rewrite_at place None) (renew_named place)
+rewrite_small _ = gives_none IsPlain
+
 close_small : (words : List (List ℕ)) → Gives IsPlain (close_of words)
 close_small (place ∷ []) = gives_after (λ n. n < 18446744073709551616) IsPlain (id_of place) _ (id_small place) (λ n h. gives_some IsPlain (command.Close n) h)
 close_small _ = gives_none IsPlain
@@ -77,11 +86,12 @@ read_small _ = gives_none IsPlain
 command_small : (word : List ℕ) (words : List (List ℕ)) → Gives IsPlain (command_of word words)
 command_small word words =
     gives_if IsPlain (bytes_eq word (codes "open")) _ _ (open_small words)
+    (gives_if IsPlain (bytes_eq word (codes "rewrite")) _ _ (rewrite_small words)
     (gives_if IsPlain (bytes_eq word (codes "write")) _ _ (write_small words)
     (gives_if IsPlain (bytes_eq word (codes "trunc")) _ _ (trunc_small words)
     (gives_if IsPlain (bytes_eq word (codes "read")) _ _ (read_small words)
     (gives_if IsPlain (bytes_eq word (codes "close")) _ _ (close_small words)
-    (gives_if IsPlain (bytes_eq word (codes "abandon")) _ _ (abandon_small words) (named_small (path_command_of word words) (path_command_named word words)))))))
+    (gives_if IsPlain (bytes_eq word (codes "abandon")) _ _ (abandon_small words) (named_small (path_command_of word words) (path_command_named word words))))))))
 
 -- ---- a line that was read
 
@@ -160,6 +170,10 @@ evict_fits : (words : List (List ℕ)) → Gives LineFits (evict_of words)
 evict_fits (a ∷ b ∷ []) = gives_then LineFits (number_of a) _ (λ x. gives_then LineFits (number_of b) _ (λ y. gives_some LineFits (line.Evict x y) tt))
 evict_fits _ = gives_none LineFits
 
+warm_fits : (words : List (List ℕ)) → Gives LineFits (warm_of words)
+warm_fits (a ∷ b ∷ []) = gives_then LineFits (number_of a) _ (λ x. gives_then LineFits (content_of b) _ (λ y. gives_some LineFits (line.Warm x y) tt))
+warm_fits _ = gives_none LineFits
+
 event_fits : (kind : List ℕ) (words : List (List ℕ)) → Gives LineFits (event_from kind words)
 event_fits kind words =
     gives_if LineFits (bytes_eq kind (codes "join")) _ _ (join_fits words)
@@ -172,7 +186,8 @@ event_fits kind words =
     (gives_if LineFits (bytes_eq kind (codes "hang")) _ _ (hang_fits words)
     (gives_if LineFits (bytes_eq kind (codes "forge")) _ _ (forge_fits words)
     (gives_if LineFits (bytes_eq kind (codes "clear")) _ _ (clear_fits words)
-    (gives_if LineFits (bytes_eq kind (codes "evict")) _ _ (evict_fits words) (gives_none LineFits)))))))))))
+    (gives_if LineFits (bytes_eq kind (codes "evict")) _ _ (evict_fits words)
+    (gives_if LineFits (bytes_eq kind (codes "warm")) _ _ (warm_fits words) (gives_none LineFits))))))))))))
 
 words_fit : (kind : List ℕ) (words : List (List ℕ)) → Gives LineFits (line_from kind words)
 words_fit kind words =
@@ -261,6 +276,7 @@ event_on w (line.Pass n rounds at r) t fits e = goes_if w _ (turn.Pass n rounds 
 event_on w (line.Forge u key file offset count) t fits e = goes_if w _ (turn.Adjust (adjustment.Forge u key (record { file = file; offset = offset; count = count }))) t e tt
 event_on w (line.Clear u) t fits e = goes_if w _ (turn.Adjust (adjustment.Clear u)) t e tt
 event_on w (line.Evict c file) t fits e = goes_if w _ (turn.Adjust (adjustment.Evict c file)) t e tt
+event_on w (line.Warm c content) t fits e = goes w (warms_turn c content) t (warm_taken c content (numbered w.core.seats c) t e) tt
 event_on w l t fits e = refused_line Grammar t e
 
 free_place : (t : Tree) (name : List ℕ) (o : Option ℕ) (dir : ℕ) → free_in t name o ≡ Some dir → can_open t dir name ≡ true

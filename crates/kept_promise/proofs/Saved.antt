@@ -1,5 +1,5 @@
--- What is saved: what the server answers to CONDWRITEs, and what clients take of that; what an open asks first; and that an open gets what its client
--- keeps.
+-- What is saved: what the server answers to CONDWRITEs, and what clients take of that; what an open asks first, of an id and of a path; and that an open gets
+-- what its client keeps.
 use Rattle.std.proofs.Common.{◌⊎◌, inl, inr, ◌≡◌, ℕ, zero, suc, ◌+◌, List, [], ◌∷◌, ◌++◌, Option, Some, None, Result, Ok, Bool, true, false, refl, sym, ap, ◌∙◌, subst, arith, map, IsSome}
 use Rattle.hash_calls.specs.declared.call.CondPiece.{CondPiece}
 use Rattle.hash_calls.specs.declared.message.Lb.TheVariants as lb
@@ -9,7 +9,9 @@ use Rattle.xdr_codec.specs.declared.status.Status.TheVariants as status
 use Rattle.command_text.specs.declared.command.Command.TheVariants as command
 use Rattle.client_cache.specs.Cache.{content_of, reserved}
 use Rattle.client_state.specs.State as client
-use Rattle.trace_replay.specs.Saving.{name_call, name_told, name_answer, known_at, AnswersName, TakesName, SentBefore, TakesTold, ToldOf, AreTold, AllKnown, first_call, AsksFirst}
+use Rattle.trace_replay.specs.Saving.{name_call, name_told, name_answer, known_at, AnswersName, TakesName, SentBefore, TakesTold, ToldOf, AreTold, AllKnown, found_told, first_call, AsksFirst, AsksFound, AsksVersion}
+use Rattle.file_open.specs.Rewriting.{asks_anew as asks_if, rewrites_if, rewrites}
+use Rattle.file_open.specs.Opening.{lease_call}
 use Rattle.trace_replay.specs.Traffic.{unknown_in, unknown_number, deals_if}
 use Rattle.kept_promise.proofs.Common.{Contains, Contains-append_left, Contains-append_right, Contains-push, Contains-push_cases, not, Answer, Done, Failed, Status, Command, Body, Message, WireFault, parse_of, temp_at, cond_fault, at, got_if, stands, opens, opens_if, asks_file, asks_kept, may_ask, is_open, command_step, Content, Task, Op, Opening, Core, Seat, Session, Event, Event.Does, Event.Serves, Event.Hears, numbered, server_waiting, serves_if, serves, does, happens, Moment, step_of, client_of, owner_in, wanted_if, wanted_by, taken_by, given_by, is_in, Deal, Deal.Took, Deal.Found, Deal.Sent, deals_with, deals_in, deals_of, Book, Queue, Ask, Reply, Reply.Named, ask_message, told_message, reply_body}
 use Rattle.kept_promise.proofs.Lists.{nothing_there}
@@ -25,6 +27,7 @@ use Rattle.kept_promise.proofs.Statements.{CallFits}
 use Rattle.kept_promise.proofs.Serves.{parsed}
 use Rattle.kept_promise.proofs.SentDown.{WasSent, DownsSent, sent_after}
 use Rattle.kept_promise.proofs.SentUp.{WasCalled, UpsSent, called_after}
+use Rattle.kept_promise.proofs.FoundAsked.{found_asked}
 use Rattle.kept_promise.proofs.NameAnswers.{ComesTo, known_in, names_free, fault_apart, NameTaken, name_taken}
 
 -- ---- the server answers a CONDWRITE
@@ -198,11 +201,33 @@ first_asked k c now d client then file seat event here =
     command_is : (a b i j : ℕ) (p q : Command) → Does a i p ≡ Does b j q → p ≡ q
     command_is a b i j p q e = cc
 
+-- ---- a client is told to write a file anew
+
+asks_anew : (s : client.State) (file now : ℕ) → ((command_step s (command.Rewrite file) now).1.send ≡ []) ⊎ ((xid : ℕ) × ((command_step s (command.Rewrite file) now).1.send ≡ lease_call xid file ∷ []))
+asks_anew s file now = by s.task
+  where
+    asks : (b : Bool) → ((asks_if s file b).1.send ≡ []) ⊎ ((xid : ℕ) × ((asks_if s file b).1.send ≡ lease_call xid file ∷ []))
+    asks false = inl refl
+    asks true = inr (s.next_xid, refl)
+
+    shut : (b : Bool) → ((rewrites_if s file b).1.send ≡ []) ⊎ ((xid : ℕ) × ((rewrites_if s file b).1.send ≡ lease_call xid file ∷ []))
+    shut true = inl refl
+    shut false = asks (may_ask s)
+
+    by : (t : Option Task) → ((rewrites s file t).1.send ≡ []) ⊎ ((xid : ℕ) × ((rewrites s file t).1.send ≡ lease_call xid file ∷ []))
+    by (Some t) = inl refl
+    by None = shut (is_open s.opened file)
+
+pub asks_version : (m : Moment) → AsksVersion m
+asks_version m client now file seat event here =
+    let up : (happens m.before m.event).up ≡ (command_step seat.client (command.Rewrite file) now).1.send = ap (λ (e : Event). (happens m.before e).up) event ∙ ap (λ (o : Option Seat). (does m.before client now (command.Rewrite file) o).up) here in
+    elim (asks_anew seat.client file now) [ inl none ↦ inl (up ∙ none) | inr asks ↦ inr (asks.0, up ∙ asks.1) ]
+
 -- ---- a moment
 
 -- what is so of each
 abbrev Saves : List Moment → Moment → Type 0
-Saves all m = AnswersName m × AreTold all m × AsksFirst m × AreSent all m
+Saves all m = AnswersName m × AreTold all m × AsksFirst m × AsksFound m × AreSent all m
 
 not_heard : (all : List Moment) (k : Core) (e : Event) → ((n i : ℕ) (b : List ℕ) → e ≡ Hears n i b → ⊥) → AreTold all (moment k e)
 not_heard all k e other session xid r (i, b, is, there) = absurd (other session i b is)
@@ -210,8 +235,12 @@ not_heard all k e other session xid r (i, b, is, there) = absurd (other session 
 not_done : (k : Core) (e : Event) → ((c i : ℕ) (d : Command) → e ≡ Does c i d → ⊥) → AsksFirst (moment k e)
 not_done k e other client now file seat event here = absurd (other client now (command.Open file) event)
 
+-- nothing is taken then
+not_found : (k : Core) (e : Event) → taken_by k (client_of k e) e ≡ [] → AsksFound (moment k e)
+not_found k e none xid f seat here there = (let lt = (subst (λ (ms : List Message). Contains ms (found_told xid f)) none there).1 in absurd (omega (arith, lt)))
+
 saves : FitLaws → (all past rest : List Moment) (opening : List Opening) (k : Core) (qs : List Queue) (e : Event) (mid after : List Queue) → Step all past rest opening k qs e mid after → DownsSent past k.steps qs → UpsSent past k.steps qs → ((m : Moment) → Contains past m → AreSent all m) → Saves all (moment k e)
-saves fits all past rest opening k qs e mid after s sent ups before = (answers_name all opening k qs mid e s.kept s.finds, told e s, asked e, called e s)
+saves fits all past rest opening k qs e mid after s sent ups before = (answers_name all opening k qs mid e s.kept s.finds, told e s, asked e, found e s, called e s)
   where
     told : (e : Event) → Step all past rest opening k qs e mid after → AreTold all (moment k e)
     told (Hears n now bytes) s = are_told fits all past (moment k (Hears n now bytes) ∷ rest) opening k qs mid n now bytes s.split s.kept (heard_at (book_at opening k all) k qs n now bytes mid s.kept s.finds) sent before
@@ -220,6 +249,10 @@ saves fits all past rest opening k qs e mid after s sent ups before = (answers_n
     asked : (e : Event) → AsksFirst (moment k e)
     asked (Does c now d) = first_asked k c now d
     asked e = not_done k e (λ i j x is. absurd cc)
+
+    found : (e : Event) → Step all past rest opening k qs e mid after → AsksFound (moment k e)
+    found (Hears n now bytes) s = found_asked fits (book_at opening k all) k qs n now bytes mid s.kept (heard_at (book_at opening k all) k qs n now bytes mid s.kept s.finds)
+    found e s = not_found k e refl
 
     called : (e : Event) → Step all past rest opening k qs e mid after → AreSent all (moment k e)
     called (Serves n now bytes) s = was_sent fits all past (moment k (Serves n now bytes) ∷ rest) opening k qs mid n now bytes s.split s.kept s.finds ups
@@ -240,7 +273,7 @@ carried_saved fits = record {
     called = subst (UpsSent (past ++ moment k e ∷ []) (happens k e).core.steps) (sym s.after_is) (called_after past k qs mid e s.sends s.finds (ops_after_event fits all past rest opening k qs e mid after s).1 h.called);
     each = λ m there. elim (Contains-push_cases past (moment k e) m there) [
       | inl old ↦ h.each m old
-      | inr new ↦ subst (Saves all) new (saves fits all past rest opening k qs e mid after s h.sent h.called (λ z old. (h.each z old).3))
+      | inr new ↦ subst (Saves all) new (saves fits all past rest opening k qs e mid after s h.sent h.called (λ z old. (h.each z old).4))
     ];
   };
   adjusts = λ all past opening k qs index seats same h. record { sent = h.sent; called = h.called; each = h.each };

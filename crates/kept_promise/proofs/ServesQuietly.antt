@@ -22,11 +22,11 @@ use Rattle.kept_promise.proofs.Lists.{some_is, nothing_there, true_and_false}
 use Rattle.kept_promise.proofs.Fits.{FitLaws}
 use Rattle.kept_promise.proofs.Messages.{job, goal_word, AllAsks, IsCommit, IsCreating}
 use Rattle.kept_promise.proofs.Rights.{IsUnmade}
-use Rattle.kept_promise.proofs.Facts.{IsSession, IsKept}
+use Rattle.kept_promise.proofs.Facts.{IsSession, IsKept, change_number}
 use Rattle.kept_promise.proofs.Statements.{CallFits}
 use Rattle.kept_promise.proofs.RunsCarried.{Finds}
 use Rattle.kept_promise.proofs.CallsKeep.{got_keeps, is_of_files, makes_call, walk_made}
-use Rattle.kept_promise.proofs.PathNames.{IsWalkSmall, builds_at, creates_at, is_making, is_building, is_going, is_creating, making_is}
+use Rattle.kept_promise.proofs.PathNames.{IsWalkSmall, builds_at, creates_at, is_making, is_building, is_going, is_creating, making_is, going_creates}
 use Rattle.kept_promise.proofs.Makings.{made_by, MadeSo, refuses, enters, made_walk, EntryAt}
 use Rattle.kept_promise.proofs.MakingServes.{name_goal, make_goal, entry_name}
 use Rattle.kept_promise.proofs.ServesFiles.{count_is, quiet_got, got_quiet, got_making, making_got, pointed_none}
@@ -178,3 +178,53 @@ serves_quiet laws book k qs n now bytes mid kept f = by (numbered k.sessions n) 
     by : (x : Option Session) → numbered k.sessions n ≡ x → IsQuiet k (serves k n now bytes x)
     by None at = record { ops = inl refl; seats = refl; passes = omega arith; up = refl; entered = none_entered k (serves k n now bytes None) refl refl }
     by (Some x) at = subst (λ (r : Result Message WireFault). IsQuiet k (serves_if k n now x r)) (sym (serves_read laws book k qs n now bytes mid kept f)) (any x at (makes_call f.1.call) refl)
+
+-- ---- a call that may change no file
+
+making_still : (k : Core) (n now : ℕ) (x : Session) (xid : ℕ) (w : Walk) → is_building w ≡ true → is_creating w ≡ false → (making_got k n now x xid (made_by k.server.tree (server.held k.server.waiting) w.dir w.goal)).core.ops ≡ k.ops
+making_still k n now x xid w making none = by (made_walk k.server.tree (server.held k.server.waiting) w making)
+  where
+    by : MadeSo k.server.tree (server.held k.server.waiting) w → (making_got k n now x xid (made_by k.server.tree (server.held k.server.waiting) w.dir w.goal)).core.ops ≡ k.ops
+    by (refuses s r is err turned leads procs) = subst (λ (p : Tree × Finished). (making_got k n now x xid p).core.ops ≡ k.ops) (sym is) (pointed_none k.ops x.closing (k.steps + 1))
+    by (enters done e r after is step first_is second_is entry_is after_is leads procs) = subst (λ (p : Tree × Finished). (making_got k n now x xid p).core.ops ≡ k.ops) (sym is)
+        (ap (λ (b : Bool). pointed_at k.ops x.closing (k.steps + 1) (option_map (λ (d : Entry). d.file) (cond b (Some (written_by n e)) None))) (ap is_of_file (entry_name k.server.tree w.goal e (name_goal w.left w.goal making none) entry_is)) ∙ pointed_none k.ops x.closing (k.steps + 1))
+
+-- no operation gets a point by it
+pub serves_still : FitLaws → (book : Book) (k : Core) (qs : List Queue) (n now : ℕ) (bytes : List ℕ) (mid : List Queue) → IsKept book k qs → (f : Finds k qs (Serves n now bytes) mid) → change_number f.1.call ≡ 0 → (happens k (Serves n now bytes)).core.ops ≡ k.ops
+serves_still laws book k qs n now bytes mid kept f zero_ = by (numbered k.sessions n) refl
+  where
+    fits : CallFits f.1.xid f.1.call
+    fits = serves_fits book k qs n now bytes mid kept f
+
+    no_ups : {a : Ask} {us : List Ask} → ◌≡◌ {A = List Ask} [] (a ∷ us) → ⊥
+    no_ups e = absurd cc
+
+    unhung : (x : Session) (b : Bool) → x.hung ≡ b → (h : IsSession book k.seats k.server n x f.0) → x.hung ≡ false
+    unhung x false e h = e
+    unhung x true e h = absurd (no_ups (sym (h.lost e) ∙ f.4))
+
+    creates_none : (w : Walk) → f.1.call ≡ Walks w → (b : Bool) → is_creating w ≡ b → b ≡ false
+    creates_none w is false e = refl
+    creates_none w is true e = (let none : 1 ≡ 0 = sym (ap (λ (b : Bool). cond b 1 0) e) ∙ ap change_number (sym is) ∙ zero_ in absurd (omega (arith, none)))
+
+    building : (x : Session) → numbered k.sessions n ≡ Some x → (w : Walk) → is_building w ≡ true → f.1.call ≡ Walks w → (serves_if k n now x (Ok (ask_message (record { xid = f.1.xid; call = Walks w })))).core.ops ≡ k.ops
+    building x at w makes is =
+        let h = kept.sessions n x f.0 at f.3 in
+        let fit = subst (CallFits f.1.xid) is fits in
+        ap (λ (t : CoreStep). t.core.ops) (got_making k n now x f.1.xid w fit.1 makes (h.stands_is ∙ ap not (unhung x x.hung refl h))) ∙ making_still k n now x f.1.xid w makes (creates_none w is (is_creating w) refl)
+
+    making : (x : Session) → numbered k.sessions n ≡ Some x → (w : Walk) → is_making w ≡ true → f.1.call ≡ Walks w → (serves_if k n now x (Ok (ask_message (record { xid = f.1.xid; call = Walks w })))).core.ops ≡ k.ops
+    making x at w makes is = elim (making_is w.left w.goal makes) [
+      | inl builds ↦ building x at w builds is
+      | inr goes ↦ absurd (true_and_false (is_creating w) (going_creates w.left w.goal goes) (creates_none w is (is_creating w) refl))
+    ]
+
+    any : (x : Session) → numbered k.sessions n ≡ Some x → (b : Bool) → makes_call f.1.call ≡ b → (serves_if k n now x (Ok (ask_message f.1))).core.ops ≡ k.ops
+    any x at false none = ap (λ (t : CoreStep). t.core.ops) (got_quiet k n now x (ask_message f.1) (is_of_files f.1 fits none))
+    any x at true some =
+        let w = walk_made f.1.call some in
+        subst (λ (c : Call). (serves_if k n now x (Ok (ask_message (record { xid = f.1.xid; call = c })))).core.ops ≡ k.ops) (sym w.1) (making x at w.0 w.2 w.1)
+
+    by : (x : Option Session) → numbered k.sessions n ≡ x → (serves k n now bytes x).core.ops ≡ k.ops
+    by None at = refl
+    by (Some x) at = ap (λ (r : Result Message WireFault). (serves_if k n now x r).core.ops) (serves_read laws book k qs n now bytes mid kept f) ∙ any x at (makes_call f.1.call) refl

@@ -19,7 +19,7 @@ use Rattle.trace_replay.specs.Faithful.{IsKind, left_by as left_of}
 use Rattle.kept_promise.proofs.Common.{slice_get, slice_set, cond, ◌==◌, sha1, Done, Failed, at, Change, File, Entry, Fetch, Stage, Op, Core, Seat, Session, numbered, with_numbered, settled_ops, settled_by, pointed, pointed_at, unless, Book, Or, value_at, Reply, Reply.Versioned, Reply.Hashed, Reply.Bytes, Reply.Made, Reply.Named, Reply.Stored, Reply.Changed, Told, Queue, reply_program, Tree, Reply.Walked, Word, Value, value_from, unwrap_or, changes, Wanted, Event.Settles, happens}
 use Rattle.kept_promise.proofs.Lists.{some_is, nothing_there, same_or_not, at_end, at_replaced, of_replaced}
 use Rattle.kept_promise.proofs.Keys.{times, times_append, times_head, own, key, change_key, ask_key, told_key, wanted_program}
-use Rattle.kept_promise.proofs.Messages.{Job, job, hash_offset, CommitTold, AllTolds, IsAnswer, AnswerOf, IsPending, CloseOf, content_wanted, WaitsFor, AsksFor, walk_for}
+use Rattle.kept_promise.proofs.Messages.{Job, job, hash_offset, CommitTold, AllTolds, IsAnswer, AnswerOf, IsPending, CloseOf, content_wanted, WaitsFor, AsksFor, walk_for, lease_xid}
 use Rattle.kept_promise.proofs.Rights.{IsSound, IsUnmade, IsMade, WasThere}
 use Rattle.kept_promise.proofs.Growth.{Grows, or_map, made_later, or_later, there_later}
 use Rattle.kept_promise.proofs.History.{made_op, IsEntryOf, grows_made, goes_made, value_now, version_now, made_book}
@@ -95,8 +95,8 @@ not_reading x f e = absurd cc
 not_walking : (x y : ℕ) (w : Walk) → stage.Committing x ≡ stage.Walking y w → ⊥
 not_walking x y w e = absurd cc
 
-not_asking : (x y : ℕ) → stage.Committing x ≡ stage.Asking y → ⊥
-not_asking x y e = absurd cc
+not_asking : (x y : ℕ) → lease_xid (stage.Committing x) ≡ Some y → ⊥
+not_asking x y e = nothing_there y e
 
 same_xid : (x y : ℕ) → stage.Committing x ≡ stage.Committing y → x ≡ y
 same_xid x y e = cc
@@ -124,7 +124,7 @@ settled_answers book e j o c waits cs x q seat what g out committing t = all_but
 
     -- an answer to anything else is not waited for, or tells of the past
     old_reply : (y : ℕ) (r : Reply) → (key y (reply_program r) ≡ change_key c → ⊥) → AnswerOf book x.taken x.closing (job seat) y r → AnswerOf (made_book book (e ∷ []) j c.file o) x.taken x.closing (job seat) y r
-    old_reply y (Versioned a) apart h = λ i f s. let same : here ≡ i = some_is here i (sym committing ∙ f) in absurd (not_asking c.xid y (ap (λ (z : Job). z.stage) same ∙ s))
+    old_reply y (Versioned a) apart h = λ i f s. let same : here ≡ i = some_is here i (sym committing ∙ f) in absurd (not_asking c.xid y (ap (λ (z : Job). lease_xid z.stage) same ∙ s))
     old_reply y (Hashed a) apart h = λ i k f s. let same : here ≡ i = some_is here i (sym committing ∙ f) in nothing_there k (ap (λ (w : Job). hash_offset w.stage y) same ∙ s)
     old_reply y (Bytes a) apart h = λ i k m f s w. let same : here ≡ i = some_is here i (sym committing ∙ f) in absurd (not_reading c.xid k (ap (λ (z : Job). z.stage) same ∙ s))
     old_reply y (Changed (Done d)) apart h = λ i f s. made_later book (made_book book (e ∷ []) j c.file o) (Some j) None i.place d.version g (h i f s)

@@ -82,6 +82,8 @@ good_took Q R s fresh calls file (stage.Walking y w) x b q = walk_cases (Good Q 
   open_already = λ id k is. (tt, tt);
   fetches = λ id k shut none. (fresh, tt);
   leases = λ id c k shut some. (fresh, tt);
+  renew_already = λ id k is. (tt, tt);
+  renews = λ id k shut. (tt, tt);
   ends = λ w e k is. (tt, by e);
 })
   where
@@ -123,6 +125,7 @@ good_command Q R s fresh d now q = command_cases (Good Q R) s d now (record {
   answers = λ free opened o plain. (q, by o plain);
   fetches = λ file is free may. (fresh, tt);
   asks = λ file c is free may at. (fresh, tt);
+  renews = λ file is free may. (tt, tt);
   walks = λ c is free may. (tt, tt);
   closes = λ file l is free may at. (tt, tt);
 })
@@ -137,6 +140,7 @@ busy_command s d now t e = command_cases (λ r. (r.1.send ≡ []) × (r.0 ≡ s)
   busy = λ u is. (refl, refl);
   answers = λ free opened o plain. nothing_there t (sym free ∙ e);
   fetches = λ file is free may. nothing_there t (sym free ∙ e);
+  renews = λ file is free may. nothing_there t (sym free ∙ e);
   asks = λ file c is free may at. nothing_there t (sym free ∙ e);
   walks = λ c is free may. nothing_there t (sym free ∙ e);
   closes = λ file l is free may at. nothing_there t (sym free ∙ e);

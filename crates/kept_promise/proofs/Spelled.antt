@@ -66,6 +66,7 @@ walk_fits : (xid dir : ℕ) (left : List (List ℕ)) (g : Goal) → xid < 2 ^ 32
 unfolding list_range_form u64_form u32_form
 walk_fits xid dir (n ∷ ns) g x names aim asks = place_fits xid dir n x names.0.0.1
 walk_fits xid dir [] (goal.Find name) x names aim asks = place_fits xid dir name x aim.1
+walk_fits xid dir [] (goal.Rewrite name) x names aim asks = place_fits xid dir name x aim.1
 walk_fits xid dir [] (goal.Look name) x names aim asks = place_fits xid dir name x aim.1
 walk_fits xid dir [] goal.LookRoot x names aim asks = small_fits (message.Call xid (body.Nfs (nfs.GetAttr (handle_bytes dir)))) (x, (refl, (omega (arith, handle_len dir), omega (arith, handle_len dir)))) tt
 walk_fits xid dir [] (goal.List p) x names aim asks = small_fits (message.Call xid (body.Nfs (page_call dir p))) (x, (refl, ((omega (arith, handle_len dir), omega (arith, handle_len dir)), (asks.0, (asks.1, lit< tt))))) tt

@@ -14,7 +14,7 @@ use Rattle.path_calls.specs.declared.answers.Ended.{Ended as WalkEnd}
 use Rattle.path_calls.specs.declared.answers.Told.{Told as WalkTold}
 use Rattle.path_calls.specs.declared.answers.Told.TheVariants as walk_told_as
 use Rattle.path_calls.specs.declared.walk.Walk.{Walk}
-use Rattle.open_close.specs.Walking.{asks_next, walks_if, walks, finding, finds_if, outcome_of, is_look, seen_in, walked, is_its, told_walk}
+use Rattle.open_close.specs.Walking.{asks_next, walks_if, walks, finding, finds_if, renews_if, outcome_of, is_look, seen_in, walked, is_its, told_walk}
 use Rattle.client_state.specs.Ending.{may_walk, cut_off, refusal_code}
 use Rattle.wire.specs.declared.message.Body.TheVariants as body
 use Rattle.wire.specs.declared.message.Message.TheVariants as message
@@ -30,6 +30,7 @@ use Rattle.file_open.specs.Opening.{reads_chunk, looked_up}
 use Rattle.file_open.specs.Shape.{or_else, pairs_most}
 use Rattle.transfer_rules.specs.Limits.{file_limit}
 use Rattle.file_open.specs.Fetching.{changes, asks_kept, asks_file, uses_kept, told_lease}
+use Rattle.file_open.specs.Rewriting.{asks_version, asks_anew, rewrites_if, rewrites, opened_empty}
 use Rattle.file_close.specs.Storing.{closed}
 use Rattle.client_state.specs.State.{with_local, without_local}
 use Rattle.client_state.specs.declared.step.BadPeer.TheVariants as bad
@@ -340,7 +341,7 @@ leased Z s calls file y x l cases = by (content_in l.version (content_of s.cache
     by (Some bytes) e = cases.uses y l bytes refl refl e
     by None e = cases.fetches y l refl refl
 
--- a stage of an open or a close of a file that is known
+-- a stage of an open, a rewrite or a close of a file that is known
 abbrev pub IsOfFile : Stage → Type 0
 IsOfFile (stage.Walking y w) = ⊥
 IsOfFile st = Unit {0}
@@ -350,6 +351,13 @@ pub took_cases : (Z : List (ℕ × ℕ) → State × ClientStep → Type 0) (s :
 took_cases Z s calls file (stage.Walking y w) x b known cases = absurd known
 took_cases Z s calls file (stage.Asking y) x (body.Lb (lb.GetLeaseAnswer (Done l))) known cases = leased Z s calls file y x l cases
 took_cases Z s calls file (stage.Asking y) x (body.Lb (lb.GetLeaseAnswer (Failed t u))) known cases = plain Z s calls file (stage.Asking y) x (body.Lb (lb.GetLeaseAnswer (Failed t u))) cases t (λ z. z) refl
+took_cases Z s calls file (stage.Rewriting y) x (body.Lb (lb.GetLeaseAnswer (Done l))) known cases =
+    let r = opened_empty s calls file x l.version in
+    cases.ends r (record { sent = refl; bytes = 0; counts = refl; task = refl; ended = _; ended_is = refl; unopened = λ z. z; known = inr ((λ z. z), refl) }) (not_changed r _ refl done_not) (inr refl)
+  where
+    done_not : (first last : ℕ) → outcome.Done ≡ outcome.Changed first last → ⊥
+    done_not first last z = absurd cc
+took_cases Z s calls file (stage.Rewriting y) x (body.Lb (lb.GetLeaseAnswer (Failed t u))) known cases = plain Z s calls file (stage.Rewriting y) x (body.Lb (lb.GetLeaseAnswer (Failed t u))) cases t (λ z. z) refl
 took_cases Z s calls file (stage.Hashing tries y) x (body.Lb (lb.GetHashAnswer (Done h))) known cases = hashed Z s calls file (stage.Hashing tries y) x h cases refl (fetch_of tries x h) (inl (tries, y, refl, refl))
 took_cases Z s calls file (stage.Hashing tries y) x (body.Lb (lb.GetHashAnswer (Failed t u))) known cases = plain Z s calls file (stage.Hashing tries y) x (body.Lb (lb.GetHashAnswer (Failed t u))) cases t (λ z. z) refl
 took_cases Z s calls file (stage.Listing y f) x (body.Lb (lb.GetHashAnswer (Done h))) known cases = hashed Z s calls file (stage.Listing y f) x h cases refl f (inr (y, refl))
@@ -381,6 +389,18 @@ now_open st x b f bytes (one_came g c k p is at found chunk fits f_is len) = ap 
 pub in_close : (st : Stage) (x : ℕ) (content : List ℕ) (w : Store) → StoreIn st x content w → stage_word st ≡ words.Close
 in_close st x content w (inl (y, temp, is, e)) = ap stage_word is
 in_close st x content w (inr (old, is, e)) = ap stage_word is
+
+pub renew_and_close : (w : Word) → w ≡ words.Rewrite → w ≡ words.Close → ⊥
+renew_and_close w a b = apart (sym a ∙ b)
+  where
+    apart : words.Rewrite ≡ words.Close → ⊥
+    apart e = cc
+
+pub renew_and_open : (w : Word) → w ≡ words.Rewrite → w ≡ words.Open → ⊥
+renew_and_open w a b = apart (sym a ∙ b)
+  where
+    apart : words.Rewrite ≡ words.Open → ⊥
+    apart e = cc
 
 pub open_and_close : (w : Word) → w ≡ words.Open → w ≡ words.Close → ⊥
 open_and_close w a b = apart (sym a ∙ b)
@@ -423,6 +443,9 @@ pub record WalkCases (Z : State × ClientStep → Type 0) (s : State) (calls : L
   pub open_already : (id : ℕ) → Walks st b (walk_told_as.Finds id) → is_open s.opened id ≡ true → Z (finding id (forgets s calls x, ends outcome.AlreadyOpen 0 0))
   pub fetches : (id : ℕ) → Walks st b (walk_told_as.Finds id) → is_open s.opened id ≡ false → content_of s.cache id ≡ None → Z (finding id (asks_kept (fronts s id) id None))
   pub leases : (id : ℕ) (c : Content) → Walks st b (walk_told_as.Finds id) → is_open s.opened id ≡ false → content_of s.cache id ≡ Some c → Z (finding id (asks_kept (fronts s id) id (Some c)))
+  -- so does a rewrite
+  pub renew_already : (id : ℕ) → Walks st b (walk_told_as.Rewrites id) → is_open s.opened id ≡ true → Z (finding id (forgets s calls x, ends outcome.AlreadyOpen 0 0))
+  pub renews : (id : ℕ) → Walks st b (walk_told_as.Rewrites id) → is_open s.opened id ≡ false → Z (finding id (asks_version (fronts s id) id))
   -- it was the last call
   pub ends : (w : Walk) (e : WalkEnd) (k : Walks st b (walk_told_as.Ends e)) → k.walk ≡ w → Z (forgets s calls x, record (ends (outcome_of e) x 0) { found = seen_in (is_look w.goal) e })
 
@@ -453,9 +476,14 @@ walk_cases Z s calls file y w x (body.Nfs a) h = own (is_its w a) refl
     finds id is own true e = h.open_already id (record { asked = y; walk = w; answer = a; stage_is = refl; body_is = refl; its = own; told_is = is }) e
     finds id is own false e = kept id is own e (content_of s.cache id) refl
 
+    anew : (id : ℕ) → walk_told w a ≡ walk_told_as.Rewrites id → is_its w a ≡ true → (o : Bool) → is_open s.opened id ≡ o → Z (renews_if s calls x id o)
+    anew id is own true e = h.renew_already id (record { asked = y; walk = w; answer = a; stage_is = refl; body_is = refl; its = own; told_is = is }) e
+    anew id is own false e = h.renews id (record { asked = y; walk = w; answer = a; stage_is = refl; body_is = refl; its = own; told_is = is }) e
+
     by : is_its w a ≡ true → (t : WalkTold) → walk_told w a ≡ t → Z (walked s calls x (is_look w.goal) t)
     by own (walk_told_as.Asks v) is = h.asks v (record { asked = y; walk = w; answer = a; stage_is = refl; body_is = refl; its = own; told_is = is })
     by own (walk_told_as.Finds id) is = finds id is own (is_open s.opened id) refl
+    by own (walk_told_as.Rewrites id) is = anew id is own (is_open s.opened id) refl
     by own (walk_told_as.Ends e) is = h.ends w e (record { asked = y; walk = w; answer = a; stage_is = refl; body_is = refl; its = own; told_is = is }) refl
     by own (walk_told_as.Shape got wanted) is = h.fault (bad.Shape got wanted) (λ z v m at is_body mine. subst IsBad (sym (sym (same z v m at is_body) ∙ is)) tt)
     by own walk_told_as.Other is = h.fault (bad.UnknownXid x) (λ z v m at is_body mine. subst IsBad (sym (sym (same z v m at is_body) ∙ is)) tt)
@@ -477,21 +505,23 @@ goes_none w r e is u running at = nothing_there e (sym running ∙ is)
 
 pub record OfCloses (Z : List (ℕ × ℕ) → State × ClientStep → Type 0) (s : State) (file : ℕ) (st : Stage) (x : ℕ) (b : Body) : Type 0 where
   pub opens : stage_word st ≡ words.Open → (found : List (ℕ × ℕ)) (r : State × ClientStep) → GoesOn words.Open r → Z found r
+  pub renews : stage_word st ≡ words.Rewrite → (r : State × ClientStep) → JustEnds x b r → IsFault r.1.ended ⊎ (bytes_came x b ≡ 0) → Z [] r
   pub ends : stage_word st ≡ words.Close → (r : State × ClientStep) → JustEnds x b r → IsFault r.1.ended ⊎ (bytes_came x b ≡ 0) → Z [] r
   pub names : (w : Store) → StoreIn st x (local_bytes s.opened file) w → (IsUnknown b → ⊥) → bytes_came x b ≡ 0 → is_stored (names_all w s.next_xid).store ≡ false → Z [] (goes_if s file (local_bytes s.opened file) (names_all w s.next_xid) false)
   pub commits : (w : Store) → StoreIn st x (local_bytes s.opened file) w → (IsUnknown b → ⊥) → bytes_came x b ≡ 0 → is_stored (names_all w s.next_xid).store ≡ true → Z [] (goes_if s file (local_bytes s.opened file) (names_all w s.next_xid) true)
   pub whole : (old : Store) (c : StoreCall) (k : Chunk) → st ≡ stage.Storing old → IsUnknown b → bytes_came x b ≡ 0 → store_at old.under x ≡ Some c → c.way ≡ way.Named → slice_get old.chunks c.index ≡ Some k → Z [] (sends_whole s file x (local_bytes s.opened file) (answered old x) c (Some k))
 
-pub either_word : (st : Stage) → IsOfFile st → (stage_word st ≡ words.Open) ⊎ (stage_word st ≡ words.Close)
-either_word (stage.Making x temp) known = inr refl
-either_word (stage.Storing w) known = inr refl
-either_word (stage.Committing x) known = inr refl
+pub either_word : (st : Stage) → IsOfFile st → (stage_word st ≡ words.Open) ⊎ ((stage_word st ≡ words.Close) ⊎ (stage_word st ≡ words.Rewrite))
+either_word (stage.Making x temp) known = inr (inl refl)
+either_word (stage.Storing w) known = inr (inl refl)
+either_word (stage.Committing x) known = inr (inl refl)
+either_word (stage.Rewriting x) known = inr (inr refl)
 either_word (stage.Walking y w) known = absurd known
 either_word _ known = inl refl
 
 pub of_closes : (Z : List (ℕ × ℕ) → State × ClientStep → Type 0) (s : State) (calls : List Pending) (file : ℕ) (st : Stage) (x : ℕ) (b : Body) → IsOfFile st → OfCloses Z s file st x b → Cases Z s calls file st x b
 of_closes Z s calls file st x b known h = record {
-  ends = λ r e unchanged came. elim (either_word st known) [ inl open_ ↦ h.opens open_ [] r (goes_none words.Open r e.ended e.ended_is) | inr close ↦ h.ends close r e came ];
+  ends = λ r e unchanged came. elim (either_word st known) [ inl open_ ↦ h.opens open_ [] r (goes_none words.Open r e.ended e.ended_is) | inr (inl close) ↦ h.ends close r e came | inr (inr renew) ↦ h.renews renew r e came ];
   changed = λ r f version e open_ gave last is. h.opens open_ [] r (goes_none words.Open r e.ended e.ended_is);
   uses = λ y l bytes at is kept. h.opens (ap stage_word at) [] (uses_kept s calls file x l.version (Some bytes)) (goes_none words.Open (uses_kept s calls file x l.version (Some bytes)) _ refl);
   fetches = λ y l at is. h.opens (ap stage_word at) [] (tries_anew (forgets s calls x) file 1 0) (goes_with words.Open (tries_anew (forgets s calls x) file 1 0) _ refl refl);
@@ -507,6 +537,8 @@ of_closes Z s calls file st x b known h = record {
 pub record OfOpens (Z : List (ℕ × ℕ) → State × ClientStep → Type 0) (s : State) (calls : List Pending) (file : ℕ) (st : Stage) (x : ℕ) (b : Body) : Type 0 where
   -- a close goes on, or ends
   pub closes : stage_word st ≡ words.Close → (r : State × ClientStep) → GoesOn words.Close r → ((e : Ended) → r.1.ended ≡ Some e → IsOpenedBy e.outcome → ⊥) → ((first last : ℕ) → IsChangedBy first last r → ⊥) → Z [] r
+  -- a rewrite ends
+  pub renews : stage_word st ≡ words.Rewrite → (r : State × ClientStep) → JustEnds x b r → ((first last : ℕ) → IsChangedBy first last r → ⊥) → Z [] r
   pub ends : stage_word st ≡ words.Open → (r : State × ClientStep) → JustEnds x b r → ((first last : ℕ) → IsChangedBy first last r → ⊥) → Z [] r
   pub uses : (y : ℕ) (l : Leased) (bytes : List ℕ) → st ≡ stage.Asking y → b ≡ body.Lb (lb.GetLeaseAnswer (Done l)) → content_in l.version (content_of s.cache file) ≡ Some bytes → Z [] (uses_kept s calls file x l.version (Some bytes))
   pub fetches : (y : ℕ) (l : Leased) → st ≡ stage.Asking y → b ≡ body.Lb (lb.GetLeaseAnswer (Done l)) → Z [] (tries_anew (forgets s calls x) file 1 0)
@@ -520,7 +552,8 @@ pub of_opens : (Z : List (ℕ × ℕ) → State × ClientStep → Type 0) (s : S
 of_opens Z s calls file st x b known h = record {
   ends = λ r e unchanged came. elim (either_word st known) [
     | inl open_ ↦ h.ends open_ r e unchanged
-    | inr close ↦ h.closes close r (goes_none words.Close r e.ended e.ended_is) (λ d is opened. e.unopened (subst (λ (z : Ended). IsOpenedBy z.outcome) (some_is d e.ended (sym is ∙ e.ended_is)) opened)) unchanged
+    | inr (inr renew) ↦ h.renews renew r e unchanged
+    | inr (inl close) ↦ h.closes close r (goes_none words.Close r e.ended e.ended_is) (λ d is opened. e.unopened (subst (λ (z : Ended). IsOpenedBy z.outcome) (some_is d e.ended (sym is ∙ e.ended_is)) opened)) unchanged
   ];
   changed = h.changed;
   uses = h.uses;
@@ -550,6 +583,7 @@ pub record Begins (Z : State × ClientStep → Type 0) (s : State) (d : Command)
   pub answers : s.task ≡ None → (opened : List (ℕ × Local)) (o : Outcome) → IsPlain o → Z (record s { opened = opened }, ends o 0 0)
   pub fetches : (file : ℕ) → d ≡ command.Open file → s.task ≡ None → may_ask s ≡ true → Z (asks_kept (fronts s file) file None)
   pub asks : (file : ℕ) (c : Content) → d ≡ command.Open file → s.task ≡ None → may_ask s ≡ true → content_of s.cache file ≡ Some c → Z (asks_kept (fronts s file) file (Some c))
+  pub renews : (file : ℕ) → d ≡ command.Rewrite file → s.task ≡ None → may_ask s ≡ true → Z (asks_version (fronts s file) file)
   pub walks : (c : PathCommand) → d ≡ command.Named c → s.task ≡ None → may_walk s (walk_begun c) ≡ true → Z (asks_next s (walk_begun c))
   pub closes : (file : ℕ) (l : Local) → d ≡ command.Close file → s.task ≡ None → may_ask s ≡ true → local_at s.opened file ≡ Some l → Z (asks_temp s file true)
 
@@ -581,9 +615,22 @@ opened Z s file h None is = by (is_open s.opened file)
     by true = h.answers is s.opened outcome.AlreadyOpen tt
     by false = asks (may_ask s) refl
 
+renewed : (Z : State × ClientStep → Type 0) (s : State) (file : ℕ) → Begins Z s (command.Rewrite file) → (t : Option Task) → s.task ≡ t → Z (rewrites s file t)
+renewed Z s file h (Some t) is = h.busy t is
+renewed Z s file h None is = by (is_open s.opened file)
+  where
+    asks : (b : Bool) → may_ask s ≡ b → Z (asks_anew s file b)
+    asks true may = h.renews file refl is may
+    asks false may = h.answers is s.opened outcome.NoLink tt
+
+    by : (b : Bool) → Z (rewrites_if s file b)
+    by true = h.answers is s.opened outcome.AlreadyOpen tt
+    by false = asks (may_ask s) refl
+
 -- whatever holds of each holds of a command
 pub command_cases : (Z : State × ClientStep → Type 0) (s : State) (d : Command) (now : ℕ) → Begins Z s d → Z (command_step s d now)
 command_cases Z s (command.Open file) now h = opened Z s file h s.task refl
+command_cases Z s (command.Rewrite file) now h = renewed Z s file h s.task refl
 command_cases Z s (command.Write file offset content) now h = begun Z s (command.Write file offset content) h s.task refl (local_at s.opened file) (writes s file offset content) (λ free l at. by free l (content_length content == 0))
   where
     by : s.task ≡ None → (l : Local) (b : Bool) → Z (if b then (s, ends outcome.Done 0 0) else edits s file l (written_size (length l.bytes) offset (content_length content)) (written l.bytes offset (content_bytes content)))

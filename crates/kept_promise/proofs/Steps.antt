@@ -13,7 +13,7 @@ use Rattle.kept_promise.proofs.Common.{changes, cond, nat_tests, slice_get, slic
 use Rattle.kept_promise.proofs.Statements.{CallFits}
 use Rattle.kept_promise.proofs.Lists.{some_is, nothing_there, same_or_not, of_replaced, at_replaced, false_and_true, all_both, all_map}
 use Rattle.kept_promise.proofs.Keys.{times, times_append, own, on_way, ask_key, change_key, told_key, pending_key, found_by, there_by, key_xid}
-use Rattle.kept_promise.proofs.Messages.{Job, job, stage_word, AllAsks, AllTolds, Rising, hash_offset, read_chunk, CallOf, IsAsked, AnswerOf, IsAnswer, Trying, FetchOf, ReadTold, CommitOf, IsCommit, IsPiece, TempUnder, CloseOf, IsCreating, goal_word, RefusedTold}
+use Rattle.kept_promise.proofs.Messages.{lease_xid, Job, job, stage_word, AllAsks, AllTolds, Rising, hash_offset, read_chunk, CallOf, IsAsked, AnswerOf, IsAnswer, Trying, FetchOf, ReadTold, CommitOf, IsCommit, IsPiece, TempUnder, CloseOf, IsCreating, goal_word, RefusedTold}
 use Rattle.kept_promise.proofs.Rights.{Caused, IsRight, IsSound, WasThere}
 use Rattle.kept_promise.proofs.History.{Goes, onward, Becomes, goes_becomes, still_becomes}
 use Rattle.kept_promise.proofs.Later.{cached_later, answer_later, trying_later, close_later, commit_later, fetch_of_later, Spares}
@@ -60,7 +60,7 @@ goes_counting book i j tr of sound = goes_becomes book 1 None None j.place of.op
 
 -- what a new stage waits for with an old xid it waited for before
 pub record Again (next : ℕ) (j : Job) (s : Stage) : Type 0 where
-  pub lease : (y : ℕ) → y < next → s ≡ stage.Asking y → ⊥
+  pub lease : (y : ℕ) → y < next → lease_xid s ≡ Some y → ⊥
   pub hash : (y o : ℕ) → y < next → hash_offset s y ≡ Some o → ⊥
   pub commit : (y : ℕ) → y < next → s ≡ stage.Committing y → ⊥
   pub walk : (y : ℕ) (w : Walk) → y < next → s ≡ stage.Walking y w → ⊥
@@ -70,7 +70,7 @@ abbrev pub on : Job → Stage → Job
 on j s = record { place = j.place; file = j.file; stage = s }
 
 call_anew : (next : ℕ) (j : Job) (s : Stage) (y : ℕ) (c : Call) → Again next j s → y < next → CallOf (Some j) y c → CallOf (Some (on j s)) y c
-call_anew next j s y (Lease g) again lt old = λ i e w. absurd (again.lease y lt (ap (λ (z : Job). z.stage) (some_is (on j s) i e) ∙ w))
+call_anew next j s y (Lease g) again lt old = λ i e w. absurd (again.lease y lt (ap (λ (z : Job). lease_xid z.stage) (some_is (on j s) i e) ∙ w))
 call_anew next j s y (Hash g o) again lt old = λ i p e w. absurd (again.hash y p lt (subst (λ (z : Job). hash_offset z.stage y ≡ Some p) (sym (some_is (on j s) i e)) w))
 call_anew next j s y (Read g d) again lt old = λ i p e w.
     let same = some_is (on j s) i e in
@@ -91,7 +91,7 @@ read_on book taken j s x first c (Failed u a) h = refused_on book taken j s x u 
 read_on book taken j s x first c (Done p) h = record { file = h.file; is = h.is; held = h.held; began = h.began; was = h.was; last = h.last; order = h.order; past = h.past; version_is = h.version_is }
 
 answer_anew : (book : Book) (taken : List TakenCall) (closing : Option ℕ) (next : ℕ) (j : Job) (s : Stage) (y : ℕ) (r : Reply) → Again next j s → y < next → AnswerOf book taken closing (Some j) y r → AnswerOf book taken closing (Some (on j s)) y r
-answer_anew book taken closing next j s y (Versioned a) again lt old = λ i e w. absurd (again.lease y lt (ap (λ (z : Job). z.stage) (some_is (on j s) i e) ∙ w))
+answer_anew book taken closing next j s y (Versioned a) again lt old = λ i e w. absurd (again.lease y lt (ap (λ (z : Job). lease_xid z.stage) (some_is (on j s) i e) ∙ w))
 answer_anew book taken closing next j s y (Hashed a) again lt old = λ i p e w. absurd (again.hash y p lt (subst (λ (z : Job). hash_offset z.stage y ≡ Some p) (sym (some_is (on j s) i e)) w))
 answer_anew book taken closing next j s y (Changed a) again lt old = λ i e w. absurd (again.commit y lt (ap (λ (z : Job). z.stage) (some_is (on j s) i e) ∙ w))
 answer_anew book taken closing next j s y (Bytes a) again lt old = λ i f c e at w.
@@ -188,14 +188,18 @@ naming_same s (stage.Walking x w) same none = by s same none
     by (stage.Storing st) same none = absurd (goal_not_close w.goal (sym same))
     by (stage.Committing y) same none = absurd (goal_not_close w.goal (sym same))
     by (stage.Asking y) same none = ap changes (sym same)
+    by (stage.Rewriting y) same none = ap changes (sym same)
     by (stage.Hashing tries y) same none = ap changes (sym same)
     by (stage.Listing y f) same none = ap changes (sym same)
     by (stage.Reading f) same none = ap changes (sym same)
 naming_same s _ same none = refl
 
--- none of an open or a close of a file is
+-- none of an open, a rewrite or a close of a file is
 pub open_unnamed : (s : Stage) → stage_word s ≡ words.Open → is_naming s ≡ false
 open_unnamed s e = naming_same (stage.Asking 0) s (sym e) refl
+
+pub renew_unnamed : (s : Stage) → stage_word s ≡ words.Rewrite → is_naming s ≡ false
+renew_unnamed s e = naming_same (stage.Rewriting 0) s (sym e) refl
 
 pub close_unnamed : (s : Stage) → stage_word s ≡ words.Close → is_naming s ≡ false
 close_unnamed s e = naming_same (stage.Committing 0) s (sym e) refl

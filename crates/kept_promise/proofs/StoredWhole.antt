@@ -16,7 +16,7 @@ use Rattle.register_model.specs.declared.op.Outcome.{Outcome as History}
 use Rattle.register_model.specs.declared.op.Word.TheVariants as words
 use Rattle.trace_ends.specs.Session.{taken_of as session_taken}
 use Rattle.trace_replay.specs.Trail.{taken_of}
-use Rattle.trace_replay.specs.Traffic.{traffic_of, commit_number, commits_in as commits_said, IsFetchCall}
+use Rattle.trace_replay.specs.Traffic.{traffic_of, commit_number, commits_in as commits_said, IsFetchCall, IsVersionCall}
 use Rattle.kept_promise.proofs.Common.{slice_get, Change, cut, ClientStep, Ended, Outcome, Op, Opening, Word, TakenCall, has_point, point_if, op_after, Core, Seat, Session, Event, numbered, session_of, ops_with, happens, Moment, sent_in, sent_of, SentCommit, Book, Message, Call, Call.Commit, Ask, Queue, Contains-append_left, Said, Deal, Deal.Took, Deal.Found, Deal.Sent, deals_of, stored_traffic, cond, Call.Walks, Wanted}
 use Rattle.kept_promise.proofs.Lists.{some_is, nothing_there, within, of_replaced, of_appended, true_and_false}
 use Rattle.kept_promise.proofs.Keys.{own}
@@ -267,9 +267,23 @@ open_commits file v (Sent m ∷ log) h = let l = open_commits file v log h.1 in 
     by (message.Call xid (body.Nfs (nfs.Read z))) own = refl
     by m own = absurd own
 
+renew_commits : (file : ℕ) (v : List ℕ) (log : List Deal) → AreNear words.Rewrite file v log → commits_said log ≡ 0
+renew_commits file v [] h = refl
+renew_commits file v (Took m ∷ log) h = let l = renew_commits file v log h.1 in omega (arith, l)
+renew_commits file v (Found z ∷ log) h = let l = renew_commits file v log h.1 in omega (arith, l)
+renew_commits file v (Sent m ∷ log) h = let l = renew_commits file v log h.1 in elim h.0 [
+  | inl own ↦ let e = by m own in omega (arith, l, e)
+  | inr name ↦ let e = (one_none (Sent m) name).commits in omega (arith, l, e)
+]
+  where
+    by : (m : Message) → IsVersionCall file m → commit_number (Sent m) ≡ 0
+    by (message.Call xid (body.Lb (lb.GetLease handle))) own = refl
+    by m own = absurd own
+
 is_close : (w : Word) (file : ℕ) (v : List ℕ) (u : History) (log : List Deal) → OpOwn log w file v u → 0 < commits_said log → w ≡ words.Close
 is_close words.Close file v u log own some = refl
 is_close words.Open file v u log own some = let none = open_commits file v log own.0 in absurd (omega (arith, some, none))
+is_close words.Rewrite file v u log own some = let none = renew_commits file v log own.0 in absurd (omega (arith, some, none))
 is_close w file v u log own some = let none = (names_count log own.1).commits in absurd (omega (arith, some, none))
 
 -- and so counted a CONDWRITE for each chunk of its value, and the bytes of those that the server didn't know

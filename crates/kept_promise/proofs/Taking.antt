@@ -124,6 +124,7 @@ moved_by book taken j o at trying fetch word more = by j.stage refl fetch word m
     by (stage.Listing x g) e f w more = fetched g.first g.tries f.0.tried (λ one. omega (arith, one, more))
     by (stage.Reading g) e f w more = fetched g.first g.tries f.0.tried (λ one. omega (arith, one, more))
     by (stage.Walking x v) e f w more = absurd (omega (arith, more))
+    by (stage.Rewriting x) e f w more = absurd (omega (arith, more))
     by _ e f w more = absurd (close_not_open w)
 
 -- ---- chunks

@@ -15,6 +15,7 @@ use Rattle.kept_promise.proofs.StepCases.{IsOfFile}
 use Rattle.kept_promise.proofs.CloseSteps.{local_of, calls_are}
 use Rattle.kept_promise.proofs.Comes.{client_at, comes_refused}
 use Rattle.kept_promise.proofs.OpenSteps.{said, Finds, comes_hashing, comes_listing, comes_leased}
+use Rattle.kept_promise.proofs.Renews.{comes_renewed}
 use Rattle.kept_promise.proofs.ReadSteps.{comes_read}
 use Rattle.kept_promise.proofs.CloseComes.{Makes, comes_made, comes_named, comes_stored, comes_failed, comes_closed}
 use Rattle.kept_promise.proofs.Answered.{own_call, one_call, store_here, read_here, lease_reply, hash_reply, made_reply, named_reply, stored_reply, changed_reply, read_reply}
@@ -90,6 +91,11 @@ comes_taken book k qs n x q t ts j g (stage.Asking y) of at i here once noted lo
     let r = lease_reply t.reply (code_is _ t p) in
     let xid = ap (λ (z : Pending). z.xid) p in
     subst (λ (b : Reply). Took book k qs n x q t ts j g (stage.Asking y) (reply_body b)) (sym r.1) (λ named. comes_leased book k qs n x q t ts j g r.0 (at ∙ ap stage.Asking xid) r.1)
+comes_taken book k qs n x q t ts j g (stage.Rewriting y) of at i here once noted looked =
+    let p = single _ i t here in
+    let r = lease_reply t.reply (code_is _ t p) in
+    let xid = ap (λ (z : Pending). z.xid) p in
+    subst (λ (b : Reply). Took book k qs n x q t ts j g (stage.Rewriting y) (reply_body b)) (sym r.1) (λ named. comes_renewed book k qs n x q t ts j g r.0 (at ∙ ap stage.Rewriting xid) r.1 (subst (AnswerOf book x.taken x.closing (Some j) t.xid) r.1 (said book k qs n x q t ts j g)))
 comes_taken book k qs n x q t ts j g (stage.Hashing tries y) of at i here once noted looked =
     let p = single _ i t here in
     let r = hash_reply t.reply (code_is _ t p) in

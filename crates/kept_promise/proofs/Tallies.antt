@@ -183,6 +183,8 @@ walk_answer s calls file y w x b = walk_cases (Tallies (bytes_came x b)) s calls
   open_already = λ id k is. let z = came (walk_told_as.Finds id) k in inl (record { cond = refl; tmp = refl; read = refl; data_is = omega (arith, z) });
   fetches = λ id k shut none. let z = came (walk_told_as.Finds id) k in inl (record { cond = refl; tmp = refl; read = refl; data_is = omega (arith, z) });
   leases = λ id c k shut some. let z = came (walk_told_as.Finds id) k in inl (record { cond = refl; tmp = refl; read = refl; data_is = omega (arith, z) });
+  renew_already = λ id k is. let z = came (walk_told_as.Rewrites id) k in inl (record { cond = refl; tmp = refl; read = refl; data_is = omega (arith, z) });
+  renews = λ id k shut. let z = came (walk_told_as.Rewrites id) k in inl (record { cond = refl; tmp = refl; read = refl; data_is = omega (arith, z) });
   ends = λ v e k is. let z = came (walk_told_as.Ends e) k in inl (record { cond = refl; tmp = refl; read = refl; data_is = omega (arith, z) });
 })
   where

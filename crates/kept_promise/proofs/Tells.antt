@@ -12,12 +12,14 @@ use Rattle.wire.specs.declared.message.Message.TheVariants as message
 use Rattle.wire.specs.declared.message.Body.TheVariants as body
 use Rattle.client_state.specs.State as client
 use Rattle.client_state.specs.declared.task.Stage.TheVariants as stage
+use Rattle.hash_calls.specs.declared.message.LbProc.TheVariants as lb_proc
+use Rattle.wire.specs.declared.message.Pending.{Pending}
 use Rattle.trace_replay.specs.OwnCalls.{TakesCall}
 use Rattle.trace_replay.specs.Trail.{served_hashed}
 use Rattle.kept_promise.proofs.Common.{slice_get, cond, ◌==◌, ◌||◌, Contains, end_of, parse_of, server_waiting, Body, Message, Op, Task, chunk_bytes, Chunk, handle_bytes, Failed, Status, HashRange, Range, message_spell, MessageFits, Node, directory, file, node_of, told_chunks, hashes_of, piece_of, leased_of, File, Fetch, Stage, Value, TakenCall, Core, Seat, Session, Event.Serves, numbered, hashed_of, Book, value_at, version_at, Call.Lease, Call.Hash, Call.Read, Reply, Reply.Versioned, Reply.Hashed, Reply.Bytes, Ask, Queue, ask_message, told_message, Tree, Call.Walks, Reply.Walked, name_answer, happens, NameReply, Moment, Event, taken_at}
 use Rattle.kept_promise.proofs.Statements.{CallFits}
 use Rattle.kept_promise.proofs.Lists.{some_is, nothing_there}
-use Rattle.kept_promise.proofs.Messages.{Job, job, job_of, lease_body, hash_body, AllAsks, Rising, IsAsked, hash_offset, IsTold, IsHashed, RefusedTold, HashTold, IsLeased, LeaseTold, IsRead, ReadTold, TriedBy, AnswerOf, IsFetch, IsReading, FetchOf, range_from, WalkCame, WalkTold, IsTakenFor}
+use Rattle.kept_promise.proofs.Messages.{Job, job, job_of, lease_body, hash_body, AllAsks, Rising, IsAsked, hash_offset, IsTold, IsHashed, RefusedTold, HashTold, IsLeased, LeaseTold, IsRead, ReadTold, TriedBy, AnswerOf, IsFetch, IsReading, FetchOf, range_from, WalkCame, WalkTold, IsTakenFor, lease_xid}
 use Rattle.kept_promise.proofs.Rights.{IsHeld, WasThere}
 use Rattle.kept_promise.proofs.Growth.{value_later, version_later, tried_later, there_later}
 use Rattle.kept_promise.proofs.History.{onward, grows_same}
@@ -205,6 +207,12 @@ lease_reply_fits laws book s xid f h x lt = by (looked s.tree f lt)
         let small = b.2 in
         subst (λ (node : Result Node Status). MessageFits (told_message (record { xid = xid; reply = Versioned (lease_answer node) }))) (sym e) (laws.leases xid g x (omega (arith, id, small), omega (arith, v, c), b.5))
 
+-- the call that waits where a GETLEASE does
+lease_waits : (st : Stage) (x : ℕ) → lease_xid st ≡ Some x → client.pending_in st ≡ client.lb_pending lb_proc.GetLease x
+lease_waits (stage.Asking y) x e = ap (client.lb_pending lb_proc.GetLease) (some_is y x e)
+lease_waits (stage.Rewriting y) x e = ap (client.lb_pending lb_proc.GetLease) (some_is y x e)
+lease_waits _ x e = nothing_there x e
+
 pub lease_told : FitLaws → (book : Book) (k : Core) (qs : List Queue) (n now : ℕ) (x : Session) (q : Queue) (xid f : ℕ) (us : List Ask) (c : Seat) → IsKept book k qs → numbered k.seats x.owner ≡ Some c → c.session ≡ Some n → IsTalk book n k.server.waiting x q c → q.ups ≡ record { xid = xid; call = Lease f } ∷ us → CallFits xid (Lease f)
     → IsNoted book k (Serves n now (message_spell (ask_message (record { xid = xid; call = Lease f })))) → AnswerOf (onward book 1 book.ops) (with_taken x xid (book.steps + 1)) x.closing (job c) xid (lease_reply k.server.tree f)
 lease_told laws book k qs n now x q xid f us c kept was here talk e fits noted = λ j is at. by j is at ((subst (AllAsks (IsAsked (job c))) e talk.asked).0 j is at) (looked k.server.tree f fits.1)
@@ -212,7 +220,7 @@ lease_told laws book k qs n now x q xid f us c kept was here talk e fits noted =
     a : Ask
     a = record { xid = xid; call = Lease f }
 
-    by : (j : Job) → job c ≡ Some j → j.stage ≡ stage.Asking xid → j.file ≡ f → Found k.server.tree f → LeaseTold (onward book 1 book.ops) (with_taken x xid (book.steps + 1)) j xid (lease_answer (node_of k.server.tree (handle_bytes f)))
+    by : (j : Job) → job c ≡ Some j → lease_xid j.stage ≡ Some xid → j.file ≡ f → Found k.server.tree f → LeaseTold (onward book 1 book.ops) (with_taken x xid (book.steps + 1)) j xid (lease_answer (node_of k.server.tree (handle_bytes f)))
     by j is asks same (is_directory d there none at) = subst (λ (node : Result Node Status). LeaseTold (onward book 1 book.ops) (with_taken x xid (book.steps + 1)) j xid (lease_answer node)) (sym at) (directory_told book k qs n now x q a f us c j d kept was talk e is noted same there)
     by j is asks same (is_gone none at) = subst (λ (node : Result Node Status). LeaseTold (onward book 1 book.ops) (with_taken x xid (book.steps + 1)) j xid (lease_answer node)) (sym at) (gone_told book k qs n x q a f us c j kept was talk e is same none)
     by j is asks same (is_file g there at) =
@@ -222,7 +230,7 @@ lease_told laws book k qs n now x q xid f us c kept was here talk e fits noted =
           told = told_now book k qs n x q a us c j (Some held.3.value) g.version kept was talk e is (ap (λ (i : ℕ). value_at book i (book.steps + 1)) same ∙ held.3.is) (ap (λ (i : ℕ). version_at book i (book.steps + 1)) same ∙ held.4);
           call = (
               let of = (kept.seats x.owner c was).task j is in
-              let own : client.has_call (client.pending_in j.stage) xid ≡ true = ap (λ (s : Stage). client.has_call (client.pending_in s) xid) asks ∙ ap (λ b. b || false) (eq-eqb xid xid refl) in
+              let own : client.has_call (client.pending_in j.stage) xid ≡ true = ap (λ (ps : List Pending). client.has_call ps xid) (lease_waits j.stage xid asks) ∙ ap (λ b. b || false) (eq-eqb xid xid refl) in
               let rising = subst (λ (l : List Ask). Rising talk.floor l c.client.next_xid) e talk.rising in
               record {
                 moment = book.steps + 1;

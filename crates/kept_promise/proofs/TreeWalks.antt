@@ -32,7 +32,7 @@ use Rattle.path_calls.specs.declared.walk.Goal.TheVariants as goal
 use Rattle.path_calls.specs.declared.walk.Pages.{Pages}
 use Rattle.path_calls.specs.declared.walk.Walk.{Walk}
 use Rattle.path_calls.specs.Walk.{place, arrives, call_at, goal_call, next_call}
-use Rattle.path_calls.specs.Told.{goes_down, finds, seen, sees, told_goal, told_found, told_page, told_attr, with_page, lists_on, shown_version, walk_told}
+use Rattle.path_calls.specs.Told.{goes_down, finds, finds_anew, seen, sees, told_goal, told_found, told_page, told_attr, with_page, lists_on, shown_version, walk_told}
 use Rattle.trace_replay.specs.Naming.{refusal_of}
 use Rattle.server_law.proofs.Trees.{nodes_of, IsBounded}
 use Rattle.kept_promise.proofs.TreeTold.{IsFound, IsPage, lookup_tells, getattr_tells, listing_tells, stands}
@@ -116,6 +116,20 @@ finds_file t w name a b small plain left aim e =
     by (Ok f) is =
         let h = own_directory t w.dir name f small plain is in
         inr (standing_of h.node, stands t.nodes w.dir name h.node h.named_is, ap (λ (l : List (List ℕ)). told_found l w.goal f) left ∙ ap (λ (g : Goal). told_goal g f) aim ∙ ap finds (found_id t w.dir name f b h), named_small t w.dir name h.node b h.named_is)
+
+-- and of a rewrite's
+pub rewrites_file : (t : Tree) (w : Walk) (name : List ℕ) (a : Nfs) → IsBounded t → w.dir < 18446744073709551616 → IsUndotted name → w.left ≡ [] → w.goal ≡ goal.Rewrite name → told_by t.nodes (next_call w) ≡ Some a
+    → IsRefusal a (walk_told w a) ⊎ Goes t w.dir name (λ id. told.Rewrites id) (walk_told w a)
+rewrites_file t w name a b small plain left aim e =
+    let call : next_call w ≡ nfs.Lookup (place w.dir name) = ap (λ (l : List (List ℕ)). call_at w.dir l w.goal) left ∙ ap (goal_call w.dir) aim in
+    let is : nfs.LookupAnswer (answer_of None (found t.nodes (place w.dir name))) ≡ a = some_nfs (nfs.LookupAnswer (answer_of None (found t.nodes (place w.dir name)))) a (sym (ap (told_by t.nodes) call) ∙ e) in
+    subst (λ (z : Nfs). IsRefusal z (walk_told w z) ⊎ Goes t w.dir name (λ id. told.Rewrites id) (walk_told w z)) is (by (found t.nodes (place w.dir name)) refl)
+  where
+    by : (r : Result Found Status) → found t.nodes (place w.dir name) ≡ r → IsRefusal (nfs.LookupAnswer (answer_of None r)) (walk_told w (nfs.LookupAnswer (answer_of None r))) ⊎ Goes t w.dir name (λ id. told.Rewrites id) (walk_told w (nfs.LookupAnswer (answer_of None r)))
+    by (Err s) is = inl (s, refl, refl)
+    by (Ok f) is =
+        let h = own_directory t w.dir name f small plain is in
+        inr (standing_of h.node, stands t.nodes w.dir name h.node h.named_is, ap (λ (l : List (List ℕ)). told_found l w.goal f) left ∙ ap (λ (g : Goal). told_goal g f) aim ∙ ap finds_anew (found_id t w.dir name f b h), named_small t w.dir name h.node b h.named_is)
 
 -- ---- what is told of a node
 

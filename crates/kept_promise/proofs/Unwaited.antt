@@ -4,9 +4,9 @@ use Rattle.client_state.specs.declared.task.Stage.TheVariants as stage
 use Rattle.path_calls.specs.declared.walk.Walk.{Walk}
 use Rattle.kept_promise.proofs.Common.{Fetch, Stage, TakenCall, Book, Reply, Reply.Versioned, Reply.Hashed, Reply.Bytes, Reply.Made, Reply.Named, Reply.Stored, Reply.Changed, Reply.Walked, Told}
 use Rattle.kept_promise.proofs.Lists.{nothing_there}
-use Rattle.kept_promise.proofs.Messages.{Job, hash_offset, AnswerOf, IsAnswer}
+use Rattle.kept_promise.proofs.Messages.{Job, hash_offset, AnswerOf, IsAnswer, lease_xid}
 
-not_asking : (x y : ℕ) (w : Walk) → stage.Asking y ≡ stage.Walking x w → ⊥
+not_asking : (x y : ℕ) (w : Walk) → lease_xid (stage.Walking x w) ≡ Some y → ⊥
 not_asking x y w e = absurd cc
 
 not_reading : (x : ℕ) (z : Fetch) (w : Walk) → stage.Reading z ≡ stage.Walking x w → ⊥
@@ -22,7 +22,7 @@ pub unwaited : (book more : Book) (taken after : List TakenCall) (closing : Opti
 unwaited book more taken after closing job xid w u waits apart f = by u.reply f
   where
     by : (r : Reply) → AnswerOf book taken closing job u.xid r → AnswerOf more after closing job u.xid r
-    by (Versioned s) f = λ j at on. absurd (not_asking xid u.xid w (sym on ∙ waits j at))
+    by (Versioned s) f = λ j at on. absurd (not_asking xid u.xid w (sym (ap lease_xid (waits j at)) ∙ on))
     by (Hashed s) f = λ j o at on. nothing_there o (sym (ap (λ (z : Stage). hash_offset z u.xid) (waits j at)) ∙ on)
     by (Bytes s) f = λ j z d at on is. absurd (not_reading xid z w (sym on ∙ waits j at))
     by (Changed s) f = λ j at on. absurd (not_committing xid u.xid w (sym on ∙ waits j at))

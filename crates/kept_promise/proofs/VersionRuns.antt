@@ -15,7 +15,7 @@ use Rattle.trace_replay.specs.Faithful.{Carries, OpensVersion}
 use Rattle.kept_promise.proofs.Common.{nat_tests, Contains-append_left, Contains-append_right, Contains-append_cases, Contains-push, ◌==◌, ◌&&◌, ◌||◌, nat_le, slice_get, slice_set, cond, find, Contains, Command, Done, Hashes, WireFault, Message, has_call, pending, command_step, got_step, ended_by, ClientStep, Ended, Outcome, Stage, Task, changes, changed_before, Op, Opening, TakenCall, word_of, told_of, has_point, point_if, op_after, begun, taken_at, place_after, place_with, Core, Seat, Session, Event, Event.Does, Event.Hears, Event.Cuts, CoreStep, numbered, with_numbered, commanded_session, commanded_sessions, cut_session, session_of, ops_after, ops_with, acted, does, cuts_if, happens, Moment, Said, all_said, owner_in, client_of, wanted_if, wanted_by, taken_by, Book, version_at, until, TellsVersion, Reply, Reply.Versioned, Reply.Hashed, Reply.Bytes, Told, Queue, reply_body, told_message, Reply.Walked, NameReply.LookedUp}
 use Rattle.kept_promise.proofs.Lists.{some_is, nothing_there, at_end, same_or_not, of_replaced, of_appended, at_replaced, false_and_true, true_and_false}
 use Rattle.kept_promise.proofs.Marks.{unpointed, too_late}
-use Rattle.kept_promise.proofs.Messages.{Job, job, job_of, AllTolds, AllUnder, hash_offset, IsTold, IsHashed, IsLeased, AnswerOf, IsAnswer, stage_word}
+use Rattle.kept_promise.proofs.Messages.{Job, job, job_of, AllTolds, AllUnder, hash_offset, IsTold, IsHashed, IsLeased, AnswerOf, IsAnswer, stage_word, lease_xid}
 use Rattle.kept_promise.proofs.Rights.{IsRight, Caused, close_not_open, gets_file}
 use Rattle.kept_promise.proofs.Fits.{FitLaws}
 use Rattle.kept_promise.proofs.Keys.{own}
@@ -62,6 +62,12 @@ versions_moved base n said sessions later seats next ops past jobs newer h = ver
     (λ p len q digest r at is point. inl (r, at, alike_same said r, is, point)) h
 
 -- a close has ended as no open
+pub rewrite_not_opened : (book : Book) (o : Op) (len : ℕ) (digest : List ℕ) → IsRight book o → o.word ≡ words.Rewrite → o.outcome ≡ told.Opened len digest → ⊥
+rewrite_not_opened book o len digest r renew e = no (sym renew ∙ (subst (Caused book o) e r.cause).0)
+  where
+    no : words.Rewrite ≡ words.Open → ⊥
+    no z = absurd cc
+
 pub close_not_opened : (book : Book) (o : Op) (len : ℕ) (digest : List ℕ) → IsRight book o → o.word ≡ words.Close → o.outcome ≡ told.Opened len digest → ⊥
 close_not_opened book o len digest r close e = close_not_open (sym close ∙ (subst (Caused book o) e r.cause).0)
 
@@ -414,7 +420,7 @@ took_in : (book : Book) (k : Core) (said : List Said) (i : ℕ) (taken : List Ta
     → (st : Stage) → j.stage ≡ st → (r : Reply) → t.reply ≡ r → JobVersion (early_of book.opening) said k.ops taken o st → TookIn (Attempt (early_of book.opening) (said ++ record { step = k.steps + 1; client = i; message = told_message t } ∷ []) k.ops taken o) st t.xid (reply_body r)
 took_in book k said i taken closing t j o ops steps file mine none begun has answer (stage.Asking y) at (Versioned (Done l)) is old =
     let own : (y == t.xid) ≡ true = or_none (y == t.xid) (ap (λ z. has_call (client.pending_in z) t.xid) (sym at) ∙ has) in
-    let h : IsLeased book taken j t.xid l = subst (AnswerOf book taken closing (Some j) t.xid) is answer j refl (at ∙ ap (λ z. stage.Asking z) (eqb-true y t.xid own)) in
+    let h : IsLeased book taken j t.xid l = subst (AnswerOf book taken closing (Some j) t.xid) is answer j refl (ap lease_xid at ∙ ap (λ z. Some z) (eqb-true y t.xid own)) in
     attempt_first book k said i taken t j o ops steps (file (ap is_naming at)) mine none begun y l.version h.value own h.told (subst (λ m. Carries l.version m) (sym (same_reply t (Versioned (Done l)) is)) refl) old
 took_in book k said i taken closing t j o ops steps file mine none begun has answer (stage.Hashing tries y) at (Hashed (Done g)) is old =
     let own : (y == t.xid) ≡ true = or_none (y == t.xid) (ap (λ z. has_call (client.pending_in z) t.xid) (sym at) ∙ has) in
@@ -517,6 +523,7 @@ versions_hears laws book more past k qs after n now bytes mid kept h left counte
         begun : (st : Stage) → IsFresh st → StageGood (Attempt (early_of book.opening) said k.ops taken o) (Untold said taken o) st → JobVersion (early_of book.opening) said (ops_with k.ops h.seat.place r.0 taken (k.steps + 1) r.1) taken (op_after o r.0 taken (k.steps + 1) r.1) st
         begun (stage.Asking x) fresh h2 = untold x h2
         begun (stage.Hashing tries x) fresh h2 = untold x h2
+        begun (stage.Rewriting x) fresh h2 = tt
         begun st fresh h2 = absurd fresh
 
         by : (found : Option ℕ) → r.1.found ≡ found → JobVersion (early_of book.opening) said (ops_with k.ops h.seat.place r.0 taken (k.steps + 1) r.1) taken (op_after o r.0 taken (k.steps + 1) r.1) j.stage

@@ -30,7 +30,7 @@ use Rattle.kept_promise.proofs.PathNames.{AreNames, IsGoalNamed, IsWalkNamed}
 use Rattle.server_law.proofs.Trees.{IsBounded}
 use Rattle.kept_promise.proofs.TreeDirs.{names_in}
 use Rattle.kept_promise.proofs.TreeTold.{IsPage}
-use Rattle.kept_promise.proofs.TreeWalks.{IsUndotted, IsRefusal, Sees, looks_down, finds_file, sees_name, sees_root, lists_page}
+use Rattle.kept_promise.proofs.TreeWalks.{IsUndotted, IsRefusal, Sees, looks_down, finds_file, rewrites_file, sees_name, sees_root, lists_page}
 use Rattle.kept_promise.proofs.Walked.{HasPages, HasList, IsPast, HasWalk, reached_all, page_comes, walk_goes, walk_finds}
 
 -- ---- how one ends
@@ -42,6 +42,7 @@ IsListing book m dir r = ((d : Node) × (directory_of (tree_at m).nodes dir ≡ 
 -- by the answer that was given at this moment
 abbrev pub WalkEnds : Book → (begin step : ℕ) → Moment → PathCommand → Walk → Told → Type 0
 WalkEnds book begin step m (path.Find x) w r = (s : Standing) × (r ≡ told.Finds s.id) × Leads book begin ROOT (all_names x) s.id (step_of m)
+WalkEnds book begin step m (path.Rewrite x) w r = (s : Standing) × (r ≡ told.Rewrites s.id) × Leads book begin ROOT (all_names x) s.id (step_of m)
 WalkEnds book begin step m (path.Look x) w r = (n : Node) × Leads book begin ROOT x.dirs w.dir step × (named (tree_at m).nodes w.dir x.name ≡ Some n) × Sees (tree_at m).nodes n r
 WalkEnds book begin step m path.LookRoot w r = (n : Node) × (with_id (tree_at m).nodes ROOT ≡ Some n) × Sees (tree_at m).nodes n r
 WalkEnds book begin step m (path.List p) w r = (found_at : ℕ) × Leads book begin ROOT p w.dir found_at × (found_at ≤ step) × IsListing book m w.dir r
@@ -122,7 +123,11 @@ module _ (book : Book) (begin step : ℕ) (m : Moment) (w : Walk) (a : Nfs) (bou
   last : (k : PathCommand) → HasWalk book begin k w step → w.left ≡ [] → WalkComes book begin step m k w a (walk_told w a)
   last (path.Find x) h left = elim (finds_file (tree_at m) w x.name a bounded small (subst IsGoalNamed h.1 plain.1).0 left h.1 is) [
     | inl f ↦ inl f
-    | inr s ↦ inr (inr (s.0, s.2, walk_finds book begin x w step m s.0 h left there le s.1))
+    | inr s ↦ inr (inr (s.0, s.2, walk_finds book begin x (goal.Find x.name) w step m s.0 h left there le s.1))
+  ]
+  last (path.Rewrite x) h left = elim (rewrites_file (tree_at m) w x.name a bounded small (subst IsGoalNamed h.1 plain.1).0 left h.1 is) [
+    | inl f ↦ inl f
+    | inr s ↦ inr (inr (s.0, s.2, walk_finds book begin x (goal.Rewrite x.name) w step m s.0 h left there le s.1))
   ]
   last (path.Look x) h left = elim (sees_name (tree_at m) w x.name a bounded small (subst IsGoalNamed h.1 plain.1).0 left h.1 is) [
     | inl f ↦ inl f

@@ -6,7 +6,7 @@ use Rattle.command_text.specs.declared.path.Spot.{Spot}
 use Rattle.client_state.specs.Ending.{unknown}
 use Rattle.xdr_codec.specs.declared.handle.TheConstants.{ROOT}
 use Rattle.trace_replay.specs.Causes.{HasNeither}
-use Rattle.trace_replay.specs.Naming.{Leads, all_names}
+use Rattle.trace_replay.specs.Naming.{Leads, all_names, FindsFile}
 use Rattle.command_text.specs.declared.path.PathCommand.TheVariants as path
 use Rattle.client_state.specs.State as client
 use Rattle.wire.specs.declared.message.Body.TheVariants as body
@@ -23,6 +23,7 @@ use Rattle.client_cache.specs.declared.kept.Content.{Content}
 use Rattle.path_calls.specs.Walk.{begun}
 use Rattle.trace_ends.specs.Ops.{begun as op_begun}
 use Rattle.client_state.specs.Ending.{may_walk}
+use Rattle.file_open.specs.Rewriting.{asks_anew, rewrites_if, rewrites}
 use Rattle.open_close.specs.Walking.{walks, walks_if, is_its, is_look, told_walk, walked}
 use Rattle.trace_ends.specs.Session.{taken_of as session_taken}
 use Rattle.trace_replay.specs.Trail.{AreCounted, steps_by}
@@ -30,7 +31,7 @@ use Rattle.trace_ends.specs.Commands.{path_word}
 use Rattle.kept_promise.proofs.Common.{slice_get, Contains, Contains-push_cases, Command, ClientStep, Ended, ended_by, command_step, Pending, Stage, Task, Op, Opening, TakenCall, op_after, ops_with, place_after, Core, Seat, Event, Event.Does, Event.Hears, Event.Cuts, numbered, does, cuts_if, acted, session_of, happens, Moment, step_of, Deed, deeds_of, Book, Queue, taken_by, got_step, told_message, Body, took, took_if, got_message, has_call, pending, idle, drops, reply_body, ◌==◌, ◌||◌, Contains-append_cases, Reply, Reply.Walked, Reply.Bytes, name_answer, Message, wanted_if, Contains-push, file_of, joined_from, calls_from, place_with, nat_lt, if◌then◌else◌, Local, Part, content_length, content_bytes, on_local, edits, truncates, reads, abandons, too_big, writes, done_with, closes, asks_temp, opens, opens_if, asks_file, asks_kept, is_open, may_ask, local_most, written_size, written, truncated, ends, word_of, value_at_begin, Word, point_if, has_point, told_of, Outcome}
 use Rattle.kept_promise.proofs.Actors.{job_place, job_task, Heard, heard_takes, own_op}
 use Rattle.kept_promise.proofs.Lists.{some_is, nothing_there, of_appended, kept_appended, count_more, within, at_end}
-use Rattle.kept_promise.proofs.Messages.{Job, job, job_of, WalkCame, WalkTold, AllTolds, IsAnswer, AnswerOf, FetchOf, CloseOf}
+use Rattle.kept_promise.proofs.Messages.{Job, job, job_of, stage_word, WalkCame, WalkTold, AllTolds, IsAnswer, AnswerOf, FetchOf, CloseOf}
 use Rattle.kept_promise.proofs.PathNames.{IsSmall, IsWalkSmall, makes_later}
 use Rattle.kept_promise.proofs.Facts.{IsKept, IsMatched}
 use Rattle.kept_promise.proofs.Fits.{FitLaws}
@@ -47,7 +48,7 @@ use Rattle.kept_promise.proofs.Leaving.{Leaves, took_left}
 use Rattle.kept_promise.proofs.Found.{took_finds, file_after, command_finds}
 use Rattle.kept_promise.proofs.StepCases.{IsOfFile}
 use Rattle.kept_promise.proofs.Walked.{HasWalk, leads_past, walk_begins}
-use Rattle.kept_promise.proofs.WalkRuns.{bare, OnWay, IsOn, EndsAs, IsOver, Walks, EarlyBy, is_on, took_file, heard_walk, IsBare}
+use Rattle.kept_promise.proofs.WalkRuns.{bare, GetsFile, OnWay, IsOn, EndsAs, IsOver, Walks, EarlyBy, is_on, took_file, heard_walk, IsBare}
 use Rattle.kept_promise.proofs.OneSession.{AtOneSession}
 use Rattle.kept_promise.proofs.WalksOnward.{WayKept, same_kept, onward, walks_still, begin_stays, word_stays, acted_at, StepComes, acted_onward}
 
@@ -55,7 +56,7 @@ use Rattle.kept_promise.proofs.WalksOnward.{WayKept, same_kept, onward, walks_st
 
 -- its file is known
 abbrev IsFound : (all : List Moment) → PathCommand → Op → (now : ℕ) → Type 0
-IsFound all c o now = ((s : Spot) × (c ≡ path.Find s) × ((step : ℕ) × Leads (bare all) o.begin ROOT (all_names s) o.file step × (step ≤ now))) × (o.point ≡ None) × (o.word ≡ path_word c)
+IsFound all c o now = ((s : Spot) × GetsFile c s × ((step : ℕ) × Leads (bare all) o.begin ROOT (all_names s) o.file step × (step ≤ now))) × (o.point ≡ None) × (o.word ≡ path_word c)
 
 found_of : (all : List Moment) (c : PathCommand) (o : Op) (st : Stage) (n : ℕ) → IsOfFile st → OnWay all c o st n → IsFound all c o n
 found_of all c o (stage.Walking x w) n of h = absurd of
@@ -80,19 +81,25 @@ pub record EndsIn (o r : Op) (m : ℕ) : Type 0 where
   pub word : r.word ≡ o.word
   pub end : r.end ≡ Some m
   pub already : r.outcome ≡ told.AlreadyOpen → o.point ≡ None → o.word ≡ words.Open → r.point ≡ None
-  pub fetched : IsFetched r.outcome
+  pub fetched : IsFetched o.word r.outcome
 
 -- it ends with its file
 found_over : (all : List Moment) (c : PathCommand) (o r : Op) (n m : ℕ) → EndsIn o r m → n ≤ m → IsFound all c o n → EndsAs all c r r.outcome
-found_over all c o r n m e le ((s, is, (step, leads, before)), pointless, word) = subst (λ (k : PathCommand). EndsAs all k r r.outcome) (sym is) (inl (
-  record {
-    step = step;
-    found = subst (λ (b : ℕ). Leads (bare all) b ROOT (all_names s) r.file step) (sym e.begin) (subst (λ (f : ℕ). Leads (bare all) o.begin ROOT (all_names s) f step) (sym e.file) leads);
-    inside = (let past = leads_past (bare all) o.begin ROOT (all_names s) o.file step leads in let begin = e.begin in omega (arith, past, begin), λ z at. let same = some_number m z (sym e.end ∙ at) in omega (arith, before, le, same));
-  },
-  λ u. e.already u pointless (word ∙ ap path_word is),
-  e.fetched,
-))
+found_over all c o r n m e le ((s, gets, (step, leads, before)), pointless, word) = by gets
+  where
+    found : FindsFile (bare all) r s
+    found = record {
+      step = step;
+      found = subst (λ (b : ℕ). Leads (bare all) b ROOT (all_names s) r.file step) (sym e.begin) (subst (λ (f : ℕ). Leads (bare all) o.begin ROOT (all_names s) f step) (sym e.file) leads);
+      inside = (let past = leads_past (bare all) o.begin ROOT (all_names s) o.file step leads in let begin = e.begin in omega (arith, past, begin), λ z at. let same = some_number m z (sym e.end ∙ at) in omega (arith, before, le, same));
+    }
+
+    fetched : (k : PathCommand) → c ≡ k → IsFetched (path_word k) r.outcome
+    fetched k is = subst (λ (w : Word). IsFetched w r.outcome) (word ∙ ap path_word is) e.fetched
+
+    by : GetsFile c s → EndsAs all c r r.outcome
+    by (inl is) = subst (λ (k : PathCommand). EndsAs all k r r.outcome) (sym is) (inl (found, λ u. e.already u pointless (word ∙ ap path_word is), fetched (path.Find s) is))
+    by (inr is) = subst (λ (k : PathCommand). EndsAs all k r r.outcome) (sym is) (inl (found, fetched (path.Rewrite s) is))
 
 -- a step of an operation on a file finds none
 on_file_on : (all : List Moment) (d : Command) (o r : Op) (st new : Stage) (n m : ℕ) → r.word ≡ o.word → r.point ≡ o.point → r.begin ≡ o.begin → r.file ≡ o.file → n ≤ m → IsOfFile st → IsOfFile new → IsOn all d o st n → IsOn all d r new m
@@ -107,6 +114,7 @@ on_file_over all _ o r st n m e le of h = tt
 
 walk_lost : (all : List Moment) (c : PathCommand) (o r : Op) → r.file ≡ o.file → IsBare c o → EndsAs all c r told.Lost
 walk_lost all (path.Find s) o r file plain = inr (file ∙ plain.0, tt)
+walk_lost all (path.Rewrite s) o r file plain = inr (file ∙ plain.0, tt)
 walk_lost all _ o r file plain = tt
 
 lost_over : (all : List Moment) (d : Command) (o r : Op) (st : Stage) (n m : ℕ) → EndsIn o r m → r.outcome ≡ told.Lost → n ≤ m → IsOn all d o st n → IsOver all d r
@@ -154,14 +162,14 @@ in_past all past rest k e last split counted x there le = elim (Contains-append_
 -- ---- an answer comes
 
 -- to one on a file
-file_comes : (all : List Moment) (d : Deed) (o : Op) (n : ℕ) (s : client.State) (calls : List Pending) (file : ℕ) (st : Stage) (x : ℕ) (b : Body) (taken : List TakenCall) → IsOfFile st → IsOn all d.command o st n → StepComes all d o (took s calls file st x b) taken (n + 1)
-file_comes all d o n s calls file st x b taken of on =
+file_comes : (all : List Moment) (d : Deed) (o : Op) (n : ℕ) (s : client.State) (calls : List Pending) (file : ℕ) (st : Stage) (x : ℕ) (b : Body) (taken : List TakenCall) → IsOfFile st → o.word ≡ stage_word st → IsOn all d.command o st n → StepComes all d o (took s calls file st x b) taken (n + 1)
+file_comes all d o n s calls file st x b taken of word on =
     let r = took s calls file st x b in
     let new : Op = op_after o r.0 taken (n + 1) r.1 in
     let none = took_finds s calls file st x b of in
     record {
       way = λ runs u at. on_file_on all d.command o new st u.stage n (n + 1) (word_stays o r.0 taken (n + 1) r.1) (ap (λ (l : Option Ended). (op_after o r.0 taken (n + 1) (record r.1 { ended = l })).point) runs) (began r.0 r.1 r.1.ended) (file_after o r.0 taken (n + 1) r.1 none) (omega arith) of (took_file s calls file st x b of u at) on;
-      over = λ e is. on_file_over all d.command o new st n (n + 1) (record { begin = began r.0 r.1 r.1.ended; file = file_after o r.0 taken (n + 1) r.1 none; word = word_stays o r.0 taken (n + 1) r.1; end = ap (λ (l : Option Ended). (op_after o r.0 taken (n + 1) (record r.1 { ended = l })).end) is; already = already r.0 r.1 r.1.ended; fetched = subst (λ (l : Option Ended). IsFetched (op_after o r.0 taken (n + 1) (record r.1 { ended = l })).outcome) (sym is) (ends_fetched e.outcome s.opened r.0.opened file (subst (Leaves s.opened r.0.opened file) is (took_left s calls file st x b of).1)) }) (omega arith) of on;
+      over = λ e is. on_file_over all d.command o new st n (n + 1) (record { begin = began r.0 r.1 r.1.ended; file = file_after o r.0 taken (n + 1) r.1 none; word = word_stays o r.0 taken (n + 1) r.1; end = ap (λ (l : Option Ended). (op_after o r.0 taken (n + 1) (record r.1 { ended = l })).end) is; already = already r.0 r.1 r.1.ended; fetched = subst (λ (l : Option Ended). IsFetched o.word (op_after o r.0 taken (n + 1) (record r.1 { ended = l })).outcome) (sym is) (subst (λ (w : Word). IsFetched w (told_of e.outcome)) (sym word) (ends_fetched (stage_word st) e.outcome s.opened r.0.opened file (subst (Leaves (stage_word st) s.opened r.0.opened file) is (took_left s calls file st x b of).1))) }) (omega arith) of on;
     }
   where
     began : (c : client.State) (acts : ClientStep) (l : Option Ended) → (op_after o c taken (n + 1) (record acts { ended = l })).begin ≡ o.begin
@@ -209,6 +217,12 @@ heard_comes laws all past opening k qs n now bytes mid kept h order one noted is
     become : client.State × ClientStep → Op
     become r = op_after o r.0 taken (k.steps + 1) r.1
 
+    own_word : o.word ≡ stage_word j.stage
+    own_word =
+        let of = (kept.seats h.session.owner h.seat h.owner).task j is in
+        let same : of.op ≡ o = some_is of.op o (sym of.there ∙ at) in
+        ap (λ (z : Op). z.word) (sym same) ∙ of.word
+
     or_none : (b : Bool) → (b || false) ≡ true → b ≡ true
     or_none true e = refl
     or_none false e = e
@@ -235,7 +249,7 @@ heard_comes laws all past opening k qs n now bytes mid kept h order one noted is
             let own : told.op.client ≡ h.session.owner = ap (λ (z : Op). z.client) mine_ ∙ client_is in
             -- the answer came on the session on which it was sent
             let same_session : told.session ≡ n = some_is told.session n (sym told.newest ∙ sym (one told.at told.op.client told.seat j told.noted told.seat_is told.job_is (moment k (Hears n now bytes)) h.seat j noted (ap (numbered k.seats) own ∙ h.owner) is refl) ∙ h.newest) in
-            let comes = heard_walk all book refl order taken h.session.closing j x w (name_answer r) told small c o mine_ plain owed word f.0 f.1 f.2 f.3 (k.steps + 1) (omega (arith, late)) (moment k (Hears n now bytes)) noted refl now bytes (ap (λ (l : ℕ). Hears l now bytes) (sym same_session)) takes (idle s) (client.calls_of s) in
+            let comes = heard_walk all book refl order taken h.session.closing j x w (name_answer r) told walking small c o mine_ plain owed word f.0 f.1 f.2 f.3 (k.steps + 1) (omega (arith, late)) (moment k (Hears n now bytes)) noted refl now bytes (ap (λ (l : ℕ). Hears l now bytes) (sym same_session)) takes (idle s) (client.calls_of s) in
             record {
               way = λ runs u task. subst (λ (z : Command). IsOn all z (become (walked (idle s) (client.calls_of s) x (is_look w.goal) (walk_told w (name_answer r)))) u.stage (k.steps + 1)) (sym named) (comes.way runs u task);
               over = λ z ended. subst (λ (y : Command). IsOver all y (become (walked (idle s) (client.calls_of s) x (is_look w.goal) (walk_told w (name_answer r))))) (sym named) (word_stays o (walked (idle s) (client.calls_of s) x (is_look w.goal) (walk_told w (name_answer r))).0 taken (k.steps + 1) (walked (idle s) (client.calls_of s) x (is_look w.goal) (walk_told w (name_answer r))).1 ∙ word, inr (inr (comes.ends z ended)));
@@ -292,7 +306,7 @@ heard_comes laws all past opening k qs n now bytes mid kept h order one noted is
 
     own_took : (st : Stage) → j.stage ≡ st → has_call (client.pending_in st) x ≡ true → IsOn all d.command o st k.steps → NoFault o (took (idle s) (client.calls_of s) j.file st x (reply_body h.told.reply)) taken (k.steps + 1) → StepComes all d o (took (idle s) (client.calls_of s) j.file st x (reply_body h.told.reply)) taken (k.steps + 1)
     own_took (stage.Walking y w) e has on right = to_walk y w e (eqb-true y x (or_none (y == x) has)) h.told.reply refl (ap (λ (z : Option Task). has_call (pending z) x) (job_task h.seat.place h.seat.client.task j is) ∙ ap (λ (z : Stage). has_call (client.pending_in z) x) e ∙ has) on right
-    own_took v e has on right = file_comes all d o k.steps (idle s) (client.calls_of s) j.file v x (reply_body h.told.reply) taken tt on
+    own_took v e has on right = file_comes all d o k.steps (idle s) (client.calls_of s) j.file v x (reply_body h.told.reply) taken tt (own_word ∙ ap stage_word e) on
 
     own : (t : Option Task) → t ≡ Some mine → (b : Bool) → has_call (pending t) x ≡ b → NoFault o (took_if s t x (reply_body h.told.reply) b) taken (k.steps + 1) → StepComes all d o (took_if s t x (reply_body h.told.reply) b) taken (k.steps + 1)
     own t e true has right = subst (λ (z : Option Task). NoFault o (took_if s z x (reply_body h.told.reply) true) taken (k.steps + 1) → StepComes all d o (took_if s z x (reply_body h.told.reply) true) taken (k.steps + 1)) (sym e) (own_took j.stage refl (ap (λ (z : Option Task). has_call (pending z) x) (sym e) ∙ has) on) right
@@ -325,6 +339,18 @@ opens_of_file s file u none None e at = by (is_open s.opened file) at
     by : (b : Bool) → (opens_if s file b).0.task ≡ Some u → IsOfFile u.stage
     by true at = nothing_there u (sym none ∙ at)
     by false at = asks_of_file s file (may_ask s) u none at
+
+rewrites_of_file : (s : client.State) (file : ℕ) (u : Task) → s.task ≡ None → (t : Option Task) → t ≡ None → (rewrites s file t).0.task ≡ Some u → IsOfFile u.stage
+rewrites_of_file s file u none (Some t) e at = nothing_there t (sym e)
+rewrites_of_file s file u none None e at = by (is_open s.opened file) at
+  where
+    asks : (b : Bool) → (asks_anew s file b).0.task ≡ Some u → IsOfFile u.stage
+    asks true at = file_of_task _ u at tt
+    asks false at = nothing_there u (sym none ∙ at)
+
+    by : (b : Bool) → (rewrites_if s file b).0.task ≡ Some u → IsOfFile u.stage
+    by true at = nothing_there u (sym none ∙ at)
+    by false at = asks (may_ask s) at
 
 -- what is done on an open file leaves nothing under way, but a close
 local_none : (s : client.State) (t : Option Task) (l : Option Local) (does : Local → client.State × ClientStep) (u : Task) → s.task ≡ None → ((l : Local) → (does l).0.task ≡ Some u → IsOfFile u.stage) → (on_local s t l does).0.task ≡ Some u → IsOfFile u.stage
@@ -370,6 +396,7 @@ walk_begun all s c None e none u at o n begin file pointless word = by (may_walk
 command_begins : (all : List Moment) (s : client.State) (d : Command) (now : ℕ) → s.task ≡ None → (u : Task) → (command_step s d now).0.task ≡ Some u → (o : Op) (n : ℕ) → n ≡ o.begin → o.file ≡ file_of d → o.point ≡ None → o.word ≡ word_of d → IsOn all d o u.stage n
 command_begins all s (command.Named c) now none u at o n begin file pointless word = walk_begun all s c s.task none none u at o n begin file pointless word
 command_begins all s (command.Open f) now none u at o n begin file pointless word = opens_of_file s f u none s.task none at
+command_begins all s (command.Rewrite f) now none u at o n begin file pointless word = rewrites_of_file s f u none s.task none at
 command_begins all s (command.Write f offset content) now none u at o n begin file pointless word = local_none s s.task (client.local_at s.opened f) (writes s f offset content) u none (λ l. writes_none s f offset content l u none) at
 command_begins all s (command.Trunc f size) now none u at o n begin file pointless word = local_none s s.task (client.local_at s.opened f) (truncates s f size) u none (λ l. edits_none s f l size (truncated l.bytes size) u none) at
 command_begins all s (command.Read f offset count) now none u at o n begin file pointless word = local_none s s.task (client.local_at s.opened f) (reads s offset count) u none (λ l e. nothing_there u (sym none ∙ e)) at

@@ -15,6 +15,7 @@ use Rattle.client_state.specs.Ending.{may_walk}
 use Rattle.client_state.specs.declared.step.Outcome.TheVariants as outcome
 use Rattle.client_state.specs.declared.task.Stage.TheVariants as stage
 use Rattle.file_open.specs.Fetching.{asks_kept}
+use Rattle.file_open.specs.Rewriting.{asks_version}
 use Rattle.open_close.specs.Walking.{walks, walks_if}
 use Rattle.register_model.specs.Register.{changes}
 use Rattle.register_model.specs.declared.op.Word.TheVariants as words
@@ -23,14 +24,14 @@ use Rattle.trace_replay.specs.Traffic.{AreOwn}
 use Rattle.trace_replay.specs.Walking.{Part, Part.asks, Part.waits, IsUnfound, HasWalkFile, HasFoundFile}
 use Rattle.kept_promise.proofs.Common.{Body, Pending, Command, command_step, took, Ended, Stage, Task, Word, Op, TakenCall, op_after, Deal, Deal.Sent, Deal.Took, ClientStep, file_of, is_some}
 use Rattle.kept_promise.proofs.Messages.{goal_word, stage_word}
-use Rattle.kept_promise.proofs.FindsOpen.{finds_open, asks_word}
+use Rattle.kept_promise.proofs.FindsOpen.{finds_open, finds_rewrite, asks_word}
 use Rattle.kept_promise.proofs.StepCases.{IsOfFile, IsFault, Walks, fronts, walk_cases}
-use Rattle.kept_promise.proofs.WalkLog.{IsUnder, walk_more}
+use Rattle.kept_promise.proofs.WalkLog.{GoesAs, IsUnder, IsGetting, walk_more}
 
 -- ---- by what an answer leads to
 
 abbrev FiledBy : Op → Leading → List Deal → Type 0
-FiledBy o t ds = elim t as (λ (x : Leading). Type 0) [ leading.Asks v ↦ HasWalkFile o (asks v) ds | leading.Finds id ↦ o.file ≡ id | _ ↦ Unit {0} ]
+FiledBy o t ds = elim t as (λ (x : Leading). Type 0) [ leading.Asks v ↦ HasWalkFile o (asks v) ds | leading.Finds id ↦ o.file ≡ id | leading.Rewrites id ↦ o.file ≡ id | _ ↦ Unit {0} ]
 
 told_filed : (o : Op) (w : Walk) (a : Nfs) (x : ℕ) (ds : List Deal) (t : Leading) → walk_told w a ≡ t → FiledBy o t ds → HasWalkFile o (waits x w) (Took (message.Answer x (body.Nfs a)) ∷ ds)
 told_filed o w a x ds t is k = subst (λ (z : Leading). FiledBy o z ds) (sym is) k
@@ -39,15 +40,16 @@ told_filed o w a x ds t is k = subst (λ (z : Leading). FiledBy o z ds) (sym is)
 pub filed_more : (o : Op) (p : Part) (ds : List Deal) (file x : ℕ) (w : Walk) → IsUnder p ds file (stage.Walking x w) → (more : List Deal) → HasWalkFile o (waits x w) more → HasWalkFile o p (ds ++ more)
 filed_more o p ds file x w h more k = walk_more (λ (l : List Deal) (q : Part). HasWalkFile o q l) (λ u y l g. g) (λ u v y a l its is g. told_filed o u a y l (leading.Asks v) is g) p ds file x w h more k
 
--- and where it goes on as an open of its file
+-- and where it goes on as an open, or a rewrite, of its file
 pub filed_found : (o : Op) (p : Part) (ds : List Deal) (file : ℕ) (st : Stage) → IsUnder p ds file st → IsOfFile st → o.file ≡ file → (more : List Deal) → HasWalkFile o p (ds ++ more)
 filed_found o (asks u) (Sent (message.Call y (body.Nfs m)) ∷ ds) file st h of is more = filed_found o (waits y u) ds file st h.1 of is more
 filed_found o (waits y u) [] file st h of is more = absurd (subst IsOfFile h of)
 filed_found o (waits y u) (Took (message.Answer n (body.Nfs a)) ∷ ds) file st h of is more = by (walk_told u a) (λ v k. filed_found o (asks v) ds file st k of is more) h.2
   where
-    by : (t : Leading) → ((v : Walk) → IsUnder (asks v) ds file st → HasWalkFile o (asks v) (ds ++ more)) → elim t as (λ (x : Leading). Type 0) [ leading.Asks v ↦ IsUnder (asks v) ds file st | leading.Finds id ↦ (id ≡ file) × AreOwn words.Open id [] ds × IsOfFile st × (stage_word st ≡ words.Open) | _ ↦ ⊥ ] → FiledBy o t (ds ++ more)
+    by : (t : Leading) → ((v : Walk) → IsUnder (asks v) ds file st → HasWalkFile o (asks v) (ds ++ more)) → elim t as (λ (x : Leading). Type 0) [ leading.Asks v ↦ IsUnder (asks v) ds file st | leading.Finds id ↦ GoesAs words.Open id file ds st | leading.Rewrites id ↦ GoesAs words.Rewrite id file ds st | _ ↦ ⊥ ] → FiledBy o t (ds ++ more)
     by (leading.Asks v) rest k = rest v k
     by (leading.Finds id) rest k = is ∙ sym k.0
+    by (leading.Rewrites id) rest k = is ∙ sym k.0
     by t rest k = absurd k
 filed_found o p ds file st h of is more = absurd h
 
@@ -57,9 +59,10 @@ unfound_of o (asks u) (Sent (message.Call y (body.Nfs m)) ∷ ds) file x w h k =
 unfound_of o (waits y u) [] file x w h k = k
 unfound_of o (waits y u) (Took (message.Answer n (body.Nfs a)) ∷ ds) file x w h k = by (walk_told u a) (λ v g l. unfound_of o (asks v) ds file x w g l) h.2 k
   where
-    by : (t : Leading) → ((v : Walk) → IsUnder (asks v) ds file (stage.Walking x w) → HasWalkFile o (asks v) ds → IsUnfound o) → elim t as (λ (x : Leading). Type 0) [ leading.Asks v ↦ IsUnder (asks v) ds file (stage.Walking x w) | leading.Finds id ↦ (id ≡ file) × AreOwn words.Open id [] ds × IsOfFile (stage.Walking x w) × (stage_word (stage.Walking x w) ≡ words.Open) | _ ↦ ⊥ ] → FiledBy o t ds → IsUnfound o
+    by : (t : Leading) → ((v : Walk) → IsUnder (asks v) ds file (stage.Walking x w) → HasWalkFile o (asks v) ds → IsUnfound o) → elim t as (λ (x : Leading). Type 0) [ leading.Asks v ↦ IsUnder (asks v) ds file (stage.Walking x w) | leading.Finds id ↦ GoesAs words.Open id file ds (stage.Walking x w) | leading.Rewrites id ↦ GoesAs words.Rewrite id file ds (stage.Walking x w) | _ ↦ ⊥ ] → FiledBy o t ds → IsUnfound o
     by (leading.Asks v) rest g l = rest v g l
     by (leading.Finds id) rest g l = absurd g.2
+    by (leading.Rewrites id) rest g l = absurd g.2
     by t rest g l = absurd g
 unfound_of o p ds file x w h k = absurd h
 
@@ -78,6 +81,7 @@ filed_as o r same un (waits x w) (Took (message.Answer y (body.Nfs a)) ∷ ds) h
     by : (t : Leading) → ((v : Walk) → HasWalkFile o (asks v) ds → HasWalkFile r (asks v) ds) → FiledBy o t ds → FiledBy r t ds
     by (leading.Asks v) rest k = rest v k
     by (leading.Finds id) rest k = same ∙ k
+    by (leading.Rewrites id) rest k = same ∙ k
     by t rest k = tt
 filed_as o r same un p ds h = tt
 
@@ -85,15 +89,16 @@ abbrev part_word : Part → Word
 part_word (asks w) = goal_word w.goal
 part_word (waits x w) = goal_word w.goal
 
--- or its change was made: it is no open, whose walk finds a file
-pub filed_made : (o r : Op) → IsUnfound r → (p : Part) (ds : List Deal) → (part_word p ≡ words.Open → ⊥) → HasWalkFile o p ds → HasWalkFile r p ds
+-- or its change was made: it is no open, and no rewrite, whose walk finds a file
+pub filed_made : (o r : Op) → IsUnfound r → (p : Part) (ds : List Deal) → (IsGetting (part_word p) → ⊥) → HasWalkFile o p ds → HasWalkFile r p ds
 filed_made o r un (asks w) (Sent (message.Call y (body.Nfs m)) ∷ ds) not h = filed_made o r un (waits y w) ds not h
 filed_made o r un (waits x w) [] not h = un
-filed_made o r un (waits x w) (Took (message.Answer y (body.Nfs a)) ∷ ds) not h = by (walk_told w a) refl (λ v is k. filed_made o r un (asks v) ds (λ e. not (sym (asks_word w a v is) ∙ e)) k) h
+filed_made o r un (waits x w) (Took (message.Answer y (body.Nfs a)) ∷ ds) not h = by (walk_told w a) refl (λ v is k. filed_made o r un (asks v) ds (λ e. not (subst IsGetting (asks_word w a v is) e)) k) h
   where
     by : (t : Leading) → walk_told w a ≡ t → ((v : Walk) → walk_told w a ≡ leading.Asks v → HasWalkFile o (asks v) ds → HasWalkFile r (asks v) ds) → FiledBy o t ds → FiledBy r t ds
     by (leading.Asks v) is rest k = rest v is k
-    by (leading.Finds id) is rest k = absurd (not (finds_open w a id is))
+    by (leading.Finds id) is rest k = absurd (not (inl (finds_open w a id is)))
+    by (leading.Rewrites id) is rest k = absurd (not (inr (finds_rewrite w a id is)))
     by t is rest k = tt
 filed_made o r un p ds not h = tt
 
@@ -110,6 +115,8 @@ walk_filed n file p log was s calls task y w x b same h = walk_cases (FiledOn n 
   open_already = λ id k already no is un. filed_more n p log was y w h (Took (message.Answer x b) ∷ []) (takes (λ (m : Deal). HasWalkFile n (waits y w) (m ∷ [])) k (told_filed n w k.answer y [] (leading.Finds id) (told_by k) is));
   fetches = λ id k shut none no is un. filed_more n p log was y w h (Took (message.Answer x b) ∷ map Sent (asks_kept (fronts s id) id None).1.send) (takes (λ (m : Deal). HasWalkFile n (waits y w) (m ∷ map Sent (asks_kept (fronts s id) id None).1.send)) k (told_filed n w k.answer y (map Sent (asks_kept (fronts s id) id None).1.send) (leading.Finds id) (told_by k) is));
   leases = λ id c k shut there no is un. filed_more n p log was y w h (Took (message.Answer x b) ∷ map Sent (asks_kept (fronts s id) id (Some c)).1.send) (takes (λ (m : Deal). HasWalkFile n (waits y w) (m ∷ map Sent (asks_kept (fronts s id) id (Some c)).1.send)) k (told_filed n w k.answer y (map Sent (asks_kept (fronts s id) id (Some c)).1.send) (leading.Finds id) (told_by k) is));
+  renew_already = λ id k already no is un. filed_more n p log was y w h (Took (message.Answer x b) ∷ []) (takes (λ (m : Deal). HasWalkFile n (waits y w) (m ∷ [])) k (told_filed n w k.answer y [] (leading.Rewrites id) (told_by k) is));
+  renews = λ id k shut no is un. filed_more n p log was y w h (Took (message.Answer x b) ∷ map Sent (asks_version (fronts s id) id).1.send) (takes (λ (m : Deal). HasWalkFile n (waits y w) (m ∷ map Sent (asks_version (fronts s id) id).1.send)) k (told_filed n w k.answer y (map Sent (asks_version (fronts s id) id).1.send) (leading.Rewrites id) (told_by k) is));
   ends = λ v e k last no is un. filed_more n p log was y w h (Took (message.Answer x b) ∷ []) (takes (λ (m : Deal). HasWalkFile n (waits y w) (m ∷ [])) k (told_filed n w k.answer y [] (leading.Ends e) (told_by k) tt));
 })
   where

@@ -1,5 +1,5 @@
 -- The walk of an open has found a file: the open goes on as one of the file, with a first call.
-use Rattle.std.proofs.Common.{inl, inr, ◌≡◌, ℕ, ◌+◌, ◌<◌, ◌≤◌, List, [], ◌∷◌, ◌++◌, length, Some, None, refl, sym, ap, ◌∙◌, subst, arith, true}
+use Rattle.std.proofs.Common.{false, inl, inr, ◌≡◌, ℕ, ◌+◌, ◌<◌, ◌≤◌, List, [], ◌∷◌, ◌++◌, length, Some, None, refl, sym, ap, ◌∙◌, subst, arith, true}
 use Rattle.client_state.specs.State as client
 use Rattle.client_state.specs.declared.task.Stage.TheVariants as stage
 use Rattle.register_model.specs.declared.op.Outcome.{Outcome}
@@ -28,16 +28,16 @@ finding_op o tr id = record o { file = id; traffic = tr }
 abbrev pub of_file : Job → (id : ℕ) → Stage → Job
 of_file j id s = record { place = j.place; file = id; stage = s }
 
-no_change : {A : Type 0} (w : Word) → w ≡ words.Open → changes w ≡ true → A
-no_change w is c = absurd (false_and_true (changes w) (ap changes is) c)
+no_change : {A : Type 0} (w : Word) → changes w ≡ false → changes w ≡ true → A
+no_change w is c = absurd (false_and_true (changes w) is c)
 
-becomes_finding : (book : Book) (place : ℕ) (o : Op) (tr : Traffic) (id : ℕ) → o.word ≡ words.Open → Becomes book None (Some place) place o (finding_op o tr id)
+becomes_finding : (book : Book) (place : ℕ) (o : Op) (tr : Traffic) (id : ℕ) → changes o.word ≡ false → Becomes book None (Some place) place o (finding_op o tr id)
 becomes_finding book place o tr id w = record {
   follows = record {
     client = refl;
     word = refl;
     file = λ n g. absurd (n refl);
-    close_file = λ c. absurd (open_not_close (sym w ∙ c));
+    close_file = λ c. no_change o.word w (ap changes c);
     own_file = λ c n. no_change o.word w c;
     begin = refl;
     point = λ c p e. no_change o.word w c;
@@ -51,7 +51,7 @@ becomes_finding book place o tr id w = record {
   point = λ p e. inl e;
 }
 
-right_finding : (book more : Book) (o : Op) (tr : Traffic) (id : ℕ) → o.word ≡ words.Open → IsRight book o → o.outcome ≡ told.Running → book.steps ≤ more.steps → IsRight more (finding_op o tr id)
+right_finding : (book more : Book) (o : Op) (tr : Traffic) (id : ℕ) → changes o.word ≡ false → IsRight book o → o.outcome ≡ told.Running → book.steps ≤ more.steps → IsRight more (finding_op o tr id)
 right_finding book more o tr id w r run le = record {
   cause = subst (λ (u : Outcome). Caused more (finding_op o tr id) u) (sym run) (subst (Caused book o) run r.cause);
   begun = let b = r.begun in omega (arith, b, le);
@@ -65,8 +65,8 @@ right_finding book more o tr id w r run le = record {
 -- what it shows
 pub record FindsOn (book : Book) (k : Core) (qs : List Queue) (n : ℕ) (x : Session) (q : Queue) (t : Told) (ts : List Told) (j : Job) (g : Here book k qs n x q t ts j) (id : ℕ) (s : Stage) (a : Ask) : Type 0 where
   pub quiet : Quiet k n q
-  pub was : stage_word j.stage ≡ words.Open
-  pub word : stage_word s ≡ words.Open
+  pub was : changes (stage_word j.stage) ≡ false
+  pub word : stage_word s ≡ stage_word j.stage
   pub none : commits_in (a ∷ []) ≡ 0
   pub first : First (session_at book k qs n x q t ts j g).seat.client.next_xid s a
   pub moves : Moves (client.calls_of (session_at book k qs n x q t ts j g).seat.client) (client.pending_in s ++ (session_at book k qs n x q t ts j g).seat.client.forgotten) t (a ∷ [])
@@ -97,12 +97,12 @@ kept_finds book k qs n x q t ts j g id s a cache tr seats after w cached around 
     let i : Job = of_file j id s in
     let d : Seat = record h.seat { client = c; place = Some j.place } in
     let right = g.kept.sound.rights j.place of.op of.there in
-    let became = becomes_finding book j.place of.op tr id (of.word ∙ w.was) in
-    let goes = goes_becomes book 1 None (Some j.place) j.place of.op r of.there became (right_finding book more of.op tr id (of.word ∙ w.was) right of.running (omega arith)) g.kept.sound in
+    let became = becomes_finding book j.place of.op tr id (ap changes of.word ∙ w.was) in
+    let goes = goes_becomes book 1 None (Some j.place) j.place of.op r of.there became (right_finding book more of.op tr id (ap changes of.word ∙ w.was) right of.running (omega arith)) g.kept.sound in
     let talk = h.talk g.uncut in
     let seat_was = g.kept.seats x.owner h.seat h.owner in
     let bound = tolds_below n k.server.waiting q x.hung h.seat.client.next_xid (client.calls_of h.seat.client) talk.balanced in
-    let moved : IsOf more x.owner i = record { op = r; there = at_replaced book.ops j.place r of.op of.there; client = of.client; word = of.word ∙ w.was ∙ sym w.word; file = λ n. refl; running = of.running } in
+    let moved : IsOf more x.owner i = record { op = r; there = at_replaced book.ops j.place r of.op of.there; client = of.client; word = of.word ∙ sym w.word; file = λ n. refl; running = of.running } in
     kept_heard book ops k qs n x q t ts c (Some j.place) (a ∷ []) None (Some j.place) seats after g.kept g.at g.is g.first g.uncut around queues (record {
       goes = goes;
       still = still_becomes book 1 None (Some j.place) j.place of.op r of.there became g.kept.sound;
@@ -137,7 +137,7 @@ kept_finds book k qs n x q t ts j g id s a cache tr seats after w cached around 
         opened = λ f l e. let o = seat_was.opened f l e in (there_later book more None (Some j.place) f goes.grows o.0, o.1);
         kept = cached_later book more None (Some j.place) cache goes.grows cached;
       };
-      orderly = orderly_ends book more n k.server.temps k.server.waiting q x.hung h.seat.client.next_xid (client.calls_of h.seat.client) t ts h.seat d j (a ∷ []) talk.balanced g.first g.job_is (inl (open_no_close j.stage w.was)) (h.orderly g.uncut) (free_on d i refl (open_no_close s w.word)) w.fetching;
+      orderly = orderly_ends book more n k.server.temps k.server.waiting q x.hung h.seat.client.next_xid (client.calls_of h.seat.client) t ts h.seat d j (a ∷ []) talk.balanced g.first g.job_is (inl (λ e. no_change (stage_word j.stage) w.was (ap changes e))) (h.orderly g.uncut) (free_on d i refl (λ e. no_change (stage_word s) (ap changes w.word ∙ w.was) (ap changes e))) w.fetching;
       running = λ others round p o at run. elim (of_replaced book.ops j.place r p o at) [
         | inl here ↦ (d, i, ap (λ (z : Op). numbered others z.client) here.1 ∙ ap (numbered others) of.client ∙ round.there, refl, sym here.0)
         | inr there ↦

@@ -1,52 +1,65 @@
 -- What a client that looks names up leaves in a step: its open files are as they were, and it ends with no content.
-use Rattle.std.proofs.Common.{◌≡◌, ℕ, ◌+◌, ◌≤◌, List, Option, Some, None, refl, sym, ◌∙◌, subst, arith, Result}
+use Rattle.std.proofs.Common.{◌≡◌, ℕ, ◌+◌, ◌≤◌, List, Option, Some, None, refl, sym, ◌∙◌, subst, arith, Result, true}
 use Rattle.path_calls.specs.declared.answers.Ended.TheVariants as walk_end
 use Rattle.path_calls.specs.declared.answers.Ended.{Ended as WalkEnd}
+use Rattle.path_calls.specs.declared.answers.Told.TheVariants as leading
+use Rattle.register_model.specs.declared.op.Word.TheVariants as words
 use Rattle.path_calls.specs.declared.walk.Walk.{Walk}
 use Rattle.client_state.specs.State as client
 use Rattle.client_state.specs.declared.step.Outcome.TheVariants as outcome
 use Rattle.client_state.specs.declared.task.Stage.TheVariants as stage
-use Rattle.open_close.specs.Walking.{outcome_of}
+use Rattle.open_close.specs.Walking.{outcome_of, is_its}
 use Rattle.kept_promise.proofs.Common.{calls_most, Body, Message, Pending, WireFault, idle, took, got_step, ClientStep, Ended, Outcome, Stage, Task}
 use Rattle.kept_promise.proofs.Lists.{some_is, nothing_there}
 use Rattle.kept_promise.proofs.StepCases.{some_call, IsOfFile, walk_cases, got_cases}
 use Rattle.kept_promise.proofs.WalkRuns.{took_file}
+use Rattle.nfs3_calls.specs.declared.message.Nfs.{Nfs}
+use Rattle.path_calls.specs.Told.{walk_told}
+use Rattle.register_model.specs.declared.op.Word.{Word}
+use Rattle.kept_promise.proofs.Messages.{goal_word}
+use Rattle.kept_promise.proofs.Undone.{rewrite_undone}
 
 -- ---- what is said
 
--- neither of a content that was got, nor of a file that was replaced
-abbrev pub IsNeither : Outcome → Type 0
-IsNeither (outcome.Opened g len digest) = ⊥
-IsNeither (outcome.Closed g version len digest) = ⊥
-IsNeither u = Unit {0}
+-- neither of a content that was got, nor of a file that was replaced; and none of a rewrite is done
+abbrev pub IsNeither : (what : Word) → Outcome → Type 0
+IsNeither what (outcome.Opened g len digest) = ⊥
+IsNeither what (outcome.Closed g version len digest) = ⊥
+IsNeither what outcome.Done = what ≡ words.Rewrite → ⊥
+IsNeither what u = Unit {0}
 
-abbrev pub EndsNeither : Option Ended → Type 0
-EndsNeither None = Unit {0}
-EndsNeither (Some e) = IsNeither e.outcome
+abbrev pub EndsNeither : (what : Word) → Option Ended → Type 0
+EndsNeither what None = Unit {0}
+EndsNeither what (Some e) = IsNeither what e.outcome
 
-abbrev pub IsWalkLeft : client.State → client.State × ClientStep → Type 0
-IsWalkLeft s r = (r.0.next_xid ≤ s.next_xid + calls_most) × (r.0.opened ≡ s.opened) × EndsNeither r.1.ended
+abbrev pub IsWalkLeft : (what : Word) → client.State → client.State × ClientStep → Type 0
+IsWalkLeft what s r = (r.0.next_xid ≤ s.next_xid + calls_most) × (r.0.opened ≡ s.opened) × EndsNeither what r.1.ended
 
 -- ---- an answer
 
-end_neither : (e : WalkEnd) → IsNeither (outcome_of e)
-end_neither walk_end.Done = tt
-end_neither _ = tt
+end_neither : (w : Walk) (a : Nfs) (e : WalkEnd) → is_its w a ≡ true → walk_told w a ≡ leading.Ends e → IsNeither (goal_word w.goal) (outcome_of e)
+end_neither w a walk_end.Done own told = λ renews. rewrite_undone w a own told renews
+end_neither w a _ own told = tt
 
-took_walk_left : (s : client.State) (calls : List Pending) (file y : ℕ) (w : Walk) (xid : ℕ) (b : Body) → IsWalkLeft s (took s calls file (stage.Walking y w) xid b)
-took_walk_left s calls file y w xid b = walk_cases (IsWalkLeft s) s calls file y w xid b (record {
+walk_at : {y : ℕ} {w : Walk} (z : ℕ) (v : Walk) → stage.Walking y w ≡ stage.Walking z v → v ≡ w
+walk_at z v e = cc
+
+took_walk_left : (s : client.State) (calls : List Pending) (file y : ℕ) (w : Walk) (xid : ℕ) (b : Body) → IsWalkLeft (goal_word w.goal) s (took s calls file (stage.Walking y w) xid b)
+took_walk_left s calls file y w xid b = walk_cases (IsWalkLeft (goal_word w.goal) s) s calls file y w xid b (record {
   fault = λ f untold. (omega arith, refl, tt);
   asks = λ v is. (let o = some_call in omega (arith, o), refl, tt);
   open_already = λ id is e. (omega arith, refl, tt);
   fetches = λ id is shut e. (let o = some_call in omega (arith, o), refl, tt);
   leases = λ id c is shut e. (let o = some_call in omega (arith, o), refl, tt);
-  ends = λ v e is same. (omega arith, refl, end_neither e);
+  renew_already = λ id is e. (omega arith, refl, tt);
+  renews = λ id is shut. (let o = some_call in omega (arith, o), refl, tt);
+  ends = λ v e is same. (omega arith, refl, subst (λ (z : Walk). IsNeither (goal_word z.goal) (outcome_of e)) (walk_at is.asked is.walk is.stage_is) (end_neither is.walk is.answer e is.its is.told_is));
 })
 
 -- whatever comes
-pub walk_left : (s : client.State) (m : Result Message WireFault) (now : ℕ) (t : Task) (y : ℕ) (w : Walk) → s.task ≡ Some t → t.stage ≡ stage.Walking y w → IsWalkLeft s (got_step s m now)
-walk_left s m now t y w at is = got_cases (IsWalkLeft s) s m now (record {
-  took = λ u same xid b. subst (λ (z : Task). IsWalkLeft s (took (idle s) (client.calls_of s) z.file z.stage xid b)) (some_is t u (sym at ∙ same)) (subst (λ (st : Stage). IsWalkLeft s (took (idle s) (client.calls_of s) t.file st xid b)) (sym is) (took_walk_left (idle s) (client.calls_of s) t.file y w xid b));
+pub walk_left : (s : client.State) (m : Result Message WireFault) (now : ℕ) (t : Task) (y : ℕ) (w : Walk) → s.task ≡ Some t → t.stage ≡ stage.Walking y w → IsWalkLeft (goal_word w.goal) s (got_step s m now)
+walk_left s m now t y w at is = got_cases (IsWalkLeft (goal_word w.goal) s) s m now (record {
+  took = λ u same xid b. subst (λ (z : Task). IsWalkLeft (goal_word w.goal) s (took (idle s) (client.calls_of s) z.file z.stage xid b)) (some_is t u (sym at ∙ same)) (subst (λ (st : Stage). IsWalkLeft (goal_word w.goal) s (took (idle s) (client.calls_of s) t.file st xid b)) (sym is) (took_walk_left (idle s) (client.calls_of s) t.file y w xid b));
   memory = λ u same xid. (omega arith, refl, tt);
   bad = λ u same f. (omega arith, refl, tt);
   off = λ none. (omega arith, refl, tt);

@@ -14,6 +14,7 @@ use Rattle.path_calls.specs.declared.walk.Walk.{Walk}
 use Rattle.client_state.specs.State as client
 use Rattle.client_state.specs.declared.task.Stage.TheVariants as stage
 use Rattle.file_open.specs.Fetching.{asks_kept}
+use Rattle.file_open.specs.Rewriting.{asks_version}
 use Rattle.open_close.specs.Walking.{is_its, outcome_of}
 use Rattle.path_calls.specs.declared.answers.Ended.{Ended as WalkEnd}
 use Rattle.path_calls.specs.declared.answers.Ended.TheVariants as walk_end
@@ -35,23 +36,29 @@ use Rattle.kept_promise.proofs.WalkRuns.{took_file}
 
 -- ---- what is said
 
--- behind what was said so far from this part of a walk on, its client is in this stage: the walk waits there, or its operation goes on as an open of this file
+-- an operation goes on as one of this word on its file, in this stage, by what was said since
+abbrev pub GoesAs : Word → (id file : ℕ) → List Deal → Stage → Type 0
+GoesAs what id file ds st = (id ≡ file) × AreOwn what id [] ds × IsOfFile st × (stage_word st ≡ what)
+
+-- behind what was said so far from this part of a walk on, its client is in this stage: the walk waits there, or its operation goes on as an open, or a rewrite, of this file
 abbrev pub IsUnder : Part → List Deal → (file : ℕ) → Stage → Type 0
 IsUnder (asks w) (Sent (message.Call xid (body.Nfs m)) ∷ ds) file st = (m ≡ next_call w) × IsUnder (waits xid w) ds file st
 IsUnder (waits xid w) [] file st = st ≡ stage.Walking xid w
-IsUnder (waits xid w) (Took (message.Answer y (body.Nfs a)) ∷ ds) file st = (y ≡ xid) × (is_its w a ≡ true) × elim (walk_told w a) [ leading.Asks v ↦ IsUnder (asks v) ds file st | leading.Finds id ↦ (id ≡ file) × AreOwn words.Open id [] ds × IsOfFile st × (stage_word st ≡ words.Open) | _ ↦ ⊥ ]
+IsUnder (waits xid w) (Took (message.Answer y (body.Nfs a)) ∷ ds) file st = (y ≡ xid) × (is_its w a ≡ true) × elim (walk_told w a) [ leading.Asks v ↦ IsUnder (asks v) ds file st | leading.Finds id ↦ GoesAs words.Open id file ds st | leading.Rewrites id ↦ GoesAs words.Rewrite id file ds st | _ ↦ ⊥ ]
 IsUnder p ds file st = ⊥
 
 -- what its walk leads to, of an operation that ends so
 abbrev LedTo : History → Leading → List Deal → Type 0
 LedTo u (leading.Asks v) ds = IsWalk u (asks v) ds
 LedTo u (leading.Finds id) ds = AreOwn words.Open id [] ds
+LedTo u (leading.Rewrites id) ds = AreOwn words.Rewrite id [] ds
 LedTo u (leading.Ends e) ds = (ds ≡ []) × (u ≡ told_of (outcome_of e))
 LedTo u t ds = ⊥
 
-led : (u : History) (t : Leading) (ds : List Deal) → LedTo u t ds → elim t as (λ (x : Leading). Type 0) [ leading.Asks v ↦ IsWalk u (asks v) ds | leading.Finds id ↦ AreOwn words.Open id [] ds | leading.Ends e ↦ (ds ≡ []) × (u ≡ told_of (outcome_of e)) | _ ↦ ⊥ ]
+led : (u : History) (t : Leading) (ds : List Deal) → LedTo u t ds → elim t as (λ (x : Leading). Type 0) [ leading.Asks v ↦ IsWalk u (asks v) ds | leading.Finds id ↦ AreOwn words.Open id [] ds | leading.Rewrites id ↦ AreOwn words.Rewrite id [] ds | leading.Ends e ↦ (ds ≡ []) × (u ≡ told_of (outcome_of e)) | _ ↦ ⊥ ]
 led u (leading.Asks v) ds k = k
 led u (leading.Finds id) ds k = k
+led u (leading.Rewrites id) ds k = k
 led u (leading.Ends e) ds k = k
 led u t ds k = absurd k
 
@@ -74,9 +81,10 @@ under_walk u (asks w) (Sent (message.Call xid (body.Nfs m)) ∷ ds) file st so h
 under_walk u (waits xid w) [] file st so h = subst (WaitsSo u) h so
 under_walk u (waits xid w) (Took (message.Answer y (body.Nfs a)) ∷ ds) file st so h = (h.0, led u (walk_told w a) ds (by (walk_told w a) (λ v k. under_walk u (asks v) ds file st so k) h.2))
   where
-    by : (t : Leading) → ((v : Walk) → IsUnder (asks v) ds file st → IsWalk u (asks v) ds) → elim t as (λ (x : Leading). Type 0) [ leading.Asks v ↦ IsUnder (asks v) ds file st | leading.Finds id ↦ (id ≡ file) × AreOwn words.Open id [] ds × IsOfFile st × (stage_word st ≡ words.Open) | _ ↦ ⊥ ] → LedTo u t ds
+    by : (t : Leading) → ((v : Walk) → IsUnder (asks v) ds file st → IsWalk u (asks v) ds) → elim t as (λ (x : Leading). Type 0) [ leading.Asks v ↦ IsUnder (asks v) ds file st | leading.Finds id ↦ GoesAs words.Open id file ds st | leading.Rewrites id ↦ GoesAs words.Rewrite id file ds st | _ ↦ ⊥ ] → LedTo u t ds
     by (leading.Asks v) rest k = rest v k
     by (leading.Finds id) rest k = k.1
+    by (leading.Rewrites id) rest k = k.1
     by t rest k = absurd k
 under_walk u p ds file st so h = absurd h
 
@@ -96,15 +104,16 @@ module _ (z : List Deal → Part → Type 0)
   walk_more (waits y u) [] file x w h more k = subst (λ (st : Stage). FromWait st (z more)) h k
   walk_more (waits y u) (Took (message.Answer n (body.Nfs a)) ∷ ds) file x w h more k = by (walk_told u a) refl (λ v g. walk_more (asks v) ds file x w g more k) h.2
     where
-      by : (t : Leading) → walk_told u a ≡ t → ((v : Walk) → IsUnder (asks v) ds file (stage.Walking x w) → z (ds ++ more) (asks v)) → elim t as (λ (x : Leading). Type 0) [ leading.Asks v ↦ IsUnder (asks v) ds file (stage.Walking x w) | leading.Finds id ↦ (id ≡ file) × AreOwn words.Open id [] ds × IsOfFile (stage.Walking x w) × (stage_word (stage.Walking x w) ≡ words.Open) | _ ↦ ⊥ ] → z (Took (message.Answer n (body.Nfs a)) ∷ (ds ++ more)) (waits y u)
+      by : (t : Leading) → walk_told u a ≡ t → ((v : Walk) → IsUnder (asks v) ds file (stage.Walking x w) → z (ds ++ more) (asks v)) → elim t as (λ (x : Leading). Type 0) [ leading.Asks v ↦ IsUnder (asks v) ds file (stage.Walking x w) | leading.Finds id ↦ GoesAs words.Open id file ds (stage.Walking x w) | leading.Rewrites id ↦ GoesAs words.Rewrite id file ds (stage.Walking x w) | _ ↦ ⊥ ] → z (Took (message.Answer n (body.Nfs a)) ∷ (ds ++ more)) (waits y u)
       by (leading.Asks v) is rest g = subst (λ (m : ℕ). z (Took (message.Answer m (body.Nfs a)) ∷ (ds ++ more)) (waits y u)) (sym h.0) (goes u v y a (ds ++ more) h.1 is (rest v g))
       by (leading.Finds id) is rest g = absurd g.2
+      by (leading.Rewrites id) is rest g = absurd g.2
       by t is rest g = absurd g
   walk_more p ds file x w h more k = absurd h
 
 -- what an answer leads to
-told_to : (w : Walk) (a : Nfs) (x file : ℕ) (ds : List Deal) (st : Stage) (t : Leading) → is_its w a ≡ true → walk_told w a ≡ t → elim t as (λ (x : Leading). Type 0) [ leading.Asks v ↦ IsUnder (asks v) ds file st | leading.Finds id ↦ (id ≡ file) × AreOwn words.Open id [] ds × IsOfFile st × (stage_word st ≡ words.Open) | _ ↦ ⊥ ] → IsUnder (waits x w) (Took (message.Answer x (body.Nfs a)) ∷ ds) file st
-told_to w a x file ds st t its is k = (refl, its, subst (λ (z : Leading). elim z as (λ (x : Leading). Type 0) [ leading.Asks v ↦ IsUnder (asks v) ds file st | leading.Finds id ↦ (id ≡ file) × AreOwn words.Open id [] ds × IsOfFile st × (stage_word st ≡ words.Open) | _ ↦ ⊥ ]) (sym is) k)
+told_to : (w : Walk) (a : Nfs) (x file : ℕ) (ds : List Deal) (st : Stage) (t : Leading) → is_its w a ≡ true → walk_told w a ≡ t → elim t as (λ (x : Leading). Type 0) [ leading.Asks v ↦ IsUnder (asks v) ds file st | leading.Finds id ↦ GoesAs words.Open id file ds st | leading.Rewrites id ↦ GoesAs words.Rewrite id file ds st | _ ↦ ⊥ ] → IsUnder (waits x w) (Took (message.Answer x (body.Nfs a)) ∷ ds) file st
+told_to w a x file ds st t its is k = (refl, its, subst (λ (z : Leading). elim z as (λ (x : Leading). Type 0) [ leading.Asks v ↦ IsUnder (asks v) ds file st | leading.Finds id ↦ GoesAs words.Open id file ds st | leading.Rewrites id ↦ GoesAs words.Rewrite id file ds st | _ ↦ ⊥ ]) (sym is) k)
 
 told_walk : (u : History) (w : Walk) (a : Nfs) (x : ℕ) (ds : List Deal) (t : Leading) → walk_told w a ≡ t → LedTo u t ds → IsWalk u (waits x w) (Took (message.Answer x (body.Nfs a)) ∷ ds)
 told_walk u w a x ds t is k = (refl, led u (walk_told w a) ds (subst (λ (z : Leading). LedTo u z ds) (sym is) k))
@@ -135,33 +144,35 @@ end_no_link : (e : WalkEnd) → outcome_of e ≡ outcome.NoLink → e ≡ walk_e
 end_no_link walk_end.NoLink h = refl
 end_no_link _ h = absurd cc
 
-opens_join : (file : ℕ) (a b : List Deal) → AreOwn words.Open file [] a → AreOwn words.Open file [] b → AreOwn words.Open file [] (a ++ b)
-opens_join file [] b h k = k
-opens_join file (Took m ∷ a) b h k = opens_join file a b h k
-opens_join file (Found n ∷ a) b h k = opens_join file a b h k
-opens_join file (Sent m ∷ a) b h k = (h.0, opens_join file a b h.1 k)
-
--- an open goes on with its own calls
-pub file_more : (p : Part) (ds : List Deal) (file : ℕ) (st : Stage) → IsUnder p ds file st → IsOfFile st → (more : List Deal) → AreOwn words.Open file [] more → (next : Stage) → IsOfFile next → stage_word next ≡ words.Open → IsUnder p (ds ++ more) file next
+-- an open, or a rewrite, goes on with its own calls
+pub file_more : (p : Part) (ds : List Deal) (file : ℕ) (st : Stage) → IsUnder p ds file st → IsOfFile st → (more : List Deal) → AreOwn (stage_word st) file [] more → (next : Stage) → IsOfFile next → stage_word next ≡ stage_word st → IsUnder p (ds ++ more) file next
 file_more (asks u) (Sent (message.Call y (body.Nfs m)) ∷ ds) file st h of more own next there word = (h.0, file_more (waits y u) ds file st h.1 of more own next there word)
 file_more (waits y u) [] file st h of more own next there word = absurd (subst IsOfFile h of)
 file_more (waits y u) (Took (message.Answer n (body.Nfs a)) ∷ ds) file st h of more own next there word = (h.0, h.1, by (walk_told u a) (λ v k. file_more (asks v) ds file st k of more own next there word) h.2)
   where
-    by : (t : Leading) → ((v : Walk) → IsUnder (asks v) ds file st → IsUnder (asks v) (ds ++ more) file next) → elim t as (λ (x : Leading). Type 0) [ leading.Asks v ↦ IsUnder (asks v) ds file st | leading.Finds id ↦ (id ≡ file) × AreOwn words.Open id [] ds × IsOfFile st × (stage_word st ≡ words.Open) | _ ↦ ⊥ ] → elim t as (λ (x : Leading). Type 0) [ leading.Asks v ↦ IsUnder (asks v) (ds ++ more) file next | leading.Finds id ↦ (id ≡ file) × AreOwn words.Open id [] (ds ++ more) × IsOfFile next × (stage_word next ≡ words.Open) | _ ↦ ⊥ ]
+    goes : (what : Word) (id : ℕ) → GoesAs what id file ds st → GoesAs what id file (ds ++ more) next
+    goes what id k = (k.0, own_join what id [] ds more k.1 (subst (λ (f : ℕ). AreOwn what f [] more) (sym k.0) (subst (λ (z : Word). AreOwn z file [] more) k.3 own)), there, word ∙ k.3)
+
+    by : (t : Leading) → ((v : Walk) → IsUnder (asks v) ds file st → IsUnder (asks v) (ds ++ more) file next) → elim t as (λ (x : Leading). Type 0) [ leading.Asks v ↦ IsUnder (asks v) ds file st | leading.Finds id ↦ GoesAs words.Open id file ds st | leading.Rewrites id ↦ GoesAs words.Rewrite id file ds st | _ ↦ ⊥ ] → elim t as (λ (x : Leading). Type 0) [ leading.Asks v ↦ IsUnder (asks v) (ds ++ more) file next | leading.Finds id ↦ GoesAs words.Open id file (ds ++ more) next | leading.Rewrites id ↦ GoesAs words.Rewrite id file (ds ++ more) next | _ ↦ ⊥ ]
     by (leading.Asks v) rest k = rest v k
-    by (leading.Finds id) rest k = (k.0, opens_join id ds more k.1 (subst (λ (f : ℕ). AreOwn words.Open f [] more) (sym k.0) own), there, word)
+    by (leading.Finds id) rest k = goes words.Open id k
+    by (leading.Rewrites id) rest k = goes words.Rewrite id k
     by t rest k = absurd k
 file_more p ds file st h of more own next there word = absurd h
 
--- which is an open's
-pub under_word : (p : Part) (ds : List Deal) (file : ℕ) (st : Stage) → IsUnder p ds file st → IsOfFile st → stage_word st ≡ words.Open
+-- one that opens a file, or writes it anew
+abbrev pub IsGetting : Word → Type 0
+IsGetting what = (what ≡ words.Open) ⊎ (what ≡ words.Rewrite)
+
+pub under_word : (p : Part) (ds : List Deal) (file : ℕ) (st : Stage) → IsUnder p ds file st → IsOfFile st → IsGetting (stage_word st)
 under_word (asks u) (Sent (message.Call y (body.Nfs m)) ∷ ds) file st h of = under_word (waits y u) ds file st h.1 of
 under_word (waits y u) [] file st h of = absurd (subst IsOfFile h of)
 under_word (waits y u) (Took (message.Answer n (body.Nfs a)) ∷ ds) file st h of = by (walk_told u a) (λ v k. under_word (asks v) ds file st k of) h.2
   where
-    by : (t : Leading) → ((v : Walk) → IsUnder (asks v) ds file st → stage_word st ≡ words.Open) → elim t as (λ (x : Leading). Type 0) [ leading.Asks v ↦ IsUnder (asks v) ds file st | leading.Finds id ↦ (id ≡ file) × AreOwn words.Open id [] ds × IsOfFile st × (stage_word st ≡ words.Open) | _ ↦ ⊥ ] → stage_word st ≡ words.Open
+    by : (t : Leading) → ((v : Walk) → IsUnder (asks v) ds file st → IsGetting (stage_word st)) → elim t as (λ (x : Leading). Type 0) [ leading.Asks v ↦ IsUnder (asks v) ds file st | leading.Finds id ↦ GoesAs words.Open id file ds st | leading.Rewrites id ↦ GoesAs words.Rewrite id file ds st | _ ↦ ⊥ ] → IsGetting (stage_word st)
     by (leading.Asks v) rest k = rest v k
-    by (leading.Finds id) rest k = k.3
+    by (leading.Finds id) rest k = inl k.3
+    by (leading.Rewrites id) rest k = inr k.3
     by t rest k = absurd k
 under_word p ds file st h of = absurd h
 
@@ -198,6 +209,8 @@ walk_gave p log file s calls task y w x b same h = walk_cases (GaveBy p log x b)
   open_already = λ id k is e at link. absurd (not_already (ap (λ (z : Ended). z.outcome) (some_is _ e at) ∙ link));
   fetches = λ id k shut none e at link. nothing_there e at;
   leases = λ id c k shut there e at link. nothing_there e at;
+  renew_already = λ id k is e at link. absurd (not_already (ap (λ (z : Ended). z.outcome) (some_is _ e at) ∙ link));
+  renews = λ id k shut e at link. nothing_there e at;
   ends = λ v z k is e at link. gave_more p log file y w h (Took (message.Answer x b) ∷ []) (takes (λ (m : Deal). GaveUp (waits y w) (m ∷ [])) k (told_gave w k.answer y [] (leading.Ends z) (its k) (told_by k) (refl, end_no_link z (ap (λ (q : Ended). q.outcome) (some_is _ e at) ∙ link))));
 })
   where
@@ -233,6 +246,14 @@ walk_said p log file s calls task y w x b same h = walk_cases (SaidBy p log file
     stage = λ u running is. subst (λ (t : Task). IsUnder p (log ++ Took (message.Answer x b) ∷ map Sent (asks_kept (fronts s id) id (Some c)).1.send) id t.stage) (some_is (record { file = id; stage = stage.Asking s.next_xid }) u is) (under_more p log file y w h (Took (message.Answer x b) ∷ map Sent (asks_kept (fronts s id) id (Some c)).1.send) id (stage.Asking s.next_xid) (takes (λ (m : Deal). IsUnder (waits y w) (m ∷ map Sent (asks_kept (fronts s id) id (Some c)).1.send) id (stage.Asking s.next_xid)) k (told_to w k.answer y id (map Sent (asks_kept (fronts s id) id (Some c)).1.send) (stage.Asking s.next_xid) (leading.Finds id) (its k) (told_by k) (refl, (refl, tt), tt, refl))));
     each = over_more told.Running p log file y w h (Took (message.Answer x b) ∷ map Sent (asks_kept (fronts s id) id (Some c)).1.send) (takes (λ (m : Deal). IsWalk told.Running (waits y w) (m ∷ map Sent (asks_kept (fronts s id) id (Some c)).1.send)) k (told_walk told.Running w k.answer y (map Sent (asks_kept (fronts s id) id (Some c)).1.send) (leading.Finds id) (told_by k) (refl, tt)));
   };
+  renew_already = λ id k is no. record {
+    stage = λ u running. nothing_there _ (sym running);
+    each = over_more told.AlreadyOpen p log file y w h (Took (message.Answer x b) ∷ []) (takes (λ (m : Deal). IsWalk told.AlreadyOpen (waits y w) (m ∷ [])) k (told_walk told.AlreadyOpen w k.answer y [] (leading.Rewrites id) (told_by k) tt));
+  };
+  renews = λ id k shut no. record {
+    stage = λ u running is. subst (λ (t : Task). IsUnder p (log ++ Took (message.Answer x b) ∷ map Sent (asks_version (fronts s id) id).1.send) id t.stage) (some_is (record { file = id; stage = stage.Rewriting s.next_xid }) u is) (under_more p log file y w h (Took (message.Answer x b) ∷ map Sent (asks_version (fronts s id) id).1.send) id (stage.Rewriting s.next_xid) (takes (λ (m : Deal). IsUnder (waits y w) (m ∷ map Sent (asks_version (fronts s id) id).1.send) id (stage.Rewriting s.next_xid)) k (told_to w k.answer y id (map Sent (asks_version (fronts s id) id).1.send) (stage.Rewriting s.next_xid) (leading.Rewrites id) (its k) (told_by k) (refl, (refl, tt), tt, refl))));
+    each = over_more told.Running p log file y w h (Took (message.Answer x b) ∷ map Sent (asks_version (fronts s id) id).1.send) (takes (λ (m : Deal). IsWalk told.Running (waits y w) (m ∷ map Sent (asks_version (fronts s id) id).1.send)) k (told_walk told.Running w k.answer y (map Sent (asks_version (fronts s id) id).1.send) (leading.Rewrites id) (told_by k) (refl, tt)));
+  };
   ends = λ v e k is no. record {
     stage = λ u running. nothing_there _ (sym running);
     each = over_more (told_of (outcome_of e)) p log file y w h (Took (message.Answer x b) ∷ []) (takes (λ (m : Deal). IsWalk (told_of (outcome_of e)) (waits y w) (m ∷ [])) k (told_walk (told_of (outcome_of e)) w k.answer y [] (leading.Ends e) (told_by k) (refl, refl)));
@@ -252,13 +273,13 @@ walk_said p log file s calls task y w x b same h = walk_cases (SaidBy p log file
     takes : (z : Deal → Type 0) {t : Leading} (k : Walks (stage.Walking y w) b t) → z (Took (message.Answer y (body.Nfs k.answer))) → z (Took (message.Answer x b))
     takes z k h = subst (λ (c : Body). z (Took (message.Answer x c))) (sym k.body_is) (subst (λ (n : ℕ). z (Took (message.Answer n (body.Nfs k.answer)))) (sym same) h)
 
-found_own : (file : ℕ) (ps : List (ℕ × ℕ)) → AreOwn words.Open file [] (map Found ps)
-found_own file [] = tt
-found_own file (n ∷ ps) = found_own file ps
+found_own : (what : Word) (file : ℕ) (ps : List (ℕ × ℕ)) → AreOwn what file [] (map Found ps)
+found_own what file [] = tt
+found_own what file (n ∷ ps) = found_own what file ps
 
--- to an open of a file
-pub file_said : (p : Part) (log : List Deal) (file : ℕ) (s : client.State) (calls : List Pending) (st : Stage) (x : ℕ) (b : Body) (found : List (ℕ × ℕ)) → IsOfFile st → stage_word st ≡ words.Open → IsUnder p log file st → (let r = took s calls file st x b in SaidOn p (log ++ Took (message.Answer x b) ∷ (map Found found ++ map Sent r.1.send)) file r)
-file_said p log file s calls st x b found of word h = record {
+-- to an open, or a rewrite, of a file
+pub file_said : (p : Part) (log : List Deal) (file : ℕ) (s : client.State) (calls : List Pending) (st : Stage) (x : ℕ) (b : Body) (found : List (ℕ × ℕ)) → IsOfFile st → IsGetting (stage_word st) → IsUnder p log file st → (let r = took s calls file st x b in SaidOn p (log ++ Took (message.Answer x b) ∷ (map Found found ++ map Sent r.1.send)) file r)
+file_said p log file s calls st x b found of gets h = record {
   stage = λ u running is. file_more p log file st h of ds own u.stage (took_file s calls file st x b of u is) (sends.0 u running is).0;
   each = over;
 }
@@ -269,21 +290,28 @@ file_said p log file s calls st x b found of word h = record {
     ds : List Deal
     ds = Took (message.Answer x b) ∷ (map Found found ++ map Sent (took s calls file st x b).1.send)
 
-    chunks : (z : Stage) → stage_word z ≡ words.Open → StageChunks z []
-    chunks (stage.Storing t) e = absurd cc
+    chunks : (z : Stage) → IsGetting (stage_word z) → StageChunks z []
+    chunks (stage.Storing t) (inl e) = absurd cc
+    chunks (stage.Storing t) (inr e) = absurd cc
     chunks z e = tt
 
-    sends : Sends words.Open file [] (took s calls file st x b)
-    sends = subst (λ w. Sends w file [] (took s calls file st x b)) word (took_cases (λ found r. Sends (stage_word st) file [] r) s calls file st x b of (sends_cases s calls file [] st x b (chunks st word) (λ close. absurd (apart (sym word ∙ close)))))
+    sends : Sends (stage_word st) file [] (took s calls file st x b)
+    sends = took_cases (λ found r. Sends (stage_word st) file [] r) s calls file st x b of (sends_cases s calls file [] st x b (chunks st gets) (λ close. absurd (apart (stage_word st) gets close)))
       where
-        apart : words.Open ≡ words.Close → ⊥
-        apart e = cc
+        apart : (what : Word) → IsGetting what → what ≡ words.Close → ⊥
+        apart words.Close (inl e) close = absurd cc
+        apart words.Close (inr e) close = absurd cc
+        apart what e close = absurd cc
 
-    own : AreOwn words.Open file [] ds
-    own = opens_join file (map Found found) (map Sent (took s calls file st x b).1.send) (found_own file found) sends.1
+    own : AreOwn (stage_word st) file [] ds
+    own = own_join (stage_word st) file [] (map Found found) (map Sent (took s calls file st x b).1.send) (found_own (stage_word st) file found) sends.1
+
+    so : (u : History) (z : Stage) → IsOfFile z → WaitsSo u z
+    so u (stage.Walking y w) is = absurd is
+    so u z is = tt
 
     over : IsWalk (outcome_by (took s calls file st x b).1.ended) p (log ++ ds)
-    over = under_walk (outcome_by (took s calls file st x b).1.ended) p (log ++ ds) file (stage.Asking 0) tt (file_more p log file st h of ds own (stage.Asking 0) tt refl)
+    over = under_walk (outcome_by (took s calls file st x b).1.ended) p (log ++ ds) file st (so (outcome_by (took s calls file st x b).1.ended) st of) (file_more p log file st h of ds own st of refl)
 
 -- ---- it begins
 
@@ -314,7 +342,7 @@ found_none : (ps : List (ℕ × ℕ)) → SendsNone (map Found ps)
 found_none [] = tt
 found_none (n ∷ ps) = found_none ps
 
--- nor are an open's calls on names, or a close's
+-- nor are an open's calls on names, or a rewrite's, or a close's
 own_none : (w : Word) (file : ℕ) (v : List ℕ) (ds : List Deal) → AreOwn w file v ds → SendsNone ds
 own_none w file v [] h = tt
 own_none w file v (Took m ∷ ds) h = own_none w file v ds h
@@ -324,6 +352,7 @@ own_none w file v (Sent m ∷ ds) h = by w m h.0 (own_none w file v ds h.1)
     by : (w : Word) (m : Message) → IsOwnCall w file v m → SendsNone ds → SendsNone (Sent m ∷ ds)
     by words.Open (message.Call x (body.Lb l)) own k = k
     by words.Open (message.Call x (body.Nfs (nfs.Read r))) own k = k
+    by words.Rewrite (message.Call x (body.Lb l)) own k = k
     by words.Close (message.Call x (body.Lb l)) own k = k
     by w m own k = absurd own
 
@@ -366,6 +395,7 @@ command_none s d now not = command_cases (λ r. SendsNone (map Sent r.1.send)) s
   answers = λ un opened o plain. tt;
   fetches = λ file is un may. tt;
   asks = λ file kept is un may at. tt;
+  renews = λ file is un may. tt;
   walks = λ c is un may. absurd (not c is);
   closes = λ file l is un may at. tt;
 })
@@ -376,6 +406,7 @@ command_plain s d now not free = command_cases (λ r. (u : Task) → r.0.task �
   answers = λ un opened o plain u at. nothing_there u (sym free ∙ at);
   fetches = λ file is un may u at. of_task _ u at tt;
   asks = λ file kept is un may has u at. of_task _ u at tt;
+  renews = λ file is un may u at. of_task _ u at tt;
   walks = λ c is un may u at. absurd (not c is);
   closes = λ file l is un may has u at. of_task _ u at tt;
 })

@@ -27,7 +27,7 @@ use Rattle.trace_replay.specs.Traffic.{AreOwn}
 use Rattle.kept_promise.proofs.Common.{Stage, Deal, Deal.Sent, Deal.Took}
 use Rattle.kept_promise.proofs.Messages.{stage_word}
 use Rattle.kept_promise.proofs.StepCases.{IsOfFile}
-use Rattle.kept_promise.proofs.WalkLog.{IsUnder, GaveUp}
+use Rattle.kept_promise.proofs.WalkLog.{GoesAs, IsUnder, GaveUp}
 use Rattle.trace_replay.specs.Walking.{Part.asks}
 
 -- ---- what an answer leads to
@@ -44,6 +44,7 @@ abbrev pub ListsTo : (left : List (List ℕ)) → Pages → Leading → Type 0
 ListsTo left p (leading.Asks v) = (d : ℕ) × (l : List (List ℕ)) × (q : Pages) × (v ≡ lists d l q) × (q.count ≡ p.count + asked left) × (q.count < pages_most)
 ListsTo left p (leading.Ends e) = e ≡ walk_end.NoLink → p.count + asked left ≡ pages_most
 ListsTo left p (leading.Finds id) = ⊥
+ListsTo left p (leading.Rewrites id) = ⊥
 ListsTo left p t = Unit {0}
 
 refused_to : (left : List (List ℕ)) (p : Pages) (s : Status) → ListsTo left p (leading.Ends (walk_end.Refused s))
@@ -110,18 +111,20 @@ gave_pages (Sent (message.Call xid (body.Nfs m)) ∷ (Took (message.Answer y (bo
     by (leading.Asks v) to rest g = let e = rest to.0 to.1 to.2 to.5 (subst (λ (z : Walk). GaveUp (asks z) ds) to.3 g) in let c = to.4 in omega (arith, e, c)
     by (leading.Ends z) to rest g = let none = ap pages_in g.0 in let e = to g.1 in omega (arith, none, e)
     by (leading.Finds id) to rest g = absurd to
+    by (leading.Rewrites id) to rest g = absurd to
     by t to rest g = absurd g
 gave_pages (Sent (message.Call xid (body.Nfs m)) ∷ []) dir left p few h = absurd h.1
 gave_pages (Sent (message.Call xid (body.Nfs m)) ∷ (d ∷ ds)) dir left p few h = absurd h.1
 gave_pages ds dir left p few h = absurd h
 
--- no listing opens a file
+-- no listing opens a file, or writes it anew
 pub lists_file : (ds : List Deal) (dir : ℕ) (left : List (List ℕ)) (p : Pages) → p.count < pages_most → (file : ℕ) (st : Stage) → IsUnder (asks (lists dir left p)) ds file st → IsOfFile st → ⊥
 lists_file (Sent (message.Call xid (body.Nfs m)) ∷ (Took (message.Answer y (body.Nfs a)) ∷ ds)) dir left p few file st h of = by (walk_told (lists dir left p) a) (answer_to dir left p a few h.1.1) (λ d l q lt g. lists_file ds d l q lt file st g of) h.1.2
   where
-    by : (t : Leading) → ListsTo left p t → ((d : ℕ) (l : List (List ℕ)) (q : Pages) → q.count < pages_most → IsUnder (asks (lists d l q)) ds file st → ⊥) → elim t as (λ (x : Leading). Type 0) [ leading.Asks v ↦ IsUnder (asks v) ds file st | leading.Finds id ↦ (id ≡ file) × AreOwn words.Open id [] ds × IsOfFile st × (stage_word st ≡ words.Open) | _ ↦ ⊥ ] → ⊥
+    by : (t : Leading) → ListsTo left p t → ((d : ℕ) (l : List (List ℕ)) (q : Pages) → q.count < pages_most → IsUnder (asks (lists d l q)) ds file st → ⊥) → elim t as (λ (x : Leading). Type 0) [ leading.Asks v ↦ IsUnder (asks v) ds file st | leading.Finds id ↦ GoesAs words.Open id file ds st | leading.Rewrites id ↦ GoesAs words.Rewrite id file ds st | _ ↦ ⊥ ] → ⊥
     by (leading.Asks v) to rest g = rest to.0 to.1 to.2 to.5 (subst (λ (z : Walk). IsUnder (asks z) ds file st) to.3 g)
     by (leading.Finds id) to rest g = absurd to
+    by (leading.Rewrites id) to rest g = absurd to
     by t to rest g = absurd g
 lists_file (Sent (message.Call xid (body.Nfs m)) ∷ []) dir left p few file st h of = absurd (subst IsOfFile h.1 of)
 lists_file (Sent (message.Call xid (body.Nfs m)) ∷ (d ∷ ds)) dir left p few file st h of = absurd h.1

@@ -30,6 +30,7 @@ use Rattle.kept_promise.proofs.NamesSpelled.{lookup_fits, getattr_fits, listing_
 abbrev pub reply_at : Tree → (dir : ℕ) → List (List ℕ) → Goal → NameReply
 reply_at t dir (n ∷ ns) g = LookedUp (answer_of None (found t.nodes (place dir n)))
 reply_at t dir [] (goal.Find name) = LookedUp (answer_of None (found t.nodes (place dir name)))
+reply_at t dir [] (goal.Rewrite name) = LookedUp (answer_of None (found t.nodes (place dir name)))
 reply_at t dir [] (goal.Look name) = LookedUp (answer_of None (found t.nodes (place dir name)))
 reply_at t dir [] goal.LookRoot = Shown (answer_of tt (getattr t.nodes (handle_bytes dir)))
 reply_at t dir [] (goal.List p) = Listed (answer_of None (listing t.nodes (record { dir = handle_bytes dir; cookie = p.cookie; verifier = p.verifier; count = LISTING_MOST })))
@@ -85,6 +86,7 @@ reply_its t w h none = of_its t w.dir w.left w.goal h.ahead none
 fits_at : (t : Tree) (xid dir : ℕ) (left : List (List ℕ)) (g : Goal) → IsBounded t → AreNames left → IsGoalNamed g → IsAhead left g → makes_at left g ≡ false → xid < 2 ^ 32 → MessageFits (message.Answer xid (body.Nfs (name_answer (reply_at t dir left g))))
 fits_at t xid dir (n ∷ ns) g h names aim asks none x = lookup_fits t xid (place dir n) h names.0.0.0 x
 fits_at t xid dir [] (goal.Find name) h names aim asks none x = lookup_fits t xid (place dir name) h aim.0 x
+fits_at t xid dir [] (goal.Rewrite name) h names aim asks none x = lookup_fits t xid (place dir name) h aim.0 x
 fits_at t xid dir [] (goal.Look name) h names aim asks none x = lookup_fits t xid (place dir name) h aim.0 x
 fits_at t xid dir [] goal.LookRoot h names aim asks none x = getattr_fits t xid (handle_bytes dir) h x
 fits_at t xid dir [] (goal.List p) h names aim asks none x = listing_fits t xid (record { dir = handle_bytes dir; cookie = p.cookie; verifier = p.verifier; count = LISTING_MOST }) h x

@@ -25,7 +25,7 @@ use Rattle.client_cache.specs.Cache.{content_of, reserved}
 use Rattle.client_cache.specs.declared.kept.Content.{Content}
 use Rattle.client_state.specs.Ending.{is_open}
 use Rattle.file_open.specs.Fetching.{asks_kept}
-use Rattle.open_close.specs.Walking.{finding, finds_if, is_look, walked}
+use Rattle.open_close.specs.Walking.{finding, finds_if, renews_if, is_look, walked}
 use Rattle.register_model.specs.declared.op.Outcome.{Outcome as History}
 use Rattle.register_model.specs.declared.op.Outcome.TheVariants as told
 use Rattle.register_model.specs.declared.op.Word.TheVariants as words
@@ -63,6 +63,7 @@ use Rattle.kept_promise.proofs.Goings.{RefusedAs}
 use Rattle.kept_promise.proofs.WalkStatuses.{walk_refused, making_refused}
 use Rattle.kept_promise.proofs.Alike.{AreInOrder}
 use Rattle.kept_promise.proofs.Fetched.{IsFetched}
+use Rattle.kept_promise.proofs.RefusedCalls.{tree_tells}
 
 -- ---- what is said
 
@@ -77,10 +78,14 @@ IsBare (path.Remove s) o = Unit {0}
 IsBare (path.Rename s t) o = Unit {0}
 IsBare k o = (o.file ≡ 0) × (o.point ≡ None)
 
--- an operation under way still walks; or its path led to its file, which it opens
+-- it is to open the file that this path stands for, or to write it anew
+abbrev pub GetsFile : PathCommand → Spot → Type 0
+GetsFile c s = (c ≡ path.Find s) ⊎ (c ≡ path.Rewrite s)
+
+-- an operation under way still walks; or its path led to its file, which it opens, or writes anew
 abbrev pub OnWay : List Moment → PathCommand → Op → Stage → (now : ℕ) → Type 0
 OnWay all c o (stage.Walking x w) now = (step : ℕ) × HasWalk (bare all) o.begin c w step × (step ≤ now) × IsBare c o × (o.word ≡ path_word c)
-OnWay all c o st now = ((s : Spot) × (c ≡ path.Find s) × ((step : ℕ) × Leads (bare all) o.begin ROOT (all_names s) o.file step × (step ≤ now))) × (o.point ≡ None) × (o.word ≡ path_word c)
+OnWay all c o st now = ((s : Spot) × GetsFile c s × ((step : ℕ) × Leads (bare all) o.begin ROOT (all_names s) o.file step × (step ≤ now))) × (o.point ≡ None) × (o.word ≡ path_word c)
 
 abbrev pub IsOn : List Moment → Command → Op → Stage → (now : ℕ) → Type 0
 IsOn all (command.Named c) o st now = OnWay all c o st now
@@ -98,9 +103,10 @@ EndsUnfound all k o told.Lost = Unit {0}
 EndsUnfound all k o told.Running = Unit {0}
 EndsUnfound all k o u = ⊥
 
--- how one ended that asked the server: an open's path led to its file, or it has none
+-- how one ended that asked the server: an open's path led to its file, or it has none, and so for a rewrite's
 abbrev pub EndsAs : List Moment → PathCommand → Op → History → Type 0
-EndsAs all (path.Find s) o u = (FindsFile (bare all) o s × (u ≡ told.AlreadyOpen → o.point ≡ None) × IsFetched u) ⊎ ((o.file ≡ 0) × EndsUnfound all (path.Find s) o u)
+EndsAs all (path.Find s) o u = (FindsFile (bare all) o s × (u ≡ told.AlreadyOpen → o.point ≡ None) × IsFetched words.Open u) ⊎ ((o.file ≡ 0) × EndsUnfound all (path.Find s) o u)
+EndsAs all (path.Rewrite s) o u = (FindsFile (bare all) o s × IsFetched words.Rewrite u) ⊎ ((o.file ≡ 0) × EndsUnfound all (path.Rewrite s) o u)
 EndsAs all (path.Look s) o (told.Seen id kind version len) = IsSeen (bare all) o s id kind version len × (o.file ≡ id) × (o.point ≡ None)
 EndsAs all path.LookRoot o (told.Seen id kind version len) = IsRootSeen (bare all) o id kind version len × HasNeither o
 EndsAs all (path.List p) o (told.Names list) = IsListed (bare all) o p list × HasNeither o
@@ -190,7 +196,7 @@ taken_own all book are client_ c j session xid w asks same is t = (
   refl,
 )
 
-module _ (all : List Moment) (book : Book) (are : book.moments ≡ all) (order : AreInOrder all) (taken : List TakenCall) (closing : Option ℕ) (j : Job) (x : ℕ) (w : Walk) (a : Nfs) (h : WalkTold book taken closing j x w a) (small : IsWalkSmall w) (c : PathCommand) (o : Op) (mine : h.op ≡ o) (idle : IsBare c o) (owed : makes_later w.left w.goal ≡ true → HasNeither o) (word : o.word ≡ path_word c)
+module _ (all : List Moment) (book : Book) (are : book.moments ≡ all) (order : AreInOrder all) (taken : List TakenCall) (closing : Option ℕ) (j : Job) (x : ℕ) (w : Walk) (a : Nfs) (h : WalkTold book taken closing j x w a) (walking : j.stage ≡ stage.Walking x w) (small : IsWalkSmall w) (c : PathCommand) (o : Op) (mine : h.op ≡ o) (idle : IsBare c o) (owed : makes_later w.left w.goal ≡ true → HasNeither o) (word : o.word ≡ path_word c)
     (step : ℕ) (old : HasWalk (bare all) o.begin c w step) (le : step ≤ step_of h.at) (early : EarlyBy book h.at h.moment closing j h.op w a step h.came) (now : ℕ) (late : h.moment < now)
     (heard : Moment) (noted : Contains all heard) (heard_is : step_of heard ≡ now) (reading : ℕ) (bytes : List ℕ) (on_session : heard.event ≡ Hears h.session reading bytes) (takes : Contains (taken_by heard.before o.client heard.event) (message.Answer x (body.Nfs a))) where
   there : Contains all h.at
@@ -226,6 +232,8 @@ module _ (all : List Moment) (book : Book) (are : book.moments ≡ all) (order :
     answer = a;
     sent = h.sent;
     refuses = ap (option_map status_number) is;
+    waits = record { seat = h.seat; seat_is = ap (numbered h.at.before.seats) (client_is ∙ ap (λ (z : Op). z.client) (sym mine)) ∙ h.seat_is; newest = h.newest; own = waits_in h.seat.place h.seat.client.task j x h.job_is (ap (λ (z : Stage). has_call (client.pending_in z) x) walking ∙ ap (λ (b : Bool). b || false) (eq-eqb x x refl)) };
+    tells = tree_tells h.at.before h.at.event h.session x a s is h.sent;
     taken = heard;
     taken_there = noted;
     now = reading;
@@ -249,6 +257,7 @@ module _ (all : List Moment) (book : Book) (are : book.moments ≡ all) (order :
 
   refused_as : (k : PathCommand) (new : Op) (status : ℕ) → (is_find k ≡ true → new.file ≡ 0) → (r : IsRefused (bare all) new status) → IsPointless k new status (step_of r.moment) → EndsNamed k (told.Refused status) → EndsAs all k new (told.Refused status)
   refused_as (path.Find s) new status none is point named = inr (none refl, (is, point, named))
+  refused_as (path.Rewrite s) new status none is point named = inr (point.0, (is, point, named))
   refused_as _ new status none is point named = (is, point, named)
 
   -- what is refused, or is open already, gets no point by that
@@ -345,11 +354,16 @@ module _ (all : List Moment) (book : Book) (are : book.moments ≡ all) (order :
   finds_of s calls spot id w pointless leads false = by (content_of s.cache id)
     where
       by : (kept : Option Content) → (let r = finding id (asks_kept (record s { cache = reserved s.cache id }) id kept) in Onward all (path.Find spot) r (op_after o r.0 taken now r.1) now)
-      by None = record { way = λ none u at. subst (λ (t : Task). OnWay all (path.Find spot) (become (finding id (asks_kept (record s { cache = reserved s.cache id }) id None))) t.stage now) (some_is (record { file = id; stage = stage.Hashing 1 s.next_xid }) u at) ((spot, refl, (step_of h.at, leads, at_le)), pointless, w); ends = λ e at. none_some e at }
-      by (Some kept) = record { way = λ none u at. subst (λ (t : Task). OnWay all (path.Find spot) (become (finding id (asks_kept (record s { cache = reserved s.cache id }) id (Some kept)))) t.stage now) (some_is (record { file = id; stage = stage.Asking s.next_xid }) u at) ((spot, refl, (step_of h.at, leads, at_le)), pointless, w); ends = λ e at. none_some e at }
+      by None = record { way = λ none u at. subst (λ (t : Task). OnWay all (path.Find spot) (become (finding id (asks_kept (record s { cache = reserved s.cache id }) id None))) t.stage now) (some_is (record { file = id; stage = stage.Hashing 1 s.next_xid }) u at) ((spot, inl refl, (step_of h.at, leads, at_le)), pointless, w); ends = λ e at. none_some e at }
+      by (Some kept) = record { way = λ none u at. subst (λ (t : Task). OnWay all (path.Find spot) (become (finding id (asks_kept (record s { cache = reserved s.cache id }) id (Some kept)))) t.stage now) (some_is (record { file = id; stage = stage.Asking s.next_xid }) u at) ((spot, inl refl, (step_of h.at, leads, at_le)), pointless, w); ends = λ e at. none_some e at }
+
+  renews_of : (s : client.State) (calls : List Pending) (spot : Spot) (id : ℕ) → o.word ≡ words.Rewrite → o.point ≡ None → Leads (bare all) o.begin ROOT (all_names spot) id (step_of h.at) → (is_open : Bool) → (let r = renews_if s calls x id is_open in Onward all (path.Rewrite spot) r (op_after o r.0 taken now r.1) now)
+  renews_of s calls spot id w pointless leads true = record { way = λ none u at. some_none _ none; ends = λ e at. inl (record { step = step_of h.at; found = leads; inside = inside (become (renews_if s calls x id true)) refl o.begin begun }, tt) }
+  renews_of s calls spot id w pointless leads false = record { way = λ none u at. subst (λ (t : Task). OnWay all (path.Rewrite spot) (become (renews_if s calls x id false)) t.stage now) (some_is (record { file = id; stage = stage.Rewriting s.next_xid }) u at) ((spot, inr refl, (step_of h.at, leads, at_le)), pointless, w); ends = λ e at. none_some e at }
 
   ends_by : (s : client.State) (calls : List Pending) (k : PathCommand) → o.word ≡ path_word k → IsBare k o → HasWalk (bare all) o.begin k w step → (t : Leading) → WalkEnds (bare all) o.begin step h.at k w t → Comes s calls (is_look w.goal) k t
   ends_by s calls (path.Find spot) wd plain has t (found, is, leads) = subst (Comes s calls (is_look w.goal) (path.Find spot)) (sym is) (finds_of s calls spot found.id wd plain.1 leads (is_open s.opened found.id))
+  ends_by s calls (path.Rewrite spot) wd plain has t (found, is, leads) = subst (Comes s calls (is_look w.goal) (path.Rewrite spot)) (sym is) (renews_of s calls spot found.id wd plain.1 leads (is_open s.opened found.id))
   ends_by s calls (path.Look spot) wd plain has t (n, leads, named_is, is) = subst (λ (g : Goal). Comes s calls (is_look g) (path.Look spot) t) (sym has.1) (subst (Comes s calls true (path.Look spot)) (sym is) (record {
     way = λ none u at. some_none _ none;
     ends = λ e at. (record { dir = w.dir; found_at = step; found = leads; moment = h.at; there = there; inside = inside (become (walked s calls x true (leading.Ends (walk_end.Seen n.id (attr_of (tree_at h.at).nodes n).kind n.version (attr_of (tree_at h.at).nodes n).size)))) refl step le; node = n; node_is = named_is; shows = (refl, refl, refl, refl) }, refl, same_point (path.Look spot) wd refl e (walked s calls x true (leading.Ends (walk_end.Seen n.id (attr_of (tree_at h.at).nodes n).kind n.version (attr_of (tree_at h.at).nodes n).size))) at ∙ plain.1);
@@ -455,6 +469,7 @@ module _ (all : List Moment) (book : Book) (are : book.moments ≡ all) (order :
       let new = become r in
       (w.dir, step, subst (λ (b : ℕ). Leads (bare all) b ROOT p.dirs w.dir step) (sym (new_begin s calls l r same)) (reached_all (bare all) o.begin p.dirs w step has.0 (making_left w.left w.goal m.making)), makes m first new (new_end s calls l r same) (new_client s calls l r same) (goal.RemoveDir p.name) has.1 (λ dir t held. rmdir t held dir p.name) (λ t held. refl) (pointed_name m (subst IsNameGoal (sym has.1) tt) plain new (new_point (path.RemoveDir p) wd refl s calls l r same) (new_file s calls l r same)))
   done_as s calls l (path.Find p) is wd plain has m first r same = absurd (subst MakesGoal has.1 (making_goal w.left w.goal m.making))
+  done_as s calls l (path.Rewrite p) is wd plain has m first r same = absurd (subst MakesGoal has.1 (making_goal w.left w.goal m.making))
   done_as s calls l (path.Look p) is wd plain has m first r same = absurd (subst MakesGoal has.1 (making_goal w.left w.goal m.making))
   done_as s calls l path.LookRoot is wd plain has m first r same = absurd (subst MakesGoal has.1 (making_goal w.left w.goal m.making))
   done_as s calls l (path.List p) is wd plain has m first r same = absurd (subst MakesGoal has.goal_is (making_goal w.left w.goal m.making))
@@ -548,8 +563,8 @@ not_close : (c : PathCommand) → path_word c ≡ words.Close → ⊥
 not_close (path.Find s) e = absurd cc
 not_close _ e = absurd cc
 
-found_on : (all : List Moment) (c : PathCommand) (o r : Op) (n m : ℕ) → r.begin ≡ o.begin → r.file ≡ o.file → n ≤ m → ((s : Spot) × (c ≡ path.Find s) × ((step : ℕ) × Leads (bare all) o.begin ROOT (all_names s) o.file step × (step ≤ n)))
-    → (s : Spot) × (c ≡ path.Find s) × ((step : ℕ) × Leads (bare all) r.begin ROOT (all_names s) r.file step × (step ≤ m))
+found_on : (all : List Moment) (c : PathCommand) (o r : Op) (n m : ℕ) → r.begin ≡ o.begin → r.file ≡ o.file → n ≤ m → ((s : Spot) × GetsFile c s × ((step : ℕ) × Leads (bare all) o.begin ROOT (all_names s) o.file step × (step ≤ n)))
+    → (s : Spot) × GetsFile c s × ((step : ℕ) × Leads (bare all) r.begin ROOT (all_names s) r.file step × (step ≤ m))
 found_on all c o r n m begin file le (s, is, (step, leads, before)) = (s, is, (step, subst (λ (b : ℕ). Leads (bare all) b ROOT (all_names s) r.file step) (sym begin) (subst (λ (f : ℕ). Leads (bare all) o.begin ROOT (all_names s) f step) (sym file) leads), omega (arith, le, before)))
 
 point_stays : (c : PathCommand) (o r : Op) → (r.point ≡ o.point) ⊎ (o.word ≡ words.Close) → o.point ≡ None → o.word ≡ path_word c → r.point ≡ None
@@ -572,7 +587,7 @@ inside_on : (o r : Op) (from step : ℕ) → r.end ≡ o.end → IsInside o from
 inside_on o r from step end h = (h.0, λ e is. h.1 e (sym end ∙ is))
 
 abbrev refused_on : (all : List Moment) (o r : Op) (status : ℕ) → SameWay o r → IsRefused (bare all) o status → IsRefused (bare all) r status
-refused_on all o r status s h = record { moment = h.moment; there = h.there; inside = subst (λ (b : ℕ). IsInside r b (step_of h.moment)) (sym s.begin) (inside_on o r o.begin (step_of h.moment) s.end h.inside); session = h.session; xid = h.xid; answer = h.answer; sent = h.sent; refuses = h.refuses; taken = h.taken; taken_there = h.taken_there; now = h.now; bytes = h.bytes; event_is = h.event_is; ends = s.end ∙ h.ends; takes = subst (λ (i : ℕ). Contains (taken_by h.taken.before i h.taken.event) (message.Answer h.xid (body.Nfs h.answer))) (sym s.client) h.takes }
+refused_on all o r status s h = record { moment = h.moment; there = h.there; inside = subst (λ (b : ℕ). IsInside r b (step_of h.moment)) (sym s.begin) (inside_on o r o.begin (step_of h.moment) s.end h.inside); session = h.session; xid = h.xid; answer = h.answer; sent = h.sent; refuses = h.refuses; waits = record { seat = h.waits.seat; seat_is = ap (numbered h.moment.before.seats) s.client ∙ h.waits.seat_is; newest = h.waits.newest; own = h.waits.own }; tells = h.tells; taken = h.taken; taken_there = h.taken_there; now = h.now; bytes = h.bytes; event_is = h.event_is; ends = s.end ∙ h.ends; takes = subst (λ (i : ℕ). Contains (taken_by h.taken.before i h.taken.event) (message.Answer h.xid (body.Nfs h.answer))) (sym s.client) h.takes }
 
 finds_on : (all : List Moment) (o r : Op) (spot : Spot) → SameWay o r → FindsFile (bare all) o spot → FindsFile (bare all) r spot
 finds_on all o r spot s h = record {
@@ -651,6 +666,8 @@ no_point_on c o r is s none = elim s.point [ inl same ↦ same ∙ none | inr cl
 ends_on : (all : List Moment) (c : PathCommand) (o r : Op) (u : History) → o.word ≡ path_word c → SameWay o r → EndsAs all c o u → EndsAs all c r u
 ends_on all (path.Find spot) o r u is s (inl h) = inl (finds_on all o r spot s h.0, already_on (path.Find spot) o r u is s h.1, h.2)
 ends_on all (path.Find spot) o r u is s (inr h) = inr (s.file ∙ h.0, unfound_on all (path.Find spot) o r u is s h.1)
+ends_on all (path.Rewrite spot) o r u is s (inl h) = inl (finds_on all o r spot s h.0, h.1)
+ends_on all (path.Rewrite spot) o r u is s (inr h) = inr (s.file ∙ h.0, unfound_on all (path.Rewrite spot) o r u is s h.1)
 ends_on all (path.Look spot) o r (told.Seen id k v n) is s h = (seen_on all o r spot id k v n s h.0, s.file ∙ h.1, no_point_on (path.Look spot) o r is s h.2)
 ends_on all path.LookRoot o r (told.Seen id k v n) is s h = (root_on all o r id k v n s h.0, (s.file ∙ h.1.0, no_point_on path.LookRoot o r is s h.1.1))
 ends_on all (path.List p) o r (told.Names list) is s h = (listed_on all o r p list s h.0, (s.file ∙ h.1.0, no_point_on (path.List p) o r is s h.1.1))

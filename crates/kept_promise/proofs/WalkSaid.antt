@@ -23,7 +23,7 @@ use Rattle.file_open.specs.Looking.{reading_by, with_file}
 use Rattle.trace_replay.specs.Walking.{Part, Part.asks, IsWalk, AreCalls, HasWalkFile, HasFoundFile}
 use Rattle.kept_promise.proofs.Common.{◌==◌, Word, Outcome, told_of, slice_get, slice_set, Command, ClientStep, Ended, ended_by, command_step, Stage, Task, Op, Opening, TakenCall, op_after, ops_with, ops_after, place_after, Core, Seat, Event, Event.Does, Event.Hears, Event.Cuts, numbered, with_numbered, acted, session_of, happens, Moment, Deed, deeds_of, Book, Queue, got_step, got_message, told_message, reply_body, Body, took, idle, drops, Message, joined_from, calls_from, deed_by, word_of, file_of, value_at_begin, wanted_by, Deal, Deal.Sent, deals_with, deals_of}
 use Rattle.kept_promise.proofs.Lists.{some_is, nothing_there, at_replaced, at_end, within}
-use Rattle.kept_promise.proofs.Messages.{Job, job, job_of, stage_word}
+use Rattle.kept_promise.proofs.Messages.{Job, job, job_of, stage_word, goal_word}
 use Rattle.kept_promise.proofs.Facts.{IsKept, IsOf, is_naming}
 use Rattle.kept_promise.proofs.Fits.{FitLaws}
 use Rattle.kept_promise.proofs.Locally.{deeds_more}
@@ -37,7 +37,7 @@ use Rattle.kept_promise.proofs.Found.{took_finds}
 use Rattle.kept_promise.proofs.StepCases.{IsOfFile, IsFault}
 use Rattle.kept_promise.proofs.Logs.{ArePast}
 use Rattle.kept_promise.proofs.LogEvents.{answer_cases}
-use Rattle.kept_promise.proofs.WalkLog.{GaveUp, walk_gave, IsUnder, SaidOn, outcome_by, runs_so, lost_so, SendsNone, PlainOn, under_walk, under_word, walk_said, file_said, plain_said, first_said, command_none, command_plain, none_named, under_walking}
+use Rattle.kept_promise.proofs.WalkLog.{GaveUp, walk_gave, IsUnder, SaidOn, outcome_by, runs_so, lost_so, SendsNone, PlainOn, under_walk, IsGetting, under_word, walk_said, file_said, plain_said, first_said, command_none, command_plain, none_named, under_walking}
 use Rattle.kept_promise.proofs.OwnLog.{AreNear, near_is_own}
 use Rattle.kept_promise.proofs.WalkFile.{filed_found, filed_as, filed_made, found_as, unfound_as, unfound_of, walk_filed, command_filed, lost_point}
 use Rattle.kept_promise.proofs.Commands.{begun_word}
@@ -154,13 +154,21 @@ gets_changes words.Remove e = refl
 gets_changes words.Rename e = refl
 gets_changes w e = absurd cc
 
-open_changes : changes words.Open ≡ true → ⊥
-open_changes e = absurd cc
+getting_changes : (what : Word) → IsGetting what → changes what ≡ false
+getting_changes what (inl e) = ap changes e
+getting_changes what (inr e) = ap changes e
+
+getting_not : (what : Word) → IsGetting what → changes what ≡ true → ⊥
+getting_not what gets e = no (sym (getting_changes what gets) ∙ e)
+  where
+    no : false ≡ true → ⊥
+    no z = absurd cc
 
 -- of a walk the file doesn't matter, and what gets one from the server walks
 walk_moves : (d : Command) (log : List Deal) (f g : ℕ) (st : Stage) → gets_file (stage_word st) ≡ true → IsSaid d log f st → IsSaid d log g st
 walk_moves (command.Named n) log f g (stage.Walking x w) is p = under_walking (asks (begun n)) log f g x w p
 walk_moves (command.Open z) log f g (stage.Walking x w) is p = p
+walk_moves (command.Rewrite z) log f g (stage.Walking x w) is p = p
 walk_moves (command.Write z a b) log f g (stage.Walking x w) is p = p
 walk_moves (command.Trunc z a) log f g (stage.Walking x w) is p = p
 walk_moves (command.Read z a b) log f g (stage.Walking x w) is p = p
@@ -177,9 +185,9 @@ job_moves book k qs ops c d log i seat j kept here is at p = elim c.kind [
       walk_moves d log c.op.file c.file j.stage (ap gets_file (sym of.word ∙ ap (λ (z : Op). z.word) same) ∙ make.0) p
 ]
 
--- what a change is of changes files, and so is no open
+-- what a change is of changes files, and so is no open, and no rewrite
 file_made : (k : Core) (ops : List Op) (c : IsChange k ops) (x : Command) (log : List Deal) → c.op.word ≡ word_of x → HasFoundFile x c.op log → HasFoundFile x (changed c) log
-file_made k ops c (command.Named n) log word h = filed_made c.op (changed c) (inr (changing, refl)) (asks (begun n)) log (λ e. open_changes (sym (ap changes (word ∙ begun_word n ∙ e)) ∙ changing)) h
+file_made k ops c (command.Named n) log word h = filed_made c.op (changed c) (inr (changing, refl)) (asks (begun n)) log (λ e. getting_not (goal_word (begun n).goal) e (sym (ap changes (word ∙ begun_word n)) ∙ changing)) h
   where
     changing : changes c.op.word ≡ true
     changing = elim c.kind [ inl close ↦ ap changes close.0 | inr gets ↦ gets_changes c.op.word gets.0 ]
@@ -405,8 +413,9 @@ said_hears all past opening k qs after n now bytes mid kept h left j o job_is at
     now_under : (c : PathCommand) (u : Task) → r.1.ended ≡ None → r.0.task ≡ Some u → (st : Stage) → u.stage ≡ st → IsUnder (asks (begun c)) said_now (file_with j.file r.1.found) st → IsUnder (asks (begun c)) said_now new.file st
     now_under c u running is (stage.Walking x v) on h2 = under_walking (asks (begun c)) said_now (file_with j.file r.1.found) new.file x v h2
     now_under c u running is st on h2 =
-        let open_ : stage_word j.stage ≡ words.Open = sym of.word ∙ ap (λ (z : Op). z.word) same_op ∙ word_then u running is ∙ ap stage_word on ∙ under_word (asks (begun c)) said_now (file_with j.file r.1.found) st h2 tt in
-        subst (λ (f : ℕ). IsUnder (asks (begun c)) said_now f st) (sym (file_now o r.0 taken (k.steps + 1) r.1 ∙ ap (λ (f : ℕ). file_with f r.1.found) (named (unnamed j.stage (ap changes open_))))) h2
+        let word : stage_word j.stage ≡ stage_word st = sym of.word ∙ ap (λ (z : Op). z.word) same_op ∙ word_then u running is ∙ ap stage_word on in
+        let plain_ : changes (stage_word j.stage) ≡ false = ap changes word ∙ getting_changes (stage_word st) (under_word (asks (begun c)) said_now (file_with j.file r.1.found) st h2 tt) in
+        subst (λ (f : ℕ). IsUnder (asks (begun c)) said_now f st) (sym (file_now o r.0 taken (k.steps + 1) r.1 ∙ ap (λ (f : ℕ). file_with f r.1.found) (named (unnamed j.stage plain_)))) h2
 
     on : (x : Command) → IsSaid x (deals_of o past) o.file j.stage → HasFoundFile x o (deals_of o past) → ((u : Task) → r.1.ended ≡ None → r.0.task ≡ Some u → IsSaid x said_now new.file u.stage) × HasSaid x said_now new
     on (command.Named c) was has =

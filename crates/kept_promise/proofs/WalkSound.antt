@@ -26,7 +26,7 @@ use Rattle.file_tree.proofs.Limits.{bounds}
 use Rattle.server_law.proofs.Trees.{nodes_of, IsBounded}
 use Rattle.kept_promise.proofs.PathNames.{AreNames, IsGoalNamed, IsAsking, IsAhead, IsWalkSmall, arrives_named, arrives_ahead, open_calls, walk_calls, is_making, makes_later, makes_at}
 use Rattle.kept_promise.proofs.TreeTold.{IsPage}
-use Rattle.kept_promise.proofs.TreeWalks.{looks_down, finds_file, sees_name, sees_root, lists_page}
+use Rattle.kept_promise.proofs.TreeWalks.{looks_down, finds_file, rewrites_file, sees_name, sees_root, lists_page}
 use Rattle.kept_promise.proofs.NamesSpelled.{few_names, drop_few, directory_there}
 use Rattle.kept_promise.proofs.Messages.{goal_word, Job, WalkCame}
 use Rattle.kept_promise.proofs.MakingGoals.{changes_later}
@@ -48,6 +48,7 @@ pub data WalkStep (w : Walk) (r : Told) : Type 0 where
   over : (e : Ended) → r ≡ told.Ends e → EndsFor w e → WalkStep w r
   asks : (v : Walk) → r ≡ told.Asks v → IsWalkSmall v → walk_calls v + 1 ≤ walk_calls w → goal_word v.goal ≡ goal_word w.goal → (changes (goal_word v.goal) ≡ true → makes_later w.left w.goal ≡ true) → WalkStep w r
   file : (id : ℕ) → r ≡ told.Finds id → id < 18446744073709551616 → goal_word w.goal ≡ words.Open → 380002 ≤ walk_calls w → WalkStep w r
+  anew : (id : ℕ) → r ≡ told.Rewrites id → id < 18446744073709551616 → goal_word w.goal ≡ words.Rewrite → 1 ≤ walk_calls w → WalkStep w r
 
 -- where a name leads to a directory, all is as it was, and one call fewer is left
 arrives_dir : (id : ℕ) (ns : List (List ℕ)) (g : Goal) → id < 18446744073709551616 → (arrives id ns g).dir < 18446744073709551616
@@ -141,6 +142,12 @@ module _ (t : Tree) (w : Walk) (a : Nfs) (b : IsBounded t) (small : IsWalkSmall 
     | inr s ↦
         let calls : walk_calls w ≡ length w.left + 0 + 380002 = ap (λ (g : Goal). length w.left + goal_left g + open_calls g) aim in
         file s.0.id s.2 s.3 (ap goal_word aim) (omega (arith, calls))
+  ]
+  last (goal.Rewrite n) aim ahead named left = elim (rewrites_file t w n a b small.dir named.0 left aim is) [
+    | inl f ↦ over (ended.Refused f.0) f.2 tt
+    | inr s ↦
+        let calls : walk_calls w ≡ length w.left + 0 + 1 = ap (λ (g : Goal). length w.left + goal_left g + open_calls g) aim in
+        anew s.0.id s.2 s.3 (ap goal_word aim) (omega (arith, calls))
   ]
   last (goal.Look n) aim ahead named left = elim (sees_name t w n a b small.dir named.0 left aim is) [
     | inl f ↦ over (ended.Refused f.0) f.2 tt

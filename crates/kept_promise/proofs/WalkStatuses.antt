@@ -114,6 +114,7 @@ module _ (nodes : List Node) (w : Walk) (a : Nfs) (s : Status) (rooted : IsRoote
 
     goal_refused : (k : PathCommand) → HasWalk book begin k w step → w.left ≡ [] → EndsNamed k (told.Refused (status_number s))
     goal_refused (path.Find x) h left = inl (look_up x.name (subst IsGoalNamed h.1 small.named.1) (goal_is (goal.Find x.name) left h.1))
+    goal_refused (path.Rewrite x) h left = inl (look_up x.name (subst IsGoalNamed h.1 small.named.1) (goal_is (goal.Rewrite x.name) left h.1))
     goal_refused (path.Look x) h left = look_up x.name (subst IsGoalNamed h.1 small.named.1) (goal_is (goal.Look x.name) left h.1)
     goal_refused path.LookRoot h left = absurd (root_refused left (at_root book begin step w h.0).1 h.1)
     goal_refused (path.List p) h left = list_refused p h.pages left h.goal_is
@@ -158,6 +159,7 @@ making_refused t book begin step k w s small h why = by k h
 
     by : (k : PathCommand) → HasWalk book begin k w step → EndsNamed k (told.Refused (status_number s))
     by (path.Find x) h = absurd (refused (goal.Find x.name) h.1)
+    by (path.Rewrite x) h = absurd (refused (goal.Rewrite x.name) h.1)
     by (path.Look x) h = absurd (refused (goal.Look x.name) h.1)
     by path.LookRoot h = absurd (refused goal.LookRoot h.1)
     by (path.List p) h = absurd (refused (goal.List h.pages) h.goal_is)

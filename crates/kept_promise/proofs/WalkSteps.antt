@@ -22,6 +22,7 @@ use Rattle.client_state.specs.declared.step.Outcome.{Outcome as Told_as}
 use Rattle.client_state.specs.declared.step.Outcome.TheVariants as outcome
 use Rattle.client_state.specs.declared.task.Stage.TheVariants as stage
 use Rattle.file_open.specs.Fetching.{asks_kept}
+use Rattle.file_open.specs.Rewriting.{asks_version}
 use Rattle.register_model.specs.declared.op.Outcome.{Outcome}
 use Rattle.register_model.specs.declared.op.Outcome.TheVariants as told
 use Rattle.register_model.specs.declared.op.Word.TheVariants as words
@@ -34,7 +35,7 @@ use Rattle.kept_promise.proofs.Keys.{times}
 use Rattle.kept_promise.proofs.Lists.{some_is, nothing_there, false_and_true}
 use Rattle.kept_promise.proofs.Messages.{hash_offset, Job, goal_word, stage_word, FetchOf, AnswerOf, WalkTold, IsNameOwed, CloseOf, UnmadeBy, PointedBy}
 use Rattle.kept_promise.proofs.PathNames.{IsAsking, IsAhead, IsWalkSmall, walk_calls, is_making, is_creating, creates_at, makes_later}
-use Rattle.kept_promise.proofs.Rights.{is_remote, Caused, RefusedBy, IsUnmade, DoneBy}
+use Rattle.kept_promise.proofs.Rights.{is_remote, may_point, WasWalk, Caused, RefusedBy, IsUnmade, DoneBy}
 use Rattle.kept_promise.proofs.History.{onward, Becomes, grows_becomes}
 use Rattle.kept_promise.proofs.Later.{cached_later}
 use Rattle.kept_promise.proofs.Caches.{cached_reserved}
@@ -47,13 +48,13 @@ use Rattle.kept_promise.proofs.Comes.{client_at, op_at}
 use Rattle.kept_promise.proofs.CloseEnds.{forgets, quiet_walked}
 use Rattle.kept_promise.proofs.CloseSteps.{calls_are, task_is}
 use Rattle.kept_promise.proofs.OpenSteps.{said}
-use Rattle.kept_promise.proofs.Commands.{walk_is, hash_first, lease_first}
+use Rattle.kept_promise.proofs.Commands.{walk_is, hash_first, lease_first, renew_first}
 use Rattle.kept_promise.proofs.Acted.{rest_down, leads_acted, leads_goes, ops_now, place_of}
 use Rattle.kept_promise.proofs.StepCases.{IsBad, IsUntold, walk_cases}
 use Rattle.kept_promise.proofs.WalkFinds.{finding_op, of_file, FindsOn, kept_finds}
-use Rattle.kept_promise.proofs.WalkSound.{WalkStep, WalkStep.over, WalkStep.asks, WalkStep.file, EndsFor, untold_making, came_sound}
+use Rattle.kept_promise.proofs.WalkSound.{WalkStep, WalkStep.over, WalkStep.asks, WalkStep.file, WalkStep.anew, EndsFor, untold_making, came_sound}
 use Rattle.register_model.specs.Register.{success}
-use Rattle.kept_promise.proofs.MakingGoals.{creates_changes, later_changes, changes_later, changes_now, making_left, creates_making, making_unopened}
+use Rattle.kept_promise.proofs.MakingGoals.{creates_changes, later_changes, changes_later, changes_now, making_left, creates_making, making_unopened, making_unrenewed}
 use Rattle.kept_promise.proofs.MakingFiles.{fileless_rename}
 use Rattle.tree_calls.specs.Telling.{told as told_by}
 use Rattle.path_calls.specs.Walk.{next_call}
@@ -135,8 +136,8 @@ stops_over book k qs n x q t ts j g tr made named p u v quiet word stopped_ poin
         cause = cause more refl;
         begun = let b = right.begun in omega (arith, b);
         pointed = λ m e. elim (point m e) [
-          | inl was ↦ let old = right.pointed m was in let le = old.1 in (old.0, omega (arith, le), w.1)
-          | inr new ↦ let le = new.2 in (new.1, omega (arith, le), w.1)
+          | inl was ↦ let old = right.pointed m was in let le = old.1 in (old.0, omega (arith, le), old.2)
+          | inr new ↦ let le = new.2 in (new.1, omega (arith, le), ap may_point new.0)
         ];
         past = λ e s. let is = some_is (book.steps + 1) e s in let b = right.begun in (omega (arith, b, is), omega (arith, is));
         ends = sym (ap not stopped_);
@@ -233,8 +234,8 @@ module _ (book : Book) (k : Core) (qs : List Queue) (n : ℕ) (x : Session) (q :
   xids : HasXids c.next_xid (stage.Walking t.xid w)
   xids = subst (HasXids c.next_xid) at ((g.kept.seats x.owner h.seat h.owner).xids j g.job_is)
 
-  op_file : of.op.word ≡ words.Open → of.op.file ≡ 0
-  op_file e = of.file (ap is_naming at ∙ ap changes (sym word_is ∙ sym of.word ∙ e)) ∙ fact.0
+  op_file : changes of.op.word ≡ false → of.op.file ≡ 0
+  op_file e = of.file (ap is_naming at ∙ ap changes (sym word_is ∙ sym of.word) ∙ e) ∙ fact.0
 
   mine : heard.op ≡ of.op
   mine = some_is heard.op of.op (sym heard.there ∙ of.there)
@@ -290,6 +291,7 @@ module _ (book : Book) (k : Core) (qs : List Queue) (n : ℕ) (x : Session) (q :
       by o e b (over f is g) = subst IsBad is b
       by o e b (asks v is s l m p) = subst IsBad is b
       by o e b (file id is s m l) = subst IsBad is b
+      by o e b (anew id is s m l) = subst IsBad is b
 
   -- ---- the next call
 
@@ -314,7 +316,7 @@ module _ (book : Book) (k : Core) (qs : List Queue) (n : ℕ) (x : Session) (q :
           quiet = quiet;
           word = same ∙ sym word_is;
           again = record {
-            lease = λ y lt e. absurd cc;
+            lease = λ y lt e. nothing_there y e;
             hash = λ y o lt e. nothing_there o e;
             commit = λ y lt e. absurd cc;
             walk = λ y u lt e. (let z = xid_is c.next_xid y v u e in omega (arith, z, lt));
@@ -415,34 +417,34 @@ module _ (book : Book) (k : Core) (qs : List Queue) (n : ℕ) (x : Session) (q :
   word_of_goal : (z : Word) → goal_word w.goal ≡ z → changes z ≡ false → changes of.op.word ≡ false
   word_of_goal z e unlike = ap changes (of.word ∙ word_is ∙ e) ∙ unlike
 
-  refused_cause : (s : Status) (named : ℕ) (v : List ℕ) (more : Book) → more.moments ≡ book.moments → (of.op.word ≡ words.Open → named ≡ 0) → RefusedBy more (walk_op of.op (counted of.op.traffic no_counts) (book.steps + 1) named (point_if (has_point of.op.word (outcome.Refused s)) x.taken t.xid of.op.point) (told.Refused (status_number s)) v) of.op.word (status_number s)
+  refused_cause : (s : Status) (named : ℕ) (v : List ℕ) (more : Book) → more.moments ≡ book.moments → (changes of.op.word ≡ false → named ≡ 0) → RefusedBy more (walk_op of.op (counted of.op.traffic no_counts) (book.steps + 1) named (point_if (has_point of.op.word (outcome.Refused s)) x.taken t.xid of.op.point) (told.Refused (status_number s)) v) of.op.word (status_number s)
   refused_cause s named v more noted zero_is = by of.op.word refl (subst IsWalkWord (sym of.word) word)
     where
       stale : (s : Status) → of.op.word ≡ words.Open → status_number s ≡ 70 → (p : ℕ) × Within (walk_op of.op (counted of.op.traffic no_counts) (book.steps + 1) named (point_if (has_point of.op.word (outcome.Refused s)) x.taken t.xid of.op.point) (told.Refused (status_number s)) v) p
       stale status.Stale e m = let past = heard.past in (heard.moment, (ap (λ z. point_if (has_point z (outcome.Refused status.Stale)) x.taken t.xid of.op.point) e ∙ heard.was (open_not e), began, (book.steps + 1, refl, omega (arith, past))))
       stale s e m = absurd (omega (arith, m))
 
+      walk_was : WasWalk more (walk_op of.op (counted of.op.traffic no_counts) (book.steps + 1) named (point_if (has_point of.op.word (outcome.Refused s)) x.taken t.xid of.op.point) (told.Refused (status_number s)) v)
+      walk_was = record {
+        at = heard.at;
+        noted = subst (λ (l : List Moment). Contains l heard.at) (sym noted) heard.noted;
+        seat = heard.seat;
+        seat_is = ap (λ (z : Op). numbered heard.at.before.seats z.client) (sym mine) ∙ heard.seat_is;
+        place = j.place;
+        place_is = place_of heard.seat j heard.job_is;
+        task = record { file = j.file; stage = j.stage };
+        task_is = task_is heard.seat j heard.job_is;
+        xid = t.xid;
+        walk = w;
+        stage_is = at;
+        then_op = heard.then_op;
+        then_is = heard.then_is;
+        then_began = heard.then_began ∙ ap (λ (z : Op). z.begin) mine;
+      }
+
       by : (z : Word) → of.op.word ≡ z → IsWalkWord z → RefusedBy more (walk_op of.op (counted of.op.traffic no_counts) (book.steps + 1) named (point_if (has_point of.op.word (outcome.Refused s)) x.taken t.xid of.op.point) (told.Refused (status_number s)) v) z (status_number s)
-      by words.Open e a = inr (
-        zero_is e,
-        stale s e,
-        record {
-          at = heard.at;
-          noted = subst (λ (l : List Moment). Contains l heard.at) (sym noted) heard.noted;
-          seat = heard.seat;
-          seat_is = ap (λ (z : Op). numbered heard.at.before.seats z.client) (sym mine) ∙ heard.seat_is;
-          place = j.place;
-          place_is = place_of heard.seat j heard.job_is;
-          task = record { file = j.file; stage = j.stage };
-          task_is = task_is heard.seat j heard.job_is;
-          xid = t.xid;
-          walk = w;
-          stage_is = at;
-          then_op = heard.then_op;
-          then_is = heard.then_is;
-          then_began = heard.then_began ∙ ap (λ (z : Op). z.begin) mine;
-        },
-      )
+      by words.Open e a = inr (zero_is (ap changes e), stale s e, walk_was)
+      by words.Rewrite e a = inr (zero_is (ap changes e), walk_was)
       by words.Look e a = tt
       by words.List e a = tt
       by words.Make e a = tt
@@ -456,13 +458,14 @@ module _ (book : Book) (k : Core) (qs : List Queue) (n : ℕ) (x : Session) (q :
           remote_not : false ≡ true → ⊥
           remote_not e = absurd cc
 
-  done_cause : (named : ℕ) (v : List ℕ) → named ≡ of.op.file → walk_told w (name_answer r) ≡ leading.Ends walk_end.Done → is_making w ≡ true → DoneBy (walk_op of.op (counted of.op.traffic no_counts) (book.steps + 1) named (point_if (has_point of.op.word outcome.Done) x.taken t.xid of.op.point) told.Done v) of.op.word
-  done_cause named v same led making = by of.op.word refl
+  done_cause : (more : Book) (named : ℕ) (v : List ℕ) → named ≡ of.op.file → walk_told w (name_answer r) ≡ leading.Ends walk_end.Done → is_making w ≡ true → DoneBy more (walk_op of.op (counted of.op.traffic no_counts) (book.steps + 1) named (point_if (has_point of.op.word outcome.Done) x.taken t.xid of.op.point) told.Done v) of.op.word
+  done_cause more named v same led making = by of.op.word refl
     where
       pointed : changes of.op.word ≡ true → of.op.point ≡ Some heard.moment → IsSome (point_if (has_point of.op.word outcome.Done) x.taken t.xid of.op.point)
       pointed change is = subst (λ (p : Option ℕ). IsSome p) (sym (same_point outcome.Done t.xid change ∙ is)) refl
 
-      by : (z : Word) → of.op.word ≡ z → DoneBy (walk_op of.op (counted of.op.traffic no_counts) (book.steps + 1) named (point_if (has_point of.op.word outcome.Done) x.taken t.xid of.op.point) told.Done v) z
+      by : (z : Word) → of.op.word ≡ z → DoneBy more (walk_op of.op (counted of.op.traffic no_counts) (book.steps + 1) named (point_if (has_point of.op.word outcome.Done) x.taken t.xid of.op.point) told.Done v) z
+      by words.Rewrite e = absurd (making_unrenewed w.left w.goal making (sym word_is ∙ sym of.word ∙ e))
       by words.Make e = elim (done_so led making (may_change (ap changes e))) [ inl none ↦ absurd (apart (sym e ∙ none.3)) | inr is ↦ pointed (ap changes e) is ]
         where
           apart : words.Make ≡ words.Rename → ⊥
@@ -478,7 +481,7 @@ module _ (book : Book) (k : Core) (qs : List Queue) (n : ℕ) (x : Session) (q :
       by z e = tt
 
   ended_cause : (e : WalkEnd) → walk_told w (name_answer r) ≡ leading.Ends e → EndsFor w e → (v : List ℕ) (more : Book) → more.moments ≡ book.moments → Caused more (walk_op of.op (counted of.op.traffic no_counts) (book.steps + 1) (file_with of.op.file (seen_in (is_look w.goal) e)) (point_if (has_point of.op.word (outcome_of e)) x.taken t.xid of.op.point) (told_of (outcome_of e)) v) (told_of (outcome_of e))
-  ended_cause walk_end.Done led f v more noted = done_cause (file_with of.op.file (seen_in (is_look w.goal) walk_end.Done)) v (unseen (is_look w.goal) walk_end.Done tt) led f
+  ended_cause walk_end.Done led f v more noted = done_cause more (file_with of.op.file (seen_in (is_look w.goal) walk_end.Done)) v (unseen (is_look w.goal) walk_end.Done tt) led f
   ended_cause (walk_end.Names ns) led f v more noted = of.word ∙ word_is ∙ f
   ended_cause (walk_end.Seen id kind version len) led f v more noted = of.word ∙ word_is ∙ f
   ended_cause (walk_end.Refused s) led f v more noted = refused_cause s (file_with of.op.file (seen_in (is_look w.goal) (walk_end.Refused s))) v more noted (λ e. unseen (is_look w.goal) (walk_end.Refused s) tt ∙ op_file e)
@@ -549,8 +552,8 @@ module _ (book : Book) (k : Core) (qs : List Queue) (n : ℕ) (x : Session) (q :
       by walk_end.NoLink led f true change = absurd (false_and_true (changes of.op.word) (word_of_goal words.List f refl) change)
       by e led f false unlike = over_so e None led f (unchanged _ _ _ _ unlike)
 
-  already : (id : ℕ) → goal_word w.goal ≡ words.Open → Leads_to book k qs n x q t ts j g (finding id (forgets_of (idle c) (client.calls_of c) t.xid, ends outcome.AlreadyOpen 0 0))
-  already id opens = leads_over book k qs n x q t ts j g None outcome.AlreadyOpen 0 (Some id) quiet word refl (λ m e. inl (open_unpointed of.op.word m e)) (unchanged _ _ _ _ (word_of_goal words.Open opens refl)) (λ more noted. tt)
+  already : (id : ℕ) → changes of.op.word ≡ false → Leads_to book k qs n x q t ts j g (finding id (forgets_of (idle c) (client.calls_of c) t.xid, ends outcome.AlreadyOpen 0 0))
+  already id fixed = leads_over book k qs n x q t ts j g None outcome.AlreadyOpen 0 (Some id) quiet word refl (λ m e. inl (open_unpointed of.op.word m e)) (unchanged _ _ _ _ fixed) (λ more noted. tt)
     where
       open_unpointed : (v : Word) (m : ℕ) → point_if (has_point v outcome.AlreadyOpen) x.taken 0 of.op.point ≡ Some m → of.op.point ≡ Some m
       open_unpointed words.Open m e = e
@@ -576,8 +579,8 @@ module _ (book : Book) (k : Core) (qs : List Queue) (n : ℕ) (x : Session) (q :
       let has = xids in
       record {
         quiet = quiet;
-        was = word_is ∙ opens;
-        word = refl;
+        was = ap changes (word_is ∙ opens);
+        word = sym (word_is ∙ opens);
         none = omega arith;
         first = first;
         moves = moves (stage.Hashing 1 c.next_xid) (record { xid = c.next_xid; call = Hash id 0 }) first.pending;
@@ -606,12 +609,35 @@ module _ (book : Book) (k : Core) (qs : List Queue) (n : ℕ) (x : Session) (q :
       let has = xids in
       record {
         quiet = quiet;
-        was = word_is ∙ opens;
-        word = refl;
+        was = ap changes (word_is ∙ opens);
+        word = sym (word_is ∙ opens);
         none = omega arith;
         first = first;
         moves = moves (stage.Asking c.next_xid) (record { xid = c.next_xid; call = Lease id }) first.pending;
         asked = λ i e w. ap (λ (z : Job). z.file) (sym (some_is (of_file j id (stage.Asking c.next_xid)) i e));
+        fits = (omega (arith, has, room), small);
+        piece = tt;
+        under = tt;
+        fetching = (tt, tt);
+        fetch = λ more. tt;
+        closes = λ more. tt;
+        tries = λ m y e. absurd cc;
+        xids = omega (arith, has, room);
+        bounded = omega (arith, has, room);
+      }
+
+  renews_on : (id : ℕ) → id < 18446744073709551616 → goal_word w.goal ≡ words.Rewrite → 1 ≤ walk_calls w → FindsOn book k qs n x q t ts j g id (stage.Rewriting c.next_xid) (record { xid = c.next_xid; call = Lease id })
+  renews_on id small renews room =
+      let first = renew_first c.next_xid id in
+      let has = xids in
+      record {
+        quiet = quiet;
+        was = ap changes (word_is ∙ renews);
+        word = sym (word_is ∙ renews);
+        none = omega arith;
+        first = first;
+        moves = moves (stage.Rewriting c.next_xid) (record { xid = c.next_xid; call = Lease id }) first.pending;
+        asked = λ i e w. ap (λ (z : Job). z.file) (sym (some_is (of_file j id (stage.Rewriting c.next_xid)) i e));
         fits = (omega (arith, has, room), small);
         piece = tt;
         under = tt;
@@ -638,6 +664,10 @@ module _ (book : Book) (k : Core) (qs : List Queue) (n : ℕ) (x : Session) (q :
     where
       apart : (id : ℕ) (v : Walk) → leading.Finds id ≡ leading.Asks v → ⊥
       apart id v e = cc
+  asks_as v e (anew id is s m l) = absurd (apart id v (sym is ∙ e))
+    where
+      apart : (id : ℕ) (v : Walk) → leading.Rewrites id ≡ leading.Asks v → ⊥
+      apart id v e = cc
 
   ends_as : (f : WalkEnd) → walk_told w (name_answer r) ≡ leading.Ends f → WalkStep w (walk_told w (name_answer r)) → EndsFor w f
   ends_as f e (over u is for) = subst (EndsFor w) (told_same u f (sym is ∙ e)) for
@@ -651,6 +681,10 @@ module _ (book : Book) (k : Core) (qs : List Queue) (n : ℕ) (x : Session) (q :
   ends_as f e (file id is s m l) = absurd (apart id f (sym is ∙ e))
     where
       apart : (id : ℕ) (f : WalkEnd) → leading.Finds id ≡ leading.Ends f → ⊥
+      apart id f e = cc
+  ends_as f e (anew id is s m l) = absurd (apart id f (sym is ∙ e))
+    where
+      apart : (id : ℕ) (f : WalkEnd) → leading.Rewrites id ≡ leading.Ends f → ⊥
       apart id f e = cc
 
   finds_as : (id : ℕ) → walk_told w (name_answer r) ≡ leading.Finds id → WalkStep w (walk_told w (name_answer r)) → (id < 18446744073709551616) × (goal_word w.goal ≡ words.Open) × (380002 ≤ walk_calls w)
@@ -666,12 +700,36 @@ module _ (book : Book) (k : Core) (qs : List Queue) (n : ℕ) (x : Session) (q :
     where
       apart : (id : ℕ) (v : Walk) → leading.Asks v ≡ leading.Finds id → ⊥
       apart id v e = cc
+  finds_as id e (anew u is s l m) = absurd (apart u id (sym is ∙ e))
+    where
+      apart : (u v : ℕ) → leading.Rewrites u ≡ leading.Finds v → ⊥
+      apart u v e = cc
+
+  anew_as : (id : ℕ) → walk_told w (name_answer r) ≡ leading.Rewrites id → WalkStep w (walk_told w (name_answer r)) → (id < 18446744073709551616) × (goal_word w.goal ≡ words.Rewrite) × (1 ≤ walk_calls w)
+  anew_as id e (anew u is small renews room) = (subst (λ (z : ℕ). z < 18446744073709551616) (told_same u id (sym is ∙ e)) small, renews, room)
+    where
+      told_same : (u v : ℕ) → leading.Rewrites u ≡ leading.Rewrites v → u ≡ v
+      told_same u v e = cc
+  anew_as id e (over f is g) = absurd (apart f id (sym is ∙ e))
+    where
+      apart : (f : WalkEnd) (v : ℕ) → leading.Ends f ≡ leading.Rewrites v → ⊥
+      apart f v e = cc
+  anew_as id e (asks v is s l m p) = absurd (apart id v (sym is ∙ e))
+    where
+      apart : (id : ℕ) (v : Walk) → leading.Asks v ≡ leading.Rewrites id → ⊥
+      apart id v e = cc
+  anew_as id e (file u is s l m) = absurd (apart u id (sym is ∙ e))
+    where
+      apart : (u v : ℕ) → leading.Finds u ≡ leading.Rewrites v → ⊥
+      apart u v e = cc
 
   pub leads_walked : Leads_to book k qs n x q t ts j g (took (idle c) (client.calls_of c) j.file (stage.Walking t.xid w) t.xid (body.Nfs (name_answer r)))
   leads_walked = walk_cases (Leads_to book k qs n x q t ts j g) (idle c) (client.calls_of c) j.file t.xid w t.xid (body.Nfs (name_answer r)) (record {
     fault = λ f bad. absurd (sound bad);
     asks = λ v k. asks_as v (its_told k.asked k.walk k.answer (leading.Asks v) k.stage_is k.body_is k.told_is) step;
-    open_already = λ id k is. already id (finds_as id (its_told k.asked k.walk k.answer (leading.Finds id) k.stage_is k.body_is k.told_is) step).1;
+    open_already = λ id k is. already id (word_of_goal words.Open (finds_as id (its_told k.asked k.walk k.answer (leading.Finds id) k.stage_is k.body_is k.told_is) step).1 refl);
+    renew_already = λ id k is. already id (word_of_goal words.Rewrite (anew_as id (its_told k.asked k.walk k.answer (leading.Rewrites id) k.stage_is k.body_is k.told_is) step).1 refl);
+    renews = λ id k shut. (let f = anew_as id (its_told k.asked k.walk k.answer (leading.Rewrites id) k.stage_is k.body_is k.told_is) step in finds_on id (stage.Rewriting c.next_xid) (record { xid = c.next_xid; call = Lease id }) (finding id (asks_version (record (idle c) { cache = reserved c.cache id }) id)).1 (renews_on id f.0 f.1 f.2) refl refl refl);
     fetches = λ id k shut none. (let f = finds_as id (its_told k.asked k.walk k.answer (leading.Finds id) k.stage_is k.body_is k.told_is) step in finds_on id (stage.Hashing 1 c.next_xid) (record { xid = c.next_xid; call = Hash id 0 }) (finding id (asks_kept (record (idle c) { cache = reserved c.cache id }) id None)).1 (fetches_on id f.0 f.1 f.2) refl refl refl);
     leases = λ id v k shut some. (let f = finds_as id (its_told k.asked k.walk k.answer (leading.Finds id) k.stage_is k.body_is k.told_is) step in finds_on id (stage.Asking c.next_xid) (record { xid = c.next_xid; call = Lease id }) (finding id (asks_kept (record (idle c) { cache = reserved c.cache id }) id (Some v))).1 (leases_on id f.0 f.1 f.2) refl refl refl);
     ends = λ v e b same. subst (λ (z : Walk). Leads_to book k qs n x q t ts j g (forgets_of (idle c) (client.calls_of c) t.xid, record (ends (outcome_of e) t.xid 0) { found = seen_in (is_look z.goal) e })) (walk_is t.xid b.asked w b.walk b.stage_is ∙ same) (let told = its_told b.asked b.walk b.answer (leading.Ends e) b.stage_is b.body_is b.told_is in ends_in e told (ends_as e told step));

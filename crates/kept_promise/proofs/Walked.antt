@@ -173,6 +173,7 @@ pub record IsSecond (book : Book) (begin : ℕ) (s t : Spot) (w : Walk) (step : 
 -- the walk of a command that began at this step, as far as it was at that
 abbrev pub HasWalk : Book → (begin : ℕ) → PathCommand → Walk → (step : ℕ) → Type 0
 HasWalk book begin (path.Find s) w step = HasGoal book begin s.dirs (goal.Find s.name) w step
+HasWalk book begin (path.Rewrite s) w step = HasGoal book begin s.dirs (goal.Rewrite s.name) w step
 HasWalk book begin (path.Look s) w step = HasGoal book begin s.dirs (goal.Look s.name) w step
 HasWalk book begin path.LookRoot w step = HasGoal book begin [] goal.LookRoot w step
 HasWalk book begin (path.List p) w step = HasList book begin p w step
@@ -195,6 +196,7 @@ walk_begins book begin _ = (([], refl, (refl, refl)), refl)
 -- a name stood for a node, and it goes on there
 pub walk_goes : (book : Book) (begin : ℕ) (k : PathCommand) (w : Walk) (step : ℕ) (n : List ℕ) (ns : List (List ℕ)) (m : Moment) (s : Standing) → HasWalk book begin k w step → w.left ≡ n ∷ ns → Contains book.moments m → step ≤ step_of m → stands_for (tree_at m).nodes w.dir n ≡ Some s → HasWalk book begin k (arrives s.id ns w.goal) (step_of m)
 walk_goes book begin (path.Find x) w step n ns m s h left there le at = goes_on book begin x.dirs (goal.Find x.name) w step n ns m s refl h.0 h.1 left there le at
+walk_goes book begin (path.Rewrite x) w step n ns m s h left there le at = goes_on book begin x.dirs (goal.Rewrite x.name) w step n ns m s refl h.0 h.1 left there le at
 walk_goes book begin (path.Look x) w step n ns m s h left there le at = goes_on book begin x.dirs (goal.Look x.name) w step n ns m s refl h.0 h.1 left there le at
 walk_goes book begin path.LookRoot w step n ns m s h left there le at = goes_on book begin [] goal.LookRoot w step n ns m s refl h.0 h.1 left there le at
 walk_goes book begin (path.Make x) w step n ns m s h left there le at = goes_on book begin x.dirs (goal.Make x.name) w step n ns m s refl h.0 h.1 left there le at
@@ -224,6 +226,6 @@ walk_goes book begin (path.Rename x y) w step n ns m s (inl h) left there le at 
         inl (subst (λ (v : Walk). IsFirst book begin x y v (step_of m)) (sym is) (record { next = o; others = os; left_is = refl; has = ((d.0, d.1 ∙ ap (λ (l : List (List ℕ)). d.0 ++ l) e, d.2), refl) }))
 walk_goes book begin (path.Rename x y) w step n ns m s (inr h) left there le at = inr (record { dir = h.dir; found_at = h.found_at; found = h.found; has = goes_on book h.found_at y.dirs (goal.RenameTo h.dir x.name y.name) w step n ns m s refl h.has.0 h.has.1 left there le at })
 
--- the last name of an open's path stood for a file
-pub walk_finds : (book : Book) (begin : ℕ) (x : Spot) (w : Walk) (step : ℕ) (m : Moment) (s : Standing) → HasWalk book begin (path.Find x) w step → w.left ≡ [] → Contains book.moments m → step ≤ step_of m → stands_for (tree_at m).nodes w.dir x.name ≡ Some s → Leads book begin ROOT (all_names x) s.id (step_of m)
-walk_finds book begin x w step m s h left there le at = leads_more book begin ROOT x.dirs w.dir step x.name m s (reached_all book begin x.dirs w step h.0 left) there le at
+-- the last name of an open's path, or a rewrite's, stood for a file
+pub walk_finds : (book : Book) (begin : ℕ) (x : Spot) (g : Goal) (w : Walk) (step : ℕ) (m : Moment) (s : Standing) → HasGoal book begin x.dirs g w step → w.left ≡ [] → Contains book.moments m → step ≤ step_of m → stands_for (tree_at m).nodes w.dir x.name ≡ Some s → Leads book begin ROOT (all_names x) s.id (step_of m)
+walk_finds book begin x g w step m s h left there le at = leads_more book begin ROOT x.dirs w.dir step x.name m s (reached_all book begin x.dirs w step h.0 left) there le at

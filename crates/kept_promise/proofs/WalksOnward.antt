@@ -22,7 +22,7 @@ use Rattle.kept_promise.proofs.Versions.{of_numbered}
 use Rattle.kept_promise.proofs.EventCases.{IsChange, Remembers, Settled, IsStill}
 use Rattle.kept_promise.proofs.Rights.{gets_file}
 use Rattle.kept_promise.proofs.Walked.{HasWalk}
-use Rattle.kept_promise.proofs.WalkRuns.{bare, OnWay, IsOn, EndsAs, JobsOn, IsOver, Walks, SameWay, same_way, is_on, is_over, IsBare}
+use Rattle.kept_promise.proofs.WalkRuns.{bare, GetsFile, OnWay, IsOn, EndsAs, JobsOn, IsOver, Walks, SameWay, same_way, is_on, is_over, IsBare}
 
 -- ---- an operation as it was
 
@@ -56,8 +56,9 @@ bare_make (path.Remove s) r e = tt
 bare_make (path.Rename s t) r e = tt
 bare_make c r e = absurd cc
 
-no_make : (c : PathCommand) (s : Spot) → c ≡ path.Find s → gets_file (path_word c) ≡ true → ⊥
-no_make c s is e = true_and_false (gets_file (path_word c)) e (ap (λ (z : PathCommand). gets_file (path_word z)) is)
+no_make : (c : PathCommand) (s : Spot) → GetsFile c s → gets_file (path_word c) ≡ true → ⊥
+no_make c s (inl is) e = true_and_false (gets_file (path_word c)) e (ap (λ (z : PathCommand). gets_file (path_word z)) is)
+no_make c s (inr is) e = true_and_false (gets_file (path_word c)) e (ap (λ (z : PathCommand). gets_file (path_word z)) is)
 
 made_on : (all : List Moment) (c : PathCommand) (o r : Op) (st : Stage) (n m : ℕ) → MadeWay o r → n ≤ m → OnWay all c o st n → OnWay all c r st m
 made_on all c o r (stage.Walking x w) n m s le (step, has, before, plain, is) = (step, subst (λ (b : ℕ). HasWalk (bare all) b c w step) (sym s.begin) has, omega (arith, le, before), bare_make c r (ap gets_file (sym is) ∙ s.gets), s.word ∙ is)

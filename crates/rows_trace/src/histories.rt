@@ -52,6 +52,7 @@ pub fn op(word: Word, file: u64, times: Times, outcome: Outcome, value: SharedBy
 fn word_of(name: &str) -> Word {
     match name {
         "open" => Word::Open,
+        "rewrite" => Word::Rewrite,
         "close" => Word::Close,
         "make" => Word::Make,
         "remove" => Word::Remove,

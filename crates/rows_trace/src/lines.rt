@@ -65,6 +65,7 @@ fn put_delivery(out: &mut Out, way: &str, session: u64, amount: Amount, clock: &
 fn put_command(out: &mut Out, command: &Command) {
     match command {
         Command::Open(file) => put_in(out, "Open", *file),
+        Command::Rewrite(file) => put_in(out, "Rewrite", *file),
         Command::Close(file) => put_in(out, "Close", *file),
         Command::Abandon(file) => put_in(out, "Abandon", *file),
         Command::Trunc { file, size } => {
@@ -111,6 +112,12 @@ fn put_numbers(out: &mut Out, line: &Line) {
         }
         Line::Evict { client, file } => {
             out.fields("Evict", &[("client", *client), ("file", *file)])
+        }
+        Line::Warm { client, content } => {
+            out.fields(
+                "Warm",
+                &[("client", *client), ("parts", content.len() as u64)],
+            )
         }
         _ => out.text("another line"),
     }

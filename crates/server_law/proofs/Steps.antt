@@ -33,12 +33,14 @@ use Rattle.server_core.specs.Steps.{sends}
 use Rattle.chunk_calls.specs.Writing.{cond_fault}
 use Rattle.server_core.specs.declared.change.Change.{Change}
 use Rattle.server_core.specs.State.{State, held}
-use Rattle.server_core.specs.Step.{connect, has_room, called_under, asks, asks_tree, got_under, got_if_under, stands, hangs_if, server_step_under}
+use Rattle.server_core.specs.Step.{connect, has_room, called_under, asks, asks_tree, got_under, got_if_under, stands, hangs_if, server_step_under, server_step, Misses, nothing, lacks, missed_at, with_index}
+use Rattle.server_core.specs.declared.event.ServerStep.{ServerStep}
 use Rattle.server_law.specs.Facts.{Fact, fact_at, fact_after, facts_after, AreNext, Holds}
 use Rattle.server_law.proofs.Calls.{TellsOutcome, tells_calls, tells_settles, tells_commits}
 use Rattle.server_law.proofs.Facts.{IsTelling}
 use Rattle.server_law.proofs.TreeCalls.{calls_keep_under, settles_keep_under, commits_keep_under}
 use Rattle.server_law.proofs.Trees.{IsGiven}
+use Rattle.server_law.proofs.Growth.{missed_same}
 
 -- ---- entries more
 
@@ -217,3 +219,22 @@ opening_told s none given = record {
   };
   given = given;
 }
+
+-- ---- want of memory
+
+missed_tree : (s : State) (e : Event) → (missed_at s e).tree ≡ s.tree
+missed_tree s event.Connect = refl
+missed_tree s (event.Got session (message.Call xid (body.Lb (lb.CondWrite a))) now) = refl
+missed_tree s (event.Got session (message.Call xid (body.Lb m)) now) = refl
+missed_tree s (event.Got session (message.Call xid (body.Nfs m)) now) = refl
+missed_tree s (event.Got session (message.Call xid (body.Back m)) now) = refl
+missed_tree s (event.Got session (message.Unfit xid why) now) = refl
+missed_tree s (event.Got session (message.Answer xid b) now) = refl
+missed_tree s (event.Got session (message.Refuse xid why) now) = refl
+missed_tree s (event.Settle now) = refl
+missed_tree s (event.Hang session) = refl
+
+pub misses_told : (opening : Tree) (s : State) (e : Event) (n : State) (step : ServerStep) → Misses s e n step → Holds opening s → Holds opening n
+misses_told opening s e n step (nothing may is said) h =
+    same opening s n (ap (λ (x : State). x.tree) is ∙ missed_tree s e) (ap (λ (x : State). x.journal) is ∙ missed_same s e) h
+misses_told opening s e n step (lacks l) h = same opening (server_step s e).0 n (ap (λ (x : State). x.tree) l.2) (ap (λ (x : State). x.journal) l.2) (step_told opening s false e h)

@@ -74,3 +74,7 @@ pub record IsGiven (t : Tree) : Type 0 where
 pub record Holds (opening : Tree) (s : State) : Type 0 where
   pub told : IsTold opening s
   pub given : IsGiven s.tree
+
+-- a server whose tree holds what its journal says, over some tree that it opened with
+abbrev pub IsAccounted : State → Type 0
+IsAccounted s = ∥ ((opening : Tree) × Holds opening s) ∥₁

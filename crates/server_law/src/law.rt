@@ -12,10 +12,12 @@ ghost use Rattle.server_law.specs.Facts.{Holds, IsGiven};
 /// Whatever happens to a server, and whether its store fails or not, its tree holds of each file what
 /// the last entry of its journal says that tells of that file (a version, a length and a digest, or
 /// that it is gone), and what the opening tree had where no entry does; and along the journal a file's
-/// versions rise by one, from 1 where it is made. It does nothing: a caller learns this by calling it.
+/// versions rise by one, from 1 where it is made; and so it is where memory is wanting (`missed`). It does
+/// nothing: a caller learns this by calling it.
 pub fn journal_tells()
     ensures opening { (s : State) → s.journal ≡ [] → IsGiven s.tree → Holds s.tree s }
     ensures step { (opening : Tree) (s : State) (fault : Bool) (e : Event) → Holds opening s → Holds opening (server_step_under s fault e).0 }
+    ensures missed { (opening : Tree) (s : State) (e : Event) (n : State) (step : ServerStep) → Misses s e n step → Holds opening s → Holds opening n }
 {}
 
 /// Each step adds at most two entries to the journal, behind those that it has, whether its store fails

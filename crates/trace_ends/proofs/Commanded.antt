@@ -45,6 +45,7 @@ seat_set seats place seat = simp unary_clauses refl
 -- what a command on names begins has no content to store
 names_store_nothing : (s t : client.State) (k : PathCommand) (file : ℕ) (e : Option Ended) → value_at_begin t (path_word k) file e ≡ value_at_begin s (path_word k) file e
 names_store_nothing s t (path.Find spot) file e = refl
+names_store_nothing s t (path.Rewrite spot) file e = refl
 names_store_nothing s t (path.Look spot) file e = refl
 names_store_nothing s t path.LookRoot file e = refl
 names_store_nothing s t (path.List names) file e = refl
@@ -57,6 +58,7 @@ names_store_nothing s t (path.Rename spot over) file e = refl
 -- a close that goes on leaves the local content as it was
 value_stays : (s : client.State) (command : Command) (now : ℕ) → value_at_begin (command_step s command now).0 (word_of command) (file_of command) (command_step s command now).1.ended ≡ value_at_begin s (word_of command) (file_of command) (command_step s command now).1.ended
 value_stays s (command.Open file) now = refl
+value_stays s (command.Rewrite file) now = refl
 value_stays s (command.Write file offset content) now = refl
 value_stays s (command.Trunc file size) now = refl
 value_stays s (command.Read file offset count) now = refl

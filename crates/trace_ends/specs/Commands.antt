@@ -11,6 +11,7 @@ use Rattle.register_model.specs.declared.op.Word.TheVariants as word
 
 abbrev pub path_word : PathCommand → Word
 path_word (path.Find s) = word.Open
+path_word (path.Rewrite s) = word.Rewrite
 path_word (path.Look s) = word.Look
 path_word path.LookRoot = word.Look
 path_word (path.List p) = word.List
@@ -22,6 +23,7 @@ path_word (path.Rename s t) = word.Rename
 
 abbrev pub word_of : Command → Word
 word_of (command.Open file) = word.Open
+word_of (command.Rewrite file) = word.Rewrite
 word_of (command.Write file offset content) = word.Write
 word_of (command.Trunc file size) = word.Trunc
 word_of (command.Read file offset count) = word.Read
@@ -32,6 +34,7 @@ word_of (command.Named k) = path_word k
 -- the file that a command names by its id; 0 where it has names in place of it
 abbrev pub file_of : Command → ℕ
 file_of (command.Open file) = file
+file_of (command.Rewrite file) = file
 file_of (command.Write file offset content) = file
 file_of (command.Trunc file size) = file
 file_of (command.Read file offset count) = file

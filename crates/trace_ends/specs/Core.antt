@@ -7,6 +7,7 @@ use Rattle.wire.specs.declared.message.Message.{Message}
 use Rattle.wire.specs.declared.fault.WireFault.{WireFault}
 use Rattle.wire.specs.declared.message.Side.TheVariants as side
 use Rattle.wire.specs.declared.message.Waiting.{Waiting}
+use Rattle.command_text.specs.Content.{content_bytes}
 use Rattle.command_text.specs.declared.command.Command.{Command}
 use Rattle.tree_reading.specs.declared.entry.EntryKind.{EntryKind}
 use Rattle.tree_reading.specs.declared.entry.EntryKind.TheVariants as kind
@@ -17,6 +18,8 @@ use Rattle.server_core.specs.declared.event.Sent.{Sent}
 use Rattle.server_rules.specs.declared.told.Told.{Told}
 use Rattle.server_core.specs.declared.journal.Entry.{Entry}
 use Rattle.server_rules.specs.declared.told.Told.TheVariants as told
+use Rattle.cache_file.specs.Items.{items}
+use Rattle.client_state.specs.Hints.{warms}
 use Rattle.client_state.specs.State as client
 use Rattle.open_close.specs.Step.{command_step, got_step}
 use Rattle.client_state.specs.Ending.{joined, cut}
@@ -285,3 +288,4 @@ adjusted k (adjustment.Forge (who.Client c) key place) = with_client k c (λ s. 
 adjusted k (adjustment.Clear who.Server) = record k { server = clears_index k.server }
 adjusted k (adjustment.Clear (who.Client c)) = with_client k c client.index_cleared (numbered k.seats c)
 adjusted k (adjustment.Evict c file) = with_client k c (λ s. client.evicted s file) (numbered k.seats c)
+adjusted k (adjustment.Warm c content) = with_client k c (λ s. warms s (items (content_bytes content))) (numbered k.seats c)

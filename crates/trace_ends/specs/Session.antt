@@ -1,5 +1,5 @@
 -- The clients of a trace and its sessions, beside the bytes on their way.
-use Rattle.std.specs.Prelude.{ℕ, List, [], ◌∷◌, ◌++◌, Option, Some, None, Bool, false, ◌==◌}
+use Rattle.std.specs.Prelude.{ℕ, List, [], ◌∷◌, ◌++◌, Option, Some, None, Bool, false, is_none, length, ◌==◌, ◌&&◌}
 use Rattle.wire.specs.declared.message.Message.{Message}
 use Rattle.wire.specs.declared.message.Message.TheVariants as message
 use Rattle.client_state.specs.State as client
@@ -21,6 +21,10 @@ pub record Seat : Type 0 where
 
 abbrev pub new_seat : Seat
 new_seat = record { client = client.start; session = None; place = None }
+
+-- a client may get the items of a cache file before it first joins, and once: they are the first that it keeps
+abbrev pub may_warm : Seat → Bool
+may_warm s = is_none s.session && (length s.client.cache == 0)
 
 -- ---- a session
 

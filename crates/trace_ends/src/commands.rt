@@ -19,6 +19,7 @@ fn path_word(command: &PathCommand) -> Word
 {
     match command {
         PathCommand::Find(_) => Word::Open,
+        PathCommand::Rewrite(_) => Word::Rewrite,
         PathCommand::Look(_) | PathCommand::LookRoot => Word::Look,
         PathCommand::List(_) => Word::List,
         PathCommand::Make(_) => Word::Make,
@@ -35,6 +36,7 @@ pub fn word_of(command: &Command) -> Word
 {
     match command {
         Command::Open(_) => Word::Open,
+        Command::Rewrite(_) => Word::Rewrite,
         Command::Write { .. } => Word::Write,
         Command::Trunc { .. } => Word::Trunc,
         Command::Read { .. } => Word::Read,
@@ -49,7 +51,8 @@ pub fn file_of(command: &Command) -> u64
     ensures { result ≡ file_of command.now }
 {
     match command {
-        Command::Open(file) | Command::Close(file) | Command::Abandon(file) => *file,
+        Command::Open(file) | Command::Rewrite(file) => *file,
+        Command::Close(file) | Command::Abandon(file) => *file,
         Command::Write { file, .. } => *file,
         Command::Trunc { file, .. } => *file,
         Command::Read { file, .. } => *file,

@@ -3,17 +3,19 @@
 
 ghost use Rattle.std.specs.Prelude.{◌≡◌, Some, IfOk, OnOk};
 ghost use Rattle.wire.specs.Parse.{parse_of};
+ghost use Rattle.client_state.specs.Hints.{warms};
 ghost use Rattle.client_state.specs.State.{waiting_of};
 ghost use Rattle.open_close.specs.Step.{command_step, got_step};
 ghost use Rattle.client_state.specs.Ending.{joined, cut};
 ghost use Rattle.trace_ends.specs.Core.{client_changed};
-ghost use Rattle.trace_ends.specs.Session.{new_seat};
+ghost use Rattle.trace_ends.specs.Session.{may_warm, new_seat};
 ghost use Rattle.trace_ends.specs.Ops.{place_after, place_with};
 
 use crate::adjusting::Change;
 use crate::places::{place_after, place_with};
 use client_state::step::ClientStep;
 use command_text::command::Command;
+use lb_base::items::Bytes;
 use open_close::client::Client;
 use session_rules::running::Runs;
 use std::alloc::{AllocError, Global};
@@ -149,6 +151,24 @@ impl Seat {
                 self.client.evict(file);
                 Ok(())
             }
+        }
+    }
+
+    /// Whether it may get the items of a cache file: it has not joined yet, and keeps nothing.
+    pub fn may_warm(&self) -> bool
+        ensures { result ≡ may_warm self.now }
+    {
+        self.session.is_none() && self.client.cache().is_empty()
+    }
+
+    /// The client gets these items of a cache file. The one error is want of memory.
+    #[tactic(auto, using(client_state::proofs::Warming::all_entered))]
+    pub fn warms(&mut self, alloc: Global, items: &[Bytes]) -> Result<(), AllocError>
+        ensures { OnOk result (self.new ≡ record self.old { client = warms self.old.client items.now }) }
+    {
+        match self.client.warm(alloc, items) {
+            Ok(left_out) => { if left_out { Err(AllocError) } else { Ok(()) } }
+            Err(want) => Err(want),
         }
     }
 

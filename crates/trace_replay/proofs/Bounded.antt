@@ -19,6 +19,7 @@ use Rattle.trace_ends.specs.Numbers.{numbered}
 use Rattle.trace_replay.specs.World.{World}
 use Rattle.trace_replay.specs.Run.{line_most, file_most, asks_if, place_for, sized, file_asks, directory_asks, joins_within, joins_if, event_asks, asks_at, asks, asks_within, asked}
 use Rattle.trace_replay.specs.Turns.{IsTurnBounded}
+use Rattle.trace_replay.proofs.Warming.{warms_turn, warm_taken}
 
 abbrev asking : Turn → Result Turn LineFault
 asking t = Ok t
@@ -67,6 +68,7 @@ event k (line.Pass n m s r) t h e = when _ (turn.Pass n m s r) t h e
 event k (line.Forge w key file offset count) t h e = when _ (turn.Adjust (adjustment.Forge w key (record { file = file; offset = offset; count = count }))) t tt e
 event k (line.Clear w) t h e = when _ (turn.Adjust (adjustment.Clear w)) t tt e
 event k (line.Evict c file) t h e = when _ (turn.Adjust (adjustment.Evict c file)) t tt e
+event k (line.Warm c content) t h e = taken (warms_turn c content) t tt (warm_taken c content (numbered k.seats c) t e)
 event k l t h e = refused_line Grammar t e
 
 of_size : (long much : Bool) (dir : ℕ) (name : List ℕ) (content : List Part) (t : Turn) → sized long much (turn.File dir name content) ≡ asking t → IsTurnBounded t

@@ -5,3 +5,4 @@ pub mod Rounds
 pub mod Bounded
 pub mod Applied
 pub mod Going
+pub mod Warming

@@ -1,5 +1,5 @@
 -- Why an operation ended as it did: for each outcome what must have happened.
-use Rattle.std.specs.Prelude.{◌≡◌, ℕ, zero, suc, ◌+◌, ◌<◌, ◌≤◌, List, [], ◌∷◌, length, take, ◌⊎◌, Bool, true, false, ◌&&◌, ◌==◌, nat_lt, nat_le, Option, Some, None, Ok, Contains, option_map, slice_get, if◌then◌else◌}
+use Rattle.std.specs.Prelude.{◌≡◌, ℕ, zero, suc, ◌+◌, ◌<◌, ◌≤◌, List, [], ◌∷◌, length, take, ◌⊎◌, Bool, true, false, ◌&&◌, ◌==◌, nat_lt, nat_le, Option, Some, None, Ok, IsSome, Contains, option_map, slice_get, if◌then◌else◌}
 use Rattle.std.specs.List.{list_any}
 use Rattle.sha1.specs.Sha1.{sha1}
 use Rattle.command_text.specs.Content.{content_length, content_bytes}
@@ -9,6 +9,7 @@ use Rattle.command_text.specs.declared.path.PathCommand.{PathCommand}
 use Rattle.command_text.specs.declared.path.PathCommand.TheVariants as path
 use Rattle.command_text.specs.declared.path.Spot.{Spot}
 use Rattle.tree_nodes.specs.declared.node.Node.{Node}
+use Rattle.xdr_codec.specs.Handle.{handle_bytes}
 use Rattle.tree_reading.specs.Tree.{directory_of}
 use Rattle.hash_calls.specs.declared.call.Commit.{Commit}
 use Rattle.hash_calls.specs.declared.message.Lb.TheVariants as lb
@@ -25,16 +26,18 @@ use Rattle.register_model.specs.declared.op.Outcome.TheVariants as told
 use Rattle.trace_ends.specs.Core.{Event.Cuts, Event.Serves, server_waiting}
 use Rattle.trace_replay.specs.Trail.{Deed, Moment, step_of}
 use Rattle.trace_replay.specs.Book.{Book, Or, value_at, version_at}
-use Rattle.trace_replay.specs.OwnCalls.{WaitsFor}
+use Rattle.trace_replay.specs.OwnCalls.{WaitsFor, TakesCall}
 use Rattle.trace_replay.specs.Naming.{tree_at, IsInside, HasFound, IsSeen, IsRootSeen, IsListed, ListsTooLong, NameDone, IsRefused}
 
 -- ---- local contents
 
 -- What a command on a file leaves of the client's local content of it, where it ended so: an open gives the content that it got, a
--- write and a trunc that were done change it, and an abandon that was done, or a close that replaced the file, ends it.
+-- write and a trunc that were done change it, a rewrite that was done gives no bytes, and an abandon that was done, or a close that replaced the file, ends it.
 abbrev pub leaves : Command → Outcome → (value : List ℕ) → Option (List ℕ) → Option (List ℕ)
 leaves (command.Open f) (told.Opened len digest) value l = Some value
 leaves (command.Named (path.Find s)) (told.Opened len digest) value l = Some value
+leaves (command.Rewrite f) told.Done value l = Some []
+leaves (command.Named (path.Rewrite s)) told.Done value l = Some []
 leaves (command.Write f offset content) told.Done value l = option_map (λ x. written x offset (content_bytes content)) l
 leaves (command.Trunc f size) told.Done value l = option_map (λ x. truncated x size) l
 leaves (command.Abandon f) told.Done value l = None
@@ -82,6 +85,7 @@ write_outcome size offset (suc count) = sized_outcome (written_size size offset 
 -- of a command on an open file, with this local content
 abbrev pub open_answer : (asks : Bool) → Command → List ℕ → Option Outcome
 open_answer asks (command.Open f) x = Some told.AlreadyOpen
+open_answer asks (command.Rewrite f) x = Some told.AlreadyOpen
 open_answer asks (command.Write f offset content) x = Some (write_outcome (length x) offset (content_length content))
 open_answer asks (command.Trunc f size) x = Some (sized_outcome size)
 open_answer asks (command.Read f offset count) x = Some (told.Piece (length (part_of x offset count)) (sha1 (part_of x offset count)))
@@ -92,6 +96,7 @@ open_answer asks (command.Named k) x = unless_asks asks
 -- of one on a file that isn't open
 abbrev pub shut_answer : (asks : Bool) → Command → Option Outcome
 shut_answer asks (command.Open f) = unless_asks asks
+shut_answer asks (command.Rewrite f) = unless_asks asks
 shut_answer asks (command.Named k) = unless_asks asks
 shut_answer asks k = Some told.NotOpen
 
@@ -182,6 +187,15 @@ pub record IsDirectory (book : Book) (o : Op) (id : ℕ) : Type 0 where
 abbrev pub IsOpenRefused : Book → (file : ℕ) → Op → (status : ℕ) → Type 0
 IsOpenRefused book file o status = ((status ≡ 21) × IsDirectory book o file) ⊎ ((status ≡ 70) × ((p : ℕ) × Within o p × (value_at book file p ≡ Absent)))
 
+-- A rewrite's file was there when the server took its GETLEASE, while the client's operation under way waited for the answer. It has no point.
+pub record IsRewritten (book : Book) (o : Op) : Type 0 where
+  pub pointless : o.point ≡ None
+  pub step : ℕ
+  pub inside : IsInside o o.begin step
+  pub there : IsSome (value_at book o.file step)
+  pub xid : ℕ
+  pub taken : TakesCall book o.client step xid (body.Lb (lb.GetLease (handle_bytes o.file)))
+
 -- the point of an open of a path whose look-up was refused in this step: this one, where a directory was gone (70), and else none
 abbrev pub look_up_point : (status step : ℕ) → Option ℕ
 look_up_point status step = if status == 70 then Some step else None
@@ -221,6 +235,10 @@ pub record IsGone (book : Book) (o : Op) (status : ℕ) : Type 0 where
   pub inside : IsInside o o.begin step
   pub value_is : value_at book o.file step ≡ Absent
 
+-- A rewrite was refused as an open is, and has no point: of a directory by 21, or since its file was gone at a moment within it.
+abbrev pub IsRewriteRefused : Book → Op → (status : ℕ) → Type 0
+IsRewriteRefused book o status = ((status ≡ 21) × (o.point ≡ None) × IsDirectory book o o.file) ⊎ IsGone book o status
+
 -- No close is refused for anything else.
 abbrev pub IsCloseRefused : Book → Op → (status : ℕ) → Type 0
 IsCloseRefused book o status = HasNoRoom book o status ⊎ IsGone book o status
@@ -229,12 +247,19 @@ IsCloseRefused book o status = HasNoRoom book o status ⊎ IsGone book o status
 abbrev pub HasNeither : Op → Type 0
 HasNeither o = (o.file ≡ 0) × (o.point ≡ None)
 
--- The cause of how an operation on names ended, or goes on, that asked the server. What was refused, but an open, has no file and no point, nor has a list.
+-- A rewrite of a path was refused so, or a look-up was, and then it has no file.
+abbrev pub IsRenewRefused : Book → Op → Spot → (status : ℕ) → Type 0
+IsRenewRefused book o s status = (HasFound book o s × IsRewriteRefused book o status) ⊎ (IsRefused book o status × HasNeither o)
+
+-- The cause of how an operation on names ended, or goes on, that asked the server. What was refused, but an open or a rewrite, has no file and no point, nor has a list.
 abbrev pub NamedCause : Book → PathCommand → Op → Outcome → Type 0
 NamedCause book (path.Find s) o (told.Opened len digest) = HasFound book o s × IsOpened book o.file o len digest
 NamedCause book (path.Find s) o told.AlreadyOpen = HasFound book o s × (o.point ≡ None)
 NamedCause book (path.Find s) o (told.Changed first last) = HasFound book o s × IsChanged book o.file o first last
 NamedCause book (path.Find s) o (told.Refused status) = IsPathRefused book o s status
+NamedCause book (path.Rewrite s) o told.Done = HasFound book o s × IsRewritten book o
+NamedCause book (path.Rewrite s) o told.AlreadyOpen = HasFound book o s × (o.point ≡ None)
+NamedCause book (path.Rewrite s) o (told.Refused status) = IsRenewRefused book o s status
 NamedCause book (path.Look s) o (told.Seen id kind version len) = IsSeen book o s id kind version len × (o.file ≡ id) × (o.point ≡ None)
 NamedCause book path.LookRoot o (told.Seen id kind version len) = IsRootSeen book o id kind version len × HasNeither o
 NamedCause book (path.List p) o (told.Names list) = IsListed book o p list × HasNeither o
@@ -252,6 +277,10 @@ HasCause book (command.Open f) o (told.Refused status) = IsOpenRefused book f o 
 HasCause book (command.Open f) o (told.Changed first last) = IsChanged book f o first last
 HasCause book (command.Open f) o told.Lost = IsLost book o
 HasCause book (command.Open f) o told.Running = o.end ≡ None
+HasCause book (command.Rewrite f) o told.Done = IsRewritten book o
+HasCause book (command.Rewrite f) o (told.Refused status) = IsRewriteRefused book o status
+HasCause book (command.Rewrite f) o told.Lost = IsLost book o
+HasCause book (command.Rewrite f) o told.Running = o.end ≡ None
 HasCause book (command.Close f) o (told.Closed version len digest) = IsClosed book f o version len digest
 HasCause book (command.Close f) o (told.Refused status) = IsCloseRefused book o status
 HasCause book (command.Close f) o told.Lost = IsLost book o

@@ -47,6 +47,9 @@ EndsNamed (path.Find s) (told.Opened len digest) = Unit {0}
 EndsNamed (path.Find s) told.AlreadyOpen = Unit {0}
 EndsNamed (path.Find s) (told.Changed first last) = Unit {0}
 EndsNamed (path.Find s) (told.Refused status) = IsNameRefused status (21 ∷ [])
+EndsNamed (path.Rewrite s) told.Done = Unit {0}
+EndsNamed (path.Rewrite s) told.AlreadyOpen = Unit {0}
+EndsNamed (path.Rewrite s) (told.Refused status) = IsNameRefused status (21 ∷ [])
 EndsNamed (path.Look s) (told.Seen id kind version len) = Unit {0}
 EndsNamed (path.Look s) (told.Refused status) = IsPathRefused status
 EndsNamed path.LookRoot (told.Seen id kind version len) = Unit {0}
@@ -66,13 +69,16 @@ EndsNamed (path.Rename s t) (told.Refused status) = IsNameRefused status (17 ∷
 EndsNamed k o = ⊥
 
 -- How an operation ends that is left alone, where its client had this local content of its file before. An open of a file that wasn't open
--- got the file, met another version in each attempt, or was refused by the server; and a close of an open file replaced the file, or was
+-- got the file, met another version in each attempt, or was refused by the server; a rewrite of one was done, or refused; and a close of an open file replaced the file, or was
 -- refused for want of room, or since the file is gone.
 abbrev pub EndsWell : Command → Option (List ℕ) → Outcome → Type 0
 EndsWell (command.Open f) None (told.Opened len digest) = Unit {0}
 EndsWell (command.Open f) None (told.Changed first last) = Unit {0}
 EndsWell (command.Open f) None (told.Refused status) = (status ≡ 21) ⊎ (status ≡ 70)
 EndsWell (command.Open f) None o = ⊥
+EndsWell (command.Rewrite f) None told.Done = Unit {0}
+EndsWell (command.Rewrite f) None (told.Refused status) = (status ≡ 21) ⊎ (status ≡ 70)
+EndsWell (command.Rewrite f) None o = ⊥
 EndsWell (command.Close f) (Some x) (told.Closed version len digest) = Unit {0}
 EndsWell (command.Close f) (Some x) (told.Refused status) = (status ≡ 28) ⊎ (status ≡ 70)
 EndsWell (command.Close f) (Some x) o = ⊥

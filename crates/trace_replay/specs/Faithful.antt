@@ -4,6 +4,8 @@ use Rattle.sha1.specs.Sha1.{sha1}
 use Rattle.command_text.specs.Parts.{lines_of}
 use Rattle.command_text.specs.declared.command.Command.{Command}
 use Rattle.command_text.specs.declared.command.Command.TheVariants as command
+use Rattle.command_text.specs.declared.path.PathCommand.{PathCommand}
+use Rattle.command_text.specs.declared.path.PathCommand.TheVariants as path
 use Rattle.xdr_codec.specs.Handle.{handle_bytes}
 use Rattle.xdr_codec.specs.declared.answer.Answer.TheVariants.{Done}
 use Rattle.hash_calls.specs.declared.message.Lb.TheVariants as lb
@@ -28,6 +30,7 @@ use Rattle.trace_ends.specs.Ops.{no_traffic}
 use Rattle.trace_ends.specs.Core.{is_of_file, Event.Settles, Event.Cuts, happens}
 use Rattle.trace_replay.specs.Naming.{failed_by, refusal_of}
 use Rattle.trace_replay.specs.NameChanges.{NamesChangeBy}
+use Rattle.trace_replay.specs.Entries.{JournalGrows, IsChangedBy}
 use Rattle.trace_replay.specs.Walking.{AreCalls, HasFoundFile}
 use Rattle.trace_ends.specs.Commands.{word_of, file_of}
 use Rattle.trace_ends.specs.Session.{Session}
@@ -47,16 +50,18 @@ abbrev pub is_running : Outcome → Bool
 is_running told.Running = true
 is_running _ = false
 
--- an open whose path led to a file was told that it is open just where it was
-abbrev pub FindsOpen : Outcome → Option (List ℕ) → Type 0
-FindsOpen told.AlreadyOpen l = IsSome l
-FindsOpen (told.Opened len digest) l = l ≡ None
-FindsOpen outcome l = Unit {0}
+-- an open, or a rewrite, whose path led to a file was told that it is open just where it was
+abbrev pub FindsOpen : PathCommand → Outcome → Option (List ℕ) → Type 0
+FindsOpen (path.Find s) told.AlreadyOpen l = IsSome l
+FindsOpen (path.Find s) (told.Opened len digest) l = l ≡ None
+FindsOpen (path.Rewrite s) told.AlreadyOpen l = IsSome l
+FindsOpen (path.Rewrite s) told.Done l = l ≡ None
+FindsOpen k outcome l = Unit {0}
 
 -- a close is to store the local content that its client had when it began
 abbrev pub StoresLocal : Command → Op → Option (List ℕ) → Type 0
 StoresLocal (command.Close f) o l = l ≡ Some o.value
-StoresLocal (command.Named k) o l = FindsOpen o.outcome l
+StoresLocal (command.Named k) o l = FindsOpen k o.outcome l
 StoresLocal k o l = Unit {0}
 
 -- the file of an operation is that of the command's id; one on names has a file by its cause, if it asked the server
@@ -204,6 +209,7 @@ pub record IsSettled (book : Book) (number step : ℕ) : Type 0 where
   pub point_is : op.point ≡ Some step
   pub content : List ℕ
   pub what_is : change.what ≡ wanted.Content content
+  pub size_is : length op.value ≡ length content
   pub value_is : Or book (op.value ≡ content)
   pub owner : session.owner ≡ op.client
   pub closing : session.closing ≡ Some place
@@ -259,6 +265,10 @@ pub record IsFaithful (input : List ℕ) (book : Book) : Type 0 where
   pub files : (k : ℕ) (d : Deed) (o : Op) → slice_get (deeds_of book.moments) k ≡ Some d → slice_get book.ops k ≡ Some o → HasFoundFile d.command o (deals_of o book.moments)
   -- names change by such calls alone
   pub names : (m : Moment) → Contains book.moments m → NamesChangeBy book m
+  -- and so does the journal grow, by entries of the session of such a call
+  pub entered : (m : Moment) → Contains book.moments m → JournalGrows book m
+  -- each operation that changed a file waited for the answer to the call by which that was done
+  pub whose : (k p : ℕ) (o : Op) → slice_get book.ops k ≡ Some o → changes o.word ≡ true → o.point ≡ Some p → IsChangedBy book o p
   -- the calls that go up a session are numbered from 1 on, in order: no two have one number, also where its client left it
   pub numbered : (session : ℕ) → CountOn 1 (numbers_of session book.moments)
   -- what a client answers by itself counts nothing
@@ -268,7 +278,7 @@ pub record IsFaithful (input : List ℕ) (book : Book) : Type 0 where
   -- by the index.
   pub reached : (k : ℕ) (o : Op) → slice_get book.ops k ≡ Some o → o.word ≡ word.Open → EachReaches (deals_of o book.moments)
   -- an open that got its content had it kept, and sent no READ, or its last attempt was told its chunks, and reached all of them
-  pub fetched : (k len : ℕ) (digest : List ℕ) (o : Op) → slice_get book.ops k ≡ Some o → o.outcome ≡ told.Opened len digest → Or book (GotBy o (deals_of o book.moments))
+  pub fetched : (k len : ℕ) (digest : List ℕ) (o : Op) → slice_get book.ops k ≡ Some o → o.outcome ≡ told.Opened len digest → GotBy book o (deals_of o book.moments)
   -- a close, whatever comes of it, has named the first chunks of its value, in order
   pub named : (k : ℕ) (o : Op) → slice_get book.ops k ≡ Some o → o.word ≡ word.Close → NamesChunks o.value (deals_of o book.moments)
   -- and has sent the bytes of just those that answers told it the server doesn't know

@@ -13,6 +13,7 @@ use Rattle.register_model.specs.declared.op.Traffic.{Traffic}
 use Rattle.trace_ends.specs.Ops.{no_traffic}
 use Rattle.trace_replay.specs.Trail.{place_of}
 use Rattle.trace_replay.specs.Traffic.{Deal, Deal.Took, Deal.Found, Deal.Sent, begins, attempts_in}
+use Rattle.trace_replay.specs.Book.{Book, Or}
 
 -- ---- the attempts of an open
 
@@ -113,6 +114,7 @@ pub record ReachesAll (content : List ℕ) (f : Fetched) : Type 0 where
 abbrev pub read_traffic : Fetched → Traffic
 read_traffic f = record no_traffic { read = length f.reads; «data» = f.bytes }
 
--- An open that got its content by what its client kept sent no READ, and took no byte of it; else its last attempt reached all chunks of it.
-abbrev pub GotBy : Op → List Deal → Type 0
-GotBy o deals = (((attempts_in deals).last ≡ None) × (o.traffic ≡ no_traffic)) ⊎ ReachesAll o.value (last_fetch deals)
+-- An open that got its content by what its client kept sent no READ, and took no byte of it; else its last attempt reached all chunks of a content, which
+-- is its value.
+abbrev pub GotBy : Book → Op → List Deal → Type 0
+GotBy book o deals = (((attempts_in deals).last ≡ None) × (o.traffic ≡ no_traffic)) ⊎ ((content : List ℕ) × ReachesAll content (last_fetch deals) × Or book (o.value ≡ content))

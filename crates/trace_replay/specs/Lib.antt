@@ -16,13 +16,17 @@ pub mod TrailRows
 pub mod Traffic
 pub mod Naming
 pub mod NameChanges
+pub mod Entries
+pub mod WarmRows
 pub mod Walking
 pub mod WalkingRows
 pub mod Fetches
 pub mod Owing
 pub mod Numbered
 pub mod Faithful
+pub mod Chained
 pub mod Complete
 pub mod Saving
 pub mod SavingRows
+pub mod ChainedRows
 pub mod Traces

@@ -1,5 +1,5 @@
 -- What commands on names come to: what names led to, what the server's tree told, and what was made of it, at moments within the operation.
-use Rattle.std.specs.Prelude.{◌≡◌, ℕ, ◌+◌, ◌<◌, ◌≤◌, List, [], ◌∷◌, ◌++◌, map, Option, Some, None, Result, Ok, Contains, if◌then◌else◌}
+use Rattle.std.specs.Prelude.{◌≡◌, ◌⊎◌, ℕ, ◌+◌, ◌<◌, ◌≤◌, List, [], ◌∷◌, ◌++◌, map, Option, Some, None, Result, Ok, Contains, if◌then◌else◌}
 use Rattle.std.specs.Option.{option_map}
 use Rattle.command_text.specs.declared.path.PathCommand.{PathCommand}
 use Rattle.command_text.specs.declared.path.PathCommand.TheVariants as path
@@ -11,6 +11,7 @@ use Rattle.xdr_codec.specs.declared.answer.Answer.TheVariants.{Done, Failed}
 use Rattle.xdr_codec.specs.declared.status.Status.{Status}
 use Rattle.nfs3_calls.specs.declared.message.Nfs.{Nfs}
 use Rattle.nfs3_calls.specs.declared.message.Nfs.TheVariants as nfs
+use Rattle.wire.specs.Parse.{parse_of}
 use Rattle.wire.specs.declared.message.Body.TheVariants as body
 use Rattle.wire.specs.declared.message.Message.TheVariants as message
 use Rattle.tree_nodes.specs.declared.node.Node.{Node}
@@ -24,14 +25,19 @@ use Rattle.tree_reading.specs.declared.call.Held.{Held}
 use Rattle.tree_reading.specs.declared.reading.Standing.{Standing}
 use Rattle.tree_reading.specs.declared.entry.Entry.{Entry}
 use Rattle.path_calls.specs.Walk.{pages_most, place, create_call, make_dir_call, rename_call}
-use Rattle.server_core.specs.Closing.{entries_by}
+use Rattle.tree_calls.specs.Waiting.{calls, settles}
+use Rattle.tree_calls.specs.declared.asked.Asked.{Asked}
+use Rattle.tree_calls.specs.declared.asked.Done.{Done as Told}
+use Rattle.tree_calls.specs.declared.asked.Outcome.TheVariants.{Answered}
+use Rattle.server_core.specs.Closing.{entries_by, has_waiting}
+use Rattle.server_core.specs.declared.change.Wanted.TheVariants as wanted
 use Rattle.register_model.specs.declared.op.Op.{Op}
 use Rattle.xdr_codec.specs.declared.handle.TheConstants.{ROOT}
-use Rattle.trace_ends.specs.Core.{is_of_file, Event.Hears, happens}
+use Rattle.trace_ends.specs.Core.{is_of_file, Event.Serves, Event.Hears, server_waiting, happens}
 use Rattle.trace_replay.specs.Trail.{Moment, step_of, taken_by}
 use Rattle.trace_replay.specs.Traffic.{Deal, Deal.Sent, deals_of}
 use Rattle.trace_replay.specs.Book.{Book}
-use Rattle.trace_replay.specs.OwnCalls.{TakesCall, ComesTo, held_at}
+use Rattle.trace_replay.specs.OwnCalls.{WaitsFor, TakesCall, SettlesCall, ComesTo, held_at}
 
 -- ---- what names led to
 
@@ -176,8 +182,30 @@ refusal_of (nfs.RmDirAnswer a) = failed_by a
 refusal_of (nfs.RenameAnswer a) = failed_by a
 refusal_of m = None
 
--- In a step within the operation the server sent an answer that refuses by this status, and the client took it on that session for the operation, which
--- ended in that step.
+-- The server took a call of this number on this session, and this is what a call of it comes to over the tree, as that then was: what the tree tells, or why it
+-- refuses. The changes that waited kept their room.
+pub record TellsTaken (m : Moment) (session xid : ℕ) (answer : Nfs) : Type 0 where
+  pub now : ℕ
+  pub bytes : List ℕ
+  pub call : Nfs
+  pub event_is : m.event ≡ Serves session now bytes
+  pub parsed : parse_of server_waiting bytes ≡ Ok (message.Call xid (body.Nfs call))
+  pub told : Told
+  pub told_is : (calls (tree_at m) (held_at m) (has_waiting m.before.server.waiting session) call).1 ≡ Some (Answered told)
+  pub answer_is : told.answer ≡ answer
+
+-- or it settled what such a call left waiting, and this is what came of that
+pub record TellsSettled (m : Moment) (session xid : ℕ) (answer : Nfs) : Type 0 where
+  pub settled : SettlesCall m session xid
+  pub asked : Asked
+  pub what_is : settled.change.what ≡ wanted.Asked asked
+  pub answer_is : (settles (tree_at m) (held_at m) asked).1.answer ≡ answer
+
+abbrev pub TreeTells : Moment → (session xid : ℕ) → Nfs → Type 0
+TreeTells m session xid answer = TellsTaken m session xid answer ⊎ TellsSettled m session xid answer
+
+-- In a step within the operation, in which it waited for the answer, the server sent one that refuses by this status. The tree itself refused the call so, as it
+-- was then. The client took the answer on that session for the operation, which ended in that step.
 pub record IsRefused (book : Book) (o : Op) (status : ℕ) : Type 0 where
   pub moment : Moment
   pub there : Contains book.moments moment
@@ -187,6 +215,8 @@ pub record IsRefused (book : Book) (o : Op) (status : ℕ) : Type 0 where
   pub answer : Nfs
   pub sent : Contains (happens moment.before moment.event).down (record { session = session; message = message.Answer xid (body.Nfs answer) })
   pub refuses : option_map status_number (refusal_of answer) ≡ Some status
+  pub waits : WaitsFor moment o.client session xid
+  pub tells : TreeTells moment session xid answer
   pub taken : Moment
   pub taken_there : Contains book.moments taken
   pub now : ℕ

@@ -28,7 +28,7 @@ use Rattle.trace_ends.specs.declared.adjusting.Adjustment.TheVariants as adjustm
 use Rattle.trace_replay.specs.declared.turn.Turn.{Turn}
 use Rattle.trace_replay.specs.declared.turn.Turn.TheVariants as turn
 use Rattle.trace_ends.specs.Core.{Core, Event.Joins, Event.Does, Event.Settles, Event.Cuts, Event.Hangs}
-use Rattle.trace_ends.specs.Session.{Seat, new_seat}
+use Rattle.trace_ends.specs.Session.{Seat, new_seat, may_warm}
 use Rattle.trace_ends.specs.Numbers.{numbered}
 use Rattle.trace_replay.specs.World.{World, start, happened, adjusts}
 use Rattle.trace_replay.specs.Delivery.{up_some, down_some, up_length, down_length, passes}
@@ -123,11 +123,25 @@ abbrev pub has_index : Core → Who → Bool
 has_index k who.Server = true
 has_index k (who.Client c) = is_there (numbered k.seats c)
 
+-- a client that may get the items of a cache file gets those of one within the limit of a file
+abbrev pub warm_sized : (is_long : Bool) → Turn → Result Turn LineFault
+warm_sized true t = Err (Limit limit.File)
+warm_sized false t = Ok t
+
+abbrev pub warm_if : (may : Bool) → ℕ → List Part → Result Turn LineFault
+warm_if true c content = warm_sized (nat_lt file_most (content_length content)) (turn.Adjust (adjustment.Warm c content))
+warm_if false c content = Err Grammar
+
+abbrev pub warm_asks : ℕ → List Part → Option Seat → Result Turn LineFault
+warm_asks c content None = Err Grammar
+warm_asks c content (Some seat) = warm_if (may_warm seat) c content
+
 -- an index or a cache is changed that is there
 abbrev pub adjust_asks : Core → Line → Result Turn LineFault
 adjust_asks k (line.Forge w key file offset count) = asks_if (has_index k w) (turn.Adjust (adjustment.Forge w key (record { file = file; offset = offset; count = count })))
 adjust_asks k (line.Clear w) = asks_if (has_index k w) (turn.Adjust (adjustment.Clear w))
 adjust_asks k (line.Evict c file) = asks_if (is_there (numbered k.seats c)) (turn.Adjust (adjustment.Evict c file))
+adjust_asks k (line.Warm c content) = warm_asks c content (numbered k.seats c)
 adjust_asks k _ = Err Grammar
 
 -- An event names a client and a session that are there.

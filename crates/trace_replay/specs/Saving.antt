@@ -1,23 +1,31 @@
 -- What is saved: bytes that the other end is found to have are not sent.
-use Rattle.std.specs.Prelude.{◌≡◌, ◌⊎◌, ℕ, ◌<◌, ◌≤◌, List, [], ◌∷◌, length, Option, Some, None, IsSome, Ok, true, Contains, slice_get}
+use Rattle.std.specs.Prelude.{◌≡◌, ◌⊎◌, ℕ, ◌<◌, ◌≤◌, List, [], ◌∷◌, length, Option, Some, None, IsSome, Ok, Bool, true, false, Contains, slice_get}
 use Rattle.sha1.specs.Sha1.{sha1}
 use Rattle.chunk_index.specs.Index.{key_of, place_of}
 use Rattle.client_cache.specs.Cache.{content_of}
 use Rattle.client_cache.specs.declared.kept.Content.{Content}
 use Rattle.command_text.specs.declared.command.Command.TheVariants as command
-use Rattle.xdr_codec.specs.Handle.{handle_bytes}
+use Rattle.xdr_codec.specs.Handle.{handle_bytes, file_of}
 use Rattle.xdr_codec.specs.declared.answer.Answer.{Answer}
 use Rattle.xdr_codec.specs.declared.answer.Answer.TheVariants.{Done, Failed}
 use Rattle.xdr_codec.specs.declared.status.Status.TheVariants as status
 use Rattle.hash_calls.specs.declared.call.CondPiece.{CondPiece}
 use Rattle.hash_calls.specs.declared.call.Leased.{Leased}
 use Rattle.hash_calls.specs.declared.message.Lb.TheVariants as lb
+use Rattle.nfs3_calls.specs.declared.message.Nfs.{Nfs}
+use Rattle.nfs3_calls.specs.declared.message.Nfs.TheVariants as nfs
+use Rattle.nfs3_calls.specs.declared.place.Found.{Found}
 use Rattle.wire.specs.Parse.{parse_of}
 use Rattle.wire.specs.declared.message.Body.TheVariants as body
 use Rattle.wire.specs.declared.message.Message.{Message}
 use Rattle.wire.specs.declared.message.Message.TheVariants as message
 use Rattle.temp_files.specs.Temps.{temp_at}
 use Rattle.chunk_calls.specs.Writing.{cond_fault, bytes_known}
+use Rattle.client_state.specs.declared.task.Stage.{Stage}
+use Rattle.client_state.specs.declared.task.Stage.TheVariants as stage
+use Rattle.client_state.specs.declared.task.Task.{Task}
+use Rattle.path_calls.specs.declared.walk.Goal.{Goal}
+use Rattle.path_calls.specs.declared.walk.Goal.TheVariants as goal
 use Rattle.file_open.specs.Caching.{content_in}
 use Rattle.file_open.specs.Opening.{lease_call, hash_call}
 use Rattle.register_model.specs.declared.op.Op.{Op}
@@ -121,17 +129,63 @@ abbrev pub AsksFirst : Moment → Type 0
 AsksFirst m = (client now file : ℕ) (seat : Seat) → m.event ≡ Does client now (command.Open file) → numbered m.before.seats client ≡ Some seat
     → ((happens m.before m.event).up ≡ []) ⊎ ((xid : ℕ) × ((happens m.before m.event).up ≡ first_call xid file (content_of seat.client.cache file) ∷ []))
 
+-- the answer to a LOOKUP that found something
+abbrev pub found_told : (xid : ℕ) → Found → Message
+found_told xid f = message.Answer xid (body.Nfs (nfs.LookupAnswer (Done f)))
+
+-- whether a walk is on its way to a file that is written anew
+abbrev pub is_anew : Goal → Bool
+is_anew (goal.Rewrite name) = true
+is_anew g = false
+
+abbrev pub anew_at : Stage → Bool
+anew_at (stage.Walking asked w) = is_anew w.goal
+anew_at st = false
+
+abbrev pub anew_in : Option Task → Bool
+anew_in None = false
+anew_in (Some t) = anew_at t.stage
+
+-- what is asked first of the file that was found: what an open of its id asks, or a rewrite of it
+abbrev pub found_call : (anew : Bool) → (xid file : ℕ) → (kept : Option Content) → Message
+found_call true xid file kept = lease_call xid file
+found_call false xid file kept = first_call xid file kept
+
+-- What a client sends as it takes such an answer: nothing, the next call of its walk, or just what one that is told to open the file of the id that was
+-- found sends first, or, where its walk is a rewrite's, what one that is told to write it anew sends.
+abbrev pub AsksFound : Moment → Type 0
+AsksFound m = (xid : ℕ) (f : Found) (seat : Seat) → numbered m.before.seats (client_of m.before m.event) ≡ Some seat → Contains (taken_by m.before (client_of m.before m.event) m.event) (found_told xid f)
+    → ((happens m.before m.event).up ≡ [])
+    ⊎ (((x : ℕ) × (call : Nfs) × ((happens m.before m.event).up ≡ message.Call x (body.Nfs call) ∷ []))
+    ⊎ ((x file : ℕ) × (file_of f.handle ≡ Some file) × ((happens m.before m.event).up ≡ found_call (anew_in seat.client.task) x file (content_of seat.client.cache file) ∷ [])))
+
 -- An open that is told a version ends in that step by the content that is kept in it, if there is one: nothing is sent for its bytes, and it counts
 -- nothing. Else it asks for the file's chunks.
 abbrev pub EndsBy : Op → (step : ℕ) → (sent : List Message) → (kept : Option (List ℕ)) → Type 0
 EndsBy o step sent (Some bytes) = (o.outcome ≡ told.Opened (length bytes) (sha1 bytes)) × (o.end ≡ Some step) × (o.value ≡ bytes) × (sent ≡ []) × (o.traffic ≡ no_traffic)
 EndsBy o step sent None = (xid : ℕ) × (sent ≡ hash_call xid o.file 0 ∷ [])
 
--- it is so of an operation at whose moment its client takes the answer to a GETLEASE
+-- it is so of an open at whose moment its client takes the answer to a GETLEASE
 abbrev pub UsesKept : Moment → Op → Type 0
-UsesKept m o = (xid : ℕ) (l : Leased) (seat : Seat) → is_in o (step_of m) (client_of m.before m.event) ≡ true → numbered m.before.seats (client_of m.before m.event) ≡ Some seat
+UsesKept m o = (xid : ℕ) (l : Leased) (seat : Seat) → o.word ≡ word.Open → is_in o (step_of m) (client_of m.before m.event) ≡ true → numbered m.before.seats (client_of m.before m.event) ≡ Some seat
     → Contains (taken_by m.before (client_of m.before m.event) m.event) (lease_told xid l)
     → EndsBy o (step_of m) (happens m.before m.event).up (content_in l.version (content_of seat.client.cache o.file))
+
+-- ---- a client wants no content
+
+-- a client that is told to write a file anew answers that by itself, and sends nothing, or asks for the file's version alone, whatever it keeps
+abbrev pub AsksVersion : Moment → Type 0
+AsksVersion m = (client now file : ℕ) (seat : Seat) → m.event ≡ Does client now (command.Rewrite file) → numbered m.before.seats client ≡ Some seat
+    → ((happens m.before m.event).up ≡ []) ⊎ ((xid : ℕ) × ((happens m.before m.event).up ≡ lease_call xid file ∷ []))
+
+-- A rewrite that is told it is done in that step, sends nothing, and counts nothing.
+abbrev pub EndsAnew : Op → (step : ℕ) → (sent : List Message) → Type 0
+EndsAnew o step sent = (o.outcome ≡ told.Done) × (o.end ≡ Some step) × (sent ≡ []) × (o.traffic ≡ no_traffic)
+
+abbrev pub FetchesNone : Moment → Op → Type 0
+FetchesNone m o = (xid : ℕ) (l : Leased) → o.word ≡ word.Rewrite → is_in o (step_of m) (client_of m.before m.event) ≡ true
+    → Contains (taken_by m.before (client_of m.before m.event) m.event) (lease_told xid l)
+    → EndsAnew o (step_of m) (happens m.before m.event).up
 
 -- ---- all of it
 
@@ -144,7 +198,13 @@ pub record IsSaving (book : Book) : Type 0 where
   pub saved : (k : ℕ) (o : Op) → slice_get book.ops k ≡ Some o → o.word ≡ word.Close → AllKnown book.moments o → (o.traffic.tmp ≡ 0) × (o.traffic.«data» ≡ 0)
   -- an open of a file of which a content is kept asks for its version
   pub asked : (m : Moment) → Contains book.moments m → AsksFirst m
+  -- and so does one of a path, as it has found what that stands for
+  pub found : (m : Moment) → Contains book.moments m → AsksFound m
   -- is told the one that the file has when the server takes that call
   pub leased : (m : Moment) (k : ℕ) (o : Op) → Contains book.moments m → slice_get book.ops k ≡ Some o → TellsLease book m o
   -- and gets what is kept in it
   pub used : (m : Moment) (k : ℕ) (o : Op) → Contains book.moments m → slice_get book.ops k ≡ Some o → UsesKept m o
+  -- a rewrite asks for the version alone, of whatever file
+  pub spares : (m : Moment) → Contains book.moments m → AsksVersion m
+  -- and fetches nothing once it is told
+  pub anew : (m : Moment) (k : ℕ) (o : Op) → Contains book.moments m → slice_get book.ops k ≡ Some o → FetchesNone m o

@@ -59,6 +59,7 @@ timing_of owners (line.File spot content) = timing.Nothing
 timing_of owners (line.Forge who key file offset count) = timing.Nothing
 timing_of owners (line.Clear who) = timing.Nothing
 timing_of owners (line.Evict c file) = timing.Nothing
+timing_of owners (line.Warm c content) = timing.Nothing
 
 abbrev pub owners_of : World → List ℕ
 owners_of w = map (λ x. x.owner) w.core.sessions

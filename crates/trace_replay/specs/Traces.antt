@@ -1,5 +1,5 @@
 -- What the replay of a trace answers, and what is promised of its history.
-use Rattle.std.specs.Prelude.{[], true, false, ◌≡◌, ℕ, ◌+◌, ◌⊎◌, List, ◌++◌, length, All, Result, Ok, Err, Option, Some, None, slice_get}
+use Rattle.std.specs.Prelude.{[], true, false, ◌≡◌, ℕ, ◌+◌, ◌<◌, ◌⊎◌, List, ◌++◌, length, All, Result, Ok, Err, Option, Some, None, slice_get}
 use Rattle.rpc_record.specs.Records.{Unread}
 use Rattle.wire.specs.Message.{MessageFits, message_spell}
 use Rattle.wire.specs.Parse.{parse_of}
@@ -35,6 +35,7 @@ use Rattle.trace_replay.specs.Traffic.{deals_of, stored_traffic}
 use Rattle.trace_replay.specs.Book.{Book, AreApart, HadContent, Or, book_of, value_at, version_at}
 use Rattle.trace_replay.specs.Faithful.{IsFaithful}
 use Rattle.trace_replay.specs.Complete.{IsComplete}
+use Rattle.trace_replay.specs.Chained.{IsChained}
 use Rattle.trace_replay.specs.Saving.{IsSaving}
 
 abbrev pub Fails : TraceError → Result World Refused → Type 0
@@ -81,15 +82,15 @@ pub record HoldsValues (book : Book) (w : World) : Type 0 where
 -- the server's tree has of each file what the history says that it is, if it is there, and the version
 abbrev pub HoldsFile : Book → World → (file : ℕ) → Option File → Value → Type 0
 HoldsFile book w file None None = Unit {0}
-HoldsFile book w file (Some f) (Some content) = Or book (f.content ≡ content) × (f.version ≡ version_at book file (w.core.steps + 1))
+HoldsFile book w file (Some f) (Some content) = (length f.content ≡ length content) × Or book (f.content ≡ content) × (f.version ≡ version_at book file (w.core.steps + 1))
 HoldsFile book w file f v = ⊥
 
 abbrev pub HoldsFiles : Book → World → Type 0
 HoldsFiles book w = (file : ℕ) → HoldsFile book w file (file_at w.core.server.tree file) (value_at book file (w.core.steps + 1))
 
--- each content that a client keeps of a file is what the file had in that version
+-- each content that a client keeps of a file is what the file had in that version: what it keeps under 0 is no file's
 abbrev pub HoldsContents : Book → World → Type 0
-HoldsContents book w = (c file : ℕ) (seat : Seat) (kept : Content) → numbered w.core.seats c ≡ Some seat → content_of seat.client.cache file ≡ Some kept → HadContent book file kept.version kept.bytes
+HoldsContents book w = (c file : ℕ) (seat : Seat) (kept : Content) → numbered w.core.seats c ≡ Some seat → content_of seat.client.cache file ≡ Some kept → 0 < file → HadContent book file kept.version kept.bytes
 
 -- a message fits a record, and an end with these calls waiting reads it as itself
 abbrev pub IsRead : Waiting → Message → Type 0
@@ -154,12 +155,13 @@ pub record HoldsQueues (w : World) (number : ℕ) (q : Wire) : Type 0 where
 abbrev pub HoldsMessages : World → Type 0
 HoldsMessages w = (number : ℕ) (q : Wire) → numbered w.wires number ≡ Some q → HoldsQueues w number q
 
--- A replayed history tells what the trace says. Each open in it gave the whole content that its file had at one moment within it, and each
+-- A replayed history tells what the trace says, moment by moment. Each open in it gave the whole content that its file had at one moment within it, and each
 -- close that ended Closed replaced its file wholly by its local content at one moment within it, wherever no two different byte lists
 -- that were hashed in the run share a digest. An operation that is left alone has ended, and bytes that the other end was found to have were
 -- not sent. What the server holds is what the history says, and what is on its way between the two ends are whole messages, which their ends
 -- take.
 pub record IsKeptPromise (input : List ℕ) (w : World) : Type 0 where
+  pub chained : IsChained input (moments input) w
   pub faithful : IsFaithful input (book_of w (moments input))
   pub legal : AreApart (hashed input) → IsLegal (history_of w)
   pub complete : IsComplete (book_of w (moments input)) w

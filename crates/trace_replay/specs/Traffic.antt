@@ -257,6 +257,11 @@ IsFetchCall file (message.Call xid (body.Lb (lb.GetHash a))) = a.handle ≡ hand
 IsFetchCall file (message.Call xid (body.Nfs (nfs.Read r))) = r.handle ≡ handle_bytes file
 IsFetchCall file m = ⊥
 
+-- a rewrite asks for the version of its file
+abbrev pub IsVersionCall : (file : ℕ) → Message → Type 0
+IsVersionCall file (message.Call xid (body.Lb (lb.GetLease handle))) = handle ≡ handle_bytes file
+IsVersionCall file m = ⊥
+
 -- a close puts chunks of its value into a temporary file (`NamesChunks` and `PaysAll` say which), and has its file replaced by it
 abbrev pub IsStoreCall : (file : ℕ) (value : List ℕ) → Message → Type 0
 IsStoreCall file value (message.Call xid (body.Lb (lb.MkTmpFile a))) = a.handle ≡ handle_bytes file
@@ -267,6 +272,7 @@ IsStoreCall file value m = ⊥
 
 abbrev pub IsOwnCall : Word → (file : ℕ) (value : List ℕ) → Message → Type 0
 IsOwnCall word.Open file value m = IsFetchCall file m
+IsOwnCall word.Rewrite file value m = IsVersionCall file m
 IsOwnCall word.Close file value m = IsStoreCall file value m
 IsOwnCall w file value m = ⊥
 

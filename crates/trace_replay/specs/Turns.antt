@@ -22,6 +22,11 @@ abbrev pub is_do : Line → Bool
 is_do (line.Do c r command) = true
 is_do l = false
 
+-- whether a line gives a client the items of a cache file
+abbrev pub is_warm : Line → Bool
+is_warm (line.Warm c content) = true
+is_warm l = false
+
 -- whether a line has bytes of one way delivered
 abbrev pub is_delivery : Line → Bool
 is_delivery (line.Up session amount server) = true

@@ -22,12 +22,12 @@ pub data Part : Type 0 where
   asks : Walk → Part
   waits : (xid : ℕ) → Walk → Part
 
--- A walk's call is sent, then its answer taken, if it comes; that leads to the next call, or to the file with which an open goes on as one of its id
--- does, or it is the last message, and the operation ended so. Where no answer came it goes on, or its client saw its connection lost.
+-- A walk's call is sent, then its answer taken, if it comes; that leads to the next call, or to the file with which an open or a rewrite goes on as one of
+-- its id does, or it is the last message, and the operation ended so. Where no answer came it goes on, or its client saw its connection lost.
 abbrev pub IsWalk : Outcome → Part → List Deal → Type 0
 IsWalk o (asks w) (Sent (message.Call xid (body.Nfs m)) ∷ ds) = (m ≡ next_call w) × IsWalk o (waits xid w) ds
 IsWalk o (waits xid w) [] = (o ≡ outcome.Running) ⊎ (o ≡ outcome.Lost)
-IsWalk o (waits xid w) (Took (message.Answer y (body.Nfs a)) ∷ ds) = (y ≡ xid) × elim (walk_told w a) [ told.Asks v ↦ IsWalk o (asks v) ds | told.Finds id ↦ AreOwn word.Open id [] ds | told.Ends e ↦ (ds ≡ []) × (o ≡ told_of (outcome_of e)) | _ ↦ ⊥ ]
+IsWalk o (waits xid w) (Took (message.Answer y (body.Nfs a)) ∷ ds) = (y ≡ xid) × elim (walk_told w a) [ told.Asks v ↦ IsWalk o (asks v) ds | told.Finds id ↦ AreOwn word.Open id [] ds | told.Rewrites id ↦ AreOwn word.Rewrite id [] ds | told.Ends e ↦ (ds ≡ []) × (o ≡ told_of (outcome_of e)) | _ ↦ ⊥ ]
 IsWalk o p ds = ⊥
 
 -- What was sent and taken for an operation is its own: on names its walk's, and nothing where its client answered it by itself, in its first step, since
@@ -44,7 +44,7 @@ IsUnfound o = (o.file ≡ 0) ⊎ ((changes o.word ≡ true) × IsSome o.point)
 abbrev pub HasWalkFile : Op → Part → List Deal → Type 0
 HasWalkFile o (asks w) (Sent (message.Call xid (body.Nfs m)) ∷ ds) = HasWalkFile o (waits xid w) ds
 HasWalkFile o (waits xid w) [] = IsUnfound o
-HasWalkFile o (waits xid w) (Took (message.Answer y (body.Nfs a)) ∷ ds) = elim (walk_told w a) [ told.Asks v ↦ HasWalkFile o (asks v) ds | told.Finds id ↦ o.file ≡ id | _ ↦ Unit {0} ]
+HasWalkFile o (waits xid w) (Took (message.Answer y (body.Nfs a)) ∷ ds) = elim (walk_told w a) [ told.Asks v ↦ HasWalkFile o (asks v) ds | told.Finds id ↦ o.file ≡ id | told.Rewrites id ↦ o.file ≡ id | _ ↦ Unit {0} ]
 HasWalkFile o p ds = Unit {0}
 
 -- of one on names

@@ -89,7 +89,7 @@ impl WorldState {
             Turn::Settle(now) => self.happens(alloc, Event::Settles(now)),
             Turn::Cut(client) => self.happens(alloc, Event::Cuts(client)),
             Turn::Hang(session) => self.happens(alloc, Event::Hangs(session)),
-            Turn::Adjust(adjustment) => self.adjusts(adjustment),
+            Turn::Adjust(adjustment) => self.adjusts(alloc, adjustment),
             Turn::Pass {
                 session,
                 rounds,

@@ -178,9 +178,11 @@ impl WorldState {
     }
 
     /// An index or a cache is changed, and nothing else.
-    pub fn adjusts(&mut self, adjustment: Adjustment) -> Result<(), AllocError>
+    pub fn adjusts(&mut self, alloc: Global, adjustment: Adjustment) -> Result<(), AllocError>
         ensures { OnOk result (world_of self.new ≡ adjusts (world_of self.old) adjustment) }
     {
-        adjust(&mut self.core, adjustment)
+        let adjusted = adjust(alloc, &mut self.core, &adjustment);
+        drop(adjustment);
+        adjusted
     }
 }

@@ -92,6 +92,7 @@ pub fn timing_of(sessions: &Vec<Session>, line: &Line) -> Timing
         Line::Skipped | Line::Version | Line::Clients(_) => Timing::Nothing,
         Line::Dir(_) | Line::File { .. } => Timing::Nothing,
         Line::Forge { .. } | Line::Clear(_) | Line::Evict { .. } => Timing::Nothing,
+        Line::Warm { .. } => Timing::Nothing,
     }
 }
 

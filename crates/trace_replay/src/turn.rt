@@ -4,8 +4,8 @@ ghost use Rattle.std.specs.Prelude.{◌≡◌, true, false, nat_lt, nat_le, IfOk
 ghost use Rattle.trace_text.specs.Reading.{IsTimely};
 ghost use Rattle.trace_ends.specs.Numbers.{numbered};
 ghost use Rattle.trace_replay.specs.World.{World};
-ghost use Rattle.trace_replay.specs.Run.{is_there, has_index, asks_if, place_for, file_asks, directory_asks, joins_if, adjust_asks, event_asks, asks_at, asks, asks_within, asked, in_header};
-ghost use Rattle.trace_replay.specs.Turns.{IsTurnBounded, is_delivery, is_do, stage_after};
+ghost use Rattle.trace_replay.specs.Run.{is_there, has_index, asks_if, place_for, file_asks, directory_asks, joins_if, warm_asks, adjust_asks, event_asks, asks_at, asks, asks_within, asked, in_header};
+ghost use Rattle.trace_replay.specs.Turns.{IsTurnBounded, is_delivery, is_do, is_warm, stage_after};
 ghost use Rattle.trace_ends.specs.View.{core_of};
 ghost use Rattle.trace_replay.specs.WorldView.{world_of};
 ghost use Rattle.trace_replay.specs.declared.stage.Stage.TheVariants as stage;
@@ -214,8 +214,9 @@ fn of_index(core: &Core, who: Who, adjustment: Adjustment) -> Result<Turn, LineF
     asks_if(has_index(core, who), Turn::Adjust(adjustment))
 }
 
-/// What a line asks for that changes an index or a cache alone.
+/// What a line asks for that changes an index or a cache alone, without a content.
 fn adjust_asks(core: &Core, line: &Line) -> Result<Turn, LineFault>
+    requires { is_warm line.now ≡ false }
     ensures { result ≡ adjust_asks (core_of core.now) line.now }
 {
     match line {
@@ -242,6 +243,22 @@ fn adjust_asks(core: &Core, line: &Line) -> Result<Turn, LineFault>
         }
         _ => Err(LineFault::Grammar),
     }
+}
+
+/// What a client asks for that is to get the items of a cache file of this content.
+fn warm_asks(core: &Core, client: u64, content: Content) -> Result<Turn, LineFault>
+    ensures { result ≡ warm_asks client content (numbered (core_of core.now).seats client) }
+{
+    let Some(place) = place_of(core.seats.len(), client) else {
+        return Err(LineFault::Grammar);
+    };
+    if !core.seats[place].may_warm() {
+        return Err(LineFault::Grammar);
+    }
+    if length_within(&content, FILE_MOST).is_none() {
+        return Err(LineFault::Limit(Limit::File));
+    }
+    Ok(Turn::Adjust(Adjustment::Warm { client, content }))
 }
 
 /// What a line asks for that has bytes of one way delivered.
@@ -286,9 +303,10 @@ fn delivery_asks(core: &Core, line: &Line) -> Result<Turn, LineFault>
     }
 }
 
-/// What an event asks for that is no command.
+/// What an event asks for that has no command and no content.
 fn plain_asks(core: &Core, line: &Line) -> Result<Turn, LineFault>
-    requires { is_do line.now ≡ false }
+    requires command { is_do line.now ≡ false }
+    requires warm { is_warm line.now ≡ false }
     ensures { result ≡ event_asks (core_of core.now) line.now }
 {
     match line {
@@ -315,7 +333,7 @@ fn plain_asks(core: &Core, line: &Line) -> Result<Turn, LineFault>
         Line::Settle { server } => Ok(Turn::Settle(*server)),
         Line::Cut { client, .. } => by_client(core, *client, Turn::Cut(*client)),
         Line::Hang { session, .. } => of_session(core, *session, Turn::Hang(*session)),
-        Line::Do { .. } => Err(LineFault::Grammar),
+        Line::Do { .. } | Line::Warm { .. } => Err(LineFault::Grammar),
         _ => adjust_asks(core, line),
     }
 }
@@ -338,6 +356,7 @@ fn event_asks(core: &Core, line: Line) -> Result<Turn, LineFault>
                 command,
             },
         ),
+        Line::Warm { client, content } => warm_asks(core, client, content),
         line => {
             let asked = plain_asks(core, &line);
             drop(line);

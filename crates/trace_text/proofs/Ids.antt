@@ -2,28 +2,29 @@
 use Rattle.std.proofs.Common.{◌≡◌, ℕ, ◌<◌, ◌-◌, ◌^◌, List, [], ◌∷◌, Option, Some, None, Bool, true, false, take, drop, refl, arith}
 use Rattle.std.specs.Prelude.{cond, Result, Ok, Err, IfOk, ◌&&◌, codes, bytes_eq, nat_lt, nat_le}
 use Rattle.std.proofs.lemmas.Bool.Decides.{nat_tests}
-use Rattle.command_text.specs.Commands.{open_of, write_of, trunc_of, read_of, close_of, abandon_of, find_of, open_at, one_spot, spot_command, rename_of, list_of, look_of, path_command_of, command_of}
+use Rattle.command_text.specs.Commands.{open_of, renew_of, rewrite_at, rewrite_of, write_of, trunc_of, read_of, close_of, abandon_of, find_of, open_at, one_spot, spot_command, rename_of, list_of, look_of, path_command_of, command_of}
 use Rattle.command_text.specs.Fields.{◌>>=◌, value_from, value_of, is_decimal, number_of, number_within, content_of, id_of}
 use Rattle.command_text.specs.Paths.{spot_of, path_of}
 use Rattle.command_text.specs.Reading.{Gives}
 use Rattle.trace_text.specs.Fields.{reading_of, amount_of, who_of, key_of}
-use Rattle.trace_text.specs.Grammar.{version_of, term_of, drift_of, clients_of, dir_of, file_of, join_of, do_of, up_of, down_of, pass_of, settle_of, cut_of, hang_of, forge_of, clear_of, evict_of, event_from, line_from, said_by, is_skipped, line_of}
+use Rattle.trace_text.specs.Grammar.{version_of, term_of, drift_of, clients_of, dir_of, file_of, join_of, do_of, up_of, down_of, pass_of, settle_of, cut_of, hang_of, forge_of, clear_of, evict_of, warm_of, event_from, line_from, said_by, is_skipped, line_of}
 use Rattle.command_text.specs.Parts.{words_of}
 use Rattle.trace_text.specs.Reading.{IsTimely}
 use Rattle.command_text.specs.declared.line_error.LineError.{LineError}
 use Rattle.command_text.specs.declared.command.Command.{Command}
-use Rattle.command_text.specs.declared.command.Command.TheVariants.{Open, Write, Trunc, Read, Close, Abandon, Named}
+use Rattle.command_text.specs.declared.command.Command.TheVariants.{Open, Rewrite, Write, Trunc, Read, Close, Abandon, Named}
 use Rattle.command_text.specs.declared.path.PathCommand.{PathCommand}
-use Rattle.command_text.specs.declared.path.PathCommand.TheVariants.{Find, Look, LookRoot, List as Lists, Make, MakeDir, Remove, RemoveDir, Rename}
+use Rattle.command_text.specs.declared.path.PathCommand.TheVariants.{Find, Rewrite as Renew, Look, LookRoot, List as Lists, Make, MakeDir, Remove, RemoveDir, Rename}
 use Rattle.command_text.specs.declared.path.Spot.{Spot}
 use Rattle.trace_text.specs.declared.line.Line.{Line}
-use Rattle.trace_text.specs.declared.line.Line.TheVariants.{Version, Term, Drift, Clients, Dir, File, Join, Do, Up, Down, Pass, Settle, Cut, Hang, Forge, Clear, Evict, Skipped}
+use Rattle.trace_text.specs.declared.line.Line.TheVariants.{Version, Term, Drift, Clients, Dir, File, Join, Do, Up, Down, Pass, Settle, Cut, Hang, Forge, Clear, Evict, Warm, Skipped}
 use Rattle.trace_text.proofs.Found.{Of, of_it, of_then, of_either, of_any}
 use Rattle.trace_text.proofs.ShortNames.{AreShort, IsShortSpot, AreNamesShort, short_spot, short_path}
 
 -- the numbers in a command have at most 64 bits, and its names 255 bytes each
 abbrev pub IsSmall : Command → Type 0
 IsSmall (Open id) = id < 2 ^ 64
+IsSmall (Rewrite id) = id < 2 ^ 64
 IsSmall (Write id offset content) = (id < 2 ^ 64) × (offset < 2 ^ 64)
 IsSmall (Trunc id size) = (id < 2 ^ 64) × (size < 2 ^ 64)
 IsSmall (Read id offset count) = (id < 2 ^ 64) × (offset < 2 ^ 64) × (count < 2 ^ 64)
@@ -119,6 +120,18 @@ of_open [] = tt
 of_open (v ∷ []) = of_open_at v (id_of v) (of_id v)
 of_open (v ∷ w ∷ ws) = tt
 
+of_renew : (word : List ℕ) → Of IsSmall (renew_of word)
+of_renew word = of_then IsShortSpot IsSmall (spot_of word) (λ s. Some (Named (Renew s))) (short_spot word) (λ s h. h)
+
+of_rewrite_at : (word : List ℕ) (o : Option ℕ) → Of (λ n. n < 2 ^ 64) o → Of IsSmall (rewrite_at word o)
+of_rewrite_at word (Some n) h = h
+of_rewrite_at word None h = of_renew word
+
+of_rewrite : (ws : List (List ℕ)) → Of IsSmall (rewrite_of ws)
+of_rewrite [] = tt
+of_rewrite (v ∷ []) = of_rewrite_at v (id_of v) (of_id v)
+of_rewrite (v ∷ w ∷ ws) = tt
+
 of_write : (ws : List (List ℕ)) → Of IsSmall (write_of ws)
 of_write [] = tt
 of_write (v ∷ []) = tt
@@ -181,8 +194,8 @@ of_named word ws =
 
 of_command : (word : List ℕ) (ws : List (List ℕ)) → Of IsSmall (command_of word ws)
 of_command word ws =
-    of_either IsSmall (bytes_eq word (codes "open")) _ _ (of_open ws) (of_either IsSmall (bytes_eq word (codes "write")) _ _ (of_write ws) (of_either IsSmall (bytes_eq word (codes "trunc")) _ _ (of_trunc ws)
-    (of_either IsSmall (bytes_eq word (codes "read")) _ _ (of_read ws) (of_either IsSmall (bytes_eq word (codes "close")) _ _ (of_close ws) (of_either IsSmall (bytes_eq word (codes "abandon")) (abandon_of ws) (path_command_of word ws) (of_abandon ws) (of_named word ws))))))
+    of_either IsSmall (bytes_eq word (codes "open")) _ _ (of_open ws) (of_either IsSmall (bytes_eq word (codes "rewrite")) _ _ (of_rewrite ws) (of_either IsSmall (bytes_eq word (codes "write")) _ _ (of_write ws) (of_either IsSmall (bytes_eq word (codes "trunc")) _ _ (of_trunc ws)
+    (of_either IsSmall (bytes_eq word (codes "read")) _ _ (of_read ws) (of_either IsSmall (bytes_eq word (codes "close")) _ _ (of_close ws) (of_either IsSmall (bytes_eq word (codes "abandon")) (abandon_of ws) (path_command_of word ws) (of_abandon ws) (of_named word ws)))))))
 
 of_do : (ws : List (List ℕ)) → Of IsFit (do_of ws)
 of_do [] = tt
@@ -250,12 +263,18 @@ of_evict (v ∷ []) = tt
 of_evict (v ∷ w ∷ []) = of_then (λ a. Unit {0}) IsFit (number_of v) _ (of_any (number_of v)) (λ c h. of_then (λ a. Unit {0}) IsFit (number_of w) (λ f. Some (Evict c f)) (of_any (number_of w)) (λ f i. tt))
 of_evict (v ∷ w ∷ x ∷ ws) = tt
 
+of_warm : (ws : List (List ℕ)) → Of IsFit (warm_of ws)
+of_warm [] = tt
+of_warm (v ∷ []) = tt
+of_warm (v ∷ w ∷ []) = of_then (λ a. Unit {0}) IsFit (number_of v) _ (of_any (number_of v)) (λ c h. of_then (λ a. Unit {0}) IsFit (content_of w) (λ b. Some (Warm c b)) (of_any (content_of w)) (λ b i. tt))
+of_warm (v ∷ w ∷ x ∷ ws) = tt
+
 of_event : (kind : List ℕ) (ws : List (List ℕ)) → Of IsFit (event_from kind ws)
 of_event kind ws =
     of_either IsFit (bytes_eq kind (codes "join")) _ _ (of_join ws) (of_either IsFit (bytes_eq kind (codes "do")) _ _ (of_do ws) (of_either IsFit (bytes_eq kind (codes "up")) _ _ (of_up ws)
     (of_either IsFit (bytes_eq kind (codes "down")) _ _ (of_down ws) (of_either IsFit (bytes_eq kind (codes "pass")) _ _ (of_pass ws) (of_either IsFit (bytes_eq kind (codes "settle")) _ _ (of_settle ws)
     (of_either IsFit (bytes_eq kind (codes "cut")) _ _ (of_cut ws) (of_either IsFit (bytes_eq kind (codes "hang")) _ _ (of_hang ws)
-    (of_either IsFit (bytes_eq kind (codes "forge")) _ _ (of_forge ws) (of_either IsFit (bytes_eq kind (codes "clear")) _ _ (of_clear ws) (of_either IsFit (bytes_eq kind (codes "evict")) (evict_of ws) None (of_evict ws) tt))))))))))
+    (of_either IsFit (bytes_eq kind (codes "forge")) _ _ (of_forge ws) (of_either IsFit (bytes_eq kind (codes "clear")) _ _ (of_clear ws) (of_either IsFit (bytes_eq kind (codes "evict")) _ _ (of_evict ws) (of_either IsFit (bytes_eq kind (codes "warm")) (warm_of ws) None (of_warm ws) tt)))))))))))
 
 of_kind : (kind : List ℕ) (ws : List (List ℕ)) → Of IsFit (line_from kind ws)
 of_kind kind ws =

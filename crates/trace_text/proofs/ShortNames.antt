@@ -7,7 +7,7 @@ use Rattle.command_text.specs.Fields.{◌>>=◌, is_text, name_of}
 use Rattle.command_text.specs.Parts.{cut_at}
 use Rattle.command_text.specs.Paths.{names_of, within_path, names_in, spot_at, spot_in, spot_of, path_of}
 use Rattle.command_text.specs.declared.path.PathCommand.{PathCommand}
-use Rattle.command_text.specs.declared.path.PathCommand.TheVariants.{Find, Look, LookRoot, List as Lists, Make, MakeDir, Remove, RemoveDir, Rename}
+use Rattle.command_text.specs.declared.path.PathCommand.TheVariants.{Find, Rewrite as Renew, Look, LookRoot, List as Lists, Make, MakeDir, Remove, RemoveDir, Rename}
 use Rattle.command_text.specs.declared.path.Spot.{Spot}
 use Rattle.trace_text.proofs.Found.{Of, of_then, of_either}
 
@@ -24,6 +24,7 @@ IsShortSpot s = AreShort s.dirs × IsShort s.name
 -- the names of a command
 abbrev pub AreNamesShort : PathCommand → Type 0
 AreNamesShort (Find s) = IsShortSpot s
+AreNamesShort (Renew s) = IsShortSpot s
 AreNamesShort (Look s) = IsShortSpot s
 AreNamesShort LookRoot = Unit {0}
 AreNamesShort (Lists p) = AreShort p

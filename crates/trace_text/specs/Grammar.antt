@@ -6,7 +6,7 @@ use Rattle.command_text.specs.declared.command.Command.{Command}
 use Rattle.command_text.specs.Fields.{◌>>=◌, number_of, number_within, content_of}
 use Rattle.command_text.specs.Paths.{spot_of}
 use Rattle.trace_text.specs.declared.line.Line.{Line}
-use Rattle.trace_text.specs.declared.line.Line.TheVariants.{Version, Term, Drift, Clients, Dir, File, Join, Do, Up, Down, Pass, Settle, Cut, Hang, Forge, Clear, Evict, Skipped}
+use Rattle.trace_text.specs.declared.line.Line.TheVariants.{Version, Term, Drift, Clients, Dir, File, Join, Do, Up, Down, Pass, Settle, Cut, Hang, Forge, Clear, Evict, Warm, Skipped}
 use Rattle.trace_text.specs.Fields.{reading_of, amount_of, who_of, key_of}
 use Rattle.command_text.specs.Parts.{words_of}
 
@@ -105,6 +105,11 @@ abbrev pub evict_of : List (List ℕ) → Option Line
 evict_of (client ∷ file ∷ []) = number_of client >>= λ c. number_of file >>= λ f. Some (Evict c f)
 evict_of words = None
 
+-- warm C CONTENT
+abbrev pub warm_of : List (List ℕ) → Option Line
+warm_of (client ∷ content ∷ []) = number_of client >>= λ c. content_of content >>= λ b. Some (Warm c b)
+warm_of words = None
+
 -- an event that begins with this word
 abbrev pub event_from : List ℕ → List (List ℕ) → Option Line
 event_from kind words =
@@ -119,6 +124,7 @@ event_from kind words =
     else if bytes_eq kind (codes "forge") then forge_of words
     else if bytes_eq kind (codes "clear") then clear_of words
     else if bytes_eq kind (codes "evict") then evict_of words
+    else if bytes_eq kind (codes "warm") then warm_of words
     else None
 
 -- what a line says that begins with this word

@@ -5,11 +5,11 @@ use Rattle.clock_rule.specs.declared.rule.ClockFault.TheVariants as clock
 use Rattle.command_text.specs.declared.content.Part.TheVariants.{Bytes, Zeros}
 use Rattle.trace_text.specs.declared.line.Amount.TheVariants as amount
 use Rattle.trace_text.specs.declared.line.Who.TheVariants as who
-use Rattle.command_text.specs.declared.command.Command.TheVariants.{Open, Write, Trunc, Read, Close, Abandon, Named}
-use Rattle.command_text.specs.declared.path.PathCommand.TheVariants.{Find, Look, LookRoot, List as Lists, Make, MakeDir, Remove, RemoveDir, Rename}
+use Rattle.command_text.specs.declared.command.Command.TheVariants.{Open, Rewrite, Write, Trunc, Read, Close, Abandon, Named}
+use Rattle.command_text.specs.declared.path.PathCommand.TheVariants.{Find, Rewrite as Renew, Look, LookRoot, List as Lists, Make, MakeDir, Remove, RemoveDir, Rename}
 use Rattle.command_text.specs.declared.path.Spot.{Spot}
 use Rattle.trace_text.specs.declared.line.Line.{Line}
-use Rattle.trace_text.specs.declared.line.Line.TheVariants.{Version, Term, Drift, Clients, Dir, File, Join, Do, Up, Down, Pass, Settle, Cut, Hang, Forge, Clear, Evict, Skipped}
+use Rattle.trace_text.specs.declared.line.Line.TheVariants.{Version, Term, Drift, Clients, Dir, File, Join, Do, Up, Down, Pass, Settle, Cut, Hang, Forge, Clear, Evict, Warm, Skipped}
 use Rattle.trace_text.specs.declared.refusal.Limit.TheVariants.{Lines, Tree, Sessions}
 use Rattle.trace_text.specs.declared.refusal.Limit.TheVariants.{File as OfFile}
 use Rattle.trace_text.specs.declared.refusal.LineFault.TheVariants.{Grammar, Limit, Clock}
@@ -40,6 +40,10 @@ taken = refl
 commands : said (codes "do 1 2 open #3" ∷ codes "do 1 2 write #3 4 t:ab+z:5" ∷ codes "do 1 2 write #3 4 -" ∷ codes "do 1 2 trunc #3 4" ∷ codes "do 1 2 read #3 4 5" ∷ codes "do 1 2 close #3" ∷ codes "do 1 2 abandon #3" ∷ []) ≡ (Some (Do 1 2 (Open 3)) ∷ Some (Do 1 2 (Write 3 4 (Bytes (codes "ab") ∷ Zeros 5 ∷ []))) ∷ Some (Do 1 2 (Write 3 4 [])) ∷ Some (Do 1 2 (Trunc 3 4)) ∷ Some (Do 1 2 (Read 3 4 5)) ∷ Some (Do 1 2 (Close 3)) ∷ Some (Do 1 2 (Abandon 3)) ∷ [])
 commands = refl
 
+-- a file that is to be written anew
+rewrites : said (codes "do 1 2 rewrite #3" ∷ codes "do 1 2 rewrite a/b" ∷ codes "do 1 2 rewrite /" ∷ codes "do 1 2 rewrite" ∷ []) ≡ (Some (Do 1 2 (Rewrite 3)) ∷ Some (Do 1 2 (Named (Renew b_in_a))) ∷ None ∷ None ∷ [])
+rewrites = refl
+
 -- its edges
 -- each command on names
 commands_on_names : said (codes "do 1 2 open a/b/c" ∷ codes "do 1 2 open 2" ∷ codes "do 1 2 make a" ∷ codes "do 1 2 mkdir a/b" ∷ codes "do 1 2 remove a" ∷ codes "do 1 2 rmdir a" ∷ codes "do 1 2 rename a a/b" ∷ codes "do 1 2 list /" ∷ codes "do 1 2 list a" ∷ codes "do 1 2 look /" ∷ codes "do 1 2 look a" ∷ []) ≡ (Some (Do 1 2 (Named (Find (record { dirs = codes "a" ∷ codes "b" ∷ []; name = codes "c" })))) ∷ Some (Do 1 2 (Named (Find (root_name (codes "2"))))) ∷ Some (Do 1 2 (Named (Make (root_name (codes "a"))))) ∷ Some (Do 1 2 (Named (MakeDir b_in_a))) ∷ Some (Do 1 2 (Named (Remove (root_name (codes "a"))))) ∷ Some (Do 1 2 (Named (RemoveDir (root_name (codes "a"))))) ∷ Some (Do 1 2 (Named (Rename (root_name (codes "a")) b_in_a))) ∷ Some (Do 1 2 (Named (Lists []))) ∷ Some (Do 1 2 (Named (Lists (codes "a" ∷ [])))) ∷ Some (Do 1 2 (Named LookRoot)) ∷ Some (Do 1 2 (Named (Look (root_name (codes "a"))))) ∷ [])
@@ -59,6 +63,10 @@ events = refl
 -- what changes an index or a cache, and its edges
 indexes : said (codes "forge server 86f7e437faa5a7fc 2 0 3" ∷ codes "forge 16 0000000000000000 0 0 0" ∷ codes "forge 0 ffffffffffffffff 18446744073709551615 18446744073709551615 18446744073709551615" ∷ codes "forge server 0123456789abcdef 1 2 3" ∷ codes "clear server" ∷ codes "clear 1" ∷ codes "evict 1 2" ∷ codes "evict 18446744073709551615 0" ∷ []) ≡ (Some (Forge who.Server 9725492849409370108 2 0 3) ∷ Some (Forge (who.Client 16) 0 0 0 0) ∷ Some (Forge (who.Client 0) 18446744073709551615 18446744073709551615 18446744073709551615 18446744073709551615) ∷ Some (Forge who.Server 81985529216486895 1 2 3) ∷ Some (Clear who.Server) ∷ Some (Clear (who.Client 1)) ∷ Some (Evict 1 2) ∷ Some (Evict 18446744073709551615 0) ∷ [])
 indexes = refl
+
+-- what a client begins with
+warmings : said (codes "warm 1 t:abc" ∷ codes "warm 18446744073709551615 -" ∷ codes "warm 0 z:5+t:a" ∷ []) ≡ (Some (Warm 1 (Bytes (codes "abc") ∷ [])) ∷ Some (Warm 18446744073709551615 []) ∷ Some (Warm 0 (Zeros 5 ∷ Bytes (codes "a") ∷ [])) ∷ [])
+warmings = refl
 
 -- no line of the grammar
 refused : said (codes "terms 1" ∷ codes "Term 1" ∷ codes "term" ∷ codes "term " ∷ codes "term  1" ∷ codes "term 1 " ∷ codes " term 1" ∷ codes "term\t1" ∷ codes "term 1\r" ∷ codes "term 1 1" ∷ []) ≡ replicate 10 None
@@ -116,6 +124,9 @@ refused_clear = refl
 
 refused_evict : said (codes "evict" ∷ codes "evict 1" ∷ codes "evict 1 2 3" ∷ codes "evict  1 2" ∷ codes "evict 01 2" ∷ codes "evict 1 02" ∷ codes "evict 1 #2" ∷ codes "evict server 2" ∷ codes "evict 1\t2" ∷ codes "Evict 1 2" ∷ codes "evict 18446744073709551616 2" ∷ codes "evict 1 18446744073709551616" ∷ []) ≡ replicate 12 None
 refused_evict = refl
+
+refused_warm : said (codes "warm" ∷ codes "warm 1" ∷ codes "warm 1 - -" ∷ codes "warm 01 -" ∷ codes "warm #1 -" ∷ codes "warm server -" ∷ codes "warm  1 -" ∷ codes "Warm 1 -" ∷ codes "warm 1 x:0" ∷ codes "warm 18446744073709551616 -" ∷ []) ≡ replicate 10 None
+refused_warm = refl
 
 -- a byte above 127 is no letter
 above : line_of (codes "file " ++ (195 ∷ 169 ∷ codes " -")) ≡ None

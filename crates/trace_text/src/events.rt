@@ -184,9 +184,10 @@ fn evict(words: &mut Words) -> Option<Line>
     }
 }
 
-/// An event other than a command that begins with this word.
+/// An event without a content or a command that begins with this word.
 pub(crate) fn event(kind: &[u8], words: &mut Words) -> Option<Line>
-    requires { bytes_eq kind.now (codes "do") ≡ false }
+    requires command { bytes_eq kind.now (codes "do") ≡ false }
+    requires warm { bytes_eq kind.now (codes "warm") ≡ false }
     ensures { result ≡ event_from kind.now words.old }
 {
     if is(kind, b"join") {

@@ -1,9 +1,10 @@
-//! Each kind of line, from the words behind its first: the lines that say what there is at first.
+//! Each kind of line, from the words behind its first: the lines that say what there is at first, and the
+//! one with what a client begins with.
 //! The rule is `line_from` of `specs/Grammar.antt`.
 
 ghost use Rattle.std.specs.Prelude.{◌≡◌, false, bytes_eq, codes};
 ghost use Rattle.command_text.specs.Reading.{Gives};
-ghost use Rattle.trace_text.specs.Grammar.{version_of, term_of, drift_of, clients_of, dir_of, file_of, line_from};
+ghost use Rattle.trace_text.specs.Grammar.{version_of, term_of, drift_of, clients_of, dir_of, file_of, warm_of, line_from};
 
 use crate::events::{command_line, event};
 use crate::line::Line;
@@ -72,11 +73,26 @@ fn file(alloc: Global, words: &mut Words) -> Result<Line, LineError>
     Ok(Line::File { spot, content })
 }
 
+/// `warm C CONTENT`.
+fn warm(alloc: Global, words: &mut Words) -> Result<Line, LineError>
+    ensures { Gives result (warm_of words.old) }
+{
+    let Some((client, content)) = two(words) else {
+        return Err(LineError::BadLine);
+    };
+    let Some(client) = fields::number(client) else {
+        return Err(LineError::BadLine);
+    };
+    let content = pieces::content(alloc, content)?;
+    Ok(Line::Warm { client, content })
+}
+
 /// A line without a path, a content or a command that begins with this word.
 fn read_small(kind: &[u8], words: &mut Words) -> Option<Line>
     requires dir { bytes_eq kind.now (codes "dir") ≡ false }
     requires file { bytes_eq kind.now (codes "file") ≡ false }
     requires command { bytes_eq kind.now (codes "do") ≡ false }
+    requires warm { bytes_eq kind.now (codes "warm") ≡ false }
     ensures { result ≡ line_from kind.now words.old }
 {
     if is(kind, b"lbfs-trace") {
@@ -102,6 +118,8 @@ pub(crate) fn read_kind(alloc: Global, kind: &[u8], words: &mut Words) -> Result
         file(alloc, words)
     } else if is(kind, b"do") {
         command_line(alloc, words)
+    } else if is(kind, b"warm") {
+        warm(alloc, words)
     } else {
         read_small(kind, words).ok_or(LineError::BadLine)
     }

@@ -114,6 +114,11 @@ pub enum Line {
         client: u64,
         file: u64,
     },
+    /// `warm C CONTENT`: the client gets the items of a cache file that has this content. No step.
+    Warm {
+        client: u64,
+        content: Content,
+    },
     /// An empty line, or one that begins with `#`, whatever bytes follow: it says nothing.
     Skipped,
 }

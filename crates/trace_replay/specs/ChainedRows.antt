@@ -1,0 +1,39 @@
+-- Worked rows of deliveries: which records come of bytes that are cut, which parts lines have, and that a delivery which brings nothing is none.
+use Rattle.std.specs.Prelude.{◌≡◌, ℕ, List, [], ◌∷◌, ◌++◌, map, codes, refl}
+use Rattle.command_text.specs.Parts.{lines_of}
+use Rattle.rpc_record.specs.Records.{record_of, marked}
+use Rattle.trace_text.specs.declared.line.Amount.TheVariants as amount
+use Rattle.trace_text.specs.declared.line.Line.TheVariants as line
+use Rattle.trace_text.specs.declared.line.Who.TheVariants as who
+use Rattle.trace_ends.specs.Core.{Core, Event.Cuts}
+use Rattle.trace_replay.specs.Chained.{Up, Down, Delivery, brought, records_in, event_at, IsDelivered, Clients, Tells, Changes, Brings, parts_of}
+
+-- two records of a byte each, five bytes on their way each
+abbrev two : List ℕ
+two = marked (7 ∷ []) ++ marked (8 ∷ [])
+
+-- four bytes complete none, a fifth the first, and however many more there are they complete the second with the rest
+pub come_cut : map (λ a. records_in (brought a 0 two)) (amount.Bytes 4 ∷ amount.Bytes 5 ∷ amount.Bytes 9 ∷ amount.All ∷ []) ≡ [] ∷ ((7 ∷ []) ∷ []) ∷ ((7 ∷ []) ∷ []) ∷ ((7 ∷ []) ∷ (8 ∷ []) ∷ []) ∷ []
+unfolding record_of
+come_cut = refl
+
+-- behind bytes that came the next ones come, and no more than there are
+pub come_next : map (λ a. brought a 6 two) (amount.Bytes 1 ∷ amount.Bytes 9 ∷ amount.All ∷ []) ≡ (0 ∷ []) ∷ (0 ∷ 0 ∷ 1 ∷ 8 ∷ []) ∷ (0 ∷ 0 ∷ 1 ∷ 8 ∷ []) ∷ []
+come_next = refl
+
+-- a pass is so many deliveries up and down, and a line that clears an index changes that, and is no event
+pub parts_told : parts_of (lines_of (codes "clients 1\npass 1 1 5 6\nclear server\ncut 1 7\n"))
+    ≡ Clients 1 ∷ Brings (record { side = Up; session = 1; amount = amount.All; now = 5 }) ∷ Brings (record { side = Down; session = 1; amount = amount.All; now = 6 }) ∷ Changes (line.Clear who.Server) ∷ Tells (Cuts 1) ∷ []
+parts_told = refl
+
+abbrev all_up : Delivery
+all_up = record { side = Up; session = 1; amount = amount.All; now = 5 }
+
+-- so a world in which nothing comes of a delivery of these two records isn't what its lines say
+pub nothing_comes_is_wrong : (k : Core) → IsDelivered two 0 k all_up [] k → ⊥
+unfolding record_of
+nothing_comes_is_wrong k h = by h.records h.events h.complete
+  where
+    by : (records : List (List ℕ)) → [] ≡ map (event_at Up 1 5) records → (7 ∷ []) ∷ (8 ∷ []) ∷ [] ≡ records → ⊥
+    by [] events complete = absurd cc
+    by (r ∷ rs) events complete = absurd cc
