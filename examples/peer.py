@@ -205,8 +205,12 @@ class Peer:
     def remove(self, directory, name):
         self.done(NFS, REMOVE, handle(directory) + opaque(name))
 
-    def rename(self, directory, name, to):
-        self.done(NFS, RENAME, handle(directory) + opaque(name) + handle(directory) + opaque(to))
+    def remove_directory(self, directory, name):
+        self.done(NFS, RMDIR, handle(directory) + opaque(name))
+
+    def rename(self, directory, name, to, to_directory=None):
+        to_directory = directory if to_directory is None else to_directory
+        self.done(NFS, RENAME, handle(directory) + opaque(name) + handle(to_directory) + opaque(to))
 
     def names(self, directory):
         """The names of a directory, in order."""

@@ -34,10 +34,11 @@ def listens(port):
 class Run:
     """A run of the program, which is killed at the end where it hasn't ended."""
 
-    def __init__(self, words, **how):
+    def __init__(self, words, under=(), **how):
+        """With `under` it is run by that command."""
         self.errors = tempfile.TemporaryFile()
         self.process = subprocess.Popen(
-            [PROGRAM, *map(str, words)],
+            [*under, PROGRAM, *map(str, words)],
             stdout=subprocess.PIPE,
             stderr=self.errors,
             start_new_session=True,
@@ -55,6 +56,11 @@ class Run:
             os.killpg(self.process.pid, signal.SIGKILL)
         self.process.wait()
 
+    def told(self, word):
+        """What the kernel tells of it by this word."""
+        with open(f"/proc/{self.process.pid}/status") as it:
+            return next(int(line.split()[1]) for line in it if line.startswith(f"{word}:"))
+
     def said(self):
         """The lines that it wrote on standard error so far."""
         return os.pread(self.errors.fileno(), 1 << 20, 0).decode().splitlines()
@@ -63,10 +69,10 @@ class Run:
 class Server(Run):
     """A server of a folder, for so many sessions, which listens or has ended."""
 
-    def __init__(self, folder, sessions=1_000_000, port=None):
+    def __init__(self, folder, sessions=1_000_000, port=None, under=(), more=()):
         self.port = port or free_port()
-        words = ["serve", "--port", self.port, "--term", 1000, "--sessions", sessions, "--store", folder]
-        super().__init__(words, stdin=subprocess.DEVNULL)
+        words = ["serve", "--port", self.port, "--term", 1000, "--sessions", sessions, "--store", folder, *more]
+        super().__init__(words, under, stdin=subprocess.DEVNULL)
         until = time.monotonic() + PATIENCE
         while not listens(self.port) and self.process.poll() is None and time.monotonic() < until:
             time.sleep(0.005)
@@ -81,11 +87,6 @@ class Server(Run):
     def threads(self):
         return self.told("Threads")
 
-    def told(self, word):
-        """What the kernel tells of it by this word."""
-        with open(f"/proc/{self.process.pid}/status") as it:
-            return next(int(line.split()[1]) for line in it if line.startswith(f"{word}:"))
-
     def ended(self):
         """What it wrote, once it has ended of itself, and its status."""
         written, _ = self.process.communicate(timeout=PATIENCE)
@@ -95,8 +96,8 @@ class Server(Run):
 class Mount(Run):
     """A mount in a folder, which is given its lines one by one."""
 
-    def __init__(self, port, folder):
-        words = ["mount", "--port", port, "--drift", 100]
+    def __init__(self, port, folder, *options):
+        words = ["mount", "--port", port, "--drift", 100, *options]
         super().__init__(words, stdin=subprocess.PIPE, cwd=folder)
         self.lines = queue.Queue()
         threading.Thread(target=self.read, daemon=True).start()
@@ -110,10 +111,14 @@ class Mount(Run):
         self.process.stdin.write(f"{line}\n".encode())
         self.process.stdin.flush()
 
+    def line(self):
+        """The next line that it writes."""
+        return self.lines.get(timeout=PATIENCE)
+
     def say(self, line):
         """The line that is written for a line, before the next is given."""
         self.give(line)
-        return self.lines.get(timeout=PATIENCE)
+        return self.line()
 
     def ended(self):
         """What more it wrote, once its input has ended, and its status."""
@@ -173,6 +178,10 @@ def served(test):
     return run
 
 
+class Skipped(Exception):
+    """What a test needs can't be had on this machine."""
+
+
 def same(got, wanted, what):
     if got != wanted:
         raise AssertionError(f"{what}: {str(got)[:200]}, and {str(wanted)[:200]} was wanted")
@@ -215,6 +224,8 @@ def main(name, about, tests, options=()):
         try:
             test()
             passed += 1
+        except Skipped as reason:
+            print(f"examples/{name}: skipped {test.__name__}, since {reason}")
         except Exception:  # whatever it is, the others are looked at too
             failed += 1
             print(f"{test.__name__}:\n{traceback.format_exc()}")

@@ -3,4 +3,5 @@ pub mod Letters
 pub mod Runnings
 pub mod Sayings
 pub mod Worked
+mod Cachings
 mod Hintings

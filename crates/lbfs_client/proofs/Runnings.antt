@@ -27,12 +27,10 @@ commands_is (Ok said) c command now before c' ended sent none goes e = record {
 }
 commands_is (Err e) c command now before c' ended sent none goes p = tt
 
--- the open of a line
-pub begins_is : {E : Type 0} (r : Result Said E) (h : Host) (c : State) (w : Option Walk) (next : Walk) (place : Place) (now : ℕ) (c1 : State) (ended : Option Ended) (before sent : List Message) (k : Command) (m' : Mount) → before ≡ [] → k ≡ opening place → Goes c k now before c1 ended sent → IfOk r (λ said. Leads (mount_of h c1 (Some next)) ended now sent m' said) → IfOk r (λ said. Begins (mount_of h c w) next place now m' said)
-begins_is (Ok said) h c w next place now c1 ended before sent k m' none is goes p =
-    let first : Goes c (opening place) now before c1 ended sent = subst (λ (x : Command). Goes c x now before c1 ended sent) is goes in
-    record { client = c1; ended = ended; sent = sent; goes = subst (λ (xs : List Message). Goes c (opening place) now xs c1 ended sent) none first; leads = p }
-begins_is (Err e) h c w next place now c1 ended before sent k m' none is goes p = tt
+-- the first operation of a line
+pub begins_is : {E : Type 0} (r : Result Said E) (h : Host) (c : State) (w : Option Walk) (next : Walk) (k : Command) (now : ℕ) (c1 : State) (ended : Option Ended) (before sent : List Message) (m' : Mount) → before ≡ [] → Goes c k now before c1 ended sent → IfOk r (λ said. Leads (mount_of h c1 (Some next)) ended now sent m' said) → IfOk r (λ said. Begins (mount_of h c w) next k now m' said)
+begins_is (Ok said) h c w next k now c1 ended before sent m' none goes p = record { client = c1; ended = ended; sent = sent; goes = subst (λ (xs : List Message). Goes c k now xs c1 ended sent) none goes; leads = p }
+begins_is (Err e) h c w next k now c1 ended before sent m' none goes p = tt
 
 -- ---- put
 
@@ -50,9 +48,9 @@ pub get_busy : (h : Host) (c : State) (w : Option Walk) (place : Place) (name : 
 get_busy h c None place name now said is e = cc
 get_busy h c (Some w) place name now said is e = (refl, e)
 
-pub get_free : (h : Host) (c : State) (w : Option Walk) (place : Place) (name : List ℕ) (now : ℕ) (m' : Mount) (said : Said) → is_some w ≡ false → Begins (mount_of h c w) (walk.Gets name) place now m' said → GetLine (mount_of h c w) w place name now m' said
-get_free h c None place name now m' said is p = p
-get_free h c (Some w) place name now m' said is p = cc
+pub get_free : (h : Host) (c : State) (w : Option Walk) (place : Place) (name : List ℕ) (now : ℕ) (m' : Mount) (said : Said) (k : Command) → k ≡ opening place → is_some w ≡ false → Begins (mount_of h c w) (walk.Gets name) k now m' said → GetLine (mount_of h c w) w place name now m' said
+get_free h c None place name now m' said k same is p = subst (λ (x : Command). Begins (mount_of h c None) (walk.Gets name) x now m' said) same p
+get_free h c (Some w) place name now m' said k same is p = cc
 
 -- ---- join
 

@@ -18,7 +18,7 @@ use Rattle.lbfs_client.specs.declared.line.Place.TheVariants as place
 use Rattle.lbfs_client.specs.Client.{Takes, Goes}
 use Rattle.lbfs_client.specs.Host.{Host}
 use Rattle.lbfs_client.specs.Mounting.{Mount, Runs, PutsRead, joined_step}
-use Rattle.lbfs_client.specs.Walks.{says, answer_of, Stores.at_close, Opened, Closed, Fetched}
+use Rattle.lbfs_client.specs.Walks.{says, answer_of, Stores.at_close, Renewed, noted, Closed, Fetched}
 use Rattle.lbfs_client.specs.declared.walk.Walk.TheVariants as walk
 
 apart : false ≡ true → ⊥
@@ -42,13 +42,13 @@ idle = record { host = quiet; client = start; walk = None }
 open_row : Runs idle (line.Plain (command.Open 2)) 0 idle (says [] (Some (answer_of outcome.NoLink)))
 open_row = (refl, refl, record { step = (command_step start (command.Open 2) 0).1; takes = exactly start (command.Open 2) 0 refl; is_said = refl })
 
--- a put says the outcome of its open, and one whose file of the host isn't there opens nothing
+-- a put says the outcome of its rewrite, and one whose file of the host isn't there opens nothing
 put_row : PutsRead idle (place.File 2) (Ok (codes "abc")) 0 idle (says [] (Some (answer_of outcome.NoLink)))
 put_row = record {
   client = start;
-  ended = (command_step start (command.Open 2) 0).1.ended;
+  ended = (command_step start (command.Rewrite 2) 0).1.ended;
   sent = [];
-  goes = went start (command.Open 2) 0 [] refl;
+  goes = went start (command.Rewrite 2) 0 [] refl;
   leads = (refl, (refl, (refl, refl)));
 }
 
@@ -73,8 +73,9 @@ open_file = record start { linked = true; next_xid = 5; opened = (2, record { ve
 abbrev content : List Part
 content = part.Bytes (codes "abc") ∷ []
 
+-- it is open with nothing in it
 abbrev emptied : State
-emptied = (command_step open_file (command.Trunc 2 0) 0).0
+emptied = record start { linked = true; next_xid = 5; opened = (2, record { version = 1; bytes = [] }) ∷ [] }
 
 abbrev written : State
 written = (command_step emptied (command.Write 2 0 content) 0).0
@@ -82,18 +83,26 @@ written = (command_step emptied (command.Write 2 0 content) 0).0
 abbrev closing : State
 closing = (command_step written (command.Close 2) 0).0
 
--- the file that a put opened gets its content and nothing else, and its close is under way
-stored_row : Opened open_file content (outcome.Opened 2 4 []) 0 [] closing (Some (walk.Closes 2)) (says (make_call 5 1 2 ∷ []) None)
+-- the file that a put wrote anew gets its content and nothing else, and its close is under way
+stored_row : Renewed emptied (Some 2) content outcome.Done 0 [] closing (Some (walk.Closes 2)) (says (make_call 5 1 2 ∷ []) None)
 stored_row = record {
   client = closing;
   ended = None;
   sent = make_call 5 1 2 ∷ [];
-  stores = at_close emptied (command_step open_file (command.Trunc 2 0) 0).1.ended [] written (command_step emptied (command.Write 2 0 content) 0).1.ended [] (went open_file (command.Trunc 2 0) 0 [] refl) refl (went emptied (command.Write 2 0 content) 0 [] refl) refl (went written (command.Close 2) 0 [] refl);
+  stores = at_close written (command_step emptied (command.Write 2 0 content) 0).1.ended [] (went emptied (command.Write 2 0 content) 0 [] refl) refl (went written (command.Close 2) 0 [] refl);
   goes_on = (refl, refl, refl);
 }
 
 content_row : local_bytes closing.opened 2 ≡ codes "abc"
 content_row = refl
+
+-- a put of a name notes the file that its path led to, and keeps it
+noted_row : noted (noted (Some (walk.Renews None content)) (Some 2)) None ≡ Some (walk.Renews (Some 2) content)
+noted_row = refl
+
+-- one whose rewrite was refused says so, and stores nothing
+unstored_row : Renewed open_file (Some 2) content outcome.AlreadyOpen 0 [] open_file None (says [] (Some (answer_of outcome.AlreadyOpen)))
+unstored_row = (refl, (refl, refl))
 
 -- a close that stored the file is the put's line
 closed_row : Closed closing 2 (outcome.Closed 2 2 3 []) 0 [] closing (says [] (Some (answer_of (outcome.Closed 2 2 3 []))))

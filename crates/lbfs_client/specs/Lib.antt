@@ -5,4 +5,7 @@ pub mod Lines
 pub mod Mounting
 pub mod TextRows
 pub mod Walks
+pub mod Caching
 pub mod Hinting
+pub mod Paging
+pub mod PagingRows

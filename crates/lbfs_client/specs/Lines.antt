@@ -3,8 +3,8 @@ use Rattle.std.specs.Prelude.{ℕ, List, [], ◌∷◌, Bool, ◌&&◌, ◌||◌
 use Rattle.limits.specs.declared.TheConstants.{NAME_MOST}
 use Rattle.command_text.specs.Commands.{command_of}
 use Rattle.command_text.specs.declared.command.Command.{Command}
-use Rattle.command_text.specs.declared.command.Command.TheVariants.{Open, Named}
-use Rattle.command_text.specs.declared.path.PathCommand.TheVariants.{Find}
+use Rattle.command_text.specs.declared.command.Command.TheVariants.{Open, Rewrite, Named}
+use Rattle.command_text.specs.declared.path.PathCommand.TheVariants.{Find, Rewrite as Renew}
 use Rattle.command_text.specs.Fields.{◌>>=◌, is_text, id_of}
 use Rattle.command_text.specs.Parts.{words_of}
 use Rattle.command_text.specs.Paths.{spot_of}
@@ -80,3 +80,13 @@ line_of text = if is_skipped text then Some line.Skipped else said_by (words_of 
 abbrev pub opening : Place → Command
 opening (place.File n) = Open n
 opening (place.Named s) = Named (Find s)
+
+-- the one that writes it anew
+abbrev pub renewing : Place → Command
+renewing (place.File n) = Rewrite n
+renewing (place.Named s) = Named (Renew s)
+
+-- its id, where the line has it
+abbrev pub file_of : Place → Option ℕ
+file_of (place.File n) = Some n
+file_of (place.Named s) = None

@@ -16,7 +16,7 @@ use Rattle.client_state.specs.declared.step.ClientStep.{ClientStep}
 use Rattle.client_state.specs.declared.step.Ended.{Ended}
 use Rattle.client_state.specs.declared.step.Outcome.{Outcome}
 use Rattle.client_state.specs.declared.step.Outcome.TheVariants as outcome
-use Rattle.lbfs_client.specs.Lines.{opening}
+use Rattle.lbfs_client.specs.Lines.{opening, renewing, file_of}
 use Rattle.lbfs_client.specs.declared.answer.Answer.{Answer}
 use Rattle.lbfs_client.specs.declared.answer.Answer.TheVariants as answer
 use Rattle.lbfs_client.specs.declared.line.MountLine.{MountLine}
@@ -24,7 +24,8 @@ use Rattle.lbfs_client.specs.declared.line.MountLine.TheVariants as line
 use Rattle.lbfs_client.specs.declared.line.Place.{Place}
 use Rattle.lbfs_client.specs.Client.{Takes, Hears, Goes}
 use Rattle.lbfs_client.specs.Host.{Host, HasRead}
-use Rattle.lbfs_client.specs.Walks.{says, answer_of, answer_to, Opened, Closed, Fetched}
+use Rattle.lbfs_client.specs.Walks.{says, answer_of, answer_to, Renewed, noted, Closed, Fetched}
+use Rattle.lbfs_client.specs.Paging.{bounded}
 use Rattle.lbfs_client.specs.declared.said.Said.{Said}
 use Rattle.lbfs_client.specs.declared.walk.Walk.{Walk}
 use Rattle.lbfs_client.specs.declared.walk.Walk.TheVariants as walk
@@ -44,7 +45,7 @@ SaysEnd m o send m' said = (m' ≡ m) × (said ≡ says send (Some (answer_of o)
 abbrev pub Walks : Mount → Option Walk → Outcome → (now : ℕ) → List Message → Mount → Said → Type 0
 Walks m None o now send m' said = SaysEnd m o send m' said
 Walks m (Some walk.Joins) o now send m' said = SaysEnd m o send m' said
-Walks m (Some (walk.Opens content)) o now send m' said = (m'.host ≡ m.host) × Opened m.client content o now send m'.client m'.walk said
+Walks m (Some (walk.Renews file content)) o now send m' said = (m'.host ≡ m.host) × Renewed m.client file content o now send m'.client m'.walk said
 Walks m (Some (walk.Closes file)) o now send m' said = (m'.host ≡ m.host) × (m'.walk ≡ None) × Closed m.client file o now send m'.client said
 Walks m (Some (walk.Gets name)) o now send m' said = (m'.walk ≡ None) × Fetched m.host m.client name o now send m'.host m'.client said
 
@@ -61,12 +62,12 @@ pub record Commands (c : State) (command : Command) (now : ℕ) (c' : State) (sa
   pub takes : Takes c command now c' step
   pub is_said : said ≡ says step.send (answer_to step.ended)
 
--- a line that takes several operations begins with an open
-pub record Begins (m : Mount) (w : Walk) (place : Place) (now : ℕ) (m' : Mount) (said : Said) : Type 0 where
+-- a line that takes several operations begins with this one, which finds no file in its first step
+pub record Begins (m : Mount) (w : Walk) (command : Command) (now : ℕ) (m' : Mount) (said : Said) : Type 0 where
   pub client : State
   pub ended : Option Ended
   pub sent : List Message
-  pub goes : Goes m.client (opening place) now [] client ended sent
+  pub goes : Goes m.client command now [] client ended sent
   pub leads : Leads (record m { client = client; walk = Some w }) ended now sent m' said
 
 -- what is said where a file of the host wasn't read
@@ -77,7 +78,7 @@ unread_answer errors.Memory = answer_of outcome.Memory
 
 -- the file of the host was read first
 abbrev pub PutsRead : Mount → Place → Result (List ℕ) FilesError → (now : ℕ) → Mount → Said → Type 0
-PutsRead m place (Ok bytes) now m' said = Begins m (walk.Opens (part.Bytes bytes ∷ [])) place now m' said
+PutsRead m place (Ok bytes) now m' said = Begins m (walk.Renews (file_of place) (part.Bytes bytes ∷ [])) (renewing place) now m' said
 PutsRead m place (Err e) now m' said = (m' ≡ m) × (said ≡ says [] (Some (unread_answer e)))
 
 pub record ReadsFirst (m : Mount) (name : List ℕ) (place : Place) (now : ℕ) (m' : Mount) (said : Said) : Type 0 where
@@ -93,7 +94,7 @@ PutLine m None name place now m' said = ReadsFirst m name place now m' said
 
 abbrev pub GetLine : Mount → Option Walk → Place → (name : List ℕ) → (now : ℕ) → Mount → Said → Type 0
 GetLine m (Some w) place name now m' said = SaysEnd m outcome.Busy [] m' said
-GetLine m None place name now m' said = Begins m (walk.Gets name) place now m' said
+GetLine m None place name now m' said = Begins m (walk.Gets name) (opening place) now m' said
 
 -- a connection is wanted; it is the caller's to dial
 abbrev pub Wants : (linked : Bool) → Option Walk → Said → Type 0
@@ -117,14 +118,14 @@ pub record Hearing (m : Mount) (message : Result Message WireFault) (now : ℕ) 
   pub client : State
   pub step : ClientStep
   pub hears : Hears m.client message now client step
-  pub leads : Leads (record m { client = client }) step.ended now step.send m' said
+  pub leads : Leads (record m { client = client; walk = noted m.walk step.found }) step.ended now step.send m' said
 
--- a record
-abbrev pub Receives : Mount → (bytes : List ℕ) → (now : ℕ) → Mount → Said → Type 0
-Receives m bytes now m' said = Hearing m (parse_of (waiting_of m.client) bytes) now m' said
+-- a record, with which the answers to the line have so many bytes
+abbrev pub Receives : Mount → (listed : ℕ) → (bytes : List ℕ) → (now : ℕ) → Mount → Said → Type 0
+Receives m listed bytes now m' said = Hearing m (bounded listed (parse_of (waiting_of m.client) bytes)) now m' said
 
 abbrev pub Loses : Mount → State × ClientStep → (now : ℕ) → Mount → Said → Type 0
-Loses m lost now m' said = Leads (record m { client = lost.0 }) lost.1.ended now lost.1.send m' said
+Loses m lost now m' said = Leads (record m { client = lost.0; walk = noted m.walk lost.1.found }) lost.1.ended now lost.1.send m' said
 
 -- the end of the link; want of memory is the end of the mount, and nothing is said
 abbrev pub Stops : Mount → End → (now : ℕ) → Mount → Said → Type 0

@@ -2,9 +2,9 @@
 use Rattle.std.specs.Prelude.{◌≡◌, ℕ, List, [], ◌∷◌, Option, Some, None, refl, codes, replicate, map}
 use Rattle.std.specs.Fmt.{digits}
 use Rattle.hex.specs.Hex.{encode_with}
-use Rattle.command_text.specs.declared.command.Command.TheVariants.{Open, Write, Close, Named}
+use Rattle.command_text.specs.declared.command.Command.TheVariants.{Open, Rewrite, Write, Close, Named}
 use Rattle.command_text.specs.declared.content.Part.TheVariants.{Bytes}
-use Rattle.command_text.specs.declared.path.PathCommand.TheVariants.{Find, List as Lists, Make, RemoveDir}
+use Rattle.command_text.specs.declared.path.PathCommand.TheVariants.{Find, Rewrite as Renew, List as Lists, Make, RemoveDir}
 use Rattle.command_text.specs.declared.path.Spot.{Spot}
 use Rattle.register_model.specs.declared.op.Outcome.TheVariants as outcome
 use Rattle.lbfs_client.specs.declared.answer.Answer.TheVariants as answer
@@ -12,7 +12,7 @@ use Rattle.lbfs_client.specs.declared.line.MountLine.{MountLine}
 use Rattle.lbfs_client.specs.declared.line.MountLine.TheVariants.{Plain, Put, Get, Join, Skipped}
 use Rattle.lbfs_client.specs.declared.line.Place.TheVariants.{File, Named as Path}
 use Rattle.lbfs_client.specs.Answers.{answer_line}
-use Rattle.lbfs_client.specs.Lines.{line_of, local_of, opening}
+use Rattle.lbfs_client.specs.Lines.{line_of, local_of, opening, renewing}
 
 abbrev a_at_root : Spot
 a_at_root = record { dirs = []; name = codes "a" }
@@ -31,7 +31,7 @@ script = refl
 places : said (codes "put h #2" ∷ codes "put h d/a" ∷ codes "get #2 h" ∷ codes "get d/a h" ∷ []) ≡ (Some (Put (codes "h") (File 2)) ∷ Some (Put (codes "h") (Path a_in_d)) ∷ Some (Get (File 2) (codes "h")) ∷ Some (Get (Path a_in_d) (codes "h")) ∷ [])
 places = refl
 
-commands : said (codes "open #3" ∷ codes "write #3 4 t:ab" ∷ codes "close #3" ∷ codes "join" ∷ []) ≡ (Some (Plain (Open 3)) ∷ Some (Plain (Write 3 4 (Bytes (codes "ab") ∷ []))) ∷ Some (Plain (Close 3)) ∷ Some Join ∷ [])
+commands : said (codes "open #3" ∷ codes "rewrite #3" ∷ codes "write #3 4 t:ab" ∷ codes "close #3" ∷ codes "join" ∷ []) ≡ (Some (Plain (Open 3)) ∷ Some (Plain (Rewrite 3)) ∷ Some (Plain (Write 3 4 (Bytes (codes "ab") ∷ []))) ∷ Some (Plain (Close 3)) ∷ Some Join ∷ [])
 commands = refl
 
 -- lines that say nothing
@@ -54,6 +54,9 @@ longer_name = refl
 
 opened : map opening (File 2 ∷ Path a_in_d ∷ []) ≡ (Open 2 ∷ Named (Find a_in_d) ∷ [])
 opened = refl
+
+renewed : map renewing (File 2 ∷ Path a_in_d ∷ []) ≡ (Rewrite 2 ∷ Named (Renew a_in_d) ∷ [])
+renewed = refl
 
 -- what is written
 lines : map answer_line (answer.LocalFault ∷ answer.Ended outcome.Done ∷ answer.Ended (outcome.TooBig 67108865) ∷ answer.Ended (outcome.Names (codes "a" ∷ [])) ∷ answer.Ended (outcome.Closed 2 1 (0 ∷ 171 ∷ [])) ∷ []) ≡ (codes "LocalFault\n" ∷ codes "Done\n" ∷ codes "TooBig 67108865\n" ∷ codes "Names 1 61\n" ∷ codes "Closed 2 1 00ab\n" ∷ [])

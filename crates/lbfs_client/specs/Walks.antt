@@ -55,11 +55,10 @@ opened_file o = None
 
 -- ---- put
 
--- An open file gets a content and is closed. The first of the three operations that isn't done is the last.
+-- A file that is open with nothing in it gets a content and is closed; where the first of the two operations isn't done it is the last.
 pub data Stores (c : State) (file : ℕ) (content : List Part) (now : ℕ) (send : List Message) (c' : State) (ended : Option Ended) (send' : List Message) : Type 0 where
-  at_trunc : Goes c (command.Trunc file 0) now send c' ended send' → has_done ended ≡ false → Stores c file content now send c' ended send'
-  at_write : (c1 : State) (e1 : Option Ended) (m1 : List Message) → Goes c (command.Trunc file 0) now send c1 e1 m1 → has_done e1 ≡ true → Goes c1 (command.Write file 0 content) now m1 c' ended send' → has_done ended ≡ false → Stores c file content now send c' ended send'
-  at_close : (c1 : State) (e1 : Option Ended) (m1 : List Message) (c2 : State) (e2 : Option Ended) (m2 : List Message) → Goes c (command.Trunc file 0) now send c1 e1 m1 → has_done e1 ≡ true → Goes c1 (command.Write file 0 content) now m1 c2 e2 m2 → has_done e2 ≡ true → Goes c2 (command.Close file) now m2 c' ended send' → Stores c file content now send c' ended send'
+  at_write : Goes c (command.Write file 0 content) now send c' ended send' → has_done ended ≡ false → Stores c file content now send c' ended send'
+  at_close : (c1 : State) (e1 : Option Ended) (m1 : List Message) → Goes c (command.Write file 0 content) now send c1 e1 m1 → has_done e1 ≡ true → Goes c1 (command.Close file) now m1 c' ended send' → Stores c file content now send c' ended send'
 
 -- the file is abandoned, and this is said
 pub record Abandons (c : State) (file : ℕ) (a : Answer) (now : ℕ) (send : List Message) (c' : State) (said : Said) : Type 0 where
@@ -85,7 +84,7 @@ abbrev pub Closes : State → (file : ℕ) → Option Ended → (now : ℕ) → 
 Closes c file None now send c' w said = (c' ≡ c) × (w ≡ Some (walk.Closes file)) × (said ≡ says send None)
 Closes c file (Some e) now send c' w said = (w ≡ None) × Closed c file e.outcome now send c' said
 
--- its file is open
+-- its file is open with nothing in it
 pub record Puts (c : State) (file : ℕ) (content : List Part) (now : ℕ) (send : List Message) (c' : State) (w : Option Walk) (said : Said) : Type 0 where
   pub client : State
   pub ended : Option Ended
@@ -93,13 +92,32 @@ pub record Puts (c : State) (file : ℕ) (content : List Part) (now : ℕ) (send
   pub stores : Stores c file content now send client ended sent
   pub goes_on : Closes client file ended now sent c' w said
 
--- its open has ended: the file that was opened is stored, or how it ended is said
+-- its path was found to stand for this file in a step, if it was
+abbrev pub file_with : Option ℕ → (found : Option ℕ) → Option ℕ
+file_with None found = found
+file_with (Some file) found = Some file
+
+-- the file that was written anew
+abbrev pub renewed_file : Option ℕ → Outcome → Option ℕ
+renewed_file file outcome.Done = file
+renewed_file file o = None
+
+-- its rewrite has ended: its file is stored, or how it ended is said
 abbrev pub PutsIf : State → List Part → Option ℕ → Outcome → (now : ℕ) → List Message → State → Option Walk → Said → Type 0
 PutsIf c content (Some file) o now send c' w said = Puts c file content now send c' w said
 PutsIf c content None o now send c' w said = (w ≡ None) × Ends c o send c' said
 
-abbrev pub Opened : State → List Part → Outcome → (now : ℕ) → List Message → State → Option Walk → Said → Type 0
-Opened c content o now send c' w said = PutsIf c content (opened_file o) o now send c' w said
+abbrev pub Renewed : State → Option ℕ → List Part → Outcome → (now : ℕ) → List Message → State → Option Walk → Said → Type 0
+Renewed c file content o now send c' w said = PutsIf c content (renewed_file file o) o now send c' w said
+
+-- what a line has left to do notes the file that was found in a step, where it waits for one
+abbrev pub noting : Walk → (found : Option ℕ) → Walk
+noting (walk.Renews file content) found = walk.Renews (file_with file found) content
+noting w found = w
+
+abbrev pub noted : Option Walk → (found : Option ℕ) → Option Walk
+noted None found = None
+noted (Some w) found = Some (noting w found)
 
 -- ---- get
 

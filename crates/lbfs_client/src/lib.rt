@@ -8,12 +8,14 @@
 #![tactic(auto)]
 
 pub mod answer;
+mod caching;
 mod commanding;
 mod fetching;
 mod hinting;
 pub mod line;
 pub mod local;
 pub mod mounted;
+pub mod paging;
 mod running;
 pub mod said;
 mod storing;

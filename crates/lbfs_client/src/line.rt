@@ -2,7 +2,7 @@
 
 ghost use Rattle.std.specs.Prelude.{◌≡◌, [], ◌∷◌, MatchOption};
 ghost use Rattle.command_text.specs.Reading.{Gives};
-ghost use Rattle.lbfs_client.specs.Lines.{place_of, AreNotTwo, put_of, get_of, join_of, line_from, is_skipped, line_of, opening};
+ghost use Rattle.lbfs_client.specs.Lines.{place_of, AreNotTwo, put_of, get_of, join_of, line_from, is_skipped, line_of, opening, renewing, file_of};
 
 use crate::local::LocalName;
 use command_text::command::Command;
@@ -136,6 +136,26 @@ impl Place {
         match self {
             Place::File(file) => Command::Open(file),
             Place::Named(spot) => Command::Named(PathCommand::Find(spot)),
+        }
+    }
+
+    /// The command that writes it anew.
+    pub fn renewing(self) -> Command
+        ensures { result ≡ renewing self }
+    {
+        match self {
+            Place::File(file) => Command::Rewrite(file),
+            Place::Named(spot) => Command::Named(PathCommand::Rewrite(spot)),
+        }
+    }
+
+    /// Its id, where the line has it.
+    pub fn file(&self) -> Option<u64>
+        ensures { result ≡ file_of self.now }
+    {
+        match self {
+            Place::File(file) => Some(*file),
+            Place::Named(_spot) => None,
         }
     }
 }

@@ -2,10 +2,13 @@
 //! what they come to.
 
 ghost use Rattle.std.specs.Prelude.{◌≡◌, IfOk, IfErr, None, true, false};
+ghost use Rattle.lbfs_client.specs.Caching.{Loads, Saves, within};
 ghost use Rattle.lbfs_client.specs.Hinting.{LearnsIn, OffersIf, closing_of};
 ghost use Rattle.client_state.specs.State.{start};
 ghost use Rattle.lbfs_client.specs.Mounting.{Runs, Receives, Stops, joined_step};
 
+use crate::answer::Answer;
+use crate::caching::{self, load_read, save_kept};
 use crate::fetching::read;
 use crate::hinting::{closing, offer_read};
 use crate::line::MountLine;
@@ -82,15 +85,22 @@ impl<F: Files> Mounted<F> {
         )
     }
 
-    /// A record came from the other end.
-    pub fn got(&mut self, alloc: Global, record: &[u8], now: u64) -> Result<Said, AllocError>
-        ensures { IfOk result (λ said. Receives self.old record.now now self.new said) }
+    /// A record came from the other end, with which the answers to the line under way have so many bytes.
+    pub fn got(
+        &mut self,
+        alloc: Global,
+        listed: u64,
+        record: &[u8],
+        now: u64,
+    ) -> Result<Said, AllocError>
+        ensures { IfOk result (λ said. Receives self.old listed record.now now self.new said) }
     {
         receive(
             alloc,
             &mut self.files,
             &mut self.client,
             &mut self.walk,
+            listed,
             record,
             now,
         )
@@ -140,6 +150,34 @@ impl<F: Files> Mounted<F> {
         }
         let bytes = read(alloc, &mut self.files, local);
         offer_read(alloc, &mut self.client, bytes)
+    }
+
+    /// The cache file of this name is read, and its items are the client's: hints, which nobody trusts. What
+    /// is answered is to be said: that it couldn't be read, is too large, or memory was wanting; the client
+    /// goes on without then.
+    #[tactic(auto, using(crate::proofs::Cachings::loaded))]
+    pub fn load(&mut self, alloc: Global, name: &str) -> Option<Answer>
+        ensures { Loads self.old name.now result self.new }
+    {
+        let bytes = caching::read(alloc, &mut self.files, name);
+        load_read(alloc, &mut self.client, bytes)
+    }
+
+    /// What the client keeps is written to the cache file of this name, which is as it was or new. What is
+    /// answered is to be said: that it couldn't be written, or memory was wanting.
+    #[tactic(auto, using(crate::proofs::Cachings::saved))]
+    pub fn save(&mut self, alloc: Global, name: &str) -> Option<Answer>
+        ensures { Saves self.old name.now result self.new }
+    {
+        save_kept(alloc, &mut self.files, &self.client, name)
+    }
+
+    /// What the client keeps is let go, the oldest first, until it has at most so many bytes. It takes no
+    /// memory.
+    pub fn keep_within(&mut self, most: u64)
+        ensures { self.new ≡ within most self.old }
+    {
+        self.client.keep_within(most);
     }
 
     /// The file that the line under way closes, if it closes one. It takes no memory.

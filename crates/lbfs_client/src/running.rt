@@ -33,21 +33,21 @@ fn plain(alloc: Global, client: &mut Client, command: Command, now: u64) -> Resu
     said
 }
 
-/// A line that takes several operations opens its file.
+/// A line that takes several operations begins with this one.
 fn begin<F: Files>(
     alloc: Global,
     files: &mut F,
     client: &mut Client,
     walk: &mut Option<Walk>,
     next: Walk,
-    place: Place,
+    command: Command,
     now: u64,
 ) -> Result<Said, AllocError>
-    ensures { IfOk result (λ said. Begins (record { host = record { files = F.files files.old; faults = F.faults files.old }; client = client.old; walk = walk.old }) next place now (record { host = record { files = F.files files.new; faults = F.faults files.new }; client = client.new; walk = walk.new }) said) }
+    ensures { IfOk result (λ said. Begins (record { host = record { files = F.files files.old; faults = F.faults files.old }; client = client.old; walk = walk.old }) next command now (record { host = record { files = F.files files.new; faults = F.faults files.new }; client = client.new; walk = walk.new }) said) }
 {
     let mut send = Items::new(alloc);
     // Errors are handed on by a `match`, which is proved more cheaply than `?` (docs/PROVING.md, Code).
-    match go(alloc, client, place.opening(), now, &mut send) {
+    match go(alloc, client, command, now, &mut send) {
         Ok(ended) => {
             *walk = Some(next);
             let said = lead(alloc, files, client, walk, &ended, now, send);
@@ -71,7 +71,7 @@ fn content_of(alloc: Global, bytes: Bytes) -> Result<Content, AllocError>
 }
 
 /// What is said where a file of the host wasn't read.
-fn unread_answer(error: FilesError) -> Answer
+pub(crate) fn unread_answer(error: FilesError) -> Answer
     ensures { result ≡ unread_answer error }
 {
     match error {
@@ -96,7 +96,8 @@ fn put_read<F: Files>(
     match read {
         Ok(bytes) => {
             let content = content_of(alloc, bytes)?;
-            begin(alloc, files, client, walk, Walk::Opens(content), place, now)
+            let next = Walk::Renews(place.file(), content);
+            begin(alloc, files, client, walk, next, place.renewing(), now)
         }
         Err(error) => {
             drop(place);
@@ -142,7 +143,8 @@ fn get<F: Files>(
         drop(name);
         return says(alloc, Items::new(alloc), &Answer::Ended(Outcome::Busy));
     }
-    begin(alloc, files, client, walk, Walk::Gets(name), place, now)
+    let next = Walk::Gets(name);
+    begin(alloc, files, client, walk, next, place.opening(), now)
 }
 
 /// `join`.

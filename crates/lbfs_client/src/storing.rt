@@ -1,10 +1,10 @@
 //! What a `put` does to its open file, and how a file is abandoned: `specs/Walks.antt`.
 
 ghost use Rattle.std.specs.Prelude.{◌≡◌, IfOk, None};
-ghost use Rattle.lbfs_client.specs.Walks.{Stores, Abandons, Closed, Closes, Puts, Opened};
+ghost use Rattle.lbfs_client.specs.Walks.{Stores, Abandons, Closed, Closes, Puts, renewed_file, Renewed};
 
 use crate::answer::Answer;
-use crate::commanding::{go, has_done, is_closed, opened_file};
+use crate::commanding::{go, has_done, is_closed};
 use crate::said::{Said, answer_of, says, says_end, sends};
 use crate::walk::Walk;
 use client_state::step::{Ended, Outcome};
@@ -15,7 +15,8 @@ use open_close::client::Client;
 use std::alloc::{AllocError, Global};
 use wire::message::Message;
 
-/// An open file is emptied, gets its content and is closed; what isn't done is the last.
+/// A file that is open with nothing in it gets its content and is closed; a write that isn't done is
+/// the last.
 fn store(
     alloc: Global,
     client: &mut Client,
@@ -26,12 +27,6 @@ fn store(
 ) -> Result<Option<Ended>, AllocError>
     ensures { IfOk result (λ ended. Stores client.old file content now send.old client.new ended send.new) }
 {
-    let emptied = go(alloc, client, Command::Trunc { file, size: 0 }, now, send)?;
-    if !has_done(&emptied) {
-        drop(content);
-        return Ok(emptied);
-    }
-    drop(emptied);
     let write = Command::Write {
         file,
         offset: 0,
@@ -101,7 +96,7 @@ fn closes(
     }
 }
 
-/// The file of a put is open, and is stored.
+/// The file of a put is open with nothing in it, and is stored.
 fn put(
     alloc: Global,
     client: &mut Client,
@@ -120,20 +115,31 @@ fn put(
     said
 }
 
-/// The open of a put has ended so.
-pub(crate) fn opened(
+/// The file that a rewrite opened, which is this one if it was done.
+fn renewed_file(file: Option<u64>, outcome: &Outcome) -> Option<u64>
+    ensures { result ≡ renewed_file file outcome.now }
+{
+    match outcome {
+        Outcome::Done => file,
+        _ => None,
+    }
+}
+
+/// The rewrite of a put, of this file if its path was found, has ended so.
+pub(crate) fn renewed(
     alloc: Global,
     client: &mut Client,
     walk: &mut Option<Walk>,
+    file: Option<u64>,
     content: Content,
     outcome: &Outcome,
     now: u64,
     send: Items<Message>,
 ) -> Result<Said, AllocError>
     requires { walk.old ≡ None }
-    ensures { IfOk result (λ said. Opened client.old content outcome.now now send client.new walk.new said) }
+    ensures { IfOk result (λ said. Renewed client.old file content outcome.now now send client.new walk.new said) }
 {
-    match opened_file(outcome) {
+    match renewed_file(file, outcome) {
         Some(file) => put(alloc, client, walk, file, content, now, send),
         None => {
             drop(content);

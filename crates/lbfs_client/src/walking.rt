@@ -3,10 +3,12 @@
 ghost use Rattle.std.specs.Prelude.{◌≡◌, IfOk, Some, None};
 ghost use Rattle.client_state.specs.Ending.{cut};
 ghost use Rattle.lbfs_client.specs.Mounting.{Walks, Leads, Hearing, Receives, Loses, Stops};
+ghost use Rattle.lbfs_client.specs.Walks.{noted};
 
 use crate::fetching::fetched;
+use crate::paging::bound;
 use crate::said::{Said, says_end, sends};
-use crate::storing::{closed, opened};
+use crate::storing::{closed, renewed};
 use crate::walk::Walk;
 use client_state::step::{ClientStep, Ended, Outcome};
 use lb_base::items::Items;
@@ -38,7 +40,9 @@ fn walk_with<F: Files>(
             *walk = Some(Walk::Joins);
             says_end(alloc, send, outcome)
         }
-        Walk::Opens(content) => opened(alloc, client, walk, content, outcome, now, send),
+        Walk::Renews(file, content) => renewed(
+            alloc, client, walk, file, content, outcome, now, send,
+        ),
         Walk::Closes(file) => closed(alloc, client, file, outcome, now, send),
         Walk::Gets(name) => {
             let said = fetched(alloc, files, client, &name, outcome, now, send);
@@ -69,6 +73,16 @@ pub(crate) fn lead<F: Files>(
     }
 }
 
+/// What the line under way has left to do notes the file that was found in a step, if one was.
+fn note(walk: &mut Option<Walk>, found: Option<u64>)
+    ensures { walk.new ≡ noted walk.old found }
+{
+    match walk.take() {
+        None => {}
+        Some(held) => *walk = Some(held.noting(found)),
+    }
+}
+
 /// The client has done a step.
 fn follow<F: Files>(
     alloc: Global,
@@ -78,8 +92,9 @@ fn follow<F: Files>(
     step: ClientStep,
     now: u64,
 ) -> Result<Said, AllocError>
-    ensures { IfOk result (λ said. Leads (record { host = record { files = F.files files.old; faults = F.faults files.old }; client = client.old; walk = walk.old }) step.ended now step.send (record { host = record { files = F.files files.new; faults = F.faults files.new }; client = client.new; walk = walk.new }) said) }
+    ensures { IfOk result (λ said. Leads (record { host = record { files = F.files files.old; faults = F.faults files.old }; client = client.old; walk = noted walk.old step.found }) step.ended now step.send (record { host = record { files = F.files files.new; faults = F.faults files.new }; client = client.new; walk = walk.new }) said) }
 {
+    note(walk, step.found);
     let (more, ended) = step.into_parts();
     let mut send = Items::new(alloc);
     // Errors are handed on by a `match`, which is proved more cheaply than `?` (docs/PROVING.md, Code).
@@ -111,18 +126,20 @@ fn hear<F: Files>(
     follow(alloc, files, client, walk, step, now)
 }
 
-/// A record came.
+/// A record came, with which the answers to the line under way have so many bytes.
 pub(crate) fn receive<F: Files>(
     alloc: Global,
     files: &mut F,
     client: &mut Client,
     walk: &mut Option<Walk>,
+    listed: u64,
     bytes: &[u8],
     now: u64,
 ) -> Result<Said, AllocError>
-    ensures { IfOk result (λ said. Receives (record { host = record { files = F.files files.old; faults = F.faults files.old }; client = client.old; walk = walk.old }) bytes.now now (record { host = record { files = F.files files.new; faults = F.faults files.new }; client = client.new; walk = walk.new }) said) }
+    ensures { IfOk result (λ said. Receives (record { host = record { files = F.files files.old; faults = F.faults files.old }; client = client.old; walk = walk.old }) listed bytes.now now (record { host = record { files = F.files files.new; faults = F.faults files.new }; client = client.new; walk = walk.new }) said) }
 {
-    let message = message_of(alloc, bytes, client.waiting())?;
+    let mut message = message_of(alloc, bytes, client.waiting())?;
+    bound(alloc, listed, &mut message);
     hear(alloc, files, client, walk, message, now)
 }
 

@@ -4,3 +4,4 @@ mod Progress
 mod Skipping
 mod Telling
 mod Hintings
+mod Cachings

@@ -27,7 +27,7 @@ consumes_none : (a : Option (List ℕ)) → Consumes a a []
 consumes_none None = tt
 consumes_none (Some bytes) = refl
 
-appends_none : (a : Option (List ℕ)) → Appends a a []
+pub appends_none : (a : Option (List ℕ)) → Appends a a []
 appends_none None = tt
 appends_none (Some xs) = sym (append-nil xs)
 
@@ -50,10 +50,10 @@ prefix_more a b c xs ys p q = (xs ++ q.0, q.1, append_assoc xs q.0 q.1 ∙ ap (�
 prefix_none : (a : Option (List ℕ)) → (told : List ℕ) × IsAnswer told × AppendsPrefix a a told
 prefix_none a = (answer_line answer.LocalFault, ∣ (answer.LocalFault, refl) ∣₁, ([], answer_line answer.LocalFault, refl, appends_none a))
 
-rose_more : (a b c : ℕ) → a ≤ b → Rose b c → Rose a c
+pub rose_more : (a b c : ℕ) → a ≤ b → Rose b c → Rose a c
 rose_more a b c later rose = omega (arith, later, rose)
 
-rose_later : (a b c : ℕ) → Rose a b → b ≤ c → Rose a c
+pub rose_later : (a b c : ℕ) → Rose a b → b ≤ c → Rose a c
 rose_later a b c rose later = omega (arith, rose, later)
 
 -- ---- a line is told

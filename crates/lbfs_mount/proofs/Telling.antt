@@ -13,6 +13,7 @@ use Rattle.client_state.specs.declared.step.ClientStep.{ClientStep}
 use Rattle.client_state.specs.declared.step.Ended.{Ended}
 use Rattle.client_state.specs.declared.step.Outcome.{Outcome}
 use Rattle.client_state.specs.declared.step.Outcome.TheVariants as outcome
+use Rattle.command_text.specs.declared.command.Command.{Command}
 use Rattle.command_text.specs.declared.content.Part.{Part}
 use Rattle.lbfs_client.specs.declared.answer.Answer.{Answer}
 use Rattle.lbfs_client.specs.declared.line.MountLine.{MountLine}
@@ -20,7 +21,7 @@ use Rattle.lbfs_client.specs.declared.line.MountLine.TheVariants as line
 use Rattle.lbfs_client.specs.declared.line.Place.{Place}
 use Rattle.lbfs_client.specs.Host.{Host}
 use Rattle.lbfs_client.specs.Mounting.{Mount, Walks, Leads, Begins, PutsRead, PutLine, GetLine, Wants, JoinLine, Runs, Hearing, Receives, Loses, Stops, is_joining, joined_if, joined_step, unread_answer}
-use Rattle.lbfs_client.specs.Walks.{says, answer_of, answer_to, is_closed, opened_file, ClosedIf, Closes, PutsIf, KeepsIf, kept_answer}
+use Rattle.lbfs_client.specs.Walks.{says, answer_of, answer_to, is_closed, opened_file, renewed_file, noted, ClosedIf, Closes, PutsIf, KeepsIf, kept_answer}
 use Rattle.lbfs_client.specs.declared.said.Said.{Said}
 use Rattle.lbfs_client.specs.declared.walk.Walk.{Walk}
 use Rattle.lbfs_client.specs.declared.walk.Walk.TheVariants as walk
@@ -56,7 +57,7 @@ keeps_told h c None name o now send h' c' said (kept, (same, is)) = told send (S
 walks_told : (m : Mount) (w : Option Walk) (o : Outcome) (now : ℕ) (send : List Message) (m' : Mount) (said : Said) → Walks m w o now send m' said → IsTold said.line
 walks_told m None o now send m' said p = told send (Some (answer_of o)) said p.1
 walks_told m (Some walk.Joins) o now send m' said p = told send (Some (answer_of o)) said p.1
-walks_told m (Some (walk.Opens content)) o now send m' said p = puts_told m.client content (opened_file o) o now send m'.client m'.walk said p.1
+walks_told m (Some (walk.Renews file content)) o now send m' said p = puts_told m.client content (renewed_file file o) o now send m'.client m'.walk said p.1
 walks_told m (Some (walk.Closes file)) o now send m' said p = closed_told m.client file (is_closed o) o now send m'.client said p.2
 walks_told m (Some (walk.Gets name)) o now send m' said p = keeps_told m.host m.client (opened_file o) name o now send m'.host m'.client said p.1
 
@@ -66,11 +67,11 @@ leads_told m (Some e) now send m' said p = walks_told m m.walk e.outcome now sen
 
 -- ---- a line
 
-begins_told : (m : Mount) (w : Walk) (place : Place) (now : ℕ) (m' : Mount) (said : Said) → Begins m w place now m' said → IsTold said.line
-begins_told m w place now m' said p = leads_told (record m { client = p.client; walk = Some w }) p.ended now p.sent m' said p.leads
+begins_told : (m : Mount) (w : Walk) (command : Command) (now : ℕ) (m' : Mount) (said : Said) → Begins m w command now m' said → IsTold said.line
+begins_told m w command now m' said p = leads_told (record m { client = p.client; walk = Some w }) p.ended now p.sent m' said p.leads
 
 read_told : (m : Mount) (place : Place) (read : Result (List ℕ) FilesError) (now : ℕ) (m' : Mount) (said : Said) → PutsRead m place read now m' said → IsTold said.line
-read_told m place (Ok bytes) now m' said p = begins_told m _ place now m' said p
+read_told m place (Ok bytes) now m' said p = begins_told m _ _ now m' said p
 read_told m place (Err e) now m' said p = told [] (Some (unread_answer e)) said p.1
 
 put_told : (m : Mount) (w : Option Walk) (name : List ℕ) (place : Place) (now : ℕ) (m' : Mount) (said : Said) → PutLine m w name place now m' said → IsTold said.line
@@ -79,7 +80,7 @@ put_told m None name place now m' said p = read_told (record m { host = p.host }
 
 get_told : (m : Mount) (w : Option Walk) (place : Place) (name : List ℕ) (now : ℕ) (m' : Mount) (said : Said) → GetLine m w place name now m' said → IsTold said.line
 get_told m (Some w) place name now m' said p = told [] (Some (answer_of outcome.Busy)) said p.1
-get_told m None place name now m' said p = begins_told m (walk.Gets name) place now m' said p
+get_told m None place name now m' said p = begins_told m (walk.Gets name) _ now m' said p
 
 wants_told : (linked : Bool) (w : Option Walk) (said : Said) → Wants linked w said → IsTold said.line
 wants_told true w said p = told [] (Some (answer_of outcome.Done)) said p.1
@@ -99,13 +100,13 @@ runs_told m line.Skipped now m' said p = told [] None said p.1
 -- ---- what comes, and that nothing more comes
 
 hearing_told : (m : Mount) (message : Result Message WireFault) (now : ℕ) (m' : Mount) (said : Said) → Hearing m message now m' said → IsTold said.line
-hearing_told m message now m' said p = leads_told (record m { client = p.client }) p.step.ended now p.step.send m' said p.leads
+hearing_told m message now m' said p = leads_told (record m { client = p.client; walk = noted m.walk p.step.found }) p.step.ended now p.step.send m' said p.leads
 
-pub receives_told : (m : Mount) (bytes : List ℕ) (now : ℕ) (m' : Mount) (said : Said) → Receives m bytes now m' said → IsTold said.line
-receives_told m bytes now m' said p = hearing_told m _ now m' said p
+pub receives_told : (m : Mount) (listed : ℕ) (bytes : List ℕ) (now : ℕ) (m' : Mount) (said : Said) → Receives m listed bytes now m' said → IsTold said.line
+receives_told m listed bytes now m' said p = hearing_told m _ now m' said p
 
 loses_told : (m : Mount) (lost : State × ClientStep) (now : ℕ) (m' : Mount) (said : Said) → Loses m lost now m' said → IsTold said.line
-loses_told m lost now m' said p = leads_told (record m { client = lost.0 }) lost.1.ended now lost.1.send m' said p
+loses_told m lost now m' said p = leads_told (record m { client = lost.0; walk = noted m.walk lost.1.found }) lost.1.ended now lost.1.send m' said p
 
 pub stops_told : (m : Mount) (end : End) (now : ℕ) (m' : Mount) (said : Said) → Stops m end now m' said → IsTold said.line
 stops_told m ends.InputEnd now m' said p = loses_told m (cut m.client) now m' said p
@@ -136,15 +137,19 @@ pub hinted_all : {E : Type 0} (r : Result Said E) (m h : Mount) (l : MountLine) 
 hinted_all (Ok said) m h l now m' hints p = (h, hints, p)
 hinted_all (Err e) m h l now m' hints p = tt
 
-pub receives_all : {E : Type 0} (r : Result Said E) (m : Mount) (bytes : List ℕ) (now : ℕ) (m' : Mount) → IfOk r (λ said. Receives m bytes now m' said) → IfOk r (λ said. IsTold said.line)
-receives_all (Ok said) m bytes now m' p = receives_told m bytes now m' said p
-receives_all (Err e) m bytes now m' p = tt
+pub receives_all : {E : Type 0} (r : Result Said E) (m : Mount) (listed : ℕ) (bytes : List ℕ) (now : ℕ) (m' : Mount) → IfOk r (λ said. Receives m listed bytes now m' said) → IfOk r (λ said. IsTold said.line)
+receives_all (Ok said) m listed bytes now m' p = receives_told m listed bytes now m' said p
+receives_all (Err e) m listed bytes now m' p = tt
 
 pub joined_all : {E : Type 0} (r : Result Said E) (m m' : Mount) → IfOk r (λ said. joined_step m ≡ (m', said)) → IfOk r (λ said. IsTold said.line)
 joined_all (Ok said) m m' p = joined_told m m' said p
 joined_all (Err e) m m' p = tt
 
 -- a call of the client whose result is no error, and what was made of it
-pub turn : {E : Type 0} (r : Result Said E) (called : Mount → Said → Type 0) (m : Mount) (now : ℕ) (m' : Mount) → IfOk r (λ said. called m said) → IsOk r × Sends m now m' → Turns called now m'
-turn (Ok said) called m now m' p q = (m, said, p, q.1)
-turn (Err e) called m now m' p q = absurd (apart q.0)
+pub turn : {E : Type 0} (r : Result Said E) (most : ℕ) (called : Mount → Said → Type 0) (m : Mount) (now : ℕ) (m' : Mount) → IfOk r (λ said. called m said) → IsOk r × Sends most m now m' → Turns most called now m'
+turn (Ok said) most called m now m' p q = (m, said, p, q.1)
+turn (Err e) most called m now m' p q = absurd (apart q.0)
+
+-- a record came, with which so many bytes had come, by another count
+pub heard : {E : Type 0} (r : Result Said E) (most : ℕ) (was : Mount) (listed counted : ℕ) (bytes : List ℕ) (m : Mount) (now : ℕ) (m' : Mount) → listed ≡ counted → IfOk r (λ said. Receives was listed bytes now m said) → IsOk r × Sends most m now m' → Turns most (λ n said. Receives was counted bytes now n said) now m'
+heard r most was listed counted bytes m now m' same p q = turn r most (λ n said. Receives was counted bytes now n said) m now m' (subst (λ (l : ℕ). IfOk r (λ said. Receives was l bytes now m said)) same p) q

@@ -1,3 +1,4 @@
+pub mod Cached
 pub mod Mounts
 mod Rows
 pub mod Script

@@ -2,8 +2,8 @@
 //! what ended last. `specs/Turns.antt` says what a turn makes of the client.
 
 ghost use Rattle.std.specs.Prelude.{◌≡◌, ◌⊎◌, ◌==◌, ◌+◌, ◌-◌, ◌^◌, min, IfOk, IsOk, IsTrue, true, false};
-ghost use Rattle.lbfs_client.specs.Mounting.{Receives, joined_step};
-ghost use Rattle.lbfs_mount.specs.Turns.{Hints, MayLearn, MayOffer, IsTold, Loses, RunsHinted, Sends, Turns, wants_link};
+ghost use Rattle.lbfs_client.specs.Mounting.{joined_step};
+ghost use Rattle.lbfs_mount.specs.Turns.{GoesOut, Hears, Hints, MayBound, MayLearn, MayOffer, IsTold, Loses, RunsHinted, Sends, Turns, wants_link};
 
 use crate::answer_line::AnswerLine;
 use crate::turns::Turns;
@@ -34,6 +34,10 @@ pub(crate) struct Desk<F: Files, L> {
     starved: bool,
     /// The file that was closed last, whose places the client's index gets with the next line.
     stored: Option<u64>,
+    /// How many bytes came since the line began.
+    listed: u64,
+    /// How many bytes the client may keep.
+    most: u64,
 }
 
 /// The link is shut, where there is one.
@@ -80,8 +84,8 @@ fn learn_stored<F: Files>(alloc: Global, mounted: &mut Mounted<F>, stored: Optio
     }
 }
 
-/// The client's index is offered the file of the host that a `get` is to replace, or that a `put` stores: a
-/// fetch of what the server has then brings only the chunks that aren't there.
+/// The client's index is offered the file of the host that a `get` is to replace: a fetch of what the
+/// server has then brings only the chunks that aren't there.
 #[tactic(auto, using(crate::proofs::Hintings::may_offer, crate::proofs::Hintings::nothing_offered))]
 fn offer_local<F: Files>(alloc: Global, mounted: &mut Mounted<F>, line: &MountLine)
     ensures { MayOffer mounted.old mounted.new }
@@ -90,10 +94,16 @@ fn offer_local<F: Files>(alloc: Global, mounted: &mut Mounted<F>, line: &MountLi
         MountLine::Get { local, .. } => {
             let _done = mounted.offer(alloc, local);
         }
-        MountLine::Put { local, .. } => {
-            let _done = mounted.offer(alloc, local);
-        }
         _ => {}
+    }
+}
+
+/// Once a line has ended the client keeps no more than so many bytes.
+fn keep_within<F: Files>(ended: bool, mounted: &mut Mounted<F>, most: u64)
+    ensures { MayBound most mounted.old mounted.new }
+{
+    if ended {
+        mounted.keep_within(most);
     }
 }
 
@@ -107,9 +117,9 @@ fn keep(held: &mut Option<AnswerLine>, line: Option<Bytes>)
 }
 
 impl<F: Files + Drop, L: Link + Drop> Desk<F, L> {
-    /// A client of which no connection is joined.
-    pub(crate) fn new(mounted: Mounted<F>) -> Desk<F, L>
-        ensures { (result.mounted ≡ mounted) × (result.starved ≡ false) }
+    /// A client of which no connection is joined, and which is to keep no more than so many bytes.
+    pub(crate) fn new(mounted: Mounted<F>, most: u64) -> Desk<F, L>
+        ensures { (result.mounted ≡ mounted) × (result.starved ≡ false) × (result.most ≡ most) }
     {
         Desk {
             mounted,
@@ -118,12 +128,14 @@ impl<F: Files + Drop, L: Link + Drop> Desk<F, L> {
             line: None,
             starved: false,
             stored: None,
+            listed: 0,
+            most,
         }
     }
 
-    /// The files of the host, which the mount lets go.
-    pub(crate) fn into_files(self) -> F
-        ensures { self.mounted.host ≡ record { files = F.files result; faults = F.faults result } }
+    /// The client and the files of the host.
+    pub(crate) fn into_mounted(self) -> Mounted<F>
+        ensures { result ≡ self.mounted }
     {
         let Desk {
             mounted,
@@ -133,7 +145,7 @@ impl<F: Files + Drop, L: Link + Drop> Desk<F, L> {
         } = self;
         drop(link);
         drop(line);
-        mounted.into_files()
+        mounted
     }
 
     /// Whether this is the connection that is joined.
@@ -144,10 +156,10 @@ impl<F: Files + Drop, L: Link + Drop> Desk<F, L> {
     }
 
     /// Hints for the client's index before a line: of the file that was closed last, and of the host's
-    /// file that a `get` or a `put` names.
+    /// file that a `get` names.
     fn hint(&mut self, alloc: Global, line: &MountLine)
         ensures hints { Hints self.old.mounted self.new.mounted }
-        ensures rest { (self.new.starved ≡ self.old.starved) × (self.new.connection ≡ self.old.connection) }
+        ensures rest { (self.new.starved ≡ self.old.starved) × (self.new.connection ≡ self.old.connection) × (self.new.most ≡ self.old.most) }
     {
         learn_stored(alloc, &mut self.mounted, self.stored);
         offer_local(alloc, &mut self.mounted, line);
@@ -157,28 +169,46 @@ impl<F: Files + Drop, L: Link + Drop> Desk<F, L> {
     /// What a call of the client says is sent, and its line kept; or memory ran out.
     fn settle(&mut self, alloc: Global, said: Result<Said, AllocError>, now: u64)
         requires { IfOk said (λ s. IsTold s.line) }
-        ensures sent { self.new.starved ≡ false → IsOk said × Sends self.old.mounted now self.new.mounted }
-        ensures number { self.new.connection ≡ self.old.connection }
+        ensures sent { self.new.starved ≡ false → IsOk said × Sends self.old.most self.old.mounted now self.new.mounted }
+        ensures number { (self.new.connection ≡ self.old.connection) × (self.new.most ≡ self.old.most) }
     {
         match said {
-            Ok(said) => {
-                let Said { send, line } = said;
-                keep(&mut self.line, line);
-                let sent = send_on(alloc, &mut self.link, &send);
-                drop(send);
-                match sent {
-                    Ok(()) => {}
-                    Err(end) => self.lose(alloc, end, now),
-                }
-            }
+            Ok(said) => self.take_said(alloc, said, now),
             Err(_want) => self.starved = true,
+        }
+    }
+
+    /// The line of what was said is kept. Once it has ended the client lets go what is too much; then what
+    /// was said is sent.
+    fn take_said(&mut self, alloc: Global, said: Said, now: u64)
+        requires { IsTold said.line }
+        ensures sent { self.new.starved ≡ false → Sends self.old.most self.old.mounted now self.new.mounted }
+        ensures number { (self.new.connection ≡ self.old.connection) × (self.new.most ≡ self.old.most) }
+    {
+        let Said { send, line } = said;
+        let ended = line.is_some();
+        keep(&mut self.line, line);
+        keep_within(ended, &mut self.mounted, self.most);
+        self.send_out(alloc, send, now);
+    }
+
+    /// Messages go out, or the link ends as they don't.
+    fn send_out(&mut self, alloc: Global, send: Items<Message>, now: u64)
+        ensures sent { self.new.starved ≡ false → GoesOut self.old.mounted now self.new.mounted }
+        ensures number { (self.new.connection ≡ self.old.connection) × (self.new.most ≡ self.old.most) }
+    {
+        let sent = send_on(alloc, &mut self.link, &send);
+        drop(send);
+        match sent {
+            Ok(()) => {}
+            Err(end) => self.lose(alloc, end, now),
         }
     }
 
     /// The link has ended so. Nothing more goes out on it.
     fn lose(&mut self, alloc: Global, end: End, now: u64)
         ensures lost { self.new.starved ≡ false → Loses self.old.mounted end now self.new.mounted }
-        ensures number { self.new.connection ≡ self.old.connection }
+        ensures number { (self.new.connection ≡ self.old.connection) × (self.new.most ≡ self.old.most) }
     {
         close(&mut self.link);
         match self.mounted.ended(alloc, end, now) {
@@ -202,7 +232,7 @@ impl<F: Files + Drop, L: Link + Drop> Turns for Desk<F, L> {
 
     /// The line of what ended. The error says that memory ran out.
     fn take_line(&mut self) -> Result<AnswerLine, AllocError>
-        ensures { (self.new.mounted ≡ self.old.mounted) × (self.new.connection ≡ self.old.connection) }
+        ensures { (self.new.mounted ≡ self.old.mounted) × (self.new.connection ≡ self.old.connection) × (self.new.most ≡ self.old.most) }
     {
         if self.starved {
             return Err(AllocError);
@@ -215,11 +245,12 @@ impl<F: Files + Drop, L: Link + Drop> Turns for Desk<F, L> {
 
     /// A line of the script begins. It answers whether a connection is to be joined for it.
     fn run(&mut self, alloc: Global, line: MountLine, now: u64) -> bool
-        ensures turn { self.new.starved ≡ false → Turns (λ m said. RunsHinted self.old.mounted line now m said) now self.new.mounted }
+        ensures turn { self.new.starved ≡ false → Turns self.old.most (λ m said. RunsHinted self.old.mounted line now m said) now self.new.mounted }
         ensures wants { result ≡ wants_link line self.old.mounted.client.linked }
-        ensures number { self.new.connection ≡ self.old.connection }
+        ensures number { (self.new.connection ≡ self.old.connection) × (self.new.most ≡ self.old.most) }
     {
         let wants = matches!(line, MountLine::Join) && !self.mounted.linked();
+        self.listed = 0;
         self.hint(alloc, &line);
         let said = self.mounted.line(alloc, line, now);
         self.stored = self.mounted.closing().or(self.stored);
@@ -230,8 +261,8 @@ impl<F: Files + Drop, L: Link + Drop> Turns for Desk<F, L> {
     /// A connection is joined, on this link. Its number is what the thread that takes its records is
     /// known by.
     fn join(&mut self, alloc: Global, link: L, now: u64) -> u64
-        ensures turn { self.new.starved ≡ false → Turns (λ m said. joined_step self.old.mounted ≡ (m, said)) now self.new.mounted }
-        ensures number { (result ≡ self.new.connection) × (self.new.connection ≡ min (self.old.connection + 1) (2 ^ 64 - 1)) }
+        ensures turn { self.new.starved ≡ false → Turns self.old.most (λ m said. joined_step self.old.mounted ≡ (m, said)) now self.new.mounted }
+        ensures number { (result ≡ self.new.connection) × (self.new.connection ≡ min (self.old.connection + 1) (2 ^ 64 - 1)) × (self.new.most ≡ self.old.most) }
     {
         close(&mut self.link);
         self.link = Some(link);
@@ -244,13 +275,14 @@ impl<F: Files + Drop, L: Link + Drop> Turns for Desk<F, L> {
     /// A record came on a connection. It answers whether more may come there.
     fn hear(&mut self, alloc: Global, connection: u64, record: &[u8], now: u64) -> bool
         ensures other { (self.old.connection == connection) ≡ false → self.new ≡ self.old }
-        ensures turn { self.new.starved ≡ false → (self.new.mounted ≡ self.old.mounted) ⊎ Turns (λ m said. Receives self.old.mounted record.now now m said) now self.new.mounted }
-        ensures number { self.new.connection ≡ self.old.connection }
+        ensures turn { self.new.starved ≡ false → (self.new.mounted ≡ self.old.mounted) ⊎ Hears self.old.most self.old.listed self.old.mounted record.now now self.new.mounted }
+        ensures number { (self.new.connection ≡ self.old.connection) × (self.new.most ≡ self.old.most) }
     {
         if !self.is_open(connection) {
             return false;
         }
-        let said = self.mounted.got(alloc, record, now);
+        self.listed = self.listed.saturating_add(record.len() as u64);
+        let said = self.mounted.got(alloc, self.listed, record, now);
         self.stored = self.mounted.closing().or(self.stored);
         self.settle(alloc, said, now);
         close_unless(self.mounted.linked(), &mut self.link);
@@ -261,7 +293,7 @@ impl<F: Files + Drop, L: Link + Drop> Turns for Desk<F, L> {
     fn stop(&mut self, alloc: Global, connection: u64, end: End, now: u64)
         ensures other { (self.old.connection == connection) ≡ false → self.new ≡ self.old }
         ensures turn { self.new.starved ≡ false → (self.new.mounted ≡ self.old.mounted) ⊎ Loses self.old.mounted end now self.new.mounted }
-        ensures number { self.new.connection ≡ self.old.connection }
+        ensures number { (self.new.connection ≡ self.old.connection) × (self.new.most ≡ self.old.most) }
     {
         if self.is_open(connection) {
             self.lose(alloc, end, now);
@@ -270,7 +302,7 @@ impl<F: Files + Drop, L: Link + Drop> Turns for Desk<F, L> {
 
     /// The link is shut, where there is one.
     fn close(&mut self)
-        ensures { (self.new.mounted ≡ self.old.mounted) × (self.new.starved ≡ self.old.starved) × (self.new.connection ≡ self.old.connection) }
+        ensures { (self.new.mounted ≡ self.old.mounted) × (self.new.starved ≡ self.old.starved) × (self.new.connection ≡ self.old.connection) × (self.new.most ≡ self.old.most) }
     {
         close(&mut self.link);
     }

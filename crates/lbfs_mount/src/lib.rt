@@ -12,6 +12,7 @@ mod desk;
 mod hearing;
 pub mod mount;
 pub mod mount_error;
+mod noticing;
 mod running;
 pub mod script;
 mod shared;

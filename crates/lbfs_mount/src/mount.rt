@@ -1,13 +1,15 @@
 //! A mount from its first connection to its end. `specs/Mounts.antt` says what it writes.
 
-ghost use Rattle.std.specs.Prelude.{ℕ, ◌≤◌, ◌⊎◌, OnOk, IsErrOf};
+ghost use Rattle.std.specs.Prelude.{ℕ, ◌≤◌, ◌⊎◌, OnOk, IsErrOf, is_some};
 ghost use Rattle.lb_base.specs.Causes.{Rose};
-ghost use Rattle.lbfs_mount.specs.Mounts.{Ends, IsBadLine, IsDone, IsFaulty, IsTooLong, Writes};
+ghost use Rattle.lbfs_mount.specs.Cached.{EndsAll, IsBadLineAll, IsDoneAll, SavesAfter, WritesAll};
+ghost use Rattle.lbfs_mount.specs.Mounts.{Ends, IsFaulty, IsTooLong};
 ghost use Rattle.lbfs_mount.specs.declared.mount_error.MountError.TheVariants as errors;
 
 use crate::connecting::Dialler;
 use crate::desk::Desk;
 use crate::mount_error::MountError;
+use crate::noticing::{load, save};
 use crate::running::run_lines;
 use crate::shared::Shared;
 use crate::turns::Turns;
@@ -69,6 +71,62 @@ where
     )
 }
 
+/// The cache file is written behind a script that was read to its end, where there is one.
+fn save_after<F: Files, K: Sink>(
+    alloc: Global,
+    ended: Result<(), MountError>,
+    mounted: &mut Mounted<F>,
+    cache: Option<&str>,
+    sink: &mut K,
+) -> Result<(), MountError>
+    ensures saves { SavesAfter (is_some cache.entry) ended (K.held sink.old) (K.held sink.new) (K.faults sink.old) (K.faults sink.new) result }
+    ensures later { K.faults sink.old ≤ K.faults sink.new }
+{
+    match ended {
+        Ok(()) => save(alloc, mounted, cache, sink),
+        Err(why) => Err(why),
+    }
+}
+
+/// Runs the lines of the script over this client, between what is read of a cache file and what is
+/// written to it, where there is one.
+fn run_cached<
+    R: Threads + Wait + Sync,
+    S: Source + Drop,
+    K: Sink + Drop,
+    F: Files + Drop + Send,
+    N: Network + Drop,
+    C: Clock + Sync,
+>(
+    rt: &R,
+    alloc: Global,
+    mounted: Mounted<F>,
+    script: S,
+    sink: K,
+    dialler: Dialler<N, N::L>,
+    clock: &C,
+    cache: Option<&str>,
+    keep: u64,
+) -> (Result<(), MountError>, S, K, F, Dialler<N, N::L>)
+where
+    N::L: Drop + Send,
+    ensures ends { EndsAll (is_some cache.entry) (IsFaulty N.L.faults result.4.unpaired) (record { left = S.left script; reads = S.faults script; held = K.held sink; writes = K.faults sink; dials = N.faults dialler.net }) (record { left = S.left result.1; reads = S.faults result.1; held = K.held result.2; writes = K.faults result.2; dials = N.faults result.4.net }) result.0 }
+    ensures later { (S.faults script ≤ S.faults result.1) × (K.faults sink ≤ K.faults result.2) }
+{
+    let mut mounted = mounted;
+    let mut sink = sink;
+    match load(alloc, &mut mounted, cache, &mut sink) {
+        Ok(()) => {}
+        Err(why) => return (Err(why), script, sink, mounted.into_files(), dialler),
+    }
+    let shared = Shared::new(alloc, Desk::new(mounted, keep));
+    let (ended, script, sink, dialler) = run_shared(rt, &shared, script, sink, dialler, clock);
+    let mut mounted = shared.into_desk().into_mounted();
+    let mut sink = sink;
+    let ended = save_after(alloc, ended, &mut mounted, cache, &mut sink);
+    (ended, script, sink, mounted.into_files(), dialler)
+}
+
 /// Dials a port and runs the lines of a script over the connection, one by one: each line that isn't
 /// skipped is an operation of the client, and its outcome's line is given to the sink as soon as it
 /// has ended, before the next line is read. `join` dials again. A thread of its own takes the records
@@ -80,6 +138,10 @@ where
 /// no twin, which is then given back with a fault counted on it; `BadLine` at the first line that is
 /// none of a script, and `TooLong` where the script has more bytes than `INPUT_MOST`. All that it works
 /// with is given back.
+///
+/// Where there is a cache file its items are the client's before the first line, and what the client keeps
+/// is written to it behind a script that was read to its end. What is wrong with either is written, in a
+/// line of its own before all others, or behind them. The client keeps at most so many bytes of contents.
 pub fn mount<
     R: Threads + Wait + Sync,
     S: Source + Drop,
@@ -96,31 +158,33 @@ pub fn mount<
     net: N,
     clock: &C,
     port: u16,
+    cache: Option<&str>,
+    keep: u64,
 ) -> (Result<(), MountError>, S, K, F, N, Option<N::L>)
 where
     N::L: Drop + Send,
-    ensures done { OnOk result.0 (IsDone (S.left script) (S.left result.1) (K.held sink) (K.held result.2)) }
-    ensures written { Writes (K.held sink) (K.held result.2) }
+    ensures done { OnOk result.0 (IsDoneAll (is_some cache.entry) (S.left script) (S.left result.1) (K.held sink) (K.held result.2)) }
+    ensures written { WritesAll (is_some cache.entry) (K.held sink) (K.held result.2) }
     ensures read { IsErrOf result.0 errors.ReadFault → Rose (S.faults script) (S.faults result.1) }
     ensures write { IsErrOf result.0 errors.WriteFault → Rose (K.faults sink) (K.faults result.2) }
     ensures network { IsErrOf result.0 errors.Network → Rose (N.faults net) (N.faults result.4) ⊎ IsFaulty N.L.faults result.5 }
     ensures read_later { S.faults script ≤ S.faults result.1 }
     ensures write_later { K.faults sink ≤ K.faults result.2 }
-    ensures bad_line { (n : ℕ) → IsErrOf result.0 (errors.BadLine n) → IsBadLine (S.left script) (S.left result.1) (K.held sink) (K.held result.2) n }
+    ensures bad_line { (n : ℕ) → IsErrOf result.0 (errors.BadLine n) → IsBadLineAll (is_some cache.entry) (S.left script) (S.left result.1) (K.held sink) (K.held result.2) n }
     ensures too_long { IsErrOf result.0 errors.TooLong → IsTooLong (S.left script) (S.left result.1) }
 {
     let mounted = match Mounted::new(alloc, files) {
         Ok(mounted) => mounted,
         Err(files) => return (Err(MountError::Memory), script, sink, files, net, None),
     };
-    let shared = Shared::new(alloc, Desk::new(mounted));
     let dialler = Dialler {
         net,
         port,
         unpaired: None,
     };
-    let (ended, script, sink, dialler) = run_shared(rt, &shared, script, sink, dialler, clock);
+    let (ended, script, sink, files, dialler) = run_cached(
+        rt, alloc, mounted, script, sink, dialler, clock, cache, keep,
+    );
     let Dialler { net, unpaired, .. } = dialler;
-    let files = shared.into_desk().into_files();
     (ended, script, sink, files, net, unpaired)
 }

@@ -43,7 +43,7 @@ fn read_end(why: ReadError) -> MountError
 }
 
 /// Writes the line of what ended.
-fn write_answer<K: Sink>(sink: &mut K, answer: &AnswerLine) -> Result<(), MountError>
+pub(crate) fn write_answer<K: Sink>(sink: &mut K, answer: &AnswerLine) -> Result<(), MountError>
     ensures ends { WriteEnds (K.held sink.old) (K.held sink.new) (K.faults sink.old) (K.faults sink.new) result }
     ensures later { K.faults sink.old ≤ K.faults sink.new }
 {

@@ -11,4 +11,4 @@ pub returns-then-is_some : goal.returns-then-is_some
 returns-then-is_some g c = IfOk-weaker c.says.result _ _ (λ said e. get_busy _ _ _ _ _ _ _ (search rules) (e ∙ ap (λ (xs : List Message). says xs (Some (answer_of outcome.Busy))) c.new.ensures)) c.says.ensures
 
 pub returns : goal.returns
-returns g c = IfOk-weaker c.begin.result _ _ (λ said p. get_free _ _ _ _ _ _ _ _ (search rules) p) c.begin.ensures
+returns g c = IfOk-weaker c.begin.result _ _ (λ said p. get_free _ _ _ _ _ _ _ _ _ c.opening.ensures (search rules) p) c.begin.ensures

@@ -1,0 +1,61 @@
+-- The cache file of a mount: its items are the client's, and what the client keeps is written to it.
+use Rattle.std.specs.Prelude.{◌≡◌, ◌⊎◌, ℕ, List, Option, Some, None, Result, Ok, Err, Bool}
+use Rattle.cache_file.specs.Items.{items, spelled}
+use Rattle.cache_file.specs.Saved.{saved}
+use Rattle.lb_base.specs.declared.sink.GiveError.{GiveError}
+use Rattle.lb_base.specs.declared.sink.GiveError.TheVariants as give
+use Rattle.links.specs.declared.files.FilesError.{FilesError}
+use Rattle.client_state.specs.Bounding.{kept_within}
+use Rattle.client_state.specs.Hints.{Warms}
+use Rattle.client_state.specs.State.{State}
+use Rattle.client_state.specs.declared.step.Outcome.TheVariants as outcome
+use Rattle.lbfs_client.specs.Host.{Host, HasRead, HasWritten}
+use Rattle.lbfs_client.specs.Mounting.{Mount, unread_answer}
+use Rattle.lbfs_client.specs.Walks.{answer_of}
+use Rattle.lbfs_client.specs.declared.answer.Answer.{Answer}
+use Rattle.lbfs_client.specs.declared.answer.Answer.TheVariants as answer
+
+-- ---- it is read
+
+-- its items are the client's; or memory was wanting, which is said, and nothing is
+abbrev pub WarmedBy : State → List ℕ → Option Answer → State → Type 0
+WarmedBy c bytes None c' = (left_out : Bool) × Warms c (items bytes) left_out c'
+WarmedBy c bytes (Some a) c' = (a ≡ answer_of outcome.Memory) × (c' ≡ c)
+
+-- where it wasn't read that is said, as of a file that is put
+abbrev pub LoadsRead : State → Result (List ℕ) FilesError → Option Answer → State → Type 0
+LoadsRead c (Ok bytes) told c' = WarmedBy c bytes told c'
+LoadsRead c (Err e) told c' = (told ≡ Some (unread_answer e)) × (c' ≡ c)
+
+pub record Loads (m : Mount) (name : List ℕ) (told : Option Answer) (m' : Mount) : Type 0 where
+  pub read : Result (List ℕ) FilesError
+  pub reads : HasRead m.host name read m'.host
+  pub walk_is : m'.walk ≡ m.walk
+  pub loads : LoadsRead m.client read told m'.client
+
+-- ---- it is written
+
+-- what is said where it wasn't
+abbrev pub unwritten_answer : Result Unit GiveError → Option Answer
+unwritten_answer (Ok u) = None
+unwritten_answer (Err give.Failed) = Some answer.LocalFault
+unwritten_answer (Err give.Memory) = Some (answer_of outcome.Memory)
+
+pub record Writes (old : Host) (name bytes : List ℕ) (told : Option Answer) (new : Host) : Type 0 where
+  pub wrote : Result Unit GiveError
+  pub writes : HasWritten old name bytes wrote new
+  pub told_is : told ≡ unwritten_answer wrote
+
+-- with what the client keeps; or memory was wanting, and it stays
+abbrev pub SavesTo : Host → State → List ℕ → Option Answer → Host → Type 0
+SavesTo old c name told new = Writes old name (spelled (saved c.cache)) told new ⊎ ((told ≡ Some (answer_of outcome.Memory)) × (new ≡ old))
+
+pub record Saves (m : Mount) (name : List ℕ) (told : Option Answer) (m' : Mount) : Type 0 where
+  pub host : SavesTo m.host m.client name told m'.host
+  pub client : m'.client ≡ m.client
+  pub walk_is : m'.walk ≡ m.walk
+
+-- ---- what is kept stays within so many bytes
+
+abbrev pub within : (most : ℕ) → Mount → Mount
+within most m = record m { client = kept_within most m.client }

@@ -1,0 +1,89 @@
+//! The cache file of a mount, and how much the client keeps: `specs/Caching.antt` says what comes of it.
+
+ghost use Rattle.std.specs.Prelude.{◌≡◌};
+ghost use Rattle.lbfs_client.specs.Caching.{LoadsRead, SavesTo, WarmedBy, Writes, unwritten_answer};
+ghost use Rattle.lbfs_client.specs.Host.{HasRead, HasWritten};
+
+use crate::answer::Answer;
+use crate::running::unread_answer;
+use lb_base::items::Bytes;
+use lb_base::sink::GiveError;
+use links::files::{Files, FilesError};
+use open_close::client::Client;
+use register_model::op::Outcome;
+use std::alloc::Global;
+
+/// The items of a cache file with these bytes are the client's; what is said where memory was wanting.
+fn warm(alloc: Global, client: &mut Client, bytes: &[u8]) -> Option<Answer>
+    ensures { WarmedBy client.old bytes.now result client.new }
+{
+    let Ok(items) = cache_file::load(alloc, bytes) else {
+        return Some(Answer::Ended(Outcome::Memory));
+    };
+    match client.warm(alloc, &items) {
+        Ok(_left_out) => None,
+        Err(_want) => Some(Answer::Ended(Outcome::Memory)),
+    }
+}
+
+/// The cache file was read, or wasn't; what is said of that.
+pub(crate) fn load_read(
+    alloc: Global,
+    client: &mut Client,
+    read: Result<Bytes, FilesError>,
+) -> Option<Answer>
+    ensures { LoadsRead client.old read result client.new }
+{
+    match read {
+        Ok(bytes) => warm(alloc, client, bytes.as_slice()),
+        Err(error) => Some(unread_answer(error)),
+    }
+}
+
+/// What is said of a file of the host that was written, or wasn't.
+fn unwritten_answer(wrote: Result<(), GiveError>) -> Option<Answer>
+    ensures { result ≡ unwritten_answer wrote }
+{
+    match wrote {
+        Ok(()) => None,
+        Err(GiveError::Failed) => Some(Answer::LocalFault),
+        Err(GiveError::Memory) => Some(Answer::Ended(Outcome::Memory)),
+    }
+}
+
+/// Reads a file of the host.
+pub(crate) fn read<F: Files>(alloc: Global, files: &mut F, name: &str) -> Result<Bytes, FilesError>
+    ensures { HasRead (record { files = F.files files.old; faults = F.faults files.old }) name.now result (record { files = F.files files.new; faults = F.faults files.new }) }
+{
+    files.get(alloc, name)
+}
+
+/// Puts bytes into a file of the host.
+fn put<F: Files>(alloc: Global, files: &mut F, name: &str, bytes: &[u8]) -> Result<(), GiveError>
+    ensures { HasWritten (record { files = F.files files.old; faults = F.faults files.old }) name.now bytes.now result (record { files = F.files files.new; faults = F.faults files.new }) }
+{
+    files.put(alloc, name, bytes)
+}
+
+/// These bytes are put into a file of the host; what is said of that.
+fn write<F: Files>(alloc: Global, files: &mut F, name: &str, bytes: &[u8]) -> Option<Answer>
+    ensures { Writes (record { files = F.files files.old; faults = F.faults files.old }) name.now bytes.now result (record { files = F.files files.new; faults = F.faults files.new }) }
+{
+    let wrote = put(alloc, files, name, bytes);
+    unwritten_answer(wrote)
+}
+
+/// What the client keeps is written to the cache file; what is said of that.
+pub(crate) fn save_kept<F: Files>(
+    alloc: Global,
+    files: &mut F,
+    client: &Client,
+    name: &str,
+) -> Option<Answer>
+    ensures { SavesTo (record { files = F.files files.old; faults = F.faults files.old }) client.now name.now result (record { files = F.files files.new; faults = F.faults files.new }) }
+{
+    match cache_file::save(alloc, client.cache()) {
+        Ok(bytes) => write(alloc, files, name, bytes.as_slice()),
+        Err(_want) => Some(Answer::Ended(Outcome::Memory)),
+    }
+}

@@ -1,0 +1,77 @@
+//! What a mount writes of its cache file: `NoticeEnds` of `specs/Cached.antt`.
+
+ghost use Rattle.std.specs.Prelude.{◌≤◌, is_some, true};
+ghost use Rattle.lbfs_mount.specs.Cached.{NoticeEnds};
+
+use crate::answer_line::AnswerLine;
+use crate::mount_error::MountError;
+use crate::running::write_answer;
+use lb_base::sink::Sink;
+use lbfs_client::answer::Answer;
+use lbfs_client::mounted::Mounted;
+use links::files::Files;
+use std::alloc::Global;
+
+/// Writes an answer as a line.
+fn write_line<K: Sink>(alloc: Global, answer: &Answer, sink: &mut K) -> Result<(), MountError>
+    ensures ends { NoticeEnds true (K.held sink.old) (K.held sink.new) (K.faults sink.old) (K.faults sink.new) result }
+    ensures later { K.faults sink.old ≤ K.faults sink.new }
+{
+    match answer.line(alloc) {
+        Ok(text) => write_answer(sink, &AnswerLine::of(text)),
+        Err(_want) => Err(MountError::Memory),
+    }
+}
+
+/// Writes what is to be said, if anything is.
+fn write_notice<K: Sink>(
+    alloc: Global,
+    told: &Option<Answer>,
+    sink: &mut K,
+) -> Result<(), MountError>
+    ensures ends { NoticeEnds true (K.held sink.old) (K.held sink.new) (K.faults sink.old) (K.faults sink.new) result }
+    ensures later { K.faults sink.old ≤ K.faults sink.new }
+{
+    match told {
+        Some(answer) => write_line(alloc, answer, sink),
+        None => Ok(()),
+    }
+}
+
+/// The cache file is read, where there is one, and what is wrong with it is written.
+pub(crate) fn load<F: Files, K: Sink>(
+    alloc: Global,
+    mounted: &mut Mounted<F>,
+    cache: Option<&str>,
+    sink: &mut K,
+) -> Result<(), MountError>
+    ensures ends { NoticeEnds (is_some cache.entry) (K.held sink.old) (K.held sink.new) (K.faults sink.old) (K.faults sink.new) result }
+    ensures later { K.faults sink.old ≤ K.faults sink.new }
+{
+    match cache {
+        Some(name) => {
+            let told = mounted.load(alloc, name);
+            write_notice(alloc, &told, sink)
+        }
+        None => Ok(()),
+    }
+}
+
+/// The cache file is written, where there is one, and that it couldn't be is written too.
+pub(crate) fn save<F: Files, K: Sink>(
+    alloc: Global,
+    mounted: &mut Mounted<F>,
+    cache: Option<&str>,
+    sink: &mut K,
+) -> Result<(), MountError>
+    ensures ends { NoticeEnds (is_some cache.entry) (K.held sink.old) (K.held sink.new) (K.faults sink.old) (K.faults sink.new) result }
+    ensures later { K.faults sink.old ≤ K.faults sink.new }
+{
+    match cache {
+        Some(name) => {
+            let told = mounted.save(alloc, name);
+            write_notice(alloc, &told, sink)
+        }
+        None => Ok(()),
+    }
+}
