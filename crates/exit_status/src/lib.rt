@@ -2,4 +2,5 @@
 //! `specs/Statuses.antt` has the numbers.
 #![tactic(auto)]
 
+pub mod shell_end;
 pub mod status;

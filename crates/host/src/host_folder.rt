@@ -8,7 +8,7 @@ use lb_base::items::{Bytes, Items, Name};
 use lb_base::source::{ReadError, read_all};
 use lb_base::streams::StreamSource;
 use limits::FILE_MOST;
-use shell_walks::folder::{Folder, Kind, LocalFault};
+use shell_walks::folder::{Folder, Folders, Kind, LocalFault};
 use std::alloc::{AllocError, Global};
 use std::fs::{Metadata, OpenFile, OpenOptions};
 use std::io::{ErrorKind, Write};
@@ -46,6 +46,14 @@ fn fault_of(error: &io::Error) -> LocalFault {
         ErrorKind::InvalidFilename | ErrorKind::InvalidInput => LocalFault::BadName,
         ErrorKind::OutOfMemory => LocalFault::Memory,
         _ => LocalFault::Failed,
+    }
+}
+
+/// Whether a file is as it was, by its length and the time of its last change.
+fn is_same(before: &Metadata, after: &Metadata) -> bool {
+    match (before.modified(), after.modified()) {
+        (Ok(first), Ok(last)) => first == last && before.len() == after.len(),
+        _ => before.len() == after.len(),
     }
 }
 
@@ -176,6 +184,28 @@ fn read_names<R: HostDisk>(rt: &R, alloc: Global, path: &str) -> Result<Vec<u8>,
     }
 }
 
+/// What gives each thread the host's files.
+#[derive(Drop)]
+pub struct HostFolders<R> {
+    rt: R,
+    mark: u32,
+}
+
+impl<R> HostFolders<R> {
+    /// The host's files. The mark is no other program's at the same time, as the process's number.
+    pub fn new(rt: R, mark: u32) -> HostFolders<R> {
+        HostFolders { rt, mark }
+    }
+}
+
+impl<R: HostDisk + Copy> Folders for HostFolders<R> {
+    type F = HostFolder<R>;
+
+    fn folder(&self, number: u32) -> HostFolder<R> {
+        HostFolder::new(self.rt, self.mark, number)
+    }
+}
+
 impl<R: HostDisk> Folder for HostFolder<R> {
     ghost finds = { λ _ _ _ _. Unit {0} };
 
@@ -204,7 +234,15 @@ impl<R: HostDisk> Folder for HostFolder<R> {
     }
 
     fn read(&mut self, alloc: Global, path: &str) -> Result<Bytes, LocalFault> {
-        read_file(&self.rt, alloc, path)
+        let before = match self.rt.metadata(path) {
+            Ok(facts) => facts,
+            Err(error) => return Err(fault_of(&error)),
+        };
+        let bytes = read_file(&self.rt, alloc, path)?;
+        match self.rt.metadata(path) {
+            Ok(after) if is_same(&before, &after) => Ok(bytes),
+            _ => Err(LocalFault::Changed),
+        }
     }
 
     fn write(&mut self, alloc: Global, path: &str, bytes: &[u8]) -> Result<(), LocalFault> {

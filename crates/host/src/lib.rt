@@ -7,6 +7,7 @@ pub mod dialler;
 pub mod host_files;
 pub mod host_folder;
 pub mod notes;
+pub mod screen;
 pub mod serving;
 pub mod streams;
 pub mod tcp;

@@ -37,6 +37,10 @@ pub enum Note<'a> {
         port: u16,
         why: io::Error,
     },
+    #[error("127.0.0.1, port {port}: no server answers there")]
+    Unreached {
+        port: u16,
+    },
     #[error("127.0.0.1, port {port}: the connection is lost: {why}")]
     Lost {
         port: u16,

@@ -60,3 +60,25 @@ impl<R: HostTime> Rest for HostRest<R> {
         thread::sleep(&self.rt, Duration::from_millis(REST));
     }
 }
+
+/// How many milliseconds a pause takes.
+const PAUSE: u64 = 20;
+
+/// A pause between two looks at what threads do, of 20 milliseconds.
+#[derive(Drop)]
+pub struct HostPause<R> {
+    rt: R,
+}
+
+impl<R> HostPause<R> {
+    /// A pause by this runtime's clock. It takes no memory.
+    pub fn new(rt: R) -> HostPause<R> {
+        HostPause { rt }
+    }
+}
+
+impl<R: HostTime> Rest for HostPause<R> {
+    fn rest(&self) {
+        thread::sleep(&self.rt, Duration::from_millis(PAUSE));
+    }
+}

@@ -8,6 +8,9 @@
 //! a server's store breaks a rule with.
 #![tactic(auto)]
 
+mod front;
+
+use crate::front::run_front;
 use exit_status::status::Status;
 use folder_store::folder::FolderStore;
 use host::host_files::HostFiles;
@@ -21,6 +24,7 @@ use lb_base::streams::{StreamSink, StreamSource};
 use lbfs_run::outside::Outside;
 use lbfs_run::run::status_of;
 use program_words::asked::Asked;
+use program_words::front::{Front, front_of, share_words};
 use program_words::refusal::refusal;
 use program_words::words::asked_of;
 use std::alloc::{AllocError, Global};
@@ -165,6 +169,24 @@ fn run<H: Threads + Wait + Sync, D: Synced + Checks + Drop + Send>(
     ExitCode::from(status.code())
 }
 
+/// Runs the words: a shell, or `share` by the words of `serve`, or those of `run`.
+fn run_others<H: Threads + Wait + Sync>(
+    handle: &H,
+    rt: HostRuntime,
+    words: &[String],
+    front: Option<Front>,
+) -> ExitCode {
+    let stores = (FolderStore::new(rt), FolderStore::new(rt));
+    match front {
+        Some(Front::Share(options)) => match share_words(rt.alloc(), &options) {
+            Ok(words) => run(handle, rt, words.as_slice(), stores),
+            Err(AllocError) => starved(&rt),
+        },
+        Some(Front::Shell(options)) => run_front(handle, rt, options),
+        None => run(handle, rt, words, stores),
+    }
+}
+
 /// Runs the words over the outside.
 fn main(rt: HostRuntime) -> ExitCode {
     let Ok(words) = given_words(&rt) else {
@@ -172,5 +194,8 @@ fn main(rt: HostRuntime) -> ExitCode {
     };
     let words = words.as_slice();
     let words = &words[words.len().min(1)..];
-    run(&rt, rt, words, (FolderStore::new(rt), FolderStore::new(rt)))
+    match front_of(rt.alloc(), words) {
+        Ok(front) => run_others(&rt, rt, words, front),
+        Err(AllocError) => starved(&rt),
+    }
 }

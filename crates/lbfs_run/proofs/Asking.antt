@@ -1,10 +1,11 @@
 -- What follows from which words were asked.
-use Rattle.std.proofs.Common.{◌≡◌, ◌⊎◌, ℕ, ◌≤◌, List, [], Bool, true, false, Option, Some, None, refl, sym, ap, ◌∙◌, subst, arith, rules}
+use Rattle.std.proofs.Common.{◌≡◌, ◌⊎◌, inl, ℕ, ◌≤◌, List, [], Bool, true, false, Option, Some, None, refl, sym, ap, ◌∙◌, subst, arith, rules}
+use Rattle.std.specs.Prelude.{is_some}
 use Rattle.std.specs.Io.KnownBytes.{Appends}
 use Rattle.lb_base.specs.Known.{AppendsPrefix}
 use Rattle.store.specs.declared.record.Kept.{Kept}
 use Rattle.exit_status.specs.declared.status.Status.{Status}
-use Rattle.lbfs_mount.specs.Mounts.{Tells, Writes}
+use Rattle.lbfs_mount.specs.Cached.{IsNotice, WritesAll}
 use Rattle.program_words.specs.declared.asked.Command.{Command}
 use Rattle.program_words.specs.declared.asked.Asked.{Asked}
 use Rattle.program_words.specs.declared.asked.Asked.TheVariants as ask
@@ -75,6 +76,16 @@ pub serves_by : (o p : ServeOptions) (accepted accepted' net net' store store' :
     → ServeEnds o accepted accepted' net net' store store' records held held' s → ServeEnds p accepted accepted' net net' store store' records held held' s
 serves_by o p accepted accepted' net net' store store' records held held' s e h = subst (λ (x : ServeOptions). ServeEnds x accepted accepted' net net' store store' records held held' s) e h
 
+abbrev mount_in : MountOptions → Option Asked → MountOptions
+mount_in o (Some (ask.Mount p)) = p
+mount_in o a = o
+
+pub same_mount : (a : Option Asked) (o p : MountOptions) → a ≡ Some (ask.Mount o) → a ≡ Some (ask.Mount p) → o ≡ p
+same_mount a o p e f = ap (mount_in o) (sym e ∙ f)
+
+pub mounts_by : (ends : Bool → Type 0) (o p : MountOptions) → o ≡ p → ends (is_some o.cache) → ends (is_some p.cache)
+mounts_by ends o p e h = subst (λ (x : MountOptions). ends (is_some x.cache)) e h
+
 -- ---- what stays
 
 pub stays : {A : Type 0} (f : A → ℕ) (x y : A) → y ≡ x → f x ≤ f y
@@ -87,5 +98,10 @@ nothing (Some xs) = search rules
 pub front : (held : Option (List ℕ)) (text : List ℕ) → AppendsPrefix held held text
 front held text = ([], text, refl, nothing held)
 
-pub nothing_written : (held : Option (List ℕ)) → Writes held held
-nothing_written held = ([], [], Tells.nothing, front held [])
+-- nothing is said of a cache file
+none_told : (cached : Bool) → IsNotice cached []
+none_told true = inl refl
+none_told false = refl
+
+pub none_written : (cached : Bool) (held : Option (List ℕ)) → WritesAll cached held held
+none_written cached held = WritesAll.notice ([], none_told cached, front held [])

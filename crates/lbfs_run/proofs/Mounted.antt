@@ -1,29 +1,42 @@
 -- How a mount ended, from what was answered.
-use Rattle.std.proofs.Common.{◌≡◌, ◌⊎◌, ℕ, ◌≤◌, List, Option, Result, Ok, Err, refl, inl, inr, arith}
+use Rattle.std.proofs.Common.{◌≡◌, ◌⊎◌, ℕ, ◌≤◌, List, Bool, Option, Result, Ok, Err, refl, inl, inr, subst, arith}
 use Rattle.std.specs.Prelude.{OnOk, IsErrOf}
 use Rattle.lb_base.specs.Causes.{Rose}
 use Rattle.exit_status.specs.declared.status.Status.{Status}
 use Rattle.exit_status.specs.declared.status.Status.TheVariants as status
-use Rattle.lbfs_mount.specs.Mounts.{IsBadLine, IsDone, IsTooLong, Writes}
+use Rattle.lbfs_mount.specs.Cached.{IsBadLineAll, IsDoneAll, WritesAll}
+use Rattle.lbfs_mount.specs.Mounts.{IsTooLong}
 use Rattle.lbfs_mount.specs.declared.mount_error.MountError.{MountError}
 use Rattle.lbfs_mount.specs.declared.mount_error.MountError.TheVariants as errors
 use Rattle.lbfs_run.specs.Mounting.{MountCause, mount_output}
 use Rattle.lbfs_run.specs.Telling.{Tells}
 
-pub cause : (left left' held held' : Option (List ℕ)) (read read' write write' net net' : ℕ) (link_fails : Type 0) (ended : Result Unit MountError)
-    → OnOk ended (IsDone left left' held held') → Writes held held'
+cause : (cached : Bool) (left left' held held' : Option (List ℕ)) (read read' write write' net net' : ℕ) (link_fails : Type 0) (ended : Result Unit MountError)
+    → OnOk ended (IsDoneAll cached left left' held held') → WritesAll cached held held'
     → (IsErrOf ended errors.ReadFault → Rose read read') → (IsErrOf ended errors.WriteFault → Rose write write')
     → (IsErrOf ended errors.Network → Rose net net' ⊎ link_fails)
-    → ((n : ℕ) → IsErrOf ended (errors.BadLine n) → IsBadLine left left' held held' n)
+    → ((n : ℕ) → IsErrOf ended (errors.BadLine n) → IsBadLineAll cached left left' held held' n)
     → (IsErrOf ended errors.TooLong → IsTooLong left left')
-    → MountCause left left' held held' read read' write write' net net' link_fails ended
-cause left left' held held' read read' write write' net net' link_fails (Ok u) done writes reads wrote network bad long = done
-cause left left' held held' read read' write write' net net' link_fails (Err errors.ReadFault) done writes reads wrote network bad long = (writes, reads refl)
-cause left left' held held' read read' write write' net net' link_fails (Err errors.WriteFault) done writes reads wrote network bad long = (writes, wrote refl)
-cause left left' held held' read read' write write' net net' link_fails (Err (errors.BadLine n)) done writes reads wrote network bad long = bad n refl
-cause left left' held held' read read' write write' net net' link_fails (Err errors.Network) done writes reads wrote network bad long = (writes, network refl)
-cause left left' held held' read read' write write' net net' link_fails (Err errors.Memory) done writes reads wrote network bad long = writes
-cause left left' held held' read read' write write' net net' link_fails (Err errors.TooLong) done writes reads wrote network bad long = (writes, long refl)
+    → MountCause cached left left' held held' read read' write write' net net' link_fails ended
+cause cached left left' held held' read read' write write' net net' link_fails (Ok u) done writes reads wrote network bad long = done
+cause cached left left' held held' read read' write write' net net' link_fails (Err errors.ReadFault) done writes reads wrote network bad long = (writes, reads refl)
+cause cached left left' held held' read read' write write' net net' link_fails (Err errors.WriteFault) done writes reads wrote network bad long = (writes, wrote refl)
+cause cached left left' held held' read read' write write' net net' link_fails (Err (errors.BadLine n)) done writes reads wrote network bad long = bad n refl
+cause cached left left' held held' read read' write write' net net' link_fails (Err errors.Network) done writes reads wrote network bad long = (writes, network refl)
+cause cached left left' held held' read read' write write' net net' link_fails (Err errors.Memory) done writes reads wrote network bad long = writes
+cause cached left left' held held' read read' write write' net net' link_fails (Err errors.TooLong) done writes reads wrote network bad long = (writes, long refl)
+
+-- so too where the cache file's name was passed on
+pub caused : (was cached : Bool) (left left' held held' : Option (List ℕ)) (read read' write write' net net' : ℕ) (link_fails : Type 0) (ended : Result Unit MountError) → was ≡ cached
+    → OnOk ended (IsDoneAll was left left' held held') → WritesAll was held held'
+    → (IsErrOf ended errors.ReadFault → Rose read read') → (IsErrOf ended errors.WriteFault → Rose write write')
+    → (IsErrOf ended errors.Network → Rose net net' ⊎ link_fails)
+    → ((n : ℕ) → IsErrOf ended (errors.BadLine n) → IsBadLineAll was left left' held held' n)
+    → (IsErrOf ended errors.TooLong → IsTooLong left left')
+    → MountCause cached left left' held held' read read' write write' net net' link_fails ended
+caused was cached left left' held held' read read' write write' net net' link_fails ended same done writes reads wrote network bad long =
+    subst (λ (b : Bool). MountCause b left left' held held' read read' write write' net net' link_fails ended) same
+    (cause was left left' held held' read read' write write' net net' link_fails ended done writes reads wrote network bad long)
 
 -- ---- by the status
 

@@ -1,7 +1,7 @@
 //! `mount`: the lines of the source are run on the tree of a server, one by one. `specs/Mounting.antt`
 //! states how that ends, and what is written then.
 
-ghost use Rattle.std.specs.Prelude.{◌≡◌, ◌≤◌, ◌⊎◌, [], IfOk, IsErrOf};
+ghost use Rattle.std.specs.Prelude.{◌≡◌, ◌≤◌, ◌⊎◌, [], IfOk, IsErrOf, is_some};
 ghost use Rattle.lb_base.specs.Causes.{Rose};
 ghost use Rattle.exit_status.specs.declared.status.Status.TheVariants as status;
 ghost use Rattle.lbfs_mount.specs.Mounts.{IsFaulty};
@@ -21,7 +21,7 @@ use lbfs_mount::mount_error::MountError;
 use links::clock::Clock;
 use links::files::Files;
 use links::network::Network;
-use program_words::asked::MountOptions;
+use program_words::asked::{MountOptions, StorePath};
 use std::alloc::{AllocError, Global};
 use std::sync::Wait;
 use std::thread::Threads;
@@ -71,6 +71,16 @@ fn tell_mounted<K: Sink>(alloc: Global, ended: Result<(), MountError>, sink: &mu
     }
 }
 
+/// The name of a cache file, where there is one.
+fn cache_name(cache: &Option<StorePath>) -> Option<&str>
+    ensures { is_some result ≡ is_some cache.now }
+{
+    match cache {
+        Some(path) => Some(path.as_str()),
+        None => None,
+    }
+}
+
 /// Runs the source's lines on the tree of a server, tells how that ended, and answers the status, with
 /// the link whose twin could not be made, if it ended by that.
 pub(crate) fn run_mount<
@@ -90,7 +100,7 @@ pub(crate) fn run_mount<
 ) -> (Status, Outside<S, K, D, F, N, C, R>, Option<N::L>)
 where
     N::L: Drop + Send,
-    ensures mounts { MountEnds (S.left out.source) (S.left result.1.source) (K.held out.sink) (K.held result.1.sink) (S.faults out.source) (S.faults result.1.source) (K.faults out.sink) (N.faults out.network) (N.faults result.1.network) (IsFaulty N.L.faults result.2) result.0 }
+    ensures mounts { MountEnds (is_some options.cache) (S.left out.source) (S.left result.1.source) (K.held out.sink) (K.held result.1.sink) (S.faults out.source) (S.faults result.1.source) (K.faults out.sink) (N.faults out.network) (N.faults result.1.network) (IsFaulty N.L.faults result.2) result.0 }
     ensures unstored { result.1.store ≡ out.store }
     ensures read_later { S.faults out.source ≤ S.faults result.1.source }
     ensures write_later { K.faults out.sink ≤ K.faults result.1.sink }
@@ -117,7 +127,10 @@ where
         network,
         &clock,
         options.port,
+        cache_name(&options.cache),
+        options.keep,
     );
+    drop(options);
     let status = tell_mounted(alloc, ended, &mut sink);
     let out = Outside {
         source,

@@ -1,7 +1,7 @@
 //! A run of the program over its outside. `asked_of` of `program_words` states what words ask for, and
 //! `plain` what `replay`, `gen`, `cut` and `show` come to; the rest stands in `specs/`.
 
-ghost use Rattle.std.specs.Prelude.{◌≡◌, ℕ, ◌≤◌, ◌⊎◌, List, [], ◌∷◌, Option, Some, true, false, codes};
+ghost use Rattle.std.specs.Prelude.{◌≡◌, ℕ, ◌≤◌, ◌⊎◌, List, [], ◌∷◌, Option, Some, true, false, codes, is_some};
 ghost use Rattle.lb_base.specs.Causes.{Rose};
 ghost use Rattle.trace_generator.specs.Lines.{generated_text};
 ghost use Rattle.trace_generator.specs.declared.TheConstants.{BLOCKS_MOST};
@@ -132,7 +132,7 @@ where
     ensures apart { is_alone asked ≡ true → (result.1.store ≡ out.store) × (result.1.files ≡ out.files) × (result.1.network ≡ out.network) }
     ensures serves { (o : ServeOptions) → asked ≡ Some (ask.Serve o) → ServeEnds o (N.accepted out.network) (N.accepted result.1.network) (N.faults out.network) (N.faults result.1.network) (D.faults out.store) (D.faults result.1.store) (D.records out.store) (K.held out.sink) (K.held result.1.sink) result.0 }
     ensures unfiled { (o : ServeOptions) → asked ≡ Some (ask.Serve o) → result.1.files ≡ out.files }
-    ensures mounts { (o : MountOptions) → asked ≡ Some (ask.Mount o) → MountEnds (S.left out.source) (S.left result.1.source) (K.held out.sink) (K.held result.1.sink) (S.faults out.source) (S.faults result.1.source) (K.faults out.sink) (N.faults out.network) (N.faults result.1.network) (IsFaulty N.L.faults result.2) result.0 }
+    ensures mounts { (o : MountOptions) → asked ≡ Some (ask.Mount o) → MountEnds (is_some o.cache) (S.left out.source) (S.left result.1.source) (K.held out.sink) (K.held result.1.sink) (S.faults out.source) (S.faults result.1.source) (K.faults out.sink) (N.faults out.network) (N.faults result.1.network) (IsFaulty N.L.faults result.2) result.0 }
     ensures unstored { (o : MountOptions) → asked ≡ Some (ask.Mount o) → result.1.store ≡ out.store }
     ensures checks { (o : CheckOptions) → asked ≡ Some (ask.Check o) → CheckEnds (D.faults out.store) (D.faults result.1.store) (D.records out.store) (K.held out.sink) (K.held result.1.sink) result.0 }
     ensures unchanged { (o : CheckOptions) → asked ≡ Some (ask.Check o) → (D.records result.1.store ≡ D.records out.store) × (result.1.files ≡ out.files) × (result.1.network ≡ out.network) }
@@ -211,7 +211,7 @@ where
     ensures apart { is_alone (asked_of (words_as_bytes words.now)) ≡ true → (result.1.store ≡ out.store) × (result.1.files ≡ out.files) × (result.1.network ≡ out.network) }
     ensures serves { (o : ServeOptions) → asked_of (words_as_bytes words.now) ≡ Some (ask.Serve o) → ServeEnds o (N.accepted out.network) (N.accepted result.1.network) (N.faults out.network) (N.faults result.1.network) (D.faults out.store) (D.faults result.1.store) (D.records out.store) (K.held out.sink) (K.held result.1.sink) result.0 }
     ensures unfiled { (o : ServeOptions) → asked_of (words_as_bytes words.now) ≡ Some (ask.Serve o) → result.1.files ≡ out.files }
-    ensures mounts { (o : MountOptions) → asked_of (words_as_bytes words.now) ≡ Some (ask.Mount o) → MountEnds (S.left out.source) (S.left result.1.source) (K.held out.sink) (K.held result.1.sink) (S.faults out.source) (S.faults result.1.source) (K.faults out.sink) (N.faults out.network) (N.faults result.1.network) (IsFaulty N.L.faults result.2) result.0 }
+    ensures mounts { (o : MountOptions) → asked_of (words_as_bytes words.now) ≡ Some (ask.Mount o) → MountEnds (is_some o.cache) (S.left out.source) (S.left result.1.source) (K.held out.sink) (K.held result.1.sink) (S.faults out.source) (S.faults result.1.source) (K.faults out.sink) (N.faults out.network) (N.faults result.1.network) (IsFaulty N.L.faults result.2) result.0 }
     ensures unstored { (o : MountOptions) → asked_of (words_as_bytes words.now) ≡ Some (ask.Mount o) → result.1.store ≡ out.store }
     ensures checks { (o : CheckOptions) → asked_of (words_as_bytes words.now) ≡ Some (ask.Check o) → CheckEnds (D.faults out.store) (D.faults result.1.store) (D.records out.store) (K.held out.sink) (K.held result.1.sink) result.0 }
     ensures unchanged { (o : CheckOptions) → asked_of (words_as_bytes words.now) ≡ Some (ask.Check o) → (D.records result.1.store ≡ D.records out.store) × (result.1.files ≡ out.files) × (result.1.network ≡ out.network) }

@@ -53,7 +53,12 @@ pub enum ServeError {
 
 /// A server of the tree of a store's records.
 #[tactic(auto, using(crate::proofs::Serving::is_server_of, crate::proofs::Serving::is_bad))]
-fn opened<S: Store>(alloc: Global, store: &mut S, place: &str) -> Result<Server, ServeError>
+fn opened<R: Threads + Sync, S: Store>(
+    rt: &R,
+    alloc: Global,
+    store: &mut S,
+    place: &str,
+) -> Result<Server, ServeError>
     ensures tree { IfOk result (IsServerOf (S.records store.old)) }
     ensures store { IsErrOf result errors.Store → Rose (S.faults store.old) (S.faults store.new) }
     ensures record { (which : ℕ) → IsErrOf result (errors.BadRecord which) → IsBad (S.records store.old) which }
@@ -68,7 +73,7 @@ fn opened<S: Store>(alloc: Global, store: &mut S, place: &str) -> Result<Server,
         Ok(files) => files,
         Err(_want) => return Err(ServeError::Memory),
     };
-    let tree = match load(alloc, records) {
+    let tree = match load(rt, alloc, records) {
         Ok(tree) => tree,
         Err(LoadError::BadRecord { which }) => return Err(ServeError::BadRecord { which }),
         Err(LoadError::Memory) => return Err(ServeError::Memory),
@@ -132,7 +137,7 @@ where
 {
     let mut store = store;
     let before = store.fault_count();
-    let server = match opened(alloc, &mut store, place) {
+    let server = match opened(rt, alloc, &mut store, place) {
         Ok(server) => server,
         Err(error) => return (Err(error), store, net),
     };

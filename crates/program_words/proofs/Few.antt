@@ -6,7 +6,7 @@ use Rattle.clap.specs.Words.{Kinds, Row, Text, fault_of, subcommand_of, first_of
 use Rattle.command_text.specs.Fields.{◌>>=◌, number_of, number_within}
 use Rattle.limits.specs.declared.TheConstants.{TERM_MOST, DRIFT_MOST, SESSIONS_EVER_MOST}
 use Rattle.trace_generator.specs.declared.TheConstants.{BLOCKS_MOST}
-use Rattle.program_words.specs.declared.asked.TheConstants.{PORT_MOST, SEED_MOST}
+use Rattle.program_words.specs.declared.asked.TheConstants.{PORT_MOST, SEED_MOST, KEEP_MOST}
 use Rattle.program_words.specs.declared.asked.View.{View}
 use Rattle.program_words.specs.declared.asked.InputCommand.TheVariants as input
 use Rattle.program_words.specs.declared.asked.SeedCommand.TheVariants as seeded
@@ -112,7 +112,8 @@ of_serve rows = no_trace (first_of (codes "store") rows) (λ place. serve_with r
 of_mount : (rows : List Row) → Holds Fits (mount_of rows)
 of_mount rows =
     no_trace (given 1 PORT_MOST (codes "port") rows) _ (λ p.
-    no_trace (given 0 DRIFT_MOST (codes "drift") rows) _ (λ e. tt))
+    no_trace (given 0 DRIFT_MOST (codes "drift") rows) _ (λ e.
+    no_trace (if_given 0 KEEP_MOST (first_of (codes "keep") rows)) _ (λ k. tt)))
 
 of_check : (rows : List Row) → Holds Fits (check_of rows)
 of_check rows = no_trace (first_of (codes "store") rows) _ (λ place. tt)

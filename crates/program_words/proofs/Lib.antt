@@ -1,3 +1,4 @@
 pub mod Found
 pub mod Few
 pub mod Told
+pub mod FrontTold

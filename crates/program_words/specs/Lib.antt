@@ -1,3 +1,6 @@
 pub mod Line
 pub mod Words
 pub mod Rows
+pub mod FrontLine
+pub mod Front
+pub mod FrontRows

@@ -29,7 +29,7 @@ abbrev pub serve : App
 serve = with_rule (with_rule (with_rule (with_rule (with_rule (new_app (codes "serve")) (required (codes "port"))) (required (codes "term"))) (required (codes "sessions"))) (required (codes "store"))) (flag (codes "unsynced"))
 
 abbrev pub mount : App
-mount = with_rule (with_rule (new_app (codes "mount")) (required (codes "port"))) (required (codes "drift"))
+mount = with_rule (with_rule (with_rule (with_rule (new_app (codes "mount")) (required (codes "port"))) (required (codes "drift"))) (optional (codes "cache"))) (optional (codes "keep"))
 
 abbrev pub check : App
 check = with_rule (new_app (codes "check")) (required (codes "store"))

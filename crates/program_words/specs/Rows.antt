@@ -23,7 +23,10 @@ abbrev said : List (List ℕ) → List (Option Asked)
 said lines = map (λ line. asked_of (words_of line)) lines
 
 abbrev mount : (port drift : ℕ) → Option Asked
-mount p e = Some (asked.Mount (record { port = p; drift = e }))
+mount p e = Some (asked.Mount (record { port = p; drift = e; cache = None; keep = 268435456 }))
+
+abbrev mount_with : (cache : Option (List ℕ)) → (keep : ℕ) → Option Asked
+mount_with c k = Some (asked.Mount (record { port = 7000; drift = 1; cache = c; keep = k }))
 
 abbrev serve_as : Bool → (port term sessions : ℕ) → (store : List ℕ) → Option Asked
 serve_as u p t n d = Some (asked.Serve (record { port = p; term = t; sessions = n; store = d; unsynced = u }))
@@ -44,6 +47,15 @@ on_seed s n c = Some (asked.Command (OfSeed s n c))
 mounts : said (codes "mount --port 7000 --drift 100" ∷ codes "mount --drift=100 --port=7000" ∷ codes "mount --port=1 --drift 0" ∷ codes "mount --port 65535 --drift 3600000" ∷ []) ≡ (mount 7000 100 ∷ mount 7000 100 ∷ mount 1 0 ∷ mount 65535 3600000 ∷ [])
 unfolding clap_on_literals lbfs asked_of
 mounts = refl
+
+-- a cache file, and how much is kept
+keeps : said (codes "mount --port 7000 --drift 1 --cache c" ∷ codes "mount --cache=d/c --keep=0 --port 7000 --drift 1" ∷ codes "mount --keep 18446744073709551615 --port 7000 --drift 1" ∷ codes "mount --port 7000 --drift 1 --keep 268435456" ∷ []) ≡ (mount_with (Some (codes "c")) 268435456 ∷ mount_with (Some (codes "d/c")) 0 ∷ mount_with None 18446744073709551615 ∷ mount 7000 1 ∷ [])
+unfolding clap_on_literals lbfs asked_of
+keeps = refl
+
+keeps_refused : said (codes "mount --port 7000 --drift 1 --cache" ∷ codes "mount --port 7000 --drift 1 --cache a --cache b" ∷ codes "mount --port 7000 --drift 1 --keep" ∷ codes "mount --port 7000 --drift 1 --keep 01" ∷ codes "mount --port 7000 --drift 1 --keep -1" ∷ codes "mount --port 7000 --drift 1 --keep 18446744073709551616" ∷ codes "mount --port 7000 --drift 1 --keep 1 --keep 1" ∷ codes "serve --port 7000 --term 1 --sessions 1 --store d --cache c" ∷ []) ≡ replicate 8 None
+unfolding clap_on_literals lbfs asked_of
+keeps_refused = refl
 
 serves : said (codes "serve --port 7000 --term 1000 --sessions 1 --store d" ∷ codes "serve --store=d/e --sessions 4294967295 --term 1 --port 1" ∷ []) ≡ (serve 7000 1000 1 (codes "d") ∷ serve 1 1 4294967295 (codes "d/e") ∷ [])
 unfolding clap_on_literals lbfs asked_of

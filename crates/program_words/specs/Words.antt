@@ -1,11 +1,11 @@
 -- What the words of the program ask for. They are refused where `clap` finds a fault in them, and where a number isn't
 -- in its range.
-use Rattle.std.specs.Prelude.{ℕ, ◌≤◌, List, [], ◌∷◌, Bool, true, false, Option, Some, None, codes, bytes_eq, if◌then◌else◌}
+use Rattle.std.specs.Prelude.{ℕ, ◌≤◌, List, [], ◌∷◌, Bool, true, false, Option, Some, None, codes, bytes_eq, unwrap_or, if◌then◌else◌}
 use Rattle.clap.specs.Words.{Kinds, Row, Text, fault_of, subcommand_of, first_of}
 use Rattle.command_text.specs.Fields.{◌>>=◌, number_within}
 use Rattle.limits.specs.declared.TheConstants.{TERM_MOST, DRIFT_MOST, SESSIONS_EVER_MOST}
 use Rattle.trace_generator.specs.declared.TheConstants.{BLOCKS_MOST}
-use Rattle.program_words.specs.declared.asked.TheConstants.{PORT_MOST, SEED_MOST}
+use Rattle.program_words.specs.declared.asked.TheConstants.{KEEP, KEEP_MOST, PORT_MOST, SEED_MOST}
 use Rattle.program_words.specs.declared.asked.View.{View}
 use Rattle.program_words.specs.declared.asked.View.TheVariants.{History, Summary}
 use Rattle.program_words.specs.declared.asked.InputCommand.TheVariants as input
@@ -70,7 +70,8 @@ abbrev pub mount_of : List Row → Option Asked
 mount_of rows =
     given 1 PORT_MOST (codes "port") rows >>= λ p.
     given 0 DRIFT_MOST (codes "drift") rows >>= λ e.
-    Some (asked.Mount (record { port = p; drift = e }))
+    if_given 0 KEEP_MOST (first_of (codes "keep") rows) >>= λ k.
+    Some (asked.Mount (record { port = p; drift = e; cache = first_of (codes "cache") rows; keep = unwrap_or k KEEP }))
 
 abbrev pub check_of : List Row → Option Asked
 check_of rows = first_of (codes "store") rows >>= λ place. Some (asked.Check (record { store = place }))

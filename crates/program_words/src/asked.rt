@@ -11,6 +11,12 @@ pub const PORT_MOST: u64 = 65_535;
 /// The greatest seed: the greatest number of 64 bits.
 pub const SEED_MOST: u64 = 18_446_744_073_709_551_615;
 
+/// The greatest number of bytes that a mount may be told to keep: the greatest number of 64 bits.
+pub const KEEP_MOST: u64 = 18_446_744_073_709_551_615;
+
+/// How many bytes a mount keeps that isn't told: 256 MiB.
+pub const KEEP: u64 = 268_435_456;
+
 /// How a run is told.
 #[derive(Clone, Copy)]
 pub enum View {
@@ -53,7 +59,7 @@ pub enum Command {
     },
 }
 
-/// The path of a store's folder.
+/// The path of a store's folder, or of a cache file.
 #[derive(Drop)]
 pub struct StorePath {
     path: String,
@@ -109,13 +115,17 @@ pub struct CheckOptions {
 }
 
 /// How a server's tree is mounted.
-#[derive(Clone, Copy)]
+#[derive(Drop)]
 pub struct MountOptions {
     /// The port at which the server listens.
     pub port: u16,
     /// `--drift`: how far clocks may drift apart, in milliseconds. Checked, and not used until leases
     /// are served.
     pub drift: u64,
+    /// `--cache`: the cache file, where there is one.
+    pub cache: Option<StorePath>,
+    /// `--keep`: how many bytes of contents are kept at most.
+    pub keep: u64,
 }
 
 /// What the program may be asked for.

@@ -8,7 +8,7 @@ use clap::{Arg, ArgAction, Command};
 use std::alloc::{AllocError, Global};
 
 /// An option with one value, which may be left out.
-fn optional<'a>(alloc: Global, name: &'a str) -> Arg<'a>
+pub(crate) fn optional<'a>(alloc: Global, name: &'a str) -> Arg<'a>
     ensures rule { rule_of result ≡ optional name.entry.now }
     ensures own { result.global ≡ false }
 {
@@ -16,7 +16,7 @@ fn optional<'a>(alloc: Global, name: &'a str) -> Arg<'a>
 }
 
 /// An option with one value, which is wanted.
-fn required<'a>(alloc: Global, name: &'a str) -> Arg<'a>
+pub(crate) fn required<'a>(alloc: Global, name: &'a str) -> Arg<'a>
     ensures rule { rule_of result ≡ required name.entry.now }
     ensures own { result.global ≡ false }
 {
@@ -27,7 +27,7 @@ fn required<'a>(alloc: Global, name: &'a str) -> Arg<'a>
 }
 
 /// A flag.
-fn flag<'a>(alloc: Global, name: &'a str) -> Arg<'a>
+pub(crate) fn flag<'a>(alloc: Global, name: &'a str) -> Arg<'a>
     ensures rule { rule_of result ≡ flag name.entry.now }
     ensures own { result.global ≡ false }
 {
@@ -35,7 +35,7 @@ fn flag<'a>(alloc: Global, name: &'a str) -> Arg<'a>
 }
 
 /// A word in its place, which is wanted.
-fn placed<'a>(alloc: Global, name: &'a str) -> Arg<'a>
+pub(crate) fn placed<'a>(alloc: Global, name: &'a str) -> Arg<'a>
     ensures rule { rule_of result ≡ placed name.entry.now }
     ensures own { result.global ≡ false }
 {
@@ -43,7 +43,7 @@ fn placed<'a>(alloc: Global, name: &'a str) -> Arg<'a>
 }
 
 /// A command with one argument more; where there is none, its error is handed on.
-fn with<'a>(
+pub(crate) fn with<'a>(
     command: Result<Command<'a>, AllocError>,
     arg: Arg<'a>,
 ) -> Result<Command<'a>, AllocError>
@@ -91,7 +91,9 @@ fn mount_line<'a>(alloc: Global) -> Result<Command<'a>, AllocError>
     ensures { IfOk result (λ c. app_of c ≡ mount) }
 {
     let command = with(Ok(Command::new(alloc, "mount")), required(alloc, "port"));
-    with(command, required(alloc, "drift"))
+    let command = with(command, required(alloc, "drift"));
+    let command = with(command, optional(alloc, "cache"));
+    with(command, optional(alloc, "keep"))
 }
 
 /// `check` and its option.
@@ -102,7 +104,7 @@ fn check_line<'a>(alloc: Global) -> Result<Command<'a>, AllocError>
 }
 
 /// A command with a command more below it; an error of either is `AllocError`.
-fn below<'a>(
+pub(crate) fn below<'a>(
     above: Result<Command<'a>, AllocError>,
     command: Result<Command<'a>, AllocError>,
 ) -> Result<Command<'a>, AllocError>
@@ -117,7 +119,7 @@ fn below<'a>(
 }
 
 /// The program, with no command yet.
-fn named<'a>(alloc: Global) -> Command<'a>
+pub(crate) fn named<'a>(alloc: Global) -> Command<'a>
     ensures { app_of result ≡ named }
 {
     Command::new(alloc, "lbfs")

@@ -1,7 +1,9 @@
 //! What a person is told on standard error whose words are refused: what is wrong with them, and which
 //! words there are.
 
-use crate::asked::{PORT_MOST, SEED_MOST};
+use crate::asked::{KEEP_MOST, PORT_MOST, SEED_MOST};
+use crate::front::LINKS_MOST;
+use crate::front_line::front;
 use crate::line::lbfs;
 use crate::words::first;
 use clap::error::ErrorKind;
@@ -22,8 +24,12 @@ const USAGE: &str = "usage: lbfs COMMAND
   show                                  lists the RPC records of standard input
   serve --port P --term MS --sessions N --store DIR [--unsynced]
                                         serves a folder, until N sessions have ended
-  mount --port P --drift MS             runs the commands on standard input on a served folder
+  mount --port P --drift MS [--cache NAME] [--keep BYTES]
+                                        runs the commands on standard input on a served folder
   check --store DIR                     looks over a folder that isn't served
+  share DIR [--port P] [--term MS]      serves a folder until it is ended, at port 7000 if none is given
+  shell --port P [--drift MS] [--links N] [--quiet] [COMMAND ..]
+                                        runs the command, or those that are typed, on a served folder
 docs/COMMANDS.md says what each reads, writes and ends with.
 ";
 
@@ -63,8 +69,10 @@ fn put_past(text: &mut String, matches: &ArgMatches) -> Result<(), AllocError> {
         between("term", 1, TERM_MOST),
         between("sessions", 1, SESSIONS_EVER_MOST),
         between("drift", 0, DRIFT_MOST),
+        between("keep", 0, KEEP_MOST),
         between("seed", 0, SEED_MOST),
         between("blocks", 1, BLOCKS_MOST),
+        between("links", 1, LINKS_MOST),
     ];
     for range in ranges.iter() {
         if put_if_past(text, *range, matches)? {
@@ -88,9 +96,21 @@ fn put_fault(alloc: Global, text: &mut String, error: &Error) -> Result<(), Allo
     text.push_str("\n")
 }
 
+/// Whether words are those of `shell` or `share`, by the first.
+fn is_front(words: &[String]) -> bool {
+    match words.first() {
+        Some(word) => word.as_str() == "shell" || word.as_str() == "share",
+        None => false,
+    }
+}
+
 /// What is wrong with the words, where they are more than a call for help.
 fn put_reason(alloc: Global, text: &mut String, words: &[String]) -> Result<(), AllocError> {
-    let line = lbfs(alloc)?;
+    let line = if is_front(words) {
+        front(alloc)?
+    } else {
+        lbfs(alloc)?
+    };
     match line.try_get_matches_from(words) {
         Ok(matches) => match matches.subcommand() {
             Some((_name, matches)) => put_past(text, matches),

@@ -8,8 +8,8 @@ ghost use Rattle.clap.specs.Words.{first_of, found_of, rows_of, subcommand_rows_
 ghost use Rattle.program_words.specs.Words.{given, if_given, is_set, view_of, replay_with, replay_of, gen_of, serve_of, mount_of, check_of, named_of, entered_of, asked_of, command_in, IsFew};
 
 use crate::asked::{
-    Asked, CheckOptions, Command, InputCommand, MountOptions, PORT_MOST, SEED_MOST, SeedCommand,
-    ServeOptions, StorePath, View,
+    Asked, CheckOptions, Command, InputCommand, KEEP, KEEP_MOST, MountOptions, PORT_MOST,
+    SEED_MOST, SeedCommand, ServeOptions, StorePath, View,
 };
 use crate::line::lbfs;
 use clap::ArgMatches;
@@ -29,7 +29,7 @@ pub(crate) fn first<'a>(name: &str, matches: &ArgMatches<'a>) -> Option<&'a str>
 }
 
 /// The number that an option was given, where it is in its range.
-fn given(low: u64, high: u64, name: &str, matches: &ArgMatches) -> Option<u64>
+pub(crate) fn given(low: u64, high: u64, name: &str, matches: &ArgMatches) -> Option<u64>
     ensures { result ≡ given low high name.now (rows_of (found_of matches.now)) }
 {
     let word = first(name, matches)?;
@@ -48,7 +48,7 @@ fn if_given(low: u64, high: u64, name: &str, matches: &ArgMatches) -> Option<Opt
 }
 
 /// Whether a flag was given.
-fn is_set(name: &str, matches: &ArgMatches) -> bool
+pub(crate) fn is_set(name: &str, matches: &ArgMatches) -> bool
     ensures { result ≡ is_set (first_of name.now (rows_of (found_of matches.now))) }
 {
     match first(name, matches) {
@@ -146,13 +146,37 @@ fn serve_of(alloc: Global, matches: &ArgMatches) -> Result<Option<Asked>, AllocE
     }
 }
 
-/// The options of `mount`.
-fn mount_of(matches: &ArgMatches) -> Option<Asked>
-    ensures { result ≡ mount_of (rows_of (found_of matches.now)) }
+/// The cache file that was given, if one was.
+fn cache_of(alloc: Global, matches: &ArgMatches) -> Result<Option<StorePath>, AllocError>
+    ensures { IfOk result (λ path. path ≡ first_of (codes "cache") (rows_of (found_of matches.now))) }
 {
-    let port = port_of(matches)?;
-    let drift = given(0, DRIFT_MOST, "drift", matches)?;
-    Some(Asked::Mount(MountOptions { port, drift }))
+    match first("cache", matches) {
+        Some(path) => Ok(Some(StorePath::copy_of(alloc, path)?)),
+        None => Ok(None),
+    }
+}
+
+/// The options of `mount`. The cache file's path is copied last, when no option is at fault.
+fn mount_of(alloc: Global, matches: &ArgMatches) -> Result<Option<Asked>, AllocError>
+    ensures { IfOk result (λ asked. asked ≡ mount_of (rows_of (found_of matches.now))) }
+{
+    match (
+        port_of(matches),
+        given(0, DRIFT_MOST, "drift", matches),
+        if_given(0, KEEP_MOST, "keep", matches),
+    ) {
+        (Some(port), Some(drift), Some(keep)) => {
+            let keep = keep.unwrap_or(KEEP);
+            let cache = cache_of(alloc, matches)?;
+            Ok(Some(Asked::Mount(MountOptions {
+                port,
+                drift,
+                cache,
+                keep,
+            })))
+        }
+        _ => Ok(None),
+    }
 }
 
 /// The option of `check`.
@@ -182,7 +206,7 @@ fn named_of(alloc: Global, name: &str, matches: &ArgMatches) -> Result<Option<As
     } else if name == "serve" {
         serve_of(alloc, matches)
     } else if name == "mount" {
-        Ok(mount_of(matches))
+        mount_of(alloc, matches)
     } else if name == "check" {
         check_of(alloc, matches)
     } else {

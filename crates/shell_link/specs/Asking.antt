@@ -1,5 +1,5 @@
 -- What a command that a shell asks for comes to, by the client's own steps.
-use Rattle.std.specs.Prelude.{◌≡◌, ◌⊎◌, ℕ, Option, Some, None, Result, Bool, true, false}
+use Rattle.std.specs.Prelude.{◌≡◌, ◌⊎◌, ℕ, List, Option, Some, None, Result, Bool, true, false}
 use Rattle.command_text.specs.declared.command.Command.{Command}
 use Rattle.command_text.specs.declared.command.Command.TheVariants as command
 use Rattle.command_text.specs.declared.path.PathCommand.{PathCommand}
@@ -10,6 +10,7 @@ use Rattle.xdr_codec.specs.Status.{status_number}
 use Rattle.xdr_codec.specs.declared.attr.Kind.{Kind}
 use Rattle.xdr_codec.specs.declared.attr.Kind.TheVariants as kind
 use Rattle.client_state.specs.Ending.{cut, joined}
+use Rattle.client_state.specs.Hints.{Learns, Offers}
 use Rattle.client_state.specs.State.{State}
 use Rattle.client_state.specs.declared.step.BadPeer.{BadPeer}
 use Rattle.client_state.specs.declared.step.BadPeer.TheVariants as bad
@@ -104,3 +105,21 @@ pub data Asks (old : State) (c : Command) : Answer → State → Type 0 where
   at_once : (a : Answer) (new : State) → Once old c a new → Asks old c a new
   joined_first : (a : Answer) (new : State) → Once (joined old) c a new → Asks old c a new
   again : (s : State) (b a : Answer) (new : State) → rereads c ≡ true → is_lost b ≡ true → Asks old c b s → Once (joined s) c a new → Asks old c a new
+
+-- ---- hints, which nobody trusts
+
+-- the places of what is kept of a file enter the client's index, or nothing does
+pub data MayLearn (s : State) : State → Type 0 where
+  nothing_learned : (t : State) → t ≡ s → MayLearn s t
+  learned : (file : ℕ) (left_out : Bool) (t : State) → Learns s file left_out t → MayLearn s t
+
+-- bytes are offered to the client, or nothing is
+pub data MayOffer (s : State) (bytes : List ℕ) : State → Type 0 where
+  nothing_offered : (t : State) → t ≡ s → MayOffer s bytes t
+  offered : (left_out : Bool) (t : State) → Offers s bytes left_out t → MayOffer s bytes t
+
+-- a command, and before it what may be learned of the file that was closed last
+pub record AsksHinted (old : State) (c : Command) (a : Answer) (new : State) : Type 0 where
+  pub hinted : State
+  pub hints : MayLearn old hinted
+  pub asks : Asks hinted c a new

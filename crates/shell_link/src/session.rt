@@ -1,15 +1,16 @@
 //! A client on its connection. `specs/Asking.antt` says what a command comes to.
 
-ghost use Rattle.std.specs.Prelude.{◌≡◌, true, false, None};
+ghost use Rattle.std.specs.Prelude.{◌≡◌, ◌≤◌, true, false, None, length};
+ghost use Rattle.limits.specs.declared.TheConstants.{FILE_MOST};
 ghost use Rattle.client_state.specs.State.{State, local_bytes};
 ghost use Rattle.client_state.specs.Ending.{cut, joined};
 ghost use Rattle.command_text.specs.declared.command.Command.{Command};
-ghost use Rattle.shell_link.specs.Asking.{answer_of, told_of, kept, Sends, Runs, Once, Asks, rereads};
+ghost use Rattle.shell_link.specs.Asking.{answer_of, told_of, kept, Sends, Runs, Once, Asks, AsksHinted, MayLearn, MayOffer, rereads};
 
 use crate::outcomes::{again_of, answer_of, is_lost};
 use client_state::step::{ClientStep, Ended, Outcome};
 use command_text::command::Command;
-use lb_base::items::Items;
+use lb_base::items::{Bytes, Items};
 use links::clock::Clock;
 use links::link::Link;
 use open_close::client::Client;
@@ -17,6 +18,7 @@ use record_ends::end::End;
 use record_ends::inbox::Inbox;
 use record_ends::outgoing::put_out;
 use send_list::{SendList, append};
+use shared_bytes::SharedBytes;
 use shell_walks::dials::Dials;
 use shell_walks::remote::{Answer, Remote, Why};
 use std::alloc::{AllocError, Global};
@@ -37,6 +39,8 @@ struct Line<L> {
 pub struct Session<'e, D: Dials, C> {
     client: Client,
     line: Option<Line<D::L>>,
+    /// The file that was closed last, whose places the client's index gets before the next command.
+    stored: Option<u64>,
     dialler: &'e D,
     clock: &'e C,
 }
@@ -202,6 +206,33 @@ where
     Some(Line { link, inbox })
 }
 
+/// The client's index gets the places of what it keeps of a file.
+fn learn(alloc: Global, client: &mut Client, stored: Option<u64>)
+    ensures { MayLearn client.old client.new }
+{
+    if let Some(file) = stored {
+        let _learned = client.learn(alloc, file);
+    }
+}
+
+/// Bytes of the host's are offered to the client.
+fn offer(alloc: Global, client: &mut Client, bytes: Bytes)
+    requires { length bytes ≤ FILE_MOST }
+    ensures { MayOffer client.old bytes client.new }
+{
+    if let Ok(content) = SharedBytes::new(alloc, bytes) {
+        let _offered = client.offer(alloc, content);
+    }
+}
+
+/// The file that a command closes.
+fn closed_by(command: &Command) -> Option<u64> {
+    match command {
+        Command::Close(file) => Some(*file),
+        _ => None,
+    }
+}
+
 impl<'e, D: Dials, C: Clock> Session<'e, D, C>
 where
     D::L: Drop,
@@ -215,6 +246,7 @@ where
         Ok(Session {
             client: Client::new(alloc)?,
             line: None,
+            stored: None,
             dialler,
             clock,
         })
@@ -284,11 +316,15 @@ impl<'e, D: Dials, C: Clock> Remote for Session<'e, D, C>
 where
     D::L: Drop,
 {
-    ghost asks = { λ s c a t. Asks s.client c a t.client };
+    ghost asks = { λ s c a t. AsksHinted s.client c a t.client };
+
+    ghost offers = { λ s bytes t. MayOffer s.client bytes t.client };
 
     ghost content = { λ s file. local_bytes s.client.opened file };
 
     fn ask(&mut self, alloc: Global, command: Command) -> Answer {
+        learn(alloc, &mut self.client, self.stored);
+        self.stored = closed_by(&command);
         let again = again_of(alloc, &command);
         let answer = self.first(alloc, command);
         match again {
@@ -302,5 +338,9 @@ where
             Some(bytes) => bytes,
             None => &[],
         }
+    }
+
+    fn offer(&mut self, alloc: Global, bytes: Bytes) {
+        offer(alloc, &mut self.client, bytes);
     }
 }

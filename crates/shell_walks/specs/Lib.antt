@@ -3,3 +3,4 @@ pub mod Fetching
 pub mod Storing
 pub mod Tasks
 pub mod Telling
+pub mod Visiting

@@ -4,7 +4,8 @@ use Rattle.command_text.specs.declared.command.Command.{Command}
 use Rattle.command_text.specs.declared.command.Command.TheVariants as command
 use Rattle.command_text.specs.declared.content.Part.{Part}
 use Rattle.command_text.specs.declared.content.Part.TheVariants as part
-use Rattle.shell_walks.specs.Asking.{command_on, AsksOn}
+use Rattle.shell_walks.specs.Asking.{command_on, replacing, AsksOn}
+use Rattle.shell_walks.specs.declared.asking.Deed.{Deed}
 use Rattle.shell_walks.specs.declared.asking.Deed.TheVariants as deed
 use Rattle.shell_walks.specs.declared.remote.Answer.{Answer}
 use Rattle.shell_walks.specs.declared.remote.Answer.TheVariants as answer
@@ -51,7 +52,7 @@ StoresIf asks old None bytes opened a new = (new ≡ old) × (a ≡ opened)
 pub record StoresAt {R : Type 0} (asks : R → Command → Answer → R → Type 0) (old : R) (path : List (List ℕ)) (bytes : List ℕ) (a : Answer) (new : R) : Type 0 where
   pub opened : Answer
   pub between : R
-  pub opens : AsksOn asks old (command_on deed.Find path) opened between
+  pub opens : AsksOn asks old (command_on replacing path) opened between
   pub goes_on : StoresIf asks between (opened_file opened) bytes opened a new
 
 -- NFS3ERR_NOENT
@@ -108,9 +109,14 @@ abbrev pub PutsIf : {R : Type 0} → (asks : R → Command → Answer → R → 
 PutsIf asks content old (Some file) path changed bytes opened a new = PutsOpen asks content old file changed bytes a new
 PutsIf asks content old None path changed bytes opened a new = MakesUnless asks old (is_missing opened) path bytes opened a new
 
+-- how it is opened: with its content, where that is to be compared
+abbrev pub opening : (changed_only : Bool) → Deed
+opening true = deed.Find
+opening false = replacing
+
 -- a file is opened, and gets these bytes; where there is none it is made first
 pub record Puts {R : Type 0} (asks : R → Command → Answer → R → Type 0) (content : R → ℕ → List ℕ) (old : R) (path : List (List ℕ)) (changed_only : Bool) (bytes : List ℕ) (a : Answer) (new : R) : Type 0 where
   pub opened : Answer
   pub between : R
-  pub opens : AsksOn asks old (command_on deed.Find path) opened between
+  pub opens : AsksOn asks old (command_on (opening changed_only) path) opened between
   pub goes_on : PutsIf asks content between (opened_file opened) path changed_only bytes opened a new

@@ -64,6 +64,7 @@ fault_text fault.Full = codes "the disk here is full"
 fault_text fault.TooBig = codes "the file is too large"
 fault_text fault.BadName = codes "no file here can have this name"
 fault_text fault.Odd = codes "it is neither a file nor a folder here"
+fault_text fault.Changed = codes "it changed here while it was read"
 fault_text fault.Failed = codes "the system failed here"
 fault_text fault.Memory = codes "no memory is left"
 

@@ -29,6 +29,8 @@ pub enum LocalFault {
     BadName,
     /// It is neither a file nor a folder.
     Odd,
+    /// It changed while it was read.
+    Changed,
     /// The system failed otherwise.
     Failed,
     /// Memory ran out.
@@ -65,7 +67,7 @@ pub trait Folder {
     fn kind(&mut self, path: &str) -> Kind
         ensures { finds self.old path.now result self.new };
 
-    /// The bytes of a file, which has at most `FILE_MOST`.
+    /// The bytes of a file, which has at most `FILE_MOST`, as it was at one moment as far as can be told.
     fn read(&mut self, alloc: Global, path: &str) -> Result<Bytes, LocalFault>
         ensures read { reads self.old path.now result self.new }
         ensures within { IfOk result (λ bytes. length bytes ≤ FILE_MOST) };
@@ -82,4 +84,13 @@ pub trait Folder {
     /// Makes a folder. `Exists` comes where something has the name already.
     fn make_folder(&mut self, path: &str) -> Result<(), LocalFault>
         ensures { makes self.old path.now result self.new };
+}
+
+/// What gives each thread the host's files.
+pub trait Folders {
+    /// The host's files, as one thread has them.
+    type F: Folder;
+
+    /// The host's files for the thread of this number, which no other thread has.
+    fn folder(&self, number: u32) -> Self::F;
 }

@@ -12,6 +12,7 @@ pub mod fetching;
 pub mod folder;
 pub mod remote;
 pub mod removing;
+pub mod screen;
 pub mod shell;
 pub mod storing;
 pub mod tasks;

@@ -1,11 +1,12 @@
 //! What a shell asks of its client: one command after the other, each done before the next.
 
-ghost use Rattle.std.specs.Prelude.{◌≡◌, ℕ, List};
+ghost use Rattle.std.specs.Prelude.{◌≡◌, ℕ, ◌≤◌, List, length};
 ghost use Rattle.command_text.specs.declared.command.Command.{Command};
+ghost use Rattle.limits.specs.declared.TheConstants.{FILE_MOST};
 ghost use Rattle.shell_walks.specs.declared.remote.Answer.{Answer};
 
 use command_text::command::Command;
-use lb_base::items::{Items, Name};
+use lb_base::items::{Bytes, Items, Name};
 use std::alloc::Global;
 
 /// Why a command wasn't done.
@@ -69,6 +70,9 @@ pub trait Remote {
     /// The content of an open file; no bytes where it isn't open.
     ghost content: { Self → ℕ → List ℕ };
 
+    /// What an offer of bytes may leave.
+    ghost offers: { Self → List ℕ → Self → Type 0 };
+
     /// Asks for a command, and waits until it has ended.
     fn ask(&mut self, alloc: Global, command: Command) -> Answer
         ensures { asks self.old command result self.new };
@@ -76,4 +80,10 @@ pub trait Remote {
     /// The content of an open file; no bytes where it isn't open.
     fn content(&self, file: u64) -> &[u8]
         ensures { result.now ≡ content self.now file };
+
+    /// Offers bytes that the host has, so that a fetch doesn't bring those of them again: a hint, which
+    /// nobody trusts.
+    fn offer(&mut self, alloc: Global, bytes: Bytes)
+        requires { length bytes ≤ FILE_MOST }
+        ensures { offers self.old bytes self.new };
 }

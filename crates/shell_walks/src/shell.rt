@@ -1,5 +1,7 @@
 //! A shell: where it stands in the server's tree and in the host's, and what a command makes of that.
 
+ghost use Rattle.std.specs.Prelude.{◌≡◌};
+
 use crate::asking::{Deed, ask_on, ask_rename};
 use crate::fetching::cat;
 use crate::folder::{Folder, Kind, LocalFault};
@@ -232,6 +234,13 @@ impl Shell {
             dir: Items::new(alloc),
             folder,
         }
+    }
+
+    /// The directory of the server in which it stands.
+    pub fn place(&self) -> &[Name]
+        ensures { result.now ≡ self.now.dir }
+    {
+        self.dir.as_slice()
     }
 
     /// The path that a word names.

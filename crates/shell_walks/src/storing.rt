@@ -2,9 +2,9 @@
 
 ghost use Rattle.std.specs.Prelude.{◌≡◌, ◌∷◌, [], IfOk, bytes_eq};
 ghost use Rattle.command_text.specs.declared.content.Part.TheVariants as part;
-ghost use Rattle.shell_walks.specs.Storing.{is_done, is_closed, opened_file, Replaces, Settles, Stores, StoresAt, is_missing, may_store, Makes, StoresChanged, PutsOpen, MakesUnless, Puts};
+ghost use Rattle.shell_walks.specs.Storing.{is_done, is_closed, opened_file, Replaces, Settles, Stores, StoresAt, is_missing, may_store, Makes, StoresChanged, PutsOpen, MakesUnless, opening, Puts};
 
-use crate::asking::{Deed, ask_on};
+use crate::asking::{Deed, ask_on, replacing};
 use crate::remote::{Answer, Remote, Why};
 use command_text::command::Command;
 use command_text::content::{Content, Part};
@@ -100,7 +100,7 @@ fn store_at<R: Remote>(
 ) -> Result<Answer, AllocError>
     ensures { IfOk result (λ answer. StoresAt R.asks remote.old path.now bytes answer remote.new) }
 {
-    let opened = ask_on(alloc, remote, Deed::Find, path)?;
+    let opened = ask_on(alloc, remote, replacing(), path)?;
     match opened_file(&opened) {
         Some(file) => store(alloc, remote, file, bytes),
         None => Ok(opened),
@@ -187,6 +187,17 @@ fn make_unless<R: Remote>(
     }
 }
 
+/// How a file is opened that gets bytes, or only where it hasn't them.
+fn opening(changed_only: bool) -> Deed
+    ensures { result ≡ opening changed_only }
+{
+    if changed_only {
+        Deed::Find
+    } else {
+        replacing()
+    }
+}
+
 /// A file gets these bytes, and is made where there is none.
 pub fn put<R: Remote>(
     alloc: Global,
@@ -197,7 +208,7 @@ pub fn put<R: Remote>(
 ) -> Result<Answer, AllocError>
     ensures { IfOk result (λ answer. Puts R.asks R.content remote.old path.now changed_only bytes answer remote.new) }
 {
-    let opened = ask_on(alloc, remote, Deed::Find, path)?;
+    let opened = ask_on(alloc, remote, opening(changed_only), path)?;
     match opened_file(&opened) {
         Some(file) => put_open(alloc, remote, file, changed_only, bytes),
         None => make_unless(alloc, remote, path, bytes, opened),

@@ -124,6 +124,7 @@ pub fn fault_words(fault: LocalFault) -> &'static [u8]
         LocalFault::TooBig => b"the file is too large",
         LocalFault::BadName => b"no file here can have this name",
         LocalFault::Odd => b"it is neither a file nor a folder here",
+        LocalFault::Changed => b"it changed here while it was read",
         LocalFault::Failed => b"the system failed here",
         LocalFault::Memory => b"no memory is left",
     }

@@ -1,6 +1,12 @@
 //! What a task does, and which tasks come from it. What it asks of the client are the walks of `storing`,
 //! `fetching` and `removing`; which tasks come of a folder, or of a directory, says `tasks`.
 
+ghost use Rattle.std.specs.Prelude.{◌≡◌, ℕ, ◌≤◌, List, [], Bool, length, IfOk, OnOk};
+ghost use Rattle.limits.specs.declared.TheConstants.{FILE_MOST};
+ghost use Rattle.shell_walks.specs.Visiting.{AllCome, Touches, TouchesFor};
+ghost use Rattle.shell_walks.specs.declared.tasks.Storing.{Storing as StoringOf};
+ghost use Rattle.shell_walks.specs.declared.tasks.Task.TheVariants as tasks;
+
 use crate::asking::{Deed, ask_on};
 use crate::fetching::{Got, get};
 use crate::folder::{Folder, Kind, LocalFault};
@@ -9,9 +15,9 @@ use crate::removing::remove_all;
 use crate::storing::{is_closed, is_done, make, put};
 use crate::tasks::{Storing, Task, get_tasks, put_removals, put_tasks};
 use crate::telling::{fault_words, note_line, path_text, put_why, why_of};
-use command_text::path::Path;
 use lb_base::items::{Bytes, Items, Name};
 use shell_words::local::{LocalPath, local_name};
+use shell_words::path::copy_of;
 use shell_words::quoting::quoted;
 use std::alloc::{AllocError, Global};
 
@@ -26,6 +32,8 @@ pub struct Visited {
     pub files: u64,
     /// How many bytes these have.
     pub bytes: u64,
+    /// Whether there is no connection, nor can one be had.
+    pub is_off: bool,
 }
 
 /// NFS3ERR_EXIST, NFS3ERR_ISDIR.
@@ -33,51 +41,52 @@ const EXIST: u32 = 17;
 
 const ISDIR: u32 = 21;
 
-/// Nothing was done.
-fn nothing(alloc: Global) -> Visited {
-    Visited {
-        more: Items::new(alloc),
-        note: Items::new(alloc),
-        files: 0,
-        bytes: 0,
-    }
-}
-
 /// A file of so many bytes was dealt with.
-fn one_file(alloc: Global, bytes: u64) -> Visited {
+fn one_file(alloc: Global, bytes: u64) -> Visited
+    ensures { result.more ≡ [] }
+{
     Visited {
         more: Items::new(alloc),
         note: Items::new(alloc),
         files: 1,
         bytes,
+        is_off: false,
     }
 }
 
 /// These tasks come, and this is said.
-fn leads(alloc: Global, more: Items<Task>, note: Bytes) -> Visited {
-    let _alloc = alloc;
+fn leads(more: Items<Task>, note: Bytes) -> Visited
+    ensures { result.more ≡ more }
+{
     Visited {
         more,
         note,
         files: 0,
         bytes: 0,
+        is_off: false,
     }
 }
 
 /// This is said of a path of the server's.
-fn refused(alloc: Global, path: &[Name], why: Why) -> Result<Visited, AllocError> {
+fn refused(alloc: Global, path: &[Name], why: Why) -> Result<Visited, AllocError>
+    ensures { IfOk result (λ v. v.more ≡ []) }
+{
     let about = path_text(alloc, path)?;
     let mut words = Items::new(alloc);
     put_why(alloc, &mut words, why)?;
     let note = note_line(alloc, about.as_slice(), words.as_slice())?;
-    Ok(leads(alloc, Items::new(alloc), note))
+    let mut visit = leads(Items::new(alloc), note);
+    visit.is_off = matches!(why, Why::NoLink);
+    Ok(visit)
 }
 
 /// This is said of a path of the host's.
-fn faulty(alloc: Global, local: &str, fault: LocalFault) -> Result<Visited, AllocError> {
+fn faulty(alloc: Global, local: &str, fault: LocalFault) -> Result<Visited, AllocError>
+    ensures { IfOk result (λ v. v.more ≡ []) }
+{
     let about = quoted(alloc, local.as_bytes())?;
     let note = note_line(alloc, about.as_slice(), fault_words(fault))?;
-    Ok(leads(alloc, Items::new(alloc), note))
+    Ok(leads(Items::new(alloc), note))
 }
 
 /// What is said of the names that this host can't have, a line for each.
@@ -109,6 +118,26 @@ fn is_status(answer: &Answer, status: u32) -> bool {
     }
 }
 
+/// A copy of bytes of the host's is offered, where there is memory for one.
+fn offer_copy<R: Remote>(alloc: Global, remote: &mut R, bytes: &[u8])
+    requires { length bytes.now ≤ FILE_MOST }
+{
+    if let Ok(copy) = Items::copy_of(alloc, bytes) {
+        remote.offer(alloc, copy);
+    }
+}
+
+/// The file that a fetch is to replace is offered, where there is one.
+fn offer_local<R: Remote, F: Folder>(alloc: Global, remote: &mut R, folder: &mut F, local: &str)
+    ensures { Touches F.finds F.reads F.writes F.lists F.makes local.now folder.old folder.new }
+{
+    if matches!(folder.kind(local), Kind::File) {
+        if let Ok(bytes) = folder.read(alloc, local) {
+            remote.offer(alloc, bytes);
+        }
+    }
+}
+
 /// Bytes go to a path.
 fn put_bytes<R: Remote>(
     alloc: Global,
@@ -116,37 +145,63 @@ fn put_bytes<R: Remote>(
     path: &[Name],
     storing: Storing,
     bytes: Bytes,
-) -> Result<Answer, AllocError> {
+) -> Result<Answer, AllocError>
+    requires { length bytes ≤ FILE_MOST }
+{
     if storing.fresh {
-        make(alloc, remote, path, bytes)
-    } else {
-        put(alloc, remote, path, storing.changed_only, bytes)
+        return make(alloc, remote, path, bytes);
     }
+    offer_copy(alloc, remote, bytes.as_slice());
+    put(alloc, remote, path, storing.changed_only, bytes)
 }
 
 /// Where a directory stands and may go, it goes, and the task comes again.
 fn put_over<R: Remote>(
     alloc: Global,
     remote: &mut R,
-    local: LocalPath,
-    path: Path,
+    local: &str,
+    path: &[Name],
     storing: Storing,
-) -> Result<Visited, AllocError> {
-    let mut visit = nothing(alloc);
-    visit.note = remove_all(alloc, remote, path.as_slice())?;
-    if visit.note.is_empty() {
-        let storing = Storing {
-            deletes: false,
-            fresh: true,
-            ..storing
-        };
-        visit.more.push(Task::Put {
-            local,
-            path,
-            storing,
+) -> Result<Visited, AllocError>
+    ensures { IfOk result (λ v. AllCome (tasks.Put local.now path.now storing) v.more) }
+{
+    let note = remove_all(alloc, remote, path)?;
+    let mut more = Items::new(alloc);
+    if note.is_empty() {
+        more.push(Task::Put {
+            local: LocalPath::copy_of(alloc, local)?,
+            path: copy_of(alloc, path)?,
+            storing: Storing {
+                deletes: false,
+                fresh: true,
+                ..storing
+            },
         })?;
     }
-    Ok(visit)
+    Ok(leads(more, note))
+}
+
+/// What was read of a file of the host is stored.
+fn put_read<R: Remote>(
+    alloc: Global,
+    remote: &mut R,
+    local: &str,
+    path: &[Name],
+    storing: Storing,
+    bytes: Bytes,
+) -> Result<Visited, AllocError>
+    requires { length bytes ≤ FILE_MOST }
+    ensures { IfOk result (λ v. AllCome (tasks.Put local.now path.now storing) v.more) }
+{
+    let len = bytes.len() as u64;
+    let answer = put_bytes(alloc, remote, path, storing, bytes)?;
+    if is_closed(&answer) || is_done(&answer) {
+        Ok(one_file(alloc, len))
+    } else if storing.deletes && is_status(&answer, ISDIR) {
+        put_over(alloc, remote, local, path, storing)
+    } else {
+        refused(alloc, path, why_of(&answer))
+    }
 }
 
 /// A file of the host is stored.
@@ -154,22 +209,16 @@ fn put_file<R: Remote, F: Folder>(
     alloc: Global,
     remote: &mut R,
     folder: &mut F,
-    local: LocalPath,
-    path: Path,
+    local: &str,
+    path: &[Name],
     storing: Storing,
-) -> Result<Visited, AllocError> {
-    let bytes = match folder.read(alloc, local.as_str()) {
-        Ok(bytes) => bytes,
-        Err(fault) => return faulty(alloc, local.as_str(), fault),
-    };
-    let len = bytes.len() as u64;
-    let answer = put_bytes(alloc, remote, path.as_slice(), storing, bytes)?;
-    if is_closed(&answer) || is_done(&answer) {
-        Ok(one_file(alloc, len))
-    } else if storing.deletes && is_status(&answer, ISDIR) {
-        put_over(alloc, remote, local, path, storing)
-    } else {
-        refused(alloc, path.as_slice(), why_of(&answer))
+) -> Result<Visited, AllocError>
+    ensures come { IfOk result (λ v. AllCome (tasks.Put local.now path.now storing) v.more) }
+    ensures touches { Touches F.finds F.reads F.writes F.lists F.makes local.now folder.old folder.new }
+{
+    match folder.read(alloc, local) {
+        Ok(bytes) => put_read(alloc, remote, local, path, storing, bytes),
+        Err(fault) => faulty(alloc, local, fault),
     }
 }
 
@@ -230,21 +279,94 @@ fn make_place_over<R: Remote>(
     }
 }
 
-/// The tasks that remove what the folder hasn't.
+/// The tasks that remove what the folder hasn't come behind those that there are.
+fn with_removals(
+    alloc: Global,
+    visit: Visited,
+    path: &[Name],
+    held: &[Name],
+    names: &[Name],
+) -> Result<Visited, AllocError>
+    ensures { (local : List ℕ) (s : StoringOf) → AllCome (tasks.Put local path.now s) visit.more → IfOk result (λ v. AllCome (tasks.Put local path.now s) v.more) }
+{
+    let mut visit = visit;
+    put_removals(alloc, &mut visit.more, path, held, names)?;
+    Ok(visit)
+}
+
+/// This is said beside what was.
+fn with_note(visit: Visited, note: &[u8]) -> Result<Visited, AllocError>
+    ensures { IfOk result (λ v. v.more ≡ visit.more) }
+{
+    let mut visit = visit;
+    visit.note.extend_from_slice(note)?;
+    Ok(visit)
+}
+
+/// The same, where the directory can be listed.
 fn put_missing<R: Remote>(
     alloc: Global,
     remote: &mut R,
     path: &[Name],
     held: &[Name],
-    visit: &mut Visited,
-) -> Result<(), AllocError> {
+    visit: Visited,
+) -> Result<Visited, AllocError>
+    ensures { (local : List ℕ) (s : StoringOf) → AllCome (tasks.Put local path.now s) visit.more → IfOk result (λ v. AllCome (tasks.Put local path.now s) v.more) }
+{
     match ask_on(alloc, remote, Deed::List, path)? {
-        Answer::Names(names) => put_removals(alloc, &mut visit.more, path, held, names.as_slice()),
+        Answer::Names(names) => with_removals(alloc, visit, path, held, names.as_slice()),
         answer => {
             let said = refused(alloc, path, why_of(&answer))?;
-            visit.note.extend_from_slice(said.note.as_slice())
+            with_note(visit, said.note.as_slice())
         }
     }
+}
+
+/// What is in a folder of the host, whose directory is there, is to be stored.
+fn put_names<R: Remote>(
+    alloc: Global,
+    remote: &mut R,
+    local: &str,
+    path: &[Name],
+    storing: Storing,
+    names: &[Name],
+) -> Result<Visited, AllocError>
+    ensures { (s : StoringOf) → IfOk result (λ v. AllCome (tasks.Put local.now path.now s) v.more) }
+{
+    let more = put_tasks(alloc, local, path, storing, names)?;
+    let note = bad_names(alloc, names)?;
+    let visit = leads(more, note);
+    if storing.deletes && !storing.fresh {
+        put_missing(alloc, remote, path, names, visit)
+    } else {
+        Ok(visit)
+    }
+}
+
+/// The directory of a folder is made, and then what is in it is to be stored.
+fn put_listed<R: Remote>(
+    alloc: Global,
+    remote: &mut R,
+    local: &str,
+    path: &[Name],
+    storing: Storing,
+    names: &[Name],
+) -> Result<Visited, AllocError>
+    ensures { IfOk result (λ v. AllCome (tasks.Put local.now path.now storing) v.more) }
+{
+    let fresh = match make_place_over(alloc, remote, path, storing.deletes)? {
+        Place::New => true,
+        Place::There => false,
+        Place::None(why) => return refused(alloc, path, why),
+    };
+    put_names(
+        alloc,
+        remote,
+        local,
+        path,
+        Storing { fresh, ..storing },
+        names,
+    )
 }
 
 /// A folder of the host is stored: its directory first, then what is in it.
@@ -255,27 +377,17 @@ fn put_folder<R: Remote, F: Folder>(
     local: &str,
     path: &[Name],
     storing: Storing,
-) -> Result<Visited, AllocError> {
+) -> Result<Visited, AllocError>
+    ensures come { IfOk result (λ v. AllCome (tasks.Put local.now path.now storing) v.more) }
+    ensures touches { Touches F.finds F.reads F.writes F.lists F.makes local.now folder.old folder.new }
+{
     if !storing.deep {
         return faulty(alloc, local, LocalFault::IsFolder);
     }
-    let names = match folder.names(alloc, local) {
-        Ok(names) => names,
-        Err(fault) => return faulty(alloc, local, fault),
-    };
-    let fresh = match make_place_over(alloc, remote, path, storing.deletes)? {
-        Place::New => true,
-        Place::There => false,
-        Place::None(why) => return refused(alloc, path, why),
-    };
-    let storing = Storing { fresh, ..storing };
-    let more = put_tasks(alloc, local, path, storing, names.as_slice())?;
-    let note = bad_names(alloc, names.as_slice())?;
-    let mut visit = leads(alloc, more, note);
-    if storing.deletes && !fresh {
-        put_missing(alloc, remote, path, names.as_slice(), &mut visit)?;
+    match folder.names(alloc, local) {
+        Ok(names) => put_listed(alloc, remote, local, path, storing, names.as_slice()),
+        Err(fault) => faulty(alloc, local, fault),
     }
-    Ok(visit)
 }
 
 /// Something of the host's is stored.
@@ -283,33 +395,62 @@ fn visit_put<R: Remote, F: Folder>(
     alloc: Global,
     remote: &mut R,
     folder: &mut F,
-    local: LocalPath,
-    path: Path,
+    local: &str,
+    path: &[Name],
     storing: Storing,
-) -> Result<Visited, AllocError> {
-    match folder.kind(local.as_str()) {
+) -> Result<Visited, AllocError>
+    ensures come { IfOk result (λ v. AllCome (tasks.Put local.now path.now storing) v.more) }
+    ensures touches { Touches F.finds F.reads F.writes F.lists F.makes local.now folder.old folder.new }
+{
+    match folder.kind(local) {
         Kind::File => put_file(alloc, remote, folder, local, path, storing),
-        Kind::Folder => put_folder(
-            alloc,
-            remote,
-            folder,
-            local.as_str(),
-            path.as_slice(),
-            storing,
-        ),
-        Kind::Missing => faulty(alloc, local.as_str(), LocalFault::Missing),
-        Kind::Other => faulty(alloc, local.as_str(), LocalFault::Odd),
+        Kind::Folder => put_folder(alloc, remote, folder, local, path, storing),
+        Kind::Missing => faulty(alloc, local, LocalFault::Missing),
+        Kind::Other => faulty(alloc, local, LocalFault::Odd),
     }
 }
 
 /// A folder is there for a directory, or why there is none.
-fn make_local<F: Folder>(folder: &mut F, local: &str) -> Result<(), LocalFault> {
+fn make_local<F: Folder>(folder: &mut F, local: &str) -> Result<(), LocalFault>
+    ensures { Touches F.finds F.reads F.writes F.lists F.makes local.now folder.old folder.new }
+{
     match folder.make_folder(local) {
         Err(LocalFault::Exists) => match folder.kind(local) {
             Kind::Folder => Ok(()),
             _ => Err(LocalFault::NotFolder),
         },
         made => made,
+    }
+}
+
+/// What is in a directory, whose folder is there, is to be fetched.
+fn get_names(
+    alloc: Global,
+    path: &[Name],
+    local: &str,
+    names: &[Name],
+) -> Result<Visited, AllocError>
+    ensures { (deep : Bool) → IfOk result (λ v. AllCome (tasks.Get path.now local.now deep) v.more) }
+{
+    let more = get_tasks(alloc, path, local, names)?;
+    let note = bad_names(alloc, names)?;
+    Ok(leads(more, note))
+}
+
+/// A directory is fetched that has these names: its folder first, then what is in it.
+fn get_listed<F: Folder>(
+    alloc: Global,
+    folder: &mut F,
+    path: &[Name],
+    local: &str,
+    names: &[Name],
+) -> Result<Visited, AllocError>
+    ensures come { (deep : Bool) → IfOk result (λ v. AllCome (tasks.Get path.now local.now deep) v.more) }
+    ensures touches { Touches F.finds F.reads F.writes F.lists F.makes local.now folder.old folder.new }
+{
+    match make_local(folder, local) {
+        Ok(()) => get_names(alloc, path, local, names),
+        Err(fault) => faulty(alloc, local, fault),
     }
 }
 
@@ -320,18 +461,53 @@ fn get_directory<R: Remote, F: Folder>(
     folder: &mut F,
     path: &[Name],
     local: &str,
-) -> Result<Visited, AllocError> {
+) -> Result<Visited, AllocError>
+    ensures come { (deep : Bool) → IfOk result (λ v. AllCome (tasks.Get path.now local.now deep) v.more) }
+    ensures touches { Touches F.finds F.reads F.writes F.lists F.makes local.now folder.old folder.new }
+{
     match ask_on(alloc, remote, Deed::List, path)? {
-        Answer::Names(names) => match make_local(folder, local) {
-            Ok(()) => {
-                let more = get_tasks(alloc, path, local, names.as_slice())?;
-                let note = bad_names(alloc, names.as_slice())?;
-                Ok(leads(alloc, more, note))
-            }
-            Err(fault) => faulty(alloc, local, fault),
-        },
+        Answer::Names(names) => get_listed(alloc, folder, path, local, names.as_slice()),
         answer => refused(alloc, path, why_of(&answer)),
     }
+}
+
+/// What the fetching of a file came to, or the directory that it is.
+fn settle_get<R: Remote, F: Folder>(
+    alloc: Global,
+    remote: &mut R,
+    folder: &mut F,
+    path: &[Name],
+    local: &str,
+    deep: bool,
+    got: Got,
+) -> Result<Visited, AllocError>
+    ensures come { IfOk result (λ v. AllCome (tasks.Get path.now local.now deep) v.more) }
+    ensures touches { Touches F.finds F.reads F.writes F.lists F.makes local.now folder.old folder.new }
+{
+    match got {
+        Got::Fine(bytes) => Ok(one_file(alloc, bytes)),
+        Got::Refused(Why::Refused(ISDIR)) if deep => {
+            get_directory(alloc, remote, folder, path, local)
+        }
+        Got::Refused(why) => refused(alloc, path, why),
+        Got::Fault(fault) => faulty(alloc, local, fault),
+    }
+}
+
+/// A file is fetched, or the directory that it is.
+fn get_file<R: Remote, F: Folder>(
+    alloc: Global,
+    remote: &mut R,
+    folder: &mut F,
+    path: &[Name],
+    local: &str,
+    deep: bool,
+) -> Result<Visited, AllocError>
+    ensures come { IfOk result (λ v. AllCome (tasks.Get path.now local.now deep) v.more) }
+    ensures touches { OnOk result (Touches F.finds F.reads F.writes F.lists F.makes local.now folder.old folder.new) }
+{
+    let got = get(alloc, remote, folder, path, local)?;
+    settle_get(alloc, remote, folder, path, local, deep, got)
 }
 
 /// Something is fetched.
@@ -342,33 +518,53 @@ fn visit_get<R: Remote, F: Folder>(
     path: &[Name],
     local: &str,
     deep: bool,
-) -> Result<Visited, AllocError> {
+) -> Result<Visited, AllocError>
+    ensures come { IfOk result (λ v. AllCome (tasks.Get path.now local.now deep) v.more) }
+    ensures touches { OnOk result (Touches F.finds F.reads F.writes F.lists F.makes local.now folder.old folder.new) }
+{
     if deep && path.is_empty() {
         return get_directory(alloc, remote, folder, path, local);
     }
-    match get(alloc, remote, folder, path, local)? {
-        Got::Fine(bytes) => Ok(one_file(alloc, bytes)),
-        Got::Refused(Why::Refused(ISDIR)) if deep => {
-            get_directory(alloc, remote, folder, path, local)
-        }
-        Got::Refused(why) => refused(alloc, path, why),
-        Got::Fault(fault) => faulty(alloc, local, fault),
-    }
+    offer_local(alloc, remote, folder, local);
+    get_file(alloc, remote, folder, path, local, deep)
 }
 
-/// Does a task. What isn't done is said, and the others go on.
+/// What has a path goes, with all that is in it.
+fn visit_removal<R: Remote>(
+    alloc: Global,
+    remote: &mut R,
+    path: &[Name],
+) -> Result<Visited, AllocError>
+    ensures { IfOk result (λ v. v.more ≡ []) }
+{
+    let note = remove_all(alloc, remote, path)?;
+    Ok(leads(Items::new(alloc), note))
+}
+
+/// Does a task. What isn't done is said, and the others go on. Of the host's files it touches the path of the
+/// task alone; and the tasks that come of it are about names in that folder, each of which this host can have.
 pub fn visit<R: Remote, F: Folder>(
     alloc: Global,
     remote: &mut R,
     folder: &mut F,
     task: Task,
-) -> Result<Visited, AllocError> {
+) -> Result<Visited, AllocError>
+    ensures come { IfOk result (λ v. AllCome task v.more) }
+    ensures touches { OnOk result (TouchesFor F.finds F.reads F.writes F.lists F.makes task folder.old folder.new) }
+{
     match task {
         Task::Put {
             local,
             path,
             storing,
-        } => visit_put(alloc, remote, folder, local, path, storing),
+        } => visit_put(
+            alloc,
+            remote,
+            folder,
+            local.as_str(),
+            path.as_slice(),
+            storing,
+        ),
         Task::Get { path, local, deep } => visit_get(
             alloc,
             remote,
@@ -377,9 +573,6 @@ pub fn visit<R: Remote, F: Folder>(
             local.as_str(),
             deep,
         ),
-        Task::Remove(path) => {
-            let note = remove_all(alloc, remote, path.as_slice())?;
-            Ok(leads(alloc, Items::new(alloc), note))
-        }
+        Task::Remove(path) => visit_removal(alloc, remote, path.as_slice()),
     }
 }

@@ -6,8 +6,8 @@ ghost use Rattle.program_words.specs.Words.{IsFew, command_in};
 use crate::trial::split;
 use limits::SESSIONS_EVER_MOST;
 use program_words::asked::{
-    Asked, CheckOptions, Command, InputCommand, MountOptions, PORT_MOST, ServeOptions, StorePath,
-    View,
+    Asked, CheckOptions, Command, InputCommand, KEEP, MountOptions, PORT_MOST, ServeOptions,
+    StorePath, View,
 };
 use row_text::out::Out;
 use row_text::text::number;
@@ -59,6 +59,34 @@ fn check_of(alloc: Global, words: &str, out: &mut Out) -> Option<Asked>
     }
 }
 
+/// The cache file of `mount`, where there is one.
+fn cache_of(alloc: Global, words: &str, out: &mut Out) -> Option<StorePath> {
+    let name = behind(words, "--cache");
+    if name.is_empty() {
+        return None;
+    }
+    match StorePath::copy_of(alloc, name) {
+        Ok(path) => Some(path),
+        Err(_) => {
+            out.lack();
+            None
+        }
+    }
+}
+
+/// The options of `mount`.
+fn mount_of(alloc: Global, words: &str, port: u16, out: &mut Out) -> Option<Asked>
+    ensures { IsFew (command_in result) }
+{
+    let drift = number(behind(words, "--drift"));
+    Some(Asked::Mount(MountOptions {
+        port,
+        drift,
+        cache: cache_of(alloc, words, out),
+        keep: KEEP,
+    }))
+}
+
 /// What a row's words ask for; nothing where they are no command.
 pub fn asked_of(alloc: Global, words: &str, out: &mut Out) -> Option<Asked>
     ensures { IsFew (command_in result) }
@@ -71,10 +99,7 @@ pub fn asked_of(alloc: Global, words: &str, out: &mut Out) -> Option<Asked>
         "show" => Some(Asked::Command(Command::OfInput(InputCommand::Show))),
         "serve" => serve_of(alloc, options, port, out),
         "check" => check_of(alloc, options, out),
-        "mount" => {
-            let drift = number(behind(options, "--drift"));
-            Some(Asked::Mount(MountOptions { port, drift }))
-        }
+        "mount" => mount_of(alloc, options, port, out),
         _ => None,
     }
 }

@@ -7,7 +7,8 @@ use Rattle.program_words.specs.Rows.{replay_alone}
 use Rattle.program_words.specs.Words.{asked_of, command_in, command_of, is_alone}
 use Rattle.lbfs_run.specs.Ends.{takes_input}
 use Rattle.lbfs_run.specs.Words.{words_as_bytes}
-use Rattle.lbfs_run.proofs.Asking.{answered_by, taken_by, broken_by, broken_off_by, starved_by, starved_off_by, nothing, nothing_written}
+use Rattle.std.specs.Prelude.{is_some}
+use Rattle.lbfs_run.proofs.Asking.{answered_by, taken_by, broken_by, broken_off_by, starved_by, starved_off_by, nothing, none_written}
 use Rattle.lbfs_run.proofs.run.run.Goals as goal
 
 pub returns-in-Ok-clause-headline : goal.returns-in-Ok-clause-headline
@@ -135,7 +136,7 @@ returns-in-Err-clause-serves g c =
 
 pub returns-in-Err-clause-mounts : goal.returns-in-Err-clause-mounts
 returns-in-Err-clause-mounts g c =
-    λ o e. (Err mount_errors.Memory, (g.K.Sink.held c.args.out.sink), g.K.Sink.faults c.args.out.sink, nothing_written (g.K.Sink.held c.args.out.sink), inl (refl, nothing (g.K.Sink.held c.args.out.sink)))
+    λ o e. (Err mount_errors.Memory, (g.K.Sink.held c.args.out.sink), g.K.Sink.faults c.args.out.sink, none_written (is_some o.cache) (g.K.Sink.held c.args.out.sink), inl (refl, nothing (g.K.Sink.held c.args.out.sink)))
 
 pub returns-in-Ok-clause-checks : goal.returns-in-Ok-clause-checks
 returns-in-Ok-clause-checks g c =

@@ -1,0 +1,15 @@
+-- What the tasks of a command came to.
+use Rattle.std.specs.Prelude.{ℕ, ◌+◌, ◌-◌, ◌^◌, ◌&&◌, ◌==◌, min, length, true}
+use Rattle.shell_walks.specs.declared.visiting.Visited.{Visited}
+use Rattle.lbfs_shell.specs.declared.tally.Tally.{Tally}
+
+abbrev pub nothing_yet : Tally
+nothing_yet = record { files = 0; bytes = 0; is_fine = true }
+
+-- numbers of 64 bits stand still at their end
+abbrev pub capped_sum : ℕ → ℕ → ℕ
+capped_sum a b = min (a + b) (2 ^ 64 - 1)
+
+-- a task that has something to say of what it didn't do spoils it
+abbrev pub with_visit : Tally → Visited → Tally
+with_visit t v = record { files = capped_sum t.files v.files; bytes = capped_sum t.bytes v.bytes; is_fine = t.is_fine && (length v.note == 0) }

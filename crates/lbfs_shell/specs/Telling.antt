@@ -1,0 +1,70 @@
+-- The lines that say how far a command is, and what it came to.
+use Rattle.std.specs.Prelude.{ℕ, ◌+◌, ◌-◌, ◌*◌, ◌^◌, ◌/◌, ◌%◌, ◌==◌, ◌&&◌, List, [], ◌∷◌, ◌++◌, min, nat_lt, codes, decimal, if◌then◌else◌}
+use Rattle.shell_walks.specs.Telling.{path_text}
+use Rattle.lbfs_shell.specs.declared.tally.Tally.{Tally}
+use Rattle.lbfs_shell.specs.declared.telling.Glance.{Glance}
+use Rattle.lbfs_shell.specs.Tally.{capped_sum}
+
+-- one of something, or so many of them
+abbrev pub count_text : ℕ → List ℕ → List ℕ
+count_text n what =
+    if n == 1 then codes "1 " ++ what
+    else decimal n ++ codes " " ++ what ++ codes "s"
+
+abbrev pub big_text : ℕ → List ℕ
+big_text tenths = decimal (tenths / 10) ++ codes "." ++ decimal (tenths % 10) ++ codes " MB"
+
+abbrev pub middle_text : ℕ → List ℕ
+middle_text n = decimal (n / 100) ++ codes "." ++ decimal (n / 10 % 10) ++ decimal (n % 10) ++ codes " MB"
+
+-- bytes, and in millions where they are many, with what is left out below the last digit cut off
+abbrev pub size_text : ℕ → List ℕ
+size_text n =
+    if nat_lt n 10000 then count_text n (codes "byte")
+    else if nat_lt n 10000000 then middle_text (n / 10000)
+    else big_text (n / 100000)
+
+abbrev pub end_line : Tally → (wire : ℕ) → List ℕ
+end_line t wire = count_text t.files (codes "file") ++ codes ", " ++ size_text t.bytes ++ codes "; " ++ size_text wire ++ codes " on the line\n"
+
+-- ---- how far a command is
+
+abbrev pub capped_product : ℕ → ℕ → ℕ
+capped_product a b = min (a * b) (2 ^ 64 - 1)
+
+abbrev pub rate_of : (wire spent : ℕ) → ℕ
+rate_of wire spent = if spent == 0 then 0 else capped_product (wire / spent) 1000
+
+abbrev pub rate_text : (wire spent : ℕ) → List ℕ
+rate_text wire spent = size_text (rate_of wire spent) ++ codes "/s"
+
+abbrev pub left_of : (done left spent : ℕ) → ℕ
+left_of done left spent = if done == 0 then 0 else capped_product (spent / 1000) left / done
+
+abbrev pub left_text : (done left spent : ℕ) → List ℕ
+left_text done left spent =
+    if nat_lt 0 done && nat_lt 0 left then codes ", " ++ decimal (left_of done left spent) ++ codes " s left"
+    else []
+
+abbrev pub files_text : (done left : ℕ) → List ℕ
+files_text done left = decimal done ++ codes " of " ++ count_text (capped_sum done left) (codes "file")
+
+abbrev pub line_part : (wire spent : ℕ) → List ℕ
+line_part wire spent = size_text wire ++ codes " on the line, " ++ rate_text wire spent
+
+-- in the place of the line that stands there, and with nothing behind it
+abbrev pub progress_line : Glance → List ℕ
+progress_line g =
+    codes "\r" ++ files_text g.tally.files g.left ++ codes ", " ++ size_text g.tally.bytes ++ codes "; " ++ line_part g.wire g.spent
+    ++ left_text g.tally.files g.left g.spent ++ (27 ∷ 91 ∷ 75 ∷ [])
+
+-- ---- what is said beside it
+
+abbrev pub left_out_text : ℕ → List ℕ
+left_out_text n = codes "not begun: " ++ decimal n ++ codes " more\n"
+
+abbrev pub prompt_text : List (List ℕ) → List ℕ
+prompt_text place = codes "lbfs:" ++ path_text place ++ codes "> "
+
+abbrev pub line_text : ℕ → List ℕ
+line_text n = codes "line " ++ decimal n

@@ -1,0 +1,229 @@
+//! The threads of a command: each has a client with a connection of its own, and they share the tasks. One
+//! begins alone, and the others come once there are several to do.
+
+ghost use Rattle.std.specs.Thread.{IsSend};
+
+use crate::outside::Outside;
+use crate::pool::Pool;
+use crate::tally::Tally;
+use crate::watching::watch;
+use links::clock::Clock;
+use links::rest::Rest;
+use shell_link::session::Session;
+use shell_walks::dials::Dials;
+use shell_walks::folder::{Folder, Folders};
+use shell_walks::remote::Remote;
+use shell_walks::screen::Screen;
+use shell_walks::tasks::Task;
+use shell_walks::visiting::visit;
+use std::alloc::{AllocError, Global};
+use std::sync::Wait;
+use std::thread;
+use std::thread::{Scope, Threads};
+
+/// How a command is done.
+#[derive(Clone, Copy)]
+pub(crate) struct Manner {
+    /// How many connections there may be.
+    pub(crate) links: u32,
+    /// Whether how far it is is shown.
+    pub(crate) shows: bool,
+}
+
+/// Does a task, and settles it.
+fn do_one<W: Wait, P: Screen, R: Remote, F: Folder>(
+    rt: &W,
+    alloc: Global,
+    pool: &Pool,
+    screen: &P,
+    remote: &mut R,
+    folder: &mut F,
+    task: Task,
+) {
+    match visit(alloc, remote, folder, task) {
+        Ok(visited) => pool.settle(rt, alloc, screen, visited),
+        Err(AllocError) => pool.starve(rt),
+    }
+}
+
+/// Does the tasks as long as there is one alone.
+fn begin<W: Wait, P: Screen, R: Remote, F: Folder>(
+    rt: &W,
+    alloc: Global,
+    pool: &Pool,
+    screen: &P,
+    remote: &mut R,
+    folder: &mut F,
+) {
+    for _turn in rt.forever() {
+        match pool.take_alone(rt) {
+            Some(task) => do_one(rt, alloc, pool, screen, remote, folder, task),
+            None => return,
+        }
+    }
+}
+
+/// Does tasks until all are done.
+fn work<W: Wait, P: Screen, R: Remote, F: Folder>(
+    rt: &W,
+    alloc: Global,
+    pool: &Pool,
+    screen: &P,
+    remote: &mut R,
+    folder: &mut F,
+) {
+    for _turn in rt.forever() {
+        match pool.take(rt) {
+            Some(task) => do_one(rt, alloc, pool, screen, remote, folder, task),
+            None => return,
+        }
+    }
+}
+
+/// Does tasks on a connection of its own.
+fn help_out<W: Wait, P: Screen, H: Folders, D: Dials, C: Clock, T>(
+    rt: &W,
+    alloc: Global,
+    pool: &Pool,
+    out: &Outside<P, H, D, C, T>,
+    number: u32,
+)
+where
+    D::L: Drop + Send,
+    H::F: Drop + Send,
+{
+    if let Ok(mut session) = Session::new(alloc, &out.dialler, &out.clock) {
+        let mut folder = out.folders.folder(number);
+        work(rt, alloc, pool, &out.screen, &mut session, &mut folder);
+    }
+}
+
+/// Has further threads do tasks, as many as there may be. Where one can't be had there are fewer.
+fn call_others<
+    's,
+    'e,
+    W: Threads + Wait + Sync,
+    P: Screen + Sync,
+    H: Folders + Sync,
+    D: Dials + Sync,
+    C: Clock + Sync,
+    T: Sync,
+>(
+    scope: &'s Scope<'s, &'e ()>,
+    rt: &'e W,
+    alloc: Global,
+    pool: &'e Pool,
+    out: &'e Outside<P, H, D, C, T>,
+    links: u32,
+)
+where
+    D::L: Drop + Send,
+    H::F: Drop + Send,
+{
+    for number in 1..links {
+        let help = move || help_out(rt, alloc, pool, out, number);
+        if scope.spawn(help).is_err() {
+            return;
+        }
+    }
+}
+
+/// Has a thread show how far it is, where that is to be shown. Where none can be had it isn't.
+fn call_watcher<
+    's,
+    'e,
+    W: Threads + Wait + Sync,
+    P: Screen + Sync,
+    H: Folders + Sync,
+    D: Dials + Sync,
+    C: Clock + Sync,
+    T: Rest + Sync,
+>(
+    scope: &'s Scope<'s, &'e ()>,
+    rt: &'e W,
+    alloc: Global,
+    pool: &'e Pool,
+    out: &'e Outside<P, H, D, C, T>,
+    manner: Manner,
+)
+where
+    D::L: Drop + Send,
+    H::F: Drop + Send,
+{
+    if !manner.shows {
+        return;
+    }
+    let show = move || watch(rt, alloc, pool, out);
+    let _watcher = scope.spawn(show);
+}
+
+/// Does all tasks, and shows meanwhile how far it is.
+fn run_crew<
+    'x,
+    W: Threads + Wait + Sync,
+    P: Screen + Sync,
+    H: Folders + Sync,
+    D: Dials + Sync,
+    C: Clock + Sync,
+    T: Rest + Sync,
+    R: Remote,
+    F: Folder,
+>(
+    rt: &'x W,
+    alloc: Global,
+    pool: &'x Pool,
+    out: &'x Outside<P, H, D, C, T>,
+    manner: Manner,
+    remote: &mut R,
+    folder: &mut F,
+)
+where
+    D::L: Drop + Send,
+    H::F: Drop + Send,
+{
+    thread::scope(
+        thread::scope_env(),
+        rt,
+        move |scope|
+            requires { IsSend D.L.row × IsSend H.F.row }
+        {
+            call_watcher(scope, rt, alloc, pool, out, manner);
+            begin(rt, alloc, pool, &out.screen, remote, folder);
+            if pool.goes_on(rt) {
+                call_others(scope, rt, alloc, pool, out, manner.links);
+                work(rt, alloc, pool, &out.screen, remote, folder);
+            }
+            pool.end(rt, &out.screen);
+        },
+    );
+}
+
+/// Does a task with all that come of it; none where memory ran out. What wasn't done is said as it happens.
+pub(crate) fn run_task<
+    W: Threads + Wait + Sync,
+    P: Screen + Sync,
+    H: Folders + Sync,
+    D: Dials + Sync,
+    C: Clock + Sync,
+    T: Rest + Sync,
+    R: Remote,
+    F: Folder,
+>(
+    rt: &W,
+    alloc: Global,
+    out: &Outside<P, H, D, C, T>,
+    manner: Manner,
+    remote: &mut R,
+    folder: &mut F,
+    task: Task,
+) -> Option<Tally>
+where
+    D::L: Drop + Send,
+    H::F: Drop + Send,
+{
+    let Ok(pool) = Pool::new(alloc, task) else {
+        return None;
+    };
+    run_crew(rt, alloc, &pool, out, manner, remote, folder);
+    pool.into_tally()
+}

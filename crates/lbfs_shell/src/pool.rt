@@ -1,0 +1,219 @@
+//! The tasks of a command, which its threads share: what is to do, what came of it so far, and the line that
+//! says so. No clause speaks of what is behind the lock, since another thread's turn may stand before and
+//! behind each.
+
+use crate::tally::Tally;
+use crate::telling::{Glance, left_out_text, progress_line};
+use lb_base::items::Items;
+use shell_walks::screen::Screen;
+use shell_walks::tasks::Task;
+use shell_walks::visiting::Visited;
+use std::alloc::{AllocError, Global};
+use std::sync::{Condvar, Mutex, Wait};
+
+/// The tasks of a command.
+#[derive(Drop)]
+struct Jobs {
+    /// Those that are to do, the next one last.
+    tasks: Vec<Task>,
+    /// How many are being done.
+    busy: u64,
+    tally: Tally,
+    /// Whether memory ran out.
+    is_starved: bool,
+    /// Whether a line stands on the screen that says how far it is.
+    is_shown: bool,
+    /// Whether all is done.
+    is_over: bool,
+}
+
+/// The tasks of a command, and by what a thread is woken that waits for one.
+pub(crate) struct Pool {
+    jobs: Mutex<Jobs>,
+    /// Tasks came, or one was done.
+    news: Condvar,
+}
+
+/// What erases the line that stands there.
+const ERASE: &[u8] = b"\r\x1b[K";
+
+impl Jobs {
+    /// How many tasks are known that aren't done.
+    fn left(&self) -> u64 {
+        (self.tasks.len() as u64).saturating_add(self.busy)
+    }
+
+    /// The line that says how far it is goes.
+    fn erase<P: Screen>(&mut self, screen: &P) {
+        if self.is_shown {
+            screen.say(ERASE);
+            self.is_shown = false;
+        }
+    }
+
+    /// This is said, in the place of the line that says how far it is.
+    fn say<P: Screen>(&mut self, screen: &P, text: &[u8]) {
+        if !text.is_empty() {
+            self.erase(screen);
+            screen.say(text);
+        }
+    }
+
+    /// The tasks that came go to those that are to do.
+    fn add(&mut self, more: Items<Task>) {
+        let mut more = more.into_vec();
+        for _at in 0..more.len() {
+            if let Some(task) = more.pop() {
+                if self.tasks.push(task).is_err() {
+                    self.is_starved = true;
+                }
+            }
+        }
+    }
+
+    /// No further task is begun, and how many aren't is said.
+    fn give_up<P: Screen>(&mut self, alloc: Global, screen: &P) {
+        let count = self.tasks.len() as u64;
+        self.tasks.clear();
+        if count > 0 {
+            match left_out_text(alloc, count) {
+                Ok(text) => self.say(screen, text.as_slice()),
+                Err(AllocError) => self.is_starved = true,
+            }
+        }
+    }
+
+    /// What a task came to.
+    fn settle<P: Screen>(&mut self, alloc: Global, screen: &P, visited: Visited) {
+        self.busy = self.busy.saturating_sub(1);
+        self.tally = self.tally.with(&visited);
+        self.say(screen, visited.note.as_slice());
+        let Visited { more, is_off, .. } = visited;
+        self.add(more);
+        if is_off || self.is_starved {
+            self.give_up(alloc, screen);
+        }
+    }
+}
+
+impl Pool {
+    /// One task is to do.
+    pub(crate) fn new(alloc: Global, task: Task) -> Result<Pool, AllocError> {
+        let mut tasks = Vec::new(alloc);
+        tasks.push(task)?;
+        Ok(Pool {
+            jobs: Mutex::new(Jobs {
+                tasks,
+                busy: 0,
+                tally: Tally::new(),
+                is_starved: false,
+                is_shown: false,
+                is_over: false,
+            }),
+            news: Condvar::new(),
+        })
+    }
+
+    /// The next task; none once all are done.
+    pub(crate) fn take<W: Wait>(&self, rt: &W) -> Option<Task> {
+        let mut jobs = self.jobs.lock(rt);
+        for _turn in rt.forever() {
+            if let Some(task) = jobs.tasks.pop() {
+                jobs.busy = jobs.busy.saturating_add(1);
+                return Some(task);
+            }
+            if jobs.busy == 0 {
+                return None;
+            }
+            jobs = self.news.wait(rt, jobs);
+        }
+        unreachable!()
+    }
+
+    /// The next task, where it is the only one.
+    pub(crate) fn take_alone<W: Wait>(&self, rt: &W) -> Option<Task> {
+        let mut jobs = self.jobs.lock(rt);
+        if jobs.tasks.len() > 1 {
+            return None;
+        }
+        let task = jobs.tasks.pop()?;
+        jobs.busy = jobs.busy.saturating_add(1);
+        Some(task)
+    }
+
+    /// A task was done.
+    pub(crate) fn settle<W: Wait, P: Screen>(
+        &self,
+        rt: &W,
+        alloc: Global,
+        screen: &P,
+        visited: Visited,
+    ) {
+        self.jobs.lock(rt).settle(alloc, screen, visited);
+        self.news.notify_all();
+    }
+
+    /// Memory ran out in a task: no further one is begun.
+    pub(crate) fn starve<W: Wait>(&self, rt: &W) {
+        let mut jobs = self.jobs.lock(rt);
+        jobs.busy = jobs.busy.saturating_sub(1);
+        jobs.is_starved = true;
+        jobs.tasks.clear();
+        drop(jobs);
+        self.news.notify_all();
+    }
+
+    /// Whether there is a task that isn't done.
+    pub(crate) fn goes_on<W: Wait>(&self, rt: &W) -> bool {
+        self.jobs.lock(rt).left() > 0
+    }
+
+    /// Whether all is done, and told to be.
+    pub(crate) fn is_over<W: Wait>(&self, rt: &W) -> bool {
+        self.jobs.lock(rt).is_over
+    }
+
+    /// All is done: the line that says how far it is goes, and isn't shown again.
+    pub(crate) fn end<W: Wait, P: Screen>(&self, rt: &W, screen: &P) {
+        let mut jobs = self.jobs.lock(rt);
+        jobs.is_over = true;
+        jobs.erase(screen);
+    }
+
+    /// Shows how far it is, unless all is done.
+    pub(crate) fn show<W: Wait, P: Screen>(
+        &self,
+        rt: &W,
+        alloc: Global,
+        screen: &P,
+        wire: u64,
+        spent: u64,
+    ) {
+        let mut jobs = self.jobs.lock(rt);
+        if jobs.is_over {
+            return;
+        }
+        let glance = Glance {
+            tally: jobs.tally,
+            left: jobs.left(),
+            wire,
+            spent,
+        };
+        if let Ok(line) = progress_line(alloc, glance) {
+            screen.say(line.as_slice());
+            jobs.is_shown = true;
+        }
+    }
+
+    /// What the tasks came to, once no thread works on them; none where memory ran out.
+    pub(crate) fn into_tally(self) -> Option<Tally> {
+        let Pool { jobs, news } = self;
+        drop(news);
+        let Jobs {
+            tally,
+            is_starved,
+            ..
+        } = jobs.into_inner();
+        if is_starved { None } else { Some(tally) }
+    }
+}

@@ -1,0 +1,461 @@
+//! A shell from its first connection to its end: its one command, or the lines of its input.
+
+ghost use Rattle.std.specs.Prelude.{◌≡◌, ◌≢◌, ◌≤◌, ◌⊎◌, [], IfErr, None, Ok};
+ghost use Rattle.exit_status.specs.declared.shell_end.ShellEnd.TheVariants as ends;
+ghost use Rattle.lbfs_shell.specs.Ends.{SinkCause, HasCause, end_of};
+
+use crate::crew::{Manner, run_task};
+use crate::help;
+use crate::outside::Outside;
+use crate::saying::{Flow, read_end, tell, write};
+use crate::telling::{end_line, line_text, prompt_text};
+use exit_status::shell_end::ShellEnd;
+use lb_base::items::{Items, Name};
+use lb_base::sink::Sink;
+use lb_base::source::Source;
+use lbfs_mount::script::Script;
+use links::clock::Clock;
+use links::rest::Rest;
+use shell_link::session::Session;
+use shell_walks::dials::Dials;
+use shell_walks::folder::{Folder, Folders};
+use shell_walks::remote::Remote;
+use shell_walks::screen::Screen;
+use shell_walks::shell::{Shell, Went, mistaken};
+use shell_walks::tasks::Task;
+use shell_walks::telling::{mistake_words, note_line};
+use shell_words::command::{Line, Verb, verb_of};
+use shell_words::local::LocalPath;
+use shell_words::mistake::{Mistake, ReadError};
+use shell_words::path::copy_of;
+use shell_words::words::words_of;
+use std::alloc::{AllocError, Global};
+use std::sync::Wait;
+use std::thread::Threads;
+
+/// What a shell is to do.
+#[derive(Drop)]
+pub struct ShellAsked {
+    /// How many connections there may be at once.
+    pub links: u32,
+    /// Whether neither how far a command is nor what it came to is said.
+    pub quiet: bool,
+    /// The words of the one command; none where lines are read.
+    pub command: Items<Name>,
+}
+
+/// Where a shell stands, and what it works with.
+#[derive(Drop)]
+struct Seat<R, F> {
+    shell: Shell,
+    remote: R,
+    folder: F,
+}
+
+/// A task with all that come of it, and the line at its end.
+fn run_all<
+    W: Threads + Wait + Sync,
+    P: Screen + Sync,
+    H: Folders + Sync,
+    D: Dials + Sync,
+    C: Clock + Sync,
+    T: Rest + Sync,
+    R: Remote,
+    F: Folder,
+>(
+    rt: &W,
+    alloc: Global,
+    out: &Outside<P, H, D, C, T>,
+    asked: &ShellAsked,
+    seat: &mut Seat<R, F>,
+    task: Task,
+) -> Result<Flow, ShellEnd>
+where
+    D::L: Drop + Send,
+    H::F: Drop + Send,
+    ensures { IfErr result (λ e. e ≡ ends.Memory) }
+{
+    let manner = Manner {
+        links: asked.links,
+        shows: !asked.quiet && out.screen.is_watched(),
+    };
+    let before = out.dialler.bytes();
+    let Some(tally) = run_task(
+        rt,
+        alloc,
+        out,
+        manner,
+        &mut seat.remote,
+        &mut seat.folder,
+        task,
+    ) else {
+        return Err(ShellEnd::Memory);
+    };
+    if !asked.quiet {
+        let wire = out.dialler.bytes().saturating_sub(before);
+        match end_line(alloc, tally, wire) {
+            Ok(line) => out.screen.say(line.as_slice()),
+            Err(AllocError) => return Err(ShellEnd::Memory),
+        }
+    }
+    Ok(if tally.is_fine {
+        Flow::Done
+    } else {
+        Flow::Undone
+    })
+}
+
+/// A text is written, and that was all.
+fn written<K: Sink>(sink: &mut K, text: &[u8]) -> Result<Flow, ShellEnd>
+    ensures cause { IfErr result (λ e. SinkCause (K.faults sink.old) (K.faults sink.new) e) }
+    ensures later { K.faults sink.old ≤ K.faults sink.new }
+{
+    match write(sink, text) {
+        Ok(()) => Ok(Flow::Done),
+        Err(end) => Err(end),
+    }
+}
+
+/// `help`, or what one command does.
+fn run_help<P: Screen, K: Sink>(
+    alloc: Global,
+    screen: &P,
+    sink: &mut K,
+    line: &Line,
+) -> Result<Flow, ShellEnd>
+    ensures cause { IfErr result (λ e. SinkCause (K.faults sink.old) (K.faults sink.new) e) }
+    ensures later { K.faults sink.old ≤ K.faults sink.new }
+{
+    let Some(word) = line.operands.as_slice().first() else {
+        return written(sink, help::all());
+    };
+    match verb_of(word.as_slice()) {
+        Some(verb) => written(sink, help::of(verb)),
+        None => match mistaken(alloc, word.as_slice(), Mistake::Unknown) {
+            Ok(told) => tell(screen, sink, &told),
+            Err(AllocError) => Err(ShellEnd::Memory),
+        },
+    }
+}
+
+/// A command.
+fn run_command<
+    W: Threads + Wait + Sync,
+    P: Screen + Sync,
+    H: Folders + Sync,
+    D: Dials + Sync,
+    C: Clock + Sync,
+    T: Rest + Sync,
+    R: Remote,
+    F: Folder,
+    K: Sink,
+>(
+    rt: &W,
+    alloc: Global,
+    out: &Outside<P, H, D, C, T>,
+    asked: &ShellAsked,
+    seat: &mut Seat<R, F>,
+    sink: &mut K,
+    line: &Line,
+) -> Result<Flow, ShellEnd>
+where
+    D::L: Drop + Send,
+    H::F: Drop + Send,
+    ensures cause { IfErr result (λ e. SinkCause (K.faults sink.old) (K.faults sink.new) e) }
+    ensures later { K.faults sink.old ≤ K.faults sink.new }
+{
+    match line.verb {
+        Verb::Help => return run_help(alloc, &out.screen, sink, line),
+        Verb::Bye => return Ok(Flow::Bye),
+        _ => {}
+    }
+    match seat
+        .shell
+        .run(alloc, &mut seat.remote, &mut seat.folder, line)
+    {
+        Ok(Went::Told(told)) => tell(&out.screen, sink, &told),
+        Ok(Went::Works(task)) => run_all(rt, alloc, out, asked, seat, task),
+        Ok(Went::Bye) => Ok(Flow::Bye),
+        Err(AllocError) => Err(ShellEnd::Memory),
+    }
+}
+
+/// What a line says; none where it says nothing.
+fn line_of(alloc: Global, text: &[u8]) -> Result<Option<Line>, ReadError> {
+    let words = words_of(alloc, text)?;
+    match Line::read(words) {
+        Ok(line) => Ok(line),
+        Err(mistake) => Err(ReadError::Mistaken(mistake)),
+    }
+}
+
+/// A mistake in a line is said.
+fn say_mistake<P: Screen>(
+    alloc: Global,
+    screen: &P,
+    number: u64,
+    mistake: Mistake,
+) -> Result<Flow, ShellEnd>
+    ensures { IfErr result (λ e. e ≡ ends.Memory) }
+{
+    let Ok(about) = line_text(alloc, number) else {
+        return Err(ShellEnd::Memory);
+    };
+    match note_line(alloc, about.as_slice(), mistake_words(mistake)) {
+        Ok(note) => {
+            screen.say(note.as_slice());
+            Ok(Flow::Undone)
+        }
+        Err(AllocError) => Err(ShellEnd::Memory),
+    }
+}
+
+/// A line of the input, numbered from 1.
+fn run_text<
+    W: Threads + Wait + Sync,
+    P: Screen + Sync,
+    H: Folders + Sync,
+    D: Dials + Sync,
+    C: Clock + Sync,
+    T: Rest + Sync,
+    R: Remote,
+    F: Folder,
+    K: Sink,
+>(
+    rt: &W,
+    alloc: Global,
+    out: &Outside<P, H, D, C, T>,
+    asked: &ShellAsked,
+    seat: &mut Seat<R, F>,
+    sink: &mut K,
+    text: &[u8],
+    number: u64,
+) -> Result<Flow, ShellEnd>
+where
+    D::L: Drop + Send,
+    H::F: Drop + Send,
+    ensures cause { IfErr result (λ e. SinkCause (K.faults sink.old) (K.faults sink.new) e) }
+    ensures later { K.faults sink.old ≤ K.faults sink.new }
+{
+    match line_of(alloc, text) {
+        Ok(Some(line)) => run_command(rt, alloc, out, asked, seat, sink, &line),
+        Ok(None) => Ok(Flow::Done),
+        Err(ReadError::Mistaken(mistake)) => say_mistake(alloc, &out.screen, number, mistake),
+        Err(ReadError::Memory) => Err(ShellEnd::Memory),
+    }
+}
+
+/// The prompt, where lines are typed.
+fn prompt<P: Screen>(alloc: Global, screen: &P, shell: &Shell) {
+    if screen.is_typed() {
+        if let Ok(text) = prompt_text(alloc, shell.place()) {
+            screen.say(text.as_slice());
+        }
+    }
+}
+
+/// The end of a shell that did all, or not all, of its lines.
+fn end_of(is_fine: bool) -> ShellEnd
+    ensures { result ≡ end_of is_fine }
+{
+    if is_fine {
+        ShellEnd::Done
+    } else {
+        ShellEnd::Undone
+    }
+}
+
+/// The lines of the input, to its end or to `bye`.
+fn run_lines<
+    W: Threads + Wait + Sync,
+    P: Screen + Sync,
+    H: Folders + Sync,
+    D: Dials + Sync,
+    C: Clock + Sync,
+    T: Rest + Sync,
+    R: Remote,
+    F: Folder,
+    S: Source,
+    K: Sink,
+>(
+    rt: &W,
+    alloc: Global,
+    out: &Outside<P, H, D, C, T>,
+    asked: &ShellAsked,
+    seat: &mut Seat<R, F>,
+    source: &mut S,
+    sink: &mut K,
+) -> ShellEnd
+where
+    D::L: Drop + Send,
+    H::F: Drop + Send,
+    ensures cause { HasCause (S.faults source.old) (S.faults source.new) (K.faults sink.old) (K.faults sink.new) result }
+    ensures later { (S.faults source.old ≤ S.faults source.new) × (K.faults sink.old ≤ K.faults sink.new) }
+{
+    let Ok(mut lines) = Script::new(alloc) else {
+        return ShellEnd::Memory;
+    };
+    let mut is_fine = true;
+    for at in 0..u64::MAX {
+        prompt(alloc, &out.screen, &seat.shell);
+        let text = match lines.next(alloc, source) {
+            Ok(Some(text)) => text,
+            Ok(None) => {
+                if out.screen.is_typed() {
+                    out.screen.say(b"\n");
+                }
+                return end_of(is_fine);
+            }
+            Err(why) => return read_end(why),
+        };
+        match run_text(rt, alloc, out, asked, seat, sink, text.as_slice(), at + 1) {
+            Ok(Flow::Done) => {}
+            Ok(Flow::Undone) => is_fine = false,
+            Ok(Flow::Bye) => return end_of(is_fine),
+            Err(end) => return end,
+        }
+    }
+    end_of(is_fine)
+}
+
+/// The words of the one command.
+fn run_once<
+    W: Threads + Wait + Sync,
+    P: Screen + Sync,
+    H: Folders + Sync,
+    D: Dials + Sync,
+    C: Clock + Sync,
+    T: Rest + Sync,
+    R: Remote,
+    F: Folder,
+    K: Sink,
+>(
+    rt: &W,
+    alloc: Global,
+    out: &Outside<P, H, D, C, T>,
+    asked: &ShellAsked,
+    seat: &mut Seat<R, F>,
+    sink: &mut K,
+    line: &Line,
+) -> ShellEnd
+where
+    D::L: Drop + Send,
+    H::F: Drop + Send,
+    ensures cause { SinkCause (K.faults sink.old) (K.faults sink.new) result }
+    ensures later { K.faults sink.old ≤ K.faults sink.new }
+{
+    match run_command(rt, alloc, out, asked, seat, sink, line) {
+        Ok(Flow::Undone) => ShellEnd::Undone,
+        Ok(Flow::Done | Flow::Bye) => ShellEnd::Done,
+        Err(end) => end,
+    }
+}
+
+/// Words that are no command are told so.
+fn refuse<P: Screen, K: Sink>(
+    alloc: Global,
+    screen: &P,
+    sink: &mut K,
+    words: &[Name],
+    mistake: Mistake,
+) -> ShellEnd
+    ensures cause { SinkCause (K.faults sink.old) (K.faults sink.new) result }
+    ensures later { K.faults sink.old ≤ K.faults sink.new }
+{
+    let word = match words.first() {
+        Some(word) => word.as_slice(),
+        None => b"",
+    };
+    match mistaken(alloc, word, mistake) {
+        Ok(told) => match tell(screen, sink, &told) {
+            Ok(_) => ShellEnd::BadWords,
+            Err(end) => end,
+        },
+        Err(AllocError) => ShellEnd::Memory,
+    }
+}
+
+/// What the words of the one command say; none where there are none.
+#[tactic(auto, using(crate::proofs::Causes::said_nothing))]
+fn command_of(alloc: Global, words: &[Name]) -> Result<Option<Line>, ReadError>
+    ensures { result ≡ Ok None → words.now ≡ [] }
+{
+    match Line::read(copy_of(alloc, words)?) {
+        Ok(line) => Ok(line),
+        Err(mistake) => Err(ReadError::Mistaken(mistake)),
+    }
+}
+
+/// A client that has a connection; or how the shell ends.
+fn joined<'e, D: Dials, C: Clock>(
+    alloc: Global,
+    dialler: &'e D,
+    clock: &'e C,
+) -> Result<Session<'e, D, C>, ShellEnd>
+where
+    D::L: Drop,
+    ensures { IfErr result (λ e. (e ≡ ends.Network) ⊎ (e ≡ ends.Memory)) }
+{
+    match Session::new(alloc, dialler, clock) {
+        Ok(mut session) => {
+            if session.join(alloc) {
+                Ok(session)
+            } else {
+                Err(ShellEnd::Network)
+            }
+        }
+        Err(AllocError) => Err(ShellEnd::Memory),
+    }
+}
+
+/// Runs the one command, or the lines of the input, on a server's tree, from the folder of the host that
+/// the program runs in. It ends with `Done` where all was done, and with `Undone` where something wasn't,
+/// which was said; with the others where it could go on no further.
+pub fn run_shell<
+    W: Threads + Wait + Sync,
+    P: Screen + Sync,
+    H: Folders + Sync,
+    D: Dials + Sync,
+    C: Clock + Sync,
+    T: Rest + Sync,
+    S: Source,
+    K: Sink,
+>(
+    rt: &W,
+    alloc: Global,
+    out: &Outside<P, H, D, C, T>,
+    asked: &ShellAsked,
+    source: &mut S,
+    sink: &mut K,
+) -> ShellEnd
+where
+    D::L: Drop + Send,
+    H::F: Drop + Send,
+    ensures cause { HasCause (S.faults source.old) (S.faults source.new) (K.faults sink.old) (K.faults sink.new) result }
+    ensures later { (S.faults source.old ≤ S.faults source.new) × (K.faults sink.old ≤ K.faults sink.new) }
+    ensures unread { asked.now.command ≢ [] → source.new ≡ source.old }
+{
+    let command = match command_of(alloc, asked.command.as_slice()) {
+        Ok(command) => command,
+        Err(ReadError::Mistaken(mistake)) => {
+            return refuse(alloc, &out.screen, sink, asked.command.as_slice(), mistake);
+        }
+        Err(ReadError::Memory) => return ShellEnd::Memory,
+    };
+    let Ok(here) = LocalPath::copy_of(alloc, ".") else {
+        return ShellEnd::Memory;
+    };
+    let remote = match joined(alloc, &out.dialler, &out.clock) {
+        Ok(remote) => remote,
+        Err(end) => return end,
+    };
+    let mut seat = Seat {
+        shell: Shell::new(alloc, here),
+        remote,
+        folder: out.folders.folder(0),
+    };
+    match command {
+        Some(line) => run_once(rt, alloc, out, asked, &mut seat, sink, &line),
+        None => run_lines(rt, alloc, out, asked, &mut seat, source, sink),
+    }
+}

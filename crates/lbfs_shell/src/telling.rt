@@ -1,0 +1,209 @@
+//! The lines that say how far a command is, and what it came to: `specs/Telling.antt`.
+
+ghost use Rattle.std.specs.Prelude.{◌≡◌, ◌++◌, IfOk, OnOk, codes, decimal};
+ghost use Rattle.lbfs_shell.specs.Telling.{count_text, big_text, middle_text, size_text, end_line, rate_text, left_of, left_text, files_text, line_part, progress_line, left_out_text, prompt_text, line_text};
+
+use crate::tally::Tally;
+use lb_base::items::{Bytes, Items, Name};
+use shell_walks::telling::path_text;
+use std::alloc::{AllocError, Global};
+use std::fmt::Write;
+
+/// How far a command is.
+#[derive(Clone, Copy)]
+pub(crate) struct Glance {
+    pub(crate) tally: Tally,
+    /// How many tasks are known that aren't done.
+    pub(crate) left: u64,
+    /// How many bytes went over the line.
+    pub(crate) wire: u64,
+    /// How many milliseconds it took.
+    pub(crate) spent: u64,
+}
+
+/// So many of something.
+fn count_text(alloc: Global, count: u64, what: &str) -> Result<Bytes, AllocError>
+    ensures { IfOk result (λ text. text ≡ count_text count what.now) }
+{
+    let mut text = String::new(alloc);
+    if count == 1 {
+        write!(text, "1 {what}")?;
+    } else {
+        write!(text, "{count} {what}s")?;
+    }
+    Ok(Items::from_vec(text.into_bytes()))
+}
+
+/// So many tenths of a million bytes.
+fn big_text(alloc: Global, tenths: u64) -> Result<Bytes, AllocError>
+    ensures { IfOk result (λ text. text ≡ big_text tenths) }
+{
+    let mut text = String::new(alloc);
+    let whole = tenths / 10;
+    let tenth = tenths % 10;
+    write!(text, "{whole}.{tenth} MB")?;
+    Ok(Items::from_vec(text.into_bytes()))
+}
+
+/// So many hundredths of a million bytes.
+fn middle_text(alloc: Global, hundredths: u64) -> Result<Bytes, AllocError>
+    ensures { IfOk result (λ text. text ≡ middle_text hundredths) }
+{
+    let mut text = String::new(alloc);
+    let whole = hundredths / 100;
+    let tenth = hundredths / 10 % 10;
+    let hundredth = hundredths % 10;
+    write!(text, "{whole}.{tenth}{hundredth} MB")?;
+    Ok(Items::from_vec(text.into_bytes()))
+}
+
+/// So many bytes, in millions where they are many.
+fn size_text(alloc: Global, bytes: u64) -> Result<Bytes, AllocError>
+    ensures { IfOk result (λ text. text ≡ size_text bytes) }
+{
+    if bytes < 10_000 {
+        count_text(alloc, bytes, "byte")
+    } else if bytes < 10_000_000 {
+        middle_text(alloc, bytes / 10_000)
+    } else {
+        big_text(alloc, bytes / 100_000)
+    }
+}
+
+/// The line at a command's end.
+pub(crate) fn end_line(alloc: Global, tally: Tally, wire: u64) -> Result<Bytes, AllocError>
+    ensures { IfOk result (λ text. text ≡ end_line tally wire) }
+{
+    let mut out = count_text(alloc, tally.files, "file")?;
+    let contents = size_text(alloc, tally.bytes)?;
+    let line = size_text(alloc, wire)?;
+    out.extend_from_slice(b", ")?;
+    out.extend_from_slice(contents.as_slice())?;
+    out.extend_from_slice(b"; ")?;
+    out.extend_from_slice(line.as_slice())?;
+    out.extend_from_slice(b" on the line\n")?;
+    Ok(out)
+}
+
+/// How many bytes went over the line in a second.
+fn rate_text(alloc: Global, wire: u64, spent: u64) -> Result<Bytes, AllocError>
+    ensures { IfOk result (λ text. text ≡ rate_text wire spent) }
+{
+    let rate = if spent == 0 {
+        0
+    } else {
+        (wire / spent).saturating_mul(1000)
+    };
+    let mut out = size_text(alloc, rate)?;
+    out.extend_from_slice(b"/s")?;
+    Ok(out)
+}
+
+/// How many seconds are left, where as many tasks as were done took so many milliseconds.
+fn left_of(done: u64, left: u64, spent: u64) -> u64
+    ensures { result ≡ left_of done left spent }
+{
+    if done == 0 {
+        0
+    } else {
+        (spent / 1000).saturating_mul(left) / done
+    }
+}
+
+/// How many seconds are left, as far as can be told.
+fn left_text(alloc: Global, done: u64, left: u64, spent: u64) -> Result<Bytes, AllocError>
+    ensures { IfOk result (λ text. text ≡ left_text done left spent) }
+{
+    let mut text = String::new(alloc);
+    if done > 0 && left > 0 {
+        let seconds = left_of(done, left, spent);
+        write!(text, ", {seconds} s left")?;
+    }
+    Ok(Items::from_vec(text.into_bytes()))
+}
+
+/// So many files of those that are known.
+fn files_text(alloc: Global, done: u64, left: u64) -> Result<Bytes, AllocError>
+    ensures { IfOk result (λ text. text ≡ files_text done left) }
+{
+    let all = count_text(alloc, done.saturating_add(left), "file")?;
+    let mut out = Items::new(alloc);
+    put_count(alloc, &mut out, done)?;
+    out.extend_from_slice(b" of ")?;
+    out.extend_from_slice(all.as_slice())?;
+    Ok(out)
+}
+
+/// What went over the line, and how fast.
+fn line_part(alloc: Global, wire: u64, spent: u64) -> Result<Bytes, AllocError>
+    ensures { IfOk result (λ text. text ≡ line_part wire spent) }
+{
+    let rate = rate_text(alloc, wire, spent)?;
+    let mut out = size_text(alloc, wire)?;
+    out.extend_from_slice(b" on the line, ")?;
+    out.extend_from_slice(rate.as_slice())?;
+    Ok(out)
+}
+
+/// How far a command is, in the place of the line that stands there.
+pub(crate) fn progress_line(alloc: Global, glance: Glance) -> Result<Bytes, AllocError>
+    ensures { IfOk result (λ text. text ≡ progress_line glance) }
+{
+    let Glance {
+        tally,
+        left,
+        wire,
+        spent,
+    } = glance;
+    let files = files_text(alloc, tally.files, left)?;
+    let contents = size_text(alloc, tally.bytes)?;
+    let line = line_part(alloc, wire, spent)?;
+    let rest = left_text(alloc, tally.files, left, spent)?;
+    let mut out = Items::copy_of(alloc, b"\r")?;
+    out.extend_from_slice(files.as_slice())?;
+    out.extend_from_slice(b", ")?;
+    out.extend_from_slice(contents.as_slice())?;
+    out.extend_from_slice(b"; ")?;
+    out.extend_from_slice(line.as_slice())?;
+    out.extend_from_slice(rest.as_slice())?;
+    out.extend_from_slice(b"\x1b[K")?;
+    Ok(out)
+}
+
+/// A number behind what is there.
+fn put_count(alloc: Global, out: &mut Bytes, count: u64) -> Result<(), AllocError>
+    ensures { OnOk result (out.new ≡ out.old ++ decimal count) }
+{
+    let mut text = String::new(alloc);
+    write!(text, "{count}")?;
+    out.extend_from_slice(text.as_bytes())
+}
+
+/// What is said of tasks that weren't begun.
+pub(crate) fn left_out_text(alloc: Global, count: u64) -> Result<Bytes, AllocError>
+    ensures { IfOk result (λ text. text ≡ left_out_text count) }
+{
+    let mut text = String::new(alloc);
+    write!(text, "not begun: {count} more\n")?;
+    Ok(Items::from_vec(text.into_bytes()))
+}
+
+/// The prompt of a shell that stands in this directory.
+pub(crate) fn prompt_text(alloc: Global, place: &[Name]) -> Result<Bytes, AllocError>
+    ensures { IfOk result (λ text. text ≡ prompt_text place.now) }
+{
+    let mut out = Items::copy_of(alloc, b"lbfs:")?;
+    let path = path_text(alloc, place)?;
+    out.extend_from_slice(path.as_slice())?;
+    out.extend_from_slice(b"> ")?;
+    Ok(out)
+}
+
+/// The number of a line, as it is named.
+pub(crate) fn line_text(alloc: Global, number: u64) -> Result<Bytes, AllocError>
+    ensures { IfOk result (λ text. text ≡ line_text number) }
+{
+    let mut text = String::new(alloc);
+    write!(text, "line {number}")?;
+    Ok(Items::from_vec(text.into_bytes()))
+}
