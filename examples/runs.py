@@ -87,6 +87,14 @@ class Server(Run):
     def threads(self):
         return self.told("Threads")
 
+    def sleeps(self):
+        """How often each of its threads went to sleep."""
+        found, folder = {}, f"/proc/{self.process.pid}/task"
+        for thread in os.listdir(folder):
+            with open(f"{folder}/{thread}/status") as it:
+                found[thread] = next(line.split()[1] for line in it if line.startswith("voluntary_ctxt_switches"))
+        return found
+
     def ended(self):
         """What it wrote, once it has ended of itself, and its status."""
         written, _ = self.process.communicate(timeout=PATIENCE)

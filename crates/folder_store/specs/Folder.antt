@@ -1,46 +1,11 @@
--- The files of a store's folder: their names, and their bytes. Numbers have their highest byte first.
-use Rattle.std.specs.Prelude.{ℕ, List, [], ◌∷◌, ◌++◌, ◌<◌, ◌^◌, length, take, drop, Option, Some, None, nat_lt, nat_eq, ◌==◌, if◌then◌else◌, bytes_eq, codes, decimal}
+-- The bytes of the files of a store's folder. Numbers have their highest byte first.
+use Rattle.std.specs.Prelude.{ℕ, List, ◌++◌, length, take, drop, Option, Some, None, nat_lt, nat_eq, ◌==◌, if◌then◌else◌}
 use Rattle.std.specs.Int.{w32, w64, to_be_bytes, from_be_bytes}
-use Rattle.command_text.specs.Fields.{number_of}
 use Rattle.store.specs.declared.record.Head.{Head}
 use Rattle.store.specs.declared.record.NodeKind.{NodeKind}
 use Rattle.store.specs.declared.record.NodeKind.TheVariants as kind
 use Rattle.store.specs.declared.record.NodeRecord.{NodeRecord}
 use Rattle.store.specs.declared.record.ContentRecord.{ContentRecord}
-use Rattle.log_store.specs.declared.which.Which.{Which}
-use Rattle.log_store.specs.declared.which.Which.TheVariants as which
-
--- ---- names
-
-abbrev pub name_of : Which → List ℕ
-name_of which.Head = codes "head"
-name_of (which.Node id) = codes "n" ++ decimal id
-name_of (which.Content id) = codes "c" ++ decimal id
-
--- the record that a letter and an id tell
-abbrev pub lettered_by : ℕ → Option ℕ → Option Which
-lettered_by letter None = None
-lettered_by letter (Some id) = if letter == 110 then Some (which.Node id) else if letter == 99 then Some (which.Content id) else None
-
--- a letter, and behind it an id
-abbrev pub lettered : ℕ → List ℕ → Option Which
-lettered letter digits = lettered_by letter (number_of digits)
-
-abbrev pub lettered_in : List ℕ → Option Which
-lettered_in [] = None
-lettered_in (c ∷ cs) = lettered c cs
-
--- the record whose file has this name; any other name is none's
-abbrev pub which_of : List ℕ → Option Which
-which_of name = if bytes_eq name (codes "head") then Some which.Head else lettered_in name
-
--- an id has 64 bits
-abbrev pub IsWord : Which → Type 0
-IsWord which.Head = Unit {0}
-IsWord (which.Node id) = id < 2 ^ 64
-IsWord (which.Content id) = id < 2 ^ 64
-
--- ---- bytes
 
 abbrev pub kind_number : NodeKind → ℕ
 kind_number kind.File = 1

@@ -3,18 +3,7 @@ use Rattle.std.specs.Prelude.{◌≡◌, [], ◌∷◌, Some, None, codes}
 use Rattle.std.proofs.Common.{refl}
 use Rattle.store.specs.declared.record.NodeKind.TheVariants as kind
 use Rattle.store.specs.declared.record.NodeRecord.{NodeRecord}
-use Rattle.log_store.specs.declared.which.Which.TheVariants as which
-use Rattle.folder_store.specs.Folder.{which_of, node_bytes, node_in, content_bytes, content_in, head_bytes, head_in}
-
-which_row : which_of (codes "c120") ≡ Some (which.Content 120)
-which_row = refl
-
--- a number has one spelling, so no two files hold one record
-zero_row : which_of (codes "n02") ≡ None
-zero_row = refl
-
-beside_row : which_of (codes "n2~") ≡ None
-beside_row = refl
+use Rattle.folder_store.specs.Folder.{node_bytes, node_in, content_bytes, content_in, head_bytes, head_in}
 
 head_row : head_in (head_bytes (record { next = 3; changes = 258 })) ≡ Some (record { next = 3; changes = 258 })
 head_row = refl

@@ -1,22 +1,53 @@
-//! What makes sure what a store was given: changes that wait at once share a flush of the log.
+//! What makes sure what a store was given: changes that wait at once share a flush of the log (`Settling` of
+//! `log_store`).
 
 ghost use Rattle.std.specs.Prelude.{◌≡◌};
 
 use lb_base::source::Failed;
+use log_store::folder::Fault;
+use log_store::settling::{Flush, Settling};
 use std::alloc::{AllocError, Global};
 use std::fs::File;
 use std::io;
+use std::io::Error;
 use std::sync::atomic::{AtomicBool, AtomicU64, Ordering};
-use std::sync::{Arc, Condvar, Mutex, Wait};
+use std::sync::{Arc, Mutex, Wait};
 use synced_store::syncs::Syncs;
 
-/// How far the flushes have come.
+/// Flushes a log.
 #[derive(Drop)]
-struct Flushes {
-    /// How many changes are sure, of those that were given.
-    sure: u64,
-    /// Whether a thread flushes.
-    busy: bool,
+pub struct LogFlush {
+    /// The log, unless nothing is flushed.
+    log: Option<File>,
+    /// How many changes were given before a flush that went through.
+    flushed: u64,
+    /// Why the last one didn't.
+    why: Option<Error>,
+}
+
+/// All that a log was given so far is on the disk.
+fn sync_log(log: &Option<File>) -> io::Result<()> {
+    match log {
+        Some(log) => log.sync_data(),
+        None => Ok(()),
+    }
+}
+
+impl Flush for LogFlush {
+    ghost firm = { λ s. s.flushed };
+
+    fn flush(&mut self, given: u64) -> Result<(), Fault> {
+        match sync_log(&self.log) {
+            Ok(()) => {
+                self.flushed = self.flushed.max(given);
+                Ok(())
+            }
+            Err(why) => {
+                self.why = Some(why);
+                Err(Fault)
+            }
+        }
+    }
 }
 
 /// What is sure of a store's changes.
@@ -28,10 +59,8 @@ pub struct Commit<R> {
     given: AtomicU64,
     /// Whether it isn't known what the folder holds: a flush failed, or a change was neither made nor left.
     doubt: AtomicBool,
-    flushes: Mutex<Flushes>,
-    news: Condvar,
-    /// The log, unless nothing is flushed.
-    log: Option<File>,
+    /// Who flushes has this; those who wait for it meanwhile have their changes flushed by the next.
+    settling: Mutex<Settling<LogFlush>>,
 }
 
 // By hand: docs/PROVING.md, "Values that are let go".
@@ -42,17 +71,13 @@ impl<R: Drop> Drop for Commit<R> {
             path,
             given,
             doubt,
-            flushes,
-            news,
-            log,
+            settling,
         } = self;
         drop(rt);
         drop(path);
         drop(given);
         drop(doubt);
-        drop(flushes);
-        drop(news);
-        drop(log);
+        drop(settling);
     }
 }
 
@@ -64,12 +89,11 @@ impl<R: Eprint> Commit<R> {
             path,
             given: AtomicU64::new(0),
             doubt: AtomicBool::new(false),
-            flushes: Mutex::new(Flushes {
-                sure: 0,
-                busy: false,
-            }),
-            news: Condvar::new(),
-            log,
+            settling: Mutex::new(Settling::new(LogFlush {
+                log,
+                flushed: 0,
+                why: None,
+            })),
         }
     }
 
@@ -88,51 +112,31 @@ impl<R: Eprint> Commit<R> {
         self.doubt.load(Ordering::SeqCst)
     }
 
-    /// All that was given so far is on the disk.
-    fn flush(&self) -> io::Result<()> {
-        match &self.log {
-            Some(log) => log.sync_data(),
-            None => Ok(()),
+    /// A flush failed, for this reason.
+    fn fail(&self, why: &Option<Error>) {
+        if let Some(why) = why {
+            let rt = &self.rt;
+            let path = self.path.as_str();
+            let _told = eprintln!(rt; "lbfs: {path}: {why}");
         }
-    }
-
-    /// A flush failed. What it wasn't done for no later one makes sure.
-    fn fail(&self, why: &io::Error) {
-        let rt = &self.rt;
-        let path = self.path.as_str();
-        let _told = eprintln!(rt; "lbfs: {path}: {why}");
         self.note_doubt();
     }
 
-    /// Waits until all is sure that was given before the call. Who finds nobody at it flushes, for all that
-    /// was given by then.
+    /// Waits until all is sure that was given before the call.
     fn settle<W: Wait>(&self, rt: &W) -> Result<(), Failed> {
         let wanted = self.given.load(Ordering::SeqCst);
-        let mut flushes = self.flushes.lock(rt);
-        for _turn in rt.forever() {
-            if self.is_in_doubt() {
-                return Err(Failed);
-            }
-            if self.log.is_none() || wanted <= flushes.sure {
-                return Ok(());
-            }
-            if flushes.busy {
-                flushes = self.news.wait(rt, flushes);
-            } else {
-                flushes.busy = true;
-                drop(flushes);
-                let covered = self.given.load(Ordering::SeqCst);
-                let done = self.flush();
-                flushes = self.flushes.lock(rt);
-                flushes.busy = false;
-                match done {
-                    Ok(()) => flushes.sure = covered,
-                    Err(why) => self.fail(&why),
-                }
-                self.news.notify_all();
+        let mut settling = self.settling.lock(rt);
+        if self.is_in_doubt() {
+            return Err(Failed);
+        }
+        let given = self.given.load(Ordering::SeqCst);
+        match settling.settle(wanted, given) {
+            Ok(()) => Ok(()),
+            Err(Fault) => {
+                self.fail(&settling.flusher().why);
+                Err(Failed)
             }
         }
-        unreachable!()
     }
 }
 

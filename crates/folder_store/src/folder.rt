@@ -5,12 +5,11 @@
 ghost use Rattle.std.specs.Prelude.{◌≡◌, None};
 
 use crate::commit::FolderSyncs;
-use crate::disk_folder::DiskFolder;
 use crate::format::{content_front, content_in, head_bytes, head_in, node_front, node_in};
 use crate::look::look;
-use crate::naming::put_name;
 use lb_base::faults::one_more;
 use lb_base::source::Failed;
+use log_store::carrying::Unfinished;
 use log_store::edit::{Edit, Parts, What};
 use log_store::records::LogStore;
 use log_store::which::Which;
@@ -22,6 +21,8 @@ use store::record::{Change, Head, Kept};
 use store::store::{Store, StoreError};
 use synced_store::checks::{CheckedStore, Checks};
 use synced_store::syncs::Synced;
+use system_folder::disk_folder::DiskFolder;
+use system_folder::naming::put_name;
 
 /// A record of more bytes is written in a file of its own before the log names it.
 const LARGE: usize = 32 << 10;
@@ -260,7 +261,7 @@ impl<'a> Edits<'a> {
 }
 
 impl<R: Files<File = File> + AllocGlobal + Eprint + Clone + Drop> Held<R> {
-    /// Makes a change of these parts, whose fronts are given. Whether it was made.
+    /// Makes a change of these parts, whose fronts are given.
     fn apply_parts<'a>(
         &mut self,
         head: &'a [u8; 16],
@@ -268,13 +269,13 @@ impl<R: Files<File = File> + AllocGlobal + Eprint + Clone + Drop> Held<R> {
         front: &'a [u8; 12],
         second: &'a Option<Change>,
         behind: &'a [u8; 12],
-    ) -> bool {
+    ) -> Result<(), Unfinished> {
         let mut edits = Edits::new(head);
         edits.add(first, front);
         if let Some(second) = second {
             edits.add(second, behind);
         }
-        self.store.apply(edits.as_slice()).is_ok()
+        self.store.apply(edits.as_slice())
     }
 
     /// Makes a change, or leaves the records as they were, or is in doubt.
@@ -290,10 +291,14 @@ impl<R: Files<File = File> + AllocGlobal + Eprint + Clone + Drop> Held<R> {
         };
         let made = self.apply_parts(&head, first, &front, second, &behind);
         self.syncs.commit().note_given();
-        if self.store.is_in_doubt() {
-            self.syncs.commit().note_doubt();
+        match made {
+            Ok(()) => Ok(()),
+            Err(Unfinished::InDoubt) => {
+                self.syncs.commit().note_doubt();
+                Err(Failed)
+            }
+            Err(Unfinished::Failed | Unfinished::Memory) => Err(Failed),
         }
-        if made { Ok(()) } else { Err(Failed) }
     }
 
     /// The log is carried out, and nothing but records' files is left.

@@ -3,14 +3,6 @@
 #![tactic(auto)]
 
 pub mod commit;
-mod disk_files;
-pub mod disk_folder;
 pub mod folder;
 pub mod format;
-pub mod laws;
-mod log_file;
 pub mod look;
-pub mod naming;
-mod open_folder;
-mod paths;
-mod redo;

@@ -1,11 +1,7 @@
 //! A look at a folder, which stays as it is: the records that a start would load, and a line for each file
 //! that holds none.
 
-use crate::disk_files::{READ_MOST, read_file};
 use crate::folder::record_in;
-use crate::naming::put_name;
-use crate::open_folder::{files_there, read_log};
-use crate::redo::told_by;
 use log_store::edit::{Line, Task};
 use log_store::which::{Which, is_same};
 use std::alloc::{AllocError, Global};
@@ -17,6 +13,11 @@ use std::{fs, io};
 use store::record::Kept;
 use store::store::StoreError;
 use synced_store::checks::CheckedStore;
+use system_folder::disk_files::{READ_MOST, read_file};
+use system_folder::naming::put_name;
+use system_folder::open_folder::{files_there, read_log};
+use system_folder::redo::told_by;
+use system_folder::strangers::{Stranger, stranger_in};
 
 /// What is told of a record beside its file, by a change that isn't carried out yet.
 #[derive(Clone, Copy, Drop)]
@@ -202,6 +203,28 @@ fn lock<R: Files<File = File>>(rt: &R, place: &str) -> io::Result<File> {
     }
 }
 
+/// Adds a line of what in a folder is no store's, for which it would not be served.
+fn add_stranger<R: Files<File = File> + AllocGlobal + Clone + Drop>(
+    rt: &R,
+    alloc: Global,
+    place: &str,
+    found: &mut CheckedStore,
+) -> io::Result<()> {
+    match stranger_in(rt, alloc, place)? {
+        Some(Stranger::File(name)) => {
+            let name = name.as_str();
+            let line = format!(in alloc; "{name}: no store's file, though it has the name of one")?;
+            add_finding(found, line)?;
+        }
+        Some(Stranger::Folder) => {
+            let line = format!(in alloc; "{place}: it isn't empty, and is no store")?;
+            add_finding(found, line)?;
+        }
+        None => {}
+    }
+    Ok(())
+}
+
 /// What a folder's changes tell, and which records it has, while no server has it.
 fn open_for_look<R: Files<File = File> + AllocGlobal + Clone + Drop>(
     rt: &R,
@@ -210,6 +233,7 @@ fn open_for_look<R: Files<File = File> + AllocGlobal + Clone + Drop>(
     found: &mut CheckedStore,
 ) -> io::Result<Looked> {
     let lock = lock(rt, place)?;
+    add_stranger(rt, alloc, place, found)?;
     let there = files_there(rt, alloc, place)?;
     let lines = lines_of(rt, alloc, place, found)?;
     let records = records_named(alloc, there.as_slice(), lines.as_slice())?;

@@ -5,9 +5,9 @@ use Rattle.store.specs.declared.store.StoreError.{StoreError}
 use Rattle.store.specs.declared.store.StoreError.TheVariants as errors
 use Rattle.log_store.specs.Names.{same_which, is_among}
 use Rattle.log_store.specs.Lines.{Log, Records, over, latest, task_of, all_lines}
-use Rattle.log_store.specs.Disk.{Files, File, Missing, Loose, Firm, Disk, Leaves, Removed, Stayed, Cut, Lists, FlushedLog}
+use Rattle.log_store.specs.Disk.{Files, File, Missing, Loose, Firm, Disk, Leaves, Removed, Stayed, Cut, Lists, FlushedLog, FlushedAll, firmed}
 use Rattle.log_store.specs.Sound.{kept, resolved, shown, shown_file, moves, Loads, OneOf, IsSound, IsQuiet, AreThere, Carried}
-use Rattle.log_store.specs.Store.{IsRead, Rested, Tidied, Swept, Closed, Loaded, AreAll, carried}
+use Rattle.log_store.specs.Store.{IsLeft, CaughtUp, IsRead, Rested, Tidied, Swept, Closed, Loaded, AreAll, carried}
 use Rattle.log_store.specs.declared.carrying.Unfinished.{Unfinished}
 use Rattle.log_store.specs.declared.carrying.Unfinished.TheVariants as unfinished
 use Rattle.log_store.specs.declared.edit.Line.{Line}
@@ -19,7 +19,7 @@ use Rattle.log_store.specs.declared.which.FileName.{FileName}
 use Rattle.log_store.specs.declared.which.FileName.TheVariants.{Record, New}
 use Rattle.log_store.proofs.Steps.{one_step, and_then, weaker, nothing, on_ok, always}
 use Rattle.log_store.proofs.Logs.{all_say}
-use Rattle.log_store.proofs.Redo.{kept_missing, quiet_sound}
+use Rattle.log_store.proofs.Redo.{kept_missing, quiet_sound, agrees_kept}
 
 -- the records that lines are of
 pub whichs : List Line → List Which
@@ -62,10 +62,40 @@ done_by (Err unfinished.Failed) P p = tt
 done_by (Err unfinished.Memory) P p = tt
 done_by (Err unfinished.InDoubt) P p = tt
 
-pub rested : (records : Records) (pending : List Which) (old new : Disk) (r : Result (Unit {0}) Unfinished) (q : Result (Unit {0}) StoreError) → q ≡ carried r → Carried records [] pending old new r → Rested records old new q
-rested records pending old new r q is c = record {
-  leaves = c.leaves;
-  left = c.left;
+past_too : (records : Records) (past : List Records) (c : Files) (l : Log) → OneOf (records ∷ []) c l → OneOf (records ∷ past) c l
+past_too records past c l (inl loads) = inl loads
+past_too records past c l (inr none) = absurd none
+
+-- all that is seen is flushed
+module _ (f : Files) (l : Log) (past : List Records) (d0 d1 : Disk) (is : IsLeft f l past d0) where
+  pub not_flushed : (e : Fault) → FlushedLog d0 d1 (Err e) → CaughtUp f l past d0 d1 (Err e)
+  not_flushed e did = record {
+    leaves = one_step (OneOf past) did.time (λ c k left. is.left c k (did.crash c k left));
+    left = λ c k left. is.left c k (did.crash c k left);
+    done = tt;
+  }
+
+  pub flushed_up : FlushedLog d0 d1 (Ok tt) → (d2 : Disk) (r : Result (Unit {0}) Fault) → FlushedAll d1 d2 r → CaughtUp f l past d0 d2 r
+  flushed_up first d2 r did =
+      let left_2 : ((c : Files) (k : Log) → d2.may_leave c k → OneOf past c k) = λ c k left. is.left c k (first.crash c k (did.crash c k left)) in
+      record {
+        leaves = and_then (OneOf past) (one_step (OneOf past) first.time (λ c k left. is.left c k (first.crash c k left))) (one_step (OneOf past) did.time left_2);
+        left = left_2;
+        done = on_ok r (λ both.
+            let seen_2 : ((x : FileName) → d2.seen x ≡ kept (f x)) = λ x. both.0 x ∙ ap firmed (first.seen x) ∙ is.seen x in
+            record {
+              seen = seen_2;
+              entries = did.entries ∙ first.entries ∙ is.entries;
+              files = λ c k left x. agrees_kept (d2.seen x) (c x) (f x) (both.1 c k left x) (seen_2 x);
+              log = λ c k left. first.done c k (did.crash c k left) ∙ first.entries ∙ is.entries;
+            }) did.done;
+      }
+
+pub rested : (records : Records) (past : List Records) (pending : List Which) (f : Files) (l : Log) (d0 old new : Disk) (r : Result (Unit {0}) Unfinished) (q : Result (Unit {0}) StoreError) → q ≡ carried r → CaughtUp f l past d0 old (Ok tt) → Carried records [] pending old new r
+    → Rested records past d0 new q
+rested records past pending f l d0 old new r q is u c = record {
+  leaves = and_then (OneOf (records ∷ past)) (weaker (λ g k o. inr o) u.leaves) (weaker (past_too records past) c.leaves);
+  left = λ g k left. past_too records past g k (c.left g k left);
   done = subst (λ (p : Result (Unit {0}) StoreError). OnOk p (IsQuiet records new)) (sym is) (done_by r (IsQuiet records new) c.done);
 }
 
@@ -123,22 +153,15 @@ quiet_cut records old new r q did = record {
   left = λ c l left m. let from = did.crash c l left in q.left c from.0 from.1 m;
 }
 
-past_too : (records : Records) (past : List Records) (c : Files) (l : Log) → OneOf (records ∷ []) c l → OneOf (records ∷ past) c l
-past_too records past c l (inl loads) = inl loads
-past_too records past c l (inr none) = absurd none
-
 module _ (records : Records) (past : List Records) (pending : List Which) (d0 d1 : Disk) where
-  pub not_carried : (r : Result (Unit {0}) Unfinished) (q : Result (Unit {0}) StoreError) → OnOk q (IsQuiet records d1) → Carried records past pending d0 d1 r → Closed records past d0 d1 q
-  not_carried r q done c = record { leaves = c.leaves; left = c.left; done = done }
-
   module _ (c : Carried records past pending d0 d1 (Ok tt)) (d2 : Disk) (r : Result (Vec Which Global) StoreError) (s : Swept records d1 d2 r) where
     leaves_2 : Leaves d0 d2 (OneOf (records ∷ past))
     leaves_2 = and_then (OneOf (records ∷ past)) c.leaves (weaker (past_too records past) s.leaves)
 
-    pub swept_closed : (q : Result (Unit {0}) StoreError) → Closed records past d0 d2 q
+    pub swept_closed : (q : Result (Unit {0}) Unfinished) → Closed records past d0 d2 q
     swept_closed q = record { leaves = leaves_2; left = quiet_each records past d2 s.quiet; done = on_ok q (λ u. s.quiet) (always q) }
 
-    pub dropped : (d3 : Disk) (q : Result (Unit {0}) Fault) (p : Result (Unit {0}) StoreError) → Cut d2 d3 0 q → Closed records past d0 d3 p
+    pub dropped : (d3 : Disk) (q : Result (Unit {0}) Fault) (p : Result (Unit {0}) Unfinished) → Cut d2 d3 0 q → Closed records past d0 d3 p
     dropped d3 q p did =
         let quiet : IsQuiet records d3 = quiet_cut records d2 d3 q s.quiet did in
         record {
@@ -147,34 +170,19 @@ module _ (records : Records) (past : List Records) (pending : List Which) (d0 d1
           done = on_ok p (λ u. quiet) (always p);
         }
 
-is_ok : Result (Unit {0}) StoreError → Type 0
-is_ok (Ok u) = Unit {0}
-is_ok (Err e) = ⊥
+module _ (records : Records) (past : List Records) (d0 d1 d2 : Disk) (q : Rested records past d0 d1 (Ok tt)) (r : Result (Vec Which Global) StoreError) (s : Swept records d1 d2 r) where
+  pub leaves_swept : Leaves d0 d2 (OneOf (records ∷ past))
+  leaves_swept = and_then (OneOf (records ∷ past)) q.leaves (weaker (past_too records past) s.leaves)
 
-err_not_ok : {e : StoreError} → ◌≡◌ {A = Result (Unit {0}) StoreError} (Err e) (Ok tt) → ⊥
-unfolding is_ok
-err_not_ok is = subst is_ok (sym is) tt
+  pub left_swept : (c : Files) (l : Log) → d2.may_leave c l → OneOf (records ∷ past) c l
+  left_swept = quiet_each records past d2 s.quiet
 
--- what was carried out is Ok alone
-pub ok_carried : (r : Result (Unit {0}) Unfinished) → carried r ≡ Ok tt → r ≡ Ok tt
-ok_carried (Ok u) is = refl
-ok_carried (Err unfinished.Failed) is = absurd (err_not_ok is)
-ok_carried (Err unfinished.Memory) is = absurd (err_not_ok is)
-ok_carried (Err unfinished.InDoubt) is = absurd (err_not_ok is)
-
-module _ (records : Records) (d0 d1 d2 : Disk) (q : Rested records d0 d1 (Ok tt)) (r : Result (Vec Which Global) StoreError) (s : Swept records d1 d2 r) where
-  pub leaves_swept : Leaves d0 d2 (OneOf (records ∷ []))
-  leaves_swept = and_then (OneOf (records ∷ [])) q.leaves s.leaves
-
-  pub left_swept : (c : Files) (l : Log) → d2.may_leave c l → OneOf (records ∷ []) c l
-  left_swept = quiet_each records [] d2 s.quiet
-
-pub loaded : (records : Records) (d0 d1 d2 d3 : Disk) → Rested records d0 d1 (Ok tt) → (v : Vec Which Global) → Swept records d1 d2 (Ok v) → Stayed d2 d3 → Loaded records d0 d3 (Ok v)
-loaded records d0 d1 d2 d3 q v s did =
+pub loaded : (records : Records) (past : List Records) (d0 d1 d2 d3 : Disk) → Rested records past d0 d1 (Ok tt) → (v : Vec Which Global) → Swept records d1 d2 (Ok v) → Stayed d2 d3 → Loaded records past d0 d3 (Ok v)
+loaded records past d0 d1 d2 d3 q v s did =
     let quiet = quiet_stayed records d2 d3 s.quiet did in
     record {
-      leaves = and_then (OneOf (records ∷ [])) (leaves_swept records d0 d1 d2 q (Ok v) s) (one_step (OneOf (records ∷ [])) did.time (quiet_each records [] d3 quiet));
-      left = quiet_each records [] d3 quiet;
+      leaves = and_then (OneOf (records ∷ past)) (leaves_swept records past d0 d1 d2 q (Ok v) s) (one_step (OneOf (records ∷ past)) did.time (quiet_each records past d3 quiet));
+      left = quiet_each records past d3 quiet;
       names = s.names;
       quiet = quiet;
       sound = quiet_sound records [] [] d3 quiet;
@@ -182,7 +190,3 @@ loaded records d0 d1 d2 d3 q v s did =
 
 pub contains_by : (xs ys : List FileName) (x : FileName) → xs ≡ ys → Contains xs x → Contains ys x
 contains_by xs ys x is has = subst (λ (zs : List FileName). Contains zs x) is has
-
-pub carried_ok : (records : Records) (past : List Records) (pending : List Which) (old new : Disk) (r : Result (Unit {0}) Unfinished) (q : Result (Unit {0}) StoreError) → q ≡ carried r → q ≡ Ok tt → Carried records past pending old new r
-    → Carried records past pending old new (Ok tt)
-carried_ok records past pending old new r q is ok c = subst (λ (p : Result (Unit {0}) Unfinished). Carried records past pending old new p) (ok_carried r (sym is ∙ ok)) c

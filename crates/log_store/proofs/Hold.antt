@@ -5,7 +5,7 @@ use Rattle.log_store.specs.Disk.{Files, Disk, Leaves, Stayed, Looked}
 use Rattle.log_store.specs.Sound.{OneOf, IsSound}
 use Rattle.log_store.specs.Making.{Added}
 use Rattle.log_store.specs.Store.{Held, Relieved, Applied}
-use Rattle.store.specs.declared.store.StoreError.{StoreError}
+use Rattle.log_store.specs.declared.carrying.Unfinished.{Unfinished}
 use Rattle.log_store.specs.declared.edit.Edit.{Edit}
 use Rattle.log_store.specs.declared.which.Which.{Which}
 use Rattle.log_store.proofs.Steps.{and_then, weaker, looked_one}
@@ -37,7 +37,7 @@ applied edits records past pending more doubt old new sure is a = record {
 }
 
 -- what was carried out before a change
-pub relieved_applied : (edits : List Edit) (records : Records) (past : List Records) (first pending : List Which) (a doubt : Bool) (old mid new : Disk) (r : Result (Unit {0}) StoreError) → Relieved records past first a old mid → Applied edits records past pending doubt mid new r
+pub relieved_applied : (edits : List Edit) (records : Records) (past : List Records) (first pending : List Which) (a doubt : Bool) (old mid new : Disk) (r : Result (Unit {0}) Unfinished) → Relieved records past first a old mid → Applied edits records past pending doubt mid new r
     → Applied edits records past pending doubt old new r
 relieved_applied edits records past first pending a doubt old mid new r x y = record {
   leaves = and_then (OneOf (changed edits records ∷ records ∷ past)) (weaker (λ c l o. inr o) x.leaves) y.leaves;
@@ -47,7 +47,7 @@ relieved_applied edits records past first pending a doubt old mid new r x y = re
 }
 
 -- a change that failed, and was tried again
-pub applied_again : (edits : List Edit) (records : Records) (past : List Records) (first pending : List Which) (a doubt : Bool) (old mid new : Disk) (e : StoreError) (r : Result (Unit {0}) StoreError) → Applied edits records past first a old mid (Err e)
+pub applied_again : (edits : List Edit) (records : Records) (past : List Records) (first pending : List Which) (a doubt : Bool) (old mid new : Disk) (e : Unfinished) (r : Result (Unit {0}) Unfinished) → Applied edits records past first a old mid (Err e)
     → Applied edits records past pending doubt mid new r → Applied edits records past pending doubt old new r
 applied_again edits records past first pending a doubt old mid new e r x y = record {
   leaves = and_then (OneOf (changed edits records ∷ records ∷ past)) x.leaves y.leaves;
@@ -56,7 +56,7 @@ applied_again edits records past first pending a doubt old mid new e r x y = rec
   failed = y.failed;
 }
 
-pub not_relieved : (edits : List Edit) (records : Records) (past : List Records) (pending : List Which) (doubt : Bool) (old new : Disk) (r : Result (Unit {0}) StoreError)
+pub not_relieved : (edits : List Edit) (records : Records) (past : List Records) (pending : List Which) (doubt : Bool) (old new : Disk) (r : Result (Unit {0}) Unfinished)
     → OnOk r ((doubt ≡ false) × IsSound (changed edits records) (records ∷ past) pending new) → Relieved records past pending doubt old new → Applied edits records past pending doubt old new r
 not_relieved edits records past pending doubt old new r none x = record {
   leaves = weaker (λ c l o. inr o) x.leaves;
@@ -65,6 +65,6 @@ not_relieved edits records past pending doubt old new r none x = record {
   failed = failed_by r x.held;
 }
   where
-    failed_by : (q : Result (Unit {0}) StoreError) → Held records past pending doubt new → OnErr q (Held records past pending doubt new)
+    failed_by : (q : Result (Unit {0}) Unfinished) → Held records past pending doubt new → OnErr q (Held records past pending doubt new)
     failed_by (Ok u) h = tt
     failed_by (Err e) h = h

@@ -2,7 +2,7 @@
 use Rattle.std.proofs.Common.{◌≡◌, ◌⊎◌, inl, inr, ⊎_elim, ℕ, suc, ◌≤◌, ◌++◌, Bool, true, false, if◌then◌else◌, List, [], ◌∷◌, take, Option, Result, Ok, Err, OnOk, refl, sym, ◌∙◌, ap, subst, arith}
 use Rattle.log_store.specs.Names.{same}
 use Rattle.log_store.specs.Lines.{Log}
-use Rattle.log_store.specs.Disk.{Files, File, Missing, Loose, Firm, Passes, Agrees, Landed, taken, Only, Moved, Wrote, Flushed, Renamed, Removed, FlushedFolder, Stayed, Appended, Cut, FlushedLog}
+use Rattle.log_store.specs.Disk.{Files, File, Missing, Loose, Firm, Passes, Agrees, Landed, taken, Only, Moved, Wrote, Flushed, Renamed, Removed, FlushedFolder, FlushedAll, firmed, Stayed, Appended, Cut, FlushedLog}
 use Rattle.log_store.specs.Pending.{Names, Operation, Link, Move, Unlink, after, Survives, Left, IsOneOf, Pending, disk, now, done, logged, found, found_agrees}
 use Rattle.log_store.specs.declared.edit.Line.{Line}
 use Rattle.log_store.specs.declared.folder.Fault.{Fault}
@@ -126,6 +126,20 @@ meets_flush_folder p = record {
   entries = refl;
   crash = λ c l both. ((p.here, p.whole, λ x. subst (λ (f : File). Agrees f (c x)) (both.0.1 x) (both.0.2 x)), both.1);
   done = λ c l both x. subst (λ (f : File). Agrees f (c x)) (both.0.1 x) (both.0.2 x);
+}
+
+agrees_firmed : (f : File) (o : Option (List ℕ)) → Agrees (firmed f) o → Agrees f o
+agrees_firmed Missing o is = is
+agrees_firmed (Loose b) o is = tt
+agrees_firmed (Firm b) o is = is
+
+pub meets_flush_all : (p : Pending) → FlushedAll (disk p) (disk (now p (λ x. firmed (p.here x)) (λ x. firmed (p.here x)) [] (λ x. refl) p.entries p.logs)) (Ok tt)
+meets_flush_all p = record {
+  time = passes p (λ x. firmed (p.here x)) (λ x. firmed (p.here x)) [] (λ x. refl) p.entries p.logs;
+  seen = inr (λ x. refl);
+  entries = refl;
+  crash = λ c l both. ((p.here, p.whole, λ x. agrees_firmed (p.here x) (c x) (subst (λ (f : File). Agrees f (c x)) (both.0.1 x) (both.0.2 x))), both.1);
+  done = (λ x. refl, λ c l both x. subst (λ (f : File). Agrees f (c x)) (both.0.1 x) (both.0.2 x));
 }
 
 -- a flush that fails may do nothing

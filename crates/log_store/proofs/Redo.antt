@@ -2,7 +2,7 @@
 use Rattle.std.proofs.Common.{◌≡◌, inl, inr, ⊎_elim, ℕ, ◌≤◌, ◌⊎◌, ◌++◌, Bool, true, false, if◌then◌else◌, List, [], ◌∷◌, length, get_or, take, drop, take_all, ◌-◌, Option, Some, None, Result, Ok, Err, OnOk, refl, sym, ◌∙◌, ap, ap₂, subst, true≢false, arith}
 use Rattle.log_store.specs.Names.{same, same_which, is_among}
 use Rattle.log_store.specs.Lines.{Log, Records, over, latest, task_of, all_lines, names}
-use Rattle.log_store.specs.Disk.{Files, File, Missing, Loose, Firm, Disk, Leaves, Passes, Agrees, Landed, Only, Same, taken, Moved, MovedOnDisk, Wrote, Flushed, Renamed, Removed, FlushedFolder, FlushedLog, Cut, Stayed, Looked}
+use Rattle.log_store.specs.Disk.{Files, File, Missing, Loose, Firm, Disk, Leaves, Passes, Agrees, Landed, Only, Same, taken, Moved, MovedOnDisk, Wrote, Flushed, Renamed, Removed, FlushedFolder, FlushedAll, firmed, FlushedLog, Cut, Stayed, Looked}
 use Rattle.log_store.specs.Sound.{kept, resolved, shown, shown_file, moves, Loads, OneOf, IsSound, IsFirm, IsAtRest, IsQuiet, IsRest, AreThere, AreLeft, WroteFirm, LineDone, Passed, Redone, Finished, Emptied, Carried, UnlessInDoubt, unfinished_by}
 use Rattle.log_store.specs.Store.{Relieved, Held}
 use Rattle.store.specs.declared.store.StoreError.{StoreError}
@@ -93,13 +93,13 @@ is_gone : (records : Records) (n : Which) (d : Disk) → IsFirm records d → ta
 is_gone records n d f is = sym (ap (λ (o : Option Task). shown_file o (d.seen (New n)) (d.seen (Record n))) is) ∙ f.seen n
 
 module _ (records : Records) (n : Which) (bytes : List ℕ) (old mid : Disk) (f : IsFirm records old) (is : task_of old.entries n ≡ Some (task.Put bytes)) where
-  wrote_firm : (r : Result (Unit {0}) Fault) → WroteFirm old mid (Record n) bytes r → IsFirm records mid
+  wrote_firm : (r : Result (Unit {0}) Fault) → Wrote old mid (Record n) bytes r → IsFirm records mid
   wrote_firm r wrote = firm_touched records n (task.Put bytes) refl old f is mid (touched_record wrote.others wrote.entries wrote.crash)
 
-  wrote_leaves : (r : Result (Unit {0}) Fault) → WroteFirm old mid (Record n) bytes r → Leaves old mid (λ c l. Loads l c records)
-  wrote_leaves r wrote = weaker (λ c l from. loads_beside records n (task.Put bytes) refl old f is c l (from.0, from.1, λ x r s. from.2 x r)) wrote.leaves
+  wrote_leaves : (r : Result (Unit {0}) Fault) → Wrote old mid (Record n) bytes r → Leaves old mid (λ c l. Loads l c records)
+  wrote_leaves r wrote = one_step (λ c l. Loads l c records) wrote.time (firm_loads (wrote_firm r wrote))
 
-  pub put_fails : (e : Fault) → WroteFirm old mid (Record n) bytes (Err e) → LineDone records n old mid (Err e)
+  pub put_fails : (e : Fault) → Wrote old mid (Record n) bytes (Err e) → LineDone records n old mid (Err e)
   put_fails e wrote = record {
     leaves = wrote_leaves (Err e) wrote;
     firm = wrote_firm (Err e) wrote;
@@ -108,7 +108,7 @@ module _ (records : Records) (n : Which) (bytes : List ℕ) (old mid : Disk) (f 
     done = tt;
   }
 
-  pub put_done : (new : Disk) (r : Result (Unit {0}) Fault) → WroteFirm old mid (Record n) bytes (Ok tt) → Removed mid new (New n) r → LineDone records n old new r
+  pub put_done : (new : Disk) (r : Result (Unit {0}) Fault) → Wrote old mid (Record n) bytes (Ok tt) → Removed mid new (New n) r → LineDone records n old new r
   put_done new r wrote removed =
       let g : IsFirm records mid = wrote_firm (Ok tt) wrote in
       let at : task_of mid.entries n ≡ Some (task.Put bytes) = ap (λ (l : Log). task_of l n) wrote.entries ∙ is in
@@ -118,7 +118,7 @@ module _ (records : Records) (n : Which) (bytes : List ℕ) (old mid : Disk) (f 
         firm = h;
         others = λ m ne. removed.others (Record m) refl ∙ wrote.others (Record m) ne;
         entries = removed.entries ∙ wrote.entries;
-        done = on_ok r (λ u. removed.others (Record n) refl ∙ wrote.done ∙ is_put records n bytes old f is) (always r);
+        done = on_ok r (λ u. ap firmed (removed.others (Record n) refl ∙ wrote.done) ∙ is_put records n bytes old f is) (always r);
       }
 
 module _ (records : Records) (n : Which) (old mid : Disk) (f : IsFirm records old) (is : task_of old.entries n ≡ Some task.Goes) where
@@ -144,7 +144,7 @@ module _ (records : Records) (n : Which) (old mid : Disk) (f : IsFirm records ol
         firm = h;
         others = λ m ne. second.others (Record m) refl ∙ first.others (Record m) ne;
         entries = second.entries ∙ first.entries;
-        done = on_ok r (λ u. second.others (Record n) refl ∙ first.done ∙ is_gone records n old f is) (always r);
+        done = on_ok r (λ u. ap firmed (second.others (Record n) refl ∙ first.done) ∙ is_gone records n old f is) (always r);
       }
 
 is_firm : File → Type 0
@@ -191,6 +191,19 @@ pub landed : (f g : File) (o a : Option (List ℕ)) → Landed f o → taken f g
 landed Missing g o a l e = absurd l
 landed (Loose b) g o a l e = absurd (kept_loose b a e)
 landed (Firm b) g o a l e = l ∙ kept_firm b a e
+
+pub firmed_kept : (a : Option (List ℕ)) → firmed (kept a) ≡ kept a
+firmed_kept None = refl
+firmed_kept (Some b) = refl
+
+-- flushing files leaves what they stand for
+firmed_shown : (t : Option Task) (a b : File) → shown_file t (firmed a) (firmed b) ≡ firmed (shown_file t a b)
+firmed_shown None a b = refl
+firmed_shown (Some (task.Put bytes)) a b = refl
+firmed_shown (Some (task.Moves k)) Missing b = refl
+firmed_shown (Some (task.Moves k)) (Loose x) b = refl
+firmed_shown (Some (task.Moves k)) (Firm x) b = refl
+firmed_shown (Some task.Goes) a b = refl
 
 -- a new file takes its place
 module _ (records : Records) (n : Which) (k : ℕ) (old new : Disk) (f : IsFirm records old) (is : task_of old.entries n ≡ Some (task.Moves k)) (r : Result (Unit {0}) Fault) (did : Renamed old new n r) where
@@ -242,7 +255,7 @@ module _ (records : Records) (n : Which) (k : ℕ) (old new : Disk) (f : IsFirm 
     firm = firm_after;
     others = λ m ne. ⊎_elim (λ s. s (Record m)) (λ mv. mv.others (Record m) refl ne) did.whole;
     entries = did.entries;
-    done = on_ok r (λ mv. mv.there ∙ was) did.done;
+    done = on_ok r (λ mv. ap firmed (mv.there ∙ was) ∙ firmed_kept (records n)) did.done;
   }
 
 -- the next line was carried out, or needn't be
@@ -277,8 +290,8 @@ module _ (records : Records) (line : Line) (rest : List Line) (old : Disk) (f : 
     done = on_ok r (λ at_n. record {
       part = λ n. ⊎_elim (λ is. inl is) (λ is. inr (is ∙ ap (λ (l : Log). task_of l n) (sym did.entries))) (part_on n);
       done = λ n is. ⊎_elim
-          (λ at. subst (λ (m : Which). new.seen (Record m) ≡ kept (records m)) (sym at) at_n)
-          (λ ne. did.others n ne ∙ so.done n (behind line rest n ne ∙ is))
+          (λ at. subst (λ (m : Which). firmed (new.seen (Record m)) ≡ kept (records m)) (sym at) at_n)
+          (λ ne. ap firmed (did.others n ne) ∙ so.done n (behind line rest n ne ∙ is))
           (same_or_not n line.which);
     }) did.done;
   }
@@ -301,7 +314,7 @@ redo_ends records d f so = record { leaves = nothing (λ c l. Loads l c records)
 pub begins : (records : Records) (lines : List Line) (d : Disk) → IsFirm records d → lines ≡ all_lines d.entries → IsRest lines records d
 begins records lines d f is = record {
   part = λ n. inr (ap (λ (xs : List Line). latest xs n) is ∙ all_say d.entries n);
-  done = λ n none. sym (ap (λ (o : Option Task). shown_file o (d.seen (New n)) (d.seen (Record n))) (sym (all_say d.entries n) ∙ ap (λ (xs : List Line). latest xs n) (sym is) ∙ none)) ∙ f.seen n;
+  done = λ n none. ap firmed (sym (ap (λ (o : Option Task). shown_file o (d.seen (New n)) (d.seen (Record n))) (sym (all_say d.entries n) ∙ ap (λ (xs : List Line). latest xs n) (sym is) ∙ none)) ∙ f.seen n) ∙ firmed_kept (records n);
 }
 
 -- between a sound folder and one whose log is on the disk
@@ -367,26 +380,32 @@ module _ (records : Records) (past : List Records) (pending : List Which) (lines
     pub redo_failed : (d2 : Disk) (e : Fault) → Redone records d1 d2 (Err e) → Finished records past pending d0 d2 (Err e)
     redo_failed d2 e redone = record { leaves = leaves_2 d2 (Err e) redone; sound = sound_2 d2 (Err e) redone; entries = same_2 d2 (Err e) redone; done = tt }
 
-    module _ (d2 d3 : Disk) (redone : Redone records d1 d2 (Ok tt)) (r : Result (Unit {0}) Fault) (did : FlushedFolder d2 d3 r) where
+    module _ (d2 d3 : Disk) (redone : Redone records d1 d2 (Ok tt)) (r : Result (Unit {0}) Fault) (did : FlushedAll d2 d3 r) where
+      seen_3 : (n : Which) → shown_file (task_of d2.entries n) (d3.seen (New n)) (d3.seen (Record n)) ≡ kept (records n)
+      seen_3 n = ⊎_elim
+          (λ s. ap₂ (shown_file (task_of d2.entries n)) (s (New n)) (s (Record n)) ∙ redone.firm.seen n)
+          (λ s. ap₂ (shown_file (task_of d2.entries n)) (s (New n)) (s (Record n)) ∙ firmed_shown (task_of d2.entries n) (d2.seen (New n)) (d2.seen (Record n)) ∙ ap firmed (redone.firm.seen n) ∙ firmed_kept (records n))
+          did.seen
+
       firm_3 : IsFirm records d3
       firm_3 = record {
-        seen = λ n. ap₂ (shown_file (task_of d3.entries n)) (did.seen (New n)) (did.seen (Record n)) ∙ ap (λ (l : Log). shown_file (task_of l n) (d2.seen (New n)) (d2.seen (Record n))) did.entries ∙ redone.firm.seen n;
+        seen = λ n. ap (λ (l : Log). shown_file (task_of l n) (d3.seen (New n)) (d3.seen (Record n))) did.entries ∙ seen_3 n;
         log = λ c l left. redone.firm.log c l (did.crash c l left) ∙ sym did.entries;
         whole = λ c l left. subst (λ (k : Log). Loads k c records) (sym did.entries) (redone.firm.whole c l (did.crash c l left));
       }
 
-      there_3 : AreThere records d3
-      there_3 n = did.seen (Record n) ∙ redone.done n
+      there_3 : ((x : FileName) → d3.seen x ≡ firmed (d2.seen x)) → AreThere records d3
+      there_3 s n = s (Record n) ∙ redone.done n
 
       pub finished : Finished records past pending d0 d3 r
       finished = record {
         leaves = and_then (OneOf (records ∷ past)) (leaves_2 d2 (Ok tt) redone) (one_step (OneOf (records ∷ past)) did.time (λ c l left. inl (firm_loads firm_3 c l left)));
         sound = firm_sound records past pending d3 firm_3 (free_same pending d0 d3 (did.entries ∙ same_2 d2 (Ok tt) redone) s.free);
         entries = did.entries ∙ same_2 d2 (Ok tt) redone;
-        done = on_ok r (λ agrees. record {
+        done = on_ok r (λ both. record {
           firm = firm_3;
-          there = there_3;
-          left = λ c l left n. agrees_kept (d3.seen (Record n)) (c (Record n)) (records n) (agrees c l left (Record n)) (there_3 n);
+          there = there_3 both.0;
+          left = λ c l left n. agrees_kept (d3.seen (Record n)) (c (Record n)) (records n) (both.1 c l left (Record n)) (there_3 both.0 n);
         }) did.done;
       }
 

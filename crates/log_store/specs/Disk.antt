@@ -142,6 +142,20 @@ pub record FlushedFolder (old new : Disk) (result : Result (Unit {0}) Fault) : T
   pub crash : NoMore old new
   pub done : OnOk result ((c : Files) (l : Log) → new.may_leave c l → (x : FileName) → Agrees (new.seen x) (c x))
 
+-- a file as it is once it is flushed
+abbrev pub firmed : File → File
+firmed Missing = Missing
+firmed (Loose bytes) = Firm bytes
+firmed (Firm bytes) = Firm bytes
+
+-- each file that was written is firm, and each name where it is seen
+pub record FlushedAll (old new : Disk) (result : Result (Unit {0}) Fault) : Type 0 where
+  pub time : Passes old new
+  pub seen : Same old.seen new.seen ⊎ ((x : FileName) → new.seen x ≡ firmed (old.seen x))
+  pub entries : new.entries ≡ old.entries
+  pub crash : NoMore old new
+  pub done : OnOk result (((x : FileName) → new.seen x ≡ firmed (old.seen x)) × ((c : Files) (l : Log) → new.may_leave c l → (x : FileName) → Agrees (new.seen x) (c x)))
+
 -- an entry was added as a whole or not at all; until the log is flushed a cut leaves what it might have left before, or all entries.
 -- What it leaves of an entry that wasn't flushed is no entry: it doesn't have its own length and sum, whatever the bytes.
 pub record Appended (old new : Disk) (entry : List Line) (result : Result (Unit {0}) Fault) : Type 0 where

@@ -6,7 +6,7 @@ use Rattle.log_store.specs.declared.carrying.Unfinished.{Unfinished}
 use Rattle.log_store.specs.declared.carrying.Unfinished.TheVariants as unfinished
 use Rattle.log_store.specs.Names.{same, same_which, is_among}
 use Rattle.log_store.specs.Lines.{Log, Records, over, latest, task_of, all_lines, lines_of, changed, is_large_what}
-use Rattle.log_store.specs.Disk.{Files, File, Missing, Firm, Disk, Leaves, Only, taken}
+use Rattle.log_store.specs.Disk.{Files, File, Missing, Firm, Disk, Leaves, Only, taken, firmed}
 use Rattle.log_store.specs.declared.edit.Line.{Line}
 use Rattle.log_store.specs.declared.edit.Task.{Task}
 use Rattle.log_store.specs.declared.edit.Task.TheVariants as task
@@ -71,6 +71,10 @@ pub record IsFirm (records : Records) (d : Disk) : Type 0 where
 abbrev pub AreThere : Records → Disk → Type 0
 AreThere records d = (n : Which) → d.seen (Record n) ≡ kept (records n)
 
+-- each record is under its name, flushed or not
+abbrev pub AreWritten : Records → Disk → Type 0
+AreWritten records d = (n : Which) → firmed (d.seen (Record n)) ≡ kept (records n)
+
 -- and on the disk
 abbrev pub AreLeft : Records → Disk → Type 0
 AreLeft records d = (c : Files) (l : Log) → d.may_leave c l → (n : Which) → c (Record n) ≡ records n
@@ -101,12 +105,12 @@ pub record LineDone (records : Records) (n : Which) (old new : Disk) (result : R
   pub firm : IsFirm records new
   pub others : (m : Which) → same_which m n ≡ false → new.seen (Record m) ≡ old.seen (Record m)
   pub entries : new.entries ≡ old.entries
-  pub done : OnOk result (new.seen (Record n) ≡ kept (records n))
+  pub done : OnOk result (firmed (new.seen (Record n)) ≡ kept (records n))
 
 -- these are the last lines of the log, and what others say was carried out
 pub record IsRest (lines : List Line) (records : Records) (d : Disk) : Type 0 where
   pub part : (n : Which) → (latest lines n ≡ None) ⊎ (latest lines n ≡ task_of d.entries n)
-  pub done : (n : Which) → latest lines n ≡ None → d.seen (Record n) ≡ kept (records n)
+  pub done : (n : Which) → latest lines n ≡ None → firmed (d.seen (Record n)) ≡ kept (records n)
 
 -- one line of the last was carried out, or needn't be
 pub record Passed (rest : List Line) (records : Records) (old new : Disk) (result : Result (Unit {0}) Fault) : Type 0 where
@@ -119,7 +123,7 @@ pub record Redone (records : Records) (old new : Disk) (result : Result (Unit {0
   pub leaves : Leaves old new (λ c l. Loads l c records)
   pub firm : IsFirm records new
   pub entries : new.entries ≡ old.entries
-  pub done : OnOk result (AreThere records new)
+  pub done : OnOk result (AreWritten records new)
 
 -- the log was carried out, as far as it went
 pub record Finished (records : Records) (past : List Records) (pending : List Which) (old new : Disk) (result : Result (Unit {0}) Fault) : Type 0 where

@@ -12,7 +12,7 @@ ghost use Rattle.log_store.specs.declared.edit.Task.TheVariants as task;
 use crate::edit::{Line, Task, names};
 use crate::folder::{Fault, Folder};
 use crate::which::{FileName, Which};
-use std::alloc::Global;
+use std::alloc::{AllocError, Global};
 use store::store::StoreError;
 
 /// Writes a file whole; its bytes are on the disk.
@@ -30,13 +30,13 @@ pub(crate) fn write_firm<D: Folder>(
     folder.flush(name)
 }
 
-/// Gives a record its bytes.
+/// Gives a record its bytes, which are flushed later.
 fn put<D: Folder>(folder: &mut D, which: Which, bytes: &[u8]) -> Result<(), Fault>
     ensures does { D.told → (records : Records) → IsFirm records (D.state folder.old) → task_of (D.state folder.old).entries which ≡ Some (task.Put bytes.now) → LineDone records which (D.state folder.old) (D.state folder.new) result }
     ensures later { D.faults folder.old ≤ D.faults folder.new }
     ensures cause { OnErr result (Rose (D.faults folder.old) (D.faults folder.new)) }
 {
-    write_firm(folder, FileName::Record(which), &[], bytes)?;
+    folder.write(FileName::Record(which), &[], bytes)?;
     folder.remove(FileName::New(which))
 }
 
@@ -99,7 +99,7 @@ pub(crate) fn finish<D: Folder>(folder: &mut D, lines: &[Line]) -> Result<(), Fa
 {
     folder.flush_log()?;
     redo(folder, lines)?;
-    folder.flush_folder()
+    folder.flush_all()
 }
 
 /// Empties a log that was carried out.
@@ -112,15 +112,23 @@ pub(crate) fn empty<D: Folder>(folder: &mut D) -> Result<(), Fault>
     folder.flush_log()
 }
 
-/// Why a log was not carried out to its end.
+/// Why a change was not made, or the log not carried out.
 #[derive(Clone, Copy)]
 pub enum Unfinished {
-    /// A call failed; the log is as it was.
+    /// A call failed; the records are as they were.
     Failed,
-    /// Memory ran out; the log is as it was.
+    /// Memory ran out; the records are as they were.
     Memory,
-    /// A call failed, and the log may be empty or as it was.
+    /// A call failed, and it isn't known what the folder holds.
     InDoubt,
+}
+
+impl From<AllocError> for Unfinished {
+    ghost from_gives = { λ _ e. e ≡ unfinished.Memory };
+
+    fn from(_want: AllocError) -> Unfinished {
+        Unfinished::Memory
+    }
 }
 
 impl From<StoreError> for Unfinished {

@@ -6,7 +6,8 @@ ghost use Rattle.store.specs.declared.store.StoreError.TheVariants as errors;
 ghost use Rattle.log_store.specs.Lines.{Records, Log};
 ghost use Rattle.log_store.specs.Disk.{Files};
 ghost use Rattle.log_store.specs.Sound.{IsSound, IsQuiet, Loads};
-ghost use Rattle.log_store.specs.Store.{IsRead, Rested, Swept, Closed, Tidied, carried};
+ghost use Rattle.log_store.specs.Store.{IsLeft, CaughtUp, Rested, Swept, Closed, Tidied, carried};
+ghost use Rattle.log_store.specs.declared.carrying.Unfinished.TheVariants as unfinished;
 ghost use Rattle.log_store.specs.declared.which.Which.{Which};
 ghost use Rattle.log_store.specs.declared.which.FileName.TheVariants as file_name;
 
@@ -16,12 +17,23 @@ use crate::which::{FileName, Which};
 use std::alloc::{AllocError, Global};
 use store::store::StoreError;
 
-/// Carries out what a cut left of a log.
+/// All that is seen is on the disk: what an earlier run wrote and didn't flush, too.
+fn catch_up<D: Folder>(folder: &mut D) -> Result<(), Fault>
+    ensures does { D.told → (c : Files) (l : Log) (past : List Records) → IsLeft c l past (D.state folder.old) → CaughtUp c l past (D.state folder.old) (D.state folder.new) result }
+    ensures later { D.faults folder.old ≤ D.faults folder.new }
+    ensures cause { OnErr result (Rose (D.faults folder.old) (D.faults folder.new)) }
+{
+    folder.flush_log()?;
+    folder.flush_all()
+}
+
+/// Carries out what a cut or a kill left of a log.
 pub(crate) fn rest<D: Folder>(folder: &mut D, alloc: Global) -> Result<(), StoreError>
-    ensures does { D.told → (c : Files) (l : Log) (records : Records) → IsRead c l (D.state folder.old) → Loads l c records → Rested records (D.state folder.old) (D.state folder.new) result }
+    ensures does { D.told → (c : Files) (l : Log) (records : Records) (past : List Records) → IsLeft c l past (D.state folder.old) → Loads l c records → Rested records past (D.state folder.old) (D.state folder.new) result }
     ensures later { D.faults folder.old ≤ D.faults folder.new }
     ensures cause { IsErrOf result errors.Failed → Rose (D.faults folder.old) (D.faults folder.new) }
 {
+    catch_up(folder)?;
     carried(carry_out(folder, alloc))
 }
 
@@ -91,15 +103,16 @@ pub(crate) fn sweep<D: Folder>(folder: &mut D, alloc: Global) -> Result<Vec<Whic
 }
 
 /// Carries all out; the folder then holds the records' files alone.
-pub(crate) fn close<D: Folder>(folder: &mut D, alloc: Global) -> Result<(), StoreError>
+pub(crate) fn close<D: Folder>(folder: &mut D, alloc: Global) -> Result<(), Unfinished>
     ensures does { D.told → (records : Records) (past : List Records) (pending : List Which) → IsSound records past pending (D.state folder.old) → Closed records past (D.state folder.old) (D.state folder.new) result }
     ensures later { D.faults folder.old ≤ D.faults folder.new }
-    ensures cause { IsErrOf result errors.Failed → Rose (D.faults folder.old) (D.faults folder.new) }
+    ensures failed { IsErrOf result unfinished.Failed → Rose (D.faults folder.old) (D.faults folder.new) }
+    ensures in_doubt { IsErrOf result unfinished.InDoubt → Rose (D.faults folder.old) (D.faults folder.new) }
 {
-    carried(carry_out(folder, alloc))?;
+    carry_out(folder, alloc)?;
     let _names = sweep(folder, alloc)?;
     match folder.drop_log() {
         Ok(()) => Ok(()),
-        Err(Fault) => Err(StoreError::Failed),
+        Err(Fault) => Err(Unfinished::Failed),
     }
 }

@@ -4,7 +4,7 @@
 ghost use Rattle.std.specs.Prelude.{◌≡◌, ℕ, ◌≤◌, ◌++◌, length, List, Option, OnErr, IsErrOf};
 ghost use Rattle.lb_base.specs.Causes.{Rose};
 ghost use Rattle.store.specs.declared.store.StoreError.TheVariants as errors;
-ghost use Rattle.log_store.specs.Disk.{Disk, Files, Wrote, Flushed, Renamed, Removed, FlushedFolder, Stayed, Shows, Lists, Tells, Appended, Cut, FlushedLog};
+ghost use Rattle.log_store.specs.Disk.{Disk, Files, Wrote, Flushed, Renamed, Removed, FlushedFolder, FlushedAll, Stayed, Shows, Lists, Tells, Appended, Cut, FlushedLog};
 ghost use Rattle.log_store.specs.Lines.{Log, lines_of};
 
 use crate::edit::{Edit, Line};
@@ -78,6 +78,12 @@ pub trait Folder {
     /// The names are on the disk. Where it failed once it fails for ever.
     fn flush_folder(&mut self) -> Result<(), Fault>
         ensures does { told → FlushedFolder (state self.old) (state self.new) result }
+        ensures later { faults self.old ≤ faults self.new }
+        ensures cause { OnErr result (Rose (faults self.old) (faults self.new)) };
+
+    /// All files that were written are on the disk, and the names. Where it failed once it fails for ever.
+    fn flush_all(&mut self) -> Result<(), Fault>
+        ensures does { told → FlushedAll (state self.old) (state self.new) result }
         ensures later { faults self.old ≤ faults self.new }
         ensures cause { OnErr result (Rose (faults self.old) (faults self.new)) };
 

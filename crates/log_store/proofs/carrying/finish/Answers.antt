@@ -11,4 +11,4 @@ returns-in_err-redo-clause-does g c = λ told records past pending s is.
 pub returns-clause-does : goal.returns-clause-does
 returns-clause-does g c = λ told records past pending s is.
     let flushed = c.in_ok-flush_log.ensures.does told in
-    finished records past pending c.args.lines.now _ _ s flushed _ _ (c.in_ok-redo.ensures.does told records (firm_1 records past pending c.args.lines.now _ _ s flushed) (rest_1 records past pending c.args.lines.now _ _ s flushed is)) _ (c.flush_folder.ensures.does told)
+    finished records past pending c.args.lines.now _ _ s flushed _ _ (c.in_ok-redo.ensures.does told records (firm_1 records past pending c.args.lines.now _ _ s flushed) (rest_1 records past pending c.args.lines.now _ _ s flushed is)) _ (c.flush_all.ensures.does told)

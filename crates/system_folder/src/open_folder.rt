@@ -1,10 +1,13 @@
 //! A folder of the host that is open, by the system's calls: what `disk_folder` counts the faults of.
 
-use crate::disk_files::{READ_MOST, has_room, more_room, read_file, unless_gone, write_file};
-use crate::log_file::{LogFile, RESERVE};
+use crate::disk_files::{
+    READ_MOST, has_room, is_missing, more_room, open_regular, read_file, unless_gone, write_file,
+};
+use crate::log_file::{LogFile, Need, RESERVE, SPARES};
 use crate::naming::held_by;
 use crate::paths::Paths;
 use crate::redo::carry_out;
+use crate::strangers::{Stranger, stranger_in};
 use log_store::edit::{Edit, Line, What};
 use log_store::entry::add_lines;
 use log_store::frame::{FRONT, frame_at, number_at};
@@ -13,7 +16,7 @@ use std::alloc::{AllocError, Global};
 use std::fs::{File, TryLockError};
 use std::io::{Error, ErrorKind};
 use std::rt::Files;
-use std::{fs, io};
+use std::{fs, io, mem};
 
 /// The most bytes of a log: those after which it is carried out, and the entry that makes it so long.
 const LOG_MOST: u64 = 4 << 20;
@@ -42,8 +45,14 @@ pub(crate) struct OpenFolder<R> {
     /// The log, once it was made.
     log: Option<LogFile>,
     written: Option<Written>,
+    /// The files that were written since all were flushed.
+    loose: Vec<FileName>,
+    /// Whether what an earlier run left may not be flushed.
+    is_left: bool,
     /// Whether the reserve is there.
     reserve: bool,
+    /// How many empty files are known to be kept beside it.
+    spares: usize,
     /// Whether nothing is flushed.
     unsynced: bool,
     /// Whether a flush failed: of what wasn't on the disk then nothing is known, and no later flush tells.
@@ -60,7 +69,10 @@ impl<R: Drop> Drop for OpenFolder<R> {
             paths,
             log,
             written,
+            loose,
+            is_left: _is_left,
             reserve: _reserve,
+            spares: _spares,
             unsynced: _unsynced,
             lost: _lost,
         } = self;
@@ -69,6 +81,7 @@ impl<R: Drop> Drop for OpenFolder<R> {
         drop(paths);
         drop(log);
         drop(written);
+        drop(loose);
     }
 }
 
@@ -85,7 +98,7 @@ fn lock_folder<R: Files<File = File>>(rt: &R, place: &str) -> Result<File, TryLo
 }
 
 /// The record that a file's name is of, and whether the file is a new one beside it.
-fn file_named(name: &[u8]) -> Option<(Which, bool)> {
+pub(crate) fn file_named(name: &[u8]) -> Option<(Which, bool)> {
     match name.split_last() {
         Some((b'~', front)) => {
             let which = held_by(front)?;
@@ -99,7 +112,7 @@ fn file_named(name: &[u8]) -> Option<(Which, bool)> {
 }
 
 /// The files of a folder, by their records.
-pub(crate) fn files_there<R: Files + AllocGlobal + Clone + Drop>(
+pub fn files_there<R: Files + AllocGlobal + Clone + Drop>(
     rt: &R,
     alloc: Global,
     folder: &str,
@@ -140,11 +153,7 @@ fn add_frames(alloc: Global, lines: &mut Vec<Line>, log: &[u8]) -> io::Result<()
 }
 
 /// The lines of the log at a path; none where there is none.
-pub(crate) fn read_log<R: Files<File = File>>(
-    rt: &R,
-    alloc: Global,
-    path: &str,
-) -> io::Result<Vec<Line>> {
+pub fn read_log<R: Files<File = File>>(rt: &R, alloc: Global, path: &str) -> io::Result<Vec<Line>> {
     let mut lines = Vec::new(alloc);
     if let Some(bytes) = read_file(rt, alloc, path, LOG_MOST)? {
         add_frames(alloc, &mut lines, bytes.as_slice())?;
@@ -180,22 +189,29 @@ impl<R: Files<File = File> + AllocGlobal + Clone + Drop> OpenFolder<R> {
         };
         match lock_folder(&rt, place) {
             Ok(lock) => {
-                let mut folder = OpenFolder {
+                Ok(OpenFolder {
                     rt,
                     alloc,
                     lock,
                     paths,
                     log: None,
                     written: None,
+                    loose: Vec::new(alloc),
+                    is_left: true,
                     reserve: false,
+                    spares: 0,
                     unsynced,
                     lost: false,
-                };
-                folder.find_reserve();
-                Ok(folder)
+                })
             }
             Err(why) => Err(why),
         }
+    }
+
+    /// What in the folder is no store's, if anything is.
+    pub(crate) fn stranger(&mut self) -> io::Result<Option<Stranger>> {
+        self.paths.name_folder()?;
+        stranger_in(&self.rt, self.alloc, self.paths.folder())
     }
 
     /// By what the folder is reached.
@@ -218,41 +234,66 @@ impl<R: Files<File = File> + AllocGlobal + Clone + Drop> OpenFolder<R> {
     }
 
     /// Looks whether an earlier run left the reserve, for what it left in its log.
-    fn find_reserve(&mut self) {
+    pub(crate) fn find_reserve(&mut self) {
         self.reserve = match self.paths.name_reserve() {
             Ok(()) => has_room(&self.rt, self.paths.at(), RESERVE as u64),
             Err(_want) => false,
         };
     }
 
-    /// How much room carrying out these edits needs at most.
-    fn need_of(&mut self, edits: &[Edit<'_>]) -> io::Result<u64> {
-        let mut need = 0u64;
+    /// What carrying out these edits needs at most.
+    fn need_of(&mut self, edits: &[Edit<'_>]) -> io::Result<Need> {
+        let mut need = Need::NONE;
         for edit in edits.iter() {
             if let What::Put(parts) = edit.what {
                 self.paths.name(edit.which)?;
                 let len = (parts.front.len() as u64).saturating_add(parts.body.len() as u64);
-                need = need.saturating_add(more_room(&self.rt, self.paths.at(), len));
+                let more = more_room(&self.rt, self.paths.at(), len);
+                need.bytes = need.bytes.saturating_add(more);
+                if is_missing(&self.rt, self.paths.at()) {
+                    need.files = need.files.saturating_add(1);
+                }
             }
         }
         Ok(need)
     }
 
     fn remove_reserve(&mut self) -> io::Result<()> {
-        self.paths.name_reserve()?;
         self.reserve = false;
+        self.spares = 0;
+        for number in 0..SPARES {
+            self.paths.name_spare(number)?;
+            unless_gone(fs::remove_file(&self.rt, self.paths.at()))?;
+        }
+        self.paths.name_reserve()?;
         unless_gone(fs::remove_file(&self.rt, self.paths.at()))
     }
 
-    /// A change of an earlier form that was made is carried out, and goes.
+    /// A change of an earlier form that was made is carried out, and goes. That form flushed nothing: the list
+    /// and the files are on the disk before they are touched, and what was done is before the list goes.
     pub(crate) fn finish_list(&mut self) -> io::Result<()> {
         self.paths.name_list()?;
         unless_gone(fs::remove_file(&self.rt, self.paths.beside()))?;
         let Some(list) = read_file(&self.rt, self.alloc, self.paths.at(), READ_MOST)? else {
             return Ok(());
         };
+        self.flush_list()?;
         carry_out(&self.rt, &mut self.paths, list.as_slice())?;
+        self.flush_folder()?;
+        self.paths.name_list()?;
+        unless_gone(fs::remove_file(&self.rt, self.paths.at()))?;
         self.flush_folder()
+    }
+
+    /// The list of a change, and all files that are there, are on the disk.
+    fn flush_list(&mut self) -> io::Result<()> {
+        if self.unsynced {
+            return Ok(());
+        }
+        if let Some(list) = open_regular(&self.rt, self.paths.at())? {
+            list.sync_data()?;
+        }
+        self.flush_all()
     }
 
     /// The bytes of a file, if it is there.
@@ -279,6 +320,9 @@ impl<R: Files<File = File> + AllocGlobal + Clone + Drop> OpenFolder<R> {
     /// Writes a file; a record's that finds no room gets the reserve's.
     pub(crate) fn write(&mut self, name: FileName, front: &[u8], body: &[u8]) -> io::Result<()> {
         self.written = None;
+        if !self.unsynced {
+            self.loose.push(name)?;
+        }
         self.paths.name_file(name)?;
         let file = match write_file(&self.rt, self.paths.at(), front, body) {
             Err(why) if why.kind() == ErrorKind::StorageFull && self.may_take(name) => {
@@ -329,6 +373,39 @@ impl<R: Files<File = File> + AllocGlobal + Clone + Drop> OpenFolder<R> {
         unless_gone(fs::remove_file(&self.rt, self.paths.at()))
     }
 
+    /// All files that were written are on the disk, and the names.
+    pub(crate) fn flush_all(&mut self) -> io::Result<()> {
+        if self.unsynced {
+            return Ok(());
+        }
+        if self.lost {
+            return Err(lost_before());
+        }
+        let done = self.flush_loose();
+        self.lost = done.is_err();
+        done?;
+        self.loose.clear();
+        self.flush_folder()
+    }
+
+    /// What was written is on the disk, and the first time what is there of earlier runs. One that is gone
+    /// needs nothing.
+    fn flush_loose(&mut self) -> io::Result<()> {
+        let names = if self.is_left {
+            self.names(self.alloc)?
+        } else {
+            mem::replace(&mut self.loose, Vec::new(self.alloc))
+        };
+        for name in &names {
+            self.paths.name_file(*name)?;
+            if let Some(file) = open_regular(&self.rt, self.paths.at())? {
+                file.sync_data()?;
+            }
+        }
+        self.is_left = false;
+        Ok(())
+    }
+
     /// The names are on the disk.
     pub(crate) fn flush_folder(&mut self) -> io::Result<()> {
         self.paths.name_folder()?;
@@ -352,9 +429,12 @@ impl<R: Files<File = File> + AllocGlobal + Clone + Drop> OpenFolder<R> {
     /// Adds an entry to the log.
     pub(crate) fn append(&mut self, edits: &[Edit<'_>]) -> io::Result<()> {
         let need = self.need_of(edits)?;
+        if 0 < need.bytes || 0 < need.files {
+            self.take_reserve()?;
+        }
         self.paths.name_log()?;
         match &mut self.log {
-            Some(log) => log.append(edits, need),
+            Some(log) => log.append(edits, need, self.spares),
             None => Err(Error::from(ErrorKind::NotFound)),
         }
     }
@@ -419,26 +499,41 @@ impl<R: Files<File = File> + AllocGlobal + Clone + Drop> OpenFolder<R> {
         self.reserve
     }
 
-    /// Makes the reserve, if it isn't there.
+    /// Makes the reserve, if it isn't there, and as many of its empty files as there is room for.
     pub(crate) fn take_reserve(&mut self) -> io::Result<()> {
-        if self.reserve {
-            return Ok(());
+        if !self.reserve {
+            match self.make_reserve() {
+                Ok(()) => self.reserve = true,
+                Err(why) => {
+                    // What there is of it would take room from others.
+                    self.remove_reserve()?;
+                    return Err(why);
+                }
+            }
         }
+        self.make_spares()
+    }
+
+    /// Writes the reserve's file.
+    fn make_reserve(&mut self) -> io::Result<()> {
         self.paths.name_reserve()?;
         let bytes = vec![in self.alloc; 1u8; RESERVE]?;
-        let done = write_file(&self.rt, self.paths.at(), bytes.as_slice(), &[]);
-        match done {
-            Ok(file) => {
-                drop(file);
-                self.reserve = true;
-                Ok(())
+        drop(write_file(&self.rt, self.paths.at(), bytes.as_slice(), &[])?);
+        Ok(())
+    }
+
+    /// Makes the empty files that aren't there, as far as there is room.
+    fn make_spares(&mut self) -> io::Result<()> {
+        for number in self.spares..SPARES {
+            self.paths.name_spare(number)?;
+            match write_file(&self.rt, self.paths.at(), &[], &[]) {
+                Ok(file) => drop(file),
+                Err(why) if why.kind() == ErrorKind::StorageFull => return Ok(()),
+                Err(why) => return Err(why),
             }
-            Err(why) => {
-                // What there is of it would take room from others.
-                self.remove_reserve()?;
-                Err(why)
-            }
+            self.spares = number.saturating_add(1);
         }
+        Ok(())
     }
 
     /// Whether so many bytes need no more room than the record's file has.

@@ -25,6 +25,22 @@ pub fn unless_gone(done: io::Result<()>) -> io::Result<()> {
     }
 }
 
+/// Opens a file for reading, if it is there. One that is no regular file isn't opened: it might be waited for.
+pub fn open_regular<R: Files<File = File>>(rt: &R, path: &str) -> io::Result<Option<File>> {
+    match fs::metadata(rt, path) {
+        Ok(facts) if facts.is_dir() => return Err(Error::from(ErrorKind::IsADirectory)),
+        Ok(facts) if !facts.is_file() => return Err(Error::from(ErrorKind::InvalidInput)),
+        Ok(_facts) => {}
+        Err(error) if error.kind() == ErrorKind::NotFound => return Ok(None),
+        Err(error) => return Err(error),
+    }
+    match fs::open(rt, path) {
+        Ok(file) => Ok(Some(file)),
+        Err(error) if error.kind() == ErrorKind::NotFound => Ok(None),
+        Err(error) => Err(error),
+    }
+}
+
 /// The bytes of a regular file, if it is there. One that is longer than a record, or than `most`, isn't read.
 pub fn read_file<R: Files<File = File>>(
     rt: &R,
@@ -32,18 +48,10 @@ pub fn read_file<R: Files<File = File>>(
     path: &str,
     most: u64,
 ) -> io::Result<Option<Vec<u8>>> {
-    let mut file = match fs::open(rt, path) {
-        Ok(file) => file,
-        Err(error) if error.kind() == ErrorKind::NotFound => return Ok(None),
-        Err(error) => return Err(error),
+    let Some(mut file) = open_regular(rt, path)? else {
+        return Ok(None);
     };
     let facts = file.metadata()?;
-    if facts.is_dir() {
-        return Err(Error::from(ErrorKind::IsADirectory));
-    }
-    if !facts.is_file() {
-        return Err(Error::from(ErrorKind::InvalidInput));
-    }
     if most < facts.len() {
         return Err(Error::from(ErrorKind::FileTooLarge));
     }
@@ -74,6 +82,14 @@ fn room_of<R: Files<File = File>>(rt: &R, path: &str) -> u64 {
     match fs::metadata(rt, path) {
         Ok(facts) if facts.is_file() => facts.blocks().saturating_mul(BLOCK),
         _ => 0,
+    }
+}
+
+/// Whether there is nothing at a path.
+pub fn is_missing<R: Files<File = File>>(rt: &R, path: &str) -> bool {
+    match fs::metadata(rt, path) {
+        Ok(_facts) => false,
+        Err(error) => error.kind() == ErrorKind::NotFound,
     }
 }
 

@@ -3,7 +3,7 @@ use Rattle.std.proofs.Common.{◌≡◌, ℕ, Option, Some, refl, ap}
 use Rattle.command_text.proofs.Decimals.{number_again}
 use Rattle.log_store.specs.declared.which.Which.{Which}
 use Rattle.log_store.specs.declared.which.Which.TheVariants as which
-use Rattle.folder_store.specs.Folder.{name_of, which_of, lettered_by, IsWord}
+use Rattle.system_folder.specs.Names.{name_of, which_of, lettered_by, IsWord}
 
 pub name_again : (one : Which) → IsWord one → which_of (name_of one) ≡ Some one
 name_again which.Head fits = refl

@@ -128,11 +128,7 @@ fn add_told(lines: &mut Vec<Line>, line: &[u8]) -> io::Result<()> {
 
 /// What the list at a path tells of records, as lines of a log would; nothing where it isn't there, or isn't
 /// whole.
-pub(crate) fn told_by<R: Files<File = File>>(
-    rt: &R,
-    alloc: Global,
-    path: &str,
-) -> io::Result<Vec<Line>> {
+pub fn told_by<R: Files<File = File>>(rt: &R, alloc: Global, path: &str) -> io::Result<Vec<Line>> {
     let mut lines = Vec::new(alloc);
     if let Some(list) = read_file(rt, alloc, path, READ_MOST)? {
         if is_whole(list.as_slice()) {
@@ -144,8 +140,8 @@ pub(crate) fn told_by<R: Files<File = File>>(
     Ok(lines)
 }
 
-/// Carries out a list that is whole, and takes it away; it stays where a line of it fails. Of one with a
-/// line that no change has nothing is carried out. One that isn't whole goes, and nothing else is done.
+/// Carries out a list that is whole. Of one with a line that no change has nothing is carried out, nor of one
+/// that isn't whole.
 pub(crate) fn carry_out<R: Files>(rt: &R, paths: &mut Paths, list: &[u8]) -> io::Result<()> {
     if is_whole(list) {
         if !are_lines(list) {
@@ -155,6 +151,5 @@ pub(crate) fn carry_out<R: Files>(rt: &R, paths: &mut Paths, list: &[u8]) -> io:
             carry_out_line(rt, paths, line)?;
         }
     }
-    paths.name_list()?;
-    unless_gone(fs::remove_file(rt, paths.at()))
+    Ok(())
 }

@@ -3,18 +3,22 @@
 use crate::naming::put_name;
 use log_store::which::{FileName, Which};
 use std::alloc::{AllocError, Global};
+use std::fmt::Write;
 
 /// Stands behind the name of a file that is not in its place yet.
 const BESIDE: &str = "~";
 
 /// The log of changes.
-const LOG: &str = "log";
+pub(crate) const LOG: &str = "log";
 
 /// What keeps room for changes that free some.
-const RESERVE: &str = "reserve";
+pub(crate) const RESERVE: &str = "reserve";
 
 /// The list of a change, as an earlier form of the folder has it.
-const CHANGE: &str = "change";
+pub(crate) const CHANGE: &str = "change";
+
+/// The same before it was whole.
+pub(crate) const NEW_CHANGE: &str = "change~";
 
 /// How many bytes a name has at most: a letter, twenty digits, and what stands behind them.
 const NAME_ROOM: usize = 32;
@@ -99,6 +103,12 @@ impl Paths {
     /// Names the reserve.
     pub fn name_reserve(&mut self) -> Result<(), AllocError> {
         self.name_text(RESERVE)
+    }
+
+    /// Names an empty file of the reserve, by its number.
+    pub fn name_spare(&mut self, number: usize) -> Result<(), AllocError> {
+        self.name_reserve()?;
+        write!(&mut self.at, "{number}")
     }
 
     /// Names the list of a change.

@@ -5,9 +5,10 @@
 ghost use Rattle.std.specs.Prelude.{◌≡◌, ◌≤◌, OnOk, OnErr, IsErrOf};
 ghost use Rattle.lb_base.specs.Causes.{Rose};
 ghost use Rattle.store.specs.declared.store.StoreError.TheVariants as errors;
-ghost use Rattle.folder_store.specs.Untold.{untold};
+ghost use Rattle.system_folder.specs.Untold.{untold};
 
 use crate::open_folder::OpenFolder;
+use crate::strangers::Stranger;
 use lb_base::faults::one_more;
 use log_store::edit::{Edit, Line};
 use log_store::folder::{Fault, Folder};
@@ -54,7 +55,8 @@ fn tell_unopened<R: Eprint>(rt: &R, place: &str, why: TryLockError) -> StoreErro
 
 impl<R: Files<File = File> + AllocGlobal + Eprint + Clone + Drop> DiskFolder<R> {
     /// A folder that is locked, in which a change of an earlier form was carried out. Where that isn't had
-    /// the reason is told, unless memory is wanting. With `unsynced` nothing is flushed.
+    /// the reason is told, unless memory is wanting. One that has what is no store's isn't opened, and stays
+    /// as it is. With `unsynced` nothing is flushed.
     pub fn open(
         rt: R,
         alloc: Global,
@@ -66,6 +68,8 @@ impl<R: Files<File = File> + AllocGlobal + Eprint + Clone + Drop> DiskFolder<R> 
             Ok(open) => {
                 drop(teller);
                 let mut folder = DiskFolder { open, faults: 0 };
+                folder.refuse_strangers(place)?;
+                folder.open.find_reserve();
                 let done = folder.open.finish_list();
                 folder.counted_apart(done)?;
                 Ok(folder)
@@ -78,8 +82,31 @@ impl<R: Files<File = File> + AllocGlobal + Eprint + Clone + Drop> DiskFolder<R> 
         }
     }
 
+    /// Refuses a folder that has what is no store's, which is told.
+    fn refuse_strangers(&mut self, place: &str) -> Result<(), StoreError> {
+        let found = self.open.stranger();
+        let Some(stranger) = self.counted_apart(found)? else {
+            return Ok(());
+        };
+        let rt = self.open.rt();
+        match &stranger {
+            Stranger::File(name) => {
+                let name = name.as_str();
+                let _told = eprintln!(rt;
+                    "lbfs: {place}/{name}: no store's file, though it has the name of one"
+                );
+            }
+            Stranger::Folder => {
+                let _told = eprintln!(rt; "lbfs: {place}: it isn't empty, and is no store");
+            }
+        }
+        drop(stranger);
+        self.faults = one_more(self.faults);
+        Err(StoreError::Failed)
+    }
+
     /// Tells why something failed with the file that was named last, and counts it.
-    fn counted<T>(&mut self, done: io::Result<T>) -> Result<T, Fault>
+    fn counted<A>(&mut self, done: io::Result<A>) -> Result<A, Fault>
         ensures later { self.old.faults ≤ self.new.faults }
         ensures cause { OnErr result (Rose self.old.faults self.new.faults) }
     {
@@ -96,7 +123,7 @@ impl<R: Files<File = File> + AllocGlobal + Eprint + Clone + Drop> DiskFolder<R> 
     }
 
     /// The same where want of memory is told apart, and isn't counted.
-    fn counted_apart<T>(&mut self, done: io::Result<T>) -> Result<T, StoreError>
+    fn counted_apart<A>(&mut self, done: io::Result<A>) -> Result<A, StoreError>
         ensures later { self.old.faults ≤ self.new.faults }
         ensures cause { IsErrOf result errors.Failed → Rose self.old.faults self.new.faults }
     {
@@ -153,6 +180,11 @@ impl<R: Files<File = File> + AllocGlobal + Eprint + Clone + Drop> Folder for Dis
 
     fn flush_folder(&mut self) -> Result<(), Fault> {
         let done = self.open.flush_folder();
+        self.counted(done)
+    }
+
+    fn flush_all(&mut self) -> Result<(), Fault> {
+        let done = self.open.flush_all();
         self.counted(done)
     }
 

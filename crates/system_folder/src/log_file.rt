@@ -25,6 +25,10 @@ const NEED_MOST: u64 = RESERVE as u64 - (64 << 10);
 /// How many bytes the reserve has: what finds no room when the log is carried out gets its.
 pub(crate) const RESERVE: usize = 256 << 10;
 
+/// How many empty files the reserve has beside it, for a file system that has room for so many files alone:
+/// as many as it has pages, or as many as there is room for.
+pub(crate) const SPARES: usize = 64;
+
 /// A log that has so many entries or bytes is to be carried out.
 const LONG_COUNT: usize = 256;
 
@@ -35,6 +39,33 @@ const COUNT_MOST: usize = 1024;
 
 const BYTES_MOST: u64 = 2 << 20;
 
+/// What carrying out entries needs at most.
+#[derive(Clone, Copy)]
+pub struct Need {
+    /// So many bytes.
+    pub bytes: u64,
+    /// So many files that aren't there yet.
+    pub files: usize,
+}
+
+impl Need {
+    /// Nothing.
+    pub const NONE: Need = Need { bytes: 0, files: 0 };
+
+    /// What both need.
+    fn and(self, other: Need) -> Need {
+        Need {
+            bytes: self.bytes.saturating_add(other.bytes),
+            files: self.files.saturating_add(other.files),
+        }
+    }
+
+    /// Whether a reserve with so many empty files has less.
+    fn is_beyond(self, spares: usize) -> bool {
+        (RESERVE as u64) < self.bytes || spares < self.files
+    }
+}
+
 /// The log, and where it ends.
 pub struct LogFile {
     file: File,
@@ -44,8 +75,8 @@ pub struct LogFile {
     next: u64,
     /// How many frames there are.
     count: usize,
-    /// How much room carrying them out needs at most.
-    need: u64,
+    /// What carrying them out needs at most.
+    need: Need,
     entry: Vec<u8>,
     frame: Vec<u8>,
 }
@@ -101,7 +132,7 @@ impl LogFile {
             end: 0,
             next: 1,
             count: 0,
-            need: 0,
+            need: Need::NONE,
             entry: Vec::new(alloc),
             frame: Vec::new(alloc),
         })
@@ -112,15 +143,15 @@ impl LogFile {
         self.count
     }
 
-    /// Writes an entry behind the others, which needs so much room when it is carried out. Where that fails
-    /// there is none.
-    pub fn append(&mut self, edits: &[Edit<'_>], need: u64) -> io::Result<()> {
+    /// Writes an entry behind the others, which needs so much when it is carried out, where so many empty files
+    /// are kept. Where that fails there is none.
+    pub fn append(&mut self, edits: &[Edit<'_>], need: Need, spares: usize) -> io::Result<()> {
         self.entry.clear();
         put_entry(&mut self.entry, edits)?;
         self.frame.clear();
         put_frame(&mut self.frame, self.next, self.entry.as_slice())?;
         let end = self.end.saturating_add(self.frame.len() as u64);
-        if COUNT_MOST <= self.count || BYTES_MOST < end {
+        if COUNT_MOST <= self.count || BYTES_MOST < end || self.is_beyond(need, spares) {
             return Err(Error::from(ErrorKind::StorageFull));
         }
         // No front stands behind it: what a client stored, which an earlier round left there, is no frame.
@@ -129,8 +160,13 @@ impl LogFile {
         self.end = end;
         self.next = self.next.saturating_add(1);
         self.count = self.count.saturating_add(1);
-        self.need = self.need.saturating_add(need);
+        self.need = self.need.and(need);
         Ok(())
+    }
+
+    /// Whether carrying out the log and an entry might need more room than the reserve has.
+    fn is_beyond(&self, need: Need, spares: usize) -> bool {
+        (0 < need.bytes || 0 < need.files) && self.need.and(need).is_beyond(spares)
     }
 
     /// The log has its first entries, as many as these: none, or all that there are, of which one that
@@ -152,7 +188,7 @@ impl LogFile {
         self.end = end;
         self.count = count;
         if count == 0 {
-            self.need = 0;
+            self.need = Need::NONE;
         }
         Ok(())
     }
@@ -164,6 +200,6 @@ impl LogFile {
 
     /// Whether it is to be carried out.
     pub fn is_long(&self) -> bool {
-        LONG_COUNT <= self.count || LONG_BYTES <= self.end || NEED_MOST <= self.need
+        LONG_COUNT <= self.count || LONG_BYTES <= self.end || NEED_MOST <= self.need.bytes
     }
 }

@@ -1,0 +1,4 @@
+pub mod Names
+pub mod Strangers
+pub mod Untold
+pub mod Rows
