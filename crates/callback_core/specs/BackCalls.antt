@@ -1,6 +1,6 @@
 -- What a server asks for on its sessions' connections, by calls of its own. Each has an xid of the session, and waits until it is answered, or the session is
 -- hung.
-use Rattle.std.specs.Prelude.{ℕ, List, [], ◌∷◌, ◌++◌, Option, Some, None, Bool, not, ◌==◌, filter, find, map, is_none, unwrap_or, if◌then◌else◌}
+use Rattle.std.specs.Prelude.{ℕ, List, [], ◌∷◌, ◌++◌, Option, Some, None, Bool, true, false, not, ◌==◌, filter, find, map, unwrap_or, if◌then◌else◌}
 use Rattle.std.specs.Option.{option_map}
 use Rattle.std.specs.List.{list_any}
 use Rattle.hash_calls.specs.declared.message.BackProc.TheVariants as back_proc
@@ -21,12 +21,14 @@ pub record BackCall : Type 0 where
   pub last : ℕ
   -- the calls that wait for their answers, the one that came first before the others
   pub waits : List Pending
+  -- it was to be asked once more, and had no xid left
+  pub spent : Bool
 
 -- ---- one session
 
 -- it was asked for nothing yet
 abbrev pub unasked : (session : ℕ) → BackCall
-unasked session = record { session = session; last = 0; waits = [] }
+unasked session = record { session = session; last = 0; waits = []; spent = false }
 
 -- a RECALL waits
 abbrev pub recall_pending : (xid : ℕ) → Pending
@@ -35,6 +37,11 @@ recall_pending xid = record { xid = xid; program = program.Back back_proc.Recall
 -- one RECALL more
 abbrev pub with_recall : BackCall → (xid : ℕ) → BackCall
 with_recall c xid = record c { last = xid; waits = c.waits ++ recall_pending xid ∷ [] }
+
+-- the same, if there is an xid for it
+abbrev pub recalled_if : BackCall → (xid : Option ℕ) → BackCall
+recalled_if c None = record c { spent = true }
+recalled_if c (Some xid) = with_recall c xid
 
 -- ---- all of them
 
@@ -63,8 +70,7 @@ with_call calls session c = hung calls session ++ c ∷ []
 
 -- a session is asked for a lease, if there is an xid for it
 abbrev pub asks_if : List BackCall → (session : ℕ) → (xid : Option ℕ) → List BackCall
-asks_if calls session None = calls
-asks_if calls session (Some xid) = with_call calls session (with_recall (call_at calls session) xid)
+asks_if calls session xid = with_call calls session (recalled_if (call_at calls session) xid)
 
 abbrev pub asked_with : Recall → Option ℕ → List Asked
 asked_with r None = []
@@ -85,11 +91,10 @@ answered_by session xid c = if is_at session c then record c { waits = filter (�
 abbrev pub answered : List BackCall → (session xid : ℕ) → List BackCall
 answered calls session xid = map (answered_by session xid) calls
 
--- it has drawn all its xids
 abbrev pub is_spent : BackCall → Bool
-is_spent c = is_none (draw c.last)
+is_spent c = c.spent
 
--- a session that can be asked for nothing more, if there is one
+-- a session that was to be asked for more than it has xids, if there is one
 abbrev pub spent : List BackCall → Option ℕ
 spent calls = option_map (λ c. c.session) (find is_spent calls)
 

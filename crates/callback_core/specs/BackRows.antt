@@ -1,5 +1,5 @@
 -- What a server asks for on its sessions' connections, at worked lists.
-use Rattle.std.specs.Prelude.{◌≡◌, ℕ, List, [], ◌∷◌, Option, Some, None, refl}
+use Rattle.std.specs.Prelude.{◌≡◌, ℕ, List, [], ◌∷◌, Option, Some, None, true, false, refl}
 use Rattle.wire.specs.declared.message.Pending.{Pending}
 use Rattle.wire.specs.declared.message.Side.TheVariants.{Server}
 use Rattle.lease_rules.specs.declared.lease.Lease.{Lease}
@@ -9,7 +9,10 @@ use Rattle.callback_core.specs.Waits.{recall_of}
 use Rattle.callback_core.specs.BackCalls.{BackCall, recall_pending, waiting_at, xid_at, asks, answered, hung, spent, all_marked}
 
 abbrev call : (session last : ℕ) → List Pending → BackCall
-call session last waits = record { session = session; last = last; waits = waits }
+call session last waits = record { session = session; last = last; waits = waits; spent = false }
+
+abbrev needy : BackCall → BackCall
+needy c = record c { spent = true }
 
 abbrev asked : (session file xid : ℕ) → Asked
 asked session file xid = record { session = session; file = file; xid = xid }
@@ -29,14 +32,18 @@ two_of_one : asks [] (recall_of 2 1 ∷ recall_of 5 1 ∷ []) ≡ (call 1 2 (rec
 two_of_one = refl
 
 -- a session that has drawn all its xids isn't asked, and the others are
-all_drawn : asks (call 1 4294967295 [] ∷ []) (recall_of 2 1 ∷ recall_of 2 3 ∷ []) ≡ (call 1 4294967295 [] ∷ call 3 1 (recall_pending 1 ∷ []) ∷ [], asked 3 2 1 ∷ [])
+all_drawn : asks (call 1 4294967295 [] ∷ []) (recall_of 2 1 ∷ recall_of 2 3 ∷ []) ≡ (needy (call 1 4294967295 []) ∷ call 3 1 (recall_pending 1 ∷ []) ∷ [], asked 3 2 1 ∷ [])
 all_drawn = refl
 
-one_is_spent : spent (call 3 1 [] ∷ call 1 4294967295 [] ∷ []) ≡ Some 1
+one_is_spent : spent (call 3 1 [] ∷ needy (call 1 4294967295 []) ∷ []) ≡ Some 1
 one_is_spent = refl
 
-none_is_spent : spent (call 3 1 [] ∷ call 1 4294967294 [] ∷ []) ≡ None
+-- as long as it isn't to be asked once more, the last xid may be drawn
+none_is_spent : spent (asks (call 1 4294967294 [] ∷ []) (recall_of 2 1 ∷ [])).0 ≡ None
 none_is_spent = refl
+
+the_last_xid : asks (call 1 4294967294 [] ∷ []) (recall_of 2 1 ∷ []) ≡ (call 1 4294967295 (recall_pending 4294967295 ∷ []) ∷ [], asked 1 2 4294967295 ∷ [])
+the_last_xid = refl
 
 -- ---- answers
 

@@ -3,7 +3,7 @@
 ghost use Rattle.std.specs.Prelude.{◌≡◌, [], ◌++◌, ◌∷◌, IfOk, OnOk, Option, find, filter, map, not, ◌==◌};
 ghost use Rattle.std.specs.Option.{option_copied, option_map};
 ghost use Rattle.wire.specs.declared.message.Side.TheVariants.{Server};
-ghost use Rattle.callback_core.specs.BackCalls.{unasked, with_recall, recall_pending, is_at, call_at, waiting_at, xid_at, with_call, asks, asks_if, answered_by, answered, hung, is_spent, spent};
+ghost use Rattle.callback_core.specs.BackCalls.{unasked, with_recall, recalled_if, recall_pending, is_at, call_at, waiting_at, xid_at, with_call, asks, asks_if, answered_by, answered, hung, is_spent, spent};
 
 use hash_calls::message::BackProc;
 use lb_base::items::Items;
@@ -33,6 +33,8 @@ struct BackCall {
     last: u32,
     /// What may come on its connection.
     waiting: Waiting,
+    /// Whether it was to be asked once more, and had no xid left.
+    spent: bool,
 }
 
 impl Model for BackCall {
@@ -42,7 +44,7 @@ impl Model for BackCall {
 
     ghost Value = { Seen };
 
-    ghost view = { λ c. record { session = c.session; last = c.last; waits = c.waiting.calls } };
+    ghost view = { λ c. record { session = c.session; last = c.last; waits = c.waiting.calls; spent = c.spent } };
 
     ghost invariant = { λ c. c.waiting.side ≡ Server };
 }
@@ -56,6 +58,7 @@ impl BackCall {
             session,
             last: 0,
             waiting: no_calls(alloc),
+            spent: false,
         }
     }
 
@@ -66,11 +69,11 @@ impl BackCall {
         self.session == session
     }
 
-    /// Whether it has drawn all its xids.
+    /// Whether it was to be asked for more than it has xids.
     fn is_spent(&self) -> bool
         ensures { result ≡ is_spent self.now }
     {
-        draw(self.last).is_none()
+        self.spent
     }
 
     /// The same once more. The one error is want of memory.
@@ -85,6 +88,7 @@ impl BackCall {
                 side: Side::Server,
                 calls,
             },
+            spent: self.spent,
         })
     }
 
@@ -98,6 +102,19 @@ impl BackCall {
         })?;
         self.last = xid;
         Ok(())
+    }
+
+    /// A RECALL waits, if there is an xid for it. The one error is want of memory.
+    fn wait_if(&mut self, xid: Option<u32>) -> Result<(), AllocError>
+        ensures { OnOk result (self.new ≡ recalled_if self.old xid) }
+    {
+        match xid {
+            Some(xid) => self.wait(xid),
+            None => {
+                self.spent = true;
+                Ok(())
+            }
+        }
     }
 
     /// An answer to the session's call with this xid came. It takes no memory.
@@ -176,17 +193,18 @@ fn withdraw(calls: &mut Vec<BackCall>, session: u32)
     calls.retain(|call| !call.is_at(session));
 }
 
-/// A session is asked for a lease under this xid. The one error is want of memory.
+/// A session is asked for a lease under this xid, if there is one for it. The one error is want of
+/// memory.
 fn ask_one(
     alloc: Global,
     calls: &mut Vec<BackCall>,
     session: u32,
-    xid: u32,
+    xid: Option<u32>,
 ) -> Result<(), AllocError>
-    ensures { OnOk result (calls.new.items ≡ asks_if calls.old.items session (Some xid)) }
+    ensures { OnOk result (calls.new.items ≡ asks_if calls.old.items session xid) }
 {
     let mut call = call_at(alloc, calls, session)?;
-    call.wait(xid)?;
+    call.wait_if(xid)?;
     withdraw(calls, session);
     calls.push(call)?;
     Ok(())
@@ -205,8 +223,9 @@ fn ask_each(
     let mut asked = Vec::new(alloc);
     for recall in recalls {
         let Recall { session, file } = *recall;
-        if let Some(xid) = xid_at(calls, session) {
-            ask_one(alloc, calls, session, xid)?;
+        let xid = xid_at(calls, session);
+        ask_one(alloc, calls, session, xid)?;
+        if let Some(xid) = xid {
             asked.push(Asked { session, file, xid })?;
         }
     }
@@ -300,8 +319,7 @@ impl BackCalls {
         }
     }
 
-    /// A session that has drawn all its xids, and so can be asked for nothing more, if there is one.
-    /// It takes no memory.
+    /// A session that was to be asked for more than it has xids, if there is one. It takes no memory.
     pub fn spent(&self) -> Option<u32>
         ensures { result ≡ spent self.now }
     {

@@ -1,4 +1,5 @@
--- What a GETHASH and a GETLEASE are answered, by the file that a handle names. Neither changes the tree.
+-- What a GETHASH and a GETLEASE are answered, by the file that a handle names, and the term of the lease on it that is granted, in milliseconds: 0 where
+-- none is. Neither changes the tree.
 use Rattle.std.specs.Prelude.{ℕ, ◌+◌, ◌/◌, ◌%◌, List, length, map, filter, take, Option, Some, None, Result, Ok, Err, Bool, ◌&&◌, ◌||◌, ◌==◌, nat_lt, nat_le}
 use Rattle.limits.specs.declared.TheConstants.{PAIRS_MOST}
 use Rattle.chunk_cut.specs.Chunks.{chunks_of}
@@ -100,19 +101,19 @@ pair_of c = record { digest = c.digest; size = c.len }
 abbrev pub is_end : (size offset : ℕ) → List Chunk → Bool
 is_end size offset told = nat_le size offset || end_of told == size
 
-abbrev pub hashes_of : File → HashRange → Hashes
-hashes_of f r = record {
+abbrev pub hashes_of : (term : ℕ) → File → HashRange → Hashes
+hashes_of term f r = record {
   version = f.version;
-  term = 0;
+  term = term;
   size = length f.content;
   pairs = map pair_of (told_chunks f.content r);
   eof = is_end (length f.content) r.offset (told_chunks f.content r);
 }
 
-abbrev pub hash_answer : Result Node Status → HashRange → Answer Hashes Unit
-hash_answer (Err s) r = Failed s tt
-hash_answer (Ok directory) r = Failed status.IsDir tt
-hash_answer (Ok (file f)) r = Done (hashes_of f r)
+abbrev pub hash_answer : (term : ℕ) → Result Node Status → HashRange → Answer Hashes Unit
+hash_answer term (Err s) r = Failed s tt
+hash_answer term (Ok directory) r = Failed status.IsDir tt
+hash_answer term (Ok (file f)) r = Done (hashes_of term f r)
 
 -- the file that the call is about and those of its chunks that are told, where any are
 abbrev pub chunks_told : Result Node Status → HashRange → Option (ℕ × List Chunk)
@@ -121,11 +122,10 @@ chunks_told n r = None
 
 -- ---- GETLEASE
 
--- No lease is granted.
-abbrev pub leased_of : File → Leased
-leased_of f = record { attr = attr_of f; version = f.version; term = 0 }
+abbrev pub leased_of : (term : ℕ) → File → Leased
+leased_of term f = record { attr = attr_of f; version = f.version; term = term }
 
-abbrev pub lease_answer : Result Node Status → Answer Leased Unit
-lease_answer (Err s) = Failed s tt
-lease_answer (Ok directory) = Failed status.IsDir tt
-lease_answer (Ok (file f)) = Done (leased_of f)
+abbrev pub lease_answer : (term : ℕ) → Result Node Status → Answer Leased Unit
+lease_answer term (Err s) = Failed s tt
+lease_answer term (Ok directory) = Failed status.IsDir tt
+lease_answer term (Ok (file f)) = Done (leased_of term f)

@@ -22,14 +22,15 @@ says temps index m = record { temps = temps; index = index; answer = Some m }
 abbrev pub says_named : Named → Called
 says_named n = says n.temps n.index (lb.CondWriteAnswer n.answer)
 
-abbrev pub calls : Tree → Temps → Indexed → (session : ℕ) → Lb → Called
-calls tree temps index session lb.Null = says temps index lb.NullAnswer
-calls tree temps index session (lb.GetLease handle) = says temps index (lb.GetLeaseAnswer (lease_answer (node_of tree handle)))
-calls tree temps index session (lb.GetHash r) = says temps (with_told index (chunks_told (node_of tree r.handle) r)) (lb.GetHashAnswer (hash_answer (node_of tree r.handle) r))
-calls tree temps index session (lb.MkTmpFile a) = let p = made temps session a.fd (target_in (node_of tree a.handle)) in says p.0 index (lb.MkTmpFileAnswer p.1)
-calls tree temps index session (lb.TmpWrite a) = let p = wrote temps a (temp_at temps session a.fd) in says p.0 index (lb.TmpWriteAnswer p.1)
-calls tree temps index session (lb.CondWrite a) = says_named (named tree temps index a (temp_at temps session a.fd))
-calls tree temps index session m = record { temps = temps; index = index; answer = None }
+-- term: that of the lease which the call is granted on its file, in milliseconds; 0 where it is granted none
+abbrev pub calls : Tree → Temps → Indexed → (session term : ℕ) → Lb → Called
+calls tree temps index session term lb.Null = says temps index lb.NullAnswer
+calls tree temps index session term (lb.GetLease handle) = says temps index (lb.GetLeaseAnswer (lease_answer term (node_of tree handle)))
+calls tree temps index session term (lb.GetHash r) = says temps (with_told index (chunks_told (node_of tree r.handle) r)) (lb.GetHashAnswer (hash_answer term (node_of tree r.handle) r))
+calls tree temps index session term (lb.MkTmpFile a) = let p = made temps session a.fd (target_in (node_of tree a.handle)) in says p.0 index (lb.MkTmpFileAnswer p.1)
+calls tree temps index session term (lb.TmpWrite a) = let p = wrote temps a (temp_at temps session a.fd) in says p.0 index (lb.TmpWriteAnswer p.1)
+calls tree temps index session term (lb.CondWrite a) = says_named (named tree temps index a (temp_at temps session a.fd))
+calls tree temps index session term m = record { temps = temps; index = index; answer = None }
 
 -- whether a message is a COMMITTMP
 abbrev pub commits : Lb → Bool
@@ -57,5 +58,5 @@ chunks_entered tree (lb.GetHash r) = chunks_told (node_of tree r.handle) r
 chunks_entered tree m = None
 
 -- what is done but for places for which memory was wanting: at least one is left out of the index
-abbrev pub LeavesPlaces : Tree → Temps → Indexed → (session : ℕ) → Lb → Called → Type 0
-LeavesPlaces tree temps index session m new = IsLacking index (chunks_entered tree m) new.index × (new ≡ record (calls tree temps index session m) { index = new.index })
+abbrev pub LeavesPlaces : Tree → Temps → Indexed → (session term : ℕ) → Lb → Called → Type 0
+LeavesPlaces tree temps index session term m new = IsLacking index (chunks_entered tree m) new.index × (new ≡ record (calls tree temps index session term m) { index = new.index })

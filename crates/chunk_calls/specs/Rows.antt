@@ -23,7 +23,7 @@ tree = record {
 
 -- a call of session 1
 abbrev comes : Temps → Lb → Called
-comes temps m = calls tree temps no_index 1 m
+comes temps m = calls tree temps no_index 1 0 m
 
 -- ---- GETLEASE
 
@@ -32,6 +32,10 @@ leases handle = comes [] (lb.GetLease handle)
 
 row_lease : ((leases (76 ∷ [])).answer ≡ Some (lb.GetLeaseAnswer (Failed BadHandle tt))) × ((leases (handle_bytes 9)).answer ≡ Some (lb.GetLeaseAnswer (Failed Stale tt))) × ((leases (handle_bytes 3)).answer ≡ Some (lb.GetLeaseAnswer (Failed IsDir tt))) × ((leases (handle_bytes 2)).answer ≡ Some (lb.GetLeaseAnswer (Done (record { attr = attr_of (record { id = 2; version = 1; content = codes "abc" }); version = 1; term = 0 }))))
 row_lease = (refl, refl, refl, refl)
+
+-- the term is told of a file, and of nothing else
+granted : ((calls tree [] no_index 1 60000 (lb.GetLease (handle_bytes 2))).answer ≡ Some (lb.GetLeaseAnswer (Done (record { attr = attr_of (record { id = 2; version = 1; content = codes "abc" }); version = 1; term = 60000 })))) × ((calls tree [] no_index 1 60000 (lb.GetLease (handle_bytes 3))).answer ≡ Some (lb.GetLeaseAnswer (Failed IsDir tt)))
+granted = (refl, refl)
 
 -- ---- temporary files
 
@@ -59,7 +63,7 @@ abbrev placed : List ℕ → (offset count : ℕ) → Indexed
 placed bytes offset count = put no_index (key_of (sha1 bytes)) (record { file = 2; offset = offset; count = count })
 
 abbrev names : Indexed → (fd : ℕ) → Called
-names index fd = calls tree one index 1 (lb.CondWrite (record { fd = fd; offset = 0; count = 2; digest = sha1 (codes "bc") }))
+names index fd = calls tree one index 1 0 (lb.CondWrite (record { fd = fd; offset = 0; count = 2; digest = sha1 (codes "bc") }))
 
 -- the right bytes, others, and those of another count; where there is a fault nothing is looked up
 row_names : ((names (placed (codes "bc") 1 2) 1).answer ≡ Some (lb.CondWriteAnswer (Done tt))) × ((names (placed (codes "bc") 0 2) 1).answer ≡ Some (lb.CondWriteAnswer (Failed HashNotFound tt))) × ((names (placed (codes "bc") 1 1) 1).answer ≡ Some (lb.CondWriteAnswer (Failed HashNotFound tt))) × ((names (placed (codes "bc") 1 2) 2) ≡ record { temps = one; index = placed (codes "bc") 1 2; answer = Some (lb.CondWriteAnswer (Failed BadFd tt)) })

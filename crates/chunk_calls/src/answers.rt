@@ -26,10 +26,11 @@ pub fn target_in(tree: &Tree, handle: &Handle) -> Result<u64, Status>
     }
 }
 
-/// What a GETLEASE is answered: the file's attributes and version, and no lease. It takes no memory.
+/// What a GETLEASE is answered that is granted a lease of this term, in milliseconds, or 0: the file's
+/// attributes and version. It takes no memory.
 #[tactic(auto, using(crate::proofs::Leases::lease_done, crate::proofs::Leases::lease_failed))]
-pub fn lease_answer(tree: &Tree, handle: &Handle) -> Answer<Leased, ()>
-    ensures { result ≡ lease_answer (node_of tree.now.tree handle.now) }
+pub fn lease_answer(term: u32, tree: &Tree, handle: &Handle) -> Answer<Leased, ()>
+    ensures { result ≡ lease_answer term (node_of tree.now.tree handle.now) }
 {
     let Some(id) = handle.file_of() else {
         return Answer::Failed(Status::BadHandle, ());
@@ -43,7 +44,7 @@ pub fn lease_answer(tree: &Tree, handle: &Handle) -> Answer<Leased, ()>
             Ok(attr) => Answer::Done(Leased {
                 attr,
                 version: node.version,
-                term: 0,
+                term,
             }),
             Err(status) => Answer::Failed(status, ()),
         },

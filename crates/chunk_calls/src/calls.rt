@@ -38,14 +38,15 @@ fn tell_hashes(
     alloc: Global,
     tree: &Tree,
     index: &mut Index,
+    term: u32,
     range: &HashRange,
 ) -> Result<Outcome, AllocError>
-    ensures ok { (temps : Known) (session : ℕ) → IfOk result (λ o. o.left_out ≡ false → calls tree.now.tree temps index.old session (lb.GetHash range.now) ≡ record { temps = temps; index = index.new; answer = o.answer }) }
-    ensures lacks { (temps : Known) (session : ℕ) → IfOk result (λ o. o.left_out ≡ true → LeavesPlaces tree.now.tree temps index.old session (lb.GetHash range.now) (record { temps = temps; index = index.new; answer = o.answer })) }
+    ensures ok { (temps : Known) (session : ℕ) → IfOk result (λ o. o.left_out ≡ false → calls tree.now.tree temps index.old session term (lb.GetHash range.now) ≡ record { temps = temps; index = index.new; answer = o.answer }) }
+    ensures lacks { (temps : Known) (session : ℕ) → IfOk result (λ o. o.left_out ≡ true → LeavesPlaces tree.now.tree temps index.old session term (lb.GetHash range.now) (record { temps = temps; index = index.new; answer = o.answer })) }
     ensures err { OnErr result (index.new ≡ index.old) }
     ensures takes { OnErr result (IsFile (node_of tree.now.tree range.now.handle)) }
 {
-    let told = hashes::hash_answer(alloc, tree, range)?;
+    let told = hashes::hash_answer(alloc, term, tree, range)?;
     let left_out = entering::enter_told(index, tree, range);
     Ok(Outcome {
         answer: Some(Lb::GetHashAnswer(told)),
@@ -54,18 +55,21 @@ fn tell_hashes(
 }
 
 /// What a message of a session comes to, over a tree, the temporary files of all sessions, and an index
-/// of chunks. A TMPWRITE's bytes are taken out of it. The one error is want of memory, at a call that
-/// isn't refused; nothing has changed then, but that a CONDWRITE's digest was looked up.
+/// of chunks. A GETLEASE or GETHASH is told the term of its lease, which the caller grants, in
+/// milliseconds; 0 where it grants none. A TMPWRITE's bytes are taken out of it. The one error is want
+/// of memory, at a call that isn't refused; nothing has changed then, but that a CONDWRITE's digest was
+/// looked up.
 pub fn call(
     alloc: Global,
     tree: &Tree,
     temps: &mut Temps,
     index: &mut Index,
     session: u32,
+    term: u32,
     call: &mut Lb,
 ) -> Result<Outcome, AllocError>
-    ensures ok { IfOk result (λ o. o.left_out ≡ false → calls tree.now.tree temps.old index.old session call.old ≡ record { temps = temps.new; index = index.new; answer = o.answer }) }
-    ensures lacks { IfOk result (λ o. o.left_out ≡ true → LeavesPlaces tree.now.tree temps.old index.old session call.old (record { temps = temps.new; index = index.new; answer = o.answer })) }
+    ensures ok { IfOk result (λ o. o.left_out ≡ false → calls tree.now.tree temps.old index.old session term call.old ≡ record { temps = temps.new; index = index.new; answer = o.answer }) }
+    ensures lacks { IfOk result (λ o. o.left_out ≡ true → LeavesPlaces tree.now.tree temps.old index.old session term call.old (record { temps = temps.new; index = index.new; answer = o.answer })) }
     ensures err { OnErr result (temps.new ≡ temps.old) }
     ensures order { OnErr result (index.new ≡ index_left index.old call.old) }
     ensures takes { OnErr result (Takes tree.now.tree temps.old index.old session call.old) }
@@ -73,10 +77,10 @@ pub fn call(
     match call {
         Lb::Null => Ok(done(Lb::NullAnswer)),
         Lb::GetLease(handle) => {
-            let told = answers::lease_answer(tree, handle);
+            let told = answers::lease_answer(term, tree, handle);
             Ok(done(Lb::GetLeaseAnswer(told)))
         }
-        Lb::GetHash(range) => tell_hashes(alloc, tree, index, range),
+        Lb::GetHash(range) => tell_hashes(alloc, tree, index, term, range),
         Lb::MkTmpFile(new) => {
             let told = writing::make_temp(tree, temps, session, new)?;
             Ok(done(Lb::MkTmpFileAnswer(told)))

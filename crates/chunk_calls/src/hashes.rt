@@ -85,35 +85,39 @@ fn end_of(told: &[Chunk]) -> u64
     }
 }
 
-/// The chunks of a file that meet the range. The one error is want of memory.
+/// The chunks of a file that meet the range, and the term of the lease on it. The one error is want
+/// of memory.
 fn hashes_of(
     alloc: Global,
+    term: u32,
     node: &Node,
     content: &Content,
     range: &HashRange,
 ) -> Result<Hashes, AllocError>
     requires { length content.now ≤ size_most }
-    ensures { IfOk result (λ h. h ≡ hashes_of (record { id = node.now.id; version = node.now.version; content = content.now }) range.now) }
+    ensures { IfOk result (λ h. h ≡ hashes_of term (record { id = node.now.id; version = node.now.version; content = content.now }) range.now) }
 {
     let told = told_chunks(content, range);
     let size = content.len() as u64;
     let pairs = pairs_of(alloc, told)?;
     Ok(Hashes {
         version: node.version,
-        term: 0,
+        term,
         size,
         pairs,
         eof: size <= range.offset || end_of(told) == size,
     })
 }
 
-/// What a GETHASH is answered. The one error is want of memory.
+/// What a GETHASH is answered that is granted a lease of this term, in milliseconds, or 0. The one
+/// error is want of memory.
 pub fn hash_answer(
     alloc: Global,
+    term: u32,
     tree: &Tree,
     range: &HashRange,
 ) -> Result<Answer<Hashes, ()>, AllocError>
-    ensures ok { IfOk result (λ a. a ≡ hash_answer (node_of tree.now.tree range.now.handle) range.now) }
+    ensures ok { IfOk result (λ a. a ≡ hash_answer term (node_of tree.now.tree range.now.handle) range.now) }
     ensures takes { OnErr result (IsFile (node_of tree.now.tree range.now.handle)) }
 {
     let Some(id) = range.handle.file_of() else {
@@ -125,7 +129,7 @@ pub fn hash_answer(
     match &node.body {
         Body::Directory => Ok(Answer::Failed(Status::IsDir, ())),
         Body::File(content) => {
-            let hashes = hashes_of(alloc, node, content, range)?;
+            let hashes = hashes_of(alloc, term, node, content, range)?;
             Ok(Answer::Done(hashes))
         }
     }

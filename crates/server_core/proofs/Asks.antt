@@ -1,6 +1,6 @@
 -- The calls of NFS: what GETLEASE and READ tell of a file, and what a call leaves that has no memory taken for it.
 use Rattle.std.proofs.Common.{◌≡◌, refl, sym, ap, ◌∙◌, subst, ℕ, ◌+◌, ◌≤◌, List, Option, Some, None, Result, Ok, Err, Bool, true, false, true≢false, arith}
-use Rattle.std.specs.Prelude.{is_ok}
+use Rattle.std.specs.Prelude.{is_ok, if◌then◌else◌}
 use Rattle.std.proofs.lemmas.List.{append-nil}
 use Rattle.xdr_codec.specs.Handle.{file_of}
 use Rattle.xdr_codec.specs.declared.status.Status.{Status}
@@ -17,8 +17,11 @@ use Rattle.tree_nodes.specs.declared.node.Body.{Body as NodeBody}
 use Rattle.tree_nodes.specs.declared.node.Body.TheVariants.{Directory, File as Content}
 use Rattle.tree_nodes.specs.Nodes.{with_id}
 use Rattle.tree_reading.specs.Chain.{◌>>=◌}
-use Rattle.tree_reading.specs.Reading.{piece_of}
-use Rattle.tree_reading.specs.Plans.{create_plan, may_mkdir, rmdir_plan}
+use Rattle.tree_reading.specs.Reading.{piece_of, stands_for}
+use Rattle.tree_reading.specs.Plans.{create_plan, may_mkdir, remove_plan, rmdir_plan, rename_plan}
+use Rattle.tree_reading.specs.declared.call.Planned.{Planned}
+use Rattle.tree_reading.specs.declared.call.Planned.TheVariants as planned
+use Rattle.tree_reading.specs.declared.reading.Standing.{Standing}
 use Rattle.file_tree.specs.Step.{created, mkdir_if, remove_if}
 use Rattle.tree_reading.specs.Tree.{Tree, or_stale, file_or}
 use Rattle.tree_reading.specs.declared.call.Changed.{Changed}
@@ -28,7 +31,7 @@ use Rattle.tree_calls.specs.Telling.{id_of, or_bad_handle, answer_of, piece, tol
 use Rattle.tree_calls.specs.Changing.{before, with_done, mode_of, created as created_answer, made_directory, removed_directory}
 use Rattle.file_tree.specs.Stores.{stored}
 use Rattle.tree_calls.specs.Calling.{IsCalled}
-use Rattle.tree_calls.specs.Waiting.{calls_under, enters, asks_remove, asks_rename, removes_in, removing, renames_in_under, renaming_under, told_outcome, creates_in_under, mkdirs_in_under, rmdirs_in_under}
+use Rattle.tree_calls.specs.Waiting.{calls_under, enters, remove_comes, over_comes, rename_comes, with_node, asks_remove, asks_rename, removes_in, removing, renames_in_under, renaming_under, told_outcome, creates_in_under, mkdirs_in_under, rmdirs_in_under}
 use Rattle.tree_calls.specs.declared.asked.Done.{Done}
 use Rattle.tree_calls.specs.declared.asked.Outcome.{Outcome}
 use Rattle.tree_calls.specs.declared.asked.Outcome.TheVariants.{Answered, Waits}
@@ -42,7 +45,7 @@ use Rattle.server_core.specs.Steps.{to}
 use Rattle.server_core.specs.State.{State, held}
 use Rattle.server_core.specs.Served.{IsServed}
 use Rattle.server_core.specs.Step.{called_under, asks, asks_tree}
-use Rattle.server_core.specs.View.{IsBounded, HasRoom, RoomFor}
+use Rattle.server_core.specs.View.{IsBounded, IsWaiting, HasRoom, RoomFor}
 
 -- ---- READ, as the tree's calls have it
 
@@ -164,6 +167,97 @@ module _ (t : Tree) (h : Held) (busy fault : Bool) where
       by (Ok dir) (Err s) g = (refl, refl)
       by (Ok dir) (Ok to) g = quiet_renaming dir r.from.name to r.to.name (asks_rename t h busy dir r.from.name to r.to.name) g
   quiet m e = quiet_told (told t.nodes m)
+
+-- ---- a call that waits
+
+quiet_free : (o : Option Outcome) → IsQuiet o → IsWaiting o → ⊥
+quiet_free None q w = w
+quiet_free (Some (Answered d)) q w = w
+quiet_free (Some (Waits a)) q w = q
+
+module _ (t : Tree) (h : Held) where
+  free_removing : (dir : ℕ) (name : List ℕ) (busy : Bool) (r : Result Changed Status) → IsWaiting (Some (removing dir name (remove_comes busy r))) → busy ≡ false
+  free_removing dir name false r w = refl
+  free_removing dir name true (Err s) w = absurd w
+  free_removing dir name true (Ok c) w = absurd w
+
+  free_over : (fault : Bool) (dir : ℕ) (name : List ℕ) (to : ℕ) (to_name : List ℕ) (id : ℕ) (found : Option Standing) → IsWaiting (Some (renaming_under t h fault dir name to to_name (over_comes true found >>= λ file. Ok (with_node id file))).1) → ⊥
+  free_over fault dir name to to_name id None w = w
+  free_over fault dir name to to_name id (Some n) w = by n.is_file w
+    where
+      by : (b : Bool) → IsWaiting (Some (renaming_under t h fault dir name to to_name ((if b then Err status.Jukebox else Ok None) >>= λ file. Ok (with_node id file))).1) → ⊥
+      by true w = w
+      by false w = w
+
+  free_renaming : (fault : Bool) (dir : ℕ) (name : List ℕ) (to : ℕ) (to_name : List ℕ) (busy : Bool) (found : Option Standing) (r : Result Planned Status) → IsWaiting (Some (renaming_under t h fault dir name to to_name (rename_comes busy found r)).1) → busy ≡ false
+  free_renaming fault dir name to to_name false found r w = refl
+  free_renaming fault dir name to to_name true found (Err s) w = absurd w
+  free_renaming fault dir name to to_name true found (Ok (planned.Nothing c)) w = absurd w
+  free_renaming fault dir name to to_name true found (Ok (planned.Free c)) w = absurd w
+  free_renaming fault dir name to to_name true found (Ok (planned.Over c)) w = absurd (free_over fault dir name to to_name c.id found w)
+
+  not_told : (o : Option Nfs) → IsWaiting (told_outcome o) → ⊥
+  not_told None w = w
+  not_told (Some m) w = w
+
+  -- no change of the session waits where one comes to wait
+  pub waits_free : (busy fault : Bool) (m : Nfs) → IsWaiting (calls_under t h busy fault m).1 → busy ≡ false
+  waits_free busy fault (nfs.Create f) w = absurd w
+  waits_free busy fault (nfs.MkDir d) w = absurd w
+  waits_free busy fault (nfs.Remove p) w = by (id_of p.dir) w
+    where
+      by : (r : Result ℕ Status) → IsWaiting (Some (removes_in t h busy p.name r)) → busy ≡ false
+      by (Err s) w = absurd w
+      by (Ok dir) w = free_removing dir p.name busy (remove_plan t h dir p.name) w
+  waits_free busy fault (nfs.RmDir p) w = absurd w
+  waits_free busy fault (nfs.Rename r) w = by (id_of r.from.dir) (id_of r.to.dir) w
+    where
+      by : (a b : Result ℕ Status) → IsWaiting (Some (renames_in_under t h busy fault r.from.name r.to.name a b).1) → busy ≡ false
+      by (Err s) b w = absurd w
+      by (Ok dir) (Err s) w = absurd w
+      by (Ok dir) (Ok to) w = free_renaming fault dir r.from.name to r.to.name busy (stands_for t.nodes to r.to.name) (rename_plan t h dir r.from.name to r.to.name) w
+  waits_free busy fault m w = absurd (not_told (told t.nodes m) w)
+
+  same_renaming : (fault : Bool) (dir : ℕ) (name : List ℕ) (to : ℕ) (to_name : List ℕ) (r : Result (Option (ℕ × ℕ)) Status) → IsWaiting (Some (renaming_under t h fault dir name to to_name r).1) → (renaming_under t h fault dir name to to_name r).0 ≡ t
+  same_renaming fault dir name to to_name (Err s) w = absurd w
+  same_renaming fault dir name to to_name (Ok None) w = absurd w
+  same_renaming fault dir name to to_name (Ok (Some p)) w = refl
+
+  -- and it changes no tree yet
+  pub waits_same : (busy fault : Bool) (m : Nfs) → IsWaiting (calls_under t h busy fault m).1 → (calls_under t h busy fault m).0 ≡ t
+  waits_same busy fault (nfs.Create f) w = absurd w
+  waits_same busy fault (nfs.MkDir d) w = absurd w
+  waits_same busy fault (nfs.Remove p) w = refl
+  waits_same busy fault (nfs.RmDir p) w = absurd w
+  waits_same busy fault (nfs.Rename r) w = by (id_of r.from.dir) (id_of r.to.dir) w
+    where
+      by : (a b : Result ℕ Status) → IsWaiting (Some (renames_in_under t h busy fault r.from.name r.to.name a b).1) → (renames_in_under t h busy fault r.from.name r.to.name a b).0 ≡ t
+      by (Err s) b w = absurd w
+      by (Ok dir) (Err s) w = absurd w
+      by (Ok dir) (Ok to) w = same_renaming fault dir r.from.name to r.to.name (asks_rename t h busy dir r.from.name to r.to.name) w
+  waits_same busy fault m w = absurd (not_told (told t.nodes m) w)
+
+  -- memory is taken for it
+  pub waits_enters : (busy fault : Bool) (m : Nfs) → IsWaiting (calls_under t h busy fault m).1 → enters t h busy m ≡ true
+  waits_enters busy fault m w = by (enters t h busy m) refl
+    where
+      by : (b : Bool) → enters t h busy m ≡ b → b ≡ true
+      by true e = refl
+      by false e = absurd (quiet_free (calls_under t h busy fault m).1 (quiet t h busy fault m e) w)
+
+-- the same of what a call came to
+module _ (before after : ℕ) (t t' : Tree) (h : Held) (busy : Bool) (m : Nfs) (o : Option Outcome) (done : IsCalled before after (λ fault. calls_under t h busy fault m) (t', o)) (waits : IsWaiting o) where
+  it_waits : IsWaiting (calls_under t h busy done.fault m).1
+  it_waits = subst IsWaiting (ap (λ (p : Tree × Option Outcome). p.1) (sym done.is)) waits
+
+  pub came_free : busy ≡ false
+  came_free = waits_free t h busy done.fault m it_waits
+
+  pub came_same : t' ≡ t
+  came_same = ap (λ (p : Tree × Option Outcome). p.0) (sym done.is) ∙ waits_same t h busy done.fault m it_waits
+
+  pub came_enters : enters t h busy m ≡ true
+  came_enters = waits_enters t h busy done.fault m it_waits
 
 -- ---- there is room for what comes
 

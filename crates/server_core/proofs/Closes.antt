@@ -14,8 +14,9 @@ use Rattle.server_core.specs.declared.event.ServerStep.{ServerStep}
 use Rattle.chunk_calls.specs.Answers.{Node, directory, file, node_of, target_in}
 use Rattle.server_core.specs.Asking.{commit_target, admits}
 use Rattle.server_core.specs.Closing.{answers, has_waiting, is_full, commits_whole, commits_to, commits}
-use Rattle.server_core.specs.Steps.{sends, to}
-use Rattle.server_core.specs.State.{State, Change, size_wanted, waiting_size}
+use Rattle.server_core.specs.Recalling.{comes}
+use Rattle.server_core.specs.Steps.{to}
+use Rattle.server_core.specs.State.{State, Change, change_of, size_wanted, waiting_size}
 use Rattle.server_core.specs.declared.change.Wanted.TheVariants as wanted
 use Rattle.temp_files.proofs.Joins.{joined_size}
 
@@ -25,7 +26,7 @@ use Rattle.temp_files.proofs.Joins.{joined_size}
 abbrev ends_by : State → (session xid : ℕ) → Result ℕ Status → Option (List ℕ) → State × ServerStep
 ends_by s session xid (Err e) o = answers s session xid (lb.CommitTmpAnswer (Failed e tt))
 ends_by s session xid (Ok id) None = answers s session xid (lb.CommitTmpAnswer (Failed status.Inval tt))
-ends_by s session xid (Ok id) (Some content) = (record s { waiting = s.waiting ++ record { session = session; xid = xid; file = id; what = wanted.Content content } ∷ [] }, sends [])
+ends_by s session xid (Ok id) (Some content) = comes s (change_of session xid id (wanted.Content content))
 
 -- a content that is whole for a size has that size
 pub whole_size : (t : Temp) (size : ℕ) (content : List ℕ) → Some content ≡ assembled t size → length content ≡ size
@@ -47,7 +48,7 @@ commits_as s left session xid size t (Ok (file f)) = by (nat_lt size_most size) 
     fits : (content : List ℕ) (w u : Bool)
         → (if w then answers ended session xid (lb.CommitTmpAnswer (Failed status.Jukebox tt))
         else if u then answers ended session xid (lb.CommitTmpAnswer (Failed status.NoSpc tt))
-        else (record ended { waiting = s.waiting ++ record { session = session; xid = xid; file = f.id; what = wanted.Content content } ∷ [] }, sends []))
+        else comes ended (change_of session xid f.id (wanted.Content content)))
         ≡ ends_by ended session xid (target false true w u) (Some content)
     fits content true u = refl
     fits content false true = refl
@@ -78,16 +79,15 @@ commit_refused s session xid a t e temps o at target ended said =
 -- one whose change waits from now on
 pub commit_taken : (s n : State) (session xid id : ℕ) (a : Commit) (t : Temp) (content : List ℕ) (o : ServerStep)
     → temp_at s.temps session a.fd ≡ Some t → commit_target s session a.size t (target_in (node_of s.tree a.handle)) ≡ Ok id
-    → Some content ≡ assembled t a.size → n ≡ admits s session xid id a.fd content → o ≡ sends []
+    → Some content ≡ assembled t a.size → admits s session xid id a.fd content ≡ (n, o)
     → commits s session xid a (temp_at s.temps session a.fd) ≡ (n, o)
-commit_taken s n session xid id a t content o at target whole waits said =
+commit_taken s n session xid id a t content o at target whole waits =
     let left : Temps = without_temp s.temps session a.fd in
     ap (λ (x : Option Temp). commits s session xid a x) at
     ∙ commits_as s left session xid a.size t (node_of s.tree a.handle)
     ∙ ap (λ (x : Result ℕ Status). ends_by (record s { temps = left }) session xid x (assembled t a.size)) target
     ∙ ap (λ (x : Option (List ℕ)). ends_by (record s { temps = left }) session xid (Ok id) x) (sym whole)
-    ∙ ap (λ (m : State). (m, sends [])) (sym waits)
-    ∙ ap (λ (x : ServerStep). (n, x)) (sym said)
+    ∙ waits
 
 -- the same of one that may not be there
 pub whole_of_size : (t : Option Temp) (size : ℕ) (content : List ℕ) → Some content ≡ whole_of t size → length content ≡ size
@@ -101,18 +101,18 @@ there (Some content) h = (content, refl)
 
 -- what can be done is whole, within the limit of a file, and has its place
 pub target_fits : (s : State) (session size : ℕ) (t : Temp) (r : Result ℕ Status) (id : ℕ) → commit_target s session size t r ≡ Ok id
-    → (size ≤ size_most) × (is_some (assembled t size) ≡ true) × (is_full s size ≡ false)
+    → (size ≤ size_most) × (is_some (assembled t size) ≡ true) × (is_full s size ≡ false) × (has_waiting s.waiting session ≡ false)
 target_fits s session size t (Err e) id h = absurd (true≢false (sym (ap is_ok h)))
-target_fits s session size t (Ok n) id h = by (nat_lt size_most size) (is_some (assembled t size)) (has_waiting s.waiting session) (is_full s size) refl refl refl h
+target_fits s session size t (Ok n) id h = by (nat_lt size_most size) (is_some (assembled t size)) (has_waiting s.waiting session) (is_full s size) refl refl refl refl h
   where
-    by : (big some wait full : Bool) → nat_lt size_most size ≡ big → is_some (assembled t size) ≡ some → is_full s size ≡ full
+    by : (big some wait full : Bool) → nat_lt size_most size ≡ big → is_some (assembled t size) ≡ some → has_waiting s.waiting session ≡ wait → is_full s size ≡ full
         → (if big then Err status.FBig else if some then (if wait then Err status.Jukebox else if full then Err status.NoSpc else Ok n) else Err status.Inval) ≡ Ok id
-        → (size ≤ size_most) × (is_some (assembled t size) ≡ true) × (is_full s size ≡ false)
-    by true some wait full p q r g = absurd (true≢false (sym (ap is_ok g)))
-    by false false wait full p q r g = absurd (true≢false (sym (ap is_ok g)))
-    by false true true full p q r g = absurd (true≢false (sym (ap is_ok g)))
-    by false true false true p q r g = absurd (true≢false (sym (ap is_ok g)))
-    by false true false false p q r g = (grind (arith, p), q, r)
+        → (size ≤ size_most) × (is_some (assembled t size) ≡ true) × (is_full s size ≡ false) × (has_waiting s.waiting session ≡ false)
+    by true some wait full p q w r g = absurd (true≢false (sym (ap is_ok g)))
+    by false false wait full p q w r g = absurd (true≢false (sym (ap is_ok g)))
+    by false true true full p q w r g = absurd (true≢false (sym (ap is_ok g)))
+    by false true false true p q w r g = absurd (true≢false (sym (ap is_ok g)))
+    by false true false false p q w r g = (grind (arith, p), q, r, w)
 
 -- ---- the bytes that wait
 

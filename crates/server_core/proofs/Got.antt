@@ -54,9 +54,9 @@ replaced_then t h id version content len plan = by (with_id t.nodes id) refl pla
     by None at e = absurd cc
     by (Some n) at e = there_then t id version content n at
 
-module _ (t : Tree) (h : Held) (id : ℕ) (content : List ℕ) (t' : Tree) (d : Committing) where
+module _ (t : Tree) (h : Held) (id : ℕ) (content : List ℕ) (term : ℕ) (t' : Tree) (d : Committing) where
   abbrev committed_as : Tree × Result Changed Status → Type 0
-  committed_as p = with_committed 0 p ≡ (t', d)
+  committed_as p = with_committed term p ≡ (t', d)
 
   abbrev Places : Type 0
   Places = chunks_at id (file_at t' id) ≡ Some (id, chunks_of content)
@@ -76,7 +76,7 @@ module _ (t : Tree) (h : Held) (id : ℕ) (content : List ℕ) (t' : Tree) (d : 
       by_changes false k = absurd (subst (λ (q : Tree × Committing). IsDone q.1.answer) (sym k) done)
 
 -- of a commit that was done the index gets the places of the content
-pub got_places : (before after : ℕ) (t : Tree) (h : Held) (id : ℕ) (content : List ℕ) (t' : Tree) (d : Committing) (a : Committed) → IsCalled before after (λ fault. commits_under t h fault id content 0) (t', d) → d.answer ≡ answer.Done a
+pub got_places : (before after : ℕ) (t : Tree) (h : Held) (id : ℕ) (content : List ℕ) (term : ℕ) (t' : Tree) (d : Committing) (a : Committed) → IsCalled before after (λ fault. commits_under t h fault id content term) (t', d) → d.answer ≡ answer.Done a
     → chunks_at id (file_at t' id) ≡ Some (id, chunks_of content)
-got_places before after t h id content t' d a called is =
-    by_fault t h id content t' d called.fault (replace_plan t h id (length content)) refl called.is (subst IsDone (sym is) tt)
+got_places before after t h id content term t' d a called is =
+    by_fault t h id content term t' d called.fault (replace_plan t h id (length content)) refl called.is (subst IsDone (sym is) tt)

@@ -1,6 +1,6 @@
 -- What a step does that met want of memory, or did not: of a GETHASH and a change that is made, whose chunks enter the index; and event by event.
-use Rattle.std.proofs.Common.{◌≡◌, sym, ap, ◌∙◌, subst, ℕ, ◌<◌, List, [], ◌∷◌, ◌++◌, length, None, Bool, true, false, inl, inr, arith}
-use Rattle.std.specs.Prelude.{Result, Ok, Err, ◌==◌, if◌then◌else◌, max, remove, slice_index_or}
+use Rattle.std.proofs.Common.{◌≡◌, refl, sym, ap, ◌∙◌, subst, ℕ, List, [], ◌++◌, Option, Some, None, Bool, true, false, inl, inr}
+use Rattle.std.specs.Prelude.{Result, Ok, Err, ◌==◌, if◌then◌else◌, max}
 use Rattle.chunk_index.specs.Index.{Indexed}
 use Rattle.xdr_codec.specs.declared.status.Status.{Status}
 use Rattle.xdr_codec.specs.declared.status.Status.TheVariants as status
@@ -22,71 +22,81 @@ use Rattle.tree_calls.specs.Waiting.{with_committed, commits as tree_commits, co
 use Rattle.tree_calls.specs.declared.asked.Asked.{Asked}
 use Rattle.tree_calls.specs.declared.asked.Committing.{Committing}
 use Rattle.tree_calls.specs.declared.asked.Done.{Done}
+use Rattle.server_core.specs.declared.change.Wanted.{Wanted}
 use Rattle.server_core.specs.declared.change.Wanted.TheVariants as wanted
 use Rattle.server_core.specs.declared.journal.Entry.{Entry}
-use Rattle.server_core.specs.Closing.{at, entries_by, count_of, index_with, committed_by, settled_by, told_change, makes_change, makes_change_under, settles, settles_under}
+use Rattle.server_core.specs.Closing.{at, entries_by, count_of, index_with, leases_done, committed_by, settled_by, told_change, makes_change, makes_change_under, ready_by, settles, settles_by, settles_under}
 use Rattle.server_core.specs.Served.{IsServed}
 use Rattle.server_core.specs.State.{State, Change, held}
+use Rattle.server_core.specs.Recalling.{term_at}
 use Rattle.chunk_calls.specs.Entering.{IsLacking}
+use Rattle.chunk_cut.specs.declared.chunk.Chunk.{Chunk}
+use Rattle.callback_core.specs.Waits.{without}
+use Rattle.lease_rules.specs.declared.lease.Lease.{Lease}
+use Rattle.server_rules.specs.declared.told.Told.TheVariants as told
 use Rattle.server_core.specs.Step.{got_if, stands, change_entered, chunks_got, chunks_of_change, chunks_if, chunks_called, has_room, missed_step, Lacks, MissesCall, Misses, nothing, lacks}
 
 -- ---- a change that is made
 
 -- what a COMMITTMP leaves, by what the tree made of it
-abbrev committed_state : State → Tree → List Entry → Indexed → State
-committed_state s t journal index = record s { tree = t; journal = journal; index = index }
+abbrev pub committed_state : State → Tree → List Entry → Indexed → List Lease → State
+committed_state s t journal index leases = record s { tree = t; journal = journal; index = index; leasing = record s.leasing { leases = leases } }
 
 abbrev committed_body : Committing → Body
 committed_body d = body.Lb (lb.CommitTmpAnswer d.answer)
 
-committed_by_all : (s : State) (fault : Bool) (c : Change) (content : List ℕ) (h : Held) (t : Tree) (d : Committing) (journal : List Entry) (index : Indexed) (entries : ℕ) (left : Bool) (o : ServerStep)
-    → h ≡ held s.waiting → tree_commits_under s.tree h fault c.file content 0 ≡ (t, d) → journal ≡ s.journal ++ entries_by c.session d.entry None → index ≡ index_with s.index c.file content d.answer
-    → entries ≡ count_of d.entry None → o ≡ told_change c entries (body.Lb (lb.CommitTmpAnswer d.answer)) → left ≡ false
-    → makes_change_under s fault c (wanted.Content content) ≡ (record s { tree = t; journal = journal; index = index }, record o { missed = left })
-committed_by_all s fault c content h t d journal index entries left o needs done entered places counts said none =
-    ap (λ (x : Held). committed_by s c content (tree_commits_under s.tree x fault c.file content 0)) (sym needs)
+-- the leases that stand then
+abbrev leases_then : State → Change → Committing → List Lease
+leases_then s c d = leases_done s.leasing.leases s.leasing.moment c.session c.file d.answer
+
+committed_by_all : (s : State) (fault : Bool) (c : Change) (content : List ℕ) (h : Held) (term : ℕ) (t : Tree) (d : Committing) (journal : List Entry) (index : Indexed) (leases : List Lease) (entries : ℕ) (left : Bool) (o : ServerStep)
+    → h ≡ held s.waiting → term ≡ term_at s c.file → tree_commits_under s.tree h fault c.file content term ≡ (t, d) → journal ≡ s.journal ++ entries_by c.session d.entry None → index ≡ index_with s.index c.file content d.answer
+    → leases ≡ leases_then s c d → entries ≡ count_of d.entry None → o ≡ told_change c entries (body.Lb (lb.CommitTmpAnswer d.answer)) → left ≡ false
+    → makes_change_under s fault c (wanted.Content content) ≡ (committed_state s t journal index leases, record o { missed = left })
+committed_by_all s fault c content h term t d journal index leases entries left o needs lasts done entered places granted counts said none =
+    ap (λ (x : Held). committed_by s c content (tree_commits_under s.tree x fault c.file content (term_at s c.file))) (sym needs)
+    ∙ ap (λ (x : ℕ). committed_by s c content (tree_commits_under s.tree h fault c.file content x)) (sym lasts)
     ∙ ap (λ (p : Tree × Committing). committed_by s c content p) done
-    ∙ ap (λ (l : List Entry). (committed_state s t l (index_with s.index c.file content d.answer), told_change c (count_of d.entry None) (committed_body d))) (sym entered)
-    ∙ ap (λ (i : Indexed). (committed_state s t journal i, told_change c (count_of d.entry None) (committed_body d))) (sym places)
-    ∙ ap (λ (n : ℕ). (committed_state s t journal index, told_change c n (committed_body d))) (sym counts)
-    ∙ ap (λ (x : ServerStep). (committed_state s t journal index, record x { missed = false })) (sym said)
-    ∙ ap (λ (b : Bool). (committed_state s t journal index, record o { missed = b })) (sym none)
+    ∙ ap (λ (l : List Entry). (committed_state s t l (index_with s.index c.file content d.answer) (leases_then s c d), told_change c (count_of d.entry None) (committed_body d))) (sym entered)
+    ∙ ap (λ (i : Indexed). (committed_state s t journal i (leases_then s c d), told_change c (count_of d.entry None) (committed_body d))) (sym places)
+    ∙ ap (λ (l : List Lease). (committed_state s t journal index l, told_change c (count_of d.entry None) (committed_body d))) (sym granted)
+    ∙ ap (λ (n : ℕ). (committed_state s t journal index leases, told_change c n (committed_body d))) (sym counts)
+    ∙ ap (λ (x : ServerStep). (committed_state s t journal index leases, record x { missed = false })) (sym said)
+    ∙ ap (λ (b : Bool). (committed_state s t journal index leases, record o { missed = b })) (sym none)
 
-pub committed_all : (before after : ℕ) (s : State) (c : Change) (content : List ℕ) (h : Held) (t : Tree) (d : Committing) (journal : List Entry) (index : Indexed) (entries : ℕ) (left : Bool) (o : ServerStep)
-    → h ≡ held s.waiting → IsCalled before after (λ fault. tree_commits_under s.tree h fault c.file content 0) (t, d) → journal ≡ s.journal ++ entries_by c.session d.entry None → index ≡ index_with s.index c.file content d.answer
-    → entries ≡ count_of d.entry None → o ≡ told_change c entries (body.Lb (lb.CommitTmpAnswer d.answer)) → left ≡ false
-    → IsServed before after (λ fault. makes_change_under s fault c (wanted.Content content)) (record s { tree = t; journal = journal; index = index }, record o { missed = left })
-committed_all before after s c content h t d journal index entries left o needs done entered places counts said none =
-    record { fault = done.fault; cause = done.cause; is = committed_by_all s done.fault c content h t d journal index entries left o needs done.is entered places counts said none }
-
-abbrev answered : Tree × Result Changed Status → Tree × Committing
-answered p = with_committed 0 p
+pub committed_all : (before after : ℕ) (s : State) (c : Change) (content : List ℕ) (h : Held) (term : ℕ) (t : Tree) (d : Committing) (journal : List Entry) (index : Indexed) (leases : List Lease) (entries : ℕ) (left : Bool) (o : ServerStep)
+    → h ≡ held s.waiting → term ≡ term_at s c.file → IsCalled before after (λ fault. tree_commits_under s.tree h fault c.file content term) (t, d) → journal ≡ s.journal ++ entries_by c.session d.entry None → index ≡ index_with s.index c.file content d.answer
+    → leases ≡ leases_then s c d → entries ≡ count_of d.entry None → o ≡ told_change c entries (body.Lb (lb.CommitTmpAnswer d.answer)) → left ≡ false
+    → IsServed before after (λ fault. makes_change_under s fault c (wanted.Content content)) (committed_state s t journal index leases, record o { missed = left })
+committed_all before after s c content h term t d journal index leases entries left o needs lasts done entered places granted counts said none =
+    record { fault = done.fault; cause = done.cause; is = committed_by_all s done.fault c content h term t d journal index leases entries left o needs lasts done.is entered places granted counts said none }
 
 -- places are left out only where the content was got, and then the store didn't fail
-got_unfailed : (fault : Bool) (s : State) (h : Held) (id : ℕ) (content : List ℕ) (t : Tree) (d : Committing) (index new : Indexed) → tree_commits_under s.tree h fault id content 0 ≡ (t, d) → IsLacking index (chunks_got id content d.answer) new
-    → tree_commits s.tree h id content 0 ≡ (t, d)
-got_unfailed false s h id content t d index new done lack = done
-got_unfailed true s h id content t d index new done lack = by (replace s.tree h id content) done
+got_unfailed : (fault : Bool) (s : State) (h : Held) (id term : ℕ) (content : List ℕ) (t : Tree) (d : Committing) (index new : Indexed) → tree_commits_under s.tree h fault id content term ≡ (t, d) → IsLacking index (chunks_got id content d.answer) new
+    → tree_commits s.tree h id content term ≡ (t, d)
+got_unfailed false s h id term content t d index new done lack = done
+got_unfailed true s h id term content t d index new done lack = by (replace s.tree h id content) done
   where
-    by : (p : Tree × Result Changed Status) → answered (stored true s.tree p) ≡ (t, d) → answered p ≡ (t, d)
+    by : (p : Tree × Result Changed Status) → with_committed term (stored true s.tree p) ≡ (t, d) → with_committed term p ≡ (t, d)
     by (u, Err e) is = is
     by (u, Ok c) is = by_changes (u.changes == s.tree.changes) is
       where
-        by_changes : (b : Bool) → answered (if b then (u, Ok c) else (s.tree, Err status.Io)) ≡ (t, d) → answered (u, Ok c) ≡ (t, d)
+        by_changes : (b : Bool) → with_committed term (if b then (u, Ok c) else (s.tree, Err status.Io)) ≡ (t, d) → with_committed term (u, Ok c) ≡ (t, d)
         by_changes true k = k
         by_changes false k = absurd (subst (λ (q : Tree × Committing). IsLacking index (chunks_got id content q.1.answer) new) (sym k) lack)
 
-pub committed_some : (before after : ℕ) (s : State) (c : Change) (content : List ℕ) (h : Held) (t : Tree) (d : Committing) (journal : List Entry) (index : Indexed) (entries : ℕ) (left : Bool) (o : ServerStep)
-    → h ≡ held s.waiting → IsCalled before after (λ fault. tree_commits_under s.tree h fault c.file content 0) (t, d) → journal ≡ s.journal ++ entries_by c.session d.entry None → IsLacking s.index (chunks_got c.file content d.answer) index
-    → entries ≡ count_of d.entry None → o ≡ told_change c entries (body.Lb (lb.CommitTmpAnswer d.answer)) → left ≡ true
-    → Lacks s.index (change_entered s.tree s.waiting c (wanted.Content content)) (makes_change s c (wanted.Content content)) (record s { tree = t; journal = journal; index = index }) (record o { missed = left })
-committed_some before after s c content h t d journal index entries left o needs called entered lack counts said some =
-    let done = got_unfailed called.fault s h c.file content t d s.index index called.is lack in
-    subst (λ (p : Tree × Committing). Lacks s.index (chunks_got c.file content p.1.answer) (committed_by s c content p) (committed_state s t journal index) (record o { missed = left }))
-    (sym (ap (λ (x : Held). tree_commits s.tree x c.file content 0) (sym needs) ∙ done)) (
+pub committed_some : (before after : ℕ) (s : State) (c : Change) (content : List ℕ) (h : Held) (term : ℕ) (t : Tree) (d : Committing) (journal : List Entry) (index : Indexed) (leases : List Lease) (entries : ℕ) (left : Bool) (o : ServerStep)
+    → h ≡ held s.waiting → term ≡ term_at s c.file → IsCalled before after (λ fault. tree_commits_under s.tree h fault c.file content term) (t, d) → journal ≡ s.journal ++ entries_by c.session d.entry None → IsLacking s.index (chunks_got c.file content d.answer) index
+    → leases ≡ leases_then s c d → entries ≡ count_of d.entry None → o ≡ told_change c entries (body.Lb (lb.CommitTmpAnswer d.answer)) → left ≡ true
+    → Lacks s.index (change_entered s c (wanted.Content content)) (makes_change s c (wanted.Content content)) (committed_state s t journal index leases) (record o { missed = left })
+committed_some before after s c content h term t d journal index leases entries left o needs lasts called entered lack granted counts said some =
+    let done = got_unfailed called.fault s h c.file term content t d s.index index called.is lack in
+    subst (λ (p : Tree × Committing). Lacks s.index (chunks_got c.file content p.1.answer) (committed_by s c content p) (committed_state s t journal index leases) (record o { missed = left }))
+    (sym (ap (λ (x : Held). tree_commits s.tree x c.file content (term_at s c.file)) (sym needs) ∙ ap (λ (x : ℕ). tree_commits s.tree h c.file content x) (sym lasts) ∙ done)) (
       index,
       lack,
-      ap (λ (l : List Entry). committed_state s t l index) entered,
+      ap (λ (l : List Entry). committed_state s t l index leases) entered
+          ∙ ap (λ (l : List Lease). committed_state s t (s.journal ++ entries_by c.session d.entry None) index l) granted,
       ap (λ (b : Bool). record o { missed = b }) some
           ∙ ap (λ (x : ServerStep). record x { missed = true }) said
           ∙ ap (λ (n : ℕ). record (told_change c n (committed_body d)) { missed = true }) counts,
@@ -109,29 +119,52 @@ pub settled_all : (before after : ℕ) (s : State) (c : Change) (a : Asked) (h :
 settled_all before after s c a h t d journal entries o needs done entered counts said =
     record { fault = done.fault; cause = done.cause; is = settled_by_all s done.fault c a h t d journal entries o needs done.is entered counts said }
 
--- ---- the change that came first
+-- ---- the change that is made next
 
--- it, and those behind it
-pub first_of : (waiting rest : List Change) (c : Change) → 0 < length waiting → c ≡ slice_index_or waiting 0 c → rest ≡ remove waiting 0 → waiting ≡ c ∷ rest
-first_of [] rest c some first behind = absurd (omega (arith, some))
-first_of (d ∷ ds) rest c some first behind = ap (λ (x : Change). x ∷ ds) (sym first) ∙ ap (λ (l : List Change). c ∷ l) (sym behind)
+-- what is left where it has left the queue
+abbrev left_by : State → (waiting : List Change) → (leases : List Lease) → (moment : ℕ) → State
+left_by s waiting leases moment = record s { waiting = waiting; leasing = record s.leasing { leases = leases; moment = moment } }
 
-pub settles_all : (before after : ℕ) (s new : State) (now moment : ℕ) (c : Change) (rest : List Change) (o : ServerStep) → s.waiting ≡ c ∷ rest → moment ≡ max s.moment now
-    → IsServed before after (λ fault. makes_change_under (record s { moment = moment; waiting = rest }) fault c c.what) (new, o) → IsServed before after (λ fault. settles_under s fault now s.waiting) (new, o)
-settles_all before after s new now moment c rest o first later made = record {
+left_is : (s : State) (now moment : ℕ) (c : Change) (rest : List Change) (leases : List Lease) → rest ≡ without s.waiting c.session → leases ≡ s.leasing.leases → moment ≡ max s.leasing.moment now → left_by s rest leases moment ≡ at (record s { waiting = without s.waiting c.session }) now
+left_is s now moment c rest leases others same later =
+    ap (λ (l : List Change). left_by s l leases moment) others
+    ∙ ap (λ (l : List Lease). left_by s (without s.waiting c.session) l moment) same
+    ∙ ap (λ (m : ℕ). left_by s (without s.waiting c.session) s.leasing.leases m) later
+
+pub settles_all : (before after : ℕ) (s new : State) (now moment : ℕ) (c : Change) (rest : List Change) (leases : List Lease) (o : ServerStep) → ready_by s now ≡ Some c → rest ≡ without s.waiting c.session → leases ≡ s.leasing.leases → moment ≡ max s.leasing.moment now
+    → IsServed before after (λ fault. makes_change_under (left_by s rest leases moment) fault c c.what) (new, o) → IsServed before after (λ fault. settles_under s fault now) (new, o)
+settles_all before after s new now moment c rest leases o next others same later made = record {
   fault = made.fault;
   cause = made.cause;
-  is = ap (λ (l : List Change). settles_under s made.fault now l) first
-      ∙ ap (λ (m : ℕ). makes_change_under (record s { moment = m; waiting = rest }) made.fault c c.what) (sym later)
+  is = ap (λ (r : Option Change). settles_by s made.fault now r) next
+      ∙ ap (λ (t : State). makes_change_under t made.fault c c.what) (sym (left_is s now moment c rest leases others same later))
       ∙ made.is;
 }
 
-pub settles_some : (s new : State) (now moment : ℕ) (c : Change) (rest : List Change) (o : ServerStep) → s.waiting ≡ c ∷ rest → moment ≡ max s.moment now
-    → Lacks s.index (change_entered s.tree rest c c.what) (makes_change (record s { moment = moment; waiting = rest }) c c.what) new o
-    → Lacks s.index (chunks_of_change s s.waiting) (settles s now s.waiting) new o
-settles_some s new now moment c rest o first later made =
-    subst (λ (l : List Change). Lacks s.index (chunks_of_change s l) (settles s now l) new o) (sym first)
-    (subst (λ (m : ℕ). Lacks s.index (change_entered s.tree rest c c.what) (makes_change (record s { moment = m; waiting = rest }) c c.what) new o) later made)
+pub settles_some : (s new : State) (now moment : ℕ) (c : Change) (rest : List Change) (leases : List Lease) (o : ServerStep) → ready_by s now ≡ Some c → rest ≡ without s.waiting c.session → leases ≡ s.leasing.leases → moment ≡ max s.leasing.moment now
+    → Lacks s.index (change_entered (left_by s rest leases moment) c c.what) (makes_change (left_by s rest leases moment) c c.what) new o
+    → Lacks s.index (chunks_of_change s (ready_by s now)) (settles s now) new o
+settles_some s new now moment c rest leases o next others same later made =
+    subst (λ (r : Option Change). Lacks s.index (chunks_of_change s r) (settles_by s false now r) new o) (sym next)
+    (subst (λ (e : Option (ℕ × List Chunk)). Lacks s.index e (makes_change (at (record s { waiting = without s.waiting c.session }) now) c c.what) new o) (entered c.what)
+    (subst (λ (t : State). Lacks s.index (change_entered t c c.what) (makes_change t c c.what) new o) (left_is s now moment c rest leases others same later) made))
+  where
+    -- the moment says nothing of them
+    entered : (w : Wanted) → change_entered (at (record s { waiting = without s.waiting c.session }) now) c w ≡ change_entered (record s { waiting = without s.waiting c.session }) c w
+    entered (wanted.Content content) = refl
+    entered (wanted.Asked a) = refl
+
+-- where there is none
+pub settles_none : (before after : ℕ) (s : State) (now : ℕ) (rest : List Change) (leases : List Lease) (o : ServerStep) → ready_by s now ≡ None → rest ≡ s.waiting → leases ≡ s.leasing.leases → o ≡ record { send = []; told = told.NotReady; entries = 0; missed = false }
+    → IsServed before after (λ fault. settles_under s fault now) (left_by s rest leases s.leasing.moment, o)
+settles_none before after s now rest leases o next all same said = record {
+  fault = false;
+  cause = tt;
+  is = ap (λ (r : Option Change). settles_by s false now r) next
+      ∙ ap (λ (x : ServerStep). (s, x)) (sym said)
+      ∙ ap (λ (l : List Change). (left_by s l s.leasing.leases s.leasing.moment, o)) (sym all)
+      ∙ ap (λ (l : List Lease). (left_by s rest l s.leasing.moment, o)) (sym same);
+}
 
 -- ---- an event
 
@@ -142,16 +175,16 @@ called_misses s new session xid now b step there (inl m) = nothing (there, m.0) 
 called_misses s new session xid now b step there (inr l) =
     lacks (subst (λ (t : Bool). Lacks s.index (chunks_if t (chunks_called s b)) (got_if s t session (message.Call xid b) now) new step) (sym there) l)
 
-pub call_misses : (s new : State) (session xid now moment : ℕ) (b : Body) (m : Message) (step : ServerStep) → m ≡ message.Call xid b → stands s session ≡ true → moment ≡ max s.moment now
-    → MissesCall (record s { moment = moment }) session xid b new step → Misses s (event.Got session m now) new step
+pub call_misses : (s new : State) (session xid now moment : ℕ) (b : Body) (m : Message) (step : ServerStep) → m ≡ message.Call xid b → stands s session ≡ true → moment ≡ max s.leasing.moment now
+    → MissesCall (record s { leasing = record s.leasing { moment = moment } }) session xid b new step → Misses s (event.Got session m now) new step
 call_misses s new session xid now moment b m step is there later missed =
     subst (λ (x : Message). Misses s (event.Got session x now) new step) (sym is)
-    (called_misses s new session xid now b step there (subst (λ (t : ℕ). MissesCall (record s { moment = t }) session xid b new step) later missed))
+    (called_misses s new session xid now b step there (subst (λ (t : ℕ). MissesCall (record s { leasing = record s.leasing { moment = t } }) session xid b new step) later missed))
 
 -- a connection that is made
 pub connect_misses : (s new : State) (e : Event) (step : ServerStep) → e ≡ event.Connect → has_room s ≡ true → new ≡ s → step ≡ missed_step event.Connect → Misses s e new step
 connect_misses s new e step is room same said = subst (λ (x : Event). Misses s x new step) (sym is) (nothing room same said)
 
 -- a settling
-pub settle_misses : (s new : State) (now : ℕ) (e : Event) (step : ServerStep) → e ≡ event.Settle now → Lacks s.index (chunks_of_change s s.waiting) (settles s now s.waiting) new step → Misses s e new step
+pub settle_misses : (s new : State) (now : ℕ) (e : Event) (step : ServerStep) → e ≡ event.Settle now → Lacks s.index (chunks_of_change s (ready_by s now)) (settles s now) new step → Misses s e new step
 settle_misses s new now e step is lack = subst (λ (x : Event). Misses s x new step) (sym is) (lacks lack)

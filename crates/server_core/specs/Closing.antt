@@ -2,6 +2,7 @@
 use Rattle.std.specs.Prelude.{ℕ, ◌+◌, List, [], ◌∷◌, ◌++◌, length, Option, Some, None, Result, Ok, Err, Bool, false, ◌||◌, ◌==◌, max, nat_lt, if◌then◌else◌}
 use Rattle.limits.specs.declared.TheConstants.{TREE_MOST, CHANGES_MOST}
 use Rattle.std.specs.List.{list_any}
+use Rattle.callback_core.specs.Waits.{without}
 use Rattle.chunk_cut.specs.Chunks.{chunks_of}
 use Rattle.chunk_index.specs.Index.{Indexed, key_of, place_of, found}
 use Rattle.xdr_codec.specs.declared.status.Status.{Status}
@@ -21,14 +22,17 @@ use Rattle.temp_files.specs.Pieces.{size_most}
 use Rattle.temp_files.specs.Temps.{Temp, with_temp, without_temp, empty_temp, room_fault, piece_fault, with_piece, assembled}
 use Rattle.chunk_calls.specs.Writing.{done_unless, cond_fault, bytes_known}
 use Rattle.server_core.specs.declared.event.ServerStep.{ServerStep}
-use Rattle.server_core.specs.Steps.{sends, to}
 use Rattle.server_rules.specs.declared.told.Told.TheVariants as told
 use Rattle.server_core.specs.declared.change.Wanted.{Wanted}
 use Rattle.server_core.specs.declared.change.Wanted.TheVariants as wanted
 use Rattle.server_core.specs.declared.journal.Entry.{Entry}
 use Rattle.chunk_calls.specs.Answers.{Node, directory, file, node_of}
 use Rattle.chunk_places.specs.Places.{indexed}
-use Rattle.server_core.specs.State.{State, Change, held, entries_held, bytes_held}
+use Rattle.lease_rules.specs.declared.lease.Lease.{Lease}
+use Rattle.server_core.specs.Leasing.{later, with_granted, ready_at}
+use Rattle.server_core.specs.Steps.{to}
+use Rattle.server_core.specs.Recalling.{term_at, comes}
+use Rattle.server_core.specs.State.{State, Change, change_of, held, entries_held, bytes_held}
 use Rattle.tree_reading.specs.Tree.{Tree}
 use Rattle.tree_reading.specs.declared.entry.Entry.{Entry as TreeEntry}
 use Rattle.tree_calls.specs.Waiting.{commits_under as tree_commits_under, settles_under as tree_settles_under}
@@ -105,7 +109,7 @@ commits_whole s session xid id None = answers s session xid (lb.CommitTmpAnswer 
 commits_whole s session xid id (Some content) =
     if has_waiting s.waiting session then answers s session xid (lb.CommitTmpAnswer (Failed status.Jukebox tt))
     else if is_full s (length content) then answers s session xid (lb.CommitTmpAnswer (Failed status.NoSpc tt))
-    else (record s { waiting = s.waiting ++ record { session = session; xid = xid; file = id; what = wanted.Content content } ∷ [] }, sends [])
+    else comes s (change_of session xid id (wanted.Content content))
 
 -- the file that the handle names is to get the content of a temporary file, which has ended
 abbrev pub commits_to : State → (session xid size : ℕ) → Temp → Result Node Status → State × ServerStep
@@ -143,7 +147,7 @@ count_of first second = one_if first + one_if second
 
 -- the server's moment is the greater of the reading and the last moment used
 abbrev pub at : State → ℕ → State
-at s now = record s { moment = max s.moment now }
+at s now = record s { leasing = later s.leasing now }
 
 -- what is told of a change that has left the queue
 abbrev pub told_change : Change → (entries : ℕ) → Body → ServerStep
@@ -154,28 +158,43 @@ abbrev pub index_with : Indexed → (id : ℕ) → List ℕ → Answer Committed
 index_with index id content (Done a) = indexed index id (chunks_of content)
 index_with index id content (Failed e u) = index
 
+-- a COMMITTMP that was done is granted the lease whose term it is told
+abbrev pub leases_done : List Lease → (moment session id : ℕ) → Answer Committed Unit → List Lease
+leases_done leases moment session id (Done a) = with_granted leases moment session id a.term
+leases_done leases moment session id (Failed e u) = leases
+
+abbrev pub grants_done : State → Change → Answer Committed Unit → State
+grants_done s c a = record s { leasing = record s.leasing { leases = leases_done s.leasing.leases s.leasing.moment c.session c.file a } }
+
 -- a COMMITTMP, by what the tree makes of it
 abbrev pub committed_by : State → Change → List ℕ → Tree × Committing → State × ServerStep
-committed_by s c content p = (record s { tree = p.0; journal = s.journal ++ entries_by c.session p.1.entry None; index = index_with s.index c.file content p.1.answer }, told_change c (count_of p.1.entry None) (body.Lb (lb.CommitTmpAnswer p.1.answer)))
+committed_by s c content p = (record (grants_done s c p.1.answer) { tree = p.0; journal = s.journal ++ entries_by c.session p.1.entry None; index = index_with s.index c.file content p.1.answer }, told_change c (count_of p.1.entry None) (body.Lb (lb.CommitTmpAnswer p.1.answer)))
 
 -- a REMOVE or RENAME, by what the tree makes of it
 abbrev pub settled_by : State → Change → Tree × Outcome → State × ServerStep
 settled_by s c p = (record s { tree = p.0; journal = s.journal ++ entries_by c.session p.1.first p.1.second }, told_change c (count_of p.1.first p.1.second) (body.Nfs p.1.answer))
 
--- The change is made if all is as it was when it came (`specs/Waiting.antt` of `tree_calls`). What the others that wait need is left free. fault: whether the
--- store fails, if it is asked; the change is then answered IO, and has left the queue for good.
+-- The change, which waits no longer, is made if all is as it was when it came (`specs/Waiting.antt` of `tree_calls`). What the others that wait need is left
+-- free. fault: whether the store fails, if it is asked; the change is then answered IO, and has left the queue for good.
 abbrev pub makes_change_under : State → (fault : Bool) → Change → Wanted → State × ServerStep
-makes_change_under s fault c (wanted.Content content) = committed_by s c content (tree_commits_under s.tree (held s.waiting) fault c.file content 0)
+makes_change_under s fault c (wanted.Content content) = committed_by s c content (tree_commits_under s.tree (held s.waiting) fault c.file content (term_at s c.file))
 makes_change_under s fault c (wanted.Asked a) = settled_by s c (tree_settles_under s.tree (held s.waiting) fault a)
 
--- The change that came first is made: no lease stands, so nothing blocks it. Where none waits nothing changes.
-abbrev pub settles_under : State → (fault : Bool) → ℕ → List Change → State × ServerStep
-settles_under s fault now [] = (s, record { send = []; told = told.NotReady; entries = 0; missed = false })
-settles_under s fault now (c ∷ cs) = makes_change_under (at (record s { waiting = cs }) now) fault c c.what
+-- a change that no lease blocks is made; where there is none nothing changes, the moment neither
+abbrev pub settles_by : State → (fault : Bool) → ℕ → Option Change → State × ServerStep
+settles_by s fault now None = (s, record { send = []; told = told.NotReady; entries = 0; missed = false })
+settles_by s fault now (Some c) = makes_change_under (at (record s { waiting = without s.waiting c.session }) now) fault c c.what
+
+-- the change that is made at a reading, if one is
+abbrev pub ready_by : State → ℕ → Option Change
+ready_by s now = ready_at s.leasing (later s.leasing now).moment s.waiting
+
+abbrev pub settles_under : State → (fault : Bool) → ℕ → State × ServerStep
+settles_under s fault now = settles_by s fault now (ready_by s now)
 
 -- where the store doesn't fail
 abbrev pub makes_change : State → Change → Wanted → State × ServerStep
 makes_change s c w = makes_change_under s false c w
 
-abbrev pub settles : State → ℕ → List Change → State × ServerStep
-settles s now cs = settles_under s false now cs
+abbrev pub settles : State → ℕ → State × ServerStep
+settles s now = settles_under s false now

@@ -3,7 +3,10 @@ pub mod Asking
 pub mod Closing
 pub mod Hashed
 pub mod IndexRows
+pub mod LeaseRows
+pub mod Leasing
 pub mod NamingRows
+pub mod Recalling
 pub mod Rows
 pub mod Served
 pub mod State

@@ -30,6 +30,7 @@ use Rattle.server_core.specs.declared.event.ServerStep.{ServerStep}
 use Rattle.server_rules.specs.declared.told.Told.{Told}
 use Rattle.server_rules.specs.declared.told.Told.TheVariants as told
 use Rattle.server_core.specs.declared.journal.Entry.{Entry}
+use Rattle.server_core.specs.Leasing.{unleased}
 use Rattle.server_core.specs.State.{State, empty}
 use Rattle.server_core.specs.Step.{server_step, server_step_under, opens_with}
 
@@ -137,7 +138,7 @@ created_state = refl
 removed : steps tree (removes 1 5 (codes "a") ∷ removes 1 6 (codes "b") ∷ makes 1 7 (codes "c") ∷ event.Settle 9 ∷ event.Settle 9 ∷ []) ≡ waits ∷ answered 1 6 0 (refused status.Jukebox) ∷ answered 1 7 1 done ∷ settled 1 5 1 done ∷ not_ready ∷ []
 removed = refl
 
-removed_state : (after tree (removes 1 5 (codes "a") ∷ event.Settle 9 ∷ [])) ≡ record tree { tree = record { nodes = root 2 ∷ file 3 (codes "b") 1 [] ∷ []; next = 4; changes = 2 }; journal = line 2 2 kind.Remove ∷ []; moment = 9 }
+removed_state : (after tree (removes 1 5 (codes "a") ∷ event.Settle 9 ∷ [])) ≡ record tree { tree = record { nodes = root 2 ∷ file 3 (codes "b") 1 [] ∷ []; next = 4; changes = 2 }; journal = line 2 2 kind.Remove ∷ []; leasing = unleased 9 }
 removed_state = refl
 
 -- a COMMITTMP behind it finds its file gone, and so does a second REMOVE of the file
@@ -159,7 +160,7 @@ other_name = refl
 renamed_over : steps tree (renames 1 5 (codes "a") (codes "b") ∷ event.Settle 9 ∷ []) ≡ waits ∷ settled 1 5 2 done ∷ []
 renamed_over = refl
 
-renamed_state : (after tree (renames 1 5 (codes "a") (codes "b") ∷ event.Settle 9 ∷ [])) ≡ record tree { tree = record { nodes = root 3 ∷ file 2 (codes "b") 1 (codes "abc") ∷ []; next = 4; changes = 3 }; journal = line 3 2 kind.Remove ∷ line 2 0 kind.Name ∷ []; moment = 9 }
+renamed_state : (after tree (renames 1 5 (codes "a") (codes "b") ∷ event.Settle 9 ∷ [])) ≡ record tree { tree = record { nodes = root 3 ∷ file 2 (codes "b") 1 (codes "abc") ∷ []; next = 4; changes = 3 }; journal = line 3 2 kind.Remove ∷ line 2 0 kind.Name ∷ []; leasing = unleased 9 }
 renamed_state = refl
 
 -- ---- a session that hangs takes its REMOVE along
@@ -193,5 +194,5 @@ not_asked = refl
 failed_later : fails (after tree (renames 1 5 (codes "a") (codes "b") ∷ [])) (event.Settle 9) ≡ settled 1 5 0 (refused status.Io)
 failed_later = refl
 
-failed_later_state : (server_step_under (after tree (renames 1 5 (codes "a") (codes "b") ∷ [])) true (event.Settle 9)).0 ≡ record tree { moment = 9 }
+failed_later_state : (server_step_under (after tree (renames 1 5 (codes "a") (codes "b") ∷ [])) true (event.Settle 9)).0 ≡ record tree { leasing = unleased 9 }
 failed_later_state = refl

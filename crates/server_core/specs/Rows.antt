@@ -23,6 +23,7 @@ use Rattle.tree_reading.specs.declared.entry.EntryKind.TheVariants as entry
 use Rattle.tree_reading.specs.Tree.{root}
 use Rattle.chunk_calls.specs.Answers.{attr_of, hashes_of}
 use Rattle.server_core.specs.Steps.{sends, to}
+use Rattle.server_core.specs.Leasing.{unleased}
 use Rattle.server_core.specs.State.{State, empty}
 use Rattle.chunk_calls.specs.Files.{File}
 use Rattle.server_core.specs.Step.{server_step, server_step_under, opens_with}
@@ -75,7 +76,7 @@ abbrev second : Pair
 second = record { digest = sha1 (replicate 10 0); size = 10 }
 
 abbrev both_of : (offset count : ℕ) → Hashes
-both_of offset count = hashes_of marked (record { handle = []; offset = offset; count = count })
+both_of offset count = hashes_of 0 marked (record { handle = []; offset = offset; count = count })
 
 abbrev some_of : List Pair → Bool → Hashes
 some_of pairs eof = record { version = 1; term = 0; size = 2058; pairs = pairs; eof = eof }
@@ -120,7 +121,7 @@ too_many = refl
 changed : steps tree (makes 1 1 ∷ calls 2 (lb.CondWrite (record { fd = 1; offset = 0; count = 1; digest = sha1 (codes "x") })) ∷ writes 3 0 (codes "x") ∷ commits 4 1 1 ∷ event.Settle 7 ∷ event.Settle 8 ∷ []) ≡ (made 1 ∷ answers 2 (lb.CondWriteAnswer (Failed status.HashNotFound tt)) ∷ answers 3 (lb.TmpWriteAnswer (Done tt)) ∷ sends [] ∷ record (answers 4 (lb.CommitTmpAnswer (Done (record { version = 2; term = 0 })))) { told = told.Settled 1 4; entries = 1 } ∷ record (sends []) { told = told.NotReady } ∷ [])
 changed = refl
 
-changed_state : (after tree (makes 1 1 ∷ writes 3 0 (codes "x") ∷ commits 4 1 1 ∷ event.Settle 7 ∷ event.Settle 8 ∷ [])) ≡ record tree { tree = record { nodes = root 1 ∷ record { id = 2; parent = 1; name = codes "a"; version = 2; body = Content (codes "x") } ∷ record { id = 3; parent = 1; name = codes "b"; version = 1; body = Content [] } ∷ []; next = 4; changes = 2 }; journal = record { file = 2; version = 2; kind = entry.Commit; len = 1; sha1 = sha1 (codes "x"); session = 1 } ∷ []; index = with_chunk no_index 2 (record { start = 0; len = 1; digest = sha1 (codes "x") }); moment = 7 }
+changed_state : (after tree (makes 1 1 ∷ writes 3 0 (codes "x") ∷ commits 4 1 1 ∷ event.Settle 7 ∷ event.Settle 8 ∷ [])) ≡ record tree { tree = record { nodes = root 1 ∷ record { id = 2; parent = 1; name = codes "a"; version = 2; body = Content (codes "x") } ∷ record { id = 3; parent = 1; name = codes "b"; version = 1; body = Content [] } ∷ []; next = 4; changes = 2 }; journal = record { file = 2; version = 2; kind = entry.Commit; len = 1; sha1 = sha1 (codes "x"); session = 1 } ∷ []; index = with_chunk no_index 2 (record { start = 0; len = 1; digest = sha1 (codes "x") }); leasing = unleased 7 }
 unfolding closed_ends next_end fp
 changed_state = refl
 
@@ -182,5 +183,5 @@ sessions = refl
 -- ---- a store that fails
 
 -- the file keeps its content, the index gets no place and the journal no entry, and the change has left the queue
-failed : (server_step_under (after tree (gives 1 (codes "x"))) true (event.Settle 7)) ≡ (record tree { moment = 7 }, record (to 1 (message.Answer 3 (body.Lb (lb.CommitTmpAnswer (Failed status.Io tt))))) { told = told.Settled 1 3 })
+failed : (server_step_under (after tree (gives 1 (codes "x"))) true (event.Settle 7)) ≡ (record tree { leasing = unleased 7 }, record (to 1 (message.Answer 3 (body.Lb (lb.CommitTmpAnswer (Failed status.Io tt))))) { told = told.Settled 1 3 })
 failed = refl

@@ -1,16 +1,26 @@
 -- What a server is.
-use Rattle.std.specs.Prelude.{ℕ, ◌+◌, List, [], ◌∷◌, length}
+use Rattle.std.specs.Prelude.{ℕ, ◌+◌, ◌==◌, List, [], ◌∷◌, length, Bool}
+use Rattle.std.specs.List.{list_any}
 use Rattle.tree_nodes.specs.declared.node.Body.TheVariants.{File as Content}
 use Rattle.tree_reading.specs.Tree.{Tree, contents_size, empty as root_alone}
 use Rattle.tree_reading.specs.declared.call.Held.{Held}
 use Rattle.tree_calls.specs.Waiting.{entries_of}
-pub use Rattle.server_core.specs.declared.change.Change.{Change}
+use Rattle.tree_calls.specs.declared.asked.Asked.{Asked}
+use Rattle.tree_calls.specs.declared.asked.Asked.TheVariants as asked
+use Rattle.lease_rules.specs.declared.change.Change.{Change as Waiting}
+use Rattle.lease_rules.specs.declared.change.Kind.{Kind}
+use Rattle.lease_rules.specs.declared.change.Kind.TheVariants as kind
 use Rattle.server_core.specs.declared.change.Wanted.{Wanted}
 use Rattle.server_core.specs.declared.change.Wanted.TheVariants as wanted
+use Rattle.server_core.specs.Leasing.{Leasing, unleased}
 use Rattle.server_core.specs.declared.journal.Entry.{Entry}
 use Rattle.chunk_index.specs.Index.{Indexed}
 use Rattle.temp_files.specs.Temps.{Temps}
 use Rattle.chunk_places.specs.Places.{no_index}
+
+-- a change that waits
+abbrev pub Change : Type 0
+Change = Waiting Wanted
 
 pub record State : Type 0 where
   -- the files and directories, and how many changes were ever made, those that an opening tree tells of included
@@ -27,12 +37,19 @@ pub record State : Type 0 where
   pub sessions : List ℕ
   -- how many sessions were ever made
   pub sessions_made : ℕ
-  -- the last moment used, in milliseconds of the server's clock
-  pub moment : ℕ
+  pub leasing : Leasing
 
--- a server with the root alone, and no session
+-- a server with the root alone, and no session, which grants no lease
 abbrev pub empty : State
-empty = record { tree = root_alone; journal = []; temps = []; index = no_index; waiting = []; sessions = []; sessions_made = 0; moment = 0 }
+empty = record { tree = root_alone; journal = []; temps = []; index = no_index; waiting = []; sessions = []; sessions_made = 0; leasing = unleased 0 }
+
+-- one that grants leases for so long
+abbrev pub with_term : State → (term : ℕ) → State
+with_term s term = record s { leasing = record s.leasing { term = term } }
+
+-- whether a session stands
+abbrev pub stands : State → ℕ → Bool
+stands s session = list_any (λ k. k == session) s.sessions
 
 -- ---- what waits
 
@@ -45,6 +62,19 @@ entries_wanted (wanted.Asked a) = entries_of a
 abbrev pub size_wanted : Wanted → ℕ
 size_wanted (wanted.Content content) = length content
 size_wanted (wanted.Asked a) = 0
+
+-- what it does to its file
+abbrev pub asked_kind : Asked → Kind
+asked_kind (asked.Remove r) = kind.Remove
+asked_kind (asked.Rename r) = kind.Rename
+
+abbrev pub kind_of : Wanted → Kind
+kind_of (wanted.Content content) = kind.Commit
+kind_of (wanted.Asked a) = asked_kind a
+
+-- the change of a session's call: what it is by what it is to make
+abbrev pub change_of : (session xid file : ℕ) → Wanted → Change
+change_of session xid file what = record { session = session; xid = xid; file = file; kind = kind_of what; entries = entries_wanted what; bytes = size_wanted what; what = what }
 
 abbrev pub entries_held : List Change → ℕ
 entries_held [] = 0

@@ -1,13 +1,14 @@
 -- One event of the server.
 use Rattle.std.specs.Prelude.{◌≡◌, ◌⊎◌, ℕ, ◌+◌, ◌<◌, ◌^◌, [], ◌∷◌, ◌++◌, List, length, Option, Some, None, IsSome, Result, Bool, true, false, ◌==◌, filter, not}
 use Rattle.server_rules.specs.Sessions.{has_place}
-use Rattle.std.specs.List.{list_any}
+use Rattle.callback_core.specs.Waits.{without}
 use Rattle.xdr_codec.specs.declared.status.Status.{Status}
 use Rattle.xdr_codec.specs.declared.answer.Answer.{Answer}
 use Rattle.xdr_codec.specs.declared.answer.Answer.TheVariants as answer
 use Rattle.hash_calls.specs.declared.call.Committed.{Committed}
 use Rattle.hash_calls.specs.declared.call.HashRange.{HashRange}
 use Rattle.hash_calls.specs.declared.message.Lb.TheVariants as lb
+use Rattle.hash_calls.specs.declared.message.Back.TheVariants as back
 use Rattle.nfs3_calls.specs.declared.message.Nfs.TheVariants as nfs
 use Rattle.wire.specs.declared.message.Body.{Body}
 use Rattle.wire.specs.declared.message.Body.TheVariants as body
@@ -27,7 +28,10 @@ use Rattle.server_core.specs.declared.event.ServerStep.{ServerStep}
 use Rattle.server_rules.specs.declared.told.Told.TheVariants as told
 use Rattle.server_core.specs.declared.change.Wanted.{Wanted}
 use Rattle.server_core.specs.declared.change.Wanted.TheVariants as wanted
-use Rattle.server_core.specs.State.{State, Change, empty, held}
+pub use Rattle.server_core.specs.State.{stands}
+use Rattle.server_core.specs.State.{State, Change, empty, change_of, held}
+use Rattle.server_core.specs.Leasing.{heard, unheard}
+use Rattle.server_core.specs.Recalling.{file_in, term_at, term_on, grants_on, comes}
 use Rattle.tree_nodes.specs.declared.node.Body.{Body as NodeBody}
 use Rattle.file_tree.specs.Opening.{opens}
 use Rattle.tree_reading.specs.Tree.{Tree}
@@ -38,7 +42,7 @@ use Rattle.tree_calls.specs.declared.asked.Outcome.TheVariants.{Answered, Waits}
 use Rattle.chunk_calls.specs.Answers.{Node, file, node_of, lease_answer, hash_answer, chunks_told, IsFile}
 use Rattle.server_core.specs.Answers.{read_answer}
 use Rattle.server_core.specs.Asking.{CanWait}
-use Rattle.server_core.specs.Closing.{at, has_waiting, entries_by, count_of, makes, writes, names, looked_up, commits, settles_under}
+use Rattle.server_core.specs.Closing.{at, has_waiting, entries_by, count_of, makes, writes, names, looked_up, commits, ready_by, settles_under}
 use Rattle.server_core.specs.Steps.{sends, to}
 use Rattle.chunk_calls.specs.Writing.{cond_fault, bytes_known}
 
@@ -47,9 +51,13 @@ use Rattle.chunk_calls.specs.Writing.{cond_fault, bytes_known}
 abbrev pub says : State → (session xid : ℕ) → Body → State × ServerStep
 says s session xid b = (s, to session (message.Answer xid b))
 
--- what a GETHASH is told; it changes the index alone
+-- what a GETLEASE is told; its session gets the lease
+abbrev pub tells_lease : State → (session xid : ℕ) → Result Node Status → State × ServerStep
+tells_lease s session xid n = says (grants_on s session (file_in n)) session xid (body.Lb (lb.GetLeaseAnswer (lease_answer (term_on s (file_in n)) n)))
+
+-- what a GETHASH is told; its session gets the lease, and the index the places
 abbrev pub tells_hashes : State → (session xid : ℕ) → HashRange → Result Node Status → State × ServerStep
-tells_hashes s session xid r n = says (record s { index = with_told s.index (chunks_told n r) }) session xid (body.Lb (lb.GetHashAnswer (hash_answer n r)))
+tells_hashes s session xid r n = says (record (grants_on s session (file_in n)) { index = with_told s.index (chunks_told n r) }) session xid (body.Lb (lb.GetHashAnswer (hash_answer (term_on s (file_in n)) n r)))
 
 -- what a call of NFS is answered, and the entries that it makes
 abbrev pub does : State → (session xid : ℕ) → Done → State × ServerStep
@@ -59,7 +67,7 @@ does s session xid d = (record s { journal = s.journal ++ entries_by session d.f
 abbrev pub asks : State → (session xid : ℕ) → Option Outcome → State × ServerStep
 asks s session xid None = (s, to session (message.Refuse xid refusal.ProcUnavail))
 asks s session xid (Some (Answered d)) = does s session xid d
-asks s session xid (Some (Waits a)) = (record s { waiting = s.waiting ++ record { session = session; xid = xid; file = file_of a; what = wanted.Asked a } ∷ [] }, sends [])
+asks s session xid (Some (Waits a)) = comes s (change_of session xid (file_of a) (wanted.Asked a))
 
 -- what waits leaves a call no less room than it needs itself
 abbrev pub asks_tree : State → (session xid : ℕ) → Tree × Option Outcome → State × ServerStep
@@ -69,7 +77,7 @@ asks_tree s session xid p = asks (record s { tree = p.0 }) session xid p.1
 -- (RFC 5531 section 9). fault: whether the store fails, if it is asked.
 abbrev pub called_under : State → (fault : Bool) → (session xid : ℕ) → Body → State × ServerStep
 called_under s fault session xid (body.Lb lb.Null) = says s session xid (body.Lb lb.NullAnswer)
-called_under s fault session xid (body.Lb (lb.GetLease handle)) = says s session xid (body.Lb (lb.GetLeaseAnswer (lease_answer (node_of s.tree handle))))
+called_under s fault session xid (body.Lb (lb.GetLease handle)) = tells_lease s session xid (node_of s.tree handle)
 called_under s fault session xid (body.Lb (lb.GetHash r)) = tells_hashes s session xid r (node_of s.tree r.handle)
 called_under s fault session xid (body.Lb (lb.MkTmpFile a)) = makes s session xid a.fd (node_of s.tree a.handle)
 called_under s fault session xid (body.Lb (lb.TmpWrite a)) = writes s session xid a (temp_at s.temps session a.fd)
@@ -80,15 +88,21 @@ called_under s fault session xid (body.Nfs (nfs.Read r)) = says s session xid (b
 called_under s fault session xid (body.Nfs m) = asks_tree s session xid (calls_under s.tree (held s.waiting) (has_waiting s.waiting session) fault m)
 called_under s fault session xid _ = (s, to session (message.Refuse xid refusal.ProcUnavail))
 
--- a call is done, and an unfit one refused; the server has asked for nothing, so an answer to it changes nothing
+-- whether an answer says that a RECALL was done
+abbrev pub is_recalled : Body → Bool
+is_recalled (body.Back back.RecallAnswer) = true
+is_recalled b = false
+
+-- what was asked for under this xid is answered
+abbrev pub hears : State → (session xid : ℕ) → (done : Bool) → State × ServerStep
+hears s session xid done = (record s { leasing = heard s.leasing session xid done }, sends [])
+
+-- a call is done, and an unfit one refused; an answer, or a refusal, is to what the server asked for
 abbrev pub got_under : State → (fault : Bool) → (session : ℕ) → Message → State × ServerStep
 got_under s fault session (message.Call xid b) = called_under s fault session xid b
 got_under s fault session (message.Unfit xid why) = (s, to session (message.Refuse xid why))
-got_under s fault session (message.Answer xid b) = (s, sends [])
-got_under s fault session (message.Refuse xid why) = (s, sends [])
-
-abbrev pub stands : State → ℕ → Bool
-stands s session = list_any (λ k. k == session) s.sessions
+got_under s fault session (message.Answer xid b) = hears s session xid (is_recalled b)
+got_under s fault session (message.Refuse xid why) = hears s session xid false
 
 abbrev pub got_if_under : State → (fault : Bool) → Bool → ℕ → Message → ℕ → State × ServerStep
 got_if_under s fault true session m now = got_under (at s now) fault session m
@@ -105,9 +119,9 @@ connect s false = (s, record { send = []; told = told.Full; entries = 0; missed 
 
 -- ---- a connection is lost
 
--- the session's temporary files go, and its change that waits
+-- The session's temporary files go, and its change that waits. Its leases stay until they end.
 abbrev pub hangs : State → (session : ℕ) → State
-hangs s session = record s { sessions = filter (λ k. not (k == session)) s.sessions; temps = without_session s.temps session; waiting = filter (λ c. not (c.session == session)) s.waiting }
+hangs s session = record s { sessions = filter (λ k. not (k == session)) s.sessions; temps = without_session s.temps session; waiting = without s.waiting session; leasing = unheard s.leasing session }
 
 abbrev pub hangs_if : State → Bool → (session : ℕ) → State × ServerStep
 hangs_if s true session = (hangs s session, sends [])
@@ -119,7 +133,7 @@ hangs_if s false session = (s, sends [])
 abbrev pub server_step_under : State → (fault : Bool) → Event → State × ServerStep
 server_step_under s fault event.Connect = connect s (has_room s)
 server_step_under s fault (event.Got session m now) = got_if_under s fault (stands s session) session m now
-server_step_under s fault (event.Settle now) = settles_under s fault now s.waiting
+server_step_under s fault (event.Settle now) = settles_under s fault now
 server_step_under s fault (event.Hang session) = hangs_if s (stands s session) session
 
 -- where the store doesn't fail
@@ -196,14 +210,14 @@ abbrev pub chunks_got : (id : ℕ) → List ℕ → Answer Committed Unit → Op
 chunks_got id content (answer.Done a) = Some (id, chunks_of content)
 chunks_got id content (answer.Failed e u) = None
 
--- those of a change, where these are the others that wait
-abbrev pub change_entered : Tree → List Change → Change → Wanted → Option (ℕ × List Chunk)
-change_entered t others c (wanted.Content content) = chunks_got c.file content (tree_commits t (held others) c.file content 0).1.answer
-change_entered t others c (wanted.Asked a) = None
+-- those of a change that waits no longer
+abbrev pub change_entered : State → Change → Wanted → Option (ℕ × List Chunk)
+change_entered s c (wanted.Content content) = chunks_got c.file content (tree_commits s.tree (held s.waiting) c.file content (term_at s c.file)).1.answer
+change_entered s c (wanted.Asked a) = None
 
-abbrev pub chunks_of_change : State → List Change → Option (ℕ × List Chunk)
-chunks_of_change s [] = None
-chunks_of_change s (c ∷ cs) = change_entered s.tree cs c c.what
+abbrev pub chunks_of_change : State → Option Change → Option (ℕ × List Chunk)
+chunks_of_change s None = None
+chunks_of_change s (Some c) = change_entered (record s { waiting = without s.waiting c.session }) c c.what
 
 abbrev pub chunks_if : Bool → Option (ℕ × List Chunk) → Option (ℕ × List Chunk)
 chunks_if true e = e
@@ -215,12 +229,13 @@ chunks_called s b = None
 
 abbrev pub chunks_entered : State → Event → Option (ℕ × List Chunk)
 chunks_entered s (event.Got session (message.Call xid b) now) = chunks_if (stands s session) (chunks_called s b)
-chunks_entered s (event.Settle now) = chunks_of_change s s.waiting
+chunks_entered s (event.Settle now) = chunks_of_change s (ready_by s now)
 chunks_entered s e = None
 
--- The calls that take memory: those that give chunks or bytes of a file, a handle or names, and those that keep something. One that is refused, or answered by a
--- failure, takes none.
+-- The calls that take memory: those that give chunks or bytes of a file, a handle or names, and those that keep something, a lease too. One that is refused,
+-- or answered by a failure, takes none.
 abbrev pub TakesMemory : State → (session : ℕ) → Body → Type 0
+TakesMemory s session (body.Lb (lb.GetLease handle)) = (term_on s (file_in (node_of s.tree handle)) == 0) ≡ false
 TakesMemory s session (body.Lb (lb.GetHash r)) = IsFile (node_of s.tree r.handle)
 TakesMemory s session (body.Lb (lb.MkTmpFile a)) = IsFile (node_of s.tree a.handle) × (room_fault s.temps session a.fd ≡ None)
 TakesMemory s session (body.Lb (lb.TmpWrite a)) = piece_fault (temp_at s.temps session a.fd) a.offset (length a.bytes) ≡ None

@@ -1,9 +1,10 @@
 //! The server. `specs/State.antt` says what it is, and `specs/Step.antt` what it does.
 
 ghost use Rattle.std.specs.Prelude.{◌≡◌, ◌≤◌, length, false, true, Some, IfOk, IfSome, OnOk, OnErr};
+ghost use Rattle.callback_core.specs.BackCalls.{spent, waiting_at};
 ghost use Rattle.server_core.specs.Closing.{has_waiting};
 ghost use Rattle.server_core.specs.Served.{IsServed};
-ghost use Rattle.server_core.specs.State.{empty, entries_held};
+ghost use Rattle.server_core.specs.State.{empty, with_term, entries_held};
 ghost use Rattle.server_core.specs.Step.{server_step, server_step_under, with_tree, opens_with, forges, learns, LearnsSome, clears_index, IsTimed, Misses};
 ghost use Rattle.file_tree.specs.Stores.{Keeps};
 ghost use Rattle.file_tree.specs.Opening.{can_open};
@@ -14,7 +15,8 @@ use crate::event::{Event, ServerStep};
 use crate::journal::Entry;
 use crate::state::ServerState;
 use crate::unkept::NoStore;
-use crate::waiting::has_waiting;
+use callback_core::back_calls::BackCalls;
+use callback_core::waits::Waits;
 use chunk_calls::entering::enter_content;
 use chunk_index::place::Place;
 use file_tree::tree::Tree;
@@ -29,6 +31,7 @@ use temp_files::temps::Temps;
 use tree_nodes::content::Content;
 use tree_nodes::node::Body;
 use tree_reading::reading::Standing;
+use wire::message::Waiting;
 
 /// A server of a tree of files and directories.
 pub struct Server {
@@ -55,17 +58,19 @@ impl Model for Server {
 }
 
 impl Server {
-    /// A server with the root directory alone, and no session. The one error is want of memory.
-    pub fn new(alloc: Global) -> Result<Server, AllocError>
-        ensures { IfOk result (λ server. server ≡ empty) }
+    /// A server with the root directory alone, and no session, which grants leases for this term in
+    /// milliseconds, and none where it is 0. The one error is want of memory.
+    pub fn new(alloc: Global, term: u32) -> Result<Server, AllocError>
+        ensures { IfOk result (λ server. server ≡ with_term empty term) }
     {
         let tree = Tree::new(alloc)?;
-        Server::with_tree(alloc, tree)
+        Server::with_tree(alloc, tree, term)
     }
 
-    /// A server over a tree, with no session. The one error is want of memory.
-    pub fn with_tree(alloc: Global, tree: Tree) -> Result<Server, AllocError>
-        ensures { IfOk result (λ server. server ≡ with_tree tree.tree) }
+    /// A server over a tree, with no session, which grants leases for this term in milliseconds, and none
+    /// where it is 0. The one error is want of memory.
+    pub fn with_tree(alloc: Global, tree: Tree, term: u32) -> Result<Server, AllocError>
+        ensures { IfOk result (λ server. server ≡ with_term (with_tree tree.tree) term) }
     {
         let index = chunk_places::empty(alloc)?;
         Ok(Server {
@@ -74,12 +79,22 @@ impl Server {
                 journal: Vec::new(alloc),
                 temps: Temps::new(alloc),
                 index,
-                waiting: Vec::new(alloc),
+                waits: Waits::new(alloc),
                 sessions: Sessions::new(alloc),
+                term,
                 moment: 0,
+                calls: BackCalls::new(alloc),
                 ahead: None,
             },
         })
+    }
+
+    /// Leases are granted for this term from now on, in milliseconds, and none where it is 0. Those that
+    /// stand stay as they are.
+    pub fn set_term(&mut self, term: u32)
+        ensures { self.new ≡ with_term self.old term }
+    {
+        self.state.term = term;
     }
 
     /// Whether the tree may open with a node of a name in a directory: the directory is there, and
@@ -160,7 +175,23 @@ impl Server {
     pub fn has_waiting(&self, session: u32) -> bool
         ensures { result ≡ has_waiting self.now.waiting session }
     {
-        has_waiting(&self.state.waiting, session)
+        self.state.waits.has(session)
+    }
+
+    /// What may come on a session's connection: calls, and the answers to the RECALLs that wait for them.
+    /// It takes no memory.
+    pub fn waiting(&self, session: u32) -> &Waiting
+        ensures { result.now ≡ waiting_at self.now.leasing.calls session }
+    {
+        self.state.calls.waiting(session)
+    }
+
+    /// A session that was to be asked for a lease and has no xid left, if there is one: its connection is
+    /// to be ended. It takes no memory.
+    pub fn spent(&self) -> Option<u32>
+        ensures { result ≡ spent self.now.leasing.calls }
+    {
+        self.state.calls.spent()
     }
 
     /// How many sessions stand.
@@ -200,7 +231,8 @@ impl Server {
     /// has changed but that a change that waited is gone. Where memory is wanting the step says so: a
     /// call is answered SYSTEM_ERR and a connection told so, and all stays as it was, but for the
     /// moment of the reading and a look-up; or all is done but that places are left out of the index of
-    /// chunks. A change that waits is made without memory, and a connection lost.
+    /// chunks. A change that waits is made without memory, and a connection lost; an answer to a RECALL is
+    /// heard without any.
     pub fn step<S: Store>(&mut self, alloc: Global, store: &mut S, event: Event) -> ServerStep
         requires timed { IsTimed event }
         requires spare { entries_held self.old.waiting ≤ S.spare store.old }

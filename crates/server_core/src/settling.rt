@@ -1,28 +1,32 @@
 //! How a change that waits is made. `settles` in `specs/Closing.antt` says it.
 
-ghost use Rattle.std.specs.Prelude.{◌≡◌, ℕ, ◌+◌, ◌≤◌, ◌∷◌, ◌++◌, [], length, false, true, vec_capacity};
+ghost use Rattle.std.specs.Prelude.{◌≡◌, ℕ, ◌+◌, ◌≤◌, ◌<◌, ◌^◌, ◌++◌, length, false, true, vec_capacity};
 ghost use Rattle.file_tree.specs.Stores.{Keeps};
 ghost use Rattle.tree_calls.specs.Calling.{IsCalled};
 ghost use Rattle.tree_calls.specs.Waiting.{commits_under, entries_of};
-ghost use Rattle.server_core.specs.Closing.{settles, settles_under, makes_change, makes_change_under, index_with, entered_by, one_if, entries_by, count_of};
+ghost use Rattle.server_core.specs.Closing.{ready_by, settles, settles_under, leases_done, makes_change, makes_change_under, index_with, entered_by, one_if, entries_by, count_of};
 ghost use Rattle.server_core.specs.Served.{IsServed};
-ghost use Rattle.server_core.specs.State.{entries_held, entries_wanted};
+ghost use Rattle.server_core.specs.State.{change_of, entries_held, entries_wanted};
 ghost use Rattle.server_core.specs.Step.{Lacks, chunks_got, chunks_of_change, change_entered};
 ghost use Rattle.chunk_calls.specs.Entering.{IsLacking};
-ghost use Rattle.server_core.specs.View.{state_of, IsBounded, IsSettling};
+ghost use Rattle.server_core.specs.View.{state_of, IsBounded, IsMade, IsSettling};
 ghost use Rattle.server_core.specs.declared.change.Wanted.TheVariants as wanted;
 
-use crate::change::{Change, Wanted};
+use crate::change::Wanted;
 use crate::event::ServerStep;
 use crate::journal::Entry;
+use crate::leasing::{grant, term_on};
 use crate::state::ServerState;
 use crate::steps::{self, tell_change};
 use crate::waiting::held;
+use callback_core::waits::Waits;
 use chunk_calls::contents::ContentPair;
 use chunk_calls::entering::enter_content;
 use chunk_index::index::Index;
 use file_tree::tree::Tree;
+use hash_calls::call::Committed;
 use hash_calls::message::Lb;
+use lease_rules::change::Change;
 use server_rules::told::Told;
 use std::alloc::Global;
 use store::store::Store;
@@ -75,7 +79,7 @@ pub fn enter_both(
 }
 
 /// Gives a file a content that waited, if the file is there and the store keeps it; then the places of
-/// its chunks enter the index.
+/// its chunks enter the index. A lease for this term is told.
 fn commit<S: Store>(
     tree: &mut Tree,
     store: &mut S,
@@ -83,9 +87,10 @@ fn commit<S: Store>(
     file: u64,
     content: ContentPair,
     held: Held,
+    term: u32,
 ) -> (Committing, bool)
     requires { held.entries + 1 ≤ S.spare store.old }
-    ensures done { IsCalled (S.faults store.old) (S.faults store.new) (λ fault. commits_under tree.old.tree held fault file content 0) (tree.new.tree, result.0) }
+    ensures done { IsCalled (S.faults store.old) (S.faults store.new) (λ fault. commits_under tree.old.tree held fault file content term) (tree.new.tree, result.0) }
     ensures all { result.1 ≡ false → index.new ≡ index_with index.old file content result.0.answer }
     ensures lacks { result.1 ≡ true → IsLacking index.old (chunks_got file content result.0.answer) index.new }
     ensures keeps { Keeps (S.records store.old) tree.old.tree (S.records store.new) tree.new.tree }
@@ -93,7 +98,7 @@ fn commit<S: Store>(
     ensures later { S.faults store.old ≤ S.faults store.new }
 {
     let (content, copy) = content.split();
-    let done = settling::commit(tree, store, file, content, copy, held, 0);
+    let done = settling::commit(tree, store, file, content, copy, held, term);
     let left_out = match &done.answer {
         Answer::Done(_) => enter_content(index, tree, file),
         Answer::Failed(..) => false,
@@ -101,42 +106,72 @@ fn commit<S: Store>(
     (done, left_out)
 }
 
+/// A COMMITTMP that was done is granted the lease whose term it is told.
+fn grant_done<P: Drop>(
+    waits: &mut Waits<P>,
+    session: u32,
+    file: u64,
+    moment: u64,
+    answer: &Answer<Committed, ()>,
+)
+    requires early { moment < 2 ^ 63 }
+    requires place { 0 < waits.old.spare }
+    ensures leases { waits.new.leases ≡ leases_done waits.old.leases moment session file answer.now }
+    ensures waits { waits.new.waits ≡ waits.old.waits }
+{
+    match answer {
+        Answer::Done(told) => grant(waits, session, file, moment, told.term),
+        Answer::Failed(..) => {}
+    }
+}
+
 impl ServerState {
-    /// The change that came first is made, if one waits. Places of its chunks for which memory is
-    /// wanting are left out of the index, and nothing else.
+    /// The change is made that came first of those that no lease blocks, if there is one; else nothing
+    /// changes. Places of its chunks for which memory is wanting are left out of the index, and nothing
+    /// else.
     pub fn settle<S: Store>(&mut self, alloc: Global, store: &mut S, now: u64) -> ServerStep
         requires bounded { IsBounded self.old }
-        requires spare { entries_held self.old.waiting.items ≤ S.spare store.old }
-        ensures exact { result.missed ≡ false → IsServed (S.faults store.old) (S.faults store.new) (λ fault. settles_under (state_of self.old) fault now (state_of self.old).waiting) (state_of self.new, result) }
-        ensures lacks { result.missed ≡ true → Lacks (state_of self.old).index (chunks_of_change (state_of self.old) (state_of self.old).waiting) (settles (state_of self.old) now (state_of self.old).waiting) (state_of self.new) result }
+        requires timed { now < 2 ^ 63 }
+        requires spare { entries_held self.old.waits.waits ≤ S.spare store.old }
+        ensures exact { result.missed ≡ false → IsServed (S.faults store.old) (S.faults store.new) (λ fault. settles_under (state_of self.old) fault now) (state_of self.new, result) }
+        ensures lacks { result.missed ≡ true → Lacks (state_of self.old).index (chunks_of_change (state_of self.old) (ready_by (state_of self.old) now)) (settles (state_of self.old) now) (state_of self.new) result }
         ensures bounded { IsBounded self.new }
         ensures keeps { Keeps (S.records store.old) self.old.tree.tree (S.records store.new) self.new.tree.tree }
-        ensures spare { entries_held self.new.waiting.items ≤ S.spare store.new }
+        ensures spare { entries_held self.new.waits.waits ≤ S.spare store.new }
         ensures later { S.faults store.old ≤ S.faults store.new }
     {
-        if self.waiting.is_empty() {
+        let moment = self.moment.max(now);
+        let Some(change) = self.waits.settle(moment) else {
             return steps::tell(alloc, Told::NotReady);
-        }
-        self.moment = self.moment.max(now);
-        let change = self.waiting.remove(0);
+        };
+        self.moment = moment;
         self.make_change(alloc, store, change)
     }
 
     /// A change that has left the queue is made, if all is as it was when it came.
-    fn make_change<S: Store>(&mut self, alloc: Global, store: &mut S, change: Change) -> ServerStep
+    fn make_change<S: Store>(
+        &mut self,
+        alloc: Global,
+        store: &mut S,
+        change: Change<Wanted>,
+    ) -> ServerStep
         requires settling { IsSettling self.old }
-        requires spare { entries_held self.old.waiting.items + entries_wanted change.what ≤ S.spare store.old }
+        requires made { IsMade change }
+        requires spare { entries_held self.old.waits.waits + entries_wanted change.what ≤ S.spare store.old }
         ensures exact { result.missed ≡ false → IsServed (S.faults store.old) (S.faults store.new) (λ fault. makes_change_under (state_of self.old) fault change change.what) (state_of self.new, result) }
-        ensures lacks { result.missed ≡ true → Lacks (state_of self.old).index (change_entered (state_of self.old).tree (state_of self.old).waiting change change.what) (makes_change (state_of self.old) change change.what) (state_of self.new) result }
+        ensures lacks { result.missed ≡ true → Lacks (state_of self.old).index (change_entered (state_of self.old) change change.what) (makes_change (state_of self.old) change change.what) (state_of self.new) result }
         ensures bounded { IsBounded self.new }
         ensures keeps { Keeps (S.records store.old) self.old.tree.tree (S.records store.new) self.new.tree.tree }
-        ensures spare { entries_held self.new.waiting.items ≤ S.spare store.new }
+        ensures spare { entries_held self.new.waits.waits ≤ S.spare store.new }
         ensures later { S.faults store.old ≤ S.faults store.new }
     {
         let Change {
             session,
             xid,
             file,
+            kind: _,
+            entries: _,
+            bytes: _,
             what,
         } = change;
         match what {
@@ -158,17 +193,27 @@ impl ServerState {
         content: ContentPair,
     ) -> ServerStep
         requires settling { IsSettling self.old }
-        requires spare { entries_held self.old.waiting.items + 1 ≤ S.spare store.old }
-        ensures exact { result.missed ≡ false → IsServed (S.faults store.old) (S.faults store.new) (λ fault. makes_change_under (state_of self.old) fault (record { session = session; xid = xid; file = file; what = wanted.Content content }) (wanted.Content content)) (state_of self.new, result) }
-        ensures lacks { result.missed ≡ true → Lacks (state_of self.old).index (change_entered (state_of self.old).tree (state_of self.old).waiting (record { session = session; xid = xid; file = file; what = wanted.Content content }) (wanted.Content content)) (makes_change (state_of self.old) (record { session = session; xid = xid; file = file; what = wanted.Content content }) (wanted.Content content)) (state_of self.new) result }
+        requires spare { entries_held self.old.waits.waits + 1 ≤ S.spare store.old }
+        ensures exact { result.missed ≡ false → IsServed (S.faults store.old) (S.faults store.new) (λ fault. makes_change_under (state_of self.old) fault (change_of session xid file (wanted.Content content)) (wanted.Content content)) (state_of self.new, result) }
+        ensures lacks { result.missed ≡ true → Lacks (state_of self.old).index (change_entered (state_of self.old) (change_of session xid file (wanted.Content content)) (wanted.Content content)) (makes_change (state_of self.old) (change_of session xid file (wanted.Content content)) (wanted.Content content)) (state_of self.new) result }
         ensures bounded { IsBounded self.new }
         ensures keeps { Keeps (S.records store.old) self.old.tree.tree (S.records store.new) self.new.tree.tree }
-        ensures spare { entries_held self.new.waiting.items ≤ S.spare store.new }
+        ensures spare { entries_held self.new.waits.waits ≤ S.spare store.new }
         ensures later { S.faults store.old ≤ S.faults store.new }
     {
-        let held = held(&self.waiting);
-        let (done, left_out) = commit(&mut self.tree, store, &mut self.index, file, content, held);
+        let held = held(&self.waits);
+        let term = term_on(&self.waits, self.term, Some(file));
+        let (done, left_out) = commit(
+            &mut self.tree,
+            store,
+            &mut self.index,
+            file,
+            content,
+            held,
+            term,
+        );
         let entries = enter_both(&mut self.journal, session, done.entry, None);
+        grant_done(&mut self.waits, session, file, self.moment, &done.answer);
         let body = Body::Lb(Lb::CommitTmpAnswer(done.answer));
         let mut step = tell_change(alloc, session, xid, entries, body);
         step.missed = left_out;
@@ -185,15 +230,15 @@ impl ServerState {
         asked: Asked,
     ) -> ServerStep
         requires settling { IsSettling self.old }
-        requires spare { entries_held self.old.waiting.items + entries_of asked ≤ S.spare store.old }
-        ensures exact { (id : ℕ) → IsServed (S.faults store.old) (S.faults store.new) (λ fault. makes_change_under (state_of self.old) fault (record { session = session; xid = xid; file = id; what = wanted.Asked asked }) (wanted.Asked asked)) (state_of self.new, result) }
+        requires spare { entries_held self.old.waits.waits + entries_of asked ≤ S.spare store.old }
+        ensures exact { (id : ℕ) → IsServed (S.faults store.old) (S.faults store.new) (λ fault. makes_change_under (state_of self.old) fault (change_of session xid id (wanted.Asked asked)) (wanted.Asked asked)) (state_of self.new, result) }
         ensures done { result.missed ≡ false }
         ensures bounded { IsBounded self.new }
         ensures keeps { Keeps (S.records store.old) self.old.tree.tree (S.records store.new) self.new.tree.tree }
-        ensures spare { entries_held self.new.waiting.items ≤ S.spare store.new }
+        ensures spare { entries_held self.new.waits.waits ≤ S.spare store.new }
         ensures later { S.faults store.old ≤ S.faults store.new }
     {
-        let held = held(&self.waiting);
+        let held = held(&self.waits);
         let Done {
             answer,
             first,

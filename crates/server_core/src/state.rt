@@ -12,15 +12,18 @@ ghost use Rattle.chunk_calls.specs.Calling.{commits};
 ghost use Rattle.file_tree.specs.Stores.{Keeps};
 ghost use Rattle.server_core.specs.Served.{IsServed};
 ghost use Rattle.server_core.specs.State.{entries_held};
-ghost use Rattle.server_core.specs.Step.{server_step_under, called, called_under, got_if_under, stands, connect, has_room, opens_with, chunks_called, IsTimed, missed_call, TakesMemory, Lacks, MissesCall, Misses};
+ghost use Rattle.server_core.specs.Step.{server_step_under, called, called_under, got_if_under, hears, stands, connect, has_room, opens_with, chunks_called, IsTimed, missed_call, TakesMemory, Lacks, MissesCall, Misses};
 ghost use Rattle.server_core.specs.View.{state_of, IsBounded};
 ghost use Rattle.server_core.specs.declared.event.Event.TheVariants as event;
 ghost use Rattle.server_rules.specs.declared.told.Told.TheVariants as told;
 
-use crate::change::Change;
+use crate::change::Wanted;
 use crate::event::{Event, ServerStep};
 use crate::journal::Entry;
+use crate::leasing::{self, grant_on, is_recalled, leased_file, term_on};
 use crate::steps::{self, refuse};
+use callback_core::back_calls::BackCalls;
+use callback_core::waits::Waits;
 use chunk_calls::calls::{self, Outcome};
 use chunk_index::index::Index;
 use file_tree::tree::Tree;
@@ -46,13 +49,16 @@ pub struct ServerState {
     pub temps: Temps,
     /// Where the bytes of a digest may be found.
     pub index: Index,
-    /// The changes that wait, in the order of their arrival.
-    pub waiting: Vec<Change>,
+    /// The changes that wait, in the order of their arrival, and the leases.
+    pub waits: Waits<Wanted>,
     /// The sessions that stand, and how many were ever made.
     pub sessions: Sessions,
-    /// The last moment used, in milliseconds of the server's clock. It is kept for leases: no step depends
-    /// on it yet.
+    /// For how long a lease is granted, in milliseconds; 0 where none is.
+    pub term: u32,
+    /// The last moment used, in milliseconds of the server's clock.
     pub moment: u64,
+    /// What was asked for on the connections of sessions that stand.
+    pub calls: BackCalls,
     /// A content that was made ahead, for the COMMITTMP that comes next. It is no part of the state: a
     /// COMMITTMP whose content it is cuts and hashes none, and comes to the same.
     pub ahead: Option<Content>,
@@ -73,12 +79,12 @@ impl ServerState {
     pub fn step<S: Store>(&mut self, alloc: Global, store: &mut S, event: Event) -> ServerStep
         requires bounded { IsBounded self.old }
         requires timed { IsTimed event }
-        requires spare { entries_held self.old.waiting.items ≤ S.spare store.old }
+        requires spare { entries_held self.old.waits.waits ≤ S.spare store.old }
         ensures exact { result.missed ≡ false → IsServed (S.faults store.old) (S.faults store.new) (λ fault. server_step_under (state_of self.old) fault event) (state_of self.new, result) }
         ensures missed { result.missed ≡ true → Misses (state_of self.old) event (state_of self.new) result }
         ensures bounded { IsBounded self.new }
         ensures keeps { Keeps (S.records store.old) self.old.tree.tree (S.records store.new) self.new.tree.tree }
-        ensures spare { entries_held self.new.waiting.items ≤ S.spare store.new }
+        ensures spare { entries_held self.new.waits.waits ≤ S.spare store.new }
         ensures later { S.faults store.old ≤ S.faults store.new }
     {
         match event {
@@ -106,7 +112,7 @@ impl ServerState {
         ensures sure { result.missed ≡ true → has_room (state_of self.old) ≡ true }
         ensures bounded { IsBounded self.new }
         ensures tree { self.new.tree ≡ self.old.tree }
-        ensures waiting { self.new.waiting.items ≡ self.old.waiting.items }
+        ensures waiting { self.new.waits.waits ≡ self.old.waits.waits }
     {
         match self.sessions.join() {
             Ok(Some(session)) => steps::tell(alloc, Told::Session(session)),
@@ -125,12 +131,13 @@ impl ServerState {
         now: u64,
     ) -> ServerStep
         requires bounded { IsBounded self.old }
-        requires spare { entries_held self.old.waiting.items ≤ S.spare store.old }
+        requires timed { now < 2 ^ 63 }
+        requires spare { entries_held self.old.waits.waits ≤ S.spare store.old }
         ensures exact { result.missed ≡ false → IsServed (S.faults store.old) (S.faults store.new) (λ fault. got_if_under (state_of self.old) fault (stands (state_of self.old) session) session message.old now) (state_of self.new, result) }
         ensures missed { result.missed ≡ true → Misses (state_of self.old) (event.Got session message.old now) (state_of self.new) result }
         ensures bounded { IsBounded self.new }
         ensures keeps { Keeps (S.records store.old) self.old.tree.tree (S.records store.new) self.new.tree.tree }
-        ensures spare { entries_held self.new.waiting.items ≤ S.spare store.new }
+        ensures spare { entries_held self.new.waits.waits ≤ S.spare store.new }
         ensures later { S.faults store.old ≤ S.faults store.new }
     {
         if !self.sessions.stands(session) {
@@ -140,8 +147,28 @@ impl ServerState {
         match message {
             Message::Call(xid, body) => self.call(alloc, store, session, *xid, body),
             Message::Unfit(xid, why) => refuse(alloc, session, *xid, *why),
-            Message::Answer(..) | Message::Refuse(..) => steps::nothing(alloc),
+            Message::Answer(xid, told) => {
+                let done = is_recalled(told);
+                self.hear(alloc, session, *xid, done)
+            }
+            Message::Refuse(xid, _) => self.hear(alloc, session, *xid, false),
         }
+    }
+
+    /// What was asked for on the session's connection under this xid is answered. It takes no memory.
+    fn hear(&mut self, alloc: Global, session: u32, xid: u32, done: bool) -> ServerStep
+        requires { IsBounded self.old }
+        ensures exact { hears (state_of self.old) session xid done ≡ (state_of self.new, result) }
+        ensures done { result.missed ≡ false }
+        ensures bounded { IsBounded self.new }
+        ensures tree { self.new.tree ≡ self.old.tree }
+        ensures waiting { self.new.waits.waits ≡ self.old.waits.waits }
+    {
+        self.calls.answered(alloc, session, xid);
+        if done {
+            self.waits.answered(session, xid);
+        }
+        steps::nothing(alloc)
     }
 
     /// A call of a session that stands. Where memory is wanting it is refused, and all stays as it
@@ -155,12 +182,12 @@ impl ServerState {
         body: &mut Body,
     ) -> ServerStep
         requires bounded { IsBounded self.old }
-        requires spare { entries_held self.old.waiting.items ≤ S.spare store.old }
+        requires spare { entries_held self.old.waits.waits ≤ S.spare store.old }
         ensures exact { result.missed ≡ false → IsServed (S.faults store.old) (S.faults store.new) (λ fault. called_under (state_of self.old) fault session xid body.old) (state_of self.new, result) }
         ensures missed { result.missed ≡ true → MissesCall (state_of self.old) session xid body.old (state_of self.new) result }
         ensures bounded { IsBounded self.new }
         ensures keeps { Keeps (S.records store.old) self.old.tree.tree (S.records store.new) self.new.tree.tree }
-        ensures spare { entries_held self.new.waiting.items ≤ S.spare store.new }
+        ensures spare { entries_held self.new.waits.waits ≤ S.spare store.new }
         ensures later { S.faults store.old ≤ S.faults store.new }
     {
         match self.try_call(alloc, store, session, xid, body) {
@@ -179,14 +206,14 @@ impl ServerState {
         body: &mut Body,
     ) -> Result<ServerStep, AllocError>
         requires bounded { IsBounded self.old }
-        requires spare { entries_held self.old.waiting.items ≤ S.spare store.old }
+        requires spare { entries_held self.old.waits.waits ≤ S.spare store.old }
         ensures ok { IfOk result (λ o. o.missed ≡ false → IsServed (S.faults store.old) (S.faults store.new) (λ fault. called_under (state_of self.old) fault session xid body.old) (state_of self.new, o)) }
         ensures lacks { IfOk result (λ o. o.missed ≡ true → Lacks (state_of self.old).index (chunks_called (state_of self.old) body.old) (called (state_of self.old) session xid body.old) (state_of self.new) o) }
         ensures err { OnErr result (state_of self.new ≡ missed_call (state_of self.old) body.old) }
         ensures takes { OnErr result (TakesMemory (state_of self.old) session body.old) }
         ensures bounded { IsBounded self.new }
         ensures keeps { Keeps (S.records store.old) self.old.tree.tree (S.records store.new) self.new.tree.tree }
-        ensures spare { entries_held self.new.waiting.items ≤ S.spare store.new }
+        ensures spare { entries_held self.new.waits.waits ≤ S.spare store.new }
         ensures later { S.faults store.old ≤ S.faults store.new }
     {
         match body {
@@ -206,7 +233,7 @@ impl ServerState {
         call: &mut Lb,
     ) -> Result<ServerStep, AllocError>
         requires bounded { IsBounded self.old }
-        requires spare { entries_held self.old.waiting.items ≤ S.spare store.old }
+        requires spare { entries_held self.old.waits.waits ≤ S.spare store.old }
         ensures ok { IfOk result (λ o. o.missed ≡ false → called (state_of self.old) session xid (body.Lb call.old) ≡ (state_of self.new, o)) }
         ensures lacks { IfOk result (λ o. o.missed ≡ true → Lacks (state_of self.old).index (chunks_called (state_of self.old) (body.Lb call.old)) (called (state_of self.old) session xid (body.Lb call.old)) (state_of self.new) o) }
         ensures err { OnErr result (state_of self.new ≡ missed_call (state_of self.old) (body.Lb call.old)) }
@@ -214,7 +241,7 @@ impl ServerState {
         ensures bounded { IsBounded self.new }
         ensures tree { self.new.tree ≡ self.old.tree }
         ensures records { S.records store.new ≡ S.records store.old }
-        ensures spare { entries_held self.new.waiting.items ≤ S.spare store.new }
+        ensures spare { entries_held self.new.waits.waits ≤ S.spare store.new }
         ensures later { S.faults store.old ≤ S.faults store.new }
     {
         match call {
@@ -223,8 +250,9 @@ impl ServerState {
         }
     }
 
-    /// A call of LBFS but COMMITTMP. An `Err` changes nothing, but for a look-up.
-    #[tactic(auto, using(crate::proofs::Delegated::takes_memory, crate::proofs::Delegated::missed_is))]
+    /// A call of LBFS but COMMITTMP. Memory for the lease that it is granted is taken first. An `Err`
+    /// changes nothing, but for a look-up.
+    #[tactic(auto, using(crate::proofs::Delegated::takes_memory, crate::proofs::Delegated::missed_is, crate::proofs::Delegated::place_takes, crate::proofs::Delegated::place_missed))]
     fn call_chunks(
         &mut self,
         alloc: Global,
@@ -240,16 +268,21 @@ impl ServerState {
         ensures takes { OnErr result (TakesMemory (state_of self.old) session (body.Lb call.old)) }
         ensures bounded { IsBounded self.new }
         ensures tree { self.new.tree ≡ self.old.tree }
-        ensures waiting { self.new.waiting.items ≡ self.old.waiting.items }
+        ensures waiting { self.new.waits.waits ≡ self.old.waits.waits }
     {
+        let file = leased_file(&self.tree, call);
+        let term = term_on(&self.waits, self.term, file);
+        leasing::reserve(&mut self.waits, term)?;
         let outcome = calls::call(
             alloc,
             &self.tree,
             &mut self.temps,
             &mut self.index,
             session,
+            term,
             call,
         )?;
+        grant_on(&mut self.waits, session, file, self.moment, term);
         let Outcome {
             answer: told,
             left_out,

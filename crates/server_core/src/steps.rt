@@ -1,17 +1,21 @@
-//! What is said in a step (`specs/Steps.antt`). None of this takes memory.
+//! What is said in a step (`specs/Steps.antt`, `specs/Recalling.antt`). None of this but `recall` takes
+//! memory.
 
-ghost use Rattle.std.specs.Prelude.{◌≡◌, [], ◌∷◌, true, false};
+ghost use Rattle.std.specs.Prelude.{◌≡◌, [], ◌∷◌, IfOk, true, false};
 ghost use Rattle.server_rules.specs.declared.told.Told.TheVariants as told;
+ghost use Rattle.server_core.specs.Recalling.{recall_sent};
 ghost use Rattle.server_core.specs.Steps.{sends, to, told_if};
 ghost use Rattle.wire.specs.declared.message.Message.TheVariants as message;
 ghost use Rattle.wire.specs.declared.message.RpcRefusal.TheVariants as refusal;
 
 use crate::event::{Sent, ServerStep};
-use hash_calls::message::Lb;
+use callback_core::back_calls::Asked;
+use hash_calls::message::{Back, Lb};
 use send_list::SendList;
 use server_rules::told::{self, Told};
-use std::alloc::Global;
+use std::alloc::{AllocError, Global};
 use wire::message::{Body, Message, RpcRefusal};
+use xdr_codec::handle::Handle;
 
 /// No message, and this is told.
 pub fn tell(alloc: Global, told: Told) -> ServerStep
@@ -42,6 +46,29 @@ fn one(alloc: Global, session: u32, message: Message) -> ServerStep
         entries: 0,
         missed: false,
     }
+}
+
+/// These messages, and nothing else.
+pub fn send_all(send: SendList<Sent>) -> ServerStep
+    ensures { result ≡ sends send }
+{
+    ServerStep {
+        send,
+        told: Told::Nothing,
+        entries: 0,
+        missed: false,
+    }
+}
+
+/// The RECALL of a lease, under its xid. The one error is want of memory.
+pub fn recall(alloc: Global, asked: &Asked) -> Result<Sent, AllocError>
+    ensures { IfOk result (λ s. s ≡ recall_sent asked.now) }
+{
+    let handle = Handle::of_file(alloc, asked.file)?;
+    Ok(Sent {
+        session: asked.session,
+        message: Message::Call(asked.xid, Body::Back(Back::Recall(handle))),
+    })
 }
 
 /// The answer to a call, and nothing else.

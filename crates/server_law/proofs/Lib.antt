@@ -6,3 +6,4 @@ pub mod Growth
 pub mod Steps
 pub mod TreeCalls
 pub mod Trees
+pub mod Unleased

@@ -28,13 +28,13 @@ use Rattle.server_core.specs.declared.event.Event.{Event}
 use Rattle.server_core.specs.declared.event.Event.TheVariants as event
 use Rattle.server_core.specs.declared.journal.Entry.{Entry}
 use Rattle.chunk_calls.specs.Answers.{Node, directory, file, node_of}
-use Rattle.server_core.specs.Closing.{answers, at, entries_by, has_waiting, is_full, makes, makes_unless, writes, writes_unless, names, names_unless, names_bytes, looked_up, commits, commits_to, commits_whole, makes_change_under, settles_under}
-use Rattle.server_core.specs.Steps.{sends}
+use Rattle.server_core.specs.Closing.{answers, at, entries_by, has_waiting, is_full, makes, makes_unless, writes, writes_unless, names, names_unless, names_bytes, looked_up, commits, commits_to, commits_whole, makes_change_under, ready_by, settles_by}
 use Rattle.chunk_calls.specs.Writing.{cond_fault}
-use Rattle.server_core.specs.declared.change.Change.{Change}
-use Rattle.server_core.specs.State.{State, held}
-use Rattle.server_core.specs.Step.{connect, has_room, called_under, asks, asks_tree, got_under, got_if_under, stands, hangs_if, server_step_under, server_step, Misses, nothing, lacks, missed_at, with_index}
+use Rattle.callback_core.specs.Waits.{without}
 use Rattle.server_core.specs.declared.event.ServerStep.{ServerStep}
+use Rattle.server_core.specs.Recalling.{comes, term_at}
+use Rattle.server_core.specs.State.{State, Change, change_of, held}
+use Rattle.server_core.specs.Step.{connect, has_room, called_under, asks, asks_tree, is_recalled, hears, got_under, got_if_under, stands, hangs_if, server_step_under, server_step, Misses, nothing, lacks, missed_at, with_index}
 use Rattle.server_law.specs.Facts.{Fact, fact_at, fact_after, facts_after, AreNext, Holds}
 use Rattle.server_law.proofs.Calls.{TellsOutcome, tells_calls, tells_settles, tells_commits}
 use Rattle.server_law.proofs.Facts.{IsTelling}
@@ -116,13 +116,13 @@ module _ (opening : Tree) (s : State) (fault : Bool) (h : Holds opening s) where
   whole_kept n g session xid id None = g
   whole_kept n g session xid id (Some content) = by (has_waiting n.waiting session) (is_full n (length content))
     where
-      waits : State
-      waits = record n { waiting = n.waiting ++ record { session = session; xid = xid; file = id; what = wanted.Content content } ∷ [] }
+      waits : State × ServerStep
+      waits = comes n (change_of session xid id (wanted.Content content))
 
-      by : (b c : Bool) → Holds opening (if b then answers n session xid (lb.CommitTmpAnswer (Failed status.Jukebox tt)) else if c then answers n session xid (lb.CommitTmpAnswer (Failed status.NoSpc tt)) else (waits, sends [])).0
+      by : (b c : Bool) → Holds opening (if b then answers n session xid (lb.CommitTmpAnswer (Failed status.Jukebox tt)) else if c then answers n session xid (lb.CommitTmpAnswer (Failed status.NoSpc tt)) else waits).0
       by true c = g
       by false true = g
-      by false false = same opening n waits refl refl g
+      by false false = same opening n waits.0 refl refl g
 
   commits_kept : (session xid : ℕ) (a : Commit) (t : Option Temp) → Holds opening (commits s session xid a t).0
   commits_kept session xid a None = h
@@ -158,6 +158,7 @@ module _ (opening : Tree) (s : State) (fault : Bool) (h : Holds opening s) where
   -- ---- any call
 
   called_told : (session xid : ℕ) (b : Body) → Holds opening (called_under s fault session xid b).0
+  called_told session xid (body.Lb (lb.GetLease handle)) = kept (called_under s fault session xid (body.Lb (lb.GetLease handle))).0 refl refl
   called_told session xid (body.Lb (lb.GetHash r)) = kept (called_under s fault session xid (body.Lb (lb.GetHash r))).0 refl refl
   called_told session xid (body.Lb (lb.MkTmpFile a)) = makes_kept session xid a.fd (node_of s.tree a.handle)
   called_told session xid (body.Lb (lb.TmpWrite a)) = writes_kept session xid a (temp_at s.temps session a.fd)
@@ -172,24 +173,24 @@ module _ (opening : Tree) (s : State) (fault : Bool) (h : Holds opening s) where
   got_told : (session : ℕ) (m : Message) → Holds opening (got_under s fault session m).0
   got_told session (message.Call xid b) = called_told session xid b
   got_told session (message.Unfit xid why) = h
-  got_told session (message.Answer xid b) = h
-  got_told session (message.Refuse xid why) = h
+  got_told session (message.Answer xid b) = kept (hears s session xid (is_recalled b)).0 refl refl
+  got_told session (message.Refuse xid why) = kept (hears s session xid false).0 refl refl
 
   -- ---- a change that waited
 
   change_told : (c : Change) (w : Wanted) → Holds opening (makes_change_under s fault c w).0
   change_told c (wanted.Content content) =
-      more opening s (makes_change_under s fault c (wanted.Content content)).0 c.session (tree_commits_under s.tree (held s.waiting) fault c.file content 0).1.entry None (tells_commits s.tree c.session (held s.waiting) fault h.given c.file content 0) refl (commits_keep_under s.tree (held s.waiting) fault c.file content 0 h.given).0 h
+      more opening s (makes_change_under s fault c (wanted.Content content)).0 c.session (tree_commits_under s.tree (held s.waiting) fault c.file content (term_at s c.file)).1.entry None (tells_commits s.tree c.session (held s.waiting) fault h.given c.file content (term_at s c.file)) refl (commits_keep_under s.tree (held s.waiting) fault c.file content (term_at s c.file) h.given).0 h
   change_told c (wanted.Asked a) =
       more opening s (makes_change_under s fault c (wanted.Asked a)).0 c.session (tree_settles_under s.tree (held s.waiting) fault a).1.first (tree_settles_under s.tree (held s.waiting) fault a).1.second (tells_settles s.tree c.session (held s.waiting) fault h.given a) refl (settles_keep_under s.tree (held s.waiting) fault a h.given).0 h
 
 -- ---- any event
 
 -- a moment, and what waits, are no part of it
-settle_told : (opening : Tree) (s : State) (fault : Bool) (now : ℕ) (ws : List Change) → Holds opening s → Holds opening (settles_under s fault now ws).0
-settle_told opening s fault now [] h = h
-settle_told opening s fault now (c ∷ cs) h =
-    let n : State = at (record s { waiting = cs }) now in
+settle_told : (opening : Tree) (s : State) (fault : Bool) (now : ℕ) (next : Option Change) → Holds opening s → Holds opening (settles_by s fault now next).0
+settle_told opening s fault now None h = h
+settle_told opening s fault now (Some c) h =
+    let n : State = at (record s { waiting = without s.waiting c.session }) now in
     change_told opening n fault (same opening s n refl refl h) c c.what
 
 pub step_told : (opening : Tree) (s : State) (fault : Bool) (e : Event) → Holds opening s → Holds opening (server_step_under s fault e).0
@@ -203,7 +204,7 @@ step_told opening s fault (event.Got session m now) h = by (stands s session)
     by : (b : Bool) → Holds opening (got_if_under s fault b session m now).0
     by true = got_told opening (at s now) fault (same opening s (at s now) refl refl h) session m
     by false = h
-step_told opening s fault (event.Settle now) h = settle_told opening s fault now s.waiting h
+step_told opening s fault (event.Settle now) h = settle_told opening s fault now (ready_by s now) h
 step_told opening s fault (event.Hang session) h = by (stands s session)
   where
     by : (b : Bool) → Holds opening (hangs_if s b session).0

@@ -31,9 +31,8 @@ use Rattle.tree_calls.specs.Telling.{id_of}
 use Rattle.tree_calls.specs.Changing.{mode_of}
 use Rattle.file_tree.specs.Stores.{stored}
 use Rattle.tree_calls.specs.Waiting.{commits, commits_under, with_committed, settles, settles_under, removes_if_under, renames_if_under, remove_again, rename_again, calls, calls_under, creates_in_under, mkdirs_in_under, rmdirs_in_under, renaming_under, asks_rename, renames_in_under}
-use Rattle.server_core.specs.declared.change.Change.{Change}
 use Rattle.chunk_calls.specs.Files.{File, file_of_body, file_of_node, file_at}
-use Rattle.server_core.specs.State.{entries_wanted, size_wanted, entries_held, waiting_size}
+use Rattle.server_core.specs.State.{Change, entries_wanted, size_wanted, entries_held, waiting_size}
 use Rattle.server_law.proofs.Asked.{asked_holds}
 use Rattle.server_law.proofs.Trees.{file_node, NoFile, no_file, Keeps, keeps_same, made_keeps, removed_keeps, replaced_keeps, moved_keeps}
 

@@ -13,7 +13,7 @@ use Rattle.server_core.proofs.settling.commit.Goals as goal
 pub returns-in-Done-clause-all : goal.returns-in-Done-clause-all
 returns-in-Done-clause-all g c none =
     let tree = c.commit-done.new.tree.tree in
-    let places = got_places (g.S.Store.faults c.args.store.now) (g.S.Store.faults c.commit-done.new.store) c.args.tree.now.tree c.args.held c.args.file c.split-content.result.0 tree c.commit-done.result c.in-Done.field-0 c.commit-done.ensures.done c.in-Done.is in
+    let places = got_places (g.S.Store.faults c.args.store.now) (g.S.Store.faults c.commit-done.new.store) c.args.tree.now.tree c.args.held c.args.file c.split-content.result.0 c.args.term tree c.commit-done.result c.in-Done.field-0 c.commit-done.ensures.done c.in-Done.is in
     c.enter_content-left_out.ensures.all none
     ∙ ap (λ (o : Option (ℕ × List Chunk)). with_told c.args.index.now o) places
     ∙ ap (λ (b : List ℕ). indexed c.args.index.now c.args.file (chunks_of b)) c.split-content.ensures.content
@@ -22,6 +22,6 @@ returns-in-Done-clause-all g c none =
 pub returns-in-Done-clause-lacks : goal.returns-in-Done-clause-lacks
 returns-in-Done-clause-lacks g c some =
     let tree = c.commit-done.new.tree.tree in
-    let places = got_places (g.S.Store.faults c.args.store.now) (g.S.Store.faults c.commit-done.new.store) c.args.tree.now.tree c.args.held c.args.file c.split-content.result.0 tree c.commit-done.result c.in-Done.field-0 c.commit-done.ensures.done c.in-Done.is in
+    let places = got_places (g.S.Store.faults c.args.store.now) (g.S.Store.faults c.commit-done.new.store) c.args.tree.now.tree c.args.held c.args.file c.split-content.result.0 c.args.term tree c.commit-done.result c.in-Done.field-0 c.commit-done.ensures.done c.in-Done.is in
     subst (λ (a : Answer Committed Unit). IsLacking c.args.index.now (chunks_got c.args.file c.args.content a) c.enter_content-left_out.new.index) (sym c.in-Done.is)
     (subst (λ (o : Option (ℕ × List Chunk)). IsLacking c.args.index.now o c.enter_content-left_out.new.index) (places ∙ ap (λ (b : List ℕ). Some (c.args.file, chunks_of b)) c.split-content.ensures.content) (c.enter_content-left_out.ensures.lacks some))

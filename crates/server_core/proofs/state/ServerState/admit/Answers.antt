@@ -1,10 +1,10 @@
-use Rattle.std.proofs.Common.{◌≡◌, List, ℕ, [], ◌∷◌, ◌++◌, ◌∙◌, ap, sym, length, arith}
-use Rattle.temp_files.specs.Temps.{Temps, temp_at, whole_of}
+use Rattle.std.proofs.Common.{◌≡◌, refl, List, ℕ, [], ◌∷◌, ◌++◌, ◌∙◌, ap, sym, length, arith}
+use Rattle.temp_files.specs.Temps.{temp_at, without_temp, whole_of}
 use Rattle.temp_files.proofs.Entries.{some_same}
-use Rattle.server_core.specs.Asking.{admits}
-use Rattle.server_core.specs.Closing.{is_full}
+use Rattle.server_core.proofs.Coming.{is_made, recalls_commit, admits_as}
+use Rattle.server_core.specs.Closing.{has_waiting, is_full}
 use Rattle.tree_reading.specs.declared.call.Held.{Held}
-use Rattle.server_core.specs.State.{State, Change, entries_held}
+use Rattle.server_core.specs.State.{State, Change, change_of, entries_held, size_wanted}
 use Rattle.server_core.specs.View.{state_of}
 use Rattle.server_core.specs.declared.change.Wanted.TheVariants as wanted
 use Rattle.server_core.proofs.Closes.{whole_of_size}
@@ -18,13 +18,26 @@ take_content-requires-clause-whole g c = rw (ap (λ (s : State). s.temps) c.rese
 pub wait-requires-clause-bounded : goal.wait-requires-clause-bounded
 wait-requires-clause-bounded g c =
     let b = c.reserve.ensures.bounded in
-    record { bytes = b.bytes; room = b.room }
+    record { bytes = b.bytes; room = b.room; made = b.made; early = b.early }
+
+pub wait-requires-clause-made : goal.wait-requires-clause-made
+wait-requires-clause-made g c = is_made c.change_of-change.result c.args.session c.args.xid c.args.file (wanted.Content c.in_ok-content.content) c.change_of-change.ensures
+
+pub wait-requires-clause-new : goal.wait-requires-clause-new
+wait-requires-clause-new g c =
+    ap (λ (x : Change). has_waiting c.reserve.new.self.waits.waits x.session) c.change_of-change.ensures
+    ∙ ap (λ (s : State). has_waiting s.waiting c.args.session) c.reserve.ensures.same
+    ∙ c.requires.new
+
+pub wait-requires-clause-recalling : goal.wait-requires-clause-recalling
+wait-requires-clause-recalling g c =
+    recalls_commit (state_of c.reserve.new.self) c.take_content.new.temps c.change_of-change.result c.args.session c.args.xid c.args.file c.in_ok-content.content c.in_ok-recalling.recalling c.change_of-change.ensures c.in_ok-recalling.ensures
 
 pub wait-requires-clause-size : goal.wait-requires-clause-size
 wait-requires-clause-size g c =
     let size : length c.in_ok-content.content ≡ c.args.commit.now.size = whole_of_size (temp_at c.reserve.new.self.temps c.args.session c.args.commit.now.fd) c.args.commit.now.size c.in_ok-content.content c.in_ok-content.ensures.content in
     let place = has_place (state_of c.reserve.new.self) c.args.commit.now.size (ap (λ (s : State). is_full s c.args.commit.now.size) c.reserve.ensures.same ∙ c.requires.room) in
-    omega (arith, size, place)
+    omega (arith, size, place, ap (λ (x : Change). size_wanted x.what) c.change_of-change.ensures)
 
 pub wait-requires-clause-room : goal.wait-requires-clause-room
 wait-requires-clause-room g c = c.in_ok-reserve.ensures.room
@@ -37,13 +50,11 @@ returns-clause-ok g c content is =
     let same : now ≡ old = c.reserve.ensures.same in
     let found : c.in_ok-content.content ≡ content =
     some_same c.in_ok-content.content content (c.in_ok-content.ensures.content ∙ ap (λ (s : State). whole_of (temp_at s.temps c.args.session fd) c.args.commit.now.size) same ∙ sym is) in
-    c.wait.ensures.waits
-    ∙ ap (λ (l : Temps). record now { temps = l; waiting = now.waiting ++ record { session = c.args.session; xid = c.args.xid; file = c.args.file; what = wanted.Content c.in_ok-content.content } ∷ [] }) c.in_ok-content.ensures.ended
-    ∙ ap (λ (b : List ℕ). admits now c.args.session c.args.xid c.args.file fd b) found
-    ∙ ap (λ (s : State). admits s c.args.session c.args.xid c.args.file fd content) same
+    admits_as old now (state_of c.wait.new.self) (without_temp now.temps c.args.session fd) c.change_of-change.result c.args.session c.args.xid c.args.file fd content c.in_ok-content.content c.take_content.new.temps c.wait.result
+    same found c.in_ok-content.ensures.ended c.change_of-change.ensures c.wait.ensures.exact refl
 
 pub returns-clause-spare : goal.returns-clause-spare
 returns-clause-spare g c =
-    let before = c.reserve.new.self.waiting.items in
-    let change : Change = record { session = c.args.session; xid = c.args.xid; file = c.args.file; what = wanted.Content c.in_ok-content.content } in
-    omega (arith, ap entries_held c.wait.ensures.waiting, entries_more before change, ap (λ (h : Held). h.entries) c.held.ensures, c.in_ok-places.ensures, c.in_ok-reserve-2.ensures.room)
+    let before = c.reserve.new.self.waits.waits in
+    let change : Change = change_of c.args.session c.args.xid c.args.file (wanted.Content c.in_ok-content.content) in
+    omega (arith, ap entries_held c.wait.ensures.waiting, ap (λ (x : Change). entries_held (before ++ x ∷ [])) c.change_of-change.ensures, entries_more before change, ap (λ (h : Held). h.entries) c.held.ensures, c.in_ok-places.ensures, c.in_ok-reserve-2.ensures.room)

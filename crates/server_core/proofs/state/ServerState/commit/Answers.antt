@@ -34,13 +34,19 @@ admit-requires-clause-room g c =
     let commit = c.args.commit.now in
     (target_fits s c.args.session commit.size c.in-Some.temp.now (target_in (node_of s.tree commit.handle)) c.in-Ok.file (sym c.commit_target.ensures ∙ c.in-Ok.is)).2
 
-pub returns-clause-ok : goal.returns-clause-ok
-returns-clause-ok g c =
+pub admit-requires-clause-new : goal.admit-requires-clause-new
+admit-requires-clause-new g c =
+    let s = state_of c.args.self.now in
+    let commit = c.args.commit.now in
+    (target_fits s c.args.session commit.size c.in-Some.temp.now (target_in (node_of s.tree commit.handle)) c.in-Ok.file (sym c.commit_target.ensures ∙ c.in-Ok.is)).3
+
+pub returns-in-Ok-admit-clause-ok : goal.returns-in-Ok-admit-clause-ok
+returns-in-Ok-admit-clause-ok g c =
     let s = state_of c.args.self.now in
     let commit = c.args.commit.now in
     let t = c.in-Some.temp.now in
     let at : temp_at s.temps c.args.session commit.fd ≡ Some t = sym c.find.ensures ∙ ap option_copied c.in-Some.is in
     let fits = target_fits s c.args.session commit.size t (target_in (node_of s.tree commit.handle)) c.in-Ok.file (sym c.commit_target.ensures ∙ c.in-Ok.is) in
     let whole = there (assembled t commit.size) fits.1 in
-    commit_taken s (state_of c.admit.new.self) c.args.session c.args.xid c.in-Ok.file commit t whole.0 c.nothing.result
-    at (sym c.commit_target.ensures ∙ c.in-Ok.is) whole.1 (c.in_ok-admit.ensures.ok whole.0 (whole.1 ∙ ap (λ (o : Option Temp). whole_of o commit.size) (sym at))) c.nothing.ensures
+    commit_taken s (state_of c.admit.new.self) c.args.session c.args.xid c.in-Ok.file commit t whole.0 c.in-Ok-admit.step
+    at (sym c.commit_target.ensures ∙ c.in-Ok.is) whole.1 (c.in-Ok-admit.ensures.ok whole.0 (whole.1 ∙ ap (λ (o : Option Temp). whole_of o commit.size) (sym at)))

@@ -3,6 +3,6 @@ use Rattle.server_core.proofs.state.ServerState.reserve.Goals as goal
 
 pub returns-clause-room : goal.returns-clause-room
 returns-clause-room c = (
-  omega (arith, c.in_ok-reserve.ensures.ok, c.reserve.new.self.ok.0, c.args.self.now.waiting.ok.0, c.len-waiting.ensures, ap length c.reserve.ensures.items, ap length c.reserve-2.ensures.items),
-  omega (arith, c.in_ok-reserve-2.ensures.ok, c.reserve-2.new.self.ok.0, ap length c.reserve-2.ensures.items),
+  omega (arith, c.in_ok-reserve.ensures.ok, c.reserve.new.self.ok.0, c.len-waiting.ensures, ap length c.reserve.ensures.items, ap length c.make_room.ensures.waits),
+  c.in_ok-make_room.ensures.ok,
 )
