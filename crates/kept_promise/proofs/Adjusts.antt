@@ -96,7 +96,7 @@ seat_kept : (book : Book) (sessions : List Session) (i : ℕ) (c : Seat) (es : E
 seat_kept book sessions i c es ix cached h = record { session = h.session; linked = h.linked; unlinked = h.unlinked; matched = h.matched; task = h.task; trying = h.trying; xids = h.xids; next = h.next; opened = h.opened; kept = cached }
 
 server_kept : (book : Book) (s : server.State) (index : Indexed) → IsServer book s → IsServer book (with_index s index)
-server_kept book s index h = record { held = h.held; fresh = h.fresh; bounded = h.bounded; zero = h.zero; rooted = h.rooted; wants = h.wants; changes = h.changes; bytes = h.bytes; lengths = h.lengths; targets = h.targets; xids = h.xids }
+server_kept book s index h = record { held = h.held; fresh = h.fresh; bounded = h.bounded; zero = h.zero; rooted = h.rooted; wants = h.wants; changes = h.changes; bytes = h.bytes; lengths = h.lengths; targets = h.targets; xids = h.xids; leases = h.leases }
 
 -- where each content that is kept is still what its file had in its version
 pub kept_adjusted : (book : Book) (k : Core) (qs : List Queue) (index : Indexed) (seats : List Seat) → SameSeats k.seats seats → ((i : ℕ) (e : Seat) → numbered seats i ≡ Some e → Cached book e.client.cache) → IsKept book k qs → IsKept book (adjusted_core k index seats) qs

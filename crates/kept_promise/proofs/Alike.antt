@@ -2,7 +2,9 @@
 use Rattle.std.proofs.Common.{◌⊎◌, inl, inr, ◌≡◌, ℕ, zero, suc, ◌+◌, List, [], ◌∷◌, ◌++◌, append-nil, append_assoc, Option, Some, None, Result, Ok, Err, Bool, true, false, refl, sym, ap, ◌∙◌, subst, arith, ◌≤◌, ◌<◌}
 use Rattle.server_core.specs.State as server
 use Rattle.chunk_calls.specs.Files as the_files
-use Rattle.server_core.specs.Closing.{settles as server_settles}
+use Rattle.callback_core.specs.Waits.{without}
+use Rattle.server_core.specs.Closing.{ready_by, settles_by}
+use Rattle.server_core.specs.Recalling.{term_at}
 use Rattle.server_core.specs.declared.change.Wanted.TheVariants as wanted
 use Rattle.tree_calls.specs.Waiting.{commits, settles as tree_settles}
 use Rattle.trace_replay.specs.declared.stage.Stage.{Stage as Part}
@@ -39,15 +41,15 @@ abbrev Turns : Core → Core → Type 0
 Turns k r = Keeps (tree k) (tree r)
 
 settles_turn : (k : Core) (now : ℕ) → Turns k (settles k now).core
-settles_turn k now = by k.server.waiting
+settles_turn k now = by (ready_by k.server now)
   where
     made : (s : server.State) (c : Change) (a : Wanted) → s.tree ≡ tree k → Keeps (tree k) (makes_change s c a).0.tree
-    made s c (wanted.Content x) e = subst (λ (t : Tree). Keeps t (commits s.tree (server.held s.waiting) c.file x 0).0) e (commits_keep s.tree (server.held s.waiting) c.file x 0)
+    made s c (wanted.Content x) e = subst (λ (t : Tree). Keeps t (commits s.tree (server.held s.waiting) c.file x (term_at s c.file)).0) e (commits_keep s.tree (server.held s.waiting) c.file x (term_at s c.file))
     made s c (wanted.Asked a) e = subst (λ (t : Tree). Keeps t (tree_settles s.tree (server.held s.waiting) a).0) e (settles_keep s.tree (server.held s.waiting) a)
 
-    by : (w : List Change) → Keeps (tree k) (server_settles k.server now w).0.tree
-    by [] = keeps_same (tree k)
-    by (c ∷ cs) = made (at (record k.server { waiting = cs }) now) c c.what refl
+    by : (next : Option Change) → Keeps (tree k) (settles_by k.server false now next).0.tree
+    by None = keeps_same (tree k)
+    by (Some c) = made (at (record k.server { waiting = without k.server.waiting c.session }) now) c c.what refl
 
 hangs_tree : (k : Core) (n : ℕ) (x : Session) → tree (hangs_if k n x false).core ≡ tree k
 hangs_tree k n x = gone (stands k.server n)
@@ -82,18 +84,18 @@ happens_dirs k e = what_happens k e (λ t. KeepsDirs (tree k) (tree t.core)) (re
   does = λ c now d seat is. dirs_same (tree k);
   takes = λ n now bytes x m is at read. got_dirs k.server n m now;
   hears = λ n now bytes owner seat is. dirs_same (tree k);
-  settles = λ now is. by now k.server.waiting;
+  settles = λ now is. by now (ready_by k.server now);
   cuts = λ c seat is. dirs_same (tree k);
   hangs = λ n x is at. subst (KeepsDirs (tree k)) (sym (hangs_tree k n x)) (dirs_same (tree k));
 })
   where
     made : (s : server.State) (c : Change) (a : Wanted) → s.tree ≡ tree k → KeepsDirs (tree k) (makes_change s c a).0.tree
-    made s c (wanted.Content x) e = subst (λ (t : Tree). KeepsDirs t (commits s.tree (server.held s.waiting) c.file x 0).0) e (commits_dirs s.tree (server.held s.waiting) c.file x 0)
+    made s c (wanted.Content x) e = subst (λ (t : Tree). KeepsDirs t (commits s.tree (server.held s.waiting) c.file x (term_at s c.file)).0) e (commits_dirs s.tree (server.held s.waiting) c.file x (term_at s c.file))
     made s c (wanted.Asked a) e = subst (λ (t : Tree). KeepsDirs t (tree_settles s.tree (server.held s.waiting) a).0) e (settles_dirs s.tree (server.held s.waiting) a)
 
-    by : (now : ℕ) (w : List Change) → KeepsDirs (tree k) (server_settles k.server now w).0.tree
-    by now [] = dirs_same (tree k)
-    by now (c ∷ cs) = made (at (record k.server { waiting = cs }) now) c c.what refl
+    by : (now : ℕ) (next : Option Change) → KeepsDirs (tree k) (settles_by k.server false now next).0.tree
+    by now None = dirs_same (tree k)
+    by now (Some c) = made (at (record k.server { waiting = without k.server.waiting c.session }) now) c c.what refl
 
 -- a step is made, or nothing happens
 abbrev Passes : Core → Core → Type 0

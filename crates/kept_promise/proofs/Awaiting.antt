@@ -10,12 +10,14 @@ use Rattle.server_core.specs.declared.event.Event.TheVariants as event
 use Rattle.register_model.specs.declared.op.Word.TheVariants as words
 use Rattle.server_rules.specs.declared.told.Told.TheVariants as announced
 use Rattle.server_core.specs.declared.event.ServerStep.{ServerStep}
-use Rattle.server_core.specs.Closing.{at as closing_at, settles as server_settles}
+use Rattle.server_core.specs.Closing.{at as closing_at, ready_by, settles_by}
+use Rattle.callback_core.specs.Waits.{without}
 use Rattle.trace_ends.specs.Core.{newest_entries, changed_file, server_got, settles as core_settles, settled_by}
 use Rattle.trace_ends.specs.Ops.{pointed_at, pointed, point_if, has_point, begun, ops_after}
 use Rattle.trace_ends.specs.Session.{settled_ops, taken_of as session_taken}
 use Rattle.trace_replay.specs.Entries.{Awaited, GrowsBy, IsChangedBy}
 use Rattle.kept_promise.proofs.Common.{nat_tests, ◌==◌, ◌&&◌, ◌||◌, nat_le, cond, slice_get, slice_set, Contains, Contains-append_left, Contains-append_right, Contains-push, changes, parse_of, Message, WireFault, stands, makes_change, serves, serves_if, server_step, command_step, word_of, file_of, value_at_begin, ClientStep, Ended, Outcome, Op, Opening, Word, TakenCall, op_after, ops_with, Core, Session, Event, Event.Serves, Event.Settles, CoreStep, numbered, session_of, server_waiting, happens, Moment, step_of, is_in, until, Book, Queue, Ask, ask_message, call_message, unless, Call, Call.Commit, Call.Walks, Change, Wanted, Entry}
+use Rattle.kept_promise.proofs.TakenOut.{ready_waits}
 use Rattle.kept_promise.proofs.Lists.{some_is, nothing_there, of_appended, of_replaced, kept_appended, at_replaced, set_else, same_or_not, true_and_false, all_append, AllOf}
 use Rattle.kept_promise.proofs.Messages.{Job, job, AllAsks, CommitOf, IsCommit, WaitsFor as Pends}
 use Rattle.kept_promise.proofs.PathNames.{is_creating}
@@ -31,7 +33,7 @@ use Rattle.kept_promise.proofs.Leading.{queues_lost, ups_put, queues_after}
 use Rattle.kept_promise.proofs.LeftCommits.{QueuesHave, have_lost, have_ups, have_downs, taken_off, leaves, got_waits}
 use Rattle.kept_promise.proofs.ServesQuietly.{serves_still}
 use Rattle.kept_promise.proofs.Promised.{own_there}
-use Rattle.kept_promise.proofs.EntriesGrow.{Grows, GrewBy, ByEvent, event_grows, AllEntered, carried_entered, entered_event, grown_later, grown_now}
+use Rattle.kept_promise.proofs.EntriesGrow.{Grows, GrewBy, ByEvent, event_grows, AllEntered, carried_entered, entered_event, grown_later, grown_now, settled_at}
 use Rattle.kept_promise.proofs.Happens.{what_happens}
 
 -- ---- what is waited for
@@ -449,7 +451,7 @@ points_by k e = what_happens k e (Points k e) (record {
     }
 
     settled : (now : ℕ) → Grows k (Settles now) (core_settles k now) → Points k (Settles now) (core_settles k now)
-    settled now g = record { by = λ p q r at alters point. of_those k.server.waiting refl p q r at alters point }
+    settled now g = record { by = λ p q r at alters point. of_those (ready_by k.server now) refl p q r at alters point }
       where
         ops_of : server.State × ServerStep → List Op
         ops_of step = settled_by k (changed_file (newest_entries step.0.journal step.1.entries)) step.1.told
@@ -458,22 +460,22 @@ points_by k e = what_happens k e (Points k e) (record {
         told_is s c (wanted.Content content) = refl
         told_is s c (wanted.Asked a) = refl
 
-        of_those : (ws : List Change) → k.server.waiting ≡ ws → (p q : ℕ) (r : Op) → slice_get (core_settles k now).core.ops p ≡ Some r → changes r.word ≡ true → r.point ≡ Some q → OldPoint k p q ⊎ NewPoint k (Settles now) (core_settles k now) p q
-        of_those [] none p q r at alters point = inl (r, ap (λ (l : List Change). let step = server_settles k.server now l in slice_get (settled_by k (changed_file (newest_entries step.0.journal step.1.entries)) step.1.told) p) (sym none) ∙ at, alters, point)
-        of_those (c ∷ cs) is p q r at alters point = at_session (numbered k.sessions c.session) refl
+        of_those : (next : Option Change) → ready_by k.server now ≡ next → (p q : ℕ) (r : Op) → slice_get (core_settles k now).core.ops p ≡ Some r → changes r.word ≡ true → r.point ≡ Some q → OldPoint k p q ⊎ NewPoint k (Settles now) (core_settles k now) p q
+        of_those None none p q r at alters point = inl (r, ap (λ (next : Option Change). let step = settles_by k.server false now next in slice_get (settled_by k (changed_file (newest_entries step.0.journal step.1.entries)) step.1.told) p) (sym none) ∙ at, alters, point)
+        of_those (Some c) is p q r at alters point = at_session (numbered k.sessions c.session) refl
           where
             step : server.State × ServerStep
             step = server_step k.server (event.Settle now)
 
             told : (server_step k.server (event.Settle now)).1.told ≡ announced.Settled c.session c.xid
-            told = ap (λ (l : List Change). (server_settles k.server now l).1.told) is ∙ told_is (closing_at (record k.server { waiting = cs }) now) c c.what
+            told = ap (λ (next : Option Change). (settles_by k.server false now next).1.told) is ∙ told_is (closing_at (record k.server { waiting = without k.server.waiting c.session }) now) c c.what
 
             at_session : (o : Option Session) → numbered k.sessions c.session ≡ o → OldPoint k p q ⊎ NewPoint k (Settles now) (core_settles k now) p q
             at_session o home = elim (by o home) [
               | inl old ↦ inl (r, old, alters, point)
               | inr new ↦ elim g.journal [
                 | inl same ↦ no_file (changed_file (newest_entries (server_step k.server (event.Settle now)).0.journal (server_step k.server (event.Settle now)).1.entries)) new.3.0 (none_changed k.entries (server_step k.server (event.Settle now)).1.entries (k.steps + 1) (server_step k.server (event.Settle now)).0.journal same.1) new.3.1
-                | inr grew ↦ inr (new.2, omega arith, (grew, new.0, elim grew.by [ inl b ↦ not_serves grew.session b.0 now b.1 b.3 | inr b ↦ ap (numbered k.sessions) (sym b.4 ∙ ap (λ (z : Change). z.session) (some_is b.1 c (sym b.3 ∙ ap (λ (l : List Change). slice_get l 0) is))) ∙ home ∙ new.1.0 ], new.1.1))
+                | inr grew ↦ inr (new.2, omega arith, (grew, new.0, elim grew.by [ inl b ↦ not_serves grew.session b.0 now b.1 b.3 | inr b ↦ ap (numbered k.sessions) (sym b.4 ∙ ap (λ (z : Change). z.session) (some_is b.1 c (sym b.3 ∙ ap (λ (m : ℕ). ready_by k.server m) (sym (settled_at now b.0 b.2)) ∙ is))) ∙ home ∙ new.1.0 ], new.1.1))
               ]
             ]
               where
@@ -530,9 +532,10 @@ made_event fits all past rest opening k qs e mid after s h p q r at alters point
       | inr held ↦ record { moment_ = moment k e; there = here; step_is = sym step_is; grows = grown_now fits all past rest opening k qs e mid after s h.entered g; held = held }
     ]
       where
-        of_settling : (now : ℕ) (c : Change) → slice_get k.server.waiting 0 ≡ Some c → c.session ≡ g.session → c.xid ≡ g.xid → OldPoint k p q ⊎ Held (past ++ moment k e ∷ []) (happens k e).core.steps r g.session g.xid
+        of_settling : (now : ℕ) (c : Change) → ready_by k.server now ≡ Some c → c.session ≡ g.session → c.xid ≡ g.xid → OldPoint k p q ⊎ Held (past ++ moment k e ∷ []) (happens k e).core.steps r g.session g.xid
         of_settling now c first session number =
-            let w = waited_before fits all past rest opening k qs e mid after s h 0 c first in
+            let z = ready_waits k.server now c first in
+            let w = waited_before fits all past rest opening k qs e mid after s h z.0 c z.1 in
             let mine : x ≡ w.0 = some_is x w.0 (sym home ∙ ap (numbered k.sessions) (sym session) ∙ w.2) in
             inr (subst (λ (i : ℕ). Held (past ++ moment k e ∷ []) (happens k e).core.steps r i g.xid) session (subst (λ (i : ℕ). Held (past ++ moment k e ∷ []) (happens k e).core.steps r c.session i) number
             (held_next fits all past rest opening k qs e mid after s c.session c.xid w.0 w.1 w.2 w.3.0 (λ uncut. stepped) w.3.1 w.3.2 p r (ap (λ (v : Session). v.closing) (sym mine) ∙ known) at)))

@@ -236,7 +236,7 @@ kept_begins book k qs c n x q seat new cache temp file s a closing value seats s
       seat_around = subst (λ (z : ℕ). Around k.seats seats z d) (sym g.owner) seat_around;
       owner = refl;
       goes = goes;
-      server = server_still book more None None k.server k.server.moment k.server.temps k.server.index goes.grows (still_appended book new w.pointless g.kept.sound) g.kept.server;
+      server = server_still book more None None k.server k.server.leasing k.server.temps k.server.index g.kept.server.leases goes.grows (still_appended book new w.pointless g.kept.sound) g.kept.server;
       sessions_made = refl;
       view = λ m apart. same_view m k.server;
       elsewhere = inr g.newest;

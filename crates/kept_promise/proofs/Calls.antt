@@ -1,5 +1,5 @@
 -- The server takes the first call on its way, whichever it is.
-use Rattle.std.proofs.Common.{inl, inr, ◌≡◌, ℕ, zero, suc, ◌+◌, ◌<◌, ◌≤◌, List, [], ◌∷◌, ◌++◌, length, max, Option, Some, None, Bool, false, refl, sym, ap, ◌∙◌, subst, arith, Result, Ok, Err, true, ◌⊎◌}
+use Rattle.std.proofs.Common.{inl, inr, ◌≡◌, ℕ, zero, suc, ◌+◌, ◌<◌, ◌≤◌, List, [], ◌∷◌, ◌++◌, length, Option, Some, None, Bool, false, refl, sym, ap, ◌∙◌, subst, arith, Result, Ok, Err, true, ◌⊎◌}
 use Rattle.xdr_codec.specs.declared.status.Status.TheVariants as status
 use Rattle.server_core.specs.State as server
 use Rattle.client_state.specs.State as client
@@ -8,7 +8,8 @@ use Rattle.chunk_calls.specs.Writing.{done_unless}
 use Rattle.chunk_calls.specs.Entering.{with_told}
 use Rattle.temp_files.specs.Temps.{with_piece}
 use Rattle.client_state.specs.declared.task.Way.TheVariants as way
-use Rattle.kept_promise.proofs.Common.{slice_get, Chunk, handle_bytes, Done, Failed, Status, message_spell, MessageFits, Node, directory, file, node_of, at, makes, makes_unless, writes_unless, room_fault, Temp, temp_at, with_temp, key_of, piece_fault, range_fault, insert_entry, nat_cmp, ServerStep, Indexed, File, Core, Session, Event.Serves, CoreStep, Loss.Nothing, numbered, with_numbered, unless, hashed_of, Book, Call.Lease, Call.Hash, Call.Read, Call.Make, Call.Send, Reply, Reply.Made, Reply.Stored, Ask, Told, Queue, ask_message, told_message, call_program, reply_program, Tree, Call.Walks, Reply.Walked, happens, serves, serves_if, got_if, stands, Message, WireFault, Contains, Contains-push, name_answer, not, value_at}
+use Rattle.kept_promise.proofs.Common.{slice_get, Chunk, handle_bytes, Done, Failed, Status, message_spell, MessageFits, Node, directory, file, node_of, at, makes, makes_unless, writes_unless, room_fault, Temp, temp_at, with_temp, key_of, piece_fault, range_fault, insert_entry, nat_cmp, ServerStep, Indexed, File, Core, Session, Event.Serves, CoreStep, Loss.Nothing, numbered, with_numbered, unless, hashed_of, Book, Call.Lease, Call.Hash, Call.Read, Call.Make, Call.Send, Reply, Reply.Made, Reply.Stored, Ask, Told, Queue, ask_message, told_message, call_program, reply_program, Tree, Call.Walks, Reply.Walked, happens, serves, serves_if, got_if, stands, Message, WireFault, Contains, Contains-push, name_answer, not, value_at, later}
+use Rattle.server_law.proofs.Unleased.{unleased_at}
 use Rattle.kept_promise.proofs.Statements.{CallFits, IsPlain}
 use Rattle.kept_promise.proofs.Lists.{some_is, nothing_there, at_end}
 use Rattle.kept_promise.proofs.Messages.{Job, job, stage_word, AllAsks, Rising, AreParts, IsPiece, TempUnder, AnswerOf}
@@ -118,8 +119,8 @@ first_fits book k qs n now x q a us g = (subst (AllAsks (λ b. CallFits b.xid b.
 abbrev pub rest_of : List Queue → (n : ℕ) → Queue → List Ask → List Queue
 rest_of qs n q us = with_numbered qs n (record q { ups = us })
 
-pub leads_by : (book : Book) (k : Core) (qs : List Queue) (n now : ℕ) (x : Session) (q : Queue) (a : Ask) (us : List Ask) (temps : List (ℕ × Temp)) (index : Indexed) (r : Reply) → (g : Given book k qs n now x q a us) → Answers book k n x q a temps r (session_in book k qs n now x q a us g) → Leads book (rest_of qs n q us) (answered k n (max k.server.moment now) x a temps index r)
-leads_by book k qs n now x q a us temps index r g shows = leads_answer book k qs n (max k.server.moment now) x q a us temps index r g.kept g.at g.is g.first g.unhung shows
+pub leads_by : (book : Book) (k : Core) (qs : List Queue) (n now : ℕ) (x : Session) (q : Queue) (a : Ask) (us : List Ask) (temps : List (ℕ × Temp)) (index : Indexed) (r : Reply) → (g : Given book k qs n now x q a us) → Answers book k n x q a temps r (session_in book k qs n now x q a us g) → Leads book (rest_of qs n q us) (answered k n (later k.server.leasing now) x a temps index r)
+leads_by book k qs n now x q a us temps index r g shows = leads_answer book k qs n (later k.server.leasing now) x q a us temps index r (unleased_at k.server now g.kept.server.leases) g.kept g.at g.is g.first g.unhung shows
 
 -- what is held of a session once a call was taken that leaves it as it was
 pub held_still : (book : Book) (k : Core) (qs : List Queue) (n now : ℕ) (x : Session) (q : Queue) (a : Ask) (us : List Ask) → (g : Given book k qs n now x q a us) → (r : Reply) → TellsNone r → IsQuietCall a.call → x.cut ≡ false → (vs : List Ask) → q.ups ≡ a ∷ vs
@@ -161,14 +162,14 @@ read_wanted book o xid t f d = tt
 abbrev pub hash_index : server.State → (f o : ℕ) → Indexed
 hash_index s f o = with_told s.index (chunks_told (node_of s.tree (handle_bytes f)) (hash_range f o))
 
-pub serve_hash : FitLaws → (book : Book) (k : Core) (qs : List Queue) (n now : ℕ) (x : Session) (q : Queue) (xid f o : ℕ) (us : List Ask) → Given book k qs n now x q (record { xid = xid; call = Hash f o }) us → Leads book (rest_of qs n q us) (answered k n (max k.server.moment now) x (record { xid = xid; call = Hash f o }) k.server.temps (hash_index k.server f o) (hash_reply k.server.tree f o))
+pub serve_hash : FitLaws → (book : Book) (k : Core) (qs : List Queue) (n now : ℕ) (x : Session) (q : Queue) (xid f o : ℕ) (us : List Ask) → Given book k qs n now x q (record { xid = xid; call = Hash f o }) us → Leads book (rest_of qs n q us) (answered k n (later k.server.leasing now) x (record { xid = xid; call = Hash f o }) k.server.temps (hash_index k.server f o) (hash_reply k.server.tree f o))
 serve_hash laws book k qs n now x q xid f o us g =
     let a : Ask = record { xid = xid; call = Hash f o } in
     let h = session_in book k qs n now x q a us g in
     let fits = first_fits book k qs n now x q a us g in
     leads_by book k qs n now x q a us k.server.temps (hash_index k.server f o) (hash_reply k.server.tree f o) g (same_temps book k n x q a (hash_reply k.server.tree f o) h g.kept.shelf (λ uncut. hash_wanted (onward book 1 book.ops) (job h.seat) xid k.server.tree f o) (λ uncut vs e. held_still book k qs n now x q a us g (hash_reply k.server.tree f o) tt tt uncut vs e) refl (hash_reply_fits laws book k.server xid f o g.kept.server fits.0 fits.1) (λ uncut. hash_told laws book k qs n now x q xid f o us h.seat g.kept h.owner (h.here uncut).0 (h.talk uncut) g.first fits g.noted))
 
-pub serve_read : FitLaws → (book : Book) (k : Core) (qs : List Queue) (n now : ℕ) (x : Session) (q : Queue) (xid f : ℕ) (d : Chunk) (us : List Ask) → Given book k qs n now x q (record { xid = xid; call = Read f d }) us → Leads book (rest_of qs n q us) (answered k n (max k.server.moment now) x (record { xid = xid; call = Read f d }) k.server.temps k.server.index (read_reply k.server.tree f d))
+pub serve_read : FitLaws → (book : Book) (k : Core) (qs : List Queue) (n now : ℕ) (x : Session) (q : Queue) (xid f : ℕ) (d : Chunk) (us : List Ask) → Given book k qs n now x q (record { xid = xid; call = Read f d }) us → Leads book (rest_of qs n q us) (answered k n (later k.server.leasing now) x (record { xid = xid; call = Read f d }) k.server.temps k.server.index (read_reply k.server.tree f d))
 serve_read laws book k qs n now x q xid f d us g =
     let a : Ask = record { xid = xid; call = Read f d } in
     let h = session_in book k qs n now x q a us g in
@@ -178,7 +179,7 @@ serve_read laws book k qs n now x q xid f d us g =
 lease_wanted : (book : Book) (o : Option Job) (xid : ℕ) (t : Tree) (f : ℕ) → Wanted book o xid (lease_reply t f)
 lease_wanted book o xid t f = tt
 
-pub serve_lease : FitLaws → (book : Book) (k : Core) (qs : List Queue) (n now : ℕ) (x : Session) (q : Queue) (xid f : ℕ) (us : List Ask) → Given book k qs n now x q (record { xid = xid; call = Lease f }) us → Leads book (rest_of qs n q us) (answered k n (max k.server.moment now) x (record { xid = xid; call = Lease f }) k.server.temps k.server.index (lease_reply k.server.tree f))
+pub serve_lease : FitLaws → (book : Book) (k : Core) (qs : List Queue) (n now : ℕ) (x : Session) (q : Queue) (xid f : ℕ) (us : List Ask) → Given book k qs n now x q (record { xid = xid; call = Lease f }) us → Leads book (rest_of qs n q us) (answered k n (later k.server.leasing now) x (record { xid = xid; call = Lease f }) k.server.temps k.server.index (lease_reply k.server.tree f))
 serve_lease laws book k qs n now x q xid f us g =
     let a : Ask = record { xid = xid; call = Lease f } in
     let h = session_in book k qs n now x q a us g in
@@ -199,7 +200,7 @@ walk_sent laws book k qs n now x q xid w us g none =
     ∙ ap (λ (r : server.State × ServerStep). r.1.send) (called_walk (at k.server now) n xid w fits.1 none)
 
 -- what names stand for
-pub serve_walk : FitLaws → (book : Book) (k : Core) (qs : List Queue) (n now : ℕ) (x : Session) (q : Queue) (xid : ℕ) (w : Walk) (us : List Ask) → Given book k qs n now x q (record { xid = xid; call = Walks w }) us → is_making w ≡ false → Leads book (rest_of qs n q us) (answered k n (max k.server.moment now) x (record { xid = xid; call = Walks w }) k.server.temps k.server.index (Walked (walk_reply k.server.tree w)))
+pub serve_walk : FitLaws → (book : Book) (k : Core) (qs : List Queue) (n now : ℕ) (x : Session) (q : Queue) (xid : ℕ) (w : Walk) (us : List Ask) → Given book k qs n now x q (record { xid = xid; call = Walks w }) us → is_making w ≡ false → Leads book (rest_of qs n q us) (answered k n (later k.server.leasing now) x (record { xid = xid; call = Walks w }) k.server.temps k.server.index (Walked (walk_reply k.server.tree w)))
 serve_walk laws book k qs n now x q xid w us g none =
     let a : Ask = record { xid = xid; call = Walks w } in
     let r : Reply = Walked (walk_reply k.server.tree w) in
@@ -215,7 +216,7 @@ serve_walk laws book k qs n now x q xid w us g none =
 
 -- an answer that has nothing to tell
 pub serve_plain : FitLaws → (book : Book) (k : Core) (qs : List Queue) (n now : ℕ) (x : Session) (q : Queue) (a : Ask) (us : List Ask) (index : Indexed) (r : Reply) → (g : Given book k qs n now x q a us) → (x.cut ≡ false → Wanted (onward book 1 book.ops) (job (session_in book k qs n now x q a us g).seat) a.xid r) → (x.cut ≡ false → (vs : List Ask) → q.ups ≡ a ∷ vs → Held k.server.temps n vs (downs_then x q a r) (locals_of (session_in book k qs n now x q a us g).seat.client) (job (session_in book k qs n now x q a us g).seat))
-    → reply_program r ≡ call_program a.call → IsPlain r → a.xid < 4294967296 → (x.cut ≡ false → AnswerOf (onward book 1 book.ops) (x.taken ++ record { xid = a.xid; step = book.steps + 1 } ∷ []) x.closing (job (session_in book k qs n now x q a us g).seat) a.xid r) → Leads book (rest_of qs n q us) (answered k n (max k.server.moment now) x a k.server.temps index r)
+    → reply_program r ≡ call_program a.call → IsPlain r → a.xid < 4294967296 → (x.cut ≡ false → AnswerOf (onward book 1 book.ops) (x.taken ++ record { xid = a.xid; step = book.steps + 1 } ∷ []) x.closing (job (session_in book k qs n now x q a us g).seat) a.xid r) → Leads book (rest_of qs n q us) (answered k n (later k.server.leasing now) x a k.server.temps index r)
 serve_plain laws book k qs n now x q a us index r g wanted held program plain lt answer = leads_by book k qs n now x q a us k.server.temps index r g (same_temps book k n x q a r (session_in book k qs n now x q a us g) g.kept.shelf wanted held program (laws.plain a.xid r lt plain) answer)
 
 pub serve_make : FitLaws → (book : Book) (k : Core) (qs : List Queue) (n now : ℕ) (x : Session) (q : Queue) (xid m f : ℕ) (us : List Ask) → Given book k qs n now x q (record { xid = xid; call = Make m f }) us → Leads book (rest_of qs n q us) (served k n x xid (makes (at k.server now) n xid m (node_of k.server.tree (handle_bytes f))))
@@ -246,7 +247,7 @@ serve_make laws book k qs n now x q xid m f us g = by (node_of k.server.tree (ha
         still_or_none book k.server f g.kept.server (subst (λ (z : ℕ). WasThere book z) p.3 ((h.orderly uncut).tree p.0 p.1 (ap stage_word p.2))) fits.2
 
     -- it is refused where its file is gone
-    refuses : (e : Status) → (x.cut ≡ false → (e ≡ status.Stale) × (value_at book f (book.steps + 1) ≡ None)) → Leads book (rest_of qs n q us) (answered k n (max k.server.moment now) x a k.server.temps k.server.index (Made (Failed e tt)))
+    refuses : (e : Status) → (x.cut ≡ false → (e ≡ status.Stale) × (value_at book f (book.steps + 1) ≡ None)) → Leads book (rest_of qs n q us) (answered k n (later k.server.leasing now) x a k.server.temps k.server.index (Made (Failed e tt)))
     refuses e gone = serve_plain laws book k qs n now x q a us k.server.index (Made (Failed e tt)) g wanted left refl tt fits.0 (λ uncut. tt)
       where
         wanted : x.cut ≡ false → Wanted (onward book 1 book.ops) (job h.seat) xid (Made (Failed e tt))
@@ -348,7 +349,7 @@ serve_send laws book k qs n now x q xid m start bytes us g = by (temp_at k.serve
         let filled : Holds v us q.downs s.store (insert_entry nat_cmp t.pieces start bytes) = subst (λ (z : ℕ). Holds v us q.downs s.store (insert_entry nat_cmp t.pieces z bytes)) (sym chunk.2) (subst (λ (l : List ℕ). Holds v us q.downs s.store (insert_entry nat_cmp t.pieces c.start l)) (sym chunk.3) taken.1) in
         (t, found, none, one.1, one.2 ∙ p.1, subst (Held (with_temp k.server.temps (with_piece t start bytes)) n us q.downs (locals_of h.seat.client)) (sym s.is) (subst (HeldIn (with_temp k.server.temps (with_piece t start bytes)) n us q.downs v) (sym s.at) (with_piece t start bytes, one_put k.server.temps n s.store.temp (with_piece t start bytes) one.0 one.1 one.2 one.4, filled)))
 
-    plain : (o : Option Status) → (x.cut ≡ false → ⊥) → Leads book (rest_of qs n q us) (answered k n (max k.server.moment now) x a k.server.temps k.server.index (Stored (done_unless o)))
+    plain : (o : Option Status) → (x.cut ≡ false → ⊥) → Leads book (rest_of qs n q us) (answered k n (later k.server.leasing now) x a k.server.temps k.server.index (Stored (done_unless o)))
     plain o never = serve_plain laws book k qs n now x q a us k.server.index (Stored (done_unless o)) g (λ uncut. absurd (never uncut)) (λ uncut. absurd (never uncut)) refl tt fits.0 (λ uncut. tt)
 
     by : (t : Option Temp) (o : Option Status) → temp_at k.server.temps n m ≡ t → piece_fault (temp_at k.server.temps n m) start (length bytes) ≡ o → Leads book (rest_of qs n q us) (served k n x xid (writes_unless (at k.server now) n xid (record { fd = m; offset = start; bytes = bytes }) t o))

@@ -10,10 +10,10 @@ use Rattle.xdr_codec.specs.declared.status.Status.TheVariants as status
 use Rattle.chunk_index.specs.Index.{key_of as digest_key, place_of}
 use Rattle.server_core.specs.State as server
 use Rattle.server_core.specs.Closing.{answers, names_unless, names_bytes, looked_up as index_found, writes_unless}
-use Rattle.server_core.specs.Steps.{sends}
 use Rattle.chunk_calls.specs.Writing.{bytes_known, cond_fault}
 use Rattle.server_core.specs.declared.event.Event.TheVariants as event
-use Rattle.kept_promise.proofs.Common.{Temp, size_most, temp_at, room_fault, piece_fault, assembled, without_temp, nat_lt, if◌then◌else◌, Failed, Status, Body, Message, Indexed, Node, directory, file, node_of, File, Change, ServerStep, server_step, called, got_if, stands, at, makes, makes_unless, commits, commits_to, commits_whole, has_waiting, is_full, Tree, Ask, ask_message, Call, Call.Walks, Entry}
+use Rattle.kept_promise.proofs.Common.{Temp, size_most, temp_at, room_fault, piece_fault, assembled, without_temp, nat_lt, if◌then◌else◌, Failed, Status, Body, Message, Indexed, Node, directory, file, node_of, File, Change, ServerStep, server_step, called, got_if, stands, at, makes, makes_unless, commits, commits_to, commits_whole, has_waiting, is_full, Tree, Ask, ask_message, Call, Call.Walks, Entry, Leasing, change_of}
+use Rattle.server_core.specs.Recalling.{comes}
 use Rattle.server_core.specs.declared.change.Wanted.TheVariants as wanted
 use Rattle.server_core.specs.Step.{asks, asks_tree}
 use Rattle.tree_calls.specs.Waiting.{calls}
@@ -41,24 +41,24 @@ Waits waiting n P after = (after ≡ waiting) ⊎ ((c : Change) × (c.session �
 
 -- what holds of a server's state whatever these are then
 abbrev pub Frees : (server.State → Type 0) → server.State → (session : ℕ) → (Change → Type 0) → Type 0
-Frees Q s n P = (temps : List (ℕ × Temp)) (waiting : List Change) (index : Indexed) (moment : ℕ) → Waits s.waiting n P waiting → Q (record s { temps = temps; waiting = waiting; index = index; moment = moment })
+Frees Q s n P = (temps : List (ℕ × Temp)) (waiting : List Change) (index : Indexed) (leasing : Leasing) → Waits s.waiting n P waiting → Q (record s { temps = temps; waiting = waiting; index = index; leasing = leasing })
 
 commits_keeps : (Q : server.State → Type 0) (s : server.State) (session : ℕ) → Frees Q s session (λ c. (content : List ℕ) × (c.what ≡ wanted.Content content)) → (xid size : ℕ) (t : Temp) (nd : Result Node Status) → Q (commits_to s session xid size t nd).0
-commits_keeps Q s session q xid size t (Err e) = q s.temps s.waiting s.index s.moment (inl refl)
-commits_keeps Q s session q xid size t (Ok directory) = q s.temps s.waiting s.index s.moment (inl refl)
+commits_keeps Q s session q xid size t (Err e) = q s.temps s.waiting s.index s.leasing (inl refl)
+commits_keeps Q s session q xid size t (Ok directory) = q s.temps s.waiting s.index s.leasing (inl refl)
 commits_keeps Q s session q xid size t (Ok (file f)) = by (nat_lt size_most size)
   where
-    waits : (content : List ℕ) (a b : Bool) → (let r : server.State × ServerStep = if a then answers s session xid (lb.CommitTmpAnswer (Failed status.Jukebox tt)) else if b then answers s session xid (lb.CommitTmpAnswer (Failed status.NoSpc tt)) else (record s { waiting = s.waiting ++ record { session = session; xid = xid; file = f.id; what = wanted.Content content } ∷ [] }, sends []) in Q r.0)
-    waits content true b = q s.temps s.waiting s.index s.moment (inl refl)
-    waits content false true = q s.temps s.waiting s.index s.moment (inl refl)
-    waits content false false = q s.temps (s.waiting ++ record { session = session; xid = xid; file = f.id; what = wanted.Content content } ∷ []) s.index s.moment (inr (record { session = session; xid = xid; file = f.id; what = wanted.Content content }, refl, refl, (content, refl)))
+    waits : (content : List ℕ) (a b : Bool) → (let r : server.State × ServerStep = if a then answers s session xid (lb.CommitTmpAnswer (Failed status.Jukebox tt)) else if b then answers s session xid (lb.CommitTmpAnswer (Failed status.NoSpc tt)) else comes s (change_of session xid f.id (wanted.Content content)) in Q r.0)
+    waits content true b = q s.temps s.waiting s.index s.leasing (inl refl)
+    waits content false true = q s.temps s.waiting s.index s.leasing (inl refl)
+    waits content false false = q s.temps (s.waiting ++ change_of session xid f.id (wanted.Content content) ∷ []) s.index _ (inr (change_of session xid f.id (wanted.Content content), refl, refl, (content, refl)))
 
     whole : (o : Option (List ℕ)) → Q (commits_whole s session xid f.id o).0
-    whole None = q s.temps s.waiting s.index s.moment (inl refl)
+    whole None = q s.temps s.waiting s.index s.leasing (inl refl)
     whole (Some content) = waits content (has_waiting s.waiting session) (is_full s (length content))
 
     by : (b : Bool) → (let r : server.State × ServerStep = if b then answers s session xid (lb.CommitTmpAnswer (Failed status.FBig tt)) else commits_whole s session xid f.id (assembled t size) in Q r.0)
-    by true = q s.temps s.waiting s.index s.moment (inl refl)
+    by true = q s.temps s.waiting s.index s.leasing (inl refl)
     by false = whole (assembled t size)
 
 -- a message that makes nothing: it asks for files, or what names stand for
@@ -103,55 +103,56 @@ none_more : (Q : server.State → Type 0) (s : server.State) → Q s → Q (reco
 none_more Q s q = subst (λ (l : List Entry). Q (record s { journal = l })) (sym (append-nil s.journal)) q
 
 called_keeps : (Q : server.State → Type 0) (s : server.State) (session xid : ℕ) (b : Body) → IsOfFiles (message.Call xid b) → Frees Q s session (IsByCommit (message.Call xid b)) → Q (called s session xid b).0
-called_keeps Q s session xid (body.Lb (lb.GetHash r)) plain q = q s.temps s.waiting _ s.moment (inl refl)
+called_keeps Q s session xid (body.Lb (lb.GetLease handle)) plain q = q s.temps s.waiting s.index _ (inl refl)
+called_keeps Q s session xid (body.Lb (lb.GetHash r)) plain q = q s.temps s.waiting _ _ (inl refl)
 called_keeps Q s session xid (body.Lb (lb.MkTmpFile a)) plain q = by (node_of s.tree a.handle)
   where
     room : (f : File) (o : Option Status) → Q (makes_unless s session xid a.fd f.id o).0
-    room f (Some e) = q s.temps s.waiting s.index s.moment (inl refl)
-    room f None = q _ s.waiting s.index s.moment (inl refl)
+    room f (Some e) = q s.temps s.waiting s.index s.leasing (inl refl)
+    room f None = q _ s.waiting s.index s.leasing (inl refl)
 
     by : (nd : Result Node Status) → Q (makes s session xid a.fd nd).0
-    by (Err e) = q s.temps s.waiting s.index s.moment (inl refl)
-    by (Ok directory) = q s.temps s.waiting s.index s.moment (inl refl)
+    by (Err e) = q s.temps s.waiting s.index s.leasing (inl refl)
+    by (Ok directory) = q s.temps s.waiting s.index s.leasing (inl refl)
     by (Ok (file f)) = room f (room_fault s.temps session a.fd)
 called_keeps Q s session xid (body.Lb (lb.TmpWrite a)) plain q = by (temp_at s.temps session a.fd) (piece_fault (temp_at s.temps session a.fd) a.offset (length a.bytes))
   where
     by : (t : Option Temp) (o : Option Status) → Q (writes_unless s session xid a t o).0
-    by (Some t) None = q _ s.waiting s.index s.moment (inl refl)
-    by (Some t) (Some e) = q s.temps s.waiting s.index s.moment (inl refl)
-    by None o = q s.temps s.waiting s.index s.moment (inl refl)
+    by (Some t) None = q _ s.waiting s.index s.leasing (inl refl)
+    by (Some t) (Some e) = q s.temps s.waiting s.index s.leasing (inl refl)
+    by None o = q s.temps s.waiting s.index s.leasing (inl refl)
 called_keeps Q s session xid (body.Lb (lb.CondWrite a)) plain q = by (temp_at s.temps session a.fd) (cond_fault a (temp_at s.temps session a.fd)) (bytes_known s.tree a (place_of s.index.pairs (digest_key a.digest)))
   where
     found : Indexed
     found = (index_found s a).index
 
     taken : (t : Option Temp) (o : Option (List ℕ)) → Q (names_bytes (index_found s a) session xid a t o).0
-    taken (Some t) (Some bytes) = q _ s.waiting found s.moment (inl refl)
-    taken (Some t) None = q s.temps s.waiting found s.moment (inl refl)
-    taken None o = q s.temps s.waiting found s.moment (inl refl)
+    taken (Some t) (Some bytes) = q _ s.waiting found s.leasing (inl refl)
+    taken (Some t) None = q s.temps s.waiting found s.leasing (inl refl)
+    taken None o = q s.temps s.waiting found s.leasing (inl refl)
 
     by : (t : Option Temp) (o : Option Status) (known : Option (List ℕ)) → Q (names_unless s session xid a t o).0
-    by t (Some e) known = q s.temps s.waiting s.index s.moment (inl refl)
+    by t (Some e) known = q s.temps s.waiting s.index s.leasing (inl refl)
     by t None known = taken t (bytes_known s.tree a (place_of s.index.pairs (digest_key a.digest)))
 called_keeps Q s session xid (body.Lb (lb.CommitTmp a)) plain q = by (temp_at s.temps session a.fd)
   where
     by : (t : Option Temp) → Q (commits s session xid a t).0
-    by None = q s.temps s.waiting s.index s.moment (inl refl)
-    by (Some t) = commits_keeps Q (record s { temps = without_temp s.temps session a.fd }) session (λ temps waiting index moment w. q temps waiting index moment w) xid a.size t (node_of s.tree a.handle)
-called_keeps Q s session xid (body.Nfs nfs.Null) plain q = q s.temps s.waiting s.index s.moment (inl refl)
-called_keeps Q s session xid (body.Nfs (nfs.Read r)) plain q = q s.temps s.waiting s.index s.moment (inl refl)
-called_keeps Q s session xid (body.Nfs (nfs.Lookup p)) plain q = none_more Q s (q s.temps s.waiting s.index s.moment (inl refl))
-called_keeps Q s session xid (body.Nfs (nfs.GetAttr h)) plain q = none_more Q s (q s.temps s.waiting s.index s.moment (inl refl))
-called_keeps Q s session xid (body.Nfs (nfs.ReadDir l)) plain q = none_more Q s (q s.temps s.waiting s.index s.moment (inl refl))
+    by None = q s.temps s.waiting s.index s.leasing (inl refl)
+    by (Some t) = commits_keeps Q (record s { temps = without_temp s.temps session a.fd }) session (λ temps waiting index leasing w. q temps waiting index leasing w) xid a.size t (node_of s.tree a.handle)
+called_keeps Q s session xid (body.Nfs nfs.Null) plain q = q s.temps s.waiting s.index s.leasing (inl refl)
+called_keeps Q s session xid (body.Nfs (nfs.Read r)) plain q = q s.temps s.waiting s.index s.leasing (inl refl)
+called_keeps Q s session xid (body.Nfs (nfs.Lookup p)) plain q = none_more Q s (q s.temps s.waiting s.index s.leasing (inl refl))
+called_keeps Q s session xid (body.Nfs (nfs.GetAttr h)) plain q = none_more Q s (q s.temps s.waiting s.index s.leasing (inl refl))
+called_keeps Q s session xid (body.Nfs (nfs.ReadDir l)) plain q = none_more Q s (q s.temps s.waiting s.index s.leasing (inl refl))
 called_keeps Q s session xid (body.Nfs m) plain q = absurd plain
-called_keeps Q s session xid b plain q = q s.temps s.waiting s.index s.moment (inl refl)
+called_keeps Q s session xid b plain q = q s.temps s.waiting s.index s.leasing (inl refl)
 
 pub got_if_keeps : (Q : server.State → Type 0) (s : server.State) (session : ℕ) (m : Message) (now : ℕ) → IsOfFiles m → Frees Q s session (IsByCommit m) → (b : Bool) → Q (got_if s b session m now).0
-got_if_keeps Q s session (message.Call xid b) now plain q true = called_keeps Q (at s now) session xid b plain (λ temps waiting index moment w. q temps waiting index moment w)
+got_if_keeps Q s session (message.Call xid b) now plain q true = called_keeps Q (at s now) session xid b plain (λ temps waiting index leasing w. q temps waiting index leasing w)
 got_if_keeps Q s session (message.Unfit xid why) now plain q true = q s.temps s.waiting s.index _ (inl refl)
 got_if_keeps Q s session (message.Answer xid b) now plain q true = q s.temps s.waiting s.index _ (inl refl)
 got_if_keeps Q s session (message.Refuse xid why) now plain q true = q s.temps s.waiting s.index _ (inl refl)
-got_if_keeps Q s session m now plain q false = q s.temps s.waiting s.index s.moment (inl refl)
+got_if_keeps Q s session m now plain q false = q s.temps s.waiting s.index s.leasing (inl refl)
 
 pub got_keeps : (Q : server.State → Type 0) (s : server.State) (session : ℕ) (m : Message) (now : ℕ) → IsOfFiles m → Frees Q s session (IsByCommit m) → Q (server_step s (event.Got session m now)).0
 got_keeps Q s session m now plain q = got_if_keeps Q s session m now plain q (stands s session)
@@ -171,7 +172,7 @@ called_any : (s : server.State) (session xid : ℕ) (b : Body) (R : Tree → Typ
 called_any s session xid (body.Nfs nfs.Null) R same step = same
 called_any s session xid (body.Nfs (nfs.Read r)) R same step = same
 called_any s session xid (body.Nfs m) R same step = subst R (sym (outcome_tree s session xid (calls s.tree (server.held s.waiting) (has_waiting s.waiting session) m))) (step (has_waiting s.waiting session) m)
-called_any s session xid b R same step = called_keeps (λ z. R z.tree) s session xid b tt (λ temps waiting index moment w. same)
+called_any s session xid b R same step = called_keeps (λ z. R z.tree) s session xid b tt (λ temps waiting index leasing w. same)
 
 pub got_any : (s : server.State) (session : ℕ) (m : Message) (now : ℕ) (R : Tree → Type 0) → R s.tree → ((busy : Bool) (c : Nfs) → R (calls s.tree (server.held s.waiting) busy c).0) → R (server_step s (event.Got session m now)).0.tree
 got_any s session m now R same step = by m (stands s session)

@@ -354,7 +354,7 @@ tests_pass f version term size pairs eof most few same ps sum =
     rw (a, b, c, ps, sum) refl
 
 pub nothing_broken : NothingBroken
-nothing_broken = λ g f x i handle content most size chunks le.
+nothing_broken = λ term g f x i handle content most size chunks le.
     let cs : List Chunk = chunks_of x in
     let offset : ℕ = end_of (take i cs) in
     let told : told_chunks g.content (record { handle = handle; offset = offset; count = 4294967295 }) ≡ take 1024 (drop i cs) = ap (λ (ys : List ℕ). told_chunks ys (record { handle = handle; offset = offset; count = 4294967295 })) content ∙ tells_next x i handle le most in
@@ -367,9 +367,9 @@ nothing_broken = λ g f x i handle content most size chunks le.
     let joined : with_pairs f.chunks (map pair_of (take 1024 (drop i cs))) ≡ take (i + 1024) cs = ap (λ (ks : List Chunk). with_pairs ks (map pair_of (take 1024 (drop i cs)))) chunks ∙ pairs_tell x i le in
     let sum : broken_sum (is_end (length x) offset (take 1024 (drop i cs))) (end_of (with_pairs f.chunks (map pair_of (take 1024 (drop i cs))))) (length x) (length (map pair_of (take 1024 (drop i cs)))) ≡ None
     = ap (λ (ks : List Chunk). broken_sum (is_end (length x) offset (take 1024 (drop i cs))) (end_of ks) (length x) (length (map pair_of (take 1024 (drop i cs))))) joined ∙ all_sound x i le _ end in
-    ap (λ (ks : List Chunk). broken_of f (record { version = g.version; term = 0; size = length g.content; pairs = map pair_of ks; eof = is_end (length g.content) offset ks })) told
-    ∙ ap (λ (m : ℕ). broken_of f (record { version = g.version; term = 0; size = m; pairs = map pair_of (take 1024 (drop i cs)); eof = is_end m offset (take 1024 (drop i cs)) })) len
-    ∙ tests_pass f g.version 0 (length x) _ _ most (omega (arith, few)) (sym size) pairs sum
+    ap (λ (ks : List Chunk). broken_of f (record { version = g.version; term = term; size = length g.content; pairs = map pair_of ks; eof = is_end (length g.content) offset ks })) told
+    ∙ ap (λ (m : ℕ). broken_of f (record { version = g.version; term = term; size = m; pairs = map pair_of (take 1024 (drop i cs)); eof = is_end m offset (take 1024 (drop i cs)) })) len
+    ∙ tests_pass f g.version term (length x) _ _ most (omega (arith, few)) (sym size) pairs sum
 
 -- ---- READ
 

@@ -331,7 +331,7 @@ stops_closed book k qs n x q t ts j g tr version quiet waits made =
             digest_is = refl;
             point = made.1;
             within = (point, begun, (book.steps + 1, refl, omega (arith, le)));
-            entered = entered_later book more None (Some j.place) of.op.file made.1 version (length of.op.value) (sha1 of.op.value) grows (subst (λ (z : Op). Rattle.trace_replay.specs.Causes.IsEntered book z.file made.1 version (length z.value) (sha1 z.value)) same made.6);
+            entered = entered_later book more None (Some j.place) of.op.file made.1 version (length of.op.value) (sha1 of.op.value) grows (subst (λ (z : Op). Rattle.kept_promise.proofs.Rights.IsEnteredIf book z.file made.1 version (length z.value) (sha1 z.value)) same made.6);
           },
         );
         begun = let b = r.begun in omega (arith, b);

@@ -1,5 +1,5 @@
 -- The server takes a commit: it is refused, or its change waits.
-use Rattle.std.proofs.Common.{inl, inr, ◌≡◌, ℕ, ◌+◌, ◌≤◌, List, [], ◌∷◌, ◌++◌, length, max, Option, Some, None, Bool, true, false, refl, sym, ap, ◌∙◌, subst, arith, eq-eqb, Result, Ok, Err, ◌⊎◌}
+use Rattle.std.proofs.Common.{inl, inr, ◌≡◌, ℕ, ◌+◌, ◌≤◌, List, [], ◌∷◌, ◌++◌, length, Option, Some, None, Bool, true, false, refl, sym, ap, ◌∙◌, subst, arith, eq-eqb, Result, Ok, Err, ◌⊎◌}
 use Rattle.xdr_codec.specs.declared.status.Status.TheVariants as status
 use Rattle.hash_calls.specs.declared.message.Lb.TheVariants as lb
 use Rattle.server_core.specs.State as server
@@ -8,7 +8,9 @@ use Rattle.server_core.specs.Steps.{sends}
 use Rattle.temp_files.specs.Pieces.{joined}
 use Rattle.client_state.specs.State as client
 use Rattle.client_state.specs.declared.task.Stage.TheVariants as stage
-use Rattle.kept_promise.proofs.Common.{nat_tests, slice_get, cond, ◌==◌, ◌||◌, nat_lt, if◌then◌else◌, handle_bytes, chunks_of, Failed, Status, message_spell, Node, directory, file, node_of, at, commits, commits_to, commits_whole, has_waiting, is_full, size_most, Temp, temp_at, without_temp, key_of, assembled, Change, File, Stage, Op, Core, Session, Event.Serves, numbered, hashed_of, Book, Or, Call.Commit, Reply.Changed, Ask, Queue, ask_message, value_at}
+use Rattle.kept_promise.proofs.Common.{nat_tests, slice_get, cond, ◌==◌, ◌||◌, nat_lt, if◌then◌else◌, handle_bytes, chunks_of, Failed, Status, message_spell, Node, directory, file, node_of, at, commits, commits_to, commits_whole, has_waiting, is_full, size_most, Temp, temp_at, without_temp, key_of, assembled, Change, File, Stage, Op, Core, Session, Event.Serves, numbered, hashed_of, Book, Or, Call.Commit, Reply.Changed, Ask, Queue, ask_message, value_at, later, change_of, ServerStep}
+use Rattle.server_core.specs.Recalling.{comes}
+use Rattle.server_law.proofs.Unleased.{unleased_at, comes_is}
 use Rattle.kept_promise.proofs.Lists.{some_is, nothing_there, false_and_true}
 use Rattle.kept_promise.proofs.Keys.{own}
 use Rattle.kept_promise.proofs.Messages.{Job, job, stage_word, AllAsks, AnswerOf, IsCommit, IsPending, AreParts}
@@ -51,7 +53,7 @@ tails e = cc
 refused_with : FitLaws → (book : Book) (k : Core) (qs : List Queue) (n now : ℕ) (x : Session) (q : Queue) (xid m f size : ℕ) (us : List Ask) (s : Status) (temps : List (ℕ × Temp)) → (g : Given book k qs n now x q (record { xid = xid; call = Commit m f size }) us) → ((i : ℕ) (e : ℕ × Temp) → slice_get temps i ≡ Some e → (j : ℕ) × (slice_get k.server.temps j ≡ Some e))
     → IsShelf temps → ((o : ℕ) → (o ≡ n → ⊥) → SameFound k.server.temps temps o) → (x.cut ≡ false → Wanted (onward book 1 book.ops) (job (session_in book k qs n now x q (record { xid = xid; call = Commit m f size }) us g).seat) xid (Changed (Failed s tt)))
     → (x.cut ≡ false → Held temps n us q.downs (locals_of (session_in book k qs n now x q (record { xid = xid; call = Commit m f size }) us g).seat.client) (job (session_in book k qs n now x q (record { xid = xid; call = Commit m f size }) us g).seat))
-    → Leads book (rest_of qs n q us) (answered k n (max k.server.moment now) x (record { xid = xid; call = Commit m f size }) temps k.server.index (Changed (Failed s tt)))
+    → Leads book (rest_of qs n q us) (answered k n (later k.server.leasing now) x (record { xid = xid; call = Commit m f size }) temps k.server.index (Changed (Failed s tt)))
 refused_with laws book k qs n now x q xid m f size us s temps g were shelf found wanted held =
     let a : Ask = record { xid = xid; call = Commit m f size } in
     let h = session_in book k qs n now x q a us g in
@@ -89,10 +91,10 @@ leads_waits : (book : Book) (k : Core) (qs : List Queue) (n now : ℕ) (x : Sess
     → SameBytes book ((session_in book k qs n now x q (record { xid = xid; call = Commit m f size }) us g).contents m) content
     → Roomy k.server content → WasThere book f → IsShelf temps → ((o : ℕ) → (o ≡ n → ⊥) → SameFound k.server.temps temps o)
     → (x.cut ≡ false → Held temps n us q.downs (locals_of (session_in book k qs n now x q (record { xid = xid; call = Commit m f size }) us g).seat.client) (job (session_in book k qs n now x q (record { xid = xid; call = Commit m f size }) us g).seat))
-    → Leads book (rest_of qs n q us) (served k n x xid (record (at k.server now) { temps = temps; waiting = k.server.waiting ++ record { session = n; xid = xid; file = f; what = what.Content content } ∷ [] }, sends []))
+    → Leads book (rest_of qs n q us) (served k n x xid (record (at k.server now) { temps = temps; waiting = k.server.waiting ++ change_of n xid f (what.Content content) ∷ [] }, sends []))
 leads_waits book k qs n now x q xid m f size us temps content g were same room known shelf found held =
     let h = session_in book k qs n now x q (record { xid = xid; call = Commit m f size }) us g in
-    let d : Change = record { session = n; xid = xid; file = f; what = what.Content content } in
+    let d : Change = change_of n xid f (what.Content content) in
     let first = (subst (AllAsks (IsCommit book x.closing x.cut (job h.seat) h.contents)) g.first h.commits).0.0 in
     let more = onward book 1 book.ops in
     leads_coming book k qs n now x q (record { xid = xid; call = Commit m f size }) us temps d g (record {
@@ -246,17 +248,17 @@ serve_commit laws book k qs n now x q xid m f size us g = by (temp_at k.server.t
     others : (o : ℕ) → (o ≡ n → ⊥) → SameFound k.server.temps left o
     others o apart p lt = other_out k.server.temps n m o p (first_fits book k qs n now x q a us g).1 lt apart
 
-    fails : (s : Status) → (x.cut ≡ false → ⊥) → Leads book (rest_of qs n q us) (answered k n (max k.server.moment now) x a k.server.temps k.server.index (Changed (Failed s tt)))
+    fails : (s : Status) → (x.cut ≡ false → ⊥) → Leads book (rest_of qs n q us) (answered k n (later k.server.leasing now) x a k.server.temps k.server.index (Changed (Failed s tt)))
     fails s never = refused_with laws book k qs n now x q xid m f size us s k.server.temps g (λ i e is. (i, is)) g.kept.shelf (λ o apart p lt. refl) (λ uncut. absurd (never uncut)) (λ uncut. absurd (never uncut))
 
-    ends : (s : Status) → (x.cut ≡ false → Wanted (onward book 1 book.ops) (job h.seat) xid (Changed (Failed s tt))) → Leads book (rest_of qs n q us) (answered k n (max k.server.moment now) x a left k.server.index (Changed (Failed s tt)))
+    ends : (s : Status) → (x.cut ≡ false → Wanted (onward book 1 book.ops) (job h.seat) xid (Changed (Failed s tt))) → Leads book (rest_of qs n q us) (answered k n (later k.server.leasing now) x a left k.server.index (Changed (Failed s tt)))
     ends s wanted = refused_with laws book k qs n now x q xid m f size us s left g (λ i e is. of_removed _ k.server.temps i e is) (shelf_out k.server.temps n m g.kept.shelf) others wanted (λ uncut. (ready uncut).left)
 
     has_room : (id : ℕ) (content : List ℕ) (w full : Bool) → has_waiting k.server.waiting n ≡ w → is_full (record (at k.server now) { temps = left }) (length content) ≡ full → id ≡ f → WasThere book f → SameBytes book (h.contents m) content
-        → Leads book (rest_of qs n q us) (served k n x xid (if w then answers (record (at k.server now) { temps = left }) n xid (lb.CommitTmpAnswer (Failed status.Jukebox tt)) else if full then answers (record (at k.server now) { temps = left }) n xid (lb.CommitTmpAnswer (Failed status.NoSpc tt)) else (record (at k.server now) { temps = left; waiting = k.server.waiting ++ record { session = n; xid = xid; file = id; what = what.Content content } ∷ [] }, sends [])))
+        → Leads book (rest_of qs n q us) (served k n x xid (if w then answers (record (at k.server now) { temps = left }) n xid (lb.CommitTmpAnswer (Failed status.Jukebox tt)) else if full then answers (record (at k.server now) { temps = left }) n xid (lb.CommitTmpAnswer (Failed status.NoSpc tt)) else comes (record (at k.server now) { temps = left }) (change_of n xid id (what.Content content))))
     has_room id content true full waits e same known is = ends status.Jukebox (λ uncut. absurd (false_and_true (has_waiting k.server.waiting n) (ready uncut).alone waits))
     has_room id content false true waits e same known is = ends status.NoSpc (λ uncut. no_room laws book k qs n now x q xid m f size us g content uncut is e)
-    has_room id content false false waits e same known is = subst (λ (i : ℕ). Leads book (rest_of qs n q us) (served k n x xid (record (at k.server now) { temps = left; waiting = k.server.waiting ++ record { session = n; xid = xid; file = i; what = what.Content content } ∷ [] }, sends []))) (sym same) (leads_waits book k qs n now x q xid m f size us left content g (λ i u w. of_removed _ k.server.temps i u w) is (not_full changes_most (k.server.tree.changes + server.entries_held k.server.waiting + 1) tree_most (server.bytes_held k.server + length content) e) known (shelf_out k.server.temps n m g.kept.shelf) others (λ uncut. (ready uncut).left))
+    has_room id content false false waits e same known is = subst (λ (r : server.State × ServerStep). Leads book (rest_of qs n q us) (served k n x xid r)) (sym (comes_is (record (at k.server now) { temps = left }) (unleased_at k.server now g.kept.server.leases) (change_of n xid id (what.Content content)))) (subst (λ (i : ℕ). Leads book (rest_of qs n q us) (served k n x xid (record (at k.server now) { temps = left; waiting = k.server.waiting ++ change_of n xid i (what.Content content) ∷ [] }, sends []))) (sym same) (leads_waits book k qs n now x q xid m f size us left content g (λ i u w. of_removed _ k.server.temps i u w) is (not_full changes_most (k.server.tree.changes + server.entries_held k.server.waiting + 1) tree_most (server.bytes_held k.server + length content) e) known (shelf_out k.server.temps n m g.kept.shelf) others (λ uncut. (ready uncut).left)))
 
     whole : (id : ℕ) (t : Temp) (o : Option (List ℕ)) → temp_at k.server.temps n m ≡ Some t → assembled t size ≡ o → id ≡ f → WasThere book f → ((c : List ℕ) → o ≡ Some c → SameBytes book (h.contents m) c) → Leads book (rest_of qs n q us) (served k n x xid (commits_whole (record (at k.server now) { temps = left }) n xid id o))
     whole id t None found none same known is = ends status.Inval (λ uncut. let r = ready uncut in nothing_there r.content (sym none ∙ ap (λ (z : Temp). assembled z size) (some_is t r.temp (sym found ∙ r.found)) ∙ r.whole))

@@ -66,7 +66,8 @@ pub use Rattle.server_core.specs.Answers.{piece_of, piece_bytes}
 pub use Rattle.server_core.specs.Closing.{is_full, makes_change, at, makes, makes_unless, writes_unless, commits, commits_to, commits_whole, has_waiting, entry_by, names, names_unless, names_bytes}
 pub use Rattle.chunk_calls.specs.Writing.{cond_fault, bytes_known, bytes_found}
 pub use Rattle.server_core.specs.Step.{server_step, stands, connect, has_room, got_if, called}
-pub use Rattle.server_core.specs.declared.change.Change.{Change}
+pub use Rattle.server_core.specs.State.{Change, change_of}
+pub use Rattle.server_core.specs.Leasing.{Leasing, later, unleased}
 pub use Rattle.server_core.specs.declared.event.ServerStep.{ServerStep}
 pub use Rattle.server_core.specs.declared.change.Wanted.{Wanted}
 pub use Rattle.chunk_calls.specs.Files.{File}

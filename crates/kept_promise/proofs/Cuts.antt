@@ -69,7 +69,7 @@ cut_kept book more k qs c n x q seat ended after kept here at is owner newest go
       seat_around = subst (λ (z : ℕ). Around k.seats seats z d) (sym owner) seated;
       owner = refl;
       goes = goes;
-      server = record { held = λ f. file_still book more None ended f (the_files.file_at k.server.tree f) g still (kept.server.held f); fresh = fresh_still book more None ended k.server.tree g still kept.server.fresh; bounded = kept.server.bounded; zero = kept.server.zero; rooted = kept.server.rooted; wants = kept.server.wants; changes = kept.server.changes; bytes = kept.server.bytes; lengths = kept.server.lengths; targets = λ i z e. there_later book more None ended z.file g (kept.server.targets i z e); xids = kept.server.xids };
+      server = record { held = λ f. file_still book more None ended f (the_files.file_at k.server.tree f) g still (kept.server.held f); fresh = fresh_still book more None ended k.server.tree g still kept.server.fresh; bounded = kept.server.bounded; zero = kept.server.zero; rooted = kept.server.rooted; wants = kept.server.wants; changes = kept.server.changes; bytes = kept.server.bytes; lengths = kept.server.lengths; targets = λ i z e. there_later book more None ended z.file g (kept.server.targets i z e); xids = kept.server.xids; leases = kept.server.leases };
       sessions_made = refl;
       view = λ m apart. same_view m k.server;
       elsewhere = inr newest;
@@ -184,7 +184,7 @@ idle_kept : (book : Book) (k : Core) (qs : List Queue) → IsKept book k qs → 
 idle_kept book k qs kept =
     subst (λ (z : Core). IsKept (onward book 1 book.ops) z qs) (core_is book k qs k.server k.seats k.sessions kept)
     (kept_rest book (onward book 1 book.ops) k qs k.server (goes_same book 1 kept.sound)
-    (record { held = λ f. file_still book (onward book 1 book.ops) None None f (the_files.file_at k.server.tree f) (grows_same book 1) (still_same book 1 kept.sound) (kept.server.held f); fresh = fresh_still book (onward book 1 book.ops) None None k.server.tree (grows_same book 1) (still_same book 1 kept.sound) kept.server.fresh; bounded = kept.server.bounded; zero = kept.server.zero; rooted = kept.server.rooted; wants = kept.server.wants; changes = kept.server.changes; bytes = kept.server.bytes; lengths = kept.server.lengths; targets = λ i c e. there_later book (onward book 1 book.ops) None None c.file (grows_same book 1) (kept.server.targets i c e); xids = kept.server.xids })
+    (record { held = λ f. file_still book (onward book 1 book.ops) None None f (the_files.file_at k.server.tree f) (grows_same book 1) (still_same book 1 kept.sound) (kept.server.held f); fresh = fresh_still book (onward book 1 book.ops) None None k.server.tree (grows_same book 1) (still_same book 1 kept.sound) kept.server.fresh; bounded = kept.server.bounded; zero = kept.server.zero; rooted = kept.server.rooted; wants = kept.server.wants; changes = kept.server.changes; bytes = kept.server.bytes; lengths = kept.server.lengths; targets = λ i c e. there_later book (onward book 1 book.ops) None None c.file (grows_same book 1) (kept.server.targets i c e); xids = kept.server.xids; leases = kept.server.leases })
     refl (λ m. same_view m k.server) kept.home kept.running kept.journal kept.shelf kept)
 
 pub leads_idle : (book : Book) (k : Core) (qs : List Queue) → IsKept book k qs → Leads book qs (idles k)

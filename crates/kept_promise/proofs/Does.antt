@@ -257,7 +257,7 @@ own_appended book k qs c w file value s o own kept =
     let more = onward book 1 (book.ops ++ new ∷ []) in
     let none = own_pointless k c w file value s o own in
     let goes = goes_appended book new none (own_right more (k.steps + 1) c w file value s o own (ap (λ z. z + 1) kept.steps)) kept.sound in
-    kept_rest book more k qs k.server goes (server_still book more None None k.server k.server.moment k.server.temps k.server.index goes.grows (still_appended book new none kept.sound) kept.server) refl (λ m. same_view m k.server) kept.home
+    kept_rest book more k qs k.server goes (server_still book more None None k.server k.server.leasing k.server.temps k.server.index kept.server.leases goes.grows (still_appended book new none kept.sound) kept.server) refl (λ m. same_view m k.server) kept.home
     (λ p q at run. elim (of_appended book.ops new p q at) [
       | inl last ↦ absurd (not_running w o own (ap (λ (z : Op). z.outcome) (sym last.1) ∙ run))
       | inr was ↦ kept.running p q was run

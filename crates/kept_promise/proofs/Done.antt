@@ -10,7 +10,7 @@ use Rattle.command_text.specs.declared.path.PathCommand.{PathCommand}
 use Rattle.trace_replay.specs.Causes.{NamedCause, IsRewritten, IsRewriteRefused}
 use Rattle.trace_replay.specs.Complete.{EndsNamed}
 use Rattle.trace_replay.specs.Faithful.{HasFile, FindsOpen, StoresLocal}
-use Rattle.kept_promise.proofs.Rights.{AreLeased, opened_if, may_point, RewriteRefused, Renewed, RefusedBy, DoneBy, Caused, IsRight}
+use Rattle.kept_promise.proofs.Rights.{Soon, opened_if, closed_if, may_point, RewriteRefused, Renewed, RefusedBy, DoneBy, Caused, IsRight}
 use Rattle.kept_promise.proofs.Lists.{true_and_false}
 use Rattle.kept_promise.proofs.Facts.{IsKept}
 use Rattle.kept_promise.proofs.Deeds.{FromServer, ByServer, Stores, HasIdFile, Came, IsDeed}
@@ -66,32 +66,32 @@ own_plain false asks (command.Abandon f) (Some x) = (refl, refl)
 
 -- ---- causes
 
-open_cause : (book : Book) (f : ℕ) (o : Op) (u : Outcome) → AreLeased book.moments → o.word ≡ words.Open → o.file ≡ f → ((status : ℕ) → u ≡ told.Refused status → IsOpenRefused book f o status) → FromServer words.Open u → Caused book o u → HasCause book (command.Open f) o u
-open_cause book f o (told.Opened n d) leased w e r s h = subst (λ (x : ℕ). IsOpened book x o n d) e (opened_if book o.file o n d leased h.1)
-open_cause book f o (told.Refused t) leased w e r s h = r t refl
-open_cause book f o (told.Changed a b) leased w e r s h = subst (λ (x : ℕ). IsChanged book x o a b) e h.1
-open_cause book f o told.Lost leased w e r s h = h.1
-open_cause book f o told.Running leased w e r s h = h.1
-open_cause book f o (told.Closed v n d) leased w e r s h = absurd (apart (sym h.0 ∙ w))
+open_cause : (book : Book) (f : ℕ) (o : Op) (u : Outcome) → Soon book o u → o.word ≡ words.Open → o.file ≡ f → ((status : ℕ) → u ≡ told.Refused status → IsOpenRefused book f o status) → FromServer words.Open u → Caused book o u → HasCause book (command.Open f) o u
+open_cause book f o (told.Opened n d) soon w e r s h = subst (λ (x : ℕ). IsOpened book x o n d) e (opened_if book o n d soon h.1)
+open_cause book f o (told.Refused t) soon w e r s h = r t refl
+open_cause book f o (told.Changed a b) soon w e r s h = subst (λ (x : ℕ). IsChanged book x o a b) e h.1
+open_cause book f o told.Lost soon w e r s h = h.1
+open_cause book f o told.Running soon w e r s h = h.1
+open_cause book f o (told.Closed v n d) soon w e r s h = absurd (apart (sym h.0 ∙ w))
   where
     apart : words.Close ≡ words.Open → ⊥
     apart e = absurd cc
-open_cause book f o told.PeerMemory leased w e r s h = h
-open_cause book f o (told.BadPeer n) leased w e r s h = h
-open_cause book f o told.Memory leased w e r s h = h
-open_cause book f o (told.Names n) leased w e r s h = absurd (apart (sym h ∙ w))
+open_cause book f o told.PeerMemory soon w e r s h = h
+open_cause book f o (told.BadPeer n) soon w e r s h = h
+open_cause book f o told.Memory soon w e r s h = h
+open_cause book f o (told.Names n) soon w e r s h = absurd (apart (sym h ∙ w))
   where
     apart : words.List ≡ words.Open → ⊥
     apart e = absurd cc
-open_cause book f o (told.Seen a b c d) leased w e r s h = absurd (apart (sym h ∙ w))
+open_cause book f o (told.Seen a b c d) soon w e r s h = absurd (apart (sym h ∙ w))
   where
     apart : words.Look ≡ words.Open → ⊥
     apart e = absurd cc
-open_cause book f o told.Done leased w e r s h = absurd (apart s)
+open_cause book f o told.Done soon w e r s h = absurd (apart s)
   where
     apart : words.Open ≡ words.Rewrite → ⊥
     apart e = absurd cc
-open_cause book f o _ leased w e r s h = s
+open_cause book f o _ soon w e r s h = s
 
 -- a rewrite has no point
 pub rewrite_pointless : (book : Book) (o : Op) → IsRight book o → o.word ≡ words.Rewrite → o.point ≡ None
@@ -138,35 +138,35 @@ rewrite_cause book f o (told.Seen a b c d) w none r s h = absurd (apart (sym h �
     apart e = absurd cc
 rewrite_cause book f o _ w none r s h = s
 
-close_cause : (book : Book) (f : ℕ) (o : Op) (u : Outcome) → o.word ≡ words.Close → o.file ≡ f → FromServer words.Close u → Caused book o u → HasCause book (command.Close f) o u
-close_cause book f o (told.Closed v n d) w e s h = subst (λ (x : ℕ). IsClosed book x o v n d) e h.1
-close_cause book f o (told.Refused t) w e s h = elim (subst (λ (x : Word). RefusedBy book o x t) w h) [ inl full ↦ inl full | inr gone ↦ inr gone.0 ]
-close_cause book f o told.Lost w e s h = h.1
-close_cause book f o told.Running w e s h = h.1
-close_cause book f o (told.Opened n d) w e s h = absurd (apart (sym h.0 ∙ w))
+close_cause : (book : Book) (f : ℕ) (o : Op) (u : Outcome) → Soon book o u → o.word ≡ words.Close → o.file ≡ f → FromServer words.Close u → Caused book o u → HasCause book (command.Close f) o u
+close_cause book f o (told.Closed v n d) soon w e s h = subst (λ (x : ℕ). IsClosed book x o v n d) e (closed_if book o v n d soon h.1)
+close_cause book f o (told.Refused t) soon w e s h = elim (subst (λ (x : Word). RefusedBy book o x t) w h) [ inl full ↦ inl full | inr gone ↦ inr gone.0 ]
+close_cause book f o told.Lost soon w e s h = h.1
+close_cause book f o told.Running soon w e s h = h.1
+close_cause book f o (told.Opened n d) soon w e s h = absurd (apart (sym h.0 ∙ w))
   where
     apart : words.Open ≡ words.Close → ⊥
     apart e = absurd cc
-close_cause book f o (told.Changed a b) w e s h = absurd (apart (sym h.0 ∙ w))
+close_cause book f o (told.Changed a b) soon w e s h = absurd (apart (sym h.0 ∙ w))
   where
     apart : words.Open ≡ words.Close → ⊥
     apart e = absurd cc
-close_cause book f o told.PeerMemory w e s h = h
-close_cause book f o (told.BadPeer n) w e s h = h
-close_cause book f o told.Memory w e s h = h
-close_cause book f o (told.Names n) w e s h = absurd (apart (sym h ∙ w))
+close_cause book f o told.PeerMemory soon w e s h = h
+close_cause book f o (told.BadPeer n) soon w e s h = h
+close_cause book f o told.Memory soon w e s h = h
+close_cause book f o (told.Names n) soon w e s h = absurd (apart (sym h ∙ w))
   where
     apart : words.List ≡ words.Close → ⊥
     apart e = absurd cc
-close_cause book f o (told.Seen a b c d) w e s h = absurd (apart (sym h ∙ w))
+close_cause book f o (told.Seen a b c d) soon w e s h = absurd (apart (sym h ∙ w))
   where
     apart : words.Look ≡ words.Close → ⊥
     apart e = absurd cc
-close_cause book f o told.Done w e s h = absurd (apart s)
+close_cause book f o told.Done soon w e s h = absurd (apart s)
   where
     apart : words.Close ≡ words.Rewrite → ⊥
     apart e = absurd cc
-close_cause book f o _ w e s h = s
+close_cause book f o _ soon w e s h = s
 
 -- ---- a command's operation
 
@@ -201,7 +201,7 @@ pub record IsKnown (book : Book) (d : Deed) (o : Op) (l : Option (List ℕ)) : T
   pub ends : (n : PathCommand) → d.command ≡ command.Named n → (o.end ≡ Some o.begin → ⊥) → (status : ℕ) → o.outcome ≡ told.Refused status → EndsNamed n (told.Refused status)
 
 -- its file, and what it came to
-module _ (book : Book) (ds : List Deed) (i : ℕ) (d : Deed) (o : Op) (leased : AreLeased book.moments) (right : IsRight book o) (busy asks : Bool) where
+module _ (book : Book) (ds : List Deed) (i : ℕ) (d : Deed) (o : Op) (soon : Soon book o o.outcome) (right : IsRight book o) (busy asks : Bool) where
   abbrev before : ℕ → Option (List ℕ)
   before f = local_before ds book.ops i d.client f
 
@@ -236,14 +236,14 @@ module _ (book : Book) (ds : List Deed) (i : ℕ) (d : Deed) (o : Op) (leased : 
   part : (k : Command) → HasIdFile k o → o.word ≡ word_of k → ((f : ℕ) → k ≡ command.Open f → (status : ℕ) → o.outcome ≡ told.Refused status → IsOpenRefused book f o status) → ((f : ℕ) → k ≡ command.Rewrite f → (status : ℕ) → o.outcome ≡ told.Refused status → RewriteRefused book o status) → ((n : PathCommand) → k ≡ command.Named n → own_answer busy asks k None ≡ None → (o.end ≡ Some o.begin → ⊥) → NamedCause book n o o.outcome × FindsOpen n o.outcome (before o.file))
       → Came (record d { command = k }) o (before (file_of k)) (own k (file_of k)) → Part k o.file
   part (command.Rewrite f) e w refused renewed named c = id_part (command.Rewrite f) e (λ x. e) (λ s. s) (λ a s. rewrite_cause book f o o.outcome w (rewrite_pointless book o right w) (renewed f refl) s right.cause) c
-  part (command.Open f) e w refused renewed named c = id_part (command.Open f) e (λ x. e) (λ s. s) (λ a s. open_cause book f o o.outcome leased w e (refused f refl) s right.cause) c
-  part (command.Close f) e w refused renewed named c = id_part (command.Close f) e (λ x. e) (λ s. s) (λ a s. close_cause book f o o.outcome w e s right.cause) c
+  part (command.Open f) e w refused renewed named c = id_part (command.Open f) e (λ x. e) (λ s. s) (λ a s. open_cause book f o o.outcome soon w e (refused f refl) s right.cause) c
+  part (command.Close f) e w refused renewed named c = id_part (command.Close f) e (λ x. e) (λ s. s) (λ a s. close_cause book f o o.outcome soon w e s right.cause) c
   part (command.Named n) e w refused renewed named c = named_part n (named n refl) c
   part d e w refused renewed named c = id_part d e (λ x. e) (λ s. s) (λ a s. absurd a) c
 
-pub is_done : (book : Book) (ds : List Deed) (i : ℕ) (d : Deed) (o : Op) → AreLeased book.moments → d.calls ≤ calls_most * d.begin → IsRight book o → IsDeed ds book.ops i d o → IsKnown book d o (local_before ds book.ops i d.client o.file) → IsDone book d o (local_before ds book.ops i d.client o.file)
-is_done book ds i d o leased few right h known =
-    let p = part book ds i d o leased right (is_busy book.ops o) (can_ask d.joined d.calls) d.command h.file h.word known.refused known.renewed known.named h.came in
+pub is_done : (book : Book) (ds : List Deed) (i : ℕ) (d : Deed) (o : Op) → Soon book o o.outcome → d.calls ≤ calls_most * d.begin → IsRight book o → IsDeed ds book.ops i d o → IsKnown book d o (local_before ds book.ops i d.client o.file) → IsDone book d o (local_before ds book.ops i d.client o.file)
+is_done book ds i d o soon few right h known =
+    let p = part book ds i d o soon right (is_busy book.ops o) (can_ask d.joined d.calls) d.command h.file h.word known.refused known.renewed known.named h.came in
     record {
       client = h.client;
       word = h.word;
@@ -271,6 +271,6 @@ asked_late ds ops i d o n h is asks free =
 pub deeds_counted : (w : World) (all : List Moment) → IsFollowed all w.core → length w.core.ops ≡ length (deeds_of all)
 deeds_counted w all h = h.deeds.count
 
-pub deeds_done : (w : World) (all : List Moment) (leased : AreLeased all) (qs : List Queue) → IsKept (book_of w all) w.core qs → IsFollowed all w.core → (k : ℕ) (d : Deed) (o : Op) → slice_get (deeds_of all) k ≡ Some d → slice_get w.core.ops k ≡ Some o → IsKnown (book_of w all) d o (local_before (deeds_of all) w.core.ops k d.client o.file)
+pub deeds_done : (w : World) (all : List Moment) (soon : (k : ℕ) (o : Op) → slice_get w.core.ops k ≡ Some o → Soon (book_of w all) o o.outcome) (qs : List Queue) → IsKept (book_of w all) w.core qs → IsFollowed all w.core → (k : ℕ) (d : Deed) (o : Op) → slice_get (deeds_of all) k ≡ Some d → slice_get w.core.ops k ≡ Some o → IsKnown (book_of w all) d o (local_before (deeds_of all) w.core.ops k d.client o.file)
     → IsDone (book_of w all) d o (local_before (deeds_of all) w.core.ops k d.client o.file)
-deeds_done w all leased qs kept h k d o at is known = is_done (book_of w all) (deeds_of all) k d o leased (h.few k d at) (kept.sound.rights k o is) (h.deeds.each k d o at is) known
+deeds_done w all soon qs kept h k d o at is known = is_done (book_of w all) (deeds_of all) k d o (soon k o is) (h.few k d at) (kept.sound.rights k o is) (h.deeds.each k d o at is) known

@@ -14,7 +14,8 @@ use Rattle.tree_calls.specs.Waiting.{calls, asks_remove, asks_rename, removes_in
 use Rattle.tree_calls.specs.declared.asked.Outcome.{Outcome}
 use Rattle.tree_calls.specs.declared.asked.Outcome.TheVariants.{Answered, Waits as ToWait}
 use Rattle.server_core.specs.State as server
-use Rattle.server_core.specs.Closing.{answers, looked_up, entries_by, entered_by, entry_by, settles as server_settles}
+use Rattle.server_core.specs.Closing.{answers, looked_up, entries_by, entered_by, entry_by, ready_by, settles_by}
+use Rattle.callback_core.specs.Waits.{without}
 use Rattle.server_core.specs.Step.{asks, asks_tree, tells_hashes}
 use Rattle.server_core.specs.Steps.{sends}
 use Rattle.server_core.specs.declared.change.Wanted.TheVariants as wanted
@@ -22,7 +23,10 @@ use Rattle.server_core.specs.declared.event.ServerStep.{ServerStep}
 use Rattle.trace_replay.specs.Entries.{MayEnter, TakesEntering, GrowsBy, JournalGrows}
 use Rattle.trace_replay.specs.NameChanges.{IsStepOf}
 use Rattle.trace_replay.specs.OwnCalls.{ComesTo}
-use Rattle.kept_promise.proofs.Common.{slice_get, nat_lt, if◌then◌else◌, Contains, Contains-append_left, Contains-append_right, Contains-push, Contains-push_cases, Failed, Status, Body, Message, WireFault, numbered, parse_of, Temp, size_most, temp_at, room_fault, piece_fault, cond_fault, assembled, without_temp, File, Node, file, directory, node_of, called, got_if, at, stands, makes, makes_unless, writes_unless, names_unless, names_bytes, commits, commits_to, commits_whole, has_waiting, is_full, makes_change, Wanted, Change, Entry, Op, Opening, Core, Session, Event, Event.Serves, Event.Settles, CoreStep, server_waiting, happens, Moment, step_of, client_of, is_in, Book, Queue, ask_message}
+use Rattle.kept_promise.proofs.Common.{slice_get, nat_lt, if◌then◌else◌, Contains, Contains-append_left, Contains-append_right, Contains-push, Contains-push_cases, Failed, Status, Body, Message, WireFault, numbered, parse_of, Temp, size_most, temp_at, room_fault, piece_fault, cond_fault, assembled, without_temp, File, Node, file, directory, node_of, called, got_if, at, stands, makes, makes_unless, writes_unless, names_unless, names_bytes, commits, commits_to, commits_whole, has_waiting, is_full, makes_change, Wanted, Change, Entry, Op, Opening, Core, Session, Event, Event.Serves, Event.Settles, CoreStep, server_waiting, happens, Moment, step_of, client_of, is_in, Book, Queue, ask_message, change_of}
+use Rattle.kept_promise.proofs.Hangs.{left_there}
+use Rattle.kept_promise.proofs.TakenOut.{ready_waits}
+use Rattle.server_core.specs.Recalling.{comes, term_at}
 use Rattle.kept_promise.proofs.Lists.{some_is, nothing_there, of_appended, in_front}
 use Rattle.kept_promise.proofs.Messages.{AllAsks}
 use Rattle.kept_promise.proofs.Statements.{CallFits}
@@ -76,10 +80,10 @@ commits_grows s n xid size t (Err e) = ((refl, refl), inl refl)
 commits_grows s n xid size t (Ok directory) = ((refl, refl), inl refl)
 commits_grows s n xid size t (Ok (file f)) = by (nat_lt size_most size)
   where
-    waits : (content : List ℕ) (a b : Bool) → (let r : server.State × ServerStep = if a then answers s n xid (lb.CommitTmpAnswer (Failed status.Jukebox tt)) else if b then answers s n xid (lb.CommitTmpAnswer (Failed status.NoSpc tt)) else (record s { waiting = s.waiting ++ record { session = n; xid = xid; file = f.id; what = wanted.Content content } ∷ [] }, sends []) in Stays s r × Comes n xid s r)
+    waits : (content : List ℕ) (a b : Bool) → (let r : server.State × ServerStep = if a then answers s n xid (lb.CommitTmpAnswer (Failed status.Jukebox tt)) else if b then answers s n xid (lb.CommitTmpAnswer (Failed status.NoSpc tt)) else comes s (change_of n xid f.id (wanted.Content content)) in Stays s r × Comes n xid s r)
     waits content true b = ((refl, refl), inl refl)
     waits content false true = ((refl, refl), inl refl)
-    waits content false false = ((refl, refl), inr (record { session = n; xid = xid; file = f.id; what = wanted.Content content }, refl, refl, refl))
+    waits content false false = ((refl, refl), inr (change_of n xid f.id (wanted.Content content), refl, refl, refl))
 
     whole : (o : Option (List ℕ)) → (let r = commits_whole s n xid f.id o in Stays s r × Comes n xid s r)
     whole None = ((refl, refl), inl refl)
@@ -130,7 +134,7 @@ asks_grows s n xid p = by p.1
     by : (o : Option Outcome) → (let r = asks (record s { tree = p.0 }) n xid o in Comes n xid s r × (Stays s r ⊎ Grown n s r))
     by None = (inl refl, inl (refl, refl))
     by (Some (Answered d)) = (inl refl, inr (record { new = entries_by n d.first d.second; journal_is = refl; count = count_is n d.first d.second; sessions = λ i e at. entries_session n d.first d.second i e at }))
-    by (Some (ToWait a)) = (inr (record { session = n; xid = xid; file = Rattle.tree_calls.specs.Waiting.file_of a; what = wanted.Asked a }, refl, refl, refl), inl (refl, refl))
+    by (Some (ToWait a)) = (inr (change_of n xid (Rattle.tree_calls.specs.Waiting.file_of a) (wanted.Asked a), refl, refl, refl), inl (refl, refl))
 
 -- a call that changes nothing has no entry
 tells_none : (s : server.State) (n xid : ℕ) (b : Body) (o : Option Nfs) → CallGrows n xid b s (asks_tree s n xid (s.tree, told_outcome o))
@@ -154,7 +158,7 @@ body_grows s n xid (body.Back z) = inl ((refl, refl), refl)
 
 change_grows : (s : server.State) (c : Change) (w : Wanted) → Grown c.session s (makes_change s c w)
 change_grows s c (wanted.Content content) =
-    let p = Rattle.tree_calls.specs.Waiting.commits s.tree (server.held s.waiting) c.file content 0 in
+    let p = Rattle.tree_calls.specs.Waiting.commits s.tree (server.held s.waiting) c.file content (term_at s c.file) in
     record { new = entries_by c.session p.1.entry None; journal_is = refl; count = count_is c.session p.1.entry None; sessions = λ i e at. entries_session c.session p.1.entry None i e at }
 change_grows s c (wanted.Asked a) =
     let p = Rattle.tree_calls.specs.Waiting.settles s.tree (server.held s.waiting) a in
@@ -166,9 +170,9 @@ change_waits s c (wanted.Asked a) = refl
 
 -- ---- an event
 
--- by a call that is taken, which may make entries; or by the change that waited first
+-- by a call that is taken, which may make entries; or by the change that is ready
 abbrev pub ByEvent : Core → Event → (n xid : ℕ) → Type 0
-ByEvent k e n xid = ((now : ℕ) × (bytes : List ℕ) × (b : Body) × (e ≡ Serves n now bytes) × (parse_of server_waiting bytes ≡ Ok (message.Call xid b)) × MayEnter b) ⊎ ((now : ℕ) × (c : Change) × (e ≡ Settles now) × (slice_get k.server.waiting 0 ≡ Some c) × (c.session ≡ n) × (c.xid ≡ xid))
+ByEvent k e n xid = ((now : ℕ) × (bytes : List ℕ) × (b : Body) × (e ≡ Serves n now bytes) × (parse_of server_waiting bytes ≡ Ok (message.Call xid b)) × MayEnter b) ⊎ ((now : ℕ) × (c : Change) × (e ≡ Settles now) × (ready_by k.server now ≡ Some c) × (c.session ≡ n) × (c.xid ≡ xid))
 
 pub record GrewBy (k : Core) (e : Event) (t : CoreStep) : Type 0 where
   pub session : ℕ
@@ -231,25 +235,28 @@ taken_grows k n now bytes x m read = record { journal = journal (stands k.server
     came false m read i c there = inl (i, there)
 
 pub settled_grows : (k : Core) (now : ℕ) → Grows k (Settles now) (Rattle.trace_ends.specs.Core.settles k now)
-settled_grows k now = by k.server.waiting refl
+settled_grows k now = by (ready_by k.server now) refl
   where
-    by : (ws : List Change) → k.server.waiting ≡ ws → Grows k (Settles now) (Rattle.trace_ends.specs.Core.settles k now)
-    by [] none = record { journal = inl (ap (λ (l : List Change). (server_settles k.server now l).0.journal) none, ap (λ (l : List Change). k.entries ++ replicate (server_settles k.server now l).1.entries (k.steps + 1)) none ∙ append-nil k.entries); came = same_waits k (Settles now) (Rattle.trace_ends.specs.Core.settles k now) (ap (λ (l : List Change). (server_settles k.server now l).0.waiting) none) }
-    by (c ∷ cs) is =
-        let s : server.State = at (record k.server { waiting = cs }) now in
+    by : (next : Option Change) → ready_by k.server now ≡ next → Grows k (Settles now) (Rattle.trace_ends.specs.Core.settles k now)
+    by None none = record { journal = inl (ap (λ (next : Option Change). (settles_by k.server false now next).0.journal) none, ap (λ (next : Option Change). k.entries ++ replicate (settles_by k.server false now next).1.entries (k.steps + 1)) none ∙ append-nil k.entries); came = same_waits k (Settles now) (Rattle.trace_ends.specs.Core.settles k now) (ap (λ (next : Option Change). (settles_by k.server false now next).0.waiting) none) }
+    by (Some c) is =
+        let s : server.State = at (record k.server { waiting = without k.server.waiting c.session }) now in
         let g = change_grows s c c.what in
         record {
           journal = inr (record {
             session = c.session;
             xid = c.xid;
-            by = inr (now, c, refl, ap (λ (l : List Change). slice_get l 0) is, refl, refl);
+            by = inr (now, c, refl, is, refl, refl);
             new = g.new;
-            journal_is = ap (λ (l : List Change). (server_settles k.server now l).0.journal) is ∙ g.journal_is;
-            entries_is = ap (λ (l : List Change). k.entries ++ replicate (server_settles k.server now l).1.entries (k.steps + 1)) is ∙ ap (λ m. k.entries ++ replicate m (k.steps + 1)) g.count;
+            journal_is = ap (λ (next : Option Change). (settles_by k.server false now next).0.journal) is ∙ g.journal_is;
+            entries_is = ap (λ (next : Option Change). k.entries ++ replicate (settles_by k.server false now next).1.entries (k.steps + 1)) is ∙ ap (λ m. k.entries ++ replicate m (k.steps + 1)) g.count;
             sessions = g.sessions;
           });
-          came = λ i d there. inl (suc i, ap (λ (l : List Change). slice_get l (suc i)) is ∙ ap (λ (l : List Change). slice_get l i) (sym (ap (λ (l : List Change). (server_settles k.server now l).0.waiting) is ∙ change_waits s c c.what)) ∙ there);
+          came = λ i d there. inl (left_there c.session k.server.waiting i d (ap (λ (l : List Change). slice_get l i) (sym (ap (λ (next : Option Change). (settles_by k.server false now next).0.waiting) is ∙ change_waits s c c.what)) ∙ there)).0;
         }
+
+pub settled_at : (i j : ℕ) → Settles i ≡ Settles j → i ≡ j
+settled_at i j e = cc
 
 pub event_grows : (k : Core) (e : Event) → Grows k e (happens k e)
 event_grows k e = what_happens k e (Grows k e) (record {
@@ -339,10 +346,11 @@ takes_for fits all past rest opening k qs (Serves m at_ z) mid after s h n xid (
     bytes_are : (n m i j : ℕ) (a b : List ℕ) → Serves n i a ≡ Serves m j b → a ≡ b
     bytes_are n m i j a b e = cc
 takes_for fits all past rest opening k qs (Settles at_) mid after s h n xid (inr (now, c, is, first, session, number)) =
-    let t = entering_later past (moment k (Settles at_)) c.session c.xid (h.waiting 0 c first) in
+    let z = ready_waits k.server now c first in
+    let t = entering_later past (moment k (Settles at_)) c.session c.xid (h.waiting z.0 c z.1) in
     subst (λ i. (t : TakesEntering (past ++ moment k (Settles at_) ∷ []) i xid) × ComesTo (moment k (Settles at_)) i xid (step_of t.taken)) session
     (subst (λ i. (t : TakesEntering (past ++ moment k (Settles at_) ∷ []) c.session i) × ComesTo (moment k (Settles at_)) c.session i (step_of t.taken)) number
-    (t, inr (record { now = at_; event_is = refl; change = c; first = first; session_is = refl; xid_is = refl })))
+    (t, inr (record { now = at_; event_is = refl; change = c; ready = ap (λ (m : ℕ). ready_by k.server m) (settled_at at_ now is) ∙ first; session_is = refl; xid_is = refl })))
 takes_for fits all past rest opening k qs e mid after s h n xid (inl (now, bytes, b, is, read, may)) = unserved e is (λ n now bytes z. absurd cc)
   where
     unserved : {A : Type 0} (e : Event) {n now : ℕ} {bytes : List ℕ} → e ≡ Serves n now bytes → ((n now : ℕ) (bytes : List ℕ) → e ≡ Serves n now bytes → A) → A

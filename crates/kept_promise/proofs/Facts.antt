@@ -8,7 +8,7 @@ use Rattle.client_state.specs.State as client
 use Rattle.client_state.specs.declared.task.Stage.TheVariants as stage
 use Rattle.client_state.specs.declared.task.Way.TheVariants as way
 use Rattle.register_model.specs.declared.op.Outcome.TheVariants as told
-use Rattle.kept_promise.proofs.Common.{slice_get, not, MessageFits, Pending, stands, Temp, key_of, Change, File, Local, Stage, StoreCall, Op, Core, Seat, Session, numbered, hashed_of, Book, HadContent, Or, value_at, version_at, Call, Call.Commit, Call.Walks, Ask, Queue, told_message, cond, changes}
+use Rattle.kept_promise.proofs.Common.{slice_get, not, MessageFits, Pending, stands, Temp, key_of, Change, File, Local, Stage, StoreCall, Op, Core, Seat, Session, numbered, hashed_of, Book, HadContent, Or, value_at, version_at, Call, Call.Commit, Call.Walks, Ask, Queue, told_message, cond, changes, Leasing, unleased}
 use Rattle.kept_promise.proofs.PathNames.{IsWalkSmall, walk_calls, is_creating}
 use Rattle.kept_promise.proofs.Statements.{CallFits}
 use Rattle.kept_promise.proofs.Keys.{times, own, on_way, pending_key, IsOurs}
@@ -159,6 +159,10 @@ abbrev pub IsWanted : (file : ℕ) → Wanted → Type 0
 IsWanted file (wanted.Content content) = Unit {0}
 IsWanted file (wanted.Asked a) = (file ≡ file_of a) × AreTwo a × IsWalkSmall (walk_for a)
 
+-- no lease stands, and none is granted
+abbrev pub GrantsNone : Leasing → Type 0
+GrantsNone g = g ≡ unleased g.moment
+
 pub record IsServer (book : Book) (s : server.State) : Type 0 where
   pub held : (f : ℕ) → FileIs book f (the_files.file_at s.tree f)
   -- what no file has had as its number has no version
@@ -177,6 +181,7 @@ pub record IsServer (book : Book) (s : server.State) : Type 0 where
   -- each change that waits is of a file of the tree
   pub targets : (i : ℕ) (c : Change) → slice_get s.waiting i ≡ Some c → WasThere book c.file
   pub xids : (i : ℕ) (c : Change) → slice_get s.waiting i ≡ Some c → c.xid < 4294967296
+  pub leases : GrantsNone s.leasing
 
 -- ---- all of it
 

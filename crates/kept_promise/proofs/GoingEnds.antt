@@ -1,5 +1,5 @@
 -- A remove, or a rename over a file, that waited is settled: by what its tree makes of it.
-use Rattle.std.proofs.Common.{inl, inr, ◌≡◌, ℕ, zero, suc, ◌+◌, ◌≤◌, List, [], ◌∷◌, ◌++◌, length, replicate, append-nil, drop, Option, Some, None, Result, Ok, Bool, true, false, ◌==◌, refl, sym, ap, ◌∙◌, subst, arith, if◌then◌else◌, is_some, find}
+use Rattle.std.proofs.Common.{inl, inr, ◌≡◌, ℕ, zero, suc, ◌+◌, ◌≤◌, List, [], ◌∷◌, ◌++◌, length, replicate, append-nil, Option, Some, None, Result, Ok, Bool, true, false, ◌==◌, refl, sym, ap, ◌∙◌, subst, arith, if◌then◌else◌, is_some, find}
 use Rattle.sha1.specs.Sha1.{sha1}
 use Rattle.xdr_codec.specs.declared.status.Status.{Status}
 use Rattle.nfs3_calls.specs.Nfs.{nfs_proc}
@@ -40,6 +40,9 @@ use Rattle.trace_replay.specs.Naming.{entry_file, refusal_of}
 use Rattle.trace_ends.specs.Ops.{pointed_at, pointed}
 use Rattle.server_law.proofs.Trees.{IsBounded, given}
 use Rattle.kept_promise.proofs.Common.{slice_get, slice_set, cond, option_map, unwrap_or, value_from, Contains, Contains-push, MessageFits, at, Change, Entry, Op, Word, Core, Seat, Session, Event.Settles, CoreStep, numbered, with_numbered, happens, unless, quiet, Book, value_at, version_at, Reply.Walked, NameReply, name_answer, Told, Queue, told_message}
+use Rattle.server_law.specs.Unleased.{makes_so}
+use Rattle.trace_replay.specs.OwnCalls.{others_waiting}
+use Rattle.server_law.proofs.Unleased.{unleased_at}
 use Rattle.kept_promise.proofs.Lists.{some_is, nothing_there, at_replaced, of_replaced}
 use Rattle.kept_promise.proofs.PathNames.{is_creating}
 use Rattle.kept_promise.proofs.Makings.{step_by}
@@ -78,7 +81,7 @@ asked_step k now c cs p = record (quiet (record k {
 pub asked_settles : (k : Core) (now : ℕ) (c : Change) (cs : List Change) (a : Asked) → SettlesOut k now c cs → c.what ≡ wanted.Asked a → settles k now ≡ asked_step k now c cs (tree_settles k.server.tree (server.held cs) a)
 asked_settles k now c cs a out what =
     out.is
-    ∙ ap (λ (w : Wanted). settled_to k (closing.makes_change (at (record k.server { waiting = cs }) now) c w)) what
+    ∙ ap (λ (w : Wanted). settled_to k (makes_so (at (record k.server { waiting = cs }) now) false c w)) what
     ∙ ap (λ (es : List Entry). record (asked_step k now c cs p) { core = record (asked_step k now c cs p).core { ops = settled_ops k.ops (k.steps + 1) (changed_file es) (numbered k.sessions c.session) } }) (newest_more k.server.journal (entries_by c.session p.1.first p.1.second) (count_of p.1.first p.1.second) (count_is c.session p.1.first p.1.second))
   where
     p : Tree × Finished
@@ -143,7 +146,7 @@ module _ (laws : FitLaws) (book : Book) (k : Core) (qs : List Queue) (now : ℕ)
   settled = tree_settles t held a
 
   -- what the others need
-  left_held : server.held (drop 1 k.server.waiting) ≡ held
+  left_held : server.held (others_waiting (Settles now) k.server) ≡ held
   left_held = ap server.held out.others
 
   -- and is there
@@ -239,6 +242,7 @@ module _ (laws : FitLaws) (book : Book) (k : Core) (qs : List Queue) (now : ℕ)
         lengths = λ i d z. let y = out.out.others i d z in was.lengths y.0 d y.1;
         targets = λ i d z. let y = out.out.others i d z in there_later book more None None d.file grows (was.targets y.0 d y.1);
         xids = λ i d z. let y = out.out.others i d z in was.xids y.0 d y.1;
+        leases = unleased_at k.server now was.leases;
       })
 
   unmade_at : x.cut ≡ false → (j : Job) (o : Op) → job h.seat ≡ Some j → slice_get book.ops j.place ≡ Some o → UnmadeBy true x.closing j o
@@ -312,6 +316,7 @@ module _ (laws : FitLaws) (book : Book) (k : Core) (qs : List Queue) (now : ℕ)
           lengths = λ i d z. let y = out.out.others i d z in kept.server.lengths y.0 d y.1;
           targets = λ i d z. let y = out.out.others i d z in there_later book more (Some p.place) None d.file g (kept.server.targets y.0 d y.1);
           xids = λ i d z. let y = out.out.others i d z in kept.server.xids y.0 d y.1;
+          leases = unleased_at k.server now kept.server.leases;
         };
         journal_is = ap (λ (l : List Entry). l ++ es) kept.journal;
         made_here = λ z f. p.known ∙ f;
@@ -330,7 +335,7 @@ module _ (laws : FitLaws) (book : Book) (k : Core) (qs : List Queue) (now : ℕ)
                 session = n;
                 xid = c.xid;
                 taken = taken_for_same more new.client (record { place = p.place; file = 0; stage = stage.Walking c.xid (walk_for a) }) j n c.xid (walk_for a) (job_own uncut j at) (taken_for_later book more (Some p.place) None p.op.client new.client (record { place = p.place; file = 0; stage = stage.Walking c.xid (walk_for a) }) n c.xid (walk_for a) g refl (p.taken uncut));
-                comes = inr (record { now = now; event_is = refl; change = c; first = out.first; session_is = refl; xid_is = refl });
+                comes = inr (record { now = now; event_is = refl; change = c; ready = out.ready; session_is = refl; xid_is = refl });
                 before = (let z = (p.taken uncut).past in omega (arith, z));
                 done = done;
                 step_is = ap (λ (u : Held). (step_by t u (walk_for a).dir (walk_for a).goal).1) left_held ∙ ap (λ (z : Tree × Result TreeChange Status). z.1) step;

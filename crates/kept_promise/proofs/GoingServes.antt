@@ -1,5 +1,5 @@
 -- The server takes the last call of a walk, which removes or renames: it's refused, or a rename is done at once by which no file goes, or it comes to wait.
-use Rattle.std.proofs.Common.{inl, inr, ◌≡◌, ℕ, zero, suc, ◌+◌, ◌≤◌, List, [], ◌∷◌, ◌++◌, length, max, replicate, append-nil, Option, Some, None, Result, Ok, Bool, true, false, refl, sym, ap, ◌∙◌, subst, arith, if◌then◌else◌}
+use Rattle.std.proofs.Common.{inl, inr, ◌≡◌, ℕ, zero, suc, ◌+◌, ◌≤◌, List, [], ◌∷◌, ◌++◌, length, replicate, append-nil, Option, Some, None, Result, Ok, Bool, true, false, refl, sym, ap, ◌∙◌, subst, arith, if◌then◌else◌}
 use Rattle.xdr_codec.specs.declared.status.Status.{Status}
 use Rattle.nfs3_calls.specs.Nfs.{nfs_proc}
 use Rattle.nfs3_calls.specs.declared.message.Nfs.{Nfs}
@@ -34,7 +34,8 @@ use Rattle.trace_ends.specs.Core.{changed_file, is_of_file}
 use Rattle.trace_ends.specs.Ops.{pointed_at}
 use Rattle.server_law.proofs.Trees.{IsBounded}
 use Rattle.server_law.proofs.TreeCalls.{entries_more, sizes_more}
-use Rattle.kept_promise.proofs.Common.{slice_get, cond, option_map, Contains, Contains-push, message_spell, MessageFits, stands, not, has_waiting, at, Entry, File, Op, TakenCall, Core, Session, Event.Serves, CoreStep, with_numbered, happens, serves, serves_if, quiet, Book, Call.Walks, Reply.Walked, NameReply, name_answer, Ask, Queue, ask_message, told_message}
+use Rattle.kept_promise.proofs.Common.{slice_get, cond, option_map, Contains, Contains-push, message_spell, MessageFits, stands, not, has_waiting, at, Entry, File, Op, TakenCall, Core, Session, Event.Serves, CoreStep, with_numbered, happens, serves, serves_if, quiet, Book, Call.Walks, Reply.Walked, NameReply, name_answer, Ask, Queue, ask_message, told_message, Leasing, later}
+use Rattle.server_law.proofs.Unleased.{unleased_at}
 use Rattle.kept_promise.proofs.Statements.{CallFits}
 use Rattle.kept_promise.proofs.Lists.{some_is, nothing_there, all_map}
 use Rattle.kept_promise.proofs.PathNames.{IsWalkSmall, going_makes, going_creates, is_going, is_making, is_creating}
@@ -114,8 +115,8 @@ module _ (laws : FitLaws) (book : Book) (k : Core) (qs : List Queue) (n now : �
   abbrev busy : Bool
   busy = has_waiting k.server.waiting n
 
-  abbrev moment : ℕ
-  moment = max k.server.moment now
+  abbrev leasing : Leasing
+  leasing = later k.server.leasing now
 
   making : is_making w ≡ true
   making = going_makes w.left w.goal going
@@ -131,7 +132,7 @@ module _ (laws : FitLaws) (book : Book) (k : Core) (qs : List Queue) (n now : �
   answered_is after d is = ap (serves k n now (message_spell (ask_message a))) g.at ∙ ap (serves_if k n now x) (parsed laws a fits) ∙ got_answered k n now x xid w after d fits.1 going standing is
 
   waits_is : (b : Asked) → comes_by t held busy w.dir w.goal ≡ (t, Waits b) → happens k (Serves n now (message_spell (ask_message a))) ≡ waits_got k n now x xid b
-  waits_is b is = ap (serves k n now (message_spell (ask_message a))) g.at ∙ ap (serves_if k n now x) (parsed laws a fits) ∙ got_waits k n now x xid w b fits.1 going standing is
+  waits_is b is = ap (serves k n now (message_spell (ask_message a))) g.at ∙ ap (serves_if k n now x) (parsed laws a fits) ∙ got_waits k n now x xid w b fits.1 going standing g.kept.server.leases is
 
   sent : (after : Tree) (d : Finished) (r : NameReply) → comes_by t held busy w.dir w.goal ≡ (after, Answered d) → d.answer ≡ name_answer r → Contains (happens k (Serves n now (message_spell (ask_message a)))).down (record { session = n; message = message.Answer xid (body.Nfs (name_answer r)) })
   sent after d r is same =
@@ -157,7 +158,7 @@ module _ (laws : FitLaws) (book : Book) (k : Core) (qs : List Queue) (n now : �
     entries = entries;
   })) { down = record { session = n; message = message.Answer xid (body.Nfs m) } ∷ [] }
 
-  refused_step : (r : NameReply) → making_got k n now x xid (t, said (name_answer r)) ≡ answered k n moment x a k.server.temps k.server.index (Walked r)
+  refused_step : (r : NameReply) → making_got k n now x xid (t, said (name_answer r)) ≡ answered k n leasing x a k.server.temps k.server.index (Walked r)
   unfolding plain_step
   refused_step r =
       ap (λ (l : List Entry). plain_step l (pointed_at k.ops x.closing (k.steps + 1) None) (k.entries ++ []) (name_answer r)) (append-nil k.server.journal)
@@ -188,7 +189,7 @@ module _ (laws : FitLaws) (book : Book) (k : Core) (qs : List Queue) (n now : �
   stays : (after : Tree) (done : TreeChange) → step_by t held w.dir w.goal ≡ (after, Ok done) → IsBounded after × (after.changes + server.entries_held k.server.waiting + 0 ≤ 4294967295) × (contents_size after.nodes ≤ contents_size t.nodes)
   stays after done is = subst (λ (p : Tree × Result TreeChange Status). IsBounded p.0 × (p.0.changes + server.entries_held k.server.waiting + 0 ≤ 4294967295) × (contents_size p.0.nodes ≤ contents_size t.nodes)) is (step_stays t held w.dir w.goal g.kept.server.bounded room)
 
-  server_named : (after : Tree) (done : TreeChange) → step_by t held w.dir w.goal ≡ (after, Ok done) → ((f : ℕ) → the_files.file_at after f ≡ the_files.file_at t f) → ((f : ℕ) → with_id t.nodes f ≡ None → with_id after.nodes f ≡ None) → IsRooted after.nodes → after.next ≡ t.next → IsServer (named done) (entered_server k.server moment after (k.server.journal ++ entries_of_names done))
+  server_named : (after : Tree) (done : TreeChange) → step_by t held w.dir w.goal ≡ (after, Ok done) → ((f : ℕ) → the_files.file_at after f ≡ the_files.file_at t f) → ((f : ℕ) → with_id t.nodes f ≡ None → with_id after.nodes f ≡ None) → IsRooted after.nodes → after.next ≡ t.next → IsServer (named done) (entered_server k.server leasing after (k.server.journal ++ entries_of_names done))
   server_named after done is files none root next =
       let more = named done in
       let grows = grows_named book (entries_of_names done) in
@@ -209,14 +210,15 @@ module _ (laws : FitLaws) (book : Book) (k : Core) (qs : List Queue) (n now : �
         lengths = g.kept.server.lengths;
         targets = λ i c f. there_later book more None None c.file grows (g.kept.server.targets i c f);
         xids = g.kept.server.xids;
+        leases = unleased_at k.server now g.kept.server.leases;
       }
 
   -- the step, with these entries more
-  now_step : (after : Tree) (done : TreeChange) (r : NameReply) → IsName done.first → IsName done.second → making_got k n now x xid (after, record { answer = name_answer r; first = done.first; second = done.second }) ≡ entered_step k n moment x a after (k.server.journal ++ entries_of_names done) k.ops (k.entries ++ replicate (length (entries_of_names done)) (k.steps + 1)) (Walked r)
+  now_step : (after : Tree) (done : TreeChange) (r : NameReply) → IsName done.first → IsName done.second → making_got k n now x xid (after, record { answer = name_answer r; first = done.first; second = done.second }) ≡ entered_step k n leasing x a after (k.server.journal ++ entries_of_names done) k.ops (k.entries ++ replicate (length (entries_of_names done)) (k.steps + 1)) (Walked r)
   now_step after done r first second =
-      ap (λ (o : Option ℕ). entered_step k n moment x a after (k.server.journal ++ entries_of_names done) (pointed_at k.ops x.closing (k.steps + 1) o) (k.entries ++ replicate (count_of done.first done.second) (k.steps + 1)) (Walked r)) (names_unchanged n done.first done.second first second)
-      ∙ ap (λ (l : List Op). entered_step k n moment x a after (k.server.journal ++ entries_of_names done) l (k.entries ++ replicate (count_of done.first done.second) (k.steps + 1)) (Walked r)) (pointed_none k.ops x.closing (k.steps + 1))
-      ∙ ap (λ (m : ℕ). entered_step k n moment x a after (k.server.journal ++ entries_of_names done) k.ops (k.entries ++ replicate m (k.steps + 1)) (Walked r)) (count_is n done.first done.second)
+      ap (λ (o : Option ℕ). entered_step k n leasing x a after (k.server.journal ++ entries_of_names done) (pointed_at k.ops x.closing (k.steps + 1) o) (k.entries ++ replicate (count_of done.first done.second) (k.steps + 1)) (Walked r)) (names_unchanged n done.first done.second first second)
+      ∙ ap (λ (l : List Op). entered_step k n leasing x a after (k.server.journal ++ entries_of_names done) l (k.entries ++ replicate (count_of done.first done.second) (k.steps + 1)) (Walked r)) (pointed_none k.ops x.closing (k.steps + 1))
+      ∙ ap (λ (m : ℕ). entered_step k n leasing x a after (k.server.journal ++ entries_of_names done) k.ops (k.entries ++ replicate m (k.steps + 1)) (Walked r)) (count_is n done.first done.second)
 
   serve_now : (done : TreeChange) (r : NameReply) (after : Tree) → comes_by t held busy w.dir w.goal ≡ (after, Answered (record { answer = name_answer r; first = done.first; second = done.second })) → step_by t held w.dir w.goal ≡ (after, Ok done) → IsName done.first → IsName done.second → walk_told w (name_answer r) ≡ leading.Ends walk_end.Done → nfs_proc (name_answer r) ≡ nfs_proc (next_call w) → ((f : ℕ) → the_files.file_at after f ≡ the_files.file_at t f) → ((f : ℕ) → with_id t.nodes f ≡ None → with_id after.nodes f ≡ None) → IsRooted after.nodes → after.next ≡ t.next → MessageFits (told_message (record { xid = xid; reply = Walked r }))
       → Leads book (rest_of qs n q us) (happens k (Serves n now (message_spell (ask_message a))))
@@ -230,7 +232,7 @@ module _ (laws : FitLaws) (book : Book) (k : Core) (qs : List Queue) (n now : �
       let finds = finds_more x.taken z in
       let entries : more.entries ≡ k.entries ++ replicate (length es) (k.steps + 1) = ap (λ (l : List ℕ). l ++ replicate (length es) (book.steps + 1)) g.kept.entries ∙ ap (λ (s : ℕ). k.entries ++ replicate (length es) (s + 1)) g.kept.steps in
       subst (Leads book (rest_of qs n q us)) (sym (answered_is after d is ∙ now_step after done r first second))
-      (leads_entered book more k qs n moment after (k.server.journal ++ es) k.ops (k.entries ++ replicate (length es) (k.steps + 1)) x q a us (Walked r) None g.kept g.at g.is g.first g.unhung refl refl (ap (λ s. s + 1) g.kept.steps) g.kept.ops entries (record {
+      (leads_entered book more k qs n leasing after (k.server.journal ++ es) k.ops (k.entries ++ replicate (length es) (k.steps + 1)) x q a us (Walked r) None g.kept g.at g.is g.first g.unhung refl refl (ap (λ s. s + 1) g.kept.steps) g.kept.ops entries (record {
         goes = goes_named book es (names_none n done.first done.second first second) g.kept.sound;
         server = server_named after done step files none root next;
         journal_is = ap (λ (l : List Entry). l ++ es) g.kept.journal;

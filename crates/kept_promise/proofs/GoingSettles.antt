@@ -1,5 +1,5 @@
 -- A remove, or a rename over a file, that waited is settled, and its session told: it's refused, or its file goes.
-use Rattle.std.proofs.Common.{inl, ◌≡◌, ℕ, ◌+◌, List, [], ◌∷◌, ◌++◌, length, max, map, Option, Some, None, Bool, true, false, refl, sym, ap, ◌∙◌, subst, arith}
+use Rattle.std.proofs.Common.{inl, ◌≡◌, ℕ, ◌+◌, List, [], ◌∷◌, ◌++◌, length, map, Option, Some, None, Bool, true, false, refl, sym, ap, ◌∙◌, subst, arith}
 use Rattle.nfs3_calls.specs.Nfs.{nfs_proc}
 use Rattle.wire.specs.declared.message.Body.TheVariants as body
 use Rattle.wire.specs.declared.message.Message.TheVariants as message
@@ -14,7 +14,7 @@ use Rattle.server_core.specs.declared.change.Wanted.TheVariants as wanted
 use Rattle.client_state.specs.State as client
 use Rattle.client_state.specs.declared.task.Stage.TheVariants as stage
 use Rattle.register_model.specs.declared.op.Outcome.TheVariants as told
-use Rattle.kept_promise.proofs.Common.{slice_get, Contains, MessageFits, Change, Entry, Op, Core, Seat, Session, Event.Settles, numbered, with_numbered, happens, unless, hashed_of, Book, Reply.Walked, NameReply, name_answer, Told, Queue, told_message, Reply, Indexed}
+use Rattle.kept_promise.proofs.Common.{slice_get, Contains, MessageFits, Change, Entry, Op, Core, Seat, Session, Event.Settles, numbered, with_numbered, happens, unless, hashed_of, Book, Reply.Walked, NameReply, name_answer, Told, Queue, told_message, Reply, Indexed, later}
 use Rattle.kept_promise.proofs.Tells.{came_told}
 use Rattle.kept_promise.proofs.Orderly.{Wanted}
 use Rattle.kept_promise.proofs.Lists.{some_is, nothing_there, true_and_false, all_append, all_unless}
@@ -72,7 +72,7 @@ way_settled y c waits cs q t out same =
 
 -- the server then
 abbrev pub settled_server : server.State → (now : ℕ) → List Change → Tree → List Entry → server.State
-settled_server s now cs tree journal = record s { moment = max s.moment now; waiting = cs; tree = tree; journal = journal }
+settled_server s now cs tree journal = record s { leasing = later s.leasing now; waiting = cs; tree = tree; journal = journal }
 
 -- what is to show where a change waits no more, and its client is told this of it
 pub record ShowsTold (book more : Book) (k : Core) (c : Change) (x : Session) (q : Queue) (s : server.State) (r : Reply) (made : Option ℕ) (h : IsSession book k.seats k.server c.session x q) : Type 0 where

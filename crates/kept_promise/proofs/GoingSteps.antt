@@ -18,7 +18,9 @@ use Rattle.server_core.specs.declared.event.ServerStep.{ServerStep}
 use Rattle.server_core.specs.declared.journal.Entry.{Entry}
 use Rattle.trace_ends.specs.Core.{newest_entries, server_got, changed_file}
 use Rattle.trace_ends.specs.Ops.{pointed_at}
-use Rattle.kept_promise.proofs.Common.{Op, Change, at, has_waiting, got_if, stands, Core, Session, CoreStep, with_numbered, quiet}
+use Rattle.kept_promise.proofs.Common.{Op, Change, at, has_waiting, got_if, stands, Core, Session, CoreStep, with_numbered, quiet, change_of}
+use Rattle.server_law.specs.Unleased.{IsUnleased}
+use Rattle.server_law.proofs.Unleased.{unleased_at, comes_is}
 use Rattle.kept_promise.proofs.PathNames.{IsWalkSmall, is_going}
 use Rattle.kept_promise.proofs.Departures.{comes_by, called_going}
 use Rattle.kept_promise.proofs.ServesFiles.{making_got, count_is, newest_more, none_newest, pointed_none}
@@ -35,7 +37,7 @@ did k n x xid r = record (quiet (record k {
 
 -- it comes to wait
 abbrev pub coming : (n xid : ℕ) → Asked → Change
-coming n xid a = record { session = n; xid = xid; file = file_of a; what = wanted.Asked a }
+coming n xid a = change_of n xid (file_of a) (wanted.Asked a)
 
 abbrev pub waits_got : Core → (n now : ℕ) → Session → (xid : ℕ) → Asked → CoreStep
 waits_got k n now x xid a = quiet (record k {
@@ -61,10 +63,11 @@ got_answered k n now x xid w after d small going standing is =
     ∙ ap (going_did k n now x xid) is
     ∙ ap (λ (l : List Entry). record (making_got k n now x xid (after, d)) { core = record (making_got k n now x xid (after, d)).core { ops = pointed_at k.ops x.closing (k.steps + 1) (changed_file l) } }) (newest_more k.server.journal (entries_by n d.first d.second) (count_of d.first d.second) (count_is n d.first d.second))
 
-pub got_waits : (k : Core) (n now : ℕ) (x : Session) (xid : ℕ) (w : Walk) (a : Asked) → IsWalkSmall w → is_going w ≡ true → stands k.server n ≡ true → comes_by k.server.tree (server.held k.server.waiting) (has_waiting k.server.waiting n) w.dir w.goal ≡ (k.server.tree, Waits a) → server_got k n now x (message.Call xid (body.Nfs (next_call w))) ≡ waits_got k n now x xid a
+pub got_waits : (k : Core) (n now : ℕ) (x : Session) (xid : ℕ) (w : Walk) (a : Asked) → IsWalkSmall w → is_going w ≡ true → stands k.server n ≡ true → IsUnleased k.server → comes_by k.server.tree (server.held k.server.waiting) (has_waiting k.server.waiting n) w.dir w.goal ≡ (k.server.tree, Waits a) → server_got k n now x (message.Call xid (body.Nfs (next_call w))) ≡ waits_got k n now x xid a
 unfolding did
-got_waits k n now x xid w a small going standing is =
+got_waits k n now x xid w a small going standing leases is =
     got_going k n now x xid w small going standing
     ∙ ap (going_did k n now x xid) is
+    ∙ ap (did k n x xid) (comes_is (at k.server now) (unleased_at k.server now leases) (coming n xid a))
     ∙ ap (λ (l : List Op). record (waits_got k n now x xid a) { core = record (waits_got k n now x xid a).core { ops = l; entries = k.entries ++ [] } }) (ap (pointed_at k.ops x.closing (k.steps + 1)) (none_newest k.server.journal 0 refl) ∙ pointed_none k.ops x.closing (k.steps + 1))
     ∙ ap (λ (l : List ℕ). record (waits_got k n now x xid a) { core = record (waits_got k n now x xid a).core { entries = l } }) (append-nil k.entries)

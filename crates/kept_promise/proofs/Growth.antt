@@ -7,10 +7,10 @@ use Rattle.register_model.specs.declared.op.Word.TheVariants as words
 use Rattle.trace_replay.specs.Book.{first_version}
 use Rattle.register_model.specs.Register.{changes, IsFit}
 use Rattle.trace_replay.specs.OwnCalls.{WaitsFor, TakesCall}
-use Rattle.kept_promise.proofs.Common.{Body, slice_get, bytes_eq, Contains, sha1, Entry, File, Value, content_of, Op, Opening, Word, Moment, hashed_of, Book, Or, Collides, history, value_at, version_at, Tried, IsEntered}
+use Rattle.kept_promise.proofs.Common.{Body, slice_get, bytes_eq, Contains, sha1, Entry, File, Value, content_of, Op, Opening, Word, Moment, hashed_of, Book, Or, Collides, history, value_at, version_at, Tried}
 use Rattle.kept_promise.proofs.Lists.{false_and_true}
 use Rattle.kept_promise.proofs.Marks.{Mark, marks, latest_mark, left_by, value_is, count_is}
-use Rattle.kept_promise.proofs.Rights.{AreLeased, WasThere, gets_file, Caused, WasWalk, RefusedBy, DoneBy, IsRight, IsUnmade, IsMade, IsHeld, IsFitted}
+use Rattle.kept_promise.proofs.Rights.{AreLeased, IsEnteredIf, WasThere, gets_file, Caused, WasWalk, RefusedBy, DoneBy, IsRight, IsUnmade, IsMade, IsHeld, IsFitted}
 
 -- what becomes of an operation; at most one is made, and at most one goes on, or ends, by a step of its client
 pub record Follows (book : Book) (made ended : Option ℕ) (k : ℕ) (o r : Op) : Type 0 where
@@ -104,7 +104,7 @@ held_later book more made ended f d g h = record { at = h.at; there = g.happened
 
 -- ---- an operation
 
-pub entered_later : (book more : Book) (made ended : Option ℕ) (f p v len : ℕ) (digest : List ℕ) → Grows book more made ended → IsEntered book f p v len digest → IsEntered more f p v len digest
+pub entered_later : (book more : Book) (made ended : Option ℕ) (f p v len : ℕ) (digest : List ℕ) → Grows book more made ended → IsEnteredIf book f p v len digest → IsEnteredIf more f p v len digest
 entered_later book more made ended f p v len digest g h = record { place = h.place; entry = h.entry; step_is = g.steps_kept h.place p h.step_is; entry_is = g.journal_kept h.place h.entry h.entry_is; file_is = h.file_is; version_is = h.version_is; len_is = h.len_is; digest_is = or_later book more made ended _ _ g (λ e. e) h.digest_is }
 
 -- attempts stay so where versions do
@@ -231,6 +231,6 @@ made_later book more made ended place v g h =
       r.2.word ∙ h.3,
       (r.2.point (ap changes h.3) h.1 h.4).0,
       omega (arith, le, n),
-      subst (λ (x : List ℕ). IsEntered more r.0.file h.1 v (length x) (sha1 x)) (sym same) (subst (λ (f : ℕ). IsEntered more f h.1 v (length h.0.value) (sha1 h.0.value)) (sym (r.2.close_file h.3)) (entered_later book more made ended h.0.file h.1 v (length h.0.value) (sha1 h.0.value) g h.6)),
+      subst (λ (x : List ℕ). IsEnteredIf more r.0.file h.1 v (length x) (sha1 x)) (sym same) (subst (λ (f : ℕ). IsEnteredIf more f h.1 v (length h.0.value) (sha1 h.0.value)) (sym (r.2.close_file h.3)) (entered_later book more made ended h.0.file h.1 v (length h.0.value) (sha1 h.0.value) g h.6)),
       (h.7.0, omega (arith, q, n), ap (λ (f : ℕ). version_at more f h.7.0) (r.2.close_file h.3) ∙ version_later book more made ended h.0.file h.7.0 g h.7.1 ∙ h.7.2, ap (λ (f : ℕ). value_at more f h.7.0) (r.2.close_file h.3) ∙ value_later book more made ended h.0.file h.7.0 g h.7.1 ∙ h.7.3 ∙ ap (λ (x : List ℕ). Some x) (sym same)),
     )

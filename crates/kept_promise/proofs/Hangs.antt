@@ -6,7 +6,8 @@ use Rattle.server_core.specs.Step.{hangs, hangs_if}
 use Rattle.server_core.specs.declared.event.Event.TheVariants as event
 use Rattle.client_state.specs.State as client
 use Rattle.trace_ends.specs.Core.{hangs_if as core_hangs_if, hangs as core_hangs}
-use Rattle.kept_promise.proofs.Common.{slice_get, not, cond, ◌==◌, filter, list_any, stands, server_step, Change, Op, Core, Seat, Session, quiet, numbered, with_numbered, Book, Ask, Queue, version_at}
+use Rattle.kept_promise.proofs.Common.{slice_get, not, cond, ◌==◌, filter, list_any, stands, server_step, Change, Op, Core, Seat, Session, quiet, numbered, with_numbered, Book, Ask, Queue, version_at, Leasing}
+use Rattle.server_core.specs.Leasing.{unheard}
 use Rattle.kept_promise.proofs.Lists.{some_is, nothing_there, same_or_not, all_map}
 use Rattle.kept_promise.proofs.Keys.{times, times_append, own, on_way, change_key, ask_key, told_key, pending_key}
 use Rattle.kept_promise.proofs.Messages.{job, Rising, IsAnswer}
@@ -102,6 +103,7 @@ server_hung book s n kept held fresh = record {
   lengths = λ i c e. let r = left_there n s.waiting i c e in kept.lengths r.0.0 c r.0.1;
   targets = λ i c e. let r = left_there n s.waiting i c e in there_later book (onward book 1 book.ops) None None c.file (grows_same book 1) (kept.targets r.0.0 c r.0.1);
   xids = λ i c e. let r = left_there n s.waiting i c e in kept.xids r.0.0 c r.0.1;
+  leases = ap (λ (g : Leasing). unheard g n) kept.leases;
 }
 
 -- what a hung session and its owner still say to each other

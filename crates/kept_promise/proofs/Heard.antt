@@ -183,7 +183,7 @@ kept_heard book ops k qs n x q t ts c place asks made ended seats after kept at 
       seat_around = around;
       owner = refl;
       goes = shows.goes;
-      server = server_still book more made ended k.server k.server.moment k.server.temps k.server.index shows.goes.grows shows.still kept.server;
+      server = server_still book more made ended k.server k.server.leasing k.server.temps k.server.index kept.server.leases shows.goes.grows shows.still kept.server;
       sessions_made = refl;
       view = λ m apart. same_view m k.server;
       elsewhere = inr (h.here uncut).0;

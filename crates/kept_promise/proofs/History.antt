@@ -52,7 +52,7 @@ left_stays : (o r : Op) → r.word ≡ o.word → r.value ≡ o.value → left_o
 left_stays o r w v = ap (λ (z : Word). unwrap_or (value_from z r.value) []) w ∙ ap (λ (x : List ℕ). unwrap_or (value_from o.word x) []) v
 
 -- what an entry tells stays so
-tells_later : (book more : Book) (made ended : Option ℕ) (p : ℕ) (e : Entry) → Grows book more made ended → p ≤ book.steps → Tells book p e → Tells more p e
+pub tells_later : (book more : Book) (made ended : Option ℕ) (p : ℕ) (e : Entry) → Grows book more made ended → p ≤ book.steps → Tells book p e → Tells more p e
 tells_later book more made ended p e g le m =
     let o : Op = m.1 in
     let change : changes o.word ≡ true = kind_changes o.word e.kind m.3 in

@@ -124,7 +124,7 @@ joined_now book k qs c n seat kept number at unlinked =
       journal = kept.journal;
       entries = refl;
       sound = (goes_same book 2 kept.sound).sound;
-      server = record { held = λ f. file_still book more None None f (the_files.file_at s.tree f) g (still_same book 2 kept.sound) (kept.server.held f); fresh = fresh_still book more None None s.tree g (still_same book 2 kept.sound) kept.server.fresh; bounded = kept.server.bounded; zero = kept.server.zero; rooted = kept.server.rooted; wants = kept.server.wants; changes = kept.server.changes; bytes = kept.server.bytes; lengths = kept.server.lengths; targets = λ i c e. there_later book more None None c.file g (kept.server.targets i c e); xids = kept.server.xids };
+      server = record { held = λ f. file_still book more None None f (the_files.file_at s.tree f) g (still_same book 2 kept.sound) (kept.server.held f); fresh = fresh_still book more None None s.tree g (still_same book 2 kept.sound) kept.server.fresh; bounded = kept.server.bounded; zero = kept.server.zero; rooted = kept.server.rooted; wants = kept.server.wants; changes = kept.server.changes; bytes = kept.server.bytes; lengths = kept.server.lengths; targets = λ i c e. there_later book more None None c.file g (kept.server.targets i c e); xids = kept.server.xids; leases = kept.server.leases };
       made = (let a = count_more k.sessions (new_session c) in omega (arith, a, made), count_more qs no_queue ∙ ap suc kept.made.1 ∙ sym (count_more k.sessions (new_session c)));
       sessions = λ m z p f h. elim (of_new k.sessions (new_session c) m z f) [
         | inl new ↦ elim (of_new qs no_queue m p h) [

@@ -1,5 +1,5 @@
 -- The server takes the name of a chunk: it knows its bytes by its index, or not.
-use Rattle.std.proofs.Common.{inl, inr, ◌≡◌, ℕ, ◌+◌, ◌<◌, List, [], ◌∷◌, ◌++◌, length, take, drop, max, Option, Some, None, Bool, true, false, refl, sym, ap, ◌∙◌, subst, arith, eqb-true, map}
+use Rattle.std.proofs.Common.{inl, inr, ◌≡◌, ℕ, ◌+◌, ◌<◌, List, [], ◌∷◌, ◌++◌, length, take, drop, Option, Some, None, Bool, true, false, refl, sym, ap, ◌∙◌, subst, arith, eqb-true, map}
 use Rattle.std.proofs.lemmas.Slice.Eq.{bytes_eq-Decides}
 use Rattle.chunk_index.specs.Index.{key_of as digest_key, place_of, found}
 use Rattle.chunk_index.specs.declared.place.Place.{Place}
@@ -15,7 +15,7 @@ use Rattle.temp_files.specs.Temps.{with_piece}
 use Rattle.client_state.specs.State as client
 use Rattle.client_state.specs.declared.task.Way.TheVariants as way
 use Rattle.trace_replay.specs.Trail.{served_hashed}
-use Rattle.kept_promise.proofs.Common.{nat_tests, slice_get, ◌==◌, nat_le, bytes_eq, Contains, sha1, if◌then◌else◌, Chunk, chunk_bytes, Done, Failed, Status, at, cond_fault, names, names_unless, names_bytes, bytes_known, bytes_found, Indexed, Temp, temp_at, with_temp, key_of, File, Core, Session, unless, hashed_of, Book, Or, Call.Name, Call.Send, Reply.Named, Ask, Told, Queue, Tree}
+use Rattle.kept_promise.proofs.Common.{nat_tests, slice_get, ◌==◌, nat_le, bytes_eq, Contains, sha1, if◌then◌else◌, Chunk, chunk_bytes, Done, Failed, Status, at, cond_fault, names, names_unless, names_bytes, bytes_known, bytes_found, Indexed, Temp, temp_at, with_temp, key_of, File, Core, Session, unless, hashed_of, Book, Or, Call.Name, Call.Send, Reply.Named, Ask, Told, Queue, Tree, later}
 use Rattle.kept_promise.proofs.Statements.{CallFits}
 use Rattle.kept_promise.proofs.Lists.{some_is, nothing_there}
 use Rattle.kept_promise.proofs.Keys.{times, times_append, times_head, own, key, change_key, ask_key, told_key, there_by}
@@ -151,10 +151,10 @@ serve_name laws book k qs n now x q xid m d us g = by (temp_at k.server.temps n 
     no_fault uncut = let o = order uncut in ap (cond_fault c) o.found ∙ o.free
 
     -- where its client is there it is not refused
-    refuses : (e : Status) (left : Indexed) → (x.cut ≡ false → ⊥) → Leads book (rest_of qs n q us) (answered k n (max k.server.moment now) x a k.server.temps left (Named (Failed e tt)))
+    refuses : (e : Status) (left : Indexed) → (x.cut ≡ false → ⊥) → Leads book (rest_of qs n q us) (answered k n (later k.server.leasing now) x a k.server.temps left (Named (Failed e tt)))
     refuses e left never = serve_plain laws book k qs n now x q a us left (Named (Failed e tt)) g (λ uncut. absurd (never uncut)) (λ uncut. absurd (never uncut)) refl tt fits.0 (λ uncut. tt)
 
-    unknown : Leads book (rest_of qs n q us) (answered k n (max k.server.moment now) x a k.server.temps index (Named (Failed status.HashNotFound tt)))
+    unknown : Leads book (rest_of qs n q us) (answered k n (later k.server.leasing now) x a k.server.temps index (Named (Failed status.HashNotFound tt)))
     unknown = serve_plain laws book k qs n now x q a us index (Named (Failed status.HashNotFound tt)) g (λ uncut. ((order uncut).store, inr refl)) (λ uncut vs e. held_still book k qs n now x q a us g (Named (Failed status.HashNotFound tt)) tt tt uncut vs e) refl tt fits.0 (λ uncut. tt)
 
     -- bytes that are known were compared, and are the chunk's, or two collide
@@ -170,7 +170,7 @@ serve_name laws book k qs n now x q xid m d us g = by (temp_at k.server.temps n 
         or_map book _ _ (λ e. e ∙ ap (λ (z : ℕ). take z (drop d.start (h.contents m))) (sym count)) (bytes_or book bytes (chunk_bytes (h.contents m) d) (compared bytes none is) named.there (same ∙ named.digest))
 
     -- its bytes are put into the temporary file
-    takes : (t : Temp) (bytes : List ℕ) → temp_at k.server.temps n m ≡ Some t → cond_fault c (temp_at k.server.temps n m) ≡ None → known ≡ Some bytes → Leads book (rest_of qs n q us) (answered k n (max k.server.moment now) x a (with_temp k.server.temps (with_piece t d.start bytes)) index (Named (Done tt)))
+    takes : (t : Temp) (bytes : List ℕ) → temp_at k.server.temps n m ≡ Some t → cond_fault c (temp_at k.server.temps n m) ≡ None → known ≡ Some bytes → Leads book (rest_of qs n q us) (answered k n (later k.server.leasing now) x a (with_temp k.server.temps (with_piece t d.start bytes)) index (Named (Done tt)))
     takes t bytes found none is =
         let count : length bytes ≡ d.len = found_many k.server.tree c (place_of k.server.index.pairs (digest_key d.digest)) bytes (digest_is d.digest (bytes_found k.server.tree c (place_of k.server.index.pairs (digest_key d.digest))) bytes is).0 in
         let e = of_lookup k.server.temps (key_of n m) t found in

@@ -25,7 +25,7 @@ use Rattle.server_core.specs.Closing.{entries_by}
 use Rattle.trace_replay.specs.OwnCalls.{ComesTo}
 use Rattle.trace_replay.specs.Naming.{Leads, all_names, FindsFile, HasFound, IsSeen, IsRootSeen, IsListed, ListsTooLong, IsRefused, Makes, MakesIn, Renames}
 use Rattle.kept_promise.proofs.Common.{Op, Word, Book, IsOpenRefused, Contains, Contains-push}
-use Rattle.kept_promise.proofs.Rights.{AreLeased, opened_if, RewriteRefused, RefusedBy, DoneBy, Caused}
+use Rattle.kept_promise.proofs.Rights.{Soon, opened_if, RewriteRefused, RefusedBy, DoneBy, Caused}
 use Rattle.command_text.specs.declared.command.Command.TheVariants as command
 use Rattle.kept_promise.proofs.Common.{Command, Deed, local_before, slice_get}
 use Rattle.kept_promise.proofs.WalkRuns.{bare, EndsAs, IsOver, takes_on}
@@ -123,26 +123,26 @@ path_refused book o s status positive (inr z) (inl f) = absurd (positive f.0 z.0
 path_refused book o s status positive (inl r) (inr u) = inr (u.0, (refused_in book o status u.1.0, u.1.1))
 path_refused book o s status positive (inr z) (inr u) = inr (u.0, (refused_in book o status u.1.0, u.1.1))
 
-found_as : (book : Book) (o : Op) (s : Spot) (u : Outcome) → AreLeased book.moments → o.word ≡ words.Open → (FindsFile (bare book.moments) o s → o.file ≡ 0 → ⊥) → Caused book o u → EndsAs book.moments (path.Find s) o u → NamedCause book (path.Find s) o u
-found_as book o s (told.Opened len digest) leased w positive h (inl f) = (has_found book o s positive f.0, opened_if book o.file o len digest leased h.1)
-found_as book o s told.AlreadyOpen leased w positive h (inl f) = (has_found book o s positive f.0, f.1 refl)
-found_as book o s (told.Changed first last) leased w positive h (inl f) = (has_found book o s positive f.0, h.1)
-found_as book o s (told.Refused status) leased w positive h ends = path_refused book o s status positive (subst (λ (v : Word). RefusedBy book o v status) w h) ends
-found_as book o s told.Lost leased w positive h ends = h.1
-found_as book o s told.Running leased w positive h ends = h.1
-found_as book o s (told.Closed version len digest) leased w positive h ends = absurd (apart words.Open words.Close open_close o.word w h.0)
-found_as book o s told.PeerMemory leased w positive h ends = absurd h
-found_as book o s (told.BadPeer n) leased w positive h ends = absurd h
-found_as book o s told.Memory leased w positive h ends = absurd h
-found_as book o s (told.Names list) leased w positive h ends = absurd (apart words.Open words.List open_list o.word w h)
-found_as book o s (told.Seen id kind version len) leased w positive h ends = absurd (apart words.Open words.Look open_look o.word w h)
-found_as book o s (told.Piece len digest) leased w positive h (inl f) = absurd f.2
-found_as book o s told.Done leased w positive h (inl f) = absurd (open_rewrite f.2)
-found_as book o s told.Busy leased w positive h (inl f) = absurd f.2
-found_as book o s told.NotOpen leased w positive h (inl f) = absurd f.2
-found_as book o s (told.TooBig size) leased w positive h (inl f) = absurd f.2
-found_as book o s told.NoLink leased w positive h (inl f) = absurd f.2
-found_as book o s _ leased w positive h (inr x) = absurd x.1
+found_as : (book : Book) (o : Op) (s : Spot) (u : Outcome) → Soon book o u → o.word ≡ words.Open → (FindsFile (bare book.moments) o s → o.file ≡ 0 → ⊥) → Caused book o u → EndsAs book.moments (path.Find s) o u → NamedCause book (path.Find s) o u
+found_as book o s (told.Opened len digest) soon w positive h (inl f) = (has_found book o s positive f.0, opened_if book o len digest soon h.1)
+found_as book o s told.AlreadyOpen soon w positive h (inl f) = (has_found book o s positive f.0, f.1 refl)
+found_as book o s (told.Changed first last) soon w positive h (inl f) = (has_found book o s positive f.0, h.1)
+found_as book o s (told.Refused status) soon w positive h ends = path_refused book o s status positive (subst (λ (v : Word). RefusedBy book o v status) w h) ends
+found_as book o s told.Lost soon w positive h ends = h.1
+found_as book o s told.Running soon w positive h ends = h.1
+found_as book o s (told.Closed version len digest) soon w positive h ends = absurd (apart words.Open words.Close open_close o.word w h.0)
+found_as book o s told.PeerMemory soon w positive h ends = absurd h
+found_as book o s (told.BadPeer n) soon w positive h ends = absurd h
+found_as book o s told.Memory soon w positive h ends = absurd h
+found_as book o s (told.Names list) soon w positive h ends = absurd (apart words.Open words.List open_list o.word w h)
+found_as book o s (told.Seen id kind version len) soon w positive h ends = absurd (apart words.Open words.Look open_look o.word w h)
+found_as book o s (told.Piece len digest) soon w positive h (inl f) = absurd f.2
+found_as book o s told.Done soon w positive h (inl f) = absurd (open_rewrite f.2)
+found_as book o s told.Busy soon w positive h (inl f) = absurd f.2
+found_as book o s told.NotOpen soon w positive h (inl f) = absurd f.2
+found_as book o s (told.TooBig size) soon w positive h (inl f) = absurd f.2
+found_as book o s told.NoLink soon w positive h (inl f) = absurd f.2
+found_as book o s _ soon w positive h (inr x) = absurd x.1
 
 -- ---- a rewrite
 
@@ -254,12 +254,12 @@ named_status book o (path.Rewrite s) status w h g ends = renewed_status book o s
 named_status book o _ status w h g ends = ends.2
 
 -- one that asked the server, which isn't over in its first step
-pub named_cause : (book : Book) (o : Op) (c : PathCommand) → AreLeased book.moments → o.word ≡ path_word c → (o.word ≡ words.Rewrite → o.point ≡ None) → Caused book o o.outcome → IsGiven book c o → (o.outcome ≡ told.Running) ⊎ EndsAs book.moments c o o.outcome → NamedCause book c o o.outcome
-named_cause book o c leased word bare_ h given (inl running) = running_as book o c running h
-named_cause book o c leased word bare_ h given (inr ends) = by c word given ends
+pub named_cause : (book : Book) (o : Op) (c : PathCommand) → Soon book o o.outcome → o.word ≡ path_word c → (o.word ≡ words.Rewrite → o.point ≡ None) → Caused book o o.outcome → IsGiven book c o → (o.outcome ≡ told.Running) ⊎ EndsAs book.moments c o o.outcome → NamedCause book c o o.outcome
+named_cause book o c soon word bare_ h given (inl running) = running_as book o c running h
+named_cause book o c soon word bare_ h given (inr ends) = by c word given ends
   where
     by : (c : PathCommand) → o.word ≡ path_word c → IsGiven book c o → EndsAs book.moments c o o.outcome → NamedCause book c o o.outcome
-    by (path.Find s) w g ends = found_as book o s o.outcome leased w (g.positive s) h ends
+    by (path.Find s) w g ends = found_as book o s o.outcome soon w (g.positive s) h ends
     by (path.Rewrite s) w g ends = renewed_as book o s o.outcome w (bare_ w) (g.positive s) h ends
     by (path.Look s) w g ends = look_as book o s o.outcome h ends
     by path.LookRoot w g ends = root_as book o o.outcome h ends
@@ -267,9 +267,9 @@ named_cause book o c leased word bare_ h given (inr ends) = by c word given ends
     by e w g ends = change_as book o e o.outcome refl h ends
 
 -- all that is known of a command, for what it came to
-pub known_by : (book : Book) (ds : List Deed) (i : ℕ) (d : Deed) (o : Op) → o.word ≡ word_of d.command → AreLeased book.moments → (o.word ≡ words.Rewrite → o.point ≡ None) → Caused book o o.outcome → IsOver book.moments d.command o → HasOpens ds book.ops → slice_get ds i ≡ Some d → slice_get book.ops i ≡ Some o
+pub known_by : (book : Book) (ds : List Deed) (i : ℕ) (d : Deed) (o : Op) → o.word ≡ word_of d.command → Soon book o o.outcome → (o.word ≡ words.Rewrite → o.point ≡ None) → Caused book o o.outcome → IsOver book.moments d.command o → HasOpens ds book.ops → slice_get ds i ≡ Some d → slice_get book.ops i ≡ Some o
     → ((c : PathCommand) → d.command ≡ command.Named c → (o.end ≡ Some o.begin → ⊥) → IsGiven book c o) → ((f : ℕ) → d.command ≡ command.Open f → (status : ℕ) → o.outcome ≡ told.Refused status → IsOpenRefused book f o status) → ((f : ℕ) → d.command ≡ command.Rewrite f → (status : ℕ) → o.outcome ≡ told.Refused status → RewriteRefused book o status) → IsKnown book d o (local_before ds book.ops i d.client o.file)
-known_by book ds i d o word leased bare_ cause over opens at is given refused renewed = record {
+known_by book ds i d o word soon bare_ cause over opens at is given refused renewed = record {
   refused = refused;
   renewed = renewed;
   named = λ c e own late. (
@@ -288,6 +288,6 @@ known_by book ds i d o word leased bare_ cause over opens at is given refused re
     ended c status w at_end g (word_is, inr (inr ends)) late = named_status book o c status w (subst (Caused book o) at_end cause) g (subst (EndsAs book.moments c o) at_end ends)
 
     by : (c : PathCommand) → o.word ≡ path_word c → IsGiven book c o → IsOver book.moments (command.Named c) o → (o.end ≡ Some o.begin → ⊥) → NamedCause book c o o.outcome
-    by c w g (word_is, inl running) late = named_cause book o c leased w bare_ cause g (inl running)
+    by c w g (word_is, inl running) late = named_cause book o c soon w bare_ cause g (inl running)
     by c w g (word_is, inr (inl first)) late = absurd (late first)
-    by c w g (word_is, inr (inr ends)) late = named_cause book o c leased w bare_ cause g (inr ends)
+    by c w g (word_is, inr (inr ends)) late = named_cause book o c soon w bare_ cause g (inr ends)

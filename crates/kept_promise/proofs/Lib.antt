@@ -219,5 +219,7 @@ pub mod Promise
 pub mod Arrivals
 pub mod Notes
 pub mod Unnoted
+pub mod Wider
+pub mod SoonRuns
 pub mod TakenOut
 pub mod Happens

@@ -1,7 +1,7 @@
 -- A run carries that each change of the journal was made at a moment at which the server was told to make one, that it was the first that waited then,
 -- and whose close it is; and that a settling makes the first that waits.
 use Rattle.std.proofs.Common.{inl, inr, ◌≡◌, ℕ, zero, suc, ◌+◌, ◌<◌, List, [], ◌∷◌, ◌++◌, length, drop, Option, Some, None, Bool, true, false, refl, sym, ap, ◌∙◌, subst, arith, replicate, ◌⊎◌}
-use Rattle.server_core.specs.Closing.{at as at_reading, settles as server_settles}
+use Rattle.server_core.specs.Closing.{at as at_reading, ready_by}
 use Rattle.server_core.specs.State as server
 use Rattle.server_core.specs.Step.{hangs_if as server_hangs_if}
 use Rattle.client_state.specs.State as client
@@ -12,7 +12,7 @@ use Rattle.server_rules.specs.declared.told.Told.TheVariants as announced
 use Rattle.tree_reading.specs.declared.entry.EntryKind.TheVariants as kind
 use Rattle.trace_ends.specs.Core.{newest_entries, changed_file}
 use Rattle.trace_replay.specs.Faithful.{IsSettled, SettlesFirst, IsMadeOrRefused}
-use Rattle.kept_promise.proofs.Common.{Contains-push_cases, slice_get, slice_set, Contains, makes_change, stands, Change, ServerStep, File, Entry, ClientStep, Ended, Op, Opening, TakenCall, has_point, op_after, Core, Session, Event, Event.Serves, Event.Settles, CoreStep, joins, does, cuts, hangs, ops_with, settles, happens, Moment, step_of, Book, Queue}
+use Rattle.kept_promise.proofs.Common.{Contains-push_cases, slice_get, slice_set, Contains, stands, Change, ServerStep, File, Entry, ClientStep, Ended, Op, Opening, TakenCall, has_point, op_after, Core, Session, Event, Event.Serves, Event.Settles, CoreStep, joins, does, cuts, hangs, ops_with, settles, happens, Moment, step_of, Book, Queue}
 use Rattle.kept_promise.proofs.Lists.{some_is, nothing_there, at_end, at_replaced, kept_appended, of_appended, same_or_not, set_else, within, of_more, in_front}
 use Rattle.kept_promise.proofs.Turns.{also_numbered}
 use Rattle.kept_promise.proofs.Facts.{IsKept}
@@ -24,7 +24,7 @@ use Rattle.kept_promise.proofs.VersionRuns.{close_not_opened}
 use Rattle.kept_promise.proofs.LogEvents.{value_stays}
 use Rattle.kept_promise.proofs.Growth.{or_map}
 use Rattle.kept_promise.proofs.Messages.{content_wanted, WaitsFor, job}
-use Rattle.kept_promise.proofs.TakenOut.{SettlesOut, settled_to}
+use Rattle.kept_promise.proofs.TakenOut.{SettlesOut, settled_to, made_waiting, WhatSettles, settles_one, settles_none, what_settles}
 use Rattle.kept_promise.proofs.Making.{entry_of, made_change, made_is}
 use Rattle.kept_promise.proofs.ServesQuietly.{MadeHere, Entered, IsQuiet, serves_quiet}
 use Rattle.kept_promise.proofs.SettlesQuietly.{GoesHere, RefusesFor, Settling, makes_commit, makes_else, settling}
@@ -128,7 +128,7 @@ settled_later opening all k l i p journal points s =
       step_is = s.step_is;
       number_is = s.number_is;
       change = s.change;
-      first = s.first;
+      ready = s.ready;
       entry = s.entry;
       entry_is = journal s.entry s.entry_is;
       kind_is = s.kind_is;
@@ -251,7 +251,7 @@ made_settling all past rest opening k qs now mid after s h = by (settling (book_
               step_is = sym last.1;
               number_is = sym count ∙ sym last.0;
               change = c;
-              first = out.first;
+              ready = out.ready;
               entry = entry_of c (content_wanted c.what) f;
               entry_is = ap (slice_get (k.server.journal ++ entry_of c (content_wanted c.what) f ∷ [])) (last.0 ∙ count) ∙ at_end k.server.journal (entry_of c (content_wanted c.what) f);
               kind_is = refl;
@@ -306,25 +306,40 @@ settled_event laws all past rest opening k qs (Settles now) mid after s h = made
 settled_event laws all past rest opening k qs (Serves n now bytes) mid after s h = made_serving laws all past rest opening k qs n now bytes mid after s h
 settled_event laws all past rest opening k qs e mid after s h = made_quietly opening all past k e (λ n z. absurd cc) (quiet_event all past rest opening k qs e mid after s (λ n z. absurd cc) (λ n t b z. absurd cc)) h
 
+-- where changes wait, the one that came first is ready, and a settling takes it and no other
+abbrev pub DropsFirst : List Moment → Type 0
+DropsFirst past = (m : Moment) (now : ℕ) (c : Change) → Contains past m → m.event ≡ Settles now → slice_get m.before.server.waiting 0 ≡ Some c → (ready_by m.before.server now ≡ Some c) × ((happens m.before m.event).core.server.waiting ≡ drop 1 m.before.server.waiting)
+
+drops_first : (book : Book) (k : Core) (qs : List Queue) (now : ℕ) (c : Change) → IsKept book k qs → slice_get k.server.waiting 0 ≡ Some c → (ready_by k.server now ≡ Some c) × ((settles k now).core.server.waiting ≡ drop 1 k.server.waiting)
+drops_first book k qs now c kept there = by (what_settles book k qs now kept)
+  where
+    by : WhatSettles k now → (ready_by k.server now ≡ Some c) × ((settles k now).core.server.waiting ≡ drop 1 k.server.waiting)
+    by (settles_none none is) = nothing_there c (sym none ∙ there)
+    by (settles_one d rest out) = (
+      subst (λ (z : Change). ready_by k.server now ≡ Some z) (some_is d c (sym out.first ∙ there)) out.ready,
+      ap (λ (t : CoreStep). t.core.server.waiting) out.is ∙ made_waiting (at_reading (record k.server { waiting = rest }) now) d d.what ∙ sym out.dropped,
+    )
+
+dropped_event : (all past rest : List Moment) (opening : List Opening) (k : Core) (qs : List Queue) (e : Event) (mid after : List Queue) → Step all past rest opening k qs e mid after → DropsFirst past → DropsFirst (past ++ moment k e ∷ [])
+dropped_event all past rest opening k qs e mid after s h m now c there is at = elim (Contains-push_cases past (moment k e) m there) [
+  | inl old ↦ h m now c old is at
+  | inr new ↦ subst (λ (z : Moment). (ready_by z.before.server now ≡ Some c) × ((happens z.before z.event).core.server.waiting ≡ drop 1 z.before.server.waiting)) new (settled (ap (λ (z : Moment). z.event) new ∙ is) (ap (λ (z : Moment). slice_get z.before.server.waiting 0) new ∙ at))
+]
+  where
+    settled : e ≡ Settles now → slice_get k.server.waiting 0 ≡ Some c → (ready_by k.server now ≡ Some c) × ((happens k e).core.server.waiting ≡ drop 1 k.server.waiting)
+    settled same first = subst (λ (z : Event). (ready_by k.server now ≡ Some c) × ((happens k z).core.server.waiting ≡ drop 1 k.server.waiting)) (sym same) (drops_first (book_at opening k all) k qs now c s.kept first)
+
 abbrev pub AllSettled : (all past : List Moment) → List Opening → Core → List Queue → Type 0
-AllSettled all past opening k qs = AreMade opening all past k
+AllSettled all past opening k qs = AreMade opening all past k × DropsFirst past
 
 pub carried_settled : FitLaws → Carried AllSettled
 carried_settled laws = record {
-  first = λ all opening tree count kept. record { settled = λ i p d at is commit. nothing_there p at; first = λ m now c there is at. (let lt = there.1 in absurd (omega (arith, lt))) };
-  steps = λ all past rest opening k qs e mid after s h. settled_event laws all past rest opening k qs e mid after s h;
-  adjusts = λ all past opening k qs index seats same h. record { settled = h.settled; first = h.first };
+  first = λ all opening tree count kept. (record { settled = λ i p d at is commit. nothing_there p at; first = λ m now c there is at. (let lt = there.1 in absurd (omega (arith, lt))) }, λ m now c there is at. (let lt = there.1 in absurd (omega (arith, lt))));
+  steps = λ all past rest opening k qs e mid after s h. (settled_event laws all past rest opening k qs e mid after s h.0, dropped_event all past rest opening k qs e mid after s h.1);
+  adjusts = λ all past opening k qs index seats same h. (record { settled = h.0.settled; first = h.0.first }, h.1);
 }
 
 -- ---- what the promise says of settlings
 
-settles_left : (s : server.State) (now : ℕ) (waiting : List Change) (c : Change) → slice_get waiting 0 ≡ Some c → (server_settles s now waiting).0.waiting ≡ drop 1 waiting
-settles_left s now [] c at = nothing_there c at
-settles_left s now (d ∷ ds) c at = by d.what
-  where
-    by : (a : Wanted) → (makes_change (at_reading (record s { waiting = ds }) now) d a).0.waiting ≡ ds
-    by (wanted.Content x) = refl
-    by (wanted.Asked a) = refl
-
-pub settles_first : (book : Book) → MakesFirst book → SettlesFirst book
-settles_first book h = λ m now c there is at. (ap (λ (e : Event). (happens m.before e).core.server.waiting) is ∙ settles_left m.before.server now m.before.server.waiting c at, h m now c there is at)
+pub settles_first : (book : Book) → MakesFirst book → DropsFirst book.moments → SettlesFirst book
+settles_first book h drops = λ m now c there is at. (let d = drops m now c there is at in (d.0, d.1, h m now c there is at))

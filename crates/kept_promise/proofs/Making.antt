@@ -1,5 +1,5 @@
 -- A commit that waits is made once it is taken out, where its file is there: it has its room.
-use Rattle.std.proofs.Common.{◌≡◌, ℕ, ◌+◌, List, [], ◌∷◌, ◌++◌, length, Some, ap, ◌∙◌, arith}
+use Rattle.std.proofs.Common.{◌≡◌, ℕ, ◌+◌, List, [], ◌∷◌, ◌++◌, length, Some, ap, ◌∙◌, arith, false}
 use Rattle.chunk_places.specs.Places.{indexed}
 use Rattle.tree_reading.specs.Plans.{commit_entry}
 use Rattle.file_tree.specs.Step.{replaced}
@@ -8,8 +8,9 @@ use Rattle.wire.specs.declared.message.Body.TheVariants as body
 use Rattle.server_core.specs.State as server
 use Rattle.chunk_calls.specs.Files as the_files
 use Rattle.server_core.specs.declared.change.Wanted.TheVariants as wanted
-use Rattle.server_core.specs.Closing.{committed_by, told_change}
-use Rattle.kept_promise.proofs.Common.{chunks_of, Done, makes_change, at, entry_by, Change, ServerStep, File, Entry, Book}
+use Rattle.server_core.specs.Closing.{told_change}
+use Rattle.kept_promise.proofs.Common.{chunks_of, Done, at, entry_by, Change, ServerStep, File, Entry, Book}
+use Rattle.server_law.specs.Unleased.{makes_so, commits_so}
 use Rattle.kept_promise.proofs.Messages.{content_wanted}
 use Rattle.server_law.proofs.TreeCalls.{HasRoom, commits_made}
 use Rattle.kept_promise.proofs.TakenOut.{IsOut}
@@ -41,7 +42,7 @@ room_there book s c cs h out what =
       small = omega (arith, bytes, sizes, size);
     }
 
-pub made_is : (book : Book) (s : server.State) (now : ℕ) (c : Change) (cs : List Change) (f : File) → IsServer book s → IsOut s.waiting c cs → the_files.file_at s.tree c.file ≡ Some f → c.what ≡ wanted.Content (content_wanted c.what) → makes_change (at (record s { waiting = cs }) now) c c.what ≡ made_change (at (record s { waiting = cs }) now) c (content_wanted c.what) f
+pub made_is : (book : Book) (s : server.State) (now : ℕ) (c : Change) (cs : List Change) (f : File) → IsServer book s → IsOut s.waiting c cs → the_files.file_at s.tree c.file ≡ Some f → c.what ≡ wanted.Content (content_wanted c.what) → makes_so (at (record s { waiting = cs }) now) false c c.what ≡ made_change (at (record s { waiting = cs }) now) c (content_wanted c.what) f
 made_is book s now c cs f h out there what =
-    ap (makes_change (at (record s { waiting = cs }) now) c) what
-    ∙ ap (committed_by (at (record s { waiting = cs }) now) c (content_wanted c.what)) (commits_made s.tree (server.held cs) c.file (content_wanted c.what) f there (room_there book s c cs h out what))
+    ap (makes_so (at (record s { waiting = cs }) now) false c) what
+    ∙ ap (commits_so (at (record s { waiting = cs }) now) c (content_wanted c.what)) (commits_made s.tree (server.held cs) c.file (content_wanted c.what) f there (room_there book s c cs h out what))

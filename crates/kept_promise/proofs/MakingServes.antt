@@ -1,5 +1,5 @@
 -- The server takes the last call of a walk, which makes a file, or makes or removes a directory.
-use Rattle.std.proofs.Common.{inl, inr, ◌≡◌, ℕ, zero, suc, ◌+◌, ◌<◌, ◌≤◌, List, [], ◌∷◌, ◌++◌, length, max, append-nil, Option, Some, None, Result, Ok, Err, Bool, true, false, refl, sym, ap, ◌∙◌, subst, arith, eq-eqb, ne_eqb, if◌then◌else◌}
+use Rattle.std.proofs.Common.{inl, inr, ◌≡◌, ℕ, zero, suc, ◌+◌, ◌<◌, ◌≤◌, List, [], ◌∷◌, ◌++◌, length, append-nil, Option, Some, None, Result, Ok, Err, Bool, true, false, refl, sym, ap, ◌∙◌, subst, arith, eq-eqb, ne_eqb, if◌then◌else◌}
 use Rattle.sha1.specs.Sha1.{sha1}
 use Rattle.xdr_codec.specs.declared.status.Status.{Status}
 use Rattle.nfs3_calls.specs.Nfs.{nfs_proc}
@@ -35,7 +35,8 @@ use Rattle.trace_replay.specs.Naming.{entry_file, refusal_of}
 use Rattle.trace_ends.specs.Core.{changed_file, is_of_file}
 use Rattle.trace_ends.specs.Ops.{pointed_at, pointed}
 use Rattle.server_law.proofs.Trees.{given, IsBounded}
-use Rattle.kept_promise.proofs.Common.{slice_get, slice_set, cond, option_map, Contains, Contains-push, message_spell, MessageFits, stands, not, at, Entry, File, Op, TakenCall, Change, Stage, Word, Core, Seat, Session, Event.Serves, CoreStep, numbered, with_numbered, happens, serves, serves_if, quiet, Book, value_at, version_at, Call.Walks, Reply.Walked, value_from, unwrap_or, NameReply, name_answer, Ask, Told, Queue, ask_message, told_message}
+use Rattle.kept_promise.proofs.Common.{slice_get, slice_set, cond, option_map, Contains, Contains-push, message_spell, MessageFits, stands, not, at, Entry, File, Op, TakenCall, Change, Stage, Word, Core, Seat, Session, Event.Serves, CoreStep, numbered, with_numbered, happens, serves, serves_if, quiet, Book, value_at, version_at, Call.Walks, Reply.Walked, value_from, unwrap_or, NameReply, name_answer, Ask, Told, Queue, ask_message, told_message, Leasing, later}
+use Rattle.server_law.proofs.Unleased.{unleased_at}
 use Rattle.kept_promise.proofs.Statements.{CallFits}
 use Rattle.trace_replay.specs.Faithful.{IsKind}
 use Rattle.register_model.specs.Register.{IsFit}
@@ -114,8 +115,8 @@ module _ (laws : FitLaws) (book : Book) (k : Core) (qs : List Queue) (n now : �
   abbrev held : Held
   held = server.held k.server.waiting
 
-  abbrev moment : ℕ
-  moment = max k.server.moment now
+  abbrev leasing : Leasing
+  leasing = later k.server.leasing now
 
   abbrev made : Tree × Finished
   made = made_by t held w.dir w.goal
@@ -163,7 +164,7 @@ module _ (laws : FitLaws) (book : Book) (k : Core) (qs : List Queue) (n now : �
     entries = entries;
   })) { down = record { session = n; message = message.Answer xid (body.Nfs m) } ∷ [] }
 
-  refused_step : (r : NameReply) → making_got k n now x xid (t, said (name_answer r)) ≡ answered k n moment x a k.server.temps k.server.index (Walked r)
+  refused_step : (r : NameReply) → making_got k n now x xid (t, said (name_answer r)) ≡ answered k n leasing x a k.server.temps k.server.index (Walked r)
   refused_step r =
       ap (λ (l : List Entry). plain_step l (pointed_at k.ops x.closing (k.steps + 1) None) (k.entries ++ []) (name_answer r)) (append-nil k.server.journal)
       ∙ ap (λ (l : List Op). plain_step k.server.journal l (k.entries ++ []) (name_answer r)) (pointed_none k.ops x.closing (k.steps + 1))
@@ -193,8 +194,8 @@ module _ (laws : FitLaws) (book : Book) (k : Core) (qs : List Queue) (n now : �
   rooted_after after a = after_rooted t w.dir w.goal after fits.1.named.1 (given t g.kept.server.bounded) a g.kept.server.rooted
 
   -- with one entry more
-  done_step : (after : Tree) (e : TreeEntry) (r : NameReply) (ops : List Op) → pointed_at k.ops x.closing (k.steps + 1) (changed_file (written_by n e ∷ [])) ≡ ops → making_got k n now x xid (after, record { answer = name_answer r; first = Some e; second = None }) ≡ entered_step k n moment x a after (k.server.journal ++ written_by n e ∷ []) ops (k.entries ++ (k.steps + 1) ∷ []) (Walked r)
-  done_step after e r ops is = ap (λ (l : List Op). entered_step k n moment x a after (k.server.journal ++ written_by n e ∷ []) l (k.entries ++ (k.steps + 1) ∷ []) (Walked r)) is
+  done_step : (after : Tree) (e : TreeEntry) (r : NameReply) (ops : List Op) → pointed_at k.ops x.closing (k.steps + 1) (changed_file (written_by n e ∷ [])) ≡ ops → making_got k n now x xid (after, record { answer = name_answer r; first = Some e; second = None }) ≡ entered_step k n leasing x a after (k.server.journal ++ written_by n e ∷ []) ops (k.entries ++ (k.steps + 1) ∷ []) (Walked r)
+  done_step after e r ops is = ap (λ (l : List Op). entered_step k n leasing x a after (k.server.journal ++ written_by n e ∷ []) l (k.entries ++ (k.steps + 1) ∷ []) (Walked r)) is
 
   -- what came of it, of an operation
   makes : (r : NameReply) (done : TreeChange) (after : Tree) → step_by t held w.dir w.goal ≡ (after, Ok done) → walk_told w (name_answer r) ≡ leading.Ends walk_end.Done → x.cut ≡ false → (more : Book) → more.moments ≡ book.moments → more.steps ≡ book.steps + 1 → (j : Job) (o z : Op) → job h.seat ≡ Some j → j.stage ≡ stage.Walking xid w → slice_get book.ops j.place ≡ Some z → o.client ≡ z.client → PointedBy (is_creating w) x.closing j o (book.steps + 1) (entry_file done.first) → (e : TreeEntry) → made ≡ (after, record { answer = name_answer r; first = Some e; second = None }) → done.first ≡ Some e → done.second ≡ None
@@ -223,7 +224,7 @@ module _ (laws : FitLaws) (book : Book) (k : Core) (qs : List Queue) (n now : �
   are_names e is zero d at = ap (λ (z : Entry). is_of_file z.kind) (sym (some_is (written_by n e) d at)) ∙ ap is_of_file is
   are_names e is (suc i) d at = nothing_there d at
 
-  server_named : (after : Tree) (done : TreeChange) (e : TreeEntry) → IsNameGoal w.goal → step_by t held w.dir w.goal ≡ (after, Ok done) → AfterAt t w.dir w.goal after → IsServer (named e) (entered_server k.server moment after (k.server.journal ++ written_by n e ∷ []))
+  server_named : (after : Tree) (done : TreeChange) (e : TreeEntry) → IsNameGoal w.goal → step_by t held w.dir w.goal ≡ (after, Ok done) → AfterAt t w.dir w.goal after → IsServer (named e) (entered_server k.server leasing after (k.server.journal ++ written_by n e ∷ []))
   server_named after done e names is a =
       let more = named e in
       let grows = grows_named book (written_by n e ∷ []) in
@@ -245,6 +246,7 @@ module _ (laws : FitLaws) (book : Book) (k : Core) (qs : List Queue) (n now : �
         lengths = g.kept.server.lengths;
         targets = λ i c f. there_later book more None None c.file grows (g.kept.server.targets i c f);
         xids = g.kept.server.xids;
+        leases = unleased_at k.server now g.kept.server.leases;
       }
 
   serve_named : (done : TreeChange) (e : TreeEntry) (r : NameReply) (after : Tree) → is_creating w ≡ false → made ≡ (after, record { answer = name_answer r; first = Some e; second = None }) → step_by t held w.dir w.goal ≡ (after, Ok done) → done.first ≡ Some e → done.second ≡ None → EntryAt t w.goal e → AfterAt t w.dir w.goal after → walk_told w (name_answer r) ≡ leading.Ends walk_end.Done → nfs_proc (name_answer r) ≡ nfs_proc (next_call w)
@@ -262,7 +264,7 @@ module _ (laws : FitLaws) (book : Book) (k : Core) (qs : List Queue) (n now : �
       let entries : more.entries ≡ k.entries ++ (k.steps + 1) ∷ [] = ap (λ (es : List ℕ). es ++ (book.steps + 1) ∷ []) g.kept.entries ∙ ap (λ (s : ℕ). k.entries ++ (s + 1) ∷ []) g.kept.steps in
       subst (λ (p : Tree × Finished). Leads book (rest_of qs n q us) (making_got k n now x xid p)) (sym is)
       (subst (Leads book (rest_of qs n q us)) (sym (done_step after e r k.ops ops_is))
-      (leads_entered book more k qs n moment after (k.server.journal ++ written_by n e ∷ []) k.ops (k.entries ++ (k.steps + 1) ∷ []) x q a us (Walked r) None g.kept g.at g.is g.first g.unhung refl refl (ap (λ s. s + 1) g.kept.steps) g.kept.ops entries (record {
+      (leads_entered book more k qs n leasing after (k.server.journal ++ written_by n e ∷ []) k.ops (k.entries ++ (k.steps + 1) ∷ []) x q a us (Walked r) None g.kept g.at g.is g.first g.unhung refl refl (ap (λ s. s + 1) g.kept.steps) g.kept.ops entries (record {
         goes = goes_named book (written_by n e ∷ []) (are_names e kind_is) g.kept.sound;
         server = server_named after done e names step after_is;
         journal_is = ap (λ (l : List Entry). l ++ written_by n e ∷ []) g.kept.journal;
@@ -317,7 +319,7 @@ module _ (laws : FitLaws) (book : Book) (k : Core) (qs : List Queue) (n now : �
       others None is v u = v ∙ is
       others (Some z) is v u = (is.0, is.1, is.2, record { value = is.3.value; is = v ∙ is.3.is; size = is.3.size; same = is.3.same }, u ∙ is.4, is.5)
 
-  server_made : (c : IsCreating book x.closing x.cut (job h.seat) xid w) (after : Tree) (done : TreeChange) (e : TreeEntry) (name : List ℕ) → c.op.word ≡ words.Make → step_by t held w.dir w.goal ≡ (after, Ok done) → AfterAt t w.dir (goal.Make name) after → w.goal ≡ goal.Make name → IsServer (made_file c e) (entered_server k.server moment after (k.server.journal ++ written_by n e ∷ []))
+  server_made : (c : IsCreating book x.closing x.cut (job h.seat) xid w) (after : Tree) (done : TreeChange) (e : TreeEntry) (name : List ℕ) → c.op.word ≡ words.Make → step_by t held w.dir w.goal ≡ (after, Ok done) → AfterAt t w.dir (goal.Make name) after → w.goal ≡ goal.Make name → IsServer (made_file c e) (entered_server k.server leasing after (k.server.journal ++ written_by n e ∷ []))
   server_made c after done e name make is a aim =
       let more = made_file c e in
       let grows = grows_made book (written_by n e ∷ []) t.next c.place c.op (λ close. absurd (make_not_close (sym make ∙ close))) c.there c.unmade in
@@ -343,6 +345,7 @@ module _ (laws : FitLaws) (book : Book) (k : Core) (qs : List Queue) (n now : �
         lengths = g.kept.server.lengths;
         targets = λ i d f. there_later book more (Some c.place) None d.file grows (g.kept.server.targets i d f);
         xids = g.kept.server.xids;
+        leases = unleased_at k.server now g.kept.server.leases;
       }
     where
       make_not_close : words.Make ≡ words.Close → ⊥
@@ -386,7 +389,7 @@ module _ (laws : FitLaws) (book : Book) (k : Core) (qs : List Queue) (n now : �
       let points : entry_file done.first ≡ Some t.next = ap entry_file first ∙ ap (λ (d : TreeEntry). entry_file (Some d)) entry in
       subst (λ (p : Tree × Finished). Leads book (rest_of qs n q us) (making_got k n now x xid p)) (sym is)
       (subst (Leads book (rest_of qs n q us)) (sym (done_step after e r ops ops_is))
-      (leads_entered book more k qs n moment after (k.server.journal ++ written_by n e ∷ []) ops (k.entries ++ (k.steps + 1) ∷ []) x q a us (Walked r) (Some c.place) g.kept g.at g.is g.first g.unhung refl refl (ap (λ s. s + 1) g.kept.steps) more_ops entries (record {
+      (leads_entered book more k qs n leasing after (k.server.journal ++ written_by n e ∷ []) ops (k.entries ++ (k.steps + 1) ∷ []) x q a us (Walked r) (Some c.place) g.kept g.at g.is g.first g.unhung refl refl (ap (λ s. s + 1) g.kept.steps) more_ops entries (record {
         goes = goes;
         server = server_made c after done e aim.0 make step so aim.1;
         journal_is = ap (λ (l : List Entry). l ++ written_by n e ∷ []) g.kept.journal;

@@ -187,7 +187,7 @@ range_of c = record { handle = []; offset = c.start; count = c.len }
 -- known by their digest apart.
 pub record IsHashed (book : Book) (taken : List TakenCall) (j : Job) (xid offset : ℕ) (h : Hashes) : Type 0 where
   pub file : File
-  pub is : h ≡ hashes_of file (range_from offset)
+  pub is : h ≡ hashes_of h.term file (range_from offset)
   pub held : IsHeld book.moments j.file file
   pub value : List ℕ
   pub told : IsTold book taken j xid (Some value) file.version

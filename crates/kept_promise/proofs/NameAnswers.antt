@@ -1,5 +1,5 @@
 -- The answer to a CONDWRITE is what the server makes of it as it takes it: that it has no such chunk exactly where it knows no bytes for it.
-use Rattle.std.proofs.Common.{◌⊎◌, inl, inr, ◌≡◌, ℕ, ◌+◌, List, [], ◌∷◌, ◌++◌, length, Option, Some, None, Result, Ok, Err, Bool, true, false, refl, sym, ap, ◌∙◌, subst, arith}
+use Rattle.std.proofs.Common.{◌⊎◌, inl, inr, ◌≡◌, ℕ, ◌+◌, List, [], ◌∷◌, length, Option, Some, None, Result, Ok, Err, Bool, true, false, refl, sym, ap, ◌∙◌, subst, arith, map}
 use Rattle.hash_calls.specs.declared.call.CondPiece.{CondPiece}
 use Rattle.hash_calls.specs.declared.message.Lb.TheVariants as lb
 use Rattle.nfs3_calls.specs.declared.message.Nfs.TheVariants as nfs
@@ -9,12 +9,16 @@ use Rattle.xdr_codec.specs.declared.status.Status.TheVariants as status
 use Rattle.chunk_index.specs.Index.{key_of as digest_key, place_of}
 use Rattle.server_core.specs.State as server
 use Rattle.temp_files.specs.Pieces.{overlaps}
-use Rattle.server_core.specs.Closing.{answers, looked_up, settles as server_settles}
-use Rattle.server_core.specs.Steps.{sends}
+use Rattle.server_core.specs.Closing.{answers, looked_up, ready_by, settles_by}
+use Rattle.callback_core.specs.Waits.{without}
 use Rattle.chunk_calls.specs.Writing.{cond_most}
 use Rattle.server_core.specs.declared.event.Sent.{Sent}
 use Rattle.trace_replay.specs.Saving.{name_call, name_told, name_answer}
-use Rattle.kept_promise.proofs.Common.{nat_lt, if◌then◌else◌, ◌==◌, ◌||◌, list_any, Contains, Contains-push_cases, Contains-append_cases, Answer, Done, Failed, Status, Body, Message, parse_of, Temp, size_most, temp_at, room_fault, piece_fault, assembled, without_temp, Node, directory, file, node_of, File, Change, called, got_if, stands, at, makes, makes_unless, makes_change, names, names_unless, names_bytes, bytes_known, cond_fault, writes_unless, commits, commits_to, commits_whole, has_waiting, is_full, Core, Event, Event.Serves, CoreStep, server_waiting, does, joins, hears, cuts, hangs, happens, Wanted, Tree}
+use Rattle.kept_promise.proofs.Common.{nat_lt, if◌then◌else◌, ◌==◌, ◌||◌, list_any, Contains, Contains-push_cases, Contains-append_cases, Answer, Done, Failed, Status, Body, Message, parse_of, Temp, size_most, temp_at, room_fault, piece_fault, assembled, without_temp, Node, directory, file, node_of, File, Change, called, got_if, stands, at, makes, makes_unless, makes_change, names, names_unless, names_bytes, bytes_known, cond_fault, writes_unless, commits, commits_to, commits_whole, has_waiting, is_full, Core, Event, Event.Serves, CoreStep, server_waiting, does, joins, hears, cuts, hangs, happens, Wanted, Tree, change_of}
+use Rattle.tree_calls.specs.Waiting.{file_of}
+use Rattle.server_core.specs.Recalling.{comes, recall_sent, recalls_for}
+use Rattle.server_core.specs.Leasing.{asking}
+use Rattle.callback_core.specs.declared.back_calls.Asked.{Asked as Recalled}
 use Rattle.kept_promise.proofs.Lists.{nothing_there}
 use Rattle.server_core.specs.declared.change.Wanted.TheVariants as wanted
 use Rattle.server_core.specs.Step.{asks, asks_tree}
@@ -109,15 +113,20 @@ other_sent (s ∷ ss) n xid r h c = elim (Contains-append_cases (s ∷ []) ss (r
   | inr later ↦ other_sent ss n xid r h.1 later
 ]
 
+-- what a server asks for is none
+recalls_other : (recalls : List Recalled) → AreOther (map recall_sent recalls)
+recalls_other [] = tt
+recalls_other (a ∷ recalls) = (tt, recalls_other recalls)
+
 commits_other : (s : server.State) (n xid size : ℕ) (t : Temp) (nd : Result Node Status) → AreOther (commits_to s n xid size t nd).1.send
 commits_other s n xid size t (Err e) = (tt, tt)
 commits_other s n xid size t (Ok directory) = (tt, tt)
 commits_other s n xid size t (Ok (file f)) = by (nat_lt size_most size)
   where
-    waits : (content : List ℕ) (a b : Bool) → AreOther (if a then answers s n xid (lb.CommitTmpAnswer (Failed status.Jukebox tt)) else if b then answers s n xid (lb.CommitTmpAnswer (Failed status.NoSpc tt)) else (record s { waiting = s.waiting ++ record { session = n; xid = xid; file = f.id; what = wanted.Content content } ∷ [] }, sends [])).1.send
+    waits : (content : List ℕ) (a b : Bool) → AreOther (if a then answers s n xid (lb.CommitTmpAnswer (Failed status.Jukebox tt)) else if b then answers s n xid (lb.CommitTmpAnswer (Failed status.NoSpc tt)) else comes s (change_of n xid f.id (wanted.Content content))).1.send
     waits content true b = (tt, tt)
     waits content false true = (tt, tt)
-    waits content false false = tt
+    waits content false false = recalls_other (asking s.leasing (recalls_for s (change_of n xid f.id (wanted.Content content)))).1
 
     whole : (o : Option (List ℕ)) → AreOther (commits_whole s n xid f.id o).1.send
     whole None = (tt, tt)
@@ -133,7 +142,7 @@ outcome_other s n xid p = by p.1
     by : (o : Option Outcome) → AreOther (asks (record s { tree = p.0 }) n xid o).1.send
     by None = (tt, tt)
     by (Some (Answered d)) = (tt, tt)
-    by (Some (ToWait a)) = tt
+    by (Some (ToWait a)) = recalls_other (asking s.leasing (recalls_for (record s { tree = p.0 }) (change_of n xid (file_of a) (wanted.Asked a)))).1
 
 -- what a call comes to: a CONDWRITE, or another
 abbrev Answers : server.State → (n xid : ℕ) → Body → List Sent → Type 0
@@ -207,7 +216,7 @@ name_taken k e = what_happens k e (SentBy k e) (record {
   does = λ c now d seat is. quietly k e _ tt;
   takes = λ m now bytes x z is there read. record { taken = λ n y r c. subst (λ (w : Event). NameTaken k w n y r) (sym is) (got_by m now bytes z read (stands k.server m) n y r c) };
   hears = λ m now bytes owner seat is. quietly k e _ tt;
-  settles = λ now is. quietly k e _ (settled now k.server.waiting);
+  settles = λ now is. quietly k e _ (settled now (ready_by k.server now));
   cuts = λ c seat is. quietly k e _ tt;
   hangs = λ m x is there. quietly k e _ tt;
 })
@@ -236,6 +245,6 @@ name_taken k e = what_happens k e (SentBy k e) (record {
     made s c (wanted.Content x) = (tt, tt)
     made s c (wanted.Asked a) = (tt, tt)
 
-    settled : (now : ℕ) (ws : List Change) → AreOther (server_settles k.server now ws).1.send
-    settled now [] = tt
-    settled now (c ∷ cs) = made (at (record k.server { waiting = cs }) now) c c.what
+    settled : (now : ℕ) (next : Option Change) → AreOther (settles_by k.server false now next).1.send
+    settled now None = tt
+    settled now (Some c) = made (at (record k.server { waiting = without k.server.waiting c.session }) now) c c.what

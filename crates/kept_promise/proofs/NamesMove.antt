@@ -1,5 +1,5 @@
 -- A run carries by whose calls the names in directories change.
-use Rattle.std.proofs.Common.{◌⊎◌, inl, inr, ◌≡◌, ℕ, List, [], ◌∷◌, ◌++◌, drop, length, Option, Some, None, Result, Ok, Err, Bool, true, false, refl, sym, ap, ◌∙◌, subst, arith, map}
+use Rattle.std.proofs.Common.{◌⊎◌, inl, inr, ◌≡◌, ℕ, List, [], ◌∷◌, ◌++◌, length, Option, Some, None, Result, Ok, Err, Bool, true, false, refl, sym, ap, ◌∙◌, subst, arith, map}
 use Rattle.hash_calls.specs.declared.message.Lb.TheVariants as lb
 use Rattle.nfs3_calls.specs.declared.message.Nfs.{Nfs}
 use Rattle.wire.specs.declared.message.Body.TheVariants as body
@@ -31,8 +31,9 @@ use Rattle.trace_replay.specs.NameChanges.{names_of, KeepsNames, ChangesNames, M
 use Rattle.server_law.proofs.Trees.{IsBounded}
 use Rattle.trace_ends.specs.Core.{server_got}
 use Rattle.trace_replay.specs.Naming.{refusal_of}
-use Rattle.trace_replay.specs.OwnCalls.{ComesTo, held_at}
-use Rattle.kept_promise.proofs.Common.{cond, if◌then◌else◌, ◌==◌, filter, not, slice_get, Contains, Contains-append_left, Contains-append_right, Contains-push, Contains-push_cases, Status, Message, WireFault, parse_of, Tree, Change, Wanted, server_step, stands, at, has_waiting, makes_change, Op, Opening, Core, Session, Event, Event.Serves, Event.Settles, CoreStep, numbered, server_waiting, serves_if, serves, does, joins, hears, cuts, hangs_if, hangs, happens, Moment, step_of, client_of, is_in, Book, Queue, Ask, NameReply, name_answer, ask_message, Call, Call.Walks}
+use Rattle.trace_replay.specs.OwnCalls.{ComesTo, held_at, others_waiting}
+use Rattle.kept_promise.proofs.Common.{cond, if◌then◌else◌, ◌==◌, filter, not, slice_get, Contains, Contains-append_left, Contains-append_right, Contains-push, Contains-push_cases, Status, Message, WireFault, parse_of, Tree, Change, Wanted, server_step, stands, at, has_waiting, Op, Opening, Core, Session, Event, Event.Serves, Event.Settles, CoreStep, numbered, server_waiting, serves_if, serves, does, joins, hears, cuts, hangs_if, hangs, happens, Moment, step_of, client_of, is_in, Book, Queue, Ask, NameReply, name_answer, ask_message, Call, Call.Walks}
+use Rattle.server_law.specs.Unleased.{IsUnleased, makes_so}
 use Rattle.kept_promise.proofs.Lists.{nothing_there, of_appended}
 use Rattle.kept_promise.proofs.Messages.{AllAsks, AsksFor, walk_for, walk_is}
 use Rattle.kept_promise.proofs.Fits.{FitLaws}
@@ -238,15 +239,15 @@ built_turned k n now x xid w building = (by (made_walk k.server.tree (server.hel
     by (refuses s r is err turned leads procs) = subst (λ (p : Tree × Finished). Turned k n xid (next_call w) (server.held k.server.waiting) (making_got k n now x xid p)) (sym is) (inl (λ dir. refl))
     by (enters done e r after is step first_is second_is entry_is after_is leads procs) = subst (λ (p : Tree × Finished). Turned k n xid (next_call w) (server.held k.server.waiting) (making_got k n now x xid p)) (sym is) (said_done k n xid w (server.held k.server.waiting) r (making_got k n now x xid (after, record { answer = name_answer r; first = Some e; second = None })) done (building_makes w.left w.goal building) step refl leads)
 
-going_turned : (k : Core) (n now : ℕ) (x : Session) (xid : ℕ) (w : Walk) → IsWalkSmall w → is_going w ≡ true → stands k.server n ≡ true → IsBounded k.server.tree → (let t = server_got k n now x (message.Call xid (body.Nfs (next_call w))) in Turned k n xid (next_call w) (server.held k.server.waiting) t × Leaves k n xid w t)
-going_turned k n now x xid w small going standing bounded = by (comes_so k.server.tree (server.held k.server.waiting) (has_waiting k.server.waiting n) w bounded small going)
+going_turned : (k : Core) (n now : ℕ) (x : Session) (xid : ℕ) (w : Walk) → IsWalkSmall w → is_going w ≡ true → stands k.server n ≡ true → IsUnleased k.server → IsBounded k.server.tree → (let t = server_got k n now x (message.Call xid (body.Nfs (next_call w))) in Turned k n xid (next_call w) (server.held k.server.waiting) t × Leaves k n xid w t)
+going_turned k n now x xid w small going standing leases bounded = by (comes_so k.server.tree (server.held k.server.waiting) (has_waiting k.server.waiting n) w bounded small going)
   where
     by : ComesSo k.server.tree (server.held k.server.waiting) (has_waiting k.server.waiting n) w → (let t = server_got k n now x (message.Call xid (body.Nfs (next_call w))) in Turned k n xid (next_call w) (server.held k.server.waiting) t × Leaves k n xid w t)
     by (refused s r is why turned leads procs) = subst (λ (t : CoreStep). Turned k n xid (next_call w) (server.held k.server.waiting) t × Leaves k n xid w t) (sym (got_answered k n now x xid w k.server.tree (said (name_answer r)) small going standing is)) (inl (λ dir. refl), inl refl)
     by (done_now done r after is step first second leads procs files none root next) =
         let d : Finished = record { answer = name_answer r; first = done.first; second = done.second } in
         subst (λ (t : CoreStep). Turned k n xid (next_call w) (server.held k.server.waiting) t × Leaves k n xid w t) (sym (got_answered k n now x xid w after d small going standing is)) (said_done k n xid w (server.held k.server.waiting) r (making_got k n now x xid (after, d)) done (going_makes w.left w.goal going) step refl leads, inl refl)
-    by (waits a g is asks_ there room free two) = subst (λ (t : CoreStep). Turned k n xid (next_call w) (server.held k.server.waiting) t × Leaves k n xid w t) (sym (got_waits k n now x xid w a small going standing is)) (inl (λ dir. refl), inr (a, refl, walk_is w a asks_))
+    by (waits a g is asks_ there room free two) = subst (λ (t : CoreStep). Turned k n xid (next_call w) (server.held k.server.waiting) t × Leaves k n xid w t) (sym (got_waits k n now x xid w a small going standing leases is)) (inl (λ dir. refl), inr (a, refl, walk_is w a asks_))
 
 asked_makes : (a : Asked) → is_making (walk_for a) ≡ true
 asked_makes (asked.Remove r) = refl
@@ -364,7 +365,7 @@ names_serves fits all past opening k qs mid n now bytes kept f sent = by (makes_
         both : Turned k n f.1.xid (next_call w.0) (server.held k.server.waiting) (happens k (Serves n now bytes)) × Leaves k n f.1.xid w.0 (happens k (Serves n now bytes))
         both = subst (λ (t : CoreStep). Turned k n f.1.xid (next_call w.0) (server.held k.server.waiting) t × Leaves k n f.1.xid w.0 t) (sym step_is) (elim (making_is w.0.left w.0.goal w.2) [
           | inl built ↦ subst (λ (t : CoreStep). Turned k n f.1.xid (next_call w.0) (server.held k.server.waiting) t × Leaves k n f.1.xid w.0 t) (sym (got_making k n now x.0 f.1.xid w.0 fit.1 built standing)) (built_turned k n now x.0 f.1.xid w.0 built)
-          | inr going ↦ going_turned k n now x.0 f.1.xid w.0 fit.1 going standing kept.server.bounded
+          | inr going ↦ going_turned k n now x.0 f.1.xid w.0 fit.1 going standing kept.server.leases kept.server.bounded
         ])
 
     by : (b : Bool) → makes_call f.1.call ≡ b → NamesAfter past k (Serves n now bytes)
@@ -387,7 +388,7 @@ names_settles past book k qs now kept h = by (what_settles book k qs now kept)
         before : server.State
         before = at (record k.server { waiting = cs }) now
 
-        server_is : (happens k (Settles now)).core.server ≡ (makes_change (at (record k.server { waiting = cs }) now) c c.what).0
+        server_is : (happens k (Settles now)).core.server ≡ (makes_so (at (record k.server { waiting = cs }) now) false c c.what).0
         server_is = ap (λ (t : CoreStep). t.core.server) out.is
 
         left : (happens k (Settles now)).core.server.waiting ≡ cs
@@ -396,16 +397,16 @@ names_settles past book k qs now kept h = by (what_settles book k qs now kept)
         first : (w : Wanted) → c.what ≡ w → KeepsNames (moment k (Settles now)) ⊎ MakesNaming (past ++ moment k (Settles now) ∷ []) (moment k (Settles now))
         first (wanted.Content content) what = inl (λ dir.
             ap (λ (s : server.State). names_of s.tree dir) server_is
-            ∙ ap (λ (w : Wanted). names_of (makes_change (at (record k.server { waiting = cs }) now) c w).0.tree dir) what
+            ∙ ap (λ (w : Wanted). names_of (makes_so (at (record k.server { waiting = cs }) now) false c w).0.tree dir) what
             ∙ commits_names k.server.tree (server.held cs) c.file content dir)
         first (wanted.Asked a) what =
             let wants = subst (IsWanted c.file) what (kept.server.wants out.out.place c out.out.there) in
             let so = settles_so k.server.tree (server.held cs) (walk_for a) a kept.server.bounded wants.2 (asks_itself a) wants.1 (λ n d. no_directory book k.server (file_of a) n kept.server (subst (λ (f : ℕ). WasThere book f) wants.0 (kept.server.targets out.out.place c out.out.there)) d) in
             let was = h.waiting out.out.place c a out.out.there what in
-            let room : server.held cs ≡ server.held (drop 1 k.server.waiting) = sym (ap server.held out.others) in
+            let room : server.held cs ≡ server.held (others_waiting (Settles now) k.server) = sym (ap server.held out.others) in
             now_by (past ++ moment k (Settles now) ∷ []) (moment k (Settles now)) c.session c.xid
             (takes_later past (moment k (Settles now)) c.session c.xid was.0)
-            (inr (record { now = now; event_is = refl; change = c; first = out.first; session_is = refl; xid_is = refl }))
+            (inr (record { now = now; event_is = refl; change = c; ready = out.ready; session_is = refl; xid_is = refl }))
             (subst (λ (call : Nfs). Turned k c.session c.xid call (held_at (moment k (Settles now))) (happens k (Settles now))) (sym was.1)
             (subst (λ (held : Held). Turned k c.session c.xid (next_call (walk_for a)) held (happens k (Settles now))) room
             (subst (Turned k c.session c.xid (next_call (walk_for a)) (server.held cs)) (sym (asked_settles k now c cs a out what)) (settled_turned k now c cs a so))))

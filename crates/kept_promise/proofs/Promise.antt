@@ -38,7 +38,8 @@ use Rattle.kept_promise.proofs.LogSums.{counts_log}
 use Rattle.kept_promise.proofs.LogEvents.{LogsAt, carried_logs}
 use Rattle.kept_promise.proofs.OpenedOnce.{IsMet, carried_once, opened_once}
 use Rattle.kept_promise.proofs.Points.{opens_at}
-use Rattle.kept_promise.proofs.Rights.{Caused, AreLeased}
+use Rattle.kept_promise.proofs.Rights.{Caused, AreLeased, Soon}
+use Rattle.kept_promise.proofs.SoonRuns.{AllSoon, carried_soon}
 use Rattle.kept_promise.proofs.OpensLog.{OpensBy, OpenRead, opens_laws, each_reaches, got_by}
 use Rattle.kept_promise.proofs.ClosesLog.{names_chunks, pays_all, saves_all}
 use Rattle.kept_promise.proofs.MetLog.{attempts_met, attempts_end}
@@ -138,11 +139,11 @@ whole_carried = carried_both More AllAwaited more_carried (carried_awaited fit_l
 -- ---- the promise of what a run leaves
 
 -- what is known of each command
-is_known : (w : World) (all : List Moment) (leased : AreLeased all) (h : Stands More all all w) → Walks all all w.core → (k : ℕ) (d : Deed) (o : Op) → slice_get (deeds_of all) k ≡ Some d → slice_get w.core.ops k ≡ Some o → IsKnown (book_of w all) d o (local_before (deeds_of all) w.core.ops k d.client o.file)
-is_known w all leased h walks k d o was at =
+is_known : (w : World) (all : List Moment) (soon : (k : ℕ) (o : Op) → slice_get w.core.ops k ≡ Some o → Soon (book_of w all) o o.outcome) (h : Stands More all all w) → Walks all all w.core → (k : ℕ) (d : Deed) (o : Op) → slice_get (deeds_of all) k ≡ Some d → slice_get w.core.ops k ≡ Some o → IsKnown (book_of w all) d o (local_before (deeds_of all) w.core.ops k d.client o.file)
+is_known w all soon h walks k d o was at =
     let deeds = h.more.0.0.0.followed.deeds in
     let cause = (h.kept.sound.rights k o at).cause in
-    known_by (book_of w all) (deeds_of all) k d o (deeds.each k d o was at).word leased (rewrite_pointless (book_of w all) o (h.kept.sound.rights k o at)) cause (walks.over k d o was at) h.more.1.1.1.1.0.1.opens was at
+    known_by (book_of w all) (deeds_of all) k d o (deeds.each k d o was at).word (soon k o at) (rewrite_pointless (book_of w all) o (h.kept.sound.rights k o at)) cause (walks.over k d o was at) h.more.1.1.1.1.0.1.opens was at
     (λ c is late. record {
       positive = λ s found. finds_positive (bare all) h.more.1.1.1.1.1.0 o s found;
       too_long = λ p list none. begun_pages p (deals_of o all) (subst (λ (x : Command). GaveNow x o.outcome o.end o.begin (deals_of o all)) (is ∙ ap (λ z. command.Named z) list) (h.more.0.1.1.each k o at d was).gave none late);
@@ -150,8 +151,8 @@ is_known w all leased h walks k d o was at =
     (λ f is status refused. open_refused (book_of w all) (deeds_of all) deeds.rising deeds.each deeds.count walks.before k d o was at f is cause status refused)
     (λ f is status refused. rewrite_refused (book_of w all) (deeds_of all) deeds.rising deeds.each deeds.count walks.before k d o was at f is cause status refused)
 
-promise_of : (input : List ℕ) (w : World) → AreLeased (moments input) → run input ≡ Ok w → (h : Stands More (moments input) (moments input) w) → AllAwaited (moments input) (moments input) w.opening w.core h.queues → IsKeptPromise input w
-promise_of input w leased ran h awaited =
+promise_of : (input : List ℕ) (w : World) → AreLeased (moments input) → ((k : ℕ) (o : Op) → slice_get w.core.ops k ≡ Some o → Soon (book_of w (moments input)) o o.outcome) → run input ≡ Ok w → (h : Stands More (moments input) (moments input) w) → AllAwaited (moments input) (moments input) w.opening w.core h.queues → IsKeptPromise input w
+promise_of input w leased soon ran h awaited =
     let all : List Moment = moments input in
     let stored : Stored all all w.opening w.core h.queues = h.more.0.0.1.0 in
     let versions : Versions all all w.opening w.core h.queues = h.more.0.0.1.1.0 in
@@ -166,11 +167,11 @@ promise_of input w leased ran h awaited =
         commands = commands_said input w ran;
         counted = steps_counted (kept_laws fit_laws) fit_laws input w ran;
         count = deeds_counted w all h.more.0.0.0.followed;
-        done = (λ k d o was at. deeds_done w all leased h.queues h.kept h.more.0.0.0.followed k d o was at (is_known w all leased h walks k d o was at));
+        done = (λ k d o was at. deeds_done w all soon h.queues h.kept h.more.0.0.0.followed k d o was at (is_known w all soon h walks k d o was at));
         cuts = cuts_end w all h.more.0.0.0.cuts;
         journal = h.kept.sound.journal;
-        settled = λ i p e at is kind. changes.0.settled i p e at is kind;
-        settles = settles_first (book_of w all) changes.0.first;
+        settled = λ i p e at is kind. changes.0.0.settled i p e at is kind;
+        settles = settles_first (book_of w all) changes.0.0.first changes.0.1;
         points = λ k o at. opens_at (book_of w all) o (λ len digest is. (logs.1.0.once k len digest o at is).called);
         versions = opens_version (book_of w all) w.core h.queues h.kept versions.1;
         no_fault = no_fault (book_of w all) h.kept.sound;
@@ -198,7 +199,7 @@ promise_of input w leased ran h awaited =
       complete = record {
         ended = completes fit_laws w all h.queues h.kept h.carry h.rested;
         well = λ k d o was at alone asks free uncut.
-            ends_well (book_of w all) d o _ (λ n is status refused. (is_known w all leased h walks k d o was at).ends n is (asked_late (deeds_of all) w.core.ops k d o n (h.more.0.0.0.followed.deeds.each k d o was at) is asks free) status refused) (deeds_done w all leased h.queues h.kept h.more.0.0.0.followed k d o was at (is_known w all leased h walks k d o was at)) (completes fit_laws w all h.queues h.kept h.carry h.rested k o at alone) asks free uncut;
+            ends_well (book_of w all) d o _ (λ n is status refused. (is_known w all soon h walks k d o was at).ends n is (asked_late (deeds_of all) w.core.ops k d o n (h.more.0.0.0.followed.deeds.each k d o was at) is asks free) status refused) (deeds_done w all soon h.queues h.kept h.more.0.0.0.followed k d o was at (is_known w all soon h walks k d o was at)) (completes fit_laws w all h.queues h.kept h.carry h.rested k o at alone) asks free uncut;
       };
       saving = record {
         known = λ m there. (h.more.1.0.saved.each m there).0;
@@ -234,4 +235,6 @@ promise_accepted input w e =
     let ran = ((accepted_exactly input w).0 e).0 in
     let unnoted = carried_run (λ all past opening k qs. AllUnnoted past k.seats) (kept_laws fit_laws) fit_laws (carried_unnoted fit_laws) input w ran in
     let h = carried_run Whole (kept_laws fit_laws) fit_laws whole_carried input w ran in
-    promise_of input w (none_fresh (moments input) w.core.seats unnoted.more) ran (record { queues = h.queues; kept = h.kept; carry = h.carry; rested = h.rested; more = h.more.0 }) h.more.1
+    let early = carried_run AllSoon (kept_laws fit_laws) fit_laws (carried_soon fit_laws) input w ran in
+    let leased = none_fresh (moments input) w.core.seats unnoted.more in
+    promise_of input w leased (λ k o at. early.more.each leased k o at) ran (record { queues = h.queues; kept = h.kept; early = h.early; carry = h.carry; rested = h.rested; more = h.more.0 }) h.more.1

@@ -1,5 +1,5 @@
 -- An answer that refuses a call on names is what the call came to over the tree, as the server took it, or settled what it left waiting.
-use Rattle.std.proofs.Common.{inl, inr, ◌≡◌, ℕ, List, [], ◌∷◌, ◌++◌, length, drop, Option, Some, None, Result, Ok, Err, Bool, true, false, refl, sym, ap, ◌∙◌, subst, arith}
+use Rattle.std.proofs.Common.{inl, inr, ◌≡◌, ℕ, List, [], ◌∷◌, length, Option, Some, None, Result, Ok, Err, Bool, true, false, refl, sym, ap, ◌∙◌, subst, arith, map}
 use Rattle.hash_calls.specs.declared.message.Lb.{Lb}
 use Rattle.hash_calls.specs.declared.message.Lb.TheVariants as lb
 use Rattle.nfs3_calls.specs.declared.message.Nfs.{Nfs}
@@ -7,18 +7,21 @@ use Rattle.nfs3_calls.specs.declared.message.Nfs.TheVariants as nfs
 use Rattle.wire.specs.declared.message.Body.TheVariants as body
 use Rattle.wire.specs.declared.message.Message.TheVariants as message
 use Rattle.xdr_codec.specs.declared.status.Status.TheVariants as status
-use Rattle.tree_calls.specs.Waiting.{calls, settles as tree_settles}
+use Rattle.tree_calls.specs.Waiting.{calls, file_of, settles as tree_settles}
 use Rattle.tree_calls.specs.declared.asked.Done.{Done as Told}
 use Rattle.tree_calls.specs.declared.asked.Outcome.{Outcome}
 use Rattle.tree_calls.specs.declared.asked.Outcome.TheVariants.{Answered, Waits as ToWait}
 use Rattle.server_core.specs.State as server
-use Rattle.server_core.specs.Closing.{answers, looked_up, settles as server_settles}
+use Rattle.server_core.specs.Closing.{answers, looked_up, ready_by, settles_by}
+use Rattle.callback_core.specs.Waits.{without, without_made}
 use Rattle.server_core.specs.Step.{asks, asks_tree}
-use Rattle.server_core.specs.Steps.{sends}
 use Rattle.server_core.specs.declared.change.Wanted.TheVariants as wanted
 use Rattle.server_core.specs.declared.event.Sent.{Sent}
 use Rattle.trace_replay.specs.Naming.{refusal_of, TreeTells}
-use Rattle.kept_promise.proofs.Common.{slice_get, nat_lt, if◌then◌else◌, Contains, Contains-push_cases, Contains-append_cases, Failed, Status, Body, Message, parse_of, Temp, size_most, temp_at, room_fault, piece_fault, cond_fault, assembled, without_temp, File, Node, file, directory, node_of, called, got_if, at, stands, makes, makes_unless, writes_unless, names_unless, names_bytes, commits, commits_to, commits_whole, has_waiting, is_full, makes_change, Wanted, Change, Core, Event, Event.Serves, Event.Settles, CoreStep, server_waiting, happens}
+use Rattle.kept_promise.proofs.Common.{nat_lt, if◌then◌else◌, Contains, Contains-push_cases, Contains-append_cases, Failed, Status, Body, Message, parse_of, Temp, size_most, temp_at, room_fault, piece_fault, cond_fault, assembled, without_temp, File, Node, file, directory, node_of, called, got_if, at, stands, makes, makes_unless, writes_unless, names_unless, names_bytes, commits, commits_to, commits_whole, has_waiting, is_full, makes_change, Wanted, Change, Core, Event, Event.Serves, Event.Settles, CoreStep, server_waiting, happens, change_of}
+use Rattle.server_core.specs.Recalling.{comes, recall_sent, recalls_for}
+use Rattle.server_core.specs.Leasing.{asking}
+use Rattle.callback_core.specs.declared.back_calls.Asked.{Asked as Recalled}
 use Rattle.kept_promise.proofs.Lists.{nothing_there}
 use Rattle.kept_promise.proofs.RunsCarried.{moment}
 use Rattle.kept_promise.proofs.Happens.{what_happens}
@@ -61,15 +64,20 @@ same_sent n m x y a b c = elim (Contains-push_cases [] (told_on n x a) (told_on 
     told_is x y a b e = cc
 
 -- calls of LBFS have none
+-- what a server asks for is none
+recalls_other : (recalls : List Recalled) → AreOther (map recall_sent recalls)
+recalls_other [] = tt
+recalls_other (a ∷ recalls) = (tt, recalls_other recalls)
+
 commits_other : (s : server.State) (n xid size : ℕ) (t : Temp) (nd : Result Node Status) → AreOther (commits_to s n xid size t nd).1.send
 commits_other s n xid size t (Err e) = (tt, tt)
 commits_other s n xid size t (Ok directory) = (tt, tt)
 commits_other s n xid size t (Ok (file f)) = by (nat_lt size_most size)
   where
-    waits : (content : List ℕ) (a b : Bool) → AreOther (if a then answers s n xid (lb.CommitTmpAnswer (Failed status.Jukebox tt)) else if b then answers s n xid (lb.CommitTmpAnswer (Failed status.NoSpc tt)) else (record s { waiting = s.waiting ++ record { session = n; xid = xid; file = f.id; what = wanted.Content content } ∷ [] }, sends [])).1.send
+    waits : (content : List ℕ) (a b : Bool) → AreOther (if a then answers s n xid (lb.CommitTmpAnswer (Failed status.Jukebox tt)) else if b then answers s n xid (lb.CommitTmpAnswer (Failed status.NoSpc tt)) else comes s (change_of n xid f.id (wanted.Content content))).1.send
     waits content true b = (tt, tt)
     waits content false true = (tt, tt)
-    waits content false false = tt
+    waits content false false = recalls_other (asking s.leasing (recalls_for s (change_of n xid f.id (wanted.Content content)))).1
 
     whole : (o : Option (List ℕ)) → AreOther (commits_whole s n xid f.id o).1.send
     whole None = (tt, tt)
@@ -128,7 +136,7 @@ asks_refuses s n xid call = by (calls s.tree (server.held s.waiting) (has_waitin
     by : (o : Option Outcome) → (calls s.tree (server.held s.waiting) (has_waiting s.waiting n) call).1 ≡ o → Refuses s n xid call (asks (record s { tree = (calls s.tree (server.held s.waiting) (has_waiting s.waiting n) call).0 }) n xid o).1.send
     by None is m y a e refused c = absurd (other_sent (asks s n xid None).1.send m y a (tt, tt) c)
     by (Some (Answered d)) is m y a e refused c = (let same = same_sent n m xid y d.answer a c in (same.0, same.1, (d, is, sym same.2)))
-    by (Some (ToWait w)) is m y a e refused c = absurd (other_sent [] m y a tt c)
+    by (Some (ToWait w)) is m y a e refused c = absurd (other_sent (map recall_sent (asking s.leasing (recalls_for (record s { tree = (calls s.tree (server.held s.waiting) (has_waiting s.waiting n) call).0 }) (change_of n xid (file_of w) (wanted.Asked w)))).1) m y a (recalls_other (asking s.leasing (recalls_for (record s { tree = (calls s.tree (server.held s.waiting) (has_waiting s.waiting n) call).0 }) (change_of n xid (file_of w) (wanted.Asked w)))).1) c)
 
 call_refuses : (s : server.State) (n xid : ℕ) (call : Nfs) → Refuses s n xid call (called s n xid (body.Nfs call)).1.send
 call_refuses s n xid nfs.Null m y a e refused c = none_refused n xid nfs.NullAnswer refl m y a e refused c
@@ -152,7 +160,7 @@ all_told k e = what_happens k e (IsTold k e) (record {
   does = λ c now d seat is. quietly k e _ tt;
   takes = λ n now bytes x z is there read. record { by = λ m y a s refused c. subst (λ (w : Event). TreeTells (moment k w) m y a) (sym is) (got_by n now bytes z read (stands k.server n) m y a s refused c) };
   hears = λ n now bytes owner seat is. quietly k e _ tt;
-  settles = λ now is. record { by = λ m y a s refused c. subst (λ (w : Event). TreeTells (moment k w) m y a) (sym is) (settled now k.server.waiting refl m y a s refused c) };
+  settles = λ now is. record { by = λ m y a s refused c. subst (λ (w : Event). TreeTells (moment k w) m y a) (sym is) (settled now (ready_by k.server now) refl m y a s refused c) };
   cuts = λ c seat is. quietly k e _ tt;
   hangs = λ n x is there. quietly k e _ tt;
 })
@@ -171,20 +179,20 @@ all_told k e = what_happens k e (IsTold k e) (record {
     got_by n now bytes (message.Refuse xid r) read true m y a s refused c = absurd (other_sent [] m y a tt c)
     got_by n now bytes z read false m y a s refused c = absurd (other_sent [] m y a tt c)
 
-    made : (now : ℕ) (c : Change) (cs : List Change) → k.server.waiting ≡ c ∷ cs → (w : Wanted) → c.what ≡ w → (m y : ℕ) (a : Nfs) (s : Status) → refusal_of a ≡ Some s → Contains (makes_change (at (record k.server { waiting = cs }) now) c w).1.send (told_on m y a) → TreeTells (moment k (Settles now)) m y a
-    made now c cs is (wanted.Content x) what m y a s refused here = absurd (other_sent (makes_change (at (record k.server { waiting = cs }) now) c (wanted.Content x)).1.send m y a (tt, tt) here)
-    made now c cs is (wanted.Asked w) what m y a s refused here =
+    made : (now : ℕ) (c : Change) → ready_by k.server now ≡ Some c → (w : Wanted) → c.what ≡ w → (m y : ℕ) (a : Nfs) (s : Status) → refusal_of a ≡ Some s → Contains (makes_change (at (record k.server { waiting = without k.server.waiting c.session }) now) c w).1.send (told_on m y a) → TreeTells (moment k (Settles now)) m y a
+    made now c is (wanted.Content x) what m y a s refused here = absurd (other_sent (makes_change (at (record k.server { waiting = without k.server.waiting c.session }) now) c (wanted.Content x)).1.send m y a (tt, tt) here)
+    made now c is (wanted.Asked w) what m y a s refused here =
         let same = same_sent c.session m c.xid y _ a here in
         inr (record {
-          settled = record { now = now; event_is = refl; change = c; first = ap (λ (l : List Change). slice_get l 0) is; session_is = sym same.0; xid_is = sym same.1 };
+          settled = record { now = now; event_is = refl; change = c; ready = is; session_is = sym same.0; xid_is = sym same.1 };
           asked = w;
           what_is = what;
-          answer_is = ap (λ (l : List Change). (tree_settles k.server.tree (server.held (drop 1 l)) w).1.answer) is ∙ sym same.2;
+          answer_is = ap (λ (o : Option Change). (tree_settles k.server.tree (server.held (without_made k.server.waiting o)) w).1.answer) is ∙ sym same.2;
         })
 
-    settled : (now : ℕ) (ws : List Change) → k.server.waiting ≡ ws → (m y : ℕ) (a : Nfs) (s : Status) → refusal_of a ≡ Some s → Contains (server_settles k.server now ws).1.send (told_on m y a) → TreeTells (moment k (Settles now)) m y a
-    settled now [] is m y a s refused c = absurd (other_sent [] m y a tt c)
-    settled now (c ∷ cs) is m y a s refused here = made now c cs is c.what refl m y a s refused here
+    settled : (now : ℕ) (next : Option Change) → ready_by k.server now ≡ next → (m y : ℕ) (a : Nfs) (s : Status) → refusal_of a ≡ Some s → Contains (settles_by k.server false now next).1.send (told_on m y a) → TreeTells (moment k (Settles now)) m y a
+    settled now None is m y a s refused c = absurd (other_sent [] m y a tt c)
+    settled now (Some c) is m y a s refused here = made now c is c.what refl m y a s refused here
 
 -- what an answer says that refuses is what the tree told
 pub tree_tells : (k : Core) (e : Event) (n xid : ℕ) (a : Nfs) (s : Status) → refusal_of a ≡ Some s → Contains (happens k e).down (record { session = n; message = message.Answer xid (body.Nfs a) }) → TreeTells (moment k e) n xid a

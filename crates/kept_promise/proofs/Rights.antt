@@ -1,5 +1,5 @@
 -- What holds of an operation, and of the journal beside the operations.
-use Rattle.std.proofs.Common.{◌≡◌, ◌⊎◌, ℕ, ◌+◌, ◌<◌, ◌≤◌, List, length, Some, None, Bool, true, false, IsSome, refl}
+use Rattle.std.proofs.Common.{◌≡◌, ◌⊎◌, ℕ, ◌+◌, ◌<◌, ◌≤◌, List, length, Some, None, Bool, true, false, IsSome, refl, sym, ◌∙◌, subst}
 use Rattle.path_calls.specs.declared.walk.Walk.{Walk}
 use Rattle.chunk_calls.specs.Files as the_files
 use Rattle.client_state.specs.declared.task.Stage.TheVariants as stage
@@ -11,14 +11,15 @@ use Rattle.register_model.specs.Register.{succeeded, IsFit}
 use Rattle.xdr_codec.specs.Handle.{handle_bytes}
 use Rattle.hash_calls.specs.declared.message.Lb.TheVariants as lb
 use Rattle.wire.specs.declared.message.Body.TheVariants as body
-use Rattle.trace_replay.specs.Causes.{HasNoRoom, IsGone, IsDirectory, Within}
+use Rattle.trace_replay.specs.Causes.{HasNoRoom, IsGone, IsDirectory, Within, OrBy}
 use Rattle.trace_replay.specs.Naming.{IsInside}
 use Rattle.trace_replay.specs.OwnCalls.{TakesCall}
 use Rattle.trace_replay.specs.Faithful.{IsKind, HasJournal}
 use Rattle.std.proofs.Common.{List, Option}
 use Rattle.client_cache.specs.Cache.{content_of as kept_of, fresh_of}
 use Rattle.client_cache.specs.declared.kept.Content.{Content}
-use Rattle.kept_promise.proofs.Common.{Core, Session, Event, Event.Does, Event.Hears, Or, Task, Seat, numbered, slice_get, not, is_some, Contains, sha1, File, Moment, value_at, version_at, is_lost, is_untold, Op, Word, Book, IsOpened, IsClosed, IsChanged, IsLost, IsOpenRefused, IsEntered, is_running, changes, nat_lt}
+use Rattle.kept_promise.proofs.Lists.{some_is}
+use Rattle.kept_promise.proofs.Common.{Entry, Core, Session, Event, Event.Does, Event.Hears, Or, Task, Seat, numbered, slice_get, not, is_some, Contains, sha1, File, Moment, value_at, version_at, is_lost, is_untold, Op, Word, Book, IsOpened, IsClosed, IsChanged, IsLost, IsOpenRefused, IsEntered, is_running, changes, nat_lt}
 
 -- ---- what is fresh
 
@@ -45,8 +46,48 @@ pub record IsOpenedIf (book : Book) (file : ℕ) (o : Op) (len : ℕ) (digest : 
   pub within : Within o point
   pub value_is : AreLeased book.moments → Or book (value_at book file point ≡ Some o.value)
 
-pub opened_if : (book : Book) (file : ℕ) (o : Op) (len : ℕ) (digest : List ℕ) → AreLeased book.moments → IsOpenedIf book file o len digest → IsOpened book file o len digest
-opened_if book file o len digest leased h = record { length_is = h.length_is; digest_is = h.digest_is; point = h.point; within = h.within; value_is = h.value_is leased }
+-- What rests on digests while an operation goes on, on those of all that these moments hash, is told of what was hashed by its end alone:
+-- of an open and of a close that succeeded.
+abbrev pub Soon : Book → Op → Outcome → Type 0
+Soon book o (told.Opened len digest) = (p : ℕ) × (o.point ≡ Some p) × OrBy book o (value_at book o.file p ≡ Some o.value)
+Soon book o (told.Closed version len digest) = (p : ℕ) × (o.point ≡ Some p) × IsEntered book o o.file p version len digest
+Soon book o u = Unit {0}
+
+pub opened_if : (book : Book) (o : Op) (len : ℕ) (digest : List ℕ) → Soon book o (told.Opened len digest) → IsOpenedIf book o.file o len digest → IsOpened book o.file o len digest
+opened_if book o len digest soon h = record {
+  length_is = h.length_is;
+  digest_is = h.digest_is;
+  point = h.point;
+  within = h.within;
+  value_is = subst (λ (p : ℕ). OrBy book o (value_at book o.file p ≡ Some o.value)) (some_is soon.0 h.point (sym soon.1 ∙ h.within.0)) soon.2;
+}
+
+-- a change of the file was made at the point, of which the server's journal tells this, or lists of the run share a digest
+pub record IsEnteredIf (book : Book) (file point version len : ℕ) (digest : List ℕ) : Type 0 where
+  pub place : ℕ
+  pub entry : Entry
+  pub step_is : slice_get book.entries place ≡ Some point
+  pub entry_is : slice_get book.journal place ≡ Some entry
+  pub file_is : entry.file ≡ file
+  pub version_is : entry.version ≡ version
+  pub len_is : entry.len ≡ len
+  pub digest_is : Or book (entry.sha1 ≡ digest)
+
+pub record IsClosedIf (book : Book) (file : ℕ) (o : Op) (version len : ℕ) (digest : List ℕ) : Type 0 where
+  pub length_is : len ≡ length o.value
+  pub digest_is : digest ≡ sha1 o.value
+  pub point : ℕ
+  pub within : Within o point
+  pub entered : IsEnteredIf book file point version len digest
+
+pub closed_if : (book : Book) (o : Op) (version len : ℕ) (digest : List ℕ) → Soon book o (told.Closed version len digest) → IsClosedIf book o.file o version len digest → IsClosed book o.file o version len digest
+closed_if book o version len digest soon h = record {
+  length_is = h.length_is;
+  digest_is = h.digest_is;
+  point = h.point;
+  within = h.within;
+  entered = subst (λ (p : ℕ). IsEntered book o o.file p version len digest) (some_is soon.0 h.point (sym soon.1 ∙ h.within.0)) soon.2;
+}
 
 pub open_not_close : words.Open ≡ words.Close → ⊥
 open_not_close e = absurd cc
@@ -149,7 +190,7 @@ abbrev pub Caused : Book → Op → Outcome → Type 0
 Caused book o (told.Opened len digest) = (o.word ≡ words.Open) × IsOpenedIf book o.file o len digest × WasThere book o.file
 Caused book o (told.Refused status) = RefusedBy book o o.word status
 Caused book o (told.Changed first last) = (o.word ≡ words.Open) × IsChanged book o.file o first last
-Caused book o (told.Closed version len digest) = (o.word ≡ words.Close) × IsClosed book o.file o version len digest
+Caused book o (told.Closed version len digest) = (o.word ≡ words.Close) × IsClosedIf book o.file o version len digest
 Caused book o told.Lost = (is_remote o.word ≡ true) × IsLost book o
 Caused book o told.Running = (is_remote o.word ≡ true) × (o.end ≡ None)
 Caused book o (told.BadPeer n) = ⊥
@@ -177,7 +218,7 @@ IsUnmade o = (changes o.word ≡ true) × (o.point ≡ None) × (is_untold o.out
 
 -- the close at a place has its point, and its entry this version, in which its file had its value
 abbrev pub IsMade : Book → (place version : ℕ) → Type 0
-IsMade book place v = (o : Op) × (p : ℕ) × (slice_get book.ops place ≡ Some o) × (o.word ≡ words.Close) × (o.point ≡ Some p) × (p ≤ book.steps) × IsEntered book o.file p v (length o.value) (sha1 o.value)
+IsMade book place v = (o : Op) × (p : ℕ) × (slice_get book.ops place ≡ Some o) × (o.word ≡ words.Close) × (o.point ≡ Some p) × (p ≤ book.steps) × IsEnteredIf book o.file p v (length o.value) (sha1 o.value)
     × ((q : ℕ) × (q ≤ book.steps + 1) × (version_at book o.file q ≡ v) × (value_at book o.file q ≡ Some o.value))
 
 -- ---- what the server had

@@ -62,6 +62,9 @@ pub record Step (all past rest : List Moment) (opening : List Opening) (k : Core
   pub sends : Sends (happens k e)
   pub after_is : after ≡ queues_after mid (happens k e) sends
   pub left : IsKept (book_at opening (happens k e).core all) (happens k e).core after
+  -- and the same of what has happened by now, before it and behind it
+  pub early : IsKept (book_at opening k past) k qs
+  pub left_early : IsKept (book_at opening (happens k e).core (past ++ moment k e ∷ [])) (happens k e).core after
 
 -- A further fact, of all moments of a run, of those that are past, and of the two ends and what is on its way then. It is to hold before
 -- the first event, and to be kept by each.
@@ -78,6 +81,7 @@ pub record Carried (P : (all past : List Moment) → List Opening → Core → L
 pub record Stands (P : (all past : List Moment) → List Opening → Core → List Queue → Type 0) (all past : List Moment) (w : World) : Type 0 where
   pub queues : List Queue
   pub kept : IsKept (book_of w all) w.core queues
+  pub early : IsKept (book_of w past) w.core queues
   pub carry : CarryAll w.wires queues
   pub rested : AreRested w.wires
   pub more : P all past w.opening w.core queues

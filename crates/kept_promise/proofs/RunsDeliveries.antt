@@ -93,6 +93,7 @@ own_there qs n q r at = (around_with qs n q r at).there
 record Midway (P : Fact) (all past : List Moment) (w : World) : Type 0 where
   queues : List Queue
   kept : IsKept (book_of w all) w.core queues
+  early : IsKept (book_of w past) w.core queues
   carry : CarryAll w.wires queues
   more : P all past w.opening w.core queues
 
@@ -113,17 +114,17 @@ serve_events n now rs = map (Serves n now) rs
 
 -- the records of the first calls on their way come, where the wires have them no more
 served_all : (P : Fact) → KeptLaws → Carried P → (all past rest : List Moment) (n now : ℕ) (us behind : List Ask) (w : World) (qs : List Queue) (q : Queue)
-    → all ≡ past ++ (moments_of w (serve_events n now (map ask_bytes us)) ++ rest) → IsKept (book_of w all) w.core qs → CarryAll w.wires (becomes (off_ups (length us)) qs n) → P all past w.opening w.core qs → numbered qs n ≡ Some q → q.ups ≡ us ++ behind
+    → all ≡ past ++ (moments_of w (serve_events n now (map ask_bytes us)) ++ rest) → IsKept (book_of w all) w.core qs → IsKept (book_of w past) w.core qs → CarryAll w.wires (becomes (off_ups (length us)) qs n) → P all past w.opening w.core qs → numbered qs n ≡ Some q → q.ups ≡ us ++ behind
     → Midway P all (past ++ moments_of w (serve_events n now (map ask_bytes us))) (all_happened w (serve_events n now (map ask_bytes us)))
-served_all P l carried all past rest n now [] behind w qs q split kept carry holds at is =
-    none_more all past (λ (z : List Moment). Midway P all z w) (record { queues = qs; kept = kept; carry = subst (CarryAll w.wires) (become_same (off_ups 0) (λ z. refl) qs n) carry; more = holds })
-served_all P l carried all past rest n now (a ∷ us) behind w qs q split kept carry holds at is =
+served_all P l carried all past rest n now [] behind w qs q split kept early carry holds at is =
+    none_more all past (λ (z : List Moment). Midway P all z w) (record { queues = qs; kept = kept; early = early; carry = subst (CarryAll w.wires) (become_same (off_ups 0) (λ z. refl) qs n) carry; more = holds })
+served_all P l carried all past rest n now (a ∷ us) behind w qs q split kept early carry holds at is =
     let e : Event = Serves n now (ask_bytes a) in
     let t : CoreStep = happens w.core e in
     let m : Moment = moment w.core e in
     let ms : List Moment = moments_of (happened w e) (serve_events n now (map ask_bytes us)) in
     let mid : List Queue = with_numbered qs n (record q { ups = us ++ behind }) in
-    let left = left_by P l carried all past (ms ++ rest) w.opening w.core qs e mid split kept (q, a, us ++ behind, at, is, refl, refl) holds in
+    let left = left_by P l carried all past (ms ++ rest) w.opening w.core qs e mid split kept early (q, a, us ++ behind, at, is, refl, refl) holds in
     let quiet = serves_silent w.core n now (ask_bytes a) in
     let after : List Queue = queues_after mid t left.sends in
     let own : numbered mid n ≡ Some (record q { ups = us ++ behind }) = own_there qs n q (record q { ups = us ++ behind }) at in
@@ -131,7 +132,7 @@ served_all P l carried all past rest n now (a ∷ us) behind w qs q split kept c
     let less : CarryAll w.wires (becomes (off_ups (length us)) mid n) = subst (CarryAll w.wires) (ups_next qs (length us) n q a (us ++ behind) at is) carry in
     let sent : CarryAll (happened w e).wires (becomes (off_ups (length us)) after n) = subst (CarryAll (happened w e).wires) (served_off (length us) n mid t left.sends quiet.0 quiet.1) (routes_carry w.wires (becomes (off_ups (length us)) mid n) t left.sends less) in
     one_more past m ms (λ (z : List Moment). Midway P all z (all_happened (happened w e) (serve_events n now (map ask_bytes us))))
-    (served_all P l carried all (past ++ m ∷ []) rest n now us behind (happened w e) after has.0 (next_split all past m ms rest split) left.kept sent left.more has.1 has.2)
+    (served_all P l carried all (past ++ m ∷ []) rest n now us behind (happened w e) after has.0 (next_split all past m ms rest split) left.kept left.early sent left.more has.1 has.2)
 
 pub up_stands : (P : Fact) → KeptLaws → FitLaws → Carried P → (all past rest : List Moment) (w : World) (n count now : ℕ) → all ≡ past ++ (up_moments w n count now ++ rest) → Stands P all past w → Stands P all (past ++ up_moments w n count now) (up_some w n count now)
 up_stands P l fits carried all past rest w n count now split h = by (numbered w.wires n) refl split
@@ -160,10 +161,10 @@ up_stands P l fits carried all past rest w n count now split h = by (numbered w.
         subst (λ (z : List (List ℕ)). Midway P all (past ++ moments_of (up_taken w n count q) (serve_events n now z)) (all_happened (up_taken w n count q) (serve_events n now z))) same
         (served_all P l carried all past rest n now p.front p.behind (up_taken w n count q) h.queues m
         (subst (λ (z : List (List ℕ)). all ≡ past ++ (moments_of (up_taken w n count q) (serve_events n now z) ++ rest)) (sym same) split)
-        h.kept (subst (CarryAll wires) off set) h.more there.1 p.all)
+        h.kept h.early (subst (CarryAll wires) off set) h.more there.1 p.all)
 
     rest_of : (ms : List Moment) (v : World) → up_some w n count now ≡ v → Midway P all ms v → Stands P all ms v
-    rest_of ms v e m = record { queues = m.queues; kept = m.kept; carry = m.carry; rested = subst (λ (z : World). AreRested z.wires) e (rests_up w n count now h.rested); more = m.more }
+    rest_of ms v e m = record { queues = m.queues; kept = m.kept; early = m.early; carry = m.carry; rested = subst (λ (z : World). AreRested z.wires) e (rests_up w n count now h.rested); more = m.more }
 
     by : (o : Option Wire) → numbered w.wires n ≡ o → all ≡ past ++ (up_moments_at w n count now o ++ rest) → Stands P all (past ++ up_moments_at w n count now o) (up_at w n count now o)
     by None at split = none_more all past (λ (z : List Moment). Stands P all z w) h
@@ -176,17 +177,17 @@ hear_events n now rs = map (Hears n now) rs
 
 -- the records of the first answers on their way come, where the wires have them no more
 heard_all : (P : Fact) → KeptLaws → Carried P → (all past rest : List Moment) (n now : ℕ) (ts behind : List Told) (w : World) (qs : List Queue) (q : Queue)
-    → all ≡ past ++ (moments_of w (hear_events n now (map told_bytes ts)) ++ rest) → IsKept (book_of w all) w.core qs → CarryAll w.wires (becomes (off_downs (length ts)) qs n) → P all past w.opening w.core qs → numbered qs n ≡ Some q → q.downs ≡ ts ++ behind
+    → all ≡ past ++ (moments_of w (hear_events n now (map told_bytes ts)) ++ rest) → IsKept (book_of w all) w.core qs → IsKept (book_of w past) w.core qs → CarryAll w.wires (becomes (off_downs (length ts)) qs n) → P all past w.opening w.core qs → numbered qs n ≡ Some q → q.downs ≡ ts ++ behind
     → Midway P all (past ++ moments_of w (hear_events n now (map told_bytes ts))) (all_happened w (hear_events n now (map told_bytes ts)))
-heard_all P l carried all past rest n now [] behind w qs q split kept carry holds at is =
-    none_more all past (λ (z : List Moment). Midway P all z w) (record { queues = qs; kept = kept; carry = subst (CarryAll w.wires) (become_same (off_downs 0) (λ z. refl) qs n) carry; more = holds })
-heard_all P l carried all past rest n now (t ∷ ts) behind w qs q split kept carry holds at is =
+heard_all P l carried all past rest n now [] behind w qs q split kept early carry holds at is =
+    none_more all past (λ (z : List Moment). Midway P all z w) (record { queues = qs; kept = kept; early = early; carry = subst (CarryAll w.wires) (become_same (off_downs 0) (λ z. refl) qs n) carry; more = holds })
+heard_all P l carried all past rest n now (t ∷ ts) behind w qs q split kept early carry holds at is =
     let e : Event = Hears n now (told_bytes t) in
     let u : CoreStep = happens w.core e in
     let m : Moment = moment w.core e in
     let ms : List Moment = moments_of (happened w e) (hear_events n now (map told_bytes ts)) in
     let mid : List Queue = with_numbered qs n (record q { downs = ts ++ behind }) in
-    let left = left_by P l carried all past (ms ++ rest) w.opening w.core qs e mid split kept (q, t, ts ++ behind, at, is, refl, refl) holds in
+    let left = left_by P l carried all past (ms ++ rest) w.opening w.core qs e mid split kept early (q, t, ts ++ behind, at, is, refl, refl) holds in
     let quiet = hears_silent w.core n now (told_bytes t) in
     let after : List Queue = queues_after mid u left.sends in
     let own : numbered mid n ≡ Some (record q { downs = ts ++ behind }) = own_there qs n q (record q { downs = ts ++ behind }) at in
@@ -194,7 +195,7 @@ heard_all P l carried all past rest n now (t ∷ ts) behind w qs q split kept ca
     let less : CarryAll w.wires (becomes (off_downs (length ts)) mid n) = subst (CarryAll w.wires) (downs_next qs (length ts) n q t (ts ++ behind) at is) carry in
     let sent : CarryAll (happened w e).wires (becomes (off_downs (length ts)) after n) = subst (CarryAll (happened w e).wires) (heard_off (length ts) n mid u left.sends quiet.0 quiet.1) (routes_carry w.wires (becomes (off_downs (length ts)) mid n) u left.sends less) in
     one_more past m ms (λ (z : List Moment). Midway P all z (all_happened (happened w e) (hear_events n now (map told_bytes ts))))
-    (heard_all P l carried all (past ++ m ∷ []) rest n now ts behind (happened w e) after has.0 (next_split all past m ms rest split) left.kept sent left.more has.1 has.2)
+    (heard_all P l carried all (past ++ m ∷ []) rest n now ts behind (happened w e) after has.0 (next_split all past m ms rest split) left.kept left.early sent left.more has.1 has.2)
 
 pub down_stands : (P : Fact) → KeptLaws → Carried P → (all past rest : List Moment) (w : World) (n count now : ℕ) → all ≡ past ++ (down_moments w n count now ++ rest) → Stands P all past w → Stands P all (past ++ down_moments w n count now) (down_some w n count now)
 down_stands P l carried all past rest w n count now split h = by (numbered w.wires n) refl split
@@ -223,10 +224,10 @@ down_stands P l carried all past rest w n count now split h = by (numbered w.wir
         subst (λ (z : List (List ℕ)). Midway P all (past ++ moments_of (down_taken w n count q) (hear_events n now z)) (all_happened (down_taken w n count q) (hear_events n now z))) same
         (heard_all P l carried all past rest n now p.front p.behind (down_taken w n count q) h.queues m
         (subst (λ (z : List (List ℕ)). all ≡ past ++ (moments_of (down_taken w n count q) (hear_events n now z) ++ rest)) (sym same) split)
-        h.kept (subst (CarryAll wires) off set) h.more there.1 p.all)
+        h.kept h.early (subst (CarryAll wires) off set) h.more there.1 p.all)
 
     rest_of : (ms : List Moment) (v : World) → down_some w n count now ≡ v → Midway P all ms v → Stands P all ms v
-    rest_of ms v e m = record { queues = m.queues; kept = m.kept; carry = m.carry; rested = subst (λ (z : World). AreRested z.wires) e (rests_down w n count now h.rested); more = m.more }
+    rest_of ms v e m = record { queues = m.queues; kept = m.kept; early = m.early; carry = m.carry; rested = subst (λ (z : World). AreRested z.wires) e (rests_down w n count now h.rested); more = m.more }
 
     by : (o : Option Wire) → numbered w.wires n ≡ o → all ≡ past ++ (down_moments_at w n count now o ++ rest) → Stands P all (past ++ down_moments_at w n count now o) (down_at w n count now o)
     by None at split = none_more all past (λ (z : List Moment). Stands P all z w) h

@@ -1,5 +1,5 @@
 -- One event of a run: what it leaves is kept, and the wires carry what is on its way.
-use Rattle.std.proofs.Common.{◌≡◌, ℕ, zero, List, [], ◌∷◌, ◌++◌, refl, sym, ap, ◌∙◌, subst, arith}
+use Rattle.std.proofs.Common.{◌≡◌, ℕ, zero, List, [], ◌∷◌, ◌++◌, append_assoc, refl, sym, ap, ◌∙◌, subst, arith}
 use Rattle.std.proofs.lemmas.Grind.{flat_map-append}
 use Rattle.trace_replay.specs.Trail.{hashed_in}
 use Rattle.kept_promise.proofs.Common.{Contains-append_left, Contains-append_right, Contains, flat_map, Entry, Op, Opening, Core, Seat, Event, Event.Joins, Event.Does, Event.Serves, Event.Hears, Event.Settles, Event.Cuts, Event.Hangs, CoreStep, with_numbered, happens, World, happened, Moment, hashed_of, hashed_by, Book, Queue}
@@ -8,6 +8,7 @@ use Rattle.kept_promise.proofs.Facts.{IsKept}
 use Rattle.kept_promise.proofs.Leading.{Sends, queues_after, IsNoted, Leads}
 use Rattle.kept_promise.proofs.Routes.{routes_carry}
 use Rattle.kept_promise.proofs.Rounds.{rests_happened}
+use Rattle.kept_promise.proofs.Wider.{Wider, kept_wider, wider_more, wider_split, alike_of}
 use Rattle.kept_promise.proofs.RunsCarried.{KeptLaws, book_at, moment, Finds, Carried, Stands}
 
 abbrev pub Fact : Type 1
@@ -62,29 +63,35 @@ leads_of l book k qs (Hangs n) mid kept f noted = subst (λ (z : List Queue). Le
 pub record Left (P : Fact) (all past : List Moment) (opening : List Opening) (k : Core) (e : Event) (mid : List Queue) : Type 0 where
   pub sends : Sends (happens k e)
   pub kept : IsKept (book_at opening (happens k e).core all) (happens k e).core (queues_after mid (happens k e) sends)
+  pub early : IsKept (book_at opening (happens k e).core (past ++ moment k e ∷ [])) (happens k e).core (queues_after mid (happens k e) sends)
   pub more : P all (past ++ moment k e ∷ []) opening (happens k e).core (queues_after mid (happens k e) sends)
 
-pub left_by : (P : Fact) → KeptLaws → Carried P → (all past rest : List Moment) (opening : List Opening) (k : Core) (qs : List Queue) (e : Event) (mid : List Queue) → all ≡ past ++ moment k e ∷ rest → IsKept (book_at opening k all) k qs → Finds k qs e mid → P all past opening k qs → Left P all past opening k e mid
-left_by P l carried all past rest opening k qs e mid split kept finds holds =
-    let noted = noted_of all past rest opening k e split in
-    let lead = leads_of l (book_at opening k all) k qs e mid kept finds noted in
+pub left_by : (P : Fact) → KeptLaws → Carried P → (all past rest : List Moment) (opening : List Opening) (k : Core) (qs : List Queue) (e : Event) (mid : List Queue) → all ≡ past ++ moment k e ∷ rest → IsKept (book_at opening k all) k qs → IsKept (book_at opening k past) k qs → Finds k qs e mid → P all past opening k qs → Left P all past opening k e mid
+left_by P l carried all past rest opening k qs e mid split kept early finds holds =
     let t : CoreStep = happens k e in
-    let same : lead.more ≡ book_at opening t.core all = same_book lead.more opening t.core all lead.opening lead.kept.ops lead.kept.steps lead.kept.journal lead.kept.entries lead.moments in
-    let left = subst (λ (b : Book). IsKept b t.core (queues_after mid t lead.sends)) same lead.kept in
+    let now : List Moment = past ++ moment k e ∷ [] in
+    let within : Wider now all = wider_split all now rest (split ∙ sym (append_assoc past (moment k e ∷ []) rest)) in
+    let book = kept_wider (book_at opening k past) now k qs (wider_more past (moment k e ∷ [])) (alike_of now all within kept.sound.alike) early in
+    let lead = leads_of l (book_at opening k now) k qs e mid book finds (noted_of now past [] opening k e refl) in
+    let same : lead.more ≡ book_at opening t.core now = same_book lead.more opening t.core now lead.opening lead.kept.ops lead.kept.steps lead.kept.journal lead.kept.entries lead.moments in
+    let left_early = subst (λ (b : Book). IsKept b t.core (queues_after mid t lead.sends)) same lead.kept in
+    let left = kept_wider (book_at opening t.core now) all t.core (queues_after mid t lead.sends) within kept.sound.alike left_early in
     record {
       sends = lead.sends;
       kept = left;
-      more = carried.steps all past rest opening k qs e mid (queues_after mid t lead.sends) (record { split = split; kept = kept; noted = noted; finds = finds; sends = lead.sends; after_is = refl; left = left }) holds;
+      early = left_early;
+      more = carried.steps all past rest opening k qs e mid (queues_after mid t lead.sends) (record { split = split; kept = kept; noted = noted_of all past rest opening k e split; finds = finds; sends = lead.sends; after_is = refl; left = left; early = early; left_early = left_early }) holds;
     }
 
 -- ---- an event that takes no record
 
 pub event_stands : (P : Fact) → KeptLaws → Carried P → (all past rest : List Moment) (w : World) (e : Event) → (h : Stands P all past w) → all ≡ past ++ moment w.core e ∷ rest → Finds w.core h.queues e h.queues → Stands P all (past ++ moment w.core e ∷ []) (happened w e)
 event_stands P l carried all past rest w e h split finds =
-    let left = left_by P l carried all past rest w.opening w.core h.queues e h.queues split h.kept finds h.more in
+    let left = left_by P l carried all past rest w.opening w.core h.queues e h.queues split h.kept h.early finds h.more in
     record {
       queues = queues_after h.queues (happens w.core e) left.sends;
       kept = left.kept;
+      early = left.early;
       carry = routes_carry w.wires h.queues (happens w.core e) left.sends h.carry;
       rested = rests_happened w e h.rested;
       more = left.more;

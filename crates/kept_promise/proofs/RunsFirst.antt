@@ -182,6 +182,7 @@ server_first opening tree count all t = record {
   lengths = λ i c e. no_element i c e;
   targets = λ i c e. no_element i c e;
   xids = λ i c e. no_element i c e;
+  leases = refl;
 }
   where
     held : (f : ℕ) (x : Option File) → IsOpening opening f x → FileIs (book_at opening (first_core tree count) all) f x

@@ -56,12 +56,18 @@ carry_none wires e = subst (λ (ws : List Wire). CarryAll ws []) (sym e) (refl, 
 rested_none : (wires : List Wire) → wires ≡ [] → AreRested wires
 rested_none wires e = subst AreRested (sym e) (λ k q f. nothing_there q f)
 
+-- of no moment
+none_alike : AreAlike []
+none_alike f g h a b e = let lt = a.there.1 in absurd (omega (arith, lt))
+
 pub first_stands : (P : Fact) → Carried P → (n : ℕ) (all past : List Moment) (w : World) → AreAlike all → IsFirst n w past → Stands P all past w
 first_stands P carried n all past w alike f =
     let kept = kept_first w.opening f.tree f.count all alike f.is_tree in
+    let early = kept_first w.opening f.tree f.count past (subst AreAlike (sym f.past_is) none_alike) f.is_tree in
     record {
       queues = [];
       kept = subst (λ (k : Core). IsKept (book_at w.opening k all) k []) (sym f.core_is) kept;
+      early = subst (λ (k : Core). IsKept (book_at w.opening k past) k []) (sym f.core_is) early;
       carry = carry_none w.wires f.wires_is;
       rested = rested_none w.wires f.wires_is;
       more = subst (λ (k : Core). P all past w.opening k []) (sym f.core_is) (subst (λ (z : List Moment). P all z w.opening (first_core f.tree f.count) []) (sym f.past_is) (carried.first all w.opening f.tree f.count kept));
@@ -177,7 +183,7 @@ first_turned n w e past may le f h early = not_early (turned w e).stage (turned_
 -- ---- any line
 
 same_stands : (P : Fact) (all past : List Moment) (w : World) (s : Stage) → Stands P all past w → Stands P all past (record w { stage = s })
-same_stands P all past w s h = record { queues = h.queues; kept = h.kept; carry = h.carry; rested = h.rested; more = h.more }
+same_stands P all past w s h = record { queues = h.queues; kept = h.kept; early = h.early; carry = h.carry; rested = h.rested; more = h.more }
 
 idle_stands : (P : Fact) (all past : List Moment) (w : World) → Stands P all past w → Stands P all (past ++ []) w
 idle_stands P all past w h = subst (λ (z : List Moment). Stands P all z w) (sym (append-nil past)) h
@@ -188,9 +194,12 @@ adjusted_stands P carried all past w a h =
     let b = adjusts_is (book_at w.opening w.core all) w.core h.queues a h.kept in
     let k : Core = adjusted_core w.core b.index b.seats in
     let kept : IsKept (book_at w.opening k all) k h.queues = kept_adjusted (book_at w.opening w.core all) w.core h.queues b.index b.seats b.same b.cached h.kept in
+    let d = adjusts_is (book_at w.opening w.core past) w.core h.queues a h.early in
+    let early = kept_adjusted (book_at w.opening w.core past) w.core h.queues d.index d.seats d.same d.cached h.early in
     record {
       queues = h.queues;
       kept = subst (λ (c : Core). IsKept (book_at w.opening c all) c h.queues) (sym b.is) kept;
+      early = subst (λ (c : Core). IsKept (book_at w.opening c past) c h.queues) (sym d.is) early;
       carry = h.carry;
       rested = h.rested;
       more = subst (λ (c : Core). P all past w.opening c h.queues) (sym b.is) (carried.adjusts all past w.opening w.core h.queues b.index b.seats b.same h.more);

@@ -2,14 +2,14 @@
 use Rattle.std.proofs.Common.{◌≡◌, ℕ, zero, suc, ◌+◌, ◌<◌, List, [], ◌∷◌, Some, None, false, refl, sym, ap, ◌∙◌, subst, map, Ok}
 use Rattle.std.proofs.lemmas.Nat.{from_be_bytes-to_be_bytes_8}
 use Rattle.chunk_calls.specs.Answers.{node_named}
-use Rattle.kept_promise.proofs.Common.{slice_get, Contains, Contains-append_left, Contains-append_right, Contains-push, handle_bytes, message_spell, parse_of, node_of, Indexed, Temp, Core, Session, CoreStep, Loss.Nothing, numbered, with_numbered, server_waiting, Book, Reply, Ask, Told, Queue, ask_message, Tree}
+use Rattle.kept_promise.proofs.Common.{slice_get, Contains, Contains-append_left, Contains-append_right, Contains-push, handle_bytes, message_spell, parse_of, node_of, Indexed, Temp, Core, Session, CoreStep, Loss.Nothing, numbered, with_numbered, server_waiting, Book, Reply, Ask, Told, Queue, ask_message, Tree, Leasing}
 use Rattle.kept_promise.proofs.Statements.{CallFits}
 use Rattle.kept_promise.proofs.Lists.{some_is, nothing_there}
 use Rattle.kept_promise.proofs.History.{onward}
 use Rattle.kept_promise.proofs.Turns.{Around, around_with, turned_core}
 use Rattle.kept_promise.proofs.Fits.{FitLaws}
 use Rattle.kept_promise.proofs.Takes.{took, put_down, Answers, kept_reply}
-use Rattle.kept_promise.proofs.Facts.{IsKept}
+use Rattle.kept_promise.proofs.Facts.{GrantsNone, IsKept}
 use Rattle.kept_promise.proofs.Leading.{Leads, sent_message, downs_put_in}
 
 -- ---- what is found under this file system's own handles
@@ -38,18 +38,18 @@ put_is qs sessions n q us y t is at =
 
 -- ---- an answer at once
 
-abbrev pub answered : Core → (n moment : ℕ) → Session → Ask → List (ℕ × Temp) → Indexed → Reply → CoreStep
-answered k n moment x a temps index r = record {
-  core = record k { steps = k.steps + 1; server = record k.server { moment = moment; temps = temps; index = index }; sessions = with_numbered k.sessions n (took x a.xid (k.steps + 1)) };
+abbrev pub answered : Core → (n : ℕ) → Leasing → Session → Ask → List (ℕ × Temp) → Indexed → Reply → CoreStep
+answered k n leasing x a temps index r = record {
+  core = record k { steps = k.steps + 1; server = record k.server { leasing = leasing; temps = temps; index = index }; sessions = with_numbered k.sessions n (took x a.xid (k.steps + 1)) };
   loss = Nothing;
   session = None;
   up = [];
   down = sent_message (n, record { xid = a.xid; reply = r }) ∷ [];
 }
 
-pub leads_answer : (book : Book) (k : Core) (qs : List Queue) (n moment : ℕ) (x : Session) (q : Queue) (a : Ask) (us : List Ask) (temps : List (ℕ × Temp)) (index : Indexed) (r : Reply) → (kept : IsKept book k qs) → (at : numbered k.sessions n ≡ Some x) → (is : numbered qs n ≡ Some q) → q.ups ≡ a ∷ us → x.hung ≡ false
-    → Answers book k n x q a temps r (kept.sessions n x q at is) → Leads book (with_numbered qs n (record q { ups = us })) (answered k n moment x a temps index r)
-leads_answer book k qs n moment x q a us temps index r kept at is e unhung shows =
+pub leads_answer : (book : Book) (k : Core) (qs : List Queue) (n : ℕ) (leasing : Leasing) (x : Session) (q : Queue) (a : Ask) (us : List Ask) (temps : List (ℕ × Temp)) (index : Indexed) (r : Reply) → GrantsNone leasing → (kept : IsKept book k qs) → (at : numbered k.sessions n ≡ Some x) → (is : numbered qs n ≡ Some q) → q.ups ≡ a ∷ us → x.hung ≡ false
+    → Answers book k n x q a temps r (kept.sessions n x q at is) → Leads book (with_numbered qs n (record q { ups = us })) (answered k n leasing x a temps index r)
+leads_answer book k qs n leasing x q a us temps index r leases kept at is e unhung shows =
     let t : Told = record { xid = a.xid; reply = r } in
     let y = took x a.xid (book.steps + 1) in
     let z = took x a.xid (k.steps + 1) in
@@ -58,14 +58,14 @@ leads_answer book k qs n moment x q a us temps index r kept at is e unhung shows
     let around = around_with k.sessions n x z at in
     let more = onward book 1 book.ops in
     let after = with_numbered (with_numbered qs n (record q { ups = us })) n (put_down q us x.cut t) in
-    let done : IsKept more (turned_core more (record k.server { moment = moment; temps = temps; index = index }) k.seats sessions) after = kept_reply book k qs n moment x q a us temps index r sessions after kept at is e unhung (record { there = around.there ∙ ap (λ v. Some v) (sym same); others = around.others; count = around.count }) (again qs n q (put_down q us x.cut t) us is) shows in
+    let done : IsKept more (turned_core more (record k.server { leasing = leasing; temps = temps; index = index }) k.seats sessions) after = kept_reply book k qs n leasing x q a us temps index r sessions after leases kept at is e unhung (record { there = around.there ∙ ap (λ v. Some v) (sym same); others = around.others; count = around.count }) (again qs n q (put_down q us x.cut t) us is) shows in
     record {
       sends = record { asks = []; up_is = refl; tolds = (n, t) ∷ []; down_is = refl };
       more = more;
       moments = refl;
       opening = refl;
-      kept = subst (λ (l : List Queue). IsKept more (answered k n moment x a temps index r).core l) (sym (put_is qs sessions n q us z t is around.there))
-          (subst (λ (c : Core). IsKept more c after) (ap (λ s. record { server = record k.server { moment = moment; temps = temps; index = index }; seats = k.seats; sessions = sessions; steps = s + 1; ops = book.ops; entries = book.entries }) kept.steps ∙ ap (λ o. record { server = record k.server { moment = moment; temps = temps; index = index }; seats = k.seats; sessions = sessions; steps = k.steps + 1; ops = o; entries = book.entries }) kept.ops ∙ ap (λ o. record { server = record k.server { moment = moment; temps = temps; index = index }; seats = k.seats; sessions = sessions; steps = k.steps + 1; ops = k.ops; entries = o }) kept.entries) done);
+      kept = subst (λ (l : List Queue). IsKept more (answered k n leasing x a temps index r).core l) (sym (put_is qs sessions n q us z t is around.there))
+          (subst (λ (c : Core). IsKept more c after) (ap (λ s. record { server = record k.server { leasing = leasing; temps = temps; index = index }; seats = k.seats; sessions = sessions; steps = s + 1; ops = book.ops; entries = book.entries }) kept.steps ∙ ap (λ o. record { server = record k.server { leasing = leasing; temps = temps; index = index }; seats = k.seats; sessions = sessions; steps = k.steps + 1; ops = o; entries = book.entries }) kept.ops ∙ ap (λ o. record { server = record k.server { leasing = leasing; temps = temps; index = index }; seats = k.seats; sessions = sessions; steps = k.steps + 1; ops = k.ops; entries = o }) kept.entries) done);
     }
 
 -- ---- what is told

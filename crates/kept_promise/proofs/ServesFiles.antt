@@ -16,11 +16,11 @@ use Rattle.server_core.specs.declared.journal.Entry.{Entry}
 use Rattle.server_core.specs.declared.change.Wanted.TheVariants as wanted
 use Rattle.chunk_calls.specs.Answers.{Node, directory, file, node_of}
 use Rattle.server_core.specs.Closing.{answers, looked_up as index_found}
-use Rattle.server_core.specs.Steps.{sends}
 use Rattle.temp_files.specs.Temps.{without_temp}
 use Rattle.trace_ends.specs.Core.{newest_entries, server_got, changed_file}
 use Rattle.trace_ends.specs.Ops.{pointed_at}
-use Rattle.kept_promise.proofs.Common.{size_most, room_fault, piece_fault, temp_at, Temp, assembled, nat_lt, Op, File, at, is_full, has_waiting, cond_fault, bytes_known, makes, makes_unless, writes_unless, names_unless, names_bytes, commits, commits_to, commits_whole, server_step, stands, got_if, called, Core, Session, CoreStep, with_numbered, quiet, taken_with}
+use Rattle.kept_promise.proofs.Common.{size_most, room_fault, piece_fault, temp_at, Temp, assembled, nat_lt, Op, File, at, is_full, has_waiting, cond_fault, bytes_known, makes, makes_unless, writes_unless, names_unless, names_bytes, commits, commits_to, commits_whole, server_step, stands, got_if, called, Core, Session, CoreStep, with_numbered, quiet, taken_with, change_of}
+use Rattle.server_core.specs.Recalling.{comes}
 use Rattle.server_core.specs.Closing.{entries_by, count_of}
 use Rattle.tree_reading.specs.declared.entry.Entry.{Entry as TreeEntry}
 use Rattle.tree_reading.specs.Tree.{Tree}
@@ -42,7 +42,7 @@ commits_none s session xid size t (Err e) = refl
 commits_none s session xid size t (Ok directory) = refl
 commits_none s session xid size t (Ok (file f)) = by (nat_lt size_most size)
   where
-    waits : (content : List ℕ) (a b : Bool) → (let r : server.State × ServerStep = if a then answers s session xid (lb.CommitTmpAnswer (Failed status.Jukebox tt)) else if b then answers s session xid (lb.CommitTmpAnswer (Failed status.NoSpc tt)) else (record s { waiting = s.waiting ++ record { session = session; xid = xid; file = f.id; what = wanted.Content content } ∷ [] }, sends []) in Makes r.1 0)
+    waits : (content : List ℕ) (a b : Bool) → (let r : server.State × ServerStep = if a then answers s session xid (lb.CommitTmpAnswer (Failed status.Jukebox tt)) else if b then answers s session xid (lb.CommitTmpAnswer (Failed status.NoSpc tt)) else comes s (change_of session xid f.id (wanted.Content content)) in Makes r.1 0)
     waits content true b = refl
     waits content false true = refl
     waits content false false = refl

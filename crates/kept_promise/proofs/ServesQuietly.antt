@@ -18,6 +18,7 @@ use Rattle.server_law.proofs.Trees.{IsBounded}
 use Rattle.trace_ends.specs.Core.{server_got, changed_file, is_of_file}
 use Rattle.trace_ends.specs.Ops.{pointed_at, pointed}
 use Rattle.kept_promise.proofs.Common.{slice_get, slice_set, cond, option_map, not, stands, has_waiting, name_answer, Call, Call.Walks, Entry, Op, Message, WireFault, Core, Session, Event.Serves, CoreStep, numbered, serves_if, serves, happens, Book, Queue, Ask, ask_message}
+use Rattle.server_law.specs.Unleased.{IsUnleased}
 use Rattle.kept_promise.proofs.Lists.{some_is, nothing_there, true_and_false}
 use Rattle.kept_promise.proofs.Fits.{FitLaws}
 use Rattle.kept_promise.proofs.Messages.{job, goal_word, AllAsks, IsCommit, IsCreating}
@@ -116,8 +117,8 @@ making_ops book k qs n now x q xid w us kept h first making = by (made_walk k.se
             })
 
 -- what a call that removes or renames leaves
-going_quiet : (k : Core) (n now : ℕ) (x : Session) (xid : ℕ) (w : Walk) → IsWalkSmall w → is_going w ≡ true → stands k.server n ≡ true → IsBounded k.server.tree → IsQuiet k (server_got k n now x (message.Call xid (body.Nfs (next_call w))))
-going_quiet k n now x xid w small goes standing bounded = by (comes_so k.server.tree (server.held k.server.waiting) (has_waiting k.server.waiting n) w bounded small goes)
+going_quiet : (k : Core) (n now : ℕ) (x : Session) (xid : ℕ) (w : Walk) → IsWalkSmall w → is_going w ≡ true → stands k.server n ≡ true → IsUnleased k.server → IsBounded k.server.tree → IsQuiet k (server_got k n now x (message.Call xid (body.Nfs (next_call w))))
+going_quiet k n now x xid w small goes standing leases bounded = by (comes_so k.server.tree (server.held k.server.waiting) (has_waiting k.server.waiting n) w bounded small goes)
   where
     no_entries : (after : Tree) (d : Finished) → IsName d.first → IsName d.second → IsQuiet k (making_got k n now x xid (after, d))
     no_entries after d first second = record {
@@ -131,7 +132,7 @@ going_quiet k n now x xid w small goes standing bounded = by (comes_so k.server.
     by : ComesSo k.server.tree (server.held k.server.waiting) (has_waiting k.server.waiting n) w → IsQuiet k (server_got k n now x (message.Call xid (body.Nfs (next_call w))))
     by (refused s r is why turned leads procs) = subst (IsQuiet k) (sym (got_answered k n now x xid w k.server.tree (said (name_answer r)) small goes standing is)) (no_entries k.server.tree (said (name_answer r)) (λ e f. nothing_there e f) (λ e f. nothing_there e f))
     by (done_now done r after is step first second leads procs files none root next) = subst (IsQuiet k) (sym (got_answered k n now x xid w after (record { answer = name_answer r; first = done.first; second = done.second }) small goes standing is)) (no_entries after (record { answer = name_answer r; first = done.first; second = done.second }) first second)
-    by (waits a g is asks there room free two) = subst (IsQuiet k) (sym (got_waits k n now x xid w a small goes standing is)) (record { ops = inl refl; seats = refl; passes = omega arith; up = refl; entered = none_entered k (waits_got k n now x xid a) refl refl })
+    by (waits a g is asks there room free two) = subst (IsQuiet k) (sym (got_waits k n now x xid w a small goes standing leases is)) (record { ops = inl refl; seats = refl; passes = omega arith; up = refl; entered = none_entered k (waits_got k n now x xid a) refl refl })
 
 pub serves_quiet : FitLaws → (book : Book) (k : Core) (qs : List Queue) (n now : ℕ) (bytes : List ℕ) (mid : List Queue) → IsKept book k qs → Finds k qs (Serves n now bytes) mid → IsQuiet k (happens k (Serves n now bytes))
 serves_quiet laws book k qs n now bytes mid kept f = by (numbered k.sessions n) refl
@@ -164,7 +165,7 @@ serves_quiet laws book k qs n now bytes mid kept f = by (numbered k.sessions n) 
         let h = kept.sessions n x f.0 at f.3 in
         let first : f.0.ups ≡ record { xid = f.1.xid; call = Walks w } ∷ f.2 = f.4 ∙ ap (λ (c : Call). record { xid = f.1.xid; call = c } ∷ f.2) is in
         let fit = subst (CallFits f.1.xid) is fits in
-        going_quiet k n now x f.1.xid w fit.1 goes (h.stands_is ∙ ap not (unhung x (record { xid = f.1.xid; call = Walks w }) x.hung refl h first)) kept.server.bounded
+        going_quiet k n now x f.1.xid w fit.1 goes (h.stands_is ∙ ap not (unhung x (record { xid = f.1.xid; call = Walks w }) x.hung refl h first)) kept.server.leases kept.server.bounded
 
     making : (x : Session) → numbered k.sessions n ≡ Some x → (w : Walk) → is_making w ≡ true → f.1.call ≡ Walks w → IsQuiet k (serves_if k n now x (Ok (ask_message (record { xid = f.1.xid; call = Walks w }))))
     making x at w makes is = elim (making_is w.left w.goal makes) [ inl builds ↦ building x at w builds is | inr goes ↦ going x at w goes is ]

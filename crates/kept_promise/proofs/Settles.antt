@@ -17,6 +17,7 @@ use Rattle.register_model.specs.declared.op.Word.TheVariants as words
 use Rattle.register_model.specs.Register.{IsFit}
 use Rattle.trace_replay.specs.Faithful.{IsKind, left_by as left_of}
 use Rattle.kept_promise.proofs.Common.{slice_get, slice_set, cond, ◌==◌, sha1, Done, Failed, at, Change, File, Entry, Fetch, Stage, Op, Core, Seat, Session, numbered, with_numbered, settled_ops, settled_by, pointed, pointed_at, unless, Book, Or, value_at, Reply, Reply.Versioned, Reply.Hashed, Reply.Bytes, Reply.Made, Reply.Named, Reply.Stored, Reply.Changed, Told, Queue, reply_program, Tree, Reply.Walked, Word, Value, value_from, unwrap_or, changes, Wanted, Event.Settles, happens}
+use Rattle.server_law.proofs.Unleased.{unleased_at}
 use Rattle.kept_promise.proofs.Lists.{some_is, nothing_there, same_or_not, at_end, at_replaced, of_replaced}
 use Rattle.kept_promise.proofs.Keys.{times, times_append, times_head, own, key, change_key, ask_key, told_key, wanted_program}
 use Rattle.kept_promise.proofs.Messages.{Job, job, hash_offset, CommitTold, AllTolds, IsAnswer, AnswerOf, IsPending, CloseOf, content_wanted, WaitsFor, AsksFor, walk_for, lease_xid}
@@ -213,6 +214,7 @@ settled_now laws book k qs now c cs f x q j o kept out what there here unhung is
         lengths = λ i d z. let y = out.others i d z in kept.server.lengths y.0 d y.1;
         targets = λ i d z. let y = out.others i d z in there_later book more (Some j) None d.file g (kept.server.targets y.0 d y.1);
         xids = λ i d z. let y = out.others i d z in kept.server.xids y.0 d y.1;
+        leases = unleased_at k.server now kept.server.leases;
       };
       journal_is = ap (λ (l : List Entry). l ++ e ∷ []) kept.journal;
       made_here = λ z w. known ∙ w;

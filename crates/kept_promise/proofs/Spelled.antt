@@ -118,7 +118,7 @@ pairs_fit x r = (
     told : AllNamed (told_chunks x r)
     told = All-take (λ (c : Chunk). (length c.digest ≡ 20) × (c.len ≤ 65536)) 1024 (filter (meets r.offset r.count) (chunks_of x)) (All-filter (meets r.offset r.count) (λ (c : Chunk). (length c.digest ≡ 20) × (c.len ≤ 65536)) (chunks_of x) (chunks_named x))
 
-hashes_are : (f : File) (r : HashRange) → FileFits f → hashes_form.Fits (hashes_of f r)
+hashes_are : (f : File) (r : HashRange) → FileFits f → hashes_form.Fits (hashes_of 0 f r)
 unfolding hashes_form u64_form u32_form count_form
 hashes_are f r fit =
     let pairs = pairs_fit f.content r in
@@ -127,7 +127,7 @@ hashes_are f r fit =
     (omega (arith, v), (lit< tt, (omega (arith, l), (((let le = pairs.0 in omega (arith, le), pairs.0), (refl, pairs.1)), bool_fits (is_end (length f.content) r.offset (told_chunks f.content r))))))
 
 pub hash_answers_fit : HashAnswersFit
-hash_answers_fit = λ xid g handle offset x fit. small_fits (told_message (record { xid = xid; reply = Hashed (Done (hashes_of g (record { handle = handle; offset = offset; count = 4294967295 }))) })) (x, (refl, hashes_are g (record { handle = handle; offset = offset; count = 4294967295 }) fit)) tt
+hash_answers_fit = λ xid g handle offset x fit. small_fits (told_message (record { xid = xid; reply = Hashed (Done (hashes_of 0 g (record { handle = handle; offset = offset; count = 4294967295 }))) })) (x, (refl, hashes_are g (record { handle = handle; offset = offset; count = 4294967295 }) fit)) tt
 
 -- ---- READ
 
@@ -144,12 +144,12 @@ attr_fits f fit =
 
 -- ---- GETLEASE
 
-leased_is : (f : File) → FileFits f → leased_form.Fits (leased_of f)
+leased_is : (f : File) → FileFits f → leased_form.Fits (leased_of 0 f)
 unfolding leased_form u64_form u32_form
 leased_is f fit = let v = fit.1 in (attr_fits f fit, (omega (arith, v), lit< tt))
 
 pub lease_answers_fit : LeaseAnswersFit
-lease_answers_fit = λ xid g x fit. small_fits (told_message (record { xid = xid; reply = Versioned (Done (leased_of g)) })) (x, (refl, leased_is g fit)) tt
+lease_answers_fit = λ xid g x fit. small_fits (told_message (record { xid = xid; reply = Versioned (Done (leased_of 0 g)) })) (x, (refl, leased_is g fit)) tt
 
 -- ---- bytes of a file
 

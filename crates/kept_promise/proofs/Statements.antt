@@ -48,8 +48,8 @@ PairsTell = (x : List ℕ) (i : ℕ) → i ≤ length (chunks_of x) → with_pai
 
 -- and nothing is broken in them
 abbrev pub NothingBroken : Type 0
-NothingBroken = (g : File) (f : Fetch) (x : List ℕ) (i : ℕ) (handle : List ℕ) → g.content ≡ x → length x ≤ 67108864 → f.size ≡ length x → f.chunks ≡ take i (chunks_of x) → i ≤ length (chunks_of x)
-    → broken_of f (hashes_of g (record { handle = handle; offset = end_of (take i (chunks_of x)); count = 4294967295 })) ≡ None
+NothingBroken = (term : ℕ) (g : File) (f : Fetch) (x : List ℕ) (i : ℕ) (handle : List ℕ) → g.content ≡ x → length x ≤ 67108864 → f.size ≡ length x → f.chunks ≡ take i (chunks_of x) → i ≤ length (chunks_of x)
+    → broken_of f (hashes_of term g (record { handle = handle; offset = end_of (take i (chunks_of x)); count = 4294967295 })) ≡ None
 
 -- a READ of a chunk gives its bytes
 abbrev pub ReadGives : Type 0
@@ -100,10 +100,10 @@ abbrev pub FileFits : File → Type 0
 FileFits g = (g.id < 2 ^ 64) × (g.version < 2 ^ 32) × (length g.content ≤ 67108864)
 
 abbrev pub HashAnswersFit : Type 0
-HashAnswersFit = (xid : ℕ) (g : File) (handle : List ℕ) (offset : ℕ) → xid < 2 ^ 32 → FileFits g → MessageFits (told_message (record { xid = xid; reply = Hashed (Done (hashes_of g (record { handle = handle; offset = offset; count = 4294967295 }))) }))
+HashAnswersFit = (xid : ℕ) (g : File) (handle : List ℕ) (offset : ℕ) → xid < 2 ^ 32 → FileFits g → MessageFits (told_message (record { xid = xid; reply = Hashed (Done (hashes_of 0 g (record { handle = handle; offset = offset; count = 4294967295 }))) }))
 
 abbrev pub LeaseAnswersFit : Type 0
-LeaseAnswersFit = (xid : ℕ) (g : File) → xid < 2 ^ 32 → FileFits g → MessageFits (told_message (record { xid = xid; reply = Versioned (Done (leased_of g)) }))
+LeaseAnswersFit = (xid : ℕ) (g : File) → xid < 2 ^ 32 → FileFits g → MessageFits (told_message (record { xid = xid; reply = Versioned (Done (leased_of 0 g)) }))
 
 abbrev pub ReadAnswersFit : Type 0
 ReadAnswersFit = (xid : ℕ) (g : File) (handle : List ℕ) (offset count : ℕ) → xid < 2 ^ 32 → FileFits g → MessageFits (told_message (record { xid = xid; reply = Bytes (Done (piece_of g (record { handle = handle; offset = offset; count = count }))) }))

@@ -1,12 +1,18 @@
 -- A change that waits is taken out by a settling, wherever it stands: what is left of the others, and what the settling is.
-use Rattle.std.proofs.Common.{◌≡◌, ℕ, zero, suc, ◌+◌, ◌≤◌, List, [], ◌∷◌, ◌++◌, length, drop, Some, None, Bool, true, false, refl, sym, ap, ◌∙◌, subst, arith, append-nil, eq-eqb, eqb-true, ne_eqb, replicate}
+use Rattle.std.proofs.Common.{◌≡◌, ℕ, zero, suc, ◌+◌, ◌≤◌, List, [], ◌∷◌, ◌++◌, length, Some, None, Bool, true, false, refl, sym, ap, ◌∙◌, subst, arith, append-nil, eq-eqb, eqb-true, ne_eqb, replicate, drop}
 use Rattle.std.specs.Prelude.{remove}
 use Rattle.server_core.specs.State as server
 use Rattle.server_core.specs.Closing as closing
 use Rattle.server_core.specs.declared.change.Wanted.{Wanted}
 use Rattle.server_core.specs.declared.change.Wanted.TheVariants as wanted
 use Rattle.trace_ends.specs.Core.{newest_entries, changed_file, idles}
-use Rattle.kept_promise.proofs.Common.{slice_get, cond, ◌==◌, makes_change, at, Change, ServerStep, Core, CoreStep, quiet, settles, settled_by, Book, Queue}
+use Rattle.callback_core.specs.Waits.{ready, without, without_made}
+use Rattle.server_core.specs.Closing.{ready_by}
+use Rattle.server_core.proofs.Ready.{ready_there}
+use Rattle.server_law.specs.Unleased.{makes_so, settles_so}
+use Rattle.server_law.proofs.Unleased.{ready_so, settles_is, without_first}
+use Rattle.trace_replay.specs.OwnCalls.{others_waiting}
+use Rattle.kept_promise.proofs.Common.{slice_get, cond, ◌==◌, at, Change, ServerStep, Core, CoreStep, quiet, settles, settled_by, Book, Queue, later, nat_le, if◌then◌else◌, Event.Settles}
 use Rattle.kept_promise.proofs.Lists.{some_is, nothing_there}
 use Rattle.kept_promise.proofs.Keys.{own}
 use Rattle.kept_promise.proofs.Turns.{also_numbered}
@@ -103,35 +109,59 @@ out_at waits k c at one =
 abbrev pub settled_to : Core → server.State × ServerStep → CoreStep
 settled_to k r = record (quiet (record k { steps = k.steps + 1; server = r.0; ops = settled_by k (changed_file (newest_entries r.0.journal r.1.entries)) r.1.told; entries = k.entries ++ replicate r.1.entries (k.steps + 1) })) { down = r.1.send }
 
-pub made_waiting : (s : server.State) (c : Change) (w : Wanted) → (makes_change s c w).0.waiting ≡ s.waiting
+pub made_waiting : (s : server.State) (c : Change) (w : Wanted) → (makes_so s false c w).0.waiting ≡ s.waiting
 made_waiting s c (wanted.Content content) = refl
 made_waiting s c (wanted.Asked a) = refl
 
 pub record SettlesOut (k : Core) (now : ℕ) (c : Change) (rest : List Change) : Type 0 where
   pub out : IsOut k.server.waiting c rest
-  pub is : settles k now ≡ settled_to k (makes_change (at (record k.server { waiting = rest }) now) c c.what)
+  pub is : settles k now ≡ settled_to k (makes_so (at (record k.server { waiting = rest }) now) false c c.what)
   -- it's the one that the promise names, and so are the others
+  pub ready : ready_by k.server now ≡ Some c
+  pub others : others_waiting (Settles now) k.server ≡ rest
+  -- no lease holds it up, so it came first
   pub first : slice_get k.server.waiting 0 ≡ Some c
-  pub others : drop 1 k.server.waiting ≡ rest
+  pub dropped : drop 1 k.server.waiting ≡ rest
 
 -- a change is settled, or none waits
 pub data WhatSettles (k : Core) (now : ℕ) : Type 0 where
   settles_one : (c : Change) (rest : List Change) → SettlesOut k now c rest → WhatSettles k now
   settles_none : slice_get k.server.waiting 0 ≡ None → settles k now ≡ idles k → WhatSettles k now
 
+-- what is ready waits
+pub ready_waits : (s : server.State) (now : ℕ) (c : Change) → ready_by s now ≡ Some c → (i : ℕ) × (slice_get s.waiting i ≡ Some c)
+ready_waits s now c is = by (nat_le s.leasing.quiet (later s.leasing now).moment) is
+  where
+    by : (b : Bool) → (if b then ready s.leasing.leases (later s.leasing now).moment s.waiting else None) ≡ Some c → (i : ℕ) × (slice_get s.waiting i ≡ Some c)
+    by true e = ready_there s.leasing.leases (later s.leasing now).moment s.waiting c e
+    by false e = nothing_there c e
+
 pub what_settles : (book : Book) (k : Core) (qs : List Queue) (now : ℕ) → IsKept book k qs → WhatSettles k now
 what_settles book k qs now kept = by k.server.waiting refl
   where
-    by : (waits : List Change) → k.server.waiting ≡ waits → WhatSettles k now
-    by [] e = settles_none (ap (λ (l : List Change). slice_get l 0) e) (ap (λ (l : List Change). settled_to k (closing.settles k.server now l)) e ∙ ap (λ (l : List ℕ). quiet (record k { steps = k.steps + 1; entries = l })) (append-nil k.entries))
-    by (c ∷ cs) e =
-        let first : slice_get k.server.waiting 0 ≡ Some c = ap (λ (l : List Change). slice_get l 0) e in
+    single : (c : Change) → slice_get k.server.waiting 0 ≡ Some c → length (own c.session k.server.waiting) ≤ 1
+    single c first =
         let home = kept.home 0 c first in
         let q = also_numbered k.sessions qs c.session home.0 kept.made.1 home.1 in
-        let single = (kept.sessions c.session home.0 q.0 home.1 q.1).single in
+        let one = (kept.sessions c.session home.0 q.0 home.1 q.1).single in
+        omega (arith, one)
+
+    settles_as : (waits : List Change) → k.server.waiting ≡ waits → closing.settles k.server now ≡ settles_so k.server false now waits
+    settles_as waits e =
+        settles_is k.server false now kept.server.leases (λ c cs at. single c (ap (λ (l : List Change). slice_get l 0) at))
+        ∙ ap (λ (l : List Change). settles_so k.server false now l) e
+
+    by : (waits : List Change) → k.server.waiting ≡ waits → WhatSettles k now
+    by [] e = settles_none (ap (λ (l : List Change). slice_get l 0) e) (ap (settled_to k) (settles_as [] e) ∙ ap (λ (l : List ℕ). quiet (record k { steps = k.steps + 1; entries = l })) (append-nil k.entries))
+    by (c ∷ cs) e =
+        let first : slice_get k.server.waiting 0 ≡ Some c = ap (λ (l : List Change). slice_get l 0) e in
+        let one = single c first in
+        let ready : ready_by k.server now ≡ Some c = ap (λ (l : List Change). ready_by (record k.server { waiting = l }) now) e ∙ ready_so (record k.server { waiting = c ∷ cs }) kept.server.leases now in
         settles_one c cs (record {
-          out = subst (λ (l : List Change). IsOut k.server.waiting c l) (ap (λ (l : List Change). remove l 0) e) (out_at k.server.waiting 0 c first (omega (arith, single)));
-          is = ap (λ (l : List Change). settled_to k (closing.settles k.server now l)) e;
+          out = subst (λ (l : List Change). IsOut k.server.waiting c l) (ap (λ (l : List Change). remove l 0) e) (out_at k.server.waiting 0 c first one);
+          is = ap (settled_to k) (settles_as (c ∷ cs) e);
+          ready = ready;
+          others = ap (without_made k.server.waiting) ready ∙ ap (λ (l : List Change). without l c.session) e ∙ without_first c cs (subst (λ (l : List Change). length (own c.session l) ≤ 1) e one);
           first = first;
-          others = ap (drop 1) e;
+          dropped = ap (drop 1) e;
         })

@@ -5,7 +5,7 @@ use Rattle.server_core.specs.State as server
 use Rattle.chunk_calls.specs.Files as the_files
 use Rattle.client_state.specs.State as client
 use Rattle.register_model.specs.declared.op.Outcome.TheVariants as told
-use Rattle.kept_promise.proofs.Common.{slice_get, Indexed, MessageFits, Temp, key_of, Change, File, TakenCall, Core, Session, numbered, unless, hashed_of, Book, value_at, Reply, Ask, Told, Queue, told_message, call_program, reply_program, version_at, Entry, Op, Seat, Tree}
+use Rattle.kept_promise.proofs.Common.{slice_get, Indexed, MessageFits, Temp, key_of, Change, File, TakenCall, Core, Session, numbered, unless, hashed_of, Book, value_at, Reply, Ask, Told, Queue, told_message, call_program, reply_program, version_at, Entry, Op, Seat, Tree, Leasing}
 use Rattle.kept_promise.proofs.Statements.{CallFits}
 use Rattle.kept_promise.proofs.Lists.{some_is, nothing_there, same_or_not, false_and_true, all_append, all_map, all_unless}
 use Rattle.kept_promise.proofs.Keys.{times, times_append, own, on_way, key, change_key, ask_key, told_key}
@@ -18,7 +18,7 @@ use Rattle.kept_promise.proofs.Turns.{Around, around_same, turned_core, kept_tur
 use Rattle.kept_promise.proofs.Shelf.{IsShelf}
 use Rattle.kept_promise.proofs.Orderly.{locals_of, Wanted, Held, Orderly}
 use Rattle.kept_promise.proofs.Ordered.{SameFound, orderly_answered}
-use Rattle.kept_promise.proofs.Facts.{IsValue, FileIs, IsServer, IsTalk, IsSession, IsKept, commits_in}
+use Rattle.kept_promise.proofs.Facts.{IsValue, FileIs, GrantsNone, IsServer, IsTalk, IsSession, IsKept, commits_in}
 use Rattle.kept_promise.proofs.Unused.{IsUnused}
 
 -- ---- the tree, where no file changes
@@ -34,8 +34,8 @@ file_still book more made ended f (Some g) grows still h = (h.0, h.1, h.2, value
 pub fresh_still : (book more : Book) (made ended : Option ℕ) (t : Tree) → Grows book more made ended → Still book more → ((f : ℕ) → IsUnused t f → version_at book f (book.steps + 1) ≡ 0) → (f : ℕ) → IsUnused t f → version_at more f (more.steps + 1) ≡ 0
 fresh_still book more made ended t grows still h f le = version_alike book more f (more.steps + 1) (book.steps + 1) grows.opening (still f) ∙ h f le
 
-pub server_still : (book more : Book) (made ended : Option ℕ) (s : server.State) (moment : ℕ) (temps : List (ℕ × Temp)) (index : Indexed) → Grows book more made ended → Still book more → IsServer book s → IsServer more (record s { moment = moment; temps = temps; index = index })
-server_still book more made ended s moment temps index grows still h = record { held = λ f. file_still book more made ended f (the_files.file_at s.tree f) grows still (h.held f); fresh = fresh_still book more made ended s.tree grows still h.fresh; bounded = h.bounded; zero = h.zero; rooted = h.rooted; wants = h.wants; changes = h.changes; bytes = h.bytes; lengths = h.lengths; targets = λ i c e. there_later book more made ended c.file grows (h.targets i c e); xids = h.xids }
+pub server_still : (book more : Book) (made ended : Option ℕ) (s : server.State) (leasing : Leasing) (temps : List (ℕ × Temp)) (index : Indexed) → GrantsNone leasing → Grows book more made ended → Still book more → IsServer book s → IsServer more (record s { leasing = leasing; temps = temps; index = index })
+server_still book more made ended s leasing temps index leases grows still h = record { held = λ f. file_still book more made ended f (the_files.file_at s.tree f) grows still (h.held f); fresh = fresh_still book more made ended s.tree grows still h.fresh; bounded = h.bounded; zero = h.zero; rooted = h.rooted; wants = h.wants; changes = h.changes; bytes = h.bytes; lengths = h.lengths; targets = λ i c e. there_later book more made ended c.file grows (h.targets i c e); xids = h.xids; leases = leases }
 
 -- ---- a session that took a call
 
@@ -63,8 +63,8 @@ way_moved n y w q a us t e same =
     omega (arith, one, two, three, was, four, five, six, seven)
 
 -- the server, with what it makes of a call that it answers at once
-abbrev left_server : server.State → (moment : ℕ) → Tree → List Entry → List (ℕ × Temp) → Indexed → server.State
-left_server s moment tree journal temps index = record s { moment = moment; tree = tree; journal = journal; temps = temps; index = index }
+abbrev left_server : server.State → Leasing → Tree → List Entry → List (ℕ × Temp) → Indexed → server.State
+left_server s leasing tree journal temps index = record s { leasing = leasing; tree = tree; journal = journal; temps = temps; index = index }
 
 -- what a call that is taken is to show, of the book after it, where the server is this one then
 pub record Shows (book more : Book) (k : Core) (n : ℕ) (x : Session) (q : Queue) (a : Ask) (us : List Ask) (s : server.State) (r : Reply) (made : Option ℕ) (h : IsSession book k.seats k.server n x q) : Type 0 where
@@ -92,14 +92,14 @@ pub record Leaves (book : Book) (k : Core) (n : ℕ) (x : Session) (q : Queue) (
   pub found : (o : ℕ) → (o ≡ n → ⊥) → SameFound k.server.temps temps o
   pub others : (o i m : ℕ) (e : ℕ × Temp) → (o ≡ n → ⊥) → m < 4294967296 → slice_get temps i ≡ Some e → e.0 ≡ key_of o m → (j : ℕ) × (slice_get k.server.temps j ≡ Some e)
 
-pub kept_taken : (book more : Book) (k : Core) (qs : List Queue) (n moment : ℕ) (tree : Tree) (journal : List Entry) (temps : List (ℕ × Temp)) (index : Indexed) (x : Session) (q : Queue) (a : Ask) (us : List Ask) (r : Reply) (made : Option ℕ) (sessions : List Session) (after : List Queue)
+pub kept_taken : (book more : Book) (k : Core) (qs : List Queue) (n : ℕ) (leasing : Leasing) (tree : Tree) (journal : List Entry) (temps : List (ℕ × Temp)) (index : Indexed) (x : Session) (q : Queue) (a : Ask) (us : List Ask) (r : Reply) (made : Option ℕ) (sessions : List Session) (after : List Queue)
     → (kept : IsKept book k qs) → (at : numbered k.sessions n ≡ Some x) → (is : numbered qs n ≡ Some q) → q.ups ≡ a ∷ us → x.hung ≡ false
     → Around k.sessions sessions n (took x a.xid (book.steps + 1)) → Around qs after n (put_down q us x.cut (record { xid = a.xid; reply = r }))
-    → Shows book more k n x q a us (left_server k.server moment tree journal temps index) r made (kept.sessions n x q at is) → Leaves book k n x q temps (kept.sessions n x q at is)
-    → IsKept more (turned_core more (left_server k.server moment tree journal temps index) k.seats sessions) after
-kept_taken book more k qs n moment tree journal temps index x q a us r made sessions after kept at is e unhung around queues shows leaves =
+    → Shows book more k n x q a us (left_server k.server leasing tree journal temps index) r made (kept.sessions n x q at is) → Leaves book k n x q temps (kept.sessions n x q at is)
+    → IsKept more (turned_core more (left_server k.server leasing tree journal temps index) k.seats sessions) after
+kept_taken book more k qs n leasing tree journal temps index x q a us r made sessions after kept at is e unhung around queues shows leaves =
     let h = kept.sessions n x q at is in
-    let s = left_server k.server moment tree journal temps index in
+    let s = left_server k.server leasing tree journal temps index in
     let g = shows.goes.grows in
     let y = took x a.xid (book.steps + 1) in
     let t : Told = record { xid = a.xid; reply = r } in
@@ -166,7 +166,7 @@ kept_taken book more k qs n moment tree journal temps index x q a us r made sess
     stays : Stays k.sessions sessions x.owner
     stays m z f = let v = later_session z m f in (v.0, v.1, v.2, λ mine. v.3)
 
-    talks : (h : IsSession book k.seats k.server n x q) → Shows book more k n x q a us (left_server k.server moment tree journal temps index) r made h → x.cut ≡ false → IsTalk book n k.server.waiting x q h.seat → IsTalk more n k.server.waiting (took x a.xid (book.steps + 1)) (put_down q us false (record { xid = a.xid; reply = r })) h.seat
+    talks : (h : IsSession book k.seats k.server n x q) → Shows book more k n x q a us (left_server k.server leasing tree journal temps index) r made h → x.cut ≡ false → IsTalk book n k.server.waiting x q h.seat → IsTalk more n k.server.waiting (took x a.xid (book.steps + 1)) (put_down q us false (record { xid = a.xid; reply = r })) h.seat
     talks h shows uncut talk =
         let g = shows.goes.grows in
         let t : Told = record { xid = a.xid; reply = r } in
@@ -206,20 +206,20 @@ pub record Answers (book : Book) (k : Core) (n : ℕ) (x : Session) (q : Queue) 
   pub held : x.cut ≡ false → (us : List Ask) → q.ups ≡ a ∷ us → Held temps n us (unless x.cut q.downs (record { xid = a.xid; reply = r } ∷ [])) (locals_of h.seat.client) (job h.seat)
   pub others : (o i m : ℕ) (e : ℕ × Temp) → (o ≡ n → ⊥) → m < 4294967296 → slice_get temps i ≡ Some e → e.0 ≡ key_of o m → (j : ℕ) × (slice_get k.server.temps j ≡ Some e)
 
-pub kept_reply : (book : Book) (k : Core) (qs : List Queue) (n moment : ℕ) (x : Session) (q : Queue) (a : Ask) (us : List Ask) (temps : List (ℕ × Temp)) (index : Indexed) (r : Reply) (sessions : List Session) (after : List Queue)
-    → (kept : IsKept book k qs) → (at : numbered k.sessions n ≡ Some x) → (is : numbered qs n ≡ Some q) → q.ups ≡ a ∷ us → x.hung ≡ false
+pub kept_reply : (book : Book) (k : Core) (qs : List Queue) (n : ℕ) (leasing : Leasing) (x : Session) (q : Queue) (a : Ask) (us : List Ask) (temps : List (ℕ × Temp)) (index : Indexed) (r : Reply) (sessions : List Session) (after : List Queue)
+    → GrantsNone leasing → (kept : IsKept book k qs) → (at : numbered k.sessions n ≡ Some x) → (is : numbered qs n ≡ Some q) → q.ups ≡ a ∷ us → x.hung ≡ false
     → Around k.sessions sessions n (took x a.xid (book.steps + 1)) → Around qs after n (put_down q us x.cut (record { xid = a.xid; reply = r }))
     → Answers book k n x q a temps r (kept.sessions n x q at is)
-    → IsKept (onward book 1 book.ops) (turned_core (onward book 1 book.ops) (record k.server { moment = moment; temps = temps; index = index }) k.seats sessions) after
-kept_reply book k qs n moment x q a us temps index r sessions after kept at is e unhung around queues shows =
+    → IsKept (onward book 1 book.ops) (turned_core (onward book 1 book.ops) (record k.server { leasing = leasing; temps = temps; index = index }) k.seats sessions) after
+kept_reply book k qs n leasing x q a us temps index r sessions after leases kept at is e unhung around queues shows =
     let h = kept.sessions n x q at is in
     let more = onward book 1 book.ops in
     let g = grows_same book 1 in
     let z : TakenCall = record { xid = a.xid; step = book.steps + 1 } in
     let spares : Spares x.closing None = λ p u v. nothing_there p v in
-    kept_taken book more k qs n moment k.server.tree k.server.journal temps index x q a us r None sessions after kept at is e unhung around queues (record {
+    kept_taken book more k qs n leasing k.server.tree k.server.journal temps index x q a us r None sessions after kept at is e unhung around queues (record {
       goes = goes_same book 1 kept.sound;
-      server = server_still book more None None k.server moment temps index g (still_same book 1 kept.sound) kept.server;
+      server = server_still book more None None k.server leasing temps index leases g (still_same book 1 kept.sound) kept.server;
       journal_is = kept.journal;
       made_here = λ p f. nothing_there p f;
       program = shows.program;

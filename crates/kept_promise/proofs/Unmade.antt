@@ -1,5 +1,5 @@
 -- A COMMITTMP whose file is gone once its change is settled: nothing is made, and its session is told so.
-use Rattle.std.proofs.Common.{inr, ◌≡◌, ℕ, ◌+◌, List, [], ◌∷◌, ◌++◌, length, max, append-nil, Option, Some, None, IsSome, false, Ok, refl, sym, ap, ◌∙◌, subst, arith}
+use Rattle.std.proofs.Common.{inr, ◌≡◌, ℕ, ◌+◌, List, [], ◌∷◌, ◌++◌, length, append-nil, Option, Some, None, IsSome, false, Ok, refl, sym, ap, ◌∙◌, subst, arith}
 use Rattle.xdr_codec.specs.declared.answer.Answer.TheVariants as answer
 use Rattle.xdr_codec.specs.declared.status.Status.TheVariants as status
 use Rattle.tree_nodes.specs.declared.node.Node.{Node}
@@ -18,7 +18,9 @@ use Rattle.server_core.specs.declared.change.Wanted.TheVariants as wanted
 use Rattle.server_rules.specs.declared.told.Told.TheVariants as announced
 use Rattle.client_state.specs.State as client
 use Rattle.client_state.specs.declared.task.Stage.TheVariants as stage
-use Rattle.kept_promise.proofs.Common.{slice_get, at, Failed, Change, Wanted, Entry, Op, Core, Session, CoreStep, quiet, numbered, with_numbered, settles, settled_by, unless, Book, Reply.Changed, Told, Queue, told_message, value_at}
+use Rattle.kept_promise.proofs.Common.{slice_get, at, Failed, Change, Wanted, Entry, Op, Core, Session, CoreStep, quiet, numbered, with_numbered, settles, settled_by, unless, Book, Reply.Changed, Told, Queue, told_message, value_at, later}
+use Rattle.server_law.specs.Unleased.{makes_so, commits_so}
+use Rattle.server_law.proofs.Unleased.{unleased_at}
 use Rattle.kept_promise.proofs.Lists.{some_is, nothing_there, all_map}
 use Rattle.kept_promise.proofs.Keys.{change_key, told_key}
 use Rattle.kept_promise.proofs.Rights.{WasThere}
@@ -54,7 +56,7 @@ commit_gone t held id content none = ap (λ (o : Option Node). with_committed 0 
 -- ---- the step
 
 abbrev pub unmade_server : server.State → (now : ℕ) → List Change → server.State
-unmade_server s now cs = record s { moment = max s.moment now; waiting = cs }
+unmade_server s now cs = record s { leasing = later s.leasing now; waiting = cs }
 
 abbrev pub unmade_told : Change → Told
 unmade_told c = record { xid = c.xid; reply = Changed (Failed status.Stale tt) }
@@ -65,8 +67,8 @@ unmade_step k now c cs = record (quiet (record k { steps = k.steps + 1; server =
 pub unmade_settles : (k : Core) (now : ℕ) (c : Change) (cs : List Change) (content : List ℕ) → SettlesOut k now c cs → c.what ≡ wanted.Content content → with_id k.server.tree.nodes c.file ≡ None → settles k now ≡ unmade_step k now c cs
 unmade_settles k now c cs content out what none =
     out.is
-    ∙ ap (λ (w : Wanted). settled_to k (closing.makes_change before c w)) what
-    ∙ ap (λ (p : Tree × Committing). settled_to k (closing.committed_by before c content p)) (commit_gone k.server.tree (server.held cs) c.file content none)
+    ∙ ap (λ (w : Wanted). settled_to k (makes_so before false c w)) what
+    ∙ ap (λ (p : Tree × Committing). settled_to k (commits_so before c content p)) (commit_gone k.server.tree (server.held cs) c.file content none)
     ∙ ap (λ (o : Option ℕ). with_parts (k.server.journal ++ []) (settled_by k o (announced.Settled c.session c.xid)) (k.entries ++ [])) (none_newest (k.server.journal ++ []) 0 refl)
     ∙ ap (λ (l : List Entry). with_parts l (settled_by k None (announced.Settled c.session c.xid)) (k.entries ++ [])) (append-nil k.server.journal)
     ∙ ap (λ (l : List Op). with_parts k.server.journal l (k.entries ++ [])) (same (numbered k.sessions c.session))
@@ -153,6 +155,7 @@ module _ (laws : FitLaws) (book : Book) (k : Core) (qs : List Queue) (now : ℕ)
         lengths = λ i d w. let y = out.out.others i d w in kept.server.lengths y.0 d y.1;
         targets = λ i d w. let y = out.out.others i d w in there_later book more None None d.file grows (kept.server.targets y.0 d y.1);
         xids = λ i d w. let y = out.out.others i d w in kept.server.xids y.0 d y.1;
+        leases = unleased_at k.server now kept.server.leases;
       }
 
   kept_unmade : IsKept more (turned_core more s k.seats k.sessions) (with_numbered qs n after)

@@ -1,11 +1,12 @@
 -- A change comes to wait at the server: the frame of all such.
-use Rattle.std.proofs.Common.{inl, inr, ◌≡◌, ℕ, ◌+◌, ◌<◌, ◌≤◌, List, [], ◌∷◌, ◌++◌, length, max, Some, None, Bool, true, false, refl, sym, ap, ◌∙◌, subst, arith, eq-eqb, ne_eqb, map}
+use Rattle.std.proofs.Common.{inl, inr, ◌≡◌, ℕ, ◌+◌, ◌<◌, ◌≤◌, List, [], ◌∷◌, ◌++◌, length, Some, None, Bool, true, false, refl, sym, ap, ◌∙◌, subst, arith, eq-eqb, ne_eqb, map}
 use Rattle.tree_reading.specs.Tree.{contents_size}
 use Rattle.server_core.specs.State as server
 use Rattle.chunk_calls.specs.Files as the_files
 use Rattle.server_core.specs.Steps.{sends}
 use Rattle.client_state.specs.State as client
-use Rattle.kept_promise.proofs.Common.{slice_get, cond, ◌==◌, at, Temp, Change, TakenCall, Core, Session, numbered, with_numbered, hashed_of, Book, Call, Call.Lease, Ask, Queue}
+use Rattle.kept_promise.proofs.Common.{slice_get, cond, ◌==◌, at, Temp, Change, TakenCall, Core, Session, numbered, with_numbered, hashed_of, Book, Call, Call.Lease, Ask, Queue, later}
+use Rattle.server_law.proofs.Unleased.{unleased_at}
 use Rattle.kept_promise.proofs.Lists.{some_is, nothing_there, same_or_not, of_appended, count_more, false_and_true, all_map}
 use Rattle.kept_promise.proofs.Keys.{times, times_append, own, on_way, change_key, ask_key, told_key}
 use Rattle.kept_promise.proofs.Messages.{job, AllAsks, Rising, IsAsked, IsAnswer, IsCommit, IsPiece, WaitsFor, TempUnder, content_wanted}
@@ -80,7 +81,7 @@ pub record ComesToWait (book : Book) (k : Core) (n : ℕ) (x : Session) (q : Que
 
 kept_coming : (book : Book) (k : Core) (qs : List Queue) (n now : ℕ) (x : Session) (q : Queue) (a : Ask) (us : List Ask) (temps : List (ℕ × Temp)) (d : Change) (sessions : List Session) (after : List Queue) → (g : Given book k qs n now x q a us) → ComesToWait book k n x q a us temps d (session_in book k qs n now x q a us g)
     → Around k.sessions sessions n (took x a.xid (book.steps + 1)) → Around qs after n (record q { ups = us })
-    → IsKept (onward book 1 book.ops) (turned_core (onward book 1 book.ops) (record k.server { moment = max k.server.moment now; temps = temps; waiting = k.server.waiting ++ d ∷ [] }) k.seats sessions) after
+    → IsKept (onward book 1 book.ops) (turned_core (onward book 1 book.ops) (record k.server { leasing = later k.server.leasing now; temps = temps; waiting = k.server.waiting ++ d ∷ [] }) k.seats sessions) after
 kept_coming book k qs n now x q a us temps d sessions after g comes around queues =
     let kept = g.kept in
     let h = session_in book k qs n now x q a us g in
@@ -89,7 +90,7 @@ kept_coming book k qs n now x q a us temps d sessions after g comes around queue
     let c = h.seat in
     let y = took x a.xid (book.steps + 1) in
     let waiting : List Change = k.server.waiting ++ d ∷ [] in
-    let r : server.State = record k.server { moment = max k.server.moment now; temps = temps; waiting = waiting } in
+    let r : server.State = record k.server { leasing = later k.server.leasing now; temps = temps; waiting = waiting } in
     let spares : Spares x.closing None = λ p u v. nothing_there p v in
     kept_turn book more k qs r k.seats sessions after n x y (record q { ups = us }) c c None None (record {
       at = g.at;
@@ -123,6 +124,7 @@ kept_coming book k qs n now x q a us temps d sessions after g comes around queue
           | inl new ↦ subst (λ (z : Change). z.xid < 4294967296) (sym new.1) (subst (λ (z : ℕ). z < 4294967296) (sym comes.xid_is) (call_xid a.xid a.call (first_fits book k qs n now x q a us g)))
           | inr old ↦ kept.server.xids i u old
         ];
+        leases = unleased_at k.server now kept.server.leases;
       };
       sessions_made = refl;
       view = λ o apart. record { stands_is = refl; waiting = own_there o k.server.waiting d (λ e. apart (sym e ∙ comes.session_is)); temps = λ i p u lt at q. comes.were i u at; found = comes.found o apart };
@@ -210,7 +212,7 @@ leads_coming book k qs n now x q a us temps d g comes =
     let sessions = with_numbered k.sessions n z in
     let around = around_with k.sessions n x z g.at in
     let more = onward book 1 book.ops in
-    let r : server.State = record k.server { moment = max k.server.moment now; temps = temps; waiting = k.server.waiting ++ d ∷ [] } in
+    let r : server.State = record k.server { leasing = later k.server.leasing now; temps = temps; waiting = k.server.waiting ++ d ∷ [] } in
     let done : IsKept more (turned_core more r k.seats sessions) (rest_of qs n q us) = kept_coming book k qs n now x q a us temps d sessions (rest_of qs n q us) g comes (record { there = around.there ∙ ap (λ v. Some v) (sym same_step); others = around.others; count = around.count }) (around_with qs n q (record q { ups = us }) g.is) in
     record {
       sends = record { asks = []; up_is = refl; tolds = []; down_is = refl };

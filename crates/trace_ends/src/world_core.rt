@@ -71,7 +71,7 @@ impl Core {
     pub fn new(alloc: Global) -> Result<Core, AllocError>
         ensures { IfOk result (λ core. core_of core ≡ record { server = empty; seats = []; sessions = []; steps = 0; ops = []; entries = [] }) }
     {
-        let server = Server::new(alloc)?;
+        let server = Server::new(alloc, 0)?;
         Ok(Core {
             server,
             seats: Vec::new(alloc),

@@ -1,5 +1,5 @@
 -- Why an operation ended as it did: for each outcome what must have happened.
-use Rattle.std.specs.Prelude.{◌≡◌, ℕ, zero, suc, ◌+◌, ◌<◌, ◌≤◌, List, [], ◌∷◌, length, take, ◌⊎◌, Bool, true, false, ◌&&◌, ◌==◌, nat_lt, nat_le, Option, Some, None, Ok, IsSome, Contains, option_map, slice_get, if◌then◌else◌}
+use Rattle.std.specs.Prelude.{◌≡◌, ℕ, zero, suc, ◌+◌, ◌<◌, ◌≤◌, List, [], ◌∷◌, length, take, filter, ◌⊎◌, Bool, true, false, ◌&&◌, ◌==◌, nat_lt, nat_le, Option, Some, None, Ok, IsSome, Contains, option_map, slice_get, if◌then◌else◌}
 use Rattle.std.specs.List.{list_any}
 use Rattle.sha1.specs.Sha1.{sha1}
 use Rattle.command_text.specs.Content.{content_length, content_bytes}
@@ -24,8 +24,9 @@ use Rattle.register_model.specs.declared.op.Op.{Op}
 use Rattle.register_model.specs.declared.op.Outcome.{Outcome}
 use Rattle.register_model.specs.declared.op.Outcome.TheVariants as told
 use Rattle.trace_ends.specs.Core.{Event.Cuts, Event.Serves, server_waiting}
-use Rattle.trace_replay.specs.Trail.{Deed, Moment, step_of}
-use Rattle.trace_replay.specs.Book.{Book, Or, value_at, version_at}
+use Rattle.trace_replay.specs.Trail.{Deed, Moment, step_of, hashed_of}
+use Rattle.trace_replay.specs.Traffic.{until}
+use Rattle.trace_replay.specs.Book.{Book, Collides, value_at, version_at}
 use Rattle.trace_replay.specs.OwnCalls.{WaitsFor, TakesCall}
 use Rattle.trace_replay.specs.Naming.{tree_at, IsInside, HasFound, IsSeen, IsRootSeen, IsListed, ListsTooLong, NameDone, IsRefused}
 
@@ -120,16 +121,20 @@ can_ask joined calls = joined && nat_le (calls + 1000000) 4294967295
 abbrev pub Within : Op → (point : ℕ) → Type 0
 Within o p = (o.point ≡ Some p) × (o.begin ≤ p) × ((e : ℕ) × (o.end ≡ Some e) × (p ≤ e))
 
+-- What rests on digests, of an operation: on those of what was hashed by its end, or by now where it goes on.
+abbrev pub OrBy : Book → Op → Type 0 → Type 0
+OrBy book o P = P ⊎ Collides (hashed_of (filter (λ m. until o.end (step_of m)) book.moments))
+
 -- an open got the content that its file had at its point (`HasPoint` says which step that is)
 pub record IsOpened (book : Book) (file : ℕ) (o : Op) (len : ℕ) (digest : List ℕ) : Type 0 where
   pub length_is : len ≡ length o.value
   pub digest_is : digest ≡ sha1 o.value
   pub point : ℕ
   pub within : Within o point
-  pub value_is : Or book (value_at book file point ≡ Some o.value)
+  pub value_is : OrBy book o (value_at book file point ≡ Some o.value)
 
--- a change of the file was made at the point, of which the server's journal tells this
-pub record IsEntered (book : Book) (file point version len : ℕ) (digest : List ℕ) : Type 0 where
+-- an operation's change of the file was made at the point, of which the server's journal tells this
+pub record IsEntered (book : Book) (o : Op) (file point version len : ℕ) (digest : List ℕ) : Type 0 where
   pub place : ℕ
   pub entry : Entry
   pub step_is : slice_get book.entries place ≡ Some point
@@ -137,7 +142,7 @@ pub record IsEntered (book : Book) (file point version len : ℕ) (digest : List
   pub file_is : entry.file ≡ file
   pub version_is : entry.version ≡ version
   pub len_is : entry.len ≡ len
-  pub digest_is : Or book (entry.sha1 ≡ digest)
+  pub digest_is : OrBy book o (entry.sha1 ≡ digest)
 
 -- a close replaced its file by its value
 pub record IsClosed (book : Book) (file : ℕ) (o : Op) (version len : ℕ) (digest : List ℕ) : Type 0 where
@@ -145,7 +150,7 @@ pub record IsClosed (book : Book) (file : ℕ) (o : Op) (version len : ℕ) (dig
   pub digest_is : digest ≡ sha1 o.value
   pub point : ℕ
   pub within : Within o point
-  pub entered : IsEntered book file point version len digest
+  pub entered : IsEntered book o file point version len digest
 
 -- So many attempts from a moment on, each of which began while the file had one version, and met another.
 abbrev pub Tried : Book → (file begin count moment : ℕ) → Type 0

@@ -14,7 +14,8 @@ use Rattle.wire.specs.declared.message.Body.TheVariants as body
 use Rattle.wire.specs.declared.message.Message.{Message}
 use Rattle.wire.specs.declared.message.Message.TheVariants as message
 use Rattle.transfer_rules.specs.Limits.{calls_most}
-use Rattle.server_core.specs.declared.change.Change.{Change}
+use Rattle.server_core.specs.Closing.{ready_by}
+use Rattle.server_core.specs.State.{Change}
 use Rattle.server_core.specs.declared.change.Wanted.TheVariants as wanted
 use Rattle.server_core.specs.declared.journal.Entry.{Entry}
 use Rattle.tree_reading.specs.declared.entry.EntryKind.{EntryKind}
@@ -184,7 +185,7 @@ pub record HasJournal (book : Book) : Type 0 where
   pub once : (k m p : ℕ) (o q : Op) → slice_get book.ops k ≡ Some o → slice_get book.ops m ≡ Some q → changes o.word ≡ true → o.point ≡ Some p → q.point ≡ Some p → k ≡ m
 
 -- The change of this number was made in this step: at a moment at which the server was told to make one, with so many before it. It is the
--- one that waited first, and the journal's entry tells it; it is that of a close of the client whose session asked for it, of the close's value,
+-- one that was ready, and the journal's entry tells it; it is that of a close of the client whose session asked for it, of the close's value,
 -- and the last close that had sent calls there.
 pub record IsSettled (book : Book) (number step : ℕ) : Type 0 where
   pub moment : Moment
@@ -194,7 +195,7 @@ pub record IsSettled (book : Book) (number step : ℕ) : Type 0 where
   pub step_is : step_of moment ≡ step
   pub number_is : length moment.before.server.journal ≡ number
   pub change : Change
-  pub first : slice_get moment.before.server.waiting 0 ≡ Some change
+  pub ready : ready_by moment.before.server now ≡ Some change
   pub entry : Entry
   pub entry_is : slice_get book.journal number ≡ Some entry
   pub kind_is : entry.kind ≡ kind.Commit
@@ -224,9 +225,9 @@ change_refusal m = None
 abbrev pub IsMadeOrRefused : Book → Moment → Change → Type 0
 IsMadeOrRefused book m c = (slice_get book.entries (length m.before.server.journal) ≡ Some (step_of m)) ⊎ ((answer : Message) × (s : Status) × Contains (happens m.before m.event).down (record { session = c.session; message = answer }) × (change_refusal answer ≡ Some s))
 
--- where changes wait, a settling takes the one that came first, and no other
+-- where changes wait, the one that came first is ready, and a settling takes it and no other
 abbrev pub SettlesFirst : Book → Type 0
-SettlesFirst book = (m : Moment) (now : ℕ) (c : Change) → Contains book.moments m → m.event ≡ Settles now → slice_get m.before.server.waiting 0 ≡ Some c → ((happens m.before m.event).core.server.waiting ≡ drop 1 m.before.server.waiting) × IsMadeOrRefused book m c
+SettlesFirst book = (m : Moment) (now : ℕ) (c : Change) → Contains book.moments m → m.event ≡ Settles now → slice_get m.before.server.waiting 0 ≡ Some c → (ready_by m.before.server now ≡ Some c) × ((happens m.before m.event).core.server.waiting ≡ drop 1 m.before.server.waiting) × IsMadeOrRefused book m c
 
 -- ---- all of it
 

@@ -1,12 +1,13 @@
 -- The calls of an operation under way: which of them the server takes, and in which step it makes what one of them asks for.
-use Rattle.std.specs.Prelude.{◌≡◌, ◌⊎◌, ℕ, List, drop, Some, Ok, true, Contains, slice_get}
+use Rattle.std.specs.Prelude.{◌≡◌, ◌⊎◌, ℕ, List, Some, Ok, true, Contains}
 use Rattle.wire.specs.Parse.{parse_of}
 use Rattle.wire.specs.declared.message.Body.{Body}
 use Rattle.wire.specs.declared.message.Message.TheVariants as message
 use Rattle.client_state.specs.State.{pending, has_call}
 use Rattle.tree_reading.specs.declared.call.Held.{Held}
-use Rattle.server_core.specs.State.{held}
-use Rattle.server_core.specs.declared.change.Change.{Change}
+use Rattle.callback_core.specs.Waits.{without_made}
+use Rattle.server_core.specs.Closing.{ready_by}
+use Rattle.server_core.specs.State.{State, Change, held}
 use Rattle.trace_ends.specs.Session.{Seat}
 use Rattle.trace_ends.specs.Core.{Event, Event.Serves, Event.Settles, server_waiting}
 use Rattle.trace_ends.specs.Numbers.{numbered}
@@ -32,12 +33,12 @@ pub record TakesCall (book : Book) (client step xid : ℕ) (call : Body) : Type 
   pub parsed : parse_of server_waiting bytes ≡ Ok (message.Call xid call)
   pub waits : WaitsFor moment client session xid
 
--- In this step the server settles the change that waited first: that which the call of this number left waiting, on this session.
+-- In this step the server settles the change that is ready: that which the call of this number left waiting, on this session.
 pub record SettlesCall (m : Moment) (session xid : ℕ) : Type 0 where
   pub now : ℕ
   pub event_is : m.event ≡ Settles now
   pub change : Change
-  pub first : slice_get m.before.server.waiting 0 ≡ Some change
+  pub ready : ready_by m.before.server now ≡ Some change
   pub session_is : change.session ≡ session
   pub xid_is : change.xid ≡ xid
 
@@ -46,10 +47,10 @@ abbrev pub ComesTo : Moment → (session xid taken : ℕ) → Type 0
 ComesTo m session xid taken = (step_of m ≡ taken) ⊎ SettlesCall m session xid
 
 -- the changes that wait at an event, but for the one that it settles
-abbrev pub others_waiting : Event → List Change → List Change
-others_waiting (Settles now) cs = drop 1 cs
-others_waiting e cs = cs
+abbrev pub others_waiting : Event → State → List Change
+others_waiting (Settles now) s = without_made s.waiting (ready_by s now)
+others_waiting e s = s.waiting
 
 -- what they need, which is left free
 abbrev pub held_at : Moment → Held
-held_at m = held (others_waiting m.event m.before.server.waiting)
+held_at m = held (others_waiting m.event m.before.server)

@@ -18,7 +18,7 @@ use Rattle.register_model.specs.declared.op.Op.{Op}
 use Rattle.register_model.specs.declared.op.Outcome.TheVariants as told
 use Rattle.register_model.specs.declared.op.Word.TheVariants as word
 use Rattle.chunk_calls.specs.Files.{File, file_at}
-use Rattle.server_core.specs.declared.change.Change.{Change}
+use Rattle.server_core.specs.State.{Change}
 use Rattle.server_core.specs.declared.change.Wanted.{Wanted}
 use Rattle.server_core.specs.declared.change.Wanted.TheVariants as wanted
 use Rattle.tree_calls.specs.declared.asked.Asked.TheVariants as asked
