@@ -2,6 +2,7 @@
 //! `server_held`.
 #![tactic(auto)]
 
+mod bells;
 pub mod gate;
 mod hints;
 pub mod listener;

@@ -1,7 +1,7 @@
 //! The listener: it takes links off the network, makes a session for each, and has threads serve
 //! them beside each other. A change that waits for a moment is made by a thread of its own.
 
-ghost use Rattle.std.specs.Prelude.{◌≤◌, OnOk, IsErrOf};
+ghost use Rattle.std.specs.Prelude.{◌<◌, ◌≤◌, ◌^◌, OnOk, IsErrOf};
 ghost use Rattle.lb_base.specs.Causes.{Rose};
 ghost use Rattle.lbfs_server.specs.Ends.{CountsMore};
 ghost use Rattle.lbfs_server.specs.declared.listener.Stop.TheVariants as stops;
@@ -35,8 +35,8 @@ pub enum Stop {
 }
 
 /// Serves a session on its link and the link's twin: one thread takes records and puts out their
-/// answers, and another puts out what further events have to say. Where no thread can be had the
-/// session is hung, and nothing more comes.
+/// answers, and another puts out what further events have to say. Where that can't be had the one does
+/// both.
 fn serve_twins<
     'x,
     R: Threads + Wait + Sync,
@@ -64,7 +64,6 @@ fn serve_twins<
             requires { IsPassOf shared.now.post pass × IsPassOf shared.now.post other }
         {
             let mut twin = twin;
-            let mut pass = pass;
             let giver = scope.spawn(
                 move ||
                     requires { IsPassOf shared.now.post other }
@@ -72,12 +71,13 @@ fn serve_twins<
                     session_out(rt, shared, other, session, gives);
                 },
             );
-            if giver.is_err() {
-                let (next, _went) = shared.event(rt, pass, Event::Hang { session });
-                pass = next;
-                twin.shut();
-            }
+            let is_alone = giver.is_err();
             drop(giver);
+            if is_alone {
+                let (_pass, end) = session_both(rt, shared, pass, session, &mut twin, clock);
+                twin.shut();
+                return end;
+            }
             let (_pass, end) = session_in(rt, shared, pass, session, &mut twin, gives, clock);
             end
         },
@@ -109,6 +109,31 @@ fn serve_session<
     end
 }
 
+/// How many changes that wait are made between two rests, at most.
+const CHANGES_MOST: u32 = 64;
+
+/// Lets changes be made that wait, as long as one can be.
+fn settle_all<R: Wait, H: Turns + Drop, Y: Syncs, G: Gate + Drop, L: Link + Drop>(
+    rt: &R,
+    shared: &Shared<H, Y, G, L>,
+    pass: Pass<H>,
+    now: u64,
+) -> Pass<H>
+    requires pass { IsPassOf shared.now.post pass }
+    requires timed { now < 2 ^ 63 }
+    ensures { Follows shared.now.post pass result }
+{
+    let mut pass = pass;
+    for _at in 0..CHANGES_MOST {
+        let (next, went) = shared.event(rt, pass, Event::Settle { now });
+        pass = next;
+        if matches!(went, Went::NotReady) {
+            return pass;
+        }
+    }
+    pass
+}
+
 /// Lets changes be made that wait for a moment, until nothing is served any more. Where the store is in
 /// doubt it ends what is served: it shuts all links, and has the listener look.
 fn tick<
@@ -132,8 +157,7 @@ fn tick<
             shared.shut_all(rt);
             work.ring(bell);
         }
-        let (next, _went) = shared.event(rt, pass, Event::Settle { now: clock.now() });
-        pass = next;
+        pass = settle_all(rt, shared, pass, clock.now());
         rest.rest();
     }
 }

@@ -4,8 +4,10 @@
 ghost use Rattle.std.specs.Prelude.{◌≡◌, ◌⊎◌, ℕ, IfOk, IsErrOf};
 ghost use Rattle.lb_base.specs.Causes.{Rose};
 ghost use Rattle.lbfs_server.specs.Ends.{CountsMore};
-ghost use Rattle.lbfs_server.specs.Serve.{IsServerOf, IsBad};
+ghost use Rattle.lbfs_server.specs.Serve.{IsServerOf, IsBad, IsFront};
 ghost use Rattle.lbfs_server.specs.declared.serve.ServeError.TheVariants as errors;
+ghost use Rattle.server_held.specs.Kept.{KeepsTree};
+ghost use Rattle.server_law.specs.Facts.{IsAccounted};
 
 use crate::gate::Gate;
 use crate::hints::{content_ids, learn_all};
@@ -52,7 +54,7 @@ pub enum ServeError {
 }
 
 /// A server of the tree of a store's records.
-#[tactic(auto, using(crate::proofs::Serving::is_server_of, crate::proofs::Serving::is_bad))]
+#[tactic(auto, using(crate::proofs::Serving::is_server_of, crate::proofs::Serving::keeps_tree, crate::proofs::Serving::is_bad))]
 fn opened<R: Threads + Sync, S: Store>(
     rt: &R,
     alloc: Global,
@@ -60,6 +62,8 @@ fn opened<R: Threads + Sync, S: Store>(
     place: &str,
 ) -> Result<Server, ServeError>
     ensures tree { IfOk result (IsServerOf (S.records store.old)) }
+    ensures accounted { IfOk result IsAccounted }
+    ensures kept { IfOk result (λ server. KeepsTree (S.records store.new) server.tree) }
     ensures store { IsErrOf result errors.Store → Rose (S.faults store.old) (S.faults store.new) }
     ensures record { (which : ℕ) → IsErrOf result (errors.BadRecord which) → IsBad (S.records store.old) which }
     ensures network { IsErrOf result errors.Network → ⊥ }
@@ -78,7 +82,7 @@ fn opened<R: Threads + Sync, S: Store>(
         Err(LoadError::BadRecord { which }) => return Err(ServeError::BadRecord { which }),
         Err(LoadError::Memory) => return Err(ServeError::Memory),
     };
-    match Server::with_tree(alloc, tree) {
+    match Server::with_tree(alloc, tree, 0) {
         Ok(mut server) => {
             server.bound_temps(TEMPS_HELD_MOST);
             learn_all(&mut server, files.as_slice());
@@ -103,6 +107,8 @@ fn store_error(before: u64, after: u64) -> ServeError
 
 /// Loads the tree of a store, listens at a port, and serves as many sessions as are asked for, each
 /// in threads of its own; it returns once they have ended, and gives the store and the network back.
+/// What the store then keeps is the tree of a server that holds what its journal says, and how long that
+/// is, is told.
 ///
 /// An empty store has the root alone. `Store` comes only where the store's count of faults rose: as it
 /// gave its records, or as it was to be made sure of what it was given. Then nothing more goes out on
@@ -131,6 +137,7 @@ pub fn serve<
 where
     N::L: Drop + Send,
     ensures sessions { IfOk result.0 (λ s. (s.sessions ≡ sessions) × CountsMore (N.accepted net) sessions (N.accepted result.2)) }
+    ensures front { IfOk result.0 (λ s. IsFront (S.records result.1) s.front) }
     ensures network { IsErrOf result.0 errors.Network → Rose (N.faults net) (N.faults result.2) }
     ensures store { IsErrOf result.0 errors.Store → Rose (S.faults store) (S.faults result.1) }
     ensures record { (which : ℕ) → IsErrOf result.0 (errors.BadRecord which) → IsBad (S.records store) which }

@@ -56,7 +56,7 @@ fn give_out<W: Wait, H: Turns + Drop, Y: Syncs, G: Gate + Drop, L: Link + Drop>(
 
 /// Takes a session's records off its link, each in a turn of its own, and puts out what there is to
 /// say then: no other thread has to be woken for it. Whoever takes what there is to say holds the
-/// link, so that what is taken first goes out first.
+/// link, so that what is taken first goes out first; while a record is read nobody does.
 fn read_on<W: Wait, H: Turns + Drop, Y: Syncs, G: Gate + Drop, L: Link + Drop, C: Clock>(
     rt: &W,
     shared: &Shared<H, Y, G, L>,
@@ -82,8 +82,9 @@ fn read_on<W: Wait, H: Turns + Drop, Y: Syncs, G: Gate + Drop, L: Link + Drop, C
     for _turn in rt.forever() {
         match inbox.next(shared.alloc(), link) {
             Ok(record) => {
+                let (read, prepared) = shared.read(rt, pass, session, record.as_slice());
                 let mut gives = gives.lock(rt);
-                let (next, out) = shared.got(rt, pass, session, record.as_slice(), clock.now());
+                let (next, out) = shared.got(rt, read, session, prepared, clock.now());
                 pass = next;
                 give_out(rt, shared, &mut *gives, out);
             }
@@ -172,7 +173,8 @@ fn both_on<W: Wait, H: Turns + Drop, Y: Syncs, G: Gate + Drop, L: Link + Drop, C
     for _turn in rt.forever() {
         match inbox.next(shared.alloc(), link) {
             Ok(record) => {
-                let (next, out) = shared.got(rt, pass, session, record.as_slice(), clock.now());
+                let (read, prepared) = shared.read(rt, pass, session, record.as_slice());
+                let (next, out) = shared.got(rt, read, session, prepared, clock.now());
                 pass = next;
                 give_out(rt, shared, link, out);
             }

@@ -9,6 +9,7 @@ ghost use Rattle.server_core.specs.Step.{IsTimed};
 ghost use Rattle.turn_post.specs.Passes.{IsPassOf, Follows, seen};
 ghost use mathlib.Core.List.{IsPrefix};
 
+use crate::bells::{Bells, PLACES, bit};
 use crate::gate::Gate;
 use crate::outgoing::{Sure, Taken};
 use hash_calls::call::Commit;
@@ -19,7 +20,7 @@ use server_core::event::Event;
 use server_held::held::{Went, read_record};
 use server_held::turns::Turns;
 use std::alloc::Global;
-use std::sync::atomic::{AtomicBool, AtomicU64, Ordering};
+use std::sync::atomic::{AtomicBool, Ordering};
 use std::sync::{Mutex, Wait};
 use synced_store::syncs::Syncs;
 use tree_nodes::content::Content;
@@ -34,8 +35,8 @@ pub struct Shared<H: Turns, Y, G, L> {
     syncs: Y,
     /// Whether it couldn't once.
     in_doubt: AtomicBool,
-    /// Rung where something was put into a box that another thread has to take out, or a session went.
-    said: AtomicU64,
+    /// Rung where something was put into a box that another thread has to take out, or its session went.
+    bells: Bells,
     /// A link of each session that has threads, by which whoever hangs it shuts it.
     links: Mutex<Vec<SessionLink<L>>>,
     gate: G,
@@ -49,16 +50,39 @@ impl<H: Turns + Drop, Y: Drop, G: Drop, L: Drop> Drop for Shared<H, Y, G, L> {
             post,
             syncs,
             in_doubt: _,
-            said,
+            bells,
             links,
             gate,
             alloc: _,
         } = self;
         drop(post);
         drop(syncs);
-        drop(said);
+        drop(bells);
         drop(links);
         drop(gate);
+    }
+}
+
+/// A record of a session as it was read, and what was made of it before its turn.
+pub struct Prepared {
+    read: Result<Message, WireError>,
+    /// The content that its COMMITTMP comes to, cut and hashed.
+    ahead: Option<Content>,
+}
+
+// By hand, as above.
+impl Drop for Prepared {
+    fn drop(self) {
+        let Prepared { read, ahead } = self;
+        drop(read);
+        drop(ahead);
+    }
+}
+
+impl Prepared {
+    fn into_parts(self) -> (Result<Message, WireError>, Option<Content>) {
+        let Prepared { read, ahead } = self;
+        (read, ahead)
     }
 }
 
@@ -81,6 +105,55 @@ fn remove_link<L: Drop>(links: &mut Vec<SessionLink<L>>, session: u32)
     }
     if at < links.len() {
         drop(links.swap_remove(at));
+    }
+}
+
+/// The bit of a session's place; none, where it doesn't stand.
+fn bit_of<H: Turns>(held: &H, session: u32) -> u64 {
+    match held.place(session) {
+        Some(place) => bit(place),
+        None => 0,
+    }
+}
+
+/// The place of a session that stands and to which nothing is to be said.
+fn quiet_place<H: Turns>(held: &H, session: u32) -> Option<usize> {
+    let place = held.place(session)?;
+    if held.is_full_at(place) {
+        return None;
+    }
+    Some(place)
+}
+
+/// The bits of the places of those sessions to which something is to be said.
+fn said_in<H: Turns>(held: &H) -> u64 {
+    if held.is_still() {
+        return 0;
+    }
+    let mut places = 0;
+    for place in 0..PLACES {
+        if held.is_full_at(place) {
+            places |= bit(place);
+        }
+    }
+    places
+}
+
+/// The bits of those whose session an event may have ended: that of its own session, where it went, and
+/// all where memory was wanting.
+fn gone(went: Went, own: u64) -> u64 {
+    match went {
+        Went::Closed => own,
+        Went::Memory => u64::MAX,
+        Went::Open { .. } | Went::NotReady | Went::Full => 0,
+    }
+}
+
+/// The session that an event may end for another reason than want of memory.
+fn session_of(event: &Event) -> Option<u32> {
+    match event {
+        Event::Got { session, .. } | Event::Hang { session } => Some(*session),
+        Event::Connect | Event::Settle { .. } => None,
     }
 }
 
@@ -107,7 +180,7 @@ impl<H: Turns + Drop, Y: Syncs, G: Gate + Drop, L: Link + Drop> Shared<H, Y, G, 
             post,
             syncs,
             in_doubt: AtomicBool::new(false),
-            said: AtomicU64::new(0),
+            bells: Bells::new(),
             links: Mutex::new(Vec::new(alloc)),
             gate,
             alloc,
@@ -144,13 +217,21 @@ impl<H: Turns + Drop, Y: Syncs, G: Gate + Drop, L: Link + Drop> Shared<H, Y, G, 
         requires timed { IsTimed event }
         ensures { Follows self.now.post pass result.0 }
     {
+        let its = session_of(&event);
         self.gate.before();
         let mut turn = self.post.enter(rt, pass);
+        let own = match its {
+            Some(session) => bit_of(&*turn.value(), session),
+            None => 0,
+        };
         let went = turn.value().event(self.alloc, event);
         // Where no change could be made nothing was said to anybody.
-        let says = !matches!(went, Went::NotReady) && !turn.value().is_still();
+        let said = match went {
+            Went::NotReady => 0,
+            _ => said_in(&*turn.value()),
+        };
         let pass = turn.leave();
-        let pass = self.wake(rt, pass, went, says);
+        let pass = self.wake(rt, pass, went, gone(went, own) | said);
         self.gate.after();
         (pass, went)
     }
@@ -183,56 +264,55 @@ impl<H: Turns + Drop, Y: Syncs, G: Gate + Drop, L: Link + Drop> Shared<H, Y, G, 
         }
     }
 
-    /// A turn of one record of a session, which is read before it. Where a change of the session waits
-    /// then, one that waits is made in a turn behind it, if it may be; and what there is to say to the
-    /// session is taken.
-    pub fn got<W: Wait>(
+    /// Reads a record of a session, before its turn. That may take long, so no link of the session is to
+    /// be held meanwhile.
+    pub fn read<W: Wait>(
         &self,
         rt: &W,
         pass: Pass<H>,
         session: u32,
         bytes: &[u8],
-        now: u64,
-    ) -> (Pass<H>, Taken)
-        requires pass { IsPassOf self.now.post pass }
-        requires timed { now < 2 ^ 63 }
+    ) -> (Pass<H>, Prepared)
+        requires { IsPassOf self.now.post pass }
         ensures { Follows self.now.post pass result.0 }
     {
         let read = read_record(self.alloc, bytes);
         let (pass, ahead) = self.ahead(rt, pass, session, &read);
-        self.heard(rt, pass, session, read, ahead, now)
+        (pass, Prepared { read, ahead })
     }
 
-    /// The turn of a record, and that of a change that waits.
-    fn heard<W: Wait>(
+    /// The turn of a record of a session. Where a change of the session waits then, one that waits is made
+    /// in a turn behind it, if it may be; and what there is to say to the session is taken.
+    pub fn got<W: Wait>(
         &self,
         rt: &W,
         pass: Pass<H>,
         session: u32,
-        read: Result<Message, WireError>,
-        ahead: Option<Content>,
+        record: Prepared,
         now: u64,
     ) -> (Pass<H>, Taken)
         requires pass { IsPassOf self.now.post pass }
         requires timed { now < 2 ^ 63 }
         ensures { Follows self.now.post pass result.0 }
     {
+        let (read, ahead) = record.into_parts();
         self.gate.before();
         let mut turn = self.post.enter(rt, pass);
+        let own = bit_of(&*turn.value(), session);
         turn.value().prepare(ahead);
         let heard = turn.value().heard(self.alloc, session, read, now);
         turn.value().prepare(None);
         if turn.value().waits(session) {
             let pass = turn.leave();
             self.gate.after();
-            let pass = self.wake(rt, pass, heard, false);
+            let pass = self.wake(rt, pass, heard, gone(heard, own));
             return self.settle(rt, pass, session, now);
         }
         let messages = turn.value().take_out(session);
         let stands = turn.value().stands(session);
-        let says = !turn.value().is_still();
+        let said = said_in(&*turn.value());
         let pass = turn.leave();
-        let pass = self.wake(rt, pass, heard, says);
+        let pass = self.wake(rt, pass, heard, gone(heard, own) | said);
         self.gate.after();
         (pass, Taken::new(messages, stands))
     }
@@ -249,9 +329,9 @@ impl<H: Turns + Drop, Y: Syncs, G: Gate + Drop, L: Link + Drop> Shared<H, Y, G, 
         let settled = turn.value().event(self.alloc, Event::Settle { now });
         let messages = turn.value().take_out(session);
         let stands = turn.value().stands(session);
-        let says = !turn.value().is_still();
+        let said = said_in(&*turn.value());
         let pass = turn.leave();
-        let pass = self.wake(rt, pass, settled, says);
+        let pass = self.wake(rt, pass, settled, gone(settled, 0) | said);
         self.gate.after();
         (pass, Taken::new(messages, stands))
     }
@@ -293,29 +373,30 @@ impl<H: Turns + Drop, Y: Syncs, G: Gate + Drop, L: Link + Drop> Shared<H, Y, G, 
     {
         let mut pass = pass;
         for _turn in rt.forever() {
-            let heard = self.said.load(Ordering::SeqCst);
             let mut turn = self.post.enter(rt, pass);
-            let quiet = turn.value().is_quiet(session);
+            let quiet = quiet_place(&*turn.value(), session);
+            // Counted in the turn: what a later one has to say rings behind it.
+            let rung = match quiet {
+                Some(place) => self.bells.count(place),
+                None => 0,
+            };
             pass = turn.leave();
-            if !quiet {
-                return pass;
+            match quiet {
+                Some(place) => self.bells.wait(rt, place, rung),
+                None => return pass,
             }
-            self.said.park(rt, (heard & 0xffff_ffff) as u32);
         }
         unreachable!()
     }
 
-    /// Wakes the threads that have nothing to say, where one of them has now, or its session went.
+    /// Wakes the threads of these places that have nothing to say: now they have, or their session went.
     /// Where memory was wanting, another thread's session may have been hung: its link is shut, so
     /// that its threads come back that wait there.
-    fn wake<W: Wait>(&self, rt: &W, pass: Pass<H>, went: Went, says: bool) -> Pass<H>
+    fn wake<W: Wait>(&self, rt: &W, pass: Pass<H>, went: Went, places: u64) -> Pass<H>
         requires { IsPassOf self.now.post pass }
         ensures { Follows self.now.post pass result }
     {
-        if says || matches!(went, Went::Closed | Went::Memory) {
-            self.said.fetch_add(1, Ordering::SeqCst);
-            self.said.wake_all();
-        }
+        self.bells.ring(places);
         if matches!(went, Went::Memory) {
             return self.shut_links(rt, pass);
         }

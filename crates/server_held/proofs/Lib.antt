@@ -1,3 +1,4 @@
+pub mod Accounting
 pub mod Delivering
 pub mod Growing
 pub mod Hanging

@@ -1,6 +1,8 @@
 -- A server and the store that keeps its tree.
-use Rattle.std.specs.Prelude.{◌≡◌, ℕ, ◌≤◌, List, Option, true, false}
+use Rattle.std.specs.Prelude.{◌≡◌, ℕ, ◌≤◌, List, Option, Some, true, false}
 use Rattle.store.specs.declared.record.Kept.{Kept}
+use Rattle.tree_reading.specs.Tree.{Tree}
+use Rattle.file_tree.specs.Storing.{IsStored}
 use Rattle.file_tree.specs.Stores.{Keeps}
 use Rattle.server_core.specs.declared.event.Event.{Event}
 use Rattle.server_core.specs.declared.event.ServerStep.{ServerStep}
@@ -11,6 +13,10 @@ use Rattle.server_core.specs.Step.{server_step_under, Misses}
 pub record KeptState (S : Type 0) : Type 0 where
   pub server : State
   pub store : S
+
+-- a store that tells its records keeps the tree
+abbrev pub KeepsTree : Option (List Kept) → Tree → Type 0
+KeepsTree told tree = (records : List Kept) → told ≡ Some records → IsStored records tree
 
 -- the server took this step for the event, with memory or without; of the faults of its store, so many were counted before and after
 abbrev pub Steps : (before after : ℕ) → State → Event → State → ServerStep → Type 0

@@ -1,7 +1,7 @@
 //! Boxes of messages in a slab, each beside its session's number, which says whose it is where its
 //! place was another session's before. `specs/Boxes.antt` states what they hold.
 
-ghost use Rattle.std.specs.Prelude.{◌≡◌, ◌≢◌, ℕ, List, [], ◌∷◌, ◌++◌, Some, None, IfSome, IfNone, OnOk, OnErr, IsTrue, ◌↔◌};
+ghost use Rattle.std.specs.Prelude.{◌≡◌, ◌≢◌, ℕ, List, [], ◌∷◌, ◌++◌, Some, None, IfSome, IfNone, OnOk, OnErr, IsTrue, false, ◌↔◌};
 ghost use Rattle.slab.specs.Slab.{Slab, get};
 ghost use Rattle.server_held.specs.Boxes.{AllEmpty, Holds, Lacks, IsUnique, KeepsOthers};
 ghost use Rattle.server_held.specs.declared.boxes.Outbox.{Outbox};
@@ -42,23 +42,13 @@ pub fn key_of<T>(boxes: &Slab<Outbox<T>>, session: u32) -> Option<usize>
     None
 }
 
-/// Whether nothing is in the box under a key, where there is one.
-fn is_empty_at<T>(boxes: &Slab<Outbox<T>>, key: usize) -> bool
-    ensures { (one : Outbox T) → get boxes.now key ≡ Some one → IsTrue result ↔ (one.messages ≡ []) }
+/// Whether something is in the box under a key, where there is one.
+pub fn is_full_in<T>(boxes: &Slab<Outbox<T>>, key: usize) -> bool
+    ensures some { (one : Outbox T) → get boxes.now key ≡ Some one → IsTrue result ↔ ¬ (one.messages ≡ []) }
+    ensures none { get boxes.now key ≡ None → result ≡ false }
 {
     match boxes.get(key) {
-        Some(one) => one.messages.is_empty(),
-        None => false,
-    }
-}
-
-/// Whether the session has a box in which there is nothing.
-pub fn is_quiet_in<T>(boxes: &Slab<Outbox<T>>, session: u32) -> bool
-    requires { IsUnique boxes.now }
-    ensures { IsTrue result ↔ Holds boxes.now session [] }
-{
-    match key_of(boxes, session) {
-        Some(key) => is_empty_at(boxes, key),
+        Some(one) => !one.messages.is_empty(),
         None => false,
     }
 }

@@ -1,7 +1,7 @@
 //! What the threads of a server share: the server, and what it has to say to each session.
 //! `specs/Held.antt` states what an event makes of it.
 
-ghost use Rattle.std.specs.Prelude.{◌≡◌, ℕ, ◌<◌, ◌≤◌, ◌^◌, ◌↔◌, List, [], ◌∷◌, length, IsTrue, Result, false};
+ghost use Rattle.std.specs.Prelude.{◌≡◌, ℕ, ◌<◌, ◌≤◌, ◌^◌, ◌↔◌, List, [], ◌∷◌, length, IsTrue, IfSome, IfNone, Some, None, Result, false};
 ghost use Rattle.server_held.specs.Boxes.{AllEmpty, Holds, Lacks, KeepsOthers};
 ghost use Rattle.server_core.specs.Closing.{has_waiting};
 ghost use Rattle.server_core.specs.State.{entries_held};
@@ -10,7 +10,11 @@ ghost use Rattle.server_core.specs.declared.event.Event.TheVariants as event;
 ghost use Rattle.wire.specs.Parse.{parse_of, IsParsed};
 ghost use Rattle.wire.specs.declared.fault.WireFault.{WireFault};
 ghost use Rattle.wire.specs.declared.message.Message.{Message};
+ghost use Rattle.server_law.specs.Facts.{IsAccounted};
 ghost use Rattle.server_law.specs.Growth.{MayAdd};
+ghost use Rattle.server_held.specs.Kept.{KeepsTree};
+ghost use Rattle.server_held.specs.declared.boxes.Outbox.{Outbox};
+ghost use Rattle.slab.specs.Slab.{get};
 ghost use Rattle.server_held.specs.Held.{After, Delivered, HeardOrLeft, Joined, Left, Stands, Took, Unread, server_waits, settled_as};
 ghost use Rattle.server_held.specs.declared.held.Went.TheVariants as went;
 
@@ -100,10 +104,12 @@ fn settled_as(told: Told) -> Went
 }
 
 impl<S: Store + Drop> Held<S> {
-    /// A server and its store, which has room for what waits; there is nothing to say to any session.
-    /// It takes no memory.
+    /// A server, whose tree holds what its journal says, and its store, which keeps that tree and has room
+    /// for what waits; there is nothing to say to any session. It takes no memory.
     pub fn new(alloc: Global, server: Server, store: S) -> Held<S>
-        requires { entries_held server.waiting ≤ S.spare store }
+        requires room { entries_held server.waiting ≤ S.spare store }
+        requires accounted { IsAccounted server }
+        requires kept { KeepsTree (S.records store) server.tree }
         ensures kept { result.kept ≡ record { server = server; store = store } }
         ensures boxes { (session : ℕ) → Lacks result.boxes session }
     {
@@ -255,7 +261,9 @@ impl<S: Store + Drop> Held<S> {
 
     /// The store, once nobody is told anything any more.
     pub fn into_store(self) -> S
-        ensures { result ≡ self.kept.store }
+        ensures store { result ≡ self.kept.store }
+        ensures accounted { IsAccounted self.kept.server }
+        ensures kept { KeepsTree (S.records result) self.kept.server.tree }
     {
         let Held { kept, boxes } = self;
         drop(boxes);
@@ -282,11 +290,20 @@ impl<S: Store + Drop> Turns for Held<S> {
         self.boxes.has(session)
     }
 
-    /// Whether a session stands to which nothing is to be said.
-    fn is_quiet(&self, session: u32) -> bool
-        ensures { IsTrue result ↔ Holds self.now.boxes session [] }
+    /// The place of a session's box, if it stands; it is no other session's as long as it does.
+    fn place(&self, session: u32) -> Option<usize>
+        ensures some { IfSome result (λ place. (messages : List Message) × (get self.now.boxes place ≡ Some (record { session = session; messages = messages }))) }
+        ensures none { IfNone result (Lacks self.now.boxes session) }
     {
-        self.boxes.is_quiet(session)
+        self.boxes.place(session)
+    }
+
+    /// Whether something is to be said to the session whose box is at a place.
+    fn is_full_at(&self, place: usize) -> bool
+        ensures some { (one : Outbox Message) → get self.now.boxes place ≡ Some one → IsTrue result ↔ ¬ (one.messages ≡ []) }
+        ensures none { get self.now.boxes place ≡ None → result ≡ false }
+    {
+        self.boxes.is_full_at(place)
     }
 
     /// Whether nothing is to be said to any session.

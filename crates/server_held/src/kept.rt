@@ -4,7 +4,8 @@ ghost use Rattle.std.specs.Prelude.{◌≡◌, ◌≤◌, length};
 ghost use Rattle.server_core.specs.Closing.{has_waiting};
 ghost use Rattle.server_core.specs.State.{entries_held};
 ghost use Rattle.server_core.specs.Step.{IsTimed};
-ghost use Rattle.server_held.specs.Kept.{Steps, StoreKeeps};
+ghost use Rattle.server_held.specs.Kept.{KeepsTree, Steps, StoreKeeps};
+ghost use Rattle.server_law.specs.Facts.{IsAccounted};
 
 use hash_calls::call::Commit;
 use server_core::event::{Event, ServerStep};
@@ -15,7 +16,8 @@ use std::marker::Model;
 use store::store::Store;
 use tree_nodes::content::Content;
 
-/// A server, and the store that keeps its tree. There is room in the store for what waits.
+/// A server, and the store that keeps its tree. There is room in the store for what waits, the tree holds
+/// what the journal says, and a store that tells its records keeps the tree.
 #[derive(Drop)]
 pub struct KeptServer<S: Store> {
     server: Server,
@@ -25,19 +27,22 @@ pub struct KeptServer<S: Store> {
 impl<S: Store> Model for KeptServer<S> {
     ghost use Rattle.std.specs.Prelude.{◌≤◌};
     ghost use Rattle.server_core.specs.State.{entries_held};
-    ghost use Rattle.server_held.specs.Kept.{KeptState};
+    ghost use Rattle.server_held.specs.Kept.{KeepsTree, KeptState};
+    ghost use Rattle.server_law.specs.Facts.{IsAccounted};
 
     ghost Value = { KeptState S };
 
     ghost view = { λ k. record { server = k.server; store = k.store } };
 
-    ghost invariant = { λ k. entries_held k.server.waiting ≤ S.spare k.store };
+    ghost invariant = { λ k. (entries_held k.server.waiting ≤ S.spare k.store) × IsAccounted k.server × KeepsTree (S.records k.store) k.server.tree };
 }
 
 impl<S: Store + Drop> KeptServer<S> {
     /// A server and its store. It takes no memory.
     pub fn new(server: Server, store: S) -> KeptServer<S>
-        requires { entries_held server.waiting ≤ S.spare store }
+        requires room { entries_held server.waiting ≤ S.spare store }
+        requires accounted { IsAccounted server }
+        requires kept { KeepsTree (S.records store) server.tree }
         ensures { result ≡ record { server = server; store = store } }
     {
         KeptServer { server, store }
@@ -85,7 +90,9 @@ impl<S: Store + Drop> KeptServer<S> {
 
     /// The store.
     pub fn into_store(self) -> S
-        ensures { result ≡ self.store }
+        ensures store { result ≡ self.store }
+        ensures accounted { IsAccounted self.server }
+        ensures kept { KeepsTree (S.records result) self.server.tree }
     {
         let KeptServer { server, store } = self;
         drop(server);

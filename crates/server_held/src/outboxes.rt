@@ -1,9 +1,11 @@
 //! The outboxes of all sessions. `specs/Boxes.antt` states what they hold.
 
-ghost use Rattle.std.specs.Prelude.{◌≡◌, ℕ, List, [], ◌∷◌, ◌++◌, OnOk, OnErr, IsTrue, false, ◌↔◌};
+ghost use Rattle.std.specs.Prelude.{◌≡◌, ℕ, List, [], ◌∷◌, ◌++◌, OnOk, OnErr, IfSome, IfNone, Some, None, IsTrue, false, ◌↔◌};
+ghost use Rattle.slab.specs.Slab.{get};
 ghost use Rattle.server_held.specs.Boxes.{AllEmpty, Holds, Lacks, KeepsOthers};
+ghost use Rattle.server_held.specs.declared.boxes.Outbox.{Outbox};
 
-use crate::boxes::{Outbox, close_in, is_quiet_in, is_still_in, key_of, open_in, put_in, take_in};
+use crate::boxes::{Outbox, close_in, is_full_in, is_still_in, key_of, open_in, put_in, take_in};
 use lb_base::items::Items;
 use slab::Slab;
 use std::alloc::{AllocError, Global};
@@ -54,11 +56,20 @@ impl<T: Drop> Outboxes<T> {
         key_of(&self.boxes, session).is_some()
     }
 
-    /// Whether the session has a box in which there is nothing.
-    pub fn is_quiet(&self, session: u32) -> bool
-        ensures { IsTrue result ↔ Holds self.now session [] }
+    /// The place of a session's box, where it has one. It stays there until it is closed.
+    pub fn place(&self, session: u32) -> Option<usize>
+        ensures some { IfSome result (λ place. (messages : List T) × (get self.now place ≡ Some (record { session = session; messages = messages }))) }
+        ensures none { IfNone result (Lacks self.now session) }
     {
-        is_quiet_in(&self.boxes, session)
+        key_of(&self.boxes, session)
+    }
+
+    /// Whether there is something in the box at a place, where there is one.
+    pub fn is_full_at(&self, place: usize) -> bool
+        ensures some { (one : Outbox T) → get self.now place ≡ Some one → IsTrue result ↔ ¬ (one.messages ≡ []) }
+        ensures none { get self.now place ≡ None → result ≡ false }
+    {
+        is_full_in(&self.boxes, place)
     }
 
     /// Whether nothing is in any box.

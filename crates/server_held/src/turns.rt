@@ -20,8 +20,11 @@ pub trait Turns: Journaled {
     /// Whether a session stands.
     fn stands(&self, session: u32) -> bool;
 
-    /// Whether a session stands to which nothing is to be said.
-    fn is_quiet(&self, session: u32) -> bool;
+    /// The place of a session's box, if it stands; it is no other session's as long as it does.
+    fn place(&self, session: u32) -> Option<usize>;
+
+    /// Whether something is to be said to the session whose box is at a place.
+    fn is_full_at(&self, place: usize) -> bool;
 
     /// Whether nothing is to be said to any session.
     fn is_still(&self) -> bool;

@@ -23,6 +23,7 @@ mod words;
 use row_text::out::Out;
 use std::alloc::{AllocError, Global};
 use std::io::Print;
+use std::rt::Clock;
 use std::sync::Wait;
 use std::thread::Threads;
 use std::{fs, io};
@@ -62,7 +63,10 @@ const FILES: [(Kind, &str); 19] = [
 ];
 
 /// What comes of the trials without a row.
-fn plain_text<R: Threads + Wait + Sync>(rt: &R, alloc: Global) -> Result<String, AllocError> {
+fn plain_text<R: Threads + Wait + Clock + Sync>(
+    rt: &R,
+    alloc: Global,
+) -> Result<String, AllocError> {
     let mut out = Out::new(alloc);
     lists::put(alloc, &mut out);
     for limit in [6usize, 5, 4, 0] {
@@ -81,13 +85,13 @@ fn plain_text<R: Threads + Wait + Sync>(rt: &R, alloc: Global) -> Result<String,
 }
 
 /// Prints what comes of the trials without a row.
-fn print_plain<R: Threads + Wait + Sync + AllocGlobal + Print>(rt: &R) -> io::Result<()> {
+fn print_plain<R: Threads + Wait + Clock + Sync + AllocGlobal + Print>(rt: &R) -> io::Result<()> {
     let out = plain_text(rt, rt.alloc())?;
     print!(rt; "{out}")
 }
 
 /// What comes of the rows of a file, which may name these records.
-fn text_of<R: Threads + Wait + Sync + Send + Copy + Drop>(
+fn text_of<R: Threads + Wait + Clock + Sync + Send + Copy + Drop>(
     rt: &R,
     alloc: Global,
     records: &str,
@@ -105,7 +109,7 @@ fn text_of<R: Threads + Wait + Sync + Send + Copy + Drop>(
 }
 
 /// Prints what comes of the rows of a file.
-fn print_file<R: Threads + Wait + Sync + Send + Copy + Drop + AllocGlobal + Print>(
+fn print_file<R: Threads + Wait + Clock + Sync + Send + Copy + Drop + AllocGlobal + Print>(
     rt: &R,
     records: &str,
     kind: Kind,

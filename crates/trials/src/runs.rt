@@ -7,6 +7,7 @@ use crate::trial::{Trial, split};
 use row_text::out::Out;
 use row_text::text::is_remark;
 use std::alloc::Global;
+use std::rt::Clock;
 use std::sync::{Arc, Wait};
 use std::thread;
 use std::thread::Threads;
@@ -85,7 +86,7 @@ fn put_run<R: Threads + Wait + Sync + Send + Copy + Drop>(
 }
 
 /// `TITLE | KIND | LINE`: what comes of a session.
-fn put_session<R: Threads + Wait + Sync + Send + Copy + Drop>(
+fn put_session<R: Threads + Wait + Clock + Sync + Send + Copy + Drop>(
     rt: &R,
     alloc: Global,
     records: &str,
@@ -110,7 +111,7 @@ fn put_session<R: Threads + Wait + Sync + Send + Copy + Drop>(
 }
 
 /// What comes of each row of a file, `runs` or `sessions`.
-pub fn put_rows<R: Threads + Wait + Sync + Send + Copy + Drop>(
+pub fn put_rows<R: Threads + Wait + Clock + Sync + Send + Copy + Drop>(
     rt: &R,
     alloc: Global,
     records: &str,

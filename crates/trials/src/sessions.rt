@@ -17,9 +17,11 @@ use server_core::event::Event;
 use server_core::server::Server;
 use server_held::held::{Held, Went};
 use std::alloc::{AllocError, Global};
+use std::rt::Clock;
 use std::sync::{Arc, Mutex, Wait};
 use std::thread;
 use std::thread::Threads;
+use std::time::Duration;
 use store::mem_store::MemStore;
 use synced_store::syncs::Synced;
 use turn_post::post::{Pass, Post};
@@ -50,28 +52,42 @@ fn put_refused(went: Went, out: &mut Out) {
     })
 }
 
-/// Something is to be said to the session. Once a thread of it waits for its client, the session is
-/// hung, where it should be.
-fn speak_to<R: Wait + Copy + Drop>(
+/// What another thread has to do with a session.
+#[derive(Clone, Copy)]
+struct Others {
+    /// Whether something is to be said to it.
+    says: bool,
+    /// Whether it is hung.
+    hangs: bool,
+}
+
+/// Once the session's threads sleep, something is said to it, where it should be, and a thread of it waits
+/// for its client then. Behind that the session is hung, where it should be.
+fn speak_to<R: Wait + Clock + Copy + Drop>(
     rt: &R,
     shared: &PortShared<R>,
     pass: Pass<MemHeld>,
     session: u32,
     port: &Port,
-    hangs: bool,
+    others: Others,
 )
     requires { IsPassOf shared.now.post pass }
 {
-    let message = Message::Unfit(7, RpcRefusal::ProcUnavail);
-    let now = 0;
-    let event = Event::Got {
-        session,
-        message,
-        now,
-    };
-    let (pass, _went) = shared.event(rt, pass, event);
-    port.await_speaker(rt);
-    if hangs {
+    thread::sleep(rt, Duration::from_millis(20));
+    let mut pass = pass;
+    if others.says {
+        let message = Message::Unfit(7, RpcRefusal::ProcUnavail);
+        let now = 0;
+        let event = Event::Got {
+            session,
+            message,
+            now,
+        };
+        let (next, _went) = shared.event(rt, pass, event);
+        pass = next;
+        port.await_speaker(rt);
+    }
+    if others.hangs {
         let (pass, _went) = shared.event(rt, pass, Event::Hang { session });
         drop(shared.shut_links(rt, pass));
     }
@@ -79,7 +95,7 @@ fn speak_to<R: Wait + Copy + Drop>(
 
 /// Runs a session in its two threads, and beside them one that has something to say to it. It returns
 /// once all three have ended.
-fn run_threads<'x, R: Threads + Wait + Sync + Send + Copy + Drop>(
+fn run_threads<'x, R: Threads + Wait + Clock + Sync + Send + Copy + Drop>(
     rt: &'x R,
     shared: &'x PortShared<R>,
     pass: Pass<MemHeld>,
@@ -87,7 +103,7 @@ fn run_threads<'x, R: Threads + Wait + Sync + Send + Copy + Drop>(
     port: &'x Port,
     gives: &'x Mutex<PortLink<R>>,
     takes: PortLink<R>,
-    hangs: bool,
+    others: Others,
 ) -> End
     requires { IsPassOf shared.now.post pass }
 {
@@ -109,7 +125,7 @@ fn run_threads<'x, R: Threads + Wait + Sync + Send + Copy + Drop>(
             let speaker = scope.spawn(
                 move ||
                     requires { IsPassOf shared.now.post speaking }
-                { speak_to(rt, shared, speaking, session, port, hangs) },
+                { speak_to(rt, shared, speaking, session, port, others) },
             );
             drop(speaker);
             let clock = FixedClock::at(0);
@@ -120,13 +136,13 @@ fn run_threads<'x, R: Threads + Wait + Sync + Send + Copy + Drop>(
 }
 
 /// Runs a session whose client takes nothing.
-fn run_deaf<R: Threads + Wait + Sync + Send + Copy + Drop>(
+fn run_deaf<R: Threads + Wait + Clock + Sync + Send + Copy + Drop>(
     rt: &R,
     shared: &PortShared<R>,
     pass: Pass<MemHeld>,
     session: u32,
     port: &Arc<Port>,
-    hangs: bool,
+    others: Others,
 ) -> Result<End, AllocError>
     requires { IsPassOf shared.now.post pass }
 {
@@ -134,7 +150,7 @@ fn run_deaf<R: Threads + Wait + Sync + Send + Copy + Drop>(
     let further = PortLink::new(*rt, port, Side::Listener, 0)?;
     let gives = Mutex::new(PortLink::new(*rt, port, Side::Listener, 0)?);
     shared.keep_link(rt, session, further);
-    Ok(run_threads(rt, shared, pass, session, port, &gives, takes, hangs))
+    Ok(run_threads(rt, shared, pass, session, port, &gives, takes, others))
 }
 
 /// Runs a session in one thread.
@@ -154,7 +170,7 @@ fn run_alone<R: Wait + Copy + Drop>(
 }
 
 /// Runs a session, in one thread or in several, and tells why it ended.
-fn put_session<R: Threads + Wait + Sync + Send + Copy + Drop>(
+fn put_session<R: Threads + Wait + Clock + Sync + Send + Copy + Drop>(
     rt: &R,
     shared: &PortShared<R>,
     pass: Pass<MemHeld>,
@@ -166,8 +182,39 @@ fn put_session<R: Threads + Wait + Sync + Send + Copy + Drop>(
     requires { IsPassOf shared.now.post pass }
 {
     let end = match kind {
-        "ends" => run_deaf(rt, shared, pass, session, port, false),
-        "hung" => run_deaf(rt, shared, pass, session, port, true),
+        "ends" => run_deaf(
+            rt,
+            shared,
+            pass,
+            session,
+            port,
+            Others {
+                says: true,
+                hangs: false,
+            },
+        ),
+        "hung" => run_deaf(
+            rt,
+            shared,
+            pass,
+            session,
+            port,
+            Others {
+                says: true,
+                hangs: true,
+            },
+        ),
+        "gone" => run_deaf(
+            rt,
+            shared,
+            pass,
+            session,
+            port,
+            Others {
+                says: false,
+                hangs: true,
+            },
+        ),
         _ => run_alone(rt, shared, pass, session, port),
     };
     match end {
@@ -206,7 +253,7 @@ fn put_connections<R: Wait + Copy + Drop>(
 }
 
 /// What comes of a row at a server.
-fn put_shared<R: Threads + Wait + Sync + Send + Copy + Drop>(
+fn put_shared<R: Threads + Wait + Clock + Sync + Send + Copy + Drop>(
     rt: &R,
     shared: &PortShared<R>,
     pass: Pass<MemHeld>,
@@ -227,7 +274,7 @@ fn put_shared<R: Threads + Wait + Sync + Send + Copy + Drop>(
 }
 
 /// What comes of a row at a server, with a pass of its post.
-fn put_held<R: Threads + Wait + Sync + Send + Copy + Drop>(
+fn put_held<R: Threads + Wait + Clock + Sync + Send + Copy + Drop>(
     rt: &R,
     alloc: Global,
     held: MemHeld,
@@ -261,15 +308,15 @@ fn empty_store(alloc: Global) -> Result<(TriedStore, TriedSyncs), AllocError> {
 
 /// What comes of a row: a session of a server of an empty store over the port's first line, or one
 /// connection after the other.
-#[tactic(auto, using(crate::proofs::Opened::nothing_held))]
-pub fn put<R: Threads + Wait + Sync + Send + Copy + Drop>(
+#[tactic(auto, using(crate::proofs::Opened::nothing_held, crate::proofs::Opened::is_accounted, crate::proofs::Opened::keeps_tree))]
+pub fn put<R: Threads + Wait + Clock + Sync + Send + Copy + Drop>(
     rt: &R,
     alloc: Global,
     port: &Arc<Port>,
     kind: &str,
     out: &mut Out,
 ) {
-    let (Ok(server), Ok((store, syncs))) = (Server::new(alloc), empty_store(alloc)) else {
+    let (Ok(server), Ok((store, syncs))) = (Server::new(alloc, 0), empty_store(alloc)) else {
         return out.lack();
     };
     put_held(

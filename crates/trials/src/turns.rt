@@ -1,35 +1,92 @@
 //! Turns at a post: two threads take a hundred each, and each adds a number in each; a third pass, with
-//! which no turn is taken, is asked how many entries there are.
+//! which no turn is taken, is asked how many entries there are. Then the same with four threads, and turns
+//! that last longer than a thread looks before it sleeps, and so many that it takes its place in the queue:
+//! where one isn't woken, the trial doesn't end.
 
-ghost use Rattle.std.specs.Prelude.{◌<◌, ◌^◌};
 ghost use Rattle.turn_post.specs.Passes.{IsPassOf};
 
 use crate::tally::Tally;
 use row_text::out::Out;
 use std::alloc::Global;
+use std::rt::Clock;
 use std::sync::Wait;
+use std::thread;
 use std::thread::{Threads, join};
+use std::time::Duration;
 use turn_post::post::{Pass, Post};
 
-/// How many turns a thread takes.
-const TURNS: u64 = 100;
+/// The turns of threads.
+#[derive(Clone, Copy)]
+struct Turns {
+    /// How many threads.
+    threads: u64,
+    /// How many turns each takes.
+    count: u64,
+    /// How long each lasts.
+    lasts: Duration,
+}
 
 /// Takes turns, and adds a number in each, from a first one on, as far as memory suffices.
-fn add_all<R: Wait>(rt: &R, post: &Post<Tally>, pass: Pass<Tally>, first: u64)
-    requires pass { IsPassOf post.now pass }
-    requires small { first < 2 ^ 32 }
+fn add_all<R: Wait + Clock>(rt: &R, post: &Post<Tally>, pass: Pass<Tally>, turns: Turns, first: u64)
+    requires { IsPassOf post.now pass }
 {
     let mut pass = pass;
-    for at in 0..TURNS {
+    for at in 0..turns.count {
         let mut turn = post.enter(rt, pass);
-        let added = turn.value().add(first + at);
+        let added = turn.value().add(first.wrapping_add(at));
+        if !turns.lasts.is_zero() {
+            thread::sleep(rt, turns.lasts);
+        }
         pass = turn.leave();
         drop(added);
     }
 }
 
+/// Two threads add the numbers from a first one on, and from a thousand more.
+fn add_both<R: Threads + Wait + Clock + Sync>(
+    rt: &R,
+    post: &Post<Tally>,
+    pass: Pass<Tally>,
+    turns: Turns,
+    first: u64,
+)
+    requires { IsPassOf post.now pass }
+{
+    let (one, two) = post.split(pass);
+    join(
+        rt,
+        move ||
+            requires { IsPassOf post.now one }
+        { add_all(rt, post, one, turns, first) },
+        move ||
+            requires { IsPassOf post.now two }
+        { add_all(rt, post, two, turns, first.wrapping_add(1000)) },
+    );
+}
+
+/// Four threads do.
+fn add_four<R: Threads + Wait + Clock + Sync>(
+    rt: &R,
+    post: &Post<Tally>,
+    pass: Pass<Tally>,
+    turns: Turns,
+)
+    requires { IsPassOf post.now pass }
+{
+    let (one, two) = post.split(pass);
+    join(
+        rt,
+        move ||
+            requires { IsPassOf post.now one }
+        { add_both(rt, post, one, turns, 1000) },
+        move ||
+            requires { IsPassOf post.now two }
+        { add_both(rt, post, two, turns, 3000) },
+    );
+}
+
 /// Whether those of the numbers that one thread added are all that it had to add, in their order.
-fn is_whole(numbers: &[u64], first: u64) -> bool {
+fn is_whole(numbers: &[u64], first: u64, count: u64) -> bool {
     let mut next = first;
     for number in numbers {
         if *number / 1000 == first / 1000 {
@@ -39,48 +96,70 @@ fn is_whole(numbers: &[u64], first: u64) -> bool {
             next = next.wrapping_add(1);
         }
     }
-    next == first.wrapping_add(TURNS)
+    next == first.wrapping_add(count)
 }
 
 /// What the third pass is told, and what a fresh turn finds.
-fn put_found(front: u64, numbers: &[u64], out: &mut Out) {
+fn put_found(front: u64, numbers: &[u64], turns: Turns, out: &mut Out) {
     out.text("turns: front");
     out.number(front);
     out.text(", found");
     out.number(numbers.len() as u64);
-    out.text(", whole ");
-    out.truth(is_whole(numbers, 1000));
-    out.text(" ");
-    out.truth(is_whole(numbers, 2000));
+    out.text(", whole");
+    for at in 0..turns.threads {
+        out.text(" ");
+        out.truth(is_whole(
+            numbers,
+            at.saturating_add(1).saturating_mul(1000),
+            turns.count,
+        ));
+    }
     out.text("\n")
 }
 
-/// The turns of two threads, and what is found behind them.
-fn put_turns<R: Threads + Wait + Sync>(rt: &R, post: &Post<Tally>, pass: Pass<Tally>, out: &mut Out)
+/// The turns of threads, and what is found behind them.
+fn put_turns<R: Threads + Wait + Clock + Sync>(
+    rt: &R,
+    post: &Post<Tally>,
+    pass: Pass<Tally>,
+    turns: Turns,
+    out: &mut Out,
+)
     requires { IsPassOf post.now pass }
 {
-    let (one, rest) = post.split(pass);
-    let (two, idle) = post.split(rest);
-    join(
-        rt,
-        move ||
-            requires { IsPassOf post.now one }
-        { add_all(rt, post, one, 1000) },
-        move ||
-            requires { IsPassOf post.now two }
-        { add_all(rt, post, two, 2000) },
-    );
+    let (busy, idle) = post.split(pass);
+    if turns.threads == 2 {
+        add_both(rt, post, busy, turns, 1000);
+    } else {
+        add_four(rt, post, busy, turns);
+    }
     let mut idle = idle;
     let front = post.front(&mut idle);
     let turn = post.enter(rt, idle);
     let tally = turn.finish();
-    put_found(front, tally.entries(), out)
+    put_found(front, tally.entries(), turns, out)
 }
 
-/// What comes of the turns.
-pub fn put<R: Threads + Wait + Sync>(rt: &R, alloc: Global, out: &mut Out) {
+/// What comes of the turns at a post of their own.
+fn put_post<R: Threads + Wait + Clock + Sync>(rt: &R, alloc: Global, turns: Turns, out: &mut Out) {
     match Post::new(alloc, Tally::new(alloc)) {
-        Ok((post, pass)) => put_turns(rt, &post, pass, out),
+        Ok((post, pass)) => put_turns(rt, &post, pass, turns, out),
         Err(_) => out.lack(),
     }
+}
+
+/// What comes of short turns, and of turns that last.
+pub fn put<R: Threads + Wait + Clock + Sync>(rt: &R, alloc: Global, out: &mut Out) {
+    let short = Turns {
+        threads: 2,
+        count: 100,
+        lasts: Duration::from_micros(0),
+    };
+    put_post(rt, alloc, short, out);
+    let long = Turns {
+        threads: 4,
+        count: 200,
+        lasts: Duration::from_micros(200),
+    };
+    put_post(rt, alloc, long, out)
 }

@@ -15,7 +15,7 @@ loop-turn-init g c = record {
 pub loop-turn-preserved : goal.loop-turn-preserved
 loop-turn-preserved g c =
     let given = c.in-Ok-next.ensures.given in record {
-      pass = follows_trans c.args.shared.now.post c.args.pass c.loop-turn.pass c.got-next.result.0 c.loop-turn.invariant.pass c.got-next.ensures;
+      pass = follows_trans c.args.shared.now.post c.args.pass c.loop-turn.pass c.got-next.result.0 c.loop-turn.invariant.pass (follows_trans c.args.shared.now.post c.loop-turn.pass c.read-read.result.0 c.got-next.result.0 c.read-read.ensures c.got-next.ensures);
       taken = taken_more (g.L.Link.left c.args.link.now) (g.L.Link.left c.loop-turn.link) (g.L.Link.left c.next-in-loop-turn.new.link) c.loop-turn.inbox c.next-in-loop-turn.new.self given.0 _ c.loop-turn.invariant.taken given.1 given.2;
       out = c.in-Ok-next.ensures.out ∙ c.loop-turn.invariant.out;
       later = omega (arith, c.loop-turn.invariant.later, c.in-Ok-next.ensures.later);

@@ -1,0 +1,60 @@
+//! What wakes the threads that put out what further events have to say: a bell for each place that a
+//! session's box can have, so that each thread hears its own. A bell is a number that is raised and then
+//! woken on. No clause speaks of it.
+
+use std::array;
+use std::sync::Wait;
+use std::sync::atomic::{AtomicU64, Ordering};
+
+/// How many places there are: so many boxes stand at most, and a box takes a place that is free before a
+/// new one is made.
+pub(crate) const PLACES: usize = 64;
+
+/// A bell for each place.
+#[derive(Drop)]
+pub(crate) struct Bells {
+    bells: [AtomicU64; PLACES],
+}
+
+/// The bit of a place.
+pub(crate) fn bit(place: usize) -> u64 {
+    1 << (place % PLACES)
+}
+
+impl Bells {
+    /// None was rung. It takes no memory.
+    pub(crate) fn new() -> Bells {
+        Bells {
+            bells: array::from_fn(|_| AtomicU64::new(0)),
+        }
+    }
+
+    /// The bell of a place.
+    fn at(&self, place: usize) -> &AtomicU64 {
+        &self.bells[place % PLACES]
+    }
+
+    /// How often the bell of a place was rung.
+    pub(crate) fn count(&self, place: usize) -> u64 {
+        self.at(place).load(Ordering::SeqCst)
+    }
+
+    /// Sleeps until the bell of a place is rung, where it has been rung so often alone.
+    pub(crate) fn wait<W: Wait>(&self, rt: &W, place: usize, count: u64) {
+        self.at(place).park(rt, (count & 0xffff_ffff) as u32);
+    }
+
+    /// Rings the bells of the places whose bits are set.
+    pub(crate) fn ring(&self, places: u64) {
+        if places == 0 {
+            return;
+        }
+        for place in 0..PLACES {
+            if places & bit(place) != 0 {
+                let bell = self.at(place);
+                bell.fetch_add(1, Ordering::SeqCst);
+                bell.wake_all();
+            }
+        }
+    }
+}
