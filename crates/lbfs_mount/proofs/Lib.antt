@@ -5,3 +5,4 @@ mod Skipping
 mod Telling
 mod Hintings
 mod Cachings
+mod Courses

@@ -1,6 +1,6 @@
 -- What a mounted client says of an operation that ended is the line of an answer.
 use Rattle.std.proofs.Common.{◌≡◌, ℕ, List, [], Bool, true, false, refl, sym, subst}
-use Rattle.std.specs.Prelude.{Option, Some, None, Result, Ok, Err, IfOk, IsOk}
+use Rattle.std.specs.Prelude.{Option, Some, None, Result, Ok, Err, IfOk}
 use Rattle.links.specs.declared.files.FilesError.{FilesError}
 use Rattle.record_ends.specs.declared.end.End.{End}
 use Rattle.record_ends.specs.declared.end.End.TheVariants as ends
@@ -25,7 +25,7 @@ use Rattle.lbfs_client.specs.Walks.{says, answer_of, answer_to, is_closed, opene
 use Rattle.lbfs_client.specs.declared.said.Said.{Said}
 use Rattle.lbfs_client.specs.declared.walk.Walk.{Walk}
 use Rattle.lbfs_client.specs.declared.walk.Walk.TheVariants as walk
-use Rattle.lbfs_mount.specs.Turns.{Hints, IsTold, RunsHinted, Sends, Turns}
+use Rattle.lbfs_mount.specs.Turns.{Hints, IsTold, RunsHinted, SendsOf, Turns}
 
 -- ---- what is said
 
@@ -125,9 +125,6 @@ joined_told m m' said is = subst (λ (r : Mount × Said). IsTold r.1.line) is (j
 
 -- ---- over a result
 
-apart : false ≡ true → ⊥
-apart e = cc
-
 pub runs_all : {E : Type 0} (r : Result Said E) (m : Mount) (l : MountLine) (now : ℕ) (m' : Mount) → IfOk r (λ said. Runs m l now m' said) → IfOk r (λ said. IsTold said.line)
 runs_all (Ok said) m l now m' p = runs_told m l now m' said p
 runs_all (Err e) m l now m' p = tt
@@ -146,10 +143,10 @@ joined_all (Ok said) m m' p = joined_told m m' said p
 joined_all (Err e) m m' p = tt
 
 -- a call of the client whose result is no error, and what was made of it
-pub turn : {E : Type 0} (r : Result Said E) (most : ℕ) (called : Mount → Said → Type 0) (m : Mount) (now : ℕ) (m' : Mount) → IfOk r (λ said. called m said) → IsOk r × Sends most m now m' → Turns most called now m'
-turn (Ok said) most called m now m' p q = (m, said, p, q.1)
-turn (Err e) most called m now m' p q = absurd (apart q.0)
+pub turn : {E : Type 0} (r : Result Said E) (most : ℕ) (called : Mount → Said → Type 0) (m : Mount) (now : ℕ) (m' : Mount) → IfOk r (λ said. called m said) → SendsOf most m r now m' → Turns most called now m'
+turn (Ok said) most called m now m' p q = (m, said, p, q)
+turn (Err e) most called m now m' p q = absurd q
 
 -- a record came, with which so many bytes had come, by another count
-pub heard : {E : Type 0} (r : Result Said E) (most : ℕ) (was : Mount) (listed counted : ℕ) (bytes : List ℕ) (m : Mount) (now : ℕ) (m' : Mount) → listed ≡ counted → IfOk r (λ said. Receives was listed bytes now m said) → IsOk r × Sends most m now m' → Turns most (λ n said. Receives was counted bytes now n said) now m'
+pub heard : {E : Type 0} (r : Result Said E) (most : ℕ) (was : Mount) (listed counted : ℕ) (bytes : List ℕ) (m : Mount) (now : ℕ) (m' : Mount) → listed ≡ counted → IfOk r (λ said. Receives was listed bytes now m said) → SendsOf most m r now m' → Turns most (λ n said. Receives was counted bytes now n said) now m'
 heard r most was listed counted bytes m now m' same p q = turn r most (λ n said. Receives was counted bytes now n said) m now m' (subst (λ (l : ℕ). IfOk r (λ said. Receives was l bytes now m said)) same p) q

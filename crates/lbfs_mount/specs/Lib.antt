@@ -1,4 +1,5 @@
 pub mod Cached
+pub mod Course
 pub mod Mounts
 mod Rows
 pub mod Script

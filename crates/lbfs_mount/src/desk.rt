@@ -1,12 +1,11 @@
 //! What the threads of a mount share: the client, the link on which its messages go, and the line of
 //! what ended last. `specs/Turns.antt` says what a turn makes of the client.
 
-ghost use Rattle.std.specs.Prelude.{◌≡◌, ◌⊎◌, ◌==◌, ◌+◌, ◌-◌, ◌^◌, min, IfOk, IsOk, IsTrue, true, false};
+ghost use Rattle.std.specs.Prelude.{◌≡◌, ◌⊎◌, ◌==◌, ◌+◌, ◌-◌, ◌^◌, ◌++◌, min, is_some, IfOk, OnOk, IsTrue, true, false};
 ghost use Rattle.lbfs_client.specs.Mounting.{joined_step};
-ghost use Rattle.lbfs_mount.specs.Turns.{GoesOut, Hears, Hints, MayBound, MayLearn, MayOffer, IsTold, Loses, RunsHinted, Sends, Turns, wants_link};
+ghost use Rattle.lbfs_mount.specs.Turns.{GoesOut, Hears, Hints, MayLearn, MayOffer, IsTold, Loses, RunsHinted, Sends, SendsOf, Turns, bounded_if, counted, wants_link};
 
 use crate::answer_line::AnswerLine;
-use crate::turns::Turns;
 use command_text::command::Command;
 use lb_base::items::{Bytes, Items};
 use lbfs_client::line::MountLine;
@@ -17,6 +16,7 @@ use links::link::Link;
 use record_ends::end::End;
 use record_ends::outgoing::put_out;
 use std::alloc::{AllocError, Global};
+use std::mem;
 use wire::message::Message;
 
 /// A mounted client with its connection. Once memory ran out nothing is known of the client any
@@ -28,6 +28,8 @@ pub(crate) struct Desk<F: Files, L> {
     link: Option<L>,
     /// The number of the connection that was joined last, from 1.
     connection: u64,
+    /// What was said, and is to go out with what is said of the records that came with its cause.
+    waits: Items<Message>,
     /// The line of what ended, until it is taken.
     line: Option<AnswerLine>,
     /// Whether memory ran out.
@@ -98,13 +100,28 @@ fn offer_local<F: Files>(alloc: Global, mounted: &mut Mounted<F>, line: &MountLi
     }
 }
 
-/// Once a line has ended the client keeps no more than so many bytes.
-fn keep_within<F: Files>(ended: bool, mounted: &mut Mounted<F>, most: u64)
-    ensures { MayBound most mounted.old mounted.new }
+/// Where a line has ended the client keeps no more than so many bytes.
+fn keep_within<F: Files>(line: &Option<Bytes>, mounted: &mut Mounted<F>, most: u64)
+    ensures { mounted.new ≡ bounded_if (is_some line.now) most mounted.old }
 {
-    if ended {
+    if line.is_some() {
         mounted.keep_within(most);
     }
+}
+
+/// What was said goes behind what waits. The one error is want of memory.
+fn add(alloc: Global, waits: &mut Items<Message>, send: Items<Message>) -> Result<(), AllocError>
+    ensures { OnOk result (waits.new ≡ waits.old ++ send) }
+{
+    if waits.is_empty() {
+        *waits = send;
+        return Ok(());
+    }
+    let mut all = mem::replace(waits, Items::new(alloc)).into_vec();
+    let mut more = send.into_vec();
+    all.append(&mut more)?;
+    *waits = Items::from_vec(all);
+    Ok(())
 }
 
 /// The line of what ended is kept until it is taken.
@@ -118,13 +135,14 @@ fn keep(held: &mut Option<AnswerLine>, line: Option<Bytes>)
 
 impl<F: Files + Drop, L: Link + Drop> Desk<F, L> {
     /// A client of which no connection is joined, and which is to keep no more than so many bytes.
-    pub(crate) fn new(mounted: Mounted<F>, most: u64) -> Desk<F, L>
-        ensures { (result.mounted ≡ mounted) × (result.starved ≡ false) × (result.most ≡ most) }
+    pub(crate) fn new(alloc: Global, mounted: Mounted<F>, most: u64) -> Desk<F, L>
+        ensures { (result.mounted ≡ mounted) × (result.starved ≡ false) × (result.most ≡ most) × (result.listed ≡ 0) }
     {
         Desk {
             mounted,
             link: None,
             connection: 0,
+            waits: Items::new(alloc),
             line: None,
             starved: false,
             stored: None,
@@ -133,19 +151,22 @@ impl<F: Files + Drop, L: Link + Drop> Desk<F, L> {
         }
     }
 
-    /// The client and the files of the host.
-    pub(crate) fn into_mounted(self) -> Mounted<F>
-        ensures { result ≡ self.mounted }
+    /// The client and the files of the host, and whether memory ran out.
+    pub(crate) fn into_parts(self) -> (Mounted<F>, bool)
+        ensures { result ≡ (self.mounted, self.starved) }
     {
         let Desk {
             mounted,
             link,
+            waits,
             line,
+            starved,
             ..
         } = self;
         drop(link);
+        drop(waits);
         drop(line);
-        mounted
+        (mounted, starved)
     }
 
     /// Whether this is the connection that is joined.
@@ -159,46 +180,58 @@ impl<F: Files + Drop, L: Link + Drop> Desk<F, L> {
     /// file that a `get` names.
     fn hint(&mut self, alloc: Global, line: &MountLine)
         ensures hints { Hints self.old.mounted self.new.mounted }
-        ensures rest { (self.new.starved ≡ self.old.starved) × (self.new.connection ≡ self.old.connection) × (self.new.most ≡ self.old.most) }
+        ensures rest { (self.new.starved ≡ self.old.starved) × (self.new.connection ≡ self.old.connection) × (self.new.most ≡ self.old.most) × (self.new.listed ≡ self.old.listed) }
     {
         learn_stored(alloc, &mut self.mounted, self.stored);
         offer_local(alloc, &mut self.mounted, line);
         self.stored = closed_by(line);
     }
 
-    /// What a call of the client says is sent, and its line kept; or memory ran out.
-    fn settle(&mut self, alloc: Global, said: Result<Said, AllocError>, now: u64)
+    /// What a call of the client says is sent, and its line kept; or memory ran out. Where more records are
+    /// there it waits for what is said of these.
+    fn settle(&mut self, alloc: Global, said: Result<Said, AllocError>, more: bool, now: u64)
         requires { IfOk said (λ s. IsTold s.line) }
-        ensures sent { self.new.starved ≡ false → IsOk said × Sends self.old.most self.old.mounted now self.new.mounted }
-        ensures number { (self.new.connection ≡ self.old.connection) × (self.new.most ≡ self.old.most) }
+        ensures sent { self.new.starved ≡ false → SendsOf self.old.most self.old.mounted said now self.new.mounted }
+        ensures fed { self.new.starved ≡ false → self.old.starved ≡ false }
+        ensures number { (self.new.connection ≡ self.old.connection) × (self.new.most ≡ self.old.most) × (self.new.listed ≡ self.old.listed) }
     {
         match said {
-            Ok(said) => self.take_said(alloc, said, now),
+            Ok(said) => self.take_said(alloc, said, more, now),
             Err(_want) => self.starved = true,
         }
     }
 
     /// The line of what was said is kept. Once it has ended the client lets go what is too much; then what
     /// was said is sent.
-    fn take_said(&mut self, alloc: Global, said: Said, now: u64)
+    fn take_said(&mut self, alloc: Global, said: Said, more: bool, now: u64)
         requires { IsTold said.line }
-        ensures sent { self.new.starved ≡ false → Sends self.old.most self.old.mounted now self.new.mounted }
-        ensures number { (self.new.connection ≡ self.old.connection) × (self.new.most ≡ self.old.most) }
+        ensures sent { self.new.starved ≡ false → Sends self.old.most self.old.mounted said now self.new.mounted }
+        ensures fed { self.new.starved ≡ false → self.old.starved ≡ false }
+        ensures number { (self.new.connection ≡ self.old.connection) × (self.new.most ≡ self.old.most) × (self.new.listed ≡ self.old.listed) }
     {
         let Said { send, line } = said;
-        let ended = line.is_some();
+        keep_within(&line, &mut self.mounted, self.most);
         keep(&mut self.line, line);
-        keep_within(ended, &mut self.mounted, self.most);
-        self.send_out(alloc, send, now);
+        self.send_out(alloc, send, more, now);
     }
 
-    /// Messages go out, or the link ends as they don't.
-    fn send_out(&mut self, alloc: Global, send: Items<Message>, now: u64)
-        ensures sent { self.new.starved ≡ false → GoesOut self.old.mounted now self.new.mounted }
-        ensures number { (self.new.connection ≡ self.old.connection) × (self.new.most ≡ self.old.most) }
+    /// Messages go out, with those that wait, or the link ends as they don't; where more records are there
+    /// they wait.
+    fn send_out(&mut self, alloc: Global, send: Items<Message>, more: bool, now: u64)
+        ensures sent { self.new.starved ≡ false → GoesOut self.old.most self.old.mounted now self.new.mounted }
+        ensures fed { self.new.starved ≡ false → self.old.starved ≡ false }
+        ensures number { (self.new.connection ≡ self.old.connection) × (self.new.most ≡ self.old.most) × (self.new.listed ≡ self.old.listed) }
     {
-        let sent = send_on(alloc, &mut self.link, &send);
-        drop(send);
+        if add(alloc, &mut self.waits, send).is_err() {
+            self.starved = true;
+            return;
+        }
+        if more {
+            return;
+        }
+        let waits = mem::replace(&mut self.waits, Items::new(alloc));
+        let sent = send_on(alloc, &mut self.link, &waits);
+        drop(waits);
         match sent {
             Ok(()) => {}
             Err(end) => self.lose(alloc, end, now),
@@ -207,32 +240,30 @@ impl<F: Files + Drop, L: Link + Drop> Desk<F, L> {
 
     /// The link has ended so. Nothing more goes out on it.
     fn lose(&mut self, alloc: Global, end: End, now: u64)
-        ensures lost { self.new.starved ≡ false → Loses self.old.mounted end now self.new.mounted }
-        ensures number { (self.new.connection ≡ self.old.connection) × (self.new.most ≡ self.old.most) }
+        ensures lost { self.new.starved ≡ false → Loses self.old.most self.old.mounted end now self.new.mounted }
+        ensures fed { self.new.starved ≡ false → self.old.starved ≡ false }
+        ensures number { (self.new.connection ≡ self.old.connection) × (self.new.most ≡ self.old.most) × (self.new.listed ≡ self.old.listed) }
     {
         close(&mut self.link);
         match self.mounted.ended(alloc, end, now) {
             Ok(said) => {
                 let Said { send, line } = said;
                 drop(send);
+                keep_within(&line, &mut self.mounted, self.most);
                 keep(&mut self.line, line);
             }
             Err(_want) => self.starved = true,
         }
     }
-}
-
-impl<F: Files + Drop, L: Link + Drop> Turns for Desk<F, L> {
-    type L = L;
 
     /// Whether there is something for whoever waits for a line.
-    fn has_news(&self) -> bool {
+    pub(crate) fn has_news(&self) -> bool {
         self.line.is_some() || self.starved
     }
 
     /// The line of what ended. The error says that memory ran out.
-    fn take_line(&mut self) -> Result<AnswerLine, AllocError>
-        ensures { (self.new.mounted ≡ self.old.mounted) × (self.new.connection ≡ self.old.connection) × (self.new.most ≡ self.old.most) }
+    pub(crate) fn take_line(&mut self) -> Result<AnswerLine, AllocError>
+        ensures { (self.new.mounted ≡ self.old.mounted) × (self.new.starved ≡ self.old.starved) × (self.new.connection ≡ self.old.connection) × (self.new.most ≡ self.old.most) × (self.new.listed ≡ self.old.listed) }
     {
         if self.starved {
             return Err(AllocError);
@@ -244,9 +275,11 @@ impl<F: Files + Drop, L: Link + Drop> Turns for Desk<F, L> {
     }
 
     /// A line of the script begins. It answers whether a connection is to be joined for it.
-    fn run(&mut self, alloc: Global, line: MountLine, now: u64) -> bool
+    pub(crate) fn run(&mut self, alloc: Global, line: MountLine, now: u64) -> bool
         ensures turn { self.new.starved ≡ false → Turns self.old.most (λ m said. RunsHinted self.old.mounted line now m said) now self.new.mounted }
         ensures wants { result ≡ wants_link line self.old.mounted.client.linked }
+        ensures listed { self.new.listed ≡ 0 }
+        ensures fed { self.new.starved ≡ false → self.old.starved ≡ false }
         ensures number { (self.new.connection ≡ self.old.connection) × (self.new.most ≡ self.old.most) }
     {
         let wants = matches!(line, MountLine::Join) && !self.mounted.linked();
@@ -254,28 +287,40 @@ impl<F: Files + Drop, L: Link + Drop> Turns for Desk<F, L> {
         self.hint(alloc, &line);
         let said = self.mounted.line(alloc, line, now);
         self.stored = self.mounted.closing().or(self.stored);
-        self.settle(alloc, said, now);
+        self.settle(alloc, said, false, now);
         wants
     }
 
     /// A connection is joined, on this link. Its number is what the thread that takes its records is
-    /// known by.
-    fn join(&mut self, alloc: Global, link: L, now: u64) -> u64
+    /// known by. What was to go out on the one before doesn't.
+    pub(crate) fn join(&mut self, alloc: Global, link: L, now: u64) -> u64
         ensures turn { self.new.starved ≡ false → Turns self.old.most (λ m said. joined_step self.old.mounted ≡ (m, said)) now self.new.mounted }
+        ensures listed { self.new.listed ≡ self.old.listed }
+        ensures fed { self.new.starved ≡ false → self.old.starved ≡ false }
         ensures number { (result ≡ self.new.connection) × (self.new.connection ≡ min (self.old.connection + 1) (2 ^ 64 - 1)) × (self.new.most ≡ self.old.most) }
     {
         close(&mut self.link);
         self.link = Some(link);
+        self.waits = Items::new(alloc);
         self.connection = self.connection.saturating_add(1);
         let said = self.mounted.joined(alloc);
-        self.settle(alloc, said, now);
+        self.settle(alloc, said, false, now);
         self.connection
     }
 
-    /// A record came on a connection. It answers whether more may come there.
-    fn hear(&mut self, alloc: Global, connection: u64, record: &[u8], now: u64) -> bool
+    /// A record came on a connection, behind which more are there or not. It answers whether more may come
+    /// there.
+    pub(crate) fn hear(
+        &mut self,
+        alloc: Global,
+        connection: u64,
+        record: &[u8],
+        more: bool,
+        now: u64,
+    ) -> bool
         ensures other { (self.old.connection == connection) ≡ false → self.new ≡ self.old }
-        ensures turn { self.new.starved ≡ false → (self.new.mounted ≡ self.old.mounted) ⊎ Hears self.old.most self.old.listed self.old.mounted record.now now self.new.mounted }
+        ensures turn { ((self.new.mounted ≡ self.old.mounted) × (self.new.starved ≡ self.old.starved) × (self.new.listed ≡ self.old.listed)) ⊎ ((self.new.listed ≡ counted self.old.listed record.now) × (self.new.starved ≡ false → Hears self.old.most self.old.listed self.old.mounted record.now now self.new.mounted)) }
+        ensures fed { self.new.starved ≡ false → self.old.starved ≡ false }
         ensures number { (self.new.connection ≡ self.old.connection) × (self.new.most ≡ self.old.most) }
     {
         if !self.is_open(connection) {
@@ -284,15 +329,18 @@ impl<F: Files + Drop, L: Link + Drop> Turns for Desk<F, L> {
         self.listed = self.listed.saturating_add(record.len() as u64);
         let said = self.mounted.got(alloc, self.listed, record, now);
         self.stored = self.mounted.closing().or(self.stored);
-        self.settle(alloc, said, now);
+        // A client that is done with its link says what it had to say, and no more.
+        let more = more && self.mounted.linked();
+        self.settle(alloc, said, more, now);
         close_unless(self.mounted.linked(), &mut self.link);
         self.is_open(connection)
     }
 
     /// No more records come on a connection.
-    fn stop(&mut self, alloc: Global, connection: u64, end: End, now: u64)
+    pub(crate) fn stop(&mut self, alloc: Global, connection: u64, end: End, now: u64)
         ensures other { (self.old.connection == connection) ≡ false → self.new ≡ self.old }
-        ensures turn { self.new.starved ≡ false → (self.new.mounted ≡ self.old.mounted) ⊎ Loses self.old.mounted end now self.new.mounted }
+        ensures turn { ((self.new.mounted ≡ self.old.mounted) × (self.new.starved ≡ self.old.starved) × (self.new.listed ≡ self.old.listed)) ⊎ ((self.new.listed ≡ self.old.listed) × (self.new.starved ≡ false → Loses self.old.most self.old.mounted end now self.new.mounted)) }
+        ensures fed { self.new.starved ≡ false → self.old.starved ≡ false }
         ensures number { (self.new.connection ≡ self.old.connection) × (self.new.most ≡ self.old.most) }
     {
         if self.is_open(connection) {
@@ -301,8 +349,8 @@ impl<F: Files + Drop, L: Link + Drop> Turns for Desk<F, L> {
     }
 
     /// The link is shut, where there is one.
-    fn close(&mut self)
-        ensures { (self.new.mounted ≡ self.old.mounted) × (self.new.starved ≡ self.old.starved) × (self.new.connection ≡ self.old.connection) × (self.new.most ≡ self.old.most) }
+    pub(crate) fn close(&mut self)
+        ensures { (self.new.mounted ≡ self.old.mounted) × (self.new.starved ≡ self.old.starved) × (self.new.connection ≡ self.old.connection) × (self.new.most ≡ self.old.most) × (self.new.listed ≡ self.old.listed) }
     {
         close(&mut self.link);
     }

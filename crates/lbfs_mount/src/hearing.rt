@@ -1,5 +1,6 @@
 //! The thread of a connection: it takes the records that come, each in a turn of its own. So what the
-//! server asks is answered also while no line runs.
+//! server asks is answered also while no line runs. What is said of records that came at once goes out at
+//! once.
 
 use crate::shared::Shared;
 use crate::turns::Turns;
@@ -22,7 +23,10 @@ pub(crate) fn hear_all<W: Wait, D: Turns + Drop, L: Link + Drop, C: Clock>(
     for _turn in rt.forever() {
         match inbox.next(shared.alloc(), &mut link) {
             Ok(record) => {
-                if !shared.hear(rt, connection, record.as_slice(), clock.now()) {
+                let more = !inbox.is_empty();
+                let goes_on = shared.hear(rt, connection, record.as_slice(), more, clock.now());
+                drop(record);
+                if !goes_on {
                     return;
                 }
             }

@@ -1,13 +1,17 @@
 //! A mount from its first connection to its end. `specs/Mounts.antt` says what it writes.
 
-ghost use Rattle.std.specs.Prelude.{ℕ, ◌≤◌, ◌⊎◌, OnOk, IsErrOf, is_some};
+ghost use Rattle.std.specs.Prelude.{◌≡◌, ℕ, ◌≤◌, ◌⊎◌, Option, OnOk, IfSome, IsErrOf, is_some};
 ghost use Rattle.lb_base.specs.Causes.{Rose};
+ghost use Rattle.lbfs_client.specs.Caching.{Saves, within};
+ghost use Rattle.lbfs_client.specs.Host.{Host};
+ghost use Rattle.lbfs_client.specs.declared.answer.Answer.{Answer};
 ghost use Rattle.lbfs_mount.specs.Cached.{EndsAll, IsBadLineAll, IsDoneAll, SavesAfter, WritesAll};
+ghost use Rattle.lbfs_mount.specs.Course.{IsSaved, fed, nothing_done};
 ghost use Rattle.lbfs_mount.specs.Mounts.{Ends, IsFaulty, IsTooLong};
 ghost use Rattle.lbfs_mount.specs.declared.mount_error.MountError.TheVariants as errors;
 
 use crate::connecting::Dialler;
-use crate::desk::Desk;
+use crate::kept_desk::KeptDesk;
 use crate::mount_error::MountError;
 use crate::noticing::{load, save};
 use crate::running::run_lines;
@@ -71,19 +75,37 @@ where
     )
 }
 
+/// How a mount ends whose memory ran out in a turn, or didn't.
+fn fed(ended: Result<(), MountError>, starved: bool) -> Result<(), MountError>
+    ensures { result ≡ fed ended starved }
+{
+    match ended {
+        Ok(()) => {
+            if starved {
+                Err(MountError::Memory)
+            } else {
+                Ok(())
+            }
+        }
+        Err(why) => Err(why),
+    }
+}
+
 /// The cache file is written behind a script that was read to its end, where there is one.
 fn save_after<F: Files, K: Sink>(
     alloc: Global,
     ended: Result<(), MountError>,
     mounted: &mut Mounted<F>,
     cache: Option<&str>,
+    keep: u64,
     sink: &mut K,
 ) -> Result<(), MountError>
+    ensures wrote { OnOk result (OnOk ended (IfSome cache.entry (λ name. (told : Option Answer) × Saves (within keep mounted.old) name.now told mounted.new))) }
     ensures saves { SavesAfter (is_some cache.entry) ended (K.held sink.old) (K.held sink.new) (K.faults sink.old) (K.faults sink.new) result }
     ensures later { K.faults sink.old ≤ K.faults sink.new }
 {
     match ended {
-        Ok(()) => save(alloc, mounted, cache, sink),
+        Ok(()) => save(alloc, mounted, cache, keep, sink),
         Err(why) => Err(why),
     }
 }
@@ -110,6 +132,8 @@ fn run_cached<
 ) -> (Result<(), MountError>, S, K, F, Dialler<N, N::L>)
 where
     N::L: Drop + Send,
+    requires { (host : Host) × (mounted ≡ nothing_done host) }
+    ensures saved { OnOk result.0 (IfSome cache.entry (λ name. ∥ IsSaved keep name.now (record { files = F.files result.3; faults = F.faults result.3 }) ∥₁)) }
     ensures ends { EndsAll (is_some cache.entry) (IsFaulty N.L.faults result.4.unpaired) (record { left = S.left script; reads = S.faults script; held = K.held sink; writes = K.faults sink; dials = N.faults dialler.net }) (record { left = S.left result.1; reads = S.faults result.1; held = K.held result.2; writes = K.faults result.2; dials = N.faults result.4.net }) result.0 }
     ensures later { (S.faults script ≤ S.faults result.1) × (K.faults sink ≤ K.faults result.2) }
 {
@@ -119,12 +143,14 @@ where
         Ok(()) => {}
         Err(why) => return (Err(why), script, sink, mounted.into_files(), dialler),
     }
-    let shared = Shared::new(alloc, Desk::new(mounted, keep));
+    let shared = Shared::new(alloc, KeptDesk::new(alloc, mounted, keep));
     let (ended, script, sink, dialler) = run_shared(rt, &shared, script, sink, dialler, clock);
-    let mut mounted = shared.into_desk().into_mounted();
+    let (mounted, starved) = shared.into_desk().into_parts();
+    let mut mounted = mounted;
     let mut sink = sink;
-    let ended = save_after(alloc, ended, &mut mounted, cache, &mut sink);
-    (ended, script, sink, mounted.into_files(), dialler)
+    let behind = fed(ended, starved);
+    let saved = save_after(alloc, behind, &mut mounted, cache, keep, &mut sink);
+    (saved, script, sink, mounted.into_files(), dialler)
 }
 
 /// Dials a port and runs the lines of a script over the connection, one by one: each line that isn't
@@ -142,6 +168,10 @@ where
 /// Where there is a cache file its items are the client's before the first line, and what the client keeps
 /// is written to it behind a script that was read to its end. What is wrong with either is written, in a
 /// line of its own before all others, or behind them. The client keeps at most so many bytes of contents.
+///
+/// The client takes turns alone, each a line, a connection, a record or the end of a link: the bytes of
+/// records are counted from a line's beginning, and what is kept is bounded where a line ends (`Course`).
+/// What is written to a cache file is what a client keeps behind such turns.
 pub fn mount<
     R: Threads + Wait + Sync,
     S: Source + Drop,
@@ -164,6 +194,7 @@ pub fn mount<
 where
     N::L: Drop + Send,
     ensures done { OnOk result.0 (IsDoneAll (is_some cache.entry) (S.left script) (S.left result.1) (K.held sink) (K.held result.2)) }
+    ensures saved { OnOk result.0 (IfSome cache.entry (λ name. ∥ IsSaved keep name.now (record { files = F.files result.3; faults = F.faults result.3 }) ∥₁)) }
     ensures written { WritesAll (is_some cache.entry) (K.held sink) (K.held result.2) }
     ensures read { IsErrOf result.0 errors.ReadFault → Rose (S.faults script) (S.faults result.1) }
     ensures write { IsErrOf result.0 errors.WriteFault → Rose (K.faults sink) (K.faults result.2) }

@@ -1,7 +1,12 @@
-//! What a mount writes of its cache file: `NoticeEnds` of `specs/Cached.antt`.
+//! A mount's cache file is read and written, and what is to be said of it is: `NoticeEnds` of
+//! `specs/Cached.antt`.
 
-ghost use Rattle.std.specs.Prelude.{◌≤◌, is_some, true};
+ghost use Rattle.std.specs.Prelude.{◌≡◌, ◌≤◌, Option, IfSome, is_some, true};
+ghost use Rattle.lbfs_client.specs.Caching.{Saves, within};
+ghost use Rattle.lbfs_client.specs.Host.{Host};
+ghost use Rattle.lbfs_client.specs.declared.answer.Answer.{Answer};
 ghost use Rattle.lbfs_mount.specs.Cached.{NoticeEnds};
+ghost use Rattle.lbfs_mount.specs.Course.{Begun, nothing_done};
 
 use crate::answer_line::AnswerLine;
 use crate::mount_error::MountError;
@@ -45,6 +50,8 @@ pub(crate) fn load<F: Files, K: Sink>(
     cache: Option<&str>,
     sink: &mut K,
 ) -> Result<(), MountError>
+    requires { (host : Host) × (mounted.old ≡ nothing_done host) }
+    ensures begun { Begun mounted.new }
     ensures ends { NoticeEnds (is_some cache.entry) (K.held sink.old) (K.held sink.new) (K.faults sink.old) (K.faults sink.new) result }
     ensures later { K.faults sink.old ≤ K.faults sink.new }
 {
@@ -57,18 +64,22 @@ pub(crate) fn load<F: Files, K: Sink>(
     }
 }
 
-/// The cache file is written, where there is one, and that it couldn't be is written too.
+/// The cache file is written, where there is one, with what is kept within so many bytes; that it couldn't
+/// be is written too.
 pub(crate) fn save<F: Files, K: Sink>(
     alloc: Global,
     mounted: &mut Mounted<F>,
     cache: Option<&str>,
+    keep: u64,
     sink: &mut K,
 ) -> Result<(), MountError>
+    ensures saves { IfSome cache.entry (λ name. (told : Option Answer) × Saves (within keep mounted.old) name.now told mounted.new) }
     ensures ends { NoticeEnds (is_some cache.entry) (K.held sink.old) (K.held sink.new) (K.faults sink.old) (K.faults sink.new) result }
     ensures later { K.faults sink.old ≤ K.faults sink.new }
 {
     match cache {
         Some(name) => {
+            mounted.keep_within(keep);
             let told = mounted.save(alloc, name);
             write_notice(alloc, &told, sink)
         }

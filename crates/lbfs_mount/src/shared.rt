@@ -1,6 +1,6 @@
 //! The turns of a mount: each locks what its threads share, and is one call of `Turns`. That a call is
 //! what its contract says is proved of `Desk`; of a turn no clause speaks, since another thread's may
-//! stand before and behind it.
+//! stand before and behind it. That no others are taken is a fact of `KeptDesk`, which no lock hides.
 
 use crate::answer_line::AnswerLine;
 use crate::turns::Turns;
@@ -66,10 +66,18 @@ impl<D: Turns + Drop> Shared<D> {
         self.desk.lock(rt).join(self.alloc, link, now)
     }
 
-    /// A turn of a record that came on a connection. It answers whether more may come there.
-    pub(crate) fn hear<W: Wait>(&self, rt: &W, connection: u64, record: &[u8], now: u64) -> bool {
+    /// A turn of a record that came on a connection, behind which more are there or not. It answers whether
+    /// more may come there.
+    pub(crate) fn hear<W: Wait>(
+        &self,
+        rt: &W,
+        connection: u64,
+        record: &[u8],
+        more: bool,
+        now: u64,
+    ) -> bool {
         let mut desk = self.desk.lock(rt);
-        let goes_on = desk.hear(self.alloc, connection, record, now);
+        let goes_on = desk.hear(self.alloc, connection, record, more, now);
         let has_news = desk.has_news();
         drop(desk);
         // Whoever waits for a line isn't woken by each of the records that come before it.

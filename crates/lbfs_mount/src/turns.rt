@@ -1,5 +1,5 @@
-//! What a turn of a mount asks of that which its threads share. It is `Desk`; the turns, the script and
-//! the connections are written for any such thing, and so none of them is checked with all that a
+//! What a turn of a mount asks of that which its threads share. It is `KeptDesk`; the turns, the script
+//! and the connections are written for any such thing, and so none of them is checked with all that a
 //! client consists of.
 
 use crate::answer_line::AnswerLine;
@@ -24,8 +24,9 @@ pub(crate) trait Turns {
     /// A connection is joined, on this link. It answers the connection's number.
     fn join(&mut self, alloc: Global, link: Self::L, now: u64) -> u64;
 
-    /// A record came on a connection. It answers whether more may come there.
-    fn hear(&mut self, alloc: Global, connection: u64, record: &[u8], now: u64) -> bool;
+    /// A record came on a connection, behind which more are there or not. It answers whether more may come
+    /// there.
+    fn hear(&mut self, alloc: Global, connection: u64, record: &[u8], more: bool, now: u64) -> bool;
 
     /// No more records come on a connection.
     fn stop(&mut self, alloc: Global, connection: u64, end: End, now: u64);

@@ -1,6 +1,6 @@
 //! The commands on an open file that need no message. `specs/Step.antt` says what each is told.
 
-ghost use Rattle.std.specs.Prelude.{◌≡◌, ◌<◌, ◌≤◌, length, IfOk, OnErr, false};
+ghost use Rattle.std.specs.Prelude.{◌≡◌, ◌<◌, ◌≤◌, length, IfOk, IfSome, OnErr, false};
 ghost use Rattle.client_state.specs.View.{state_of, IsSound};
 ghost use Rattle.limits.specs.declared.TheConstants.{FILE_MOST};
 ghost use Rattle.client_state.specs.State.{local_at};
@@ -14,10 +14,20 @@ use client_state::parts;
 use client_state::state::ClientState;
 use client_state::step::{ClientStep, Outcome};
 use client_state::task::Local;
-use command_text::content::{self, Content};
+use command_text::content::{self, Content, Part};
 use sha1::Sha1;
 use shared_bytes::SharedBytes;
 use std::alloc::{AllocError, Global};
+
+/// The bytes of a content that is one part of bytes, as that of a put is; they aren't copied.
+fn as_bytes(content: &Content) -> Option<&[u8]>
+    ensures { IfSome result (λ b. b.now ≡ content_bytes content.now) }
+{
+    match content.as_slice() {
+        [Part::Bytes(bytes)] => Some(bytes.as_slice()),
+        _ => None,
+    }
+}
 
 /// An open file's content with some bytes written at a place, within the limit of a file.
 #[tactic(auto, using(command_text::proofs::Contents::content_size))]
@@ -32,8 +42,13 @@ fn written(
     ensures written { IfOk result (λ b. b ≡ written local.now.bytes offset (content_bytes content.now)) }
     ensures small { IfOk result (λ b. length b ≤ FILE_MOST) }
 {
-    let more = content::build(alloc, content)?;
-    local::written(alloc, local.bytes.as_slice(), offset, more.as_slice())
+    match as_bytes(content) {
+        Some(more) => local::written(alloc, local.bytes.as_slice(), offset, more),
+        None => {
+            let more = content::build(alloc, content)?;
+            local::written(alloc, local.bytes.as_slice(), offset, more.as_slice())
+        }
+    }
 }
 
 /// The file is open with this content, and the command is done. An `Err` changes nothing.

@@ -1,6 +1,6 @@
 //! Records out of the bytes that come on a link. `specs/Ends.antt` states which they are.
 
-ghost use Rattle.std.specs.Prelude.{◌≡◌, ℕ, ◌≤◌, ◌<◌, List, [], length, None, IfOk, OnOk, OnErr, IsErrOf};
+ghost use Rattle.std.specs.Prelude.{◌≡◌, ℕ, ◌≤◌, ◌<◌, ◌↔◌, List, [], length, None, IfOk, IsTrue, OnOk, OnErr, IsErrOf};
 ghost use Rattle.std.specs.Io.KnownBytes.{Consumes, IsAtEnd};
 ghost use Rattle.lb_base.specs.Causes.{Rose};
 ghost use Rattle.rpc_record.specs.Records.{fed};
@@ -91,6 +91,14 @@ impl Inbox {
             spoilt: false,
             room,
         })
+    }
+
+    /// Whether no record is there that wasn't given yet, so that the next one has to come. It takes no
+    /// bytes.
+    pub fn is_empty(&self) -> bool
+        ensures { IsTrue result ↔ (self.now.waiting ≡ []) }
+    {
+        self.waiting.is_empty()
     }
 
     /// Takes a piece of what comes, and keeps the records that it completes.

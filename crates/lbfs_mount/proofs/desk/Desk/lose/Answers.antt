@@ -3,3 +3,6 @@ use Rattle.lbfs_mount.proofs.desk.Desk.lose.Goals as goal
 
 pub keep-requires : goal.keep-requires
 keep-requires g c = stops_told c.args.self.now.mounted c.args.end c.args.now c.ended.new.self c.in-Ok.said c.in-Ok.ensures
+
+pub returns-in-Ok-clause-lost : goal.returns-in-Ok-clause-lost
+returns-in-Ok-clause-lost g c = λ fed. record { mid = c.ended.new.self; said = c.in-Ok.said; stops = c.in-Ok.ensures; bounds = c.keep_within.ensures }

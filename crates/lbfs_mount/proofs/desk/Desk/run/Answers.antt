@@ -1,7 +1,7 @@
 use Rattle.std.proofs.Common.{ℕ, subst}
 use Rattle.lbfs_mount.specs.Turns.{RunsHinted, Turns}
 use Rattle.lbfs_mount.proofs.Telling.{runs_all, hinted_all, turn}
-use Rattle.lbfs_mount.proofs.desk.DeskTurns.run.Goals as goal
+use Rattle.lbfs_mount.proofs.desk.Desk.run.Goals as goal
 
 pub settle-requires : goal.settle-requires
 settle-requires g c = runs_all c.line-said.result c.hint.new.self.mounted c.args.line c.args.now c.line-said.new.self c.line-said.ensures

@@ -1,7 +1,7 @@
 use Rattle.std.proofs.Common.{◌≡◌}
 use Rattle.lbfs_client.specs.Mounting.{joined_step}
 use Rattle.lbfs_mount.proofs.Telling.{joined_all, turn}
-use Rattle.lbfs_mount.proofs.desk.DeskTurns.join.Goals as goal
+use Rattle.lbfs_mount.proofs.desk.Desk.join.Goals as goal
 
 pub settle-requires : goal.settle-requires
 settle-requires g c = joined_all c.joined-said.result c.args.self.now.mounted c.joined-said.new.self c.joined-said.ensures

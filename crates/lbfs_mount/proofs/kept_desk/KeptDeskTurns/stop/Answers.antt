@@ -1,0 +1,8 @@
+use Rattle.lbfs_mount.proofs.Courses.{known_stops}
+use Rattle.lbfs_mount.proofs.kept_desk.KeptDeskTurns.stop.Goals as goal
+
+pub invariant_of-self : goal.invariant_of-self
+invariant_of-self g c =
+    let d = c.args.self.now.desk in
+    let e = c.stop.new.self in
+    record { course = known_stops d.starved e.starved d.most e.most d.listed e.listed d.mounted e.mounted c.args.end c.args.now c.stop.ensures.fed c.stop.ensures.number.1 c.stop.ensures.turn c.args.self.now.course }

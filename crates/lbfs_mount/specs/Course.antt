@@ -1,0 +1,48 @@
+-- What the client of a mount goes through, from its beginning to its end: turns, each a line, a connection, a record or the end of a link.
+use Rattle.std.specs.Prelude.{◌≡◌, ℕ, List, Option, None, Result, Ok, Err, Bool, true, false}
+use Rattle.record_ends.specs.declared.end.End.{End}
+use Rattle.client_state.specs.State.{start}
+use Rattle.lbfs_client.specs.Caching.{Loads, Saves, within}
+use Rattle.lbfs_client.specs.Host.{Host}
+use Rattle.lbfs_client.specs.Mounting.{Mount, joined_step}
+use Rattle.lbfs_client.specs.declared.answer.Answer.{Answer}
+use Rattle.lbfs_client.specs.declared.line.MountLine.{MountLine}
+use Rattle.lbfs_client.specs.declared.said.Said.{Said}
+use Rattle.lbfs_mount.specs.Turns.{Hears, Loses, RunsHinted, Turns, counted}
+use Rattle.lbfs_mount.specs.declared.mount_error.MountError.{MountError}
+use Rattle.lbfs_mount.specs.declared.mount_error.MountError.TheVariants as errors
+
+-- no connection, no file, and no line
+abbrev pub nothing_done : Host → Mount
+nothing_done host = record { host = host; client = start; walk = None }
+
+-- a mount begins so, or with the items of a cache file
+pub data Begun (m : Mount) : Type 0 where
+  bare : (host : Host) → m ≡ nothing_done host → Begun m
+  loaded : (host : Host) (name : List ℕ) (told : Option Answer) → Loads (nothing_done host) name told m → Begun m
+
+-- and goes on by turns. The answers to a line are counted, from none as it begins; where a line ends, what is kept is bounded (Sends of Turns)
+pub data Course (most : ℕ) : (listed : ℕ) → Mount → Type 0 where
+  begins : (m : Mount) → Begun m → Course most 0 m
+  runs : (listed : ℕ) (m : Mount) (l : MountLine) (now : ℕ) (m' : Mount) → Course most listed m → Turns most (λ n said. RunsHinted m l now n said) now m' → Course most 0 m'
+  joins : (listed : ℕ) (m : Mount) (now : ℕ) (m' : Mount) → Course most listed m → Turns most (λ n said. joined_step m ≡ (n, said)) now m' → Course most listed m'
+  hears : (listed : ℕ) (m : Mount) (bytes : List ℕ) (now : ℕ) (m' : Mount) → Course most listed m → Hears most listed m bytes now m' → Course most (counted listed bytes) m'
+  stops : (listed : ℕ) (m : Mount) (end : End) (now : ℕ) (m' : Mount) → Course most listed m → Loses most m end now m' → Course most listed m'
+
+-- ---- behind the script
+
+-- memory ran out in a turn, which is then the end of the mount
+abbrev pub fed : Result Unit MountError → (starved : Bool) → Result Unit MountError
+fed (Ok u) true = Err errors.Memory
+fed ended starved = ended
+
+-- a cache file was written, or it is told why not: of what a client keeps behind its course, within so many bytes
+pub record IsSaved (keep : ℕ) (name : List ℕ) (host : Host) : Type 0 where
+  pub most : ℕ
+  pub listed : ℕ
+  pub client : Mount
+  pub course : Course most listed client
+  pub told : Option Answer
+  pub new : Mount
+  pub saves : Saves (within keep client) name told new
+  pub host_is : new.host ≡ host

@@ -1,0 +1,81 @@
+//! What stands under the lock of a mount: its desk, and that the desk's client took no turns but those of
+//! `specs/Course.antt`. The lock tells nothing of what it lends, but for what its type says; so this is what
+//! is known of the client once no thread shares it any more.
+
+ghost use Rattle.std.specs.Prelude.{◌≡◌, ℕ, false};
+ghost use Rattle.lbfs_mount.specs.Course.{Begun, Course};
+
+use crate::answer_line::AnswerLine;
+use crate::desk::Desk;
+use crate::turns::Turns;
+use lbfs_client::line::MountLine;
+use lbfs_client::mounted::Mounted;
+use links::files::Files;
+use links::link::Link;
+use record_ends::end::End;
+use std::alloc::{AllocError, Global};
+
+/// A desk whose client took its turns, unless memory ran out.
+#[derive(Drop)]
+pub(crate) struct KeptDesk<F: Files, L> {
+    desk: Desk<F, L>,
+    ghost course: { ∥ (desk.starved ≡ false → Course desk.most desk.listed desk.mounted) ∥₁ },
+}
+
+impl<F: Files + Drop, L: Link + Drop> KeptDesk<F, L> {
+    /// A client of which no connection is joined, and which is to keep no more than so many bytes.
+    pub(crate) fn new(alloc: Global, mounted: Mounted<F>, most: u64) -> KeptDesk<F, L>
+        requires { Begun mounted }
+    {
+        KeptDesk {
+            desk: Desk::new(alloc, mounted, most),
+        }
+    }
+
+    /// The client and the files of the host, and whether memory ran out.
+    pub(crate) fn into_parts(self) -> (Mounted<F>, bool)
+        ensures { ∥ ((most : ℕ) × (listed : ℕ) × (result.1 ≡ false → Course most listed result.0)) ∥₁ }
+    {
+        let KeptDesk { desk } = self;
+        desk.into_parts()
+    }
+}
+
+impl<F: Files + Drop, L: Link + Drop> Turns for KeptDesk<F, L> {
+    type L = L;
+
+    fn has_news(&self) -> bool {
+        self.desk.has_news()
+    }
+
+    fn take_line(&mut self) -> Result<AnswerLine, AllocError> {
+        self.desk.take_line()
+    }
+
+    fn run(&mut self, alloc: Global, line: MountLine, now: u64) -> bool {
+        self.desk.run(alloc, line, now)
+    }
+
+    fn join(&mut self, alloc: Global, link: L, now: u64) -> u64 {
+        self.desk.join(alloc, link, now)
+    }
+
+    fn hear(
+        &mut self,
+        alloc: Global,
+        connection: u64,
+        record: &[u8],
+        more: bool,
+        now: u64,
+    ) -> bool {
+        self.desk.hear(alloc, connection, record, more, now)
+    }
+
+    fn stop(&mut self, alloc: Global, connection: u64, end: End, now: u64) {
+        self.desk.stop(alloc, connection, end, now);
+    }
+
+    fn close(&mut self) {
+        self.desk.close();
+    }
+}
