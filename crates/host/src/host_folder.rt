@@ -32,6 +32,14 @@ impl<R> HostFolder<R> {
     pub fn new(rt: R, mark: u32, number: u32) -> HostFolder<R> {
         HostFolder { rt, mark, number }
     }
+
+    /// The file beside a target.
+    fn beside(&self, alloc: Global, target: &Target) -> Result<String, LocalFault> {
+        match beside(alloc, target.path.as_str(), self.mark, self.number) {
+            Ok(path) => Ok(path),
+            Err(AllocError) => Err(LocalFault::Memory),
+        }
+    }
 }
 
 /// Why the system didn't do it.
@@ -136,19 +144,37 @@ fn beside(alloc: Global, target: &str, mark: u32, number: u32) -> Result<String,
     Ok(path)
 }
 
+/// Makes a file that isn't there yet.
+fn create<R: HostDisk>(rt: &R, path: &str) -> io::Result<R::File> {
+    OpenOptions::new()
+        .write(true)
+        .create_new(true)
+        .open(rt, path)
+}
+
 /// Writes the file beside, with the permissions of the one that it is to replace, and puts it in its
 /// place.
 fn replace<R: HostDisk>(rt: &R, beside: &str, target: &Target, bytes: &[u8]) -> io::Result<()> {
-    let mut file = OpenOptions::new()
-        .write(true)
-        .create_new(true)
-        .open(rt, beside)?;
+    let mut file = create(rt, beside)?;
     file.write_all(bytes)?;
     if let Some(kept) = &target.kept {
         file.set_permissions(kept.permissions())?;
     }
     drop(file);
     fs::rename(rt, beside, target.path.as_str())
+}
+
+/// What a path stands for, by what the system tells of it.
+fn kind_of(facts: &Metadata) -> Kind {
+    if facts.is_dir() {
+        Kind::Folder
+    } else if facts.is_file() {
+        Kind::File
+    } else if facts.is_symlink() {
+        Kind::Link
+    } else {
+        Kind::Other
+    }
 }
 
 /// The names that end each by a NUL, without `.` and `..`.
@@ -217,17 +243,16 @@ impl<R: HostDisk> Folder for HostFolder<R> {
 
     ghost makes = { λ _ _ _ _. Unit {0} };
 
-    fn kind(&mut self, path: &str) -> Kind {
-        match self.rt.metadata(path) {
-            Ok(facts) => {
-                if facts.is_dir() {
-                    Kind::Folder
-                } else if facts.is_file() {
-                    Kind::File
-                } else {
-                    Kind::Other
-                }
-            }
+    ghost tries = { λ _ _ _ _. Unit {0} };
+
+    fn kind(&mut self, path: &str, follows: bool) -> Kind {
+        let found = if follows {
+            self.rt.metadata(path)
+        } else {
+            self.rt.symlink_metadata(path)
+        };
+        match found {
+            Ok(facts) => kind_of(&facts),
             Err(error) if error.kind() == ErrorKind::NotFound => Kind::Missing,
             Err(_) => Kind::Other,
         }
@@ -245,11 +270,22 @@ impl<R: HostDisk> Folder for HostFolder<R> {
         }
     }
 
+    fn try_write(&mut self, alloc: Global, path: &str) -> Result<(), LocalFault> {
+        let target = target_of(&self.rt, alloc, path)?;
+        let beside = self.beside(alloc, &target)?;
+        match create(&self.rt, beside.as_str()) {
+            Ok(file) => {
+                drop(file);
+                let _gone = fs::remove_file(&self.rt, beside.as_str());
+                Ok(())
+            }
+            Err(error) => Err(fault_of(&error)),
+        }
+    }
+
     fn write(&mut self, alloc: Global, path: &str, bytes: &[u8]) -> Result<(), LocalFault> {
         let target = target_of(&self.rt, alloc, path)?;
-        let Ok(beside) = beside(alloc, target.path.as_str(), self.mark, self.number) else {
-            return Err(LocalFault::Memory);
-        };
+        let beside = self.beside(alloc, &target)?;
         match replace(&self.rt, beside.as_str(), &target, bytes) {
             Ok(()) => Ok(()),
             Err(error) => {

@@ -28,6 +28,8 @@ pub(crate) struct Manner {
     pub(crate) links: u32,
     /// Whether how far it is is shown.
     pub(crate) shows: bool,
+    /// Whether what was stored and removed isn't said.
+    pub(crate) quiet: bool,
 }
 
 /// Does a task, and settles it.
@@ -221,7 +223,7 @@ where
     D::L: Drop + Send,
     H::F: Drop + Send,
 {
-    let Ok(pool) = Pool::new(alloc, task) else {
+    let Ok(pool) = Pool::new(alloc, task, manner.quiet) else {
         return None;
     };
     run_crew(rt, alloc, &pool, out, manner, remote, folder);

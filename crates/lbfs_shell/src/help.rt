@@ -22,8 +22,8 @@ PATH is on the server, LOCAL here. A name with blanks stands in quotes: 'two wor
 ";
 
 const LS: &str = "ls [-l] [PATH]
-Lists the names in a directory; without PATH in the one where the shell stands. With -l each line has what
-the name stands for, its bytes (of a directory its names), its version and the name.
+Lists the names in a directory; without PATH in the one where the shell stands. A file is listed alone. With
+-l each line has what the name stands for, its bytes (of a directory its names), its version and the name.
 ";
 
 const CD: &str = "cd [PATH]
@@ -43,18 +43,19 @@ which one that is.
 const GET: &str = "get [-r] PATH [LOCAL]
 Fetches a file to LOCAL: into it where LOCAL is a folder, and else in its place; without LOCAL to the
 file's own name here. With -r a directory, with all that is in it. A file that is replaced keeps its
-permissions, and of what it has nothing is fetched.
+permissions, and of what it has nothing is fetched. Nothing is where LOCAL can't be written.
 ";
 
 const PUT: &str = "put [-r] LOCAL [PATH]
-Stores a file under PATH: in it where PATH is a directory; without PATH where the shell stands. What isn't
-there is made. With -r a folder, with all that is in it. Storing over a certain version alone
-(--if-version) isn't there yet.
+Stores a file under PATH: in it where PATH is a directory; without PATH where the shell stands. The
+directories above it are made, where they aren't there. With -r a folder, with all that is in it, but for
+symbolic links, which are said. Storing over a certain version alone (--if-version) isn't there yet.
 ";
 
 const SYNC: &str = "sync [--delete] LOCAL PATH
 Stores what differs, by content, in the folder LOCAL, so that the directory PATH has it all. With --delete
-what LOCAL hasn't is removed there.
+what LOCAL hasn't is removed there. Each path that was stored, made or removed is said, unless the shell is
+--quiet. Symbolic links in the folder are said, and what has their names stays.
 ";
 
 const MKDIR: &str = "mkdir [-p] PATH

@@ -19,6 +19,8 @@ struct Jobs {
     /// How many are being done.
     busy: u64,
     tally: Tally,
+    /// Whether what was stored and removed isn't said.
+    is_quiet: bool,
     /// Whether memory ran out.
     is_starved: bool,
     /// Whether a line stands on the screen that says how far it is.
@@ -87,6 +89,9 @@ impl Jobs {
     fn settle<P: Screen>(&mut self, alloc: Global, screen: &P, visited: Visited) {
         self.busy = self.busy.saturating_sub(1);
         self.tally = self.tally.with(&visited);
+        if !self.is_quiet {
+            self.say(screen, visited.news.as_slice());
+        }
         self.say(screen, visited.note.as_slice());
         let Visited { more, is_off, .. } = visited;
         self.add(more);
@@ -97,8 +102,8 @@ impl Jobs {
 }
 
 impl Pool {
-    /// One task is to do.
-    pub(crate) fn new(alloc: Global, task: Task) -> Result<Pool, AllocError> {
+    /// One task is to do, of which less is said where it is quiet.
+    pub(crate) fn new(alloc: Global, task: Task, is_quiet: bool) -> Result<Pool, AllocError> {
         let mut tasks = Vec::new(alloc);
         tasks.push(task)?;
         Ok(Pool {
@@ -106,6 +111,7 @@ impl Pool {
                 tasks,
                 busy: 0,
                 tally: Tally::new(),
+                is_quiet,
                 is_starved: false,
                 is_shown: false,
                 is_over: false,

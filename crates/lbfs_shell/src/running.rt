@@ -78,6 +78,7 @@ where
     let manner = Manner {
         links: asked.links,
         shows: !asked.quiet && out.screen.is_watched(),
+        quiet: asked.quiet,
     };
     let before = out.dialler.bytes();
     let Some(tally) = run_task(
@@ -408,6 +409,95 @@ where
     }
 }
 
+/// A shell in the folder of the host that the program runs in, with a connection; or how it ends.
+fn seated<'e, P, H: Folders, D: Dials, C: Clock, T>(
+    alloc: Global,
+    out: &'e Outside<P, H, D, C, T>,
+) -> Result<Seat<Session<'e, D, C>, H::F>, ShellEnd>
+where
+    D::L: Drop,
+    H::F: Drop,
+    ensures { IfErr result (λ e. (e ≡ ends.Network) ⊎ (e ≡ ends.Memory)) }
+{
+    let Ok(here) = LocalPath::copy_of(alloc, ".") else {
+        return Err(ShellEnd::Memory);
+    };
+    match joined(alloc, &out.dialler, &out.clock) {
+        Ok(remote) => Ok(Seat {
+            shell: Shell::new(alloc, here),
+            remote,
+            folder: out.folders.folder(0),
+        }),
+        Err(end) => Err(end),
+    }
+}
+
+/// Runs the one command. `help` wants no server.
+fn run_one<
+    W: Threads + Wait + Sync,
+    P: Screen + Sync,
+    H: Folders + Sync,
+    D: Dials + Sync,
+    C: Clock + Sync,
+    T: Rest + Sync,
+    K: Sink,
+>(
+    rt: &W,
+    alloc: Global,
+    out: &Outside<P, H, D, C, T>,
+    asked: &ShellAsked,
+    sink: &mut K,
+    line: &Line,
+) -> ShellEnd
+where
+    D::L: Drop + Send,
+    H::F: Drop + Send,
+    ensures cause { SinkCause (K.faults sink.old) (K.faults sink.new) result }
+    ensures later { K.faults sink.old ≤ K.faults sink.new }
+{
+    if matches!(line.verb, Verb::Help) {
+        return match run_help(alloc, &out.screen, sink, line) {
+            Ok(Flow::Undone) => ShellEnd::Undone,
+            Ok(Flow::Done | Flow::Bye) => ShellEnd::Done,
+            Err(end) => end,
+        };
+    }
+    match seated(alloc, out) {
+        Ok(mut seat) => run_once(rt, alloc, out, asked, &mut seat, sink, line),
+        Err(end) => end,
+    }
+}
+
+/// Runs the lines of the input.
+fn run_all_lines<
+    W: Threads + Wait + Sync,
+    P: Screen + Sync,
+    H: Folders + Sync,
+    D: Dials + Sync,
+    C: Clock + Sync,
+    T: Rest + Sync,
+    S: Source,
+    K: Sink,
+>(
+    rt: &W,
+    alloc: Global,
+    out: &Outside<P, H, D, C, T>,
+    asked: &ShellAsked,
+    source: &mut S,
+    sink: &mut K,
+) -> ShellEnd
+where
+    D::L: Drop + Send,
+    H::F: Drop + Send,
+    ensures cause { HasCause (S.faults source.old) (S.faults source.new) (K.faults sink.old) (K.faults sink.new) result }
+    ensures later { (S.faults source.old ≤ S.faults source.new) × (K.faults sink.old ≤ K.faults sink.new) }
+{
+    match seated(alloc, out) {
+        Ok(mut seat) => run_lines(rt, alloc, out, asked, &mut seat, source, sink),
+        Err(end) => end,
+    }
+}
+
 /// Runs the one command, or the lines of the input, on a server's tree, from the folder of the host that
 /// the program runs in. It ends with `Done` where all was done, and with `Undone` where something wasn't,
 /// which was said; with the others where it could go on no further.
@@ -435,27 +525,12 @@ where
     ensures later { (S.faults source.old ≤ S.faults source.new) × (K.faults sink.old ≤ K.faults sink.new) }
     ensures unread { asked.now.command ≢ [] → source.new ≡ source.old }
 {
-    let command = match command_of(alloc, asked.command.as_slice()) {
-        Ok(command) => command,
+    match command_of(alloc, asked.command.as_slice()) {
+        Ok(Some(line)) => run_one(rt, alloc, out, asked, sink, &line),
+        Ok(None) => run_all_lines(rt, alloc, out, asked, source, sink),
         Err(ReadError::Mistaken(mistake)) => {
-            return refuse(alloc, &out.screen, sink, asked.command.as_slice(), mistake);
+            refuse(alloc, &out.screen, sink, asked.command.as_slice(), mistake)
         }
-        Err(ReadError::Memory) => return ShellEnd::Memory,
-    };
-    let Ok(here) = LocalPath::copy_of(alloc, ".") else {
-        return ShellEnd::Memory;
-    };
-    let remote = match joined(alloc, &out.dialler, &out.clock) {
-        Ok(remote) => remote,
-        Err(end) => return end,
-    };
-    let mut seat = Seat {
-        shell: Shell::new(alloc, here),
-        remote,
-        folder: out.folders.folder(0),
-    };
-    match command {
-        Some(line) => run_once(rt, alloc, out, asked, &mut seat, sink, &line),
-        None => run_lines(rt, alloc, out, asked, &mut seat, source, sink),
+        Err(ReadError::Memory) => ShellEnd::Memory,
     }
 }

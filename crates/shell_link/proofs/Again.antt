@@ -1,10 +1,10 @@
 -- A command that is asked on a new connection, or once more.
-use Rattle.std.proofs.Common.{◌≡◌, true, sym, subst}
+use Rattle.std.proofs.Common.{◌≡◌, Bool, true, sym, subst, ap, ◌∙◌}
 use Rattle.command_text.specs.declared.command.Command.{Command}
 use Rattle.client_state.specs.Ending.{joined}
 use Rattle.client_state.specs.State.{State}
 use Rattle.shell_walks.specs.declared.remote.Answer.{Answer}
-use Rattle.shell_link.specs.Asking.{Once, is_lost, rereads, Asks, Asks.at_once, Asks.joined_first, Asks.again, AsksHinted, MayLearn}
+use Rattle.shell_link.specs.Asking.{Once, is_lost, said_of, rereads, Asks, Asks.at_once, Asks.joined_first, Asks.again, AsksHinted, MayLearn}
 
 pub at_first : (old mid new : State) (c : Command) (a : Answer) → mid ≡ old → Once mid c a new → Asks old c a new
 at_first old mid new c a e o = at_once a new (subst (λ (s : State). Once s c a new) e o)
@@ -27,5 +27,5 @@ pub repeated : (old mid new : State) (k c : Command) (b a : Answer) → k ≡ c 
 repeated old mid new k c b a e r first more = of_copy old new k c a e (more old (subst (λ (x : Command). rereads x ≡ true) (sym e) r) (of_copy old mid c k b (sym e) first))
 
 -- what may have been learned before
-pub hinted : (old mid new : State) (c : Command) (a : Answer) → MayLearn old mid → Asks mid c a new → AsksHinted old c a new
-hinted old mid new c a l k = record { hinted = mid; hints = l; asks = k }
+pub hinted : (old mid new : State) (c : Command) (b a : Answer) (r : Bool) → MayLearn old mid → Asks mid c b new → r ≡ rereads c → a ≡ said_of r b → AsksHinted old c a new
+hinted old mid new c b a r l k e s = record { hinted = mid; hints = l; heard = b; asks = k; told = s ∙ ap (λ (x : Bool). said_of x b) e }

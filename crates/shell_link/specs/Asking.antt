@@ -1,5 +1,5 @@
 -- What a command that a shell asks for comes to, by the client's own steps.
-use Rattle.std.specs.Prelude.{◌≡◌, ◌⊎◌, ℕ, List, Option, Some, None, Result, Bool, true, false}
+use Rattle.std.specs.Prelude.{◌≡◌, ◌⊎◌, ◌&&◌, ℕ, List, Option, Some, None, Result, Bool, true, false}
 use Rattle.command_text.specs.declared.command.Command.{Command}
 use Rattle.command_text.specs.declared.command.Command.TheVariants as command
 use Rattle.command_text.specs.declared.path.PathCommand.{PathCommand}
@@ -91,6 +91,7 @@ Sends old ended new then = ((new ≡ old) × (then ≡ ended)) ⊎ ((new ≡ (cu
 -- a command on names that changes nothing
 abbrev pub reads : PathCommand → Bool
 reads (path.Find spot) = true
+reads (path.Rewrite spot) = true
 reads (path.Look spot) = true
 reads path.LookRoot = true
 reads (path.List names) = true
@@ -118,8 +119,18 @@ pub data MayOffer (s : State) (bytes : List ℕ) : State → Type 0 where
   nothing_offered : (t : State) → t ≡ s → MayOffer s bytes t
   offered : (left_out : Bool) (t : State) → Offers s bytes left_out t → MayOffer s bytes t
 
+-- of a command that changes nothing it isn't said that it may have been done
+abbrev pub said_if : (is_only_lost : Bool) → Answer → Answer
+said_if true a = answer.Failed why.Cut
+said_if false a = a
+
+abbrev pub said_of : (changes_nothing : Bool) → Answer → Answer
+said_of b a = said_if (b && is_lost a) a
+
 -- a command, and before it what may be learned of the file that was closed last
 pub record AsksHinted (old : State) (c : Command) (a : Answer) (new : State) : Type 0 where
   pub hinted : State
   pub hints : MayLearn old hinted
-  pub asks : Asks hinted c a new
+  pub heard : Answer
+  pub asks : Asks hinted c heard new
+  pub told : a ≡ said_of (rereads c) heard

@@ -1,7 +1,7 @@
 //! What a shell makes of how a command ended, and which commands may be asked again: `specs/Asking.antt`.
 
 ghost use Rattle.std.specs.Prelude.{◌≡◌, true, IfOk, IfSome};
-ghost use Rattle.shell_link.specs.Asking.{fault_number, is_directory, answer_of, is_lost, reads, rereads};
+ghost use Rattle.shell_link.specs.Asking.{fault_number, is_directory, answer_of, is_lost, said_of, reads, rereads};
 
 use client_state::step::{BadPeer, Outcome};
 use command_text::command::Command;
@@ -71,6 +71,40 @@ pub(crate) fn is_lost(answer: &Answer) -> bool
     matches!(answer, Answer::Failed(Why::Lost))
 }
 
+/// Whether a command on names changes nothing.
+fn reads(command: &PathCommand) -> bool
+    ensures { result ≡ reads command.now }
+{
+    matches!(
+        command,
+        PathCommand::Find(_)
+            | PathCommand::Rewrite(_)
+            | PathCommand::Look(_)
+            | PathCommand::LookRoot
+            | PathCommand::List(_)
+    )
+}
+
+/// Whether a command changes nothing.
+pub(crate) fn rereads(command: &Command) -> bool
+    ensures { result ≡ rereads command.now }
+{
+    match command {
+        Command::Named(command) => reads(command),
+        _ => false,
+    }
+}
+
+/// What is told of a command: of one that changes nothing it needn't be said that it may have been done.
+pub(crate) fn said_of(changes_nothing: bool, answer: Answer) -> Answer
+    ensures { result ≡ said_of changes_nothing answer }
+{
+    if changes_nothing && is_lost(&answer) {
+        return Answer::Failed(Why::Cut);
+    }
+    answer
+}
+
 /// The same name in the same directory.
 fn copy_of_spot(alloc: Global, spot: &Spot) -> Result<Spot, AllocError>
     ensures { IfOk result (λ copy. copy ≡ spot.now) }
@@ -86,6 +120,7 @@ fn copy_of_reading(alloc: Global, command: &PathCommand) -> Result<Option<PathCo
 {
     match command {
         PathCommand::Find(spot) => Ok(Some(PathCommand::Find(copy_of_spot(alloc, spot)?))),
+        PathCommand::Rewrite(spot) => Ok(Some(PathCommand::Rewrite(copy_of_spot(alloc, spot)?))),
         PathCommand::Look(spot) => Ok(Some(PathCommand::Look(copy_of_spot(alloc, spot)?))),
         PathCommand::LookRoot => Ok(Some(PathCommand::LookRoot)),
         PathCommand::List(path) => Ok(Some(PathCommand::List(copy_of(alloc, path.as_slice())?))),

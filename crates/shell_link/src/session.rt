@@ -7,7 +7,7 @@ ghost use Rattle.client_state.specs.Ending.{cut, joined};
 ghost use Rattle.command_text.specs.declared.command.Command.{Command};
 ghost use Rattle.shell_link.specs.Asking.{answer_of, told_of, kept, Sends, Runs, Once, Asks, AsksHinted, MayLearn, MayOffer, rereads};
 
-use crate::outcomes::{again_of, answer_of, is_lost};
+use crate::outcomes::{again_of, answer_of, is_lost, rereads, said_of};
 use client_state::step::{ClientStep, Ended, Outcome};
 use command_text::command::Command;
 use lb_base::items::{Bytes, Items};
@@ -310,6 +310,18 @@ where
             answer
         }
     }
+
+    /// Runs a command, and once more where it may be asked again.
+    fn heard(&mut self, alloc: Global, command: Command) -> Answer
+        ensures { Asks self.old.client command result self.new.client }
+    {
+        let again = again_of(alloc, &command);
+        let answer = self.first(alloc, command);
+        match again {
+            Some(command) => self.repeat(alloc, command, answer),
+            None => answer,
+        }
+    }
 }
 
 impl<'e, D: Dials, C: Clock> Remote for Session<'e, D, C>
@@ -325,12 +337,9 @@ where
     fn ask(&mut self, alloc: Global, command: Command) -> Answer {
         learn(alloc, &mut self.client, self.stored);
         self.stored = closed_by(&command);
-        let again = again_of(alloc, &command);
-        let answer = self.first(alloc, command);
-        match again {
-            Some(command) => self.repeat(alloc, command, answer),
-            None => answer,
-        }
+        let changes_nothing = rereads(&command);
+        let answer = self.heard(alloc, command);
+        said_of(changes_nothing, answer)
     }
 
     fn content(&self, file: u64) -> &[u8] {

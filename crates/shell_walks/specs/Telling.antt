@@ -47,6 +47,7 @@ abbrev pub why_text : Why → List ℕ
 why_text why.Order = codes "the client has no such file open"
 why_text why.TooBig = codes "the file is too large"
 why_text why.Lost = codes "the connection was lost; it may have been done, or not"
+why_text why.Cut = codes "the connection was lost"
 why_text why.Changed = codes "the file changed each time that it was fetched"
 why_text why.NoLink = codes "there is no connection"
 why_text (why.Refused n) = status_text n
@@ -63,6 +64,8 @@ fault_text fault.Denied = codes "permission denied here"
 fault_text fault.Full = codes "the disk here is full"
 fault_text fault.TooBig = codes "the file is too large"
 fault_text fault.BadName = codes "no file here can have this name"
+fault_text fault.NotText = codes "a name here has to be UTF-8 for this program"
+fault_text fault.Link = codes "it is a symbolic link in a folder, and isn't followed"
 fault_text fault.Odd = codes "it is neither a file nor a folder here"
 fault_text fault.Changed = codes "it changed here while it was read"
 fault_text fault.Failed = codes "the system failed here"
@@ -105,9 +108,9 @@ abbrev pub kind_text : Bool → List ℕ
 kind_text true = codes "dir "
 kind_text false = codes "file"
 
--- a line of `ls -l`: what it is, its bytes or names, its version and its name
+-- a line of `ls -l`: what it is, its bytes or names, its version and its name as it is shown
 abbrev pub long_line : Seen → List ℕ → List ℕ
-long_line seen name = kind_text seen.is_dir ++ padded 10 seen.len ++ padded 7 seen.version ++ codes " " ++ quoted name ++ codes "\n"
+long_line seen shown = kind_text seen.is_dir ++ padded 10 seen.len ++ padded 7 seen.version ++ codes " " ++ shown ++ codes "\n"
 
 abbrev pub stat_text : List (List ℕ) → Seen → List ℕ
 stat_text path seen =

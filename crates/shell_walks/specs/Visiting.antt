@@ -7,19 +7,20 @@ use Rattle.shell_walks.specs.declared.tasks.Task.{Task}
 use Rattle.shell_walks.specs.declared.tasks.Task.TheVariants as task
 
 -- calls of the host's files, one after the other, each on this path
-pub data Touches {F : Type 0} (finds : F → List ℕ → Kind → F → Type 0) (reads : F → List ℕ → Result (List ℕ) LocalFault → F → Type 0) (writes : F → List ℕ → List ℕ → Result Unit LocalFault → F → Type 0) (lists : F → List ℕ → Result (List (List ℕ)) LocalFault → F → Type 0) (makes : F → List ℕ → Result Unit LocalFault → F → Type 0) (local : List ℕ) (old : F) : F → Type 0 where
-  untouched : (new : F) → new ≡ old → Touches finds reads writes lists makes local old new
-  found : (k : Kind) (mid new : F) → Touches finds reads writes lists makes local old mid → finds mid local k new → Touches finds reads writes lists makes local old new
-  read : (r : Result (List ℕ) LocalFault) (mid new : F) → Touches finds reads writes lists makes local old mid → reads mid local r new → Touches finds reads writes lists makes local old new
-  written : (bytes : List ℕ) (r : Result Unit LocalFault) (mid new : F) → Touches finds reads writes lists makes local old mid → writes mid local bytes r new → Touches finds reads writes lists makes local old new
-  listed : (r : Result (List (List ℕ)) LocalFault) (mid new : F) → Touches finds reads writes lists makes local old mid → lists mid local r new → Touches finds reads writes lists makes local old new
-  made : (r : Result Unit LocalFault) (mid new : F) → Touches finds reads writes lists makes local old mid → makes mid local r new → Touches finds reads writes lists makes local old new
+pub data Touches {F : Type 0} (finds : F → List ℕ → Kind → F → Type 0) (reads : F → List ℕ → Result (List ℕ) LocalFault → F → Type 0) (writes : F → List ℕ → List ℕ → Result Unit LocalFault → F → Type 0) (lists : F → List ℕ → Result (List (List ℕ)) LocalFault → F → Type 0) (makes tries : F → List ℕ → Result Unit LocalFault → F → Type 0) (local : List ℕ) (old : F) : F → Type 0 where
+  untouched : (new : F) → new ≡ old → Touches finds reads writes lists makes tries local old new
+  found : (k : Kind) (mid new : F) → Touches finds reads writes lists makes tries local old mid → finds mid local k new → Touches finds reads writes lists makes tries local old new
+  read : (r : Result (List ℕ) LocalFault) (mid new : F) → Touches finds reads writes lists makes tries local old mid → reads mid local r new → Touches finds reads writes lists makes tries local old new
+  written : (bytes : List ℕ) (r : Result Unit LocalFault) (mid new : F) → Touches finds reads writes lists makes tries local old mid → writes mid local bytes r new → Touches finds reads writes lists makes tries local old new
+  listed : (r : Result (List (List ℕ)) LocalFault) (mid new : F) → Touches finds reads writes lists makes tries local old mid → lists mid local r new → Touches finds reads writes lists makes tries local old new
+  made : (r : Result Unit LocalFault) (mid new : F) → Touches finds reads writes lists makes tries local old mid → makes mid local r new → Touches finds reads writes lists makes tries local old new
+  tried : (r : Result Unit LocalFault) (mid new : F) → Touches finds reads writes lists makes tries local old mid → tries mid local r new → Touches finds reads writes lists makes tries local old new
 
 -- a task of the server's tree alone touches nothing
-abbrev pub TouchesFor : {F : Type 0} → (finds : F → List ℕ → Kind → F → Type 0) → (reads : F → List ℕ → Result (List ℕ) LocalFault → F → Type 0) → (writes : F → List ℕ → List ℕ → Result Unit LocalFault → F → Type 0) → (lists : F → List ℕ → Result (List (List ℕ)) LocalFault → F → Type 0) → (makes : F → List ℕ → Result Unit LocalFault → F → Type 0) → Task → F → F → Type 0
-TouchesFor finds reads writes lists makes (task.Put local path s) old new = Touches finds reads writes lists makes local old new
-TouchesFor finds reads writes lists makes (task.Get path local deep) old new = Touches finds reads writes lists makes local old new
-TouchesFor finds reads writes lists makes (task.Remove path) old new = new ≡ old
+abbrev pub TouchesFor : {F : Type 0} → (finds : F → List ℕ → Kind → F → Type 0) → (reads : F → List ℕ → Result (List ℕ) LocalFault → F → Type 0) → (writes : F → List ℕ → List ℕ → Result Unit LocalFault → F → Type 0) → (lists : F → List ℕ → Result (List (List ℕ)) LocalFault → F → Type 0) → (makes tries : F → List ℕ → Result Unit LocalFault → F → Type 0) → Task → F → F → Type 0
+TouchesFor finds reads writes lists makes tries (task.Put local path s) old new = Touches finds reads writes lists makes tries local old new
+TouchesFor finds reads writes lists makes tries (task.Get path local deep) old new = Touches finds reads writes lists makes tries local old new
+TouchesFor finds reads writes lists makes tries (task.Remove path) old new = new ≡ old
 
 -- ---- the tasks that come
 

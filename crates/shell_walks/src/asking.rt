@@ -14,7 +14,7 @@ use std::alloc::{AllocError, Global};
 /// What is done with the one path that a command is about.
 #[derive(Clone, Copy)]
 pub enum Deed {
-    /// Its file is opened.
+    /// Its file is opened, with its content.
     Find,
     /// What it stands for is told.
     Look,

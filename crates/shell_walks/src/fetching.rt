@@ -1,7 +1,7 @@
 //! How the content of a file becomes the host's: `specs/Fetching.antt`.
 
 ghost use Rattle.std.specs.Prelude.{◌≡◌, length, IfOk};
-ghost use Rattle.shell_walks.specs.Fetching.{got_of, Keeps, Gets, CatsOpen, Cats};
+ghost use Rattle.shell_walks.specs.Fetching.{got_of, Keeps, Fetches, Gets, CatsOpen, Cats};
 ghost use Rattle.shell_walks.specs.Telling.{fine};
 
 use crate::asking::{Deed, ask_on};
@@ -53,6 +53,23 @@ fn keep<R: Remote, F: Folder>(
 }
 
 /// Fetches a file into one of the host.
+fn fetch<R: Remote, F: Folder>(
+    alloc: Global,
+    remote: &mut R,
+    folder: &mut F,
+    path: &[Name],
+    local: &str,
+) -> Result<Got, AllocError>
+    ensures { IfOk result (λ got. Fetches R.asks R.content F.writes remote.old folder.old path.now local.now got remote.new folder.new) }
+{
+    let opened = ask_on(alloc, remote, Deed::Find, path)?;
+    match opened_file(&opened) {
+        Some(file) => Ok(keep(alloc, remote, folder, file, local)),
+        None => Ok(Got::Refused(why_of(&opened))),
+    }
+}
+
+/// Fetches a file into one of the host, where that can be written; else nothing is asked for.
 pub fn get<R: Remote, F: Folder>(
     alloc: Global,
     remote: &mut R,
@@ -60,12 +77,11 @@ pub fn get<R: Remote, F: Folder>(
     path: &[Name],
     local: &str,
 ) -> Result<Got, AllocError>
-    ensures { IfOk result (λ got. Gets R.asks R.content F.writes remote.old folder.old path.now local.now got remote.new folder.new) }
+    ensures { IfOk result (λ got. Gets R.asks R.content F.writes F.tries remote.old folder.old path.now local.now got remote.new folder.new) }
 {
-    let opened = ask_on(alloc, remote, Deed::Find, path)?;
-    match opened_file(&opened) {
-        Some(file) => Ok(keep(alloc, remote, folder, file, local)),
-        None => Ok(Got::Refused(why_of(&opened))),
+    match folder.try_write(alloc, local) {
+        Ok(()) => fetch(alloc, remote, folder, path, local),
+        Err(fault) => Ok(Got::Fault(fault)),
     }
 }
 

@@ -27,6 +27,10 @@ pub enum LocalFault {
     TooBig,
     /// The name can't be one of this host's.
     BadName,
+    /// The name is no UTF-8, in which alone this host's files are asked for.
+    NotText,
+    /// It is a symbolic link, and those aren't followed there.
+    Link,
     /// It is neither a file nor a folder.
     Odd,
     /// It changed while it was read.
@@ -37,12 +41,14 @@ pub enum LocalFault {
     Memory,
 }
 
-/// What a path stands for. A symbolic link stands for what it leads to.
+/// What a path stands for.
 #[derive(Clone, Copy)]
 pub enum Kind {
     Missing,
     File,
     Folder,
+    /// A symbolic link, where those aren't followed.
+    Link,
     Other,
 }
 
@@ -63,14 +69,22 @@ pub trait Folder {
     /// What the making of a folder may come to.
     ghost makes: { Self → List ℕ → Result Unit LocalFault → Self → Type 0 };
 
-    /// What a path stands for.
-    fn kind(&mut self, path: &str) -> Kind
+    /// What a trial whether a file can be written may come to.
+    ghost tries: { Self → List ℕ → Result Unit LocalFault → Self → Type 0 };
+
+    /// What a path stands for. Where links are followed, a symbolic link stands for what it leads to.
+    fn kind(&mut self, path: &str, follows: bool) -> Kind
         ensures { finds self.old path.now result self.new };
 
     /// The bytes of a file, which has at most `FILE_MOST`, as it was at one moment as far as can be told.
     fn read(&mut self, alloc: Global, path: &str) -> Result<Bytes, LocalFault>
         ensures read { reads self.old path.now result self.new }
         ensures within { IfOk result (λ bytes. length bytes ≤ FILE_MOST) };
+
+    /// Whether `write` could put a file there, as far as can be told without one: in what would be its
+    /// folder a file is made, and removed. What the path stands for stays.
+    fn try_write(&mut self, alloc: Global, path: &str) -> Result<(), LocalFault>
+        ensures { tries self.old path.now result self.new };
 
     /// Makes a file with these bytes, or puts them in the place of those that it has: as a whole, or not
     /// at all. Its permissions stay, and where the path is a symbolic link, what it leads to is replaced.

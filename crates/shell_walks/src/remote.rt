@@ -18,6 +18,8 @@ pub enum Why {
     TooBig,
     /// The connection was lost meanwhile: it may have been done, or not.
     Lost,
+    /// The connection was lost meanwhile, and what was asked changes nothing.
+    Cut,
     /// The file changed each time that it was fetched.
     Changed,
     /// There is no connection, and none can be had.

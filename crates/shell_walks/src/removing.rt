@@ -4,7 +4,7 @@ use crate::asking::{Deed, ask_on};
 use crate::remote::{Answer, Remote, Why};
 use crate::storing::is_done;
 use crate::tasks::longer;
-use crate::telling::{note_line, path_text, put_why, why_of};
+use crate::telling::{REMOVED, path_line, put_why, why_of};
 use command_text::path::Path;
 use lb_base::items::{Bytes, Items, Name};
 use shell_words::path::copy_of;
@@ -18,13 +18,27 @@ struct Doomed {
     emptied: bool,
 }
 
-/// What isn't done is said, in a line.
-fn note(alloc: Global, notes: &mut Bytes, path: &[Name], why: Why) -> Result<(), AllocError> {
-    let about = path_text(alloc, path)?;
+/// What came of what was to go, in lines.
+#[derive(Drop)]
+pub struct Removal {
+    /// What didn't go, and why.
+    pub note: Bytes,
+    /// What went.
+    pub news: Bytes,
+}
+
+/// What isn't done is said.
+fn note(alloc: Global, removal: &mut Removal, path: &[Name], why: Why) -> Result<(), AllocError> {
     let mut words = Items::new(alloc);
     put_why(alloc, &mut words, why)?;
-    let line = note_line(alloc, about.as_slice(), words.as_slice())?;
-    notes.extend_from_slice(line.as_slice())
+    let line = path_line(alloc, path, words.as_slice())?;
+    removal.note.extend_from_slice(line.as_slice())
+}
+
+/// What went is said.
+fn went(alloc: Global, removal: &mut Removal, path: &[Name]) -> Result<(), AllocError> {
+    let line = path_line(alloc, path, REMOVED)?;
+    removal.news.extend_from_slice(line.as_slice())
 }
 
 /// What is in a directory goes before the directory.
@@ -48,7 +62,7 @@ fn list<R: Remote>(
     alloc: Global,
     remote: &mut R,
     doomed: &mut Vec<Doomed>,
-    notes: &mut Bytes,
+    removal: &mut Removal,
     path: Path,
 ) -> Result<(), AllocError> {
     match ask_on(alloc, remote, Deed::List, path.as_slice())? {
@@ -59,7 +73,7 @@ fn list<R: Remote>(
             })?;
             open_up(alloc, doomed, path, names.as_slice())
         }
-        answer => note(alloc, notes, path.as_slice(), why_of(&answer)),
+        answer => note(alloc, removal, path.as_slice(), why_of(&answer)),
     }
 }
 
@@ -68,7 +82,7 @@ fn remove_one<R: Remote>(
     alloc: Global,
     remote: &mut R,
     doomed: &mut Vec<Doomed>,
-    notes: &mut Bytes,
+    removal: &mut Removal,
     one: Doomed,
 ) -> Result<(), AllocError> {
     let Doomed { path, emptied } = one;
@@ -79,21 +93,24 @@ fn remove_one<R: Remote>(
     };
     let answer = ask_on(alloc, remote, deed, path.as_slice())?;
     if is_done(&answer) {
-        return Ok(());
+        return went(alloc, removal, path.as_slice());
     }
     match why_of(&answer) {
-        Why::Refused(21) if !emptied => list(alloc, remote, doomed, notes, path),
-        why => note(alloc, notes, path.as_slice(), why),
+        Why::Refused(21) if !emptied => list(alloc, remote, doomed, removal, path),
+        why => note(alloc, removal, path.as_slice(), why),
     }
 }
 
-/// What has a path goes, with all that is in it. What doesn't is said, a line for each.
+/// What has a path goes, with all that is in it. What does and what doesn't is said, a line for each.
 pub fn remove_all<R: Remote>(
     alloc: Global,
     remote: &mut R,
     path: &[Name],
-) -> Result<Bytes, AllocError> {
-    let mut notes = Items::new(alloc);
+) -> Result<Removal, AllocError> {
+    let mut removal = Removal {
+        note: Items::new(alloc),
+        news: Items::new(alloc),
+    };
     let mut doomed = Vec::new(alloc);
     doomed.push(Doomed {
         path: copy_of(alloc, path)?,
@@ -101,9 +118,9 @@ pub fn remove_all<R: Remote>(
     })?;
     for _turn in 0..u64::MAX {
         match doomed.pop() {
-            Some(one) => remove_one(alloc, remote, &mut doomed, &mut notes, one)?,
-            None => return Ok(notes),
+            Some(one) => remove_one(alloc, remote, &mut doomed, &mut removal, one)?,
+            None => return Ok(removal),
         }
     }
-    Ok(notes)
+    Ok(removal)
 }

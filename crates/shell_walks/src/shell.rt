@@ -22,6 +22,13 @@ use shell_words::path::{last_of, path_of};
 use shell_words::quoting::quoted;
 use std::alloc::{AllocError, Global};
 
+/// NFS3ERR_NOENT, NFS3ERR_EXIST, NFS3ERR_NOTDIR.
+const NOENT: u32 = 2;
+
+const EXIST: u32 = 17;
+
+const NOTDIR: u32 = 20;
+
 /// Where a shell stands.
 #[derive(Drop)]
 pub struct Shell {
@@ -106,7 +113,8 @@ fn put_long<R: Remote>(
     let path = longer(alloc, path, name)?;
     match ask_on(alloc, remote, Deed::Look, path.as_slice())? {
         Answer::Seen(seen) => {
-            let line = long_line(alloc, &seen, name)?;
+            let shown = quoted(alloc, name)?;
+            let line = long_line(alloc, &seen, shown.as_slice())?;
             told.text.extend_from_slice(line.as_slice())
         }
         answer => {
@@ -126,7 +134,32 @@ fn list_long<R: Remote>(alloc: Global, remote: &mut R, path: &[Name]) -> Result<
             }
             Ok(told)
         }
-        answer => refused_told(alloc, path, why_of(&answer)),
+        answer => list_file(alloc, remote, path, true, why_of(&answer)),
+    }
+}
+
+/// What can't be listed: a file is told as if it were all that is in a directory.
+fn list_file<R: Remote>(
+    alloc: Global,
+    remote: &mut R,
+    path: &[Name],
+    is_long: bool,
+    why: Why,
+) -> Result<Told, AllocError> {
+    if !matches!(why, Why::Refused(NOTDIR)) {
+        return refused_told(alloc, path, why);
+    }
+    let looked = ask_on(alloc, remote, Deed::Look, path)?;
+    match seen_of(&looked) {
+        Some(seen) => {
+            let mut shown = path_text(alloc, path)?;
+            if is_long {
+                return Ok(fine(alloc, long_line(alloc, &seen, shown.as_slice())?));
+            }
+            shown.extend_from_slice(b"\n")?;
+            Ok(fine(alloc, shown))
+        }
+        None => refused_told(alloc, path, why),
     }
 }
 
@@ -140,8 +173,10 @@ fn list<R: Remote>(
     if is_long {
         return list_long(alloc, remote, path);
     }
-    let answer = ask_on(alloc, remote, Deed::List, path)?;
-    names_told(alloc, path, &answer)
+    match ask_on(alloc, remote, Deed::List, path)? {
+        Answer::Failed(why) => list_file(alloc, remote, path, false, why),
+        answer => names_told(alloc, path, &answer),
+    }
 }
 
 /// One command, which has nothing to tell.
@@ -161,14 +196,26 @@ fn make_all<R: Remote>(alloc: Global, remote: &mut R, path: &[Name]) -> Result<T
         let answer = ask_on(alloc, remote, Deed::MakeDir, &path[..end + 1])?;
         match answer {
             Answer::Done => {}
-            Answer::Failed(Why::Refused(17)) => {}
+            Answer::Failed(Why::Refused(EXIST)) => {}
             answer => return refused_told(alloc, &path[..end + 1], why_of(&answer)),
         }
     }
     if is_directory(alloc, remote, path)? {
         Ok(fine(alloc, Items::new(alloc)))
     } else {
-        refused_told(alloc, path, Why::Refused(20))
+        refused_told(alloc, path, Why::Refused(NOTDIR))
+    }
+}
+
+/// The directories above a path are made, where the last of them isn't there.
+fn make_way<R: Remote>(alloc: Global, remote: &mut R, path: &[Name]) -> Result<Told, AllocError> {
+    if path.len() < 2 {
+        return Ok(fine(alloc, Items::new(alloc)));
+    }
+    let above = &path[..path.len() - 1];
+    match ask_on(alloc, remote, Deed::Look, above)? {
+        Answer::Failed(Why::Refused(NOENT)) => make_all(alloc, remote, above),
+        _ => Ok(fine(alloc, Items::new(alloc))),
     }
 }
 
@@ -182,13 +229,32 @@ fn remove<R: Remote>(
     if !with_all {
         return does(alloc, remote, Deed::Remove, path);
     }
-    Ok(notes(alloc, remove_all(alloc, remote, path)?))
+    let removal = remove_all(alloc, remote, path)?;
+    Ok(notes(alloc, removal.note))
 }
 
 /// `stat`.
 fn stat<R: Remote>(alloc: Global, remote: &mut R, path: &[Name]) -> Result<Told, AllocError> {
     let answer = ask_on(alloc, remote, Deed::Look, path)?;
     stat_told(alloc, path, &answer)
+}
+
+/// What a renaming came to. Where it wasn't done, the first name is at fault where nothing has it, and else
+/// the second.
+fn rename_told<R: Remote>(
+    alloc: Global,
+    remote: &mut R,
+    from: &[Name],
+    to: &[Name],
+    answer: &Answer,
+) -> Result<Told, AllocError> {
+    if !matches!(answer, Answer::Failed(Why::Refused(_))) {
+        return done_told(alloc, from, answer);
+    }
+    match ask_on(alloc, remote, Deed::Look, from)? {
+        Answer::Seen(_) => done_told(alloc, to, answer),
+        looked => refused_told(alloc, from, why_of(&looked)),
+    }
 }
 
 /// `mv`: into the directory that has the second path, where one has it.
@@ -205,7 +271,7 @@ fn rename<R: Remote>(
         }
     }
     let answer = ask_rename(alloc, remote, from, to.as_slice())?;
-    done_told(alloc, from, &answer)
+    rename_told(alloc, remote, from, to.as_slice(), &answer)
 }
 
 /// A command on one path of the server.
@@ -261,7 +327,7 @@ impl Shell {
             None => Ok(NamedLocal::Mistaken(of_word(
                 alloc,
                 word,
-                fault_words(LocalFault::BadName),
+                fault_words(LocalFault::NotText),
             )?)),
         }
     }
@@ -279,7 +345,7 @@ impl Shell {
                 self.dir = path;
                 Ok(fine(alloc, Items::new(alloc)))
             }
-            Some(_) => refused_told(alloc, path.as_slice(), Why::Refused(20)),
+            Some(_) => refused_told(alloc, path.as_slice(), Why::Refused(NOTDIR)),
             None => refused_told(alloc, path.as_slice(), why_of(&answer)),
         }
     }
@@ -310,7 +376,7 @@ impl Shell {
         }
         match self.named_local(alloc, word)? {
             NamedLocal::Mistaken(told) => Ok(told),
-            NamedLocal::Path(path) => match host.kind(path.as_str()) {
+            NamedLocal::Path(path) => match host.kind(path.as_str(), true) {
                 Kind::Folder => {
                     self.folder = path;
                     Ok(fine(alloc, Items::new(alloc)))
@@ -334,7 +400,7 @@ impl Shell {
             NamedLocal::Path(path) => path,
             mistaken => return Ok(mistaken),
         };
-        match (host.kind(path.as_str()), text_of(last)) {
+        match (host.kind(path.as_str(), true), text_of(last)) {
             (Kind::Folder, Some(text)) if is_component(last) && word != last => Ok(NamedLocal::Path(
                 LocalPath::below(alloc, path.as_str(), text)?,
             )),
@@ -390,59 +456,97 @@ impl Shell {
         }
     }
 
-    /// `put`.
-    fn put<R: Remote>(
+    /// What is to be stored, where it is here; a folder only with all that is in it.
+    fn source<F: Folder>(
+        &self,
+        alloc: Global,
+        host: &mut F,
+        from: &[u8],
+        deep: bool,
+    ) -> Result<NamedLocal, AllocError> {
+        let local = match self.named_local(alloc, from)? {
+            NamedLocal::Path(local) => local,
+            mistaken => return Ok(mistaken),
+        };
+        let fault = match host.kind(local.as_str(), true) {
+            Kind::Missing => LocalFault::Missing,
+            Kind::Folder if !deep => LocalFault::IsFolder,
+            _ => return Ok(NamedLocal::Path(local)),
+        };
+        let told = of_word(alloc, local.as_str().as_bytes(), fault_words(fault))?;
+        Ok(NamedLocal::Mistaken(told))
+    }
+
+    /// `put` and `sync`: the directories above what is stored are made, where they aren't there.
+    fn stores<R: Remote>(
         &self,
         alloc: Global,
         remote: &mut R,
-        from: &[u8],
-        word: &[u8],
-        deep: bool,
+        local: LocalPath,
+        named: Named,
+        storing: Storing,
     ) -> Result<Went, AllocError> {
-        let local = match self.named_local(alloc, from)? {
-            NamedLocal::Path(local) => local,
-            NamedLocal::Mistaken(told) => return Ok(Went::Told(told)),
+        let path = match named {
+            Named::Path(path) => path,
+            Named::Mistaken(told) => return Ok(Went::Told(told)),
         };
-        match self.remote_target(alloc, remote, word, last_of(from))? {
-            Named::Path(path) => Ok(Went::Works(Task::Put {
+        let told = make_way(alloc, remote, path.as_slice())?;
+        if told.is_fine() {
+            Ok(Went::Works(Task::Put {
                 local,
                 path,
-                storing: Storing {
-                    deep,
-                    changed_only: false,
-                    deletes: false,
-                    fresh: false,
-                },
-            })),
-            Named::Mistaken(told) => Ok(Went::Told(told)),
+                storing,
+            }))
+        } else {
+            Ok(Went::Told(told))
         }
     }
 
-    /// `sync`.
-    fn sync(
+    /// `put`.
+    fn put<R: Remote, F: Folder>(
         &self,
         alloc: Global,
-        from: &[u8],
-        word: &[u8],
-        deletes: bool,
+        remote: &mut R,
+        host: &mut F,
+        line: &Line,
     ) -> Result<Went, AllocError> {
-        let local = match self.named_local(alloc, from)? {
+        let from = operand(line, 0);
+        let local = match self.source(alloc, host, from, line.has_option)? {
             NamedLocal::Path(local) => local,
             NamedLocal::Mistaken(told) => return Ok(Went::Told(told)),
         };
-        match self.named(alloc, word)? {
-            Named::Path(path) => Ok(Went::Works(Task::Put {
-                local,
-                path,
-                storing: Storing {
-                    deep: true,
-                    changed_only: true,
-                    deletes,
-                    fresh: false,
-                },
-            })),
-            Named::Mistaken(told) => Ok(Went::Told(told)),
-        }
+        let named = self.remote_target(alloc, remote, operand(line, 1), last_of(from))?;
+        let storing = Storing {
+            deep: line.has_option,
+            changed_only: false,
+            deletes: false,
+            fresh: false,
+            inner: false,
+        };
+        self.stores(alloc, remote, local, named, storing)
+    }
+
+    /// `sync`.
+    fn sync<R: Remote, F: Folder>(
+        &self,
+        alloc: Global,
+        remote: &mut R,
+        host: &mut F,
+        line: &Line,
+    ) -> Result<Went, AllocError> {
+        let local = match self.source(alloc, host, operand(line, 0), true)? {
+            NamedLocal::Path(local) => local,
+            NamedLocal::Mistaken(told) => return Ok(Went::Told(told)),
+        };
+        let named = self.named(alloc, operand(line, 1))?;
+        let storing = Storing {
+            deep: true,
+            changed_only: true,
+            deletes: line.has_option,
+            fresh: false,
+            inner: false,
+        };
+        self.stores(alloc, remote, local, named, storing)
     }
 
     /// `mv`.
@@ -491,14 +595,8 @@ impl Shell {
         match line.verb {
             Verb::Pwd => Ok(Went::Told(self.tell_place(alloc)?)),
             Verb::Lcd => Ok(Went::Told(self.go_local(alloc, host, operand(line, 0))?)),
-            Verb::Put => self.put(
-                alloc,
-                remote,
-                operand(line, 0),
-                operand(line, 1),
-                line.has_option,
-            ),
-            Verb::Sync => self.sync(alloc, operand(line, 0), operand(line, 1), line.has_option),
+            Verb::Put => self.put(alloc, remote, host, line),
+            Verb::Sync => self.sync(alloc, remote, host, line),
             Verb::Bye | Verb::Help => Ok(Went::Bye),
             _ => self.run_named(alloc, remote, host, line),
         }

@@ -22,6 +22,8 @@ pub struct Storing {
     pub deletes: bool,
     /// Whether nothing is there yet where it is stored.
     pub fresh: bool,
+    /// Whether it was found in a folder, where symbolic links aren't followed.
+    pub inner: bool,
 }
 
 /// A task.

@@ -101,6 +101,7 @@ pub fn put_why(alloc: Global, out: &mut Bytes, why: Why) -> Result<(), AllocErro
         Why::Lost => {
             out.extend_from_slice(b"the connection was lost; it may have been done, or not")
         }
+        Why::Cut => out.extend_from_slice(b"the connection was lost"),
         Why::Changed => out.extend_from_slice(b"the file changed each time that it was fetched"),
         Why::NoLink => out.extend_from_slice(b"there is no connection"),
         Why::Refused(status) => put_status(alloc, out, status),
@@ -123,6 +124,8 @@ pub fn fault_words(fault: LocalFault) -> &'static [u8]
         LocalFault::Full => b"the disk here is full",
         LocalFault::TooBig => b"the file is too large",
         LocalFault::BadName => b"no file here can have this name",
+        LocalFault::NotText => b"a name here has to be UTF-8 for this program",
+        LocalFault::Link => b"it is a symbolic link in a folder, and isn't followed",
         LocalFault::Odd => b"it is neither a file nor a folder here",
         LocalFault::Changed => b"it changed here while it was read",
         LocalFault::Failed => b"the system failed here",
@@ -180,6 +183,21 @@ pub fn note_line(alloc: Global, about: &[u8], words: &[u8]) -> Result<Bytes, All
     Ok(out)
 }
 
+/// What is said of what was stored, made, and removed.
+pub const STORED: &[u8] = b"stored";
+
+pub const MADE: &[u8] = b"made";
+
+pub const REMOVED: &[u8] = b"removed";
+
+/// A path of the server's, and what is said of it.
+pub fn path_line(alloc: Global, path: &[Name], words: &[u8]) -> Result<Bytes, AllocError>
+    ensures { IfOk result (λ text. text ≡ note_line (path_text path.now) words.now) }
+{
+    let about = path_text(alloc, path)?;
+    note_line(alloc, about.as_slice(), words)
+}
+
 /// A name, as it is shown, and a line feed.
 fn put_name(alloc: Global, out: &mut Bytes, name: &[u8]) -> Result<(), AllocError>
     ensures { OnOk result (out.new ≡ out.old ++ (quoted name.now ++ codes "\n")) }
@@ -226,15 +244,16 @@ fn kind_words(is_dir: bool) -> &'static [u8]
     if is_dir { b"dir " } else { b"file" }
 }
 
-/// A line of `ls -l`.
-pub fn long_line(alloc: Global, seen: &Seen, name: &[u8]) -> Result<Bytes, AllocError>
-    ensures { IfOk result (λ text. text ≡ long_line seen.now name.now) }
+/// A line of `ls -l`, with a name as it is shown.
+pub fn long_line(alloc: Global, seen: &Seen, shown: &[u8]) -> Result<Bytes, AllocError>
+    ensures { IfOk result (λ text. text ≡ long_line seen.now shown.now) }
 {
     let mut out = Items::copy_of(alloc, kind_words(seen.is_dir))?;
     put_padded(alloc, &mut out, 10, seen.len)?;
     put_padded(alloc, &mut out, 7, seen.version)?;
     out.extend_from_slice(b" ")?;
-    put_name(alloc, &mut out, name)?;
+    out.extend_from_slice(shown)?;
+    out.extend_from_slice(b"\n")?;
     Ok(out)
 }
 
@@ -269,10 +288,9 @@ pub fn why_of(answer: &Answer) -> Why
 pub fn refused_told(alloc: Global, path: &[Name], why: Why) -> Result<Told, AllocError>
     ensures { IfOk result (λ told. told ≡ refused_told path.now why) }
 {
-    let about = path_text(alloc, path)?;
     let mut words = Items::new(alloc);
     put_why(alloc, &mut words, why)?;
-    Ok(notes(alloc, note_line(alloc, about.as_slice(), words.as_slice())?))
+    Ok(notes(alloc, path_line(alloc, path, words.as_slice())?))
 }
 
 /// Of a command that has nothing to tell.

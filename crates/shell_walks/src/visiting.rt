@@ -11,12 +11,12 @@ use crate::asking::{Deed, ask_on};
 use crate::fetching::{Got, get};
 use crate::folder::{Folder, Kind, LocalFault};
 use crate::remote::{Answer, Remote, Seen, Why};
-use crate::removing::remove_all;
+use crate::removing::{Removal, remove_all};
 use crate::storing::{is_closed, is_done, make, put};
 use crate::tasks::{Storing, Task, get_tasks, put_removals, put_tasks};
-use crate::telling::{fault_words, note_line, path_text, put_why, why_of};
+use crate::telling::{MADE, REMOVED, STORED, fault_words, note_line, path_line, put_why, why_of};
 use lb_base::items::{Bytes, Items, Name};
-use shell_words::local::{LocalPath, local_name};
+use shell_words::local::{LocalPath, is_component, local_name};
 use shell_words::path::copy_of;
 use shell_words::quoting::quoted;
 use std::alloc::{AllocError, Global};
@@ -28,6 +28,8 @@ pub struct Visited {
     pub more: Items<Task>,
     /// What wasn't done, a line for each.
     pub note: Bytes,
+    /// What a sync stored, made and removed, a line for each.
+    pub news: Bytes,
     /// How many files were stored, fetched or left as they are.
     pub files: u64,
     /// How many bytes these have.
@@ -36,8 +38,10 @@ pub struct Visited {
     pub is_off: bool,
 }
 
-/// NFS3ERR_EXIST, NFS3ERR_ISDIR.
+/// NFS3ERR_EXIST, NFS3ERR_NOTDIR, NFS3ERR_ISDIR.
 const EXIST: u32 = 17;
+
+const NOTDIR: u32 = 20;
 
 const ISDIR: u32 = 21;
 
@@ -48,6 +52,7 @@ fn one_file(alloc: Global, bytes: u64) -> Visited
     Visited {
         more: Items::new(alloc),
         note: Items::new(alloc),
+        news: Items::new(alloc),
         files: 1,
         bytes,
         is_off: false,
@@ -55,12 +60,13 @@ fn one_file(alloc: Global, bytes: u64) -> Visited
 }
 
 /// These tasks come, and this is said.
-fn leads(more: Items<Task>, note: Bytes) -> Visited
+fn leads(alloc: Global, more: Items<Task>, note: Bytes) -> Visited
     ensures { result.more ≡ more }
 {
     Visited {
         more,
         note,
+        news: Items::new(alloc),
         files: 0,
         bytes: 0,
         is_off: false,
@@ -71,11 +77,10 @@ fn leads(more: Items<Task>, note: Bytes) -> Visited
 fn refused(alloc: Global, path: &[Name], why: Why) -> Result<Visited, AllocError>
     ensures { IfOk result (λ v. v.more ≡ []) }
 {
-    let about = path_text(alloc, path)?;
     let mut words = Items::new(alloc);
     put_why(alloc, &mut words, why)?;
-    let note = note_line(alloc, about.as_slice(), words.as_slice())?;
-    let mut visit = leads(Items::new(alloc), note);
+    let note = path_line(alloc, path, words.as_slice())?;
+    let mut visit = leads(alloc, Items::new(alloc), note);
     visit.is_off = matches!(why, Why::NoLink);
     Ok(visit)
 }
@@ -86,7 +91,16 @@ fn faulty(alloc: Global, local: &str, fault: LocalFault) -> Result<Visited, Allo
 {
     let about = quoted(alloc, local.as_bytes())?;
     let note = note_line(alloc, about.as_slice(), fault_words(fault))?;
-    Ok(leads(Items::new(alloc), note))
+    Ok(leads(alloc, Items::new(alloc), note))
+}
+
+/// Why this host can't have a name.
+fn name_fault(name: &[u8]) -> LocalFault {
+    if is_component(name) {
+        LocalFault::NotText
+    } else {
+        LocalFault::BadName
+    }
 }
 
 /// What is said of the names that this host can't have, a line for each.
@@ -95,7 +109,8 @@ fn bad_names(alloc: Global, names: &[Name]) -> Result<Bytes, AllocError> {
     for name in names {
         if local_name(name.as_slice()).is_none() {
             let about = quoted(alloc, name.as_slice())?;
-            let line = note_line(alloc, about.as_slice(), fault_words(LocalFault::BadName))?;
+            let words = fault_words(name_fault(name.as_slice()));
+            let line = note_line(alloc, about.as_slice(), words)?;
             note.extend_from_slice(line.as_slice())?;
         }
     }
@@ -127,14 +142,12 @@ fn offer_copy<R: Remote>(alloc: Global, remote: &mut R, bytes: &[u8])
     }
 }
 
-/// The file that a fetch is to replace is offered, where there is one.
+/// The file that a fetch is to replace is offered.
 fn offer_local<R: Remote, F: Folder>(alloc: Global, remote: &mut R, folder: &mut F, local: &str)
-    ensures { Touches F.finds F.reads F.writes F.lists F.makes local.now folder.old folder.new }
+    ensures { Touches F.finds F.reads F.writes F.lists F.makes F.tries local.now folder.old folder.new }
 {
-    if matches!(folder.kind(local), Kind::File) {
-        if let Ok(bytes) = folder.read(alloc, local) {
-            remote.offer(alloc, bytes);
-        }
+    if let Ok(bytes) = folder.read(alloc, local) {
+        remote.offer(alloc, bytes);
     }
 }
 
@@ -165,9 +178,9 @@ fn put_over<R: Remote>(
 ) -> Result<Visited, AllocError>
     ensures { IfOk result (λ v. AllCome (tasks.Put local.now path.now storing) v.more) }
 {
-    let note = remove_all(alloc, remote, path)?;
+    let removal = remove_all(alloc, remote, path)?;
     let mut more = Items::new(alloc);
-    if note.is_empty() {
+    if removal.note.is_empty() {
         more.push(Task::Put {
             local: LocalPath::copy_of(alloc, local)?,
             path: copy_of(alloc, path)?,
@@ -178,7 +191,26 @@ fn put_over<R: Remote>(
             },
         })?;
     }
-    Ok(leads(more, note))
+    let Removal { note, news } = removal;
+    Ok(with_news(leads(alloc, more, note), news))
+}
+
+/// A file of so many bytes was stored, or left as it is; of a sync is said what was stored.
+fn stored(
+    alloc: Global,
+    path: &[Name],
+    storing: Storing,
+    is_new: bool,
+    len: u64,
+) -> Result<Visited, AllocError>
+    ensures { IfOk result (λ v. v.more ≡ []) }
+{
+    let visit = one_file(alloc, len);
+    if is_new && storing.changed_only {
+        let news = path_line(alloc, path, STORED)?;
+        return Ok(with_news(visit, news));
+    }
+    Ok(visit)
 }
 
 /// What was read of a file of the host is stored.
@@ -195,8 +227,9 @@ fn put_read<R: Remote>(
 {
     let len = bytes.len() as u64;
     let answer = put_bytes(alloc, remote, path, storing, bytes)?;
-    if is_closed(&answer) || is_done(&answer) {
-        Ok(one_file(alloc, len))
+    let is_new = is_closed(&answer);
+    if is_new || is_done(&answer) {
+        stored(alloc, path, storing, is_new, len)
     } else if storing.deletes && is_status(&answer, ISDIR) {
         put_over(alloc, remote, local, path, storing)
     } else {
@@ -214,7 +247,7 @@ fn put_file<R: Remote, F: Folder>(
     storing: Storing,
 ) -> Result<Visited, AllocError>
     ensures come { IfOk result (λ v. AllCome (tasks.Put local.now path.now storing) v.more) }
-    ensures touches { Touches F.finds F.reads F.writes F.lists F.makes local.now folder.old folder.new }
+    ensures touches { Touches F.finds F.reads F.writes F.lists F.makes F.tries local.now folder.old folder.new }
 {
     match folder.read(alloc, local) {
         Ok(bytes) => put_read(alloc, remote, local, path, storing, bytes),
@@ -226,6 +259,8 @@ fn put_file<R: Remote, F: Folder>(
 #[derive(Clone, Copy)]
 enum Place {
     New,
+    /// New, in the place of a file that went.
+    Instead,
     There,
     None(Why),
 }
@@ -239,7 +274,7 @@ fn place_there<R: Remote>(
     let looked = ask_on(alloc, remote, Deed::Look, path)?;
     match seen_of(&looked) {
         Some(seen) if seen.is_dir => Ok(Place::There),
-        Some(_) => Ok(Place::None(Why::Refused(20))),
+        Some(_) => Ok(Place::None(Why::Refused(NOTDIR))),
         None => Ok(Place::None(why_of(&looked))),
     }
 }
@@ -271,9 +306,12 @@ fn make_place_over<R: Remote>(
     deletes: bool,
 ) -> Result<Place, AllocError> {
     match make_place(alloc, remote, path)? {
-        Place::None(Why::Refused(20)) if deletes => {
+        Place::None(Why::Refused(NOTDIR)) if deletes => {
             drop(ask_on(alloc, remote, Deed::Remove, path)?);
-            make_place(alloc, remote, path)
+            match make_place(alloc, remote, path)? {
+                Place::New => Ok(Place::Instead),
+                place => Ok(place),
+            }
         }
         place => Ok(place),
     }
@@ -335,12 +373,43 @@ fn put_names<R: Remote>(
 {
     let more = put_tasks(alloc, local, path, storing, names)?;
     let note = bad_names(alloc, names)?;
-    let visit = leads(more, note);
+    let visit = leads(alloc, more, note);
     if storing.deletes && !storing.fresh {
         put_missing(alloc, remote, path, names, visit)
     } else {
         Ok(visit)
     }
+}
+
+/// What a sync says of a directory that was made.
+fn place_news(
+    alloc: Global,
+    path: &[Name],
+    storing: Storing,
+    place: Place,
+) -> Result<Bytes, AllocError> {
+    let mut news = Items::new(alloc);
+    if !storing.changed_only {
+        return Ok(news);
+    }
+    if matches!(place, Place::Instead) {
+        let line = path_line(alloc, path, REMOVED)?;
+        news.extend_from_slice(line.as_slice())?;
+    }
+    if matches!(place, Place::New | Place::Instead) {
+        let line = path_line(alloc, path, MADE)?;
+        news.extend_from_slice(line.as_slice())?;
+    }
+    Ok(news)
+}
+
+/// This is said of what was done.
+fn with_news(visit: Visited, news: Bytes) -> Visited
+    ensures { result.more ≡ visit.more }
+{
+    let mut visit = visit;
+    visit.news = news;
+    visit
 }
 
 /// The directory of a folder is made, and then what is in it is to be stored.
@@ -354,19 +423,18 @@ fn put_listed<R: Remote>(
 ) -> Result<Visited, AllocError>
     ensures { IfOk result (λ v. AllCome (tasks.Put local.now path.now storing) v.more) }
 {
-    let fresh = match make_place_over(alloc, remote, path, storing.deletes)? {
-        Place::New => true,
-        Place::There => false,
-        Place::None(why) => return refused(alloc, path, why),
+    let place = make_place_over(alloc, remote, path, storing.deletes)?;
+    if let Place::None(why) = place {
+        return refused(alloc, path, why);
+    }
+    let news = place_news(alloc, path, storing, place)?;
+    let within = Storing {
+        fresh: !matches!(place, Place::There),
+        inner: true,
+        ..storing
     };
-    put_names(
-        alloc,
-        remote,
-        local,
-        path,
-        Storing { fresh, ..storing },
-        names,
-    )
+    let visit = put_names(alloc, remote, local, path, within, names)?;
+    Ok(with_news(visit, news))
 }
 
 /// A folder of the host is stored: its directory first, then what is in it.
@@ -379,7 +447,7 @@ fn put_folder<R: Remote, F: Folder>(
     storing: Storing,
 ) -> Result<Visited, AllocError>
     ensures come { IfOk result (λ v. AllCome (tasks.Put local.now path.now storing) v.more) }
-    ensures touches { Touches F.finds F.reads F.writes F.lists F.makes local.now folder.old folder.new }
+    ensures touches { Touches F.finds F.reads F.writes F.lists F.makes F.tries local.now folder.old folder.new }
 {
     if !storing.deep {
         return faulty(alloc, local, LocalFault::IsFolder);
@@ -400,22 +468,23 @@ fn visit_put<R: Remote, F: Folder>(
     storing: Storing,
 ) -> Result<Visited, AllocError>
     ensures come { IfOk result (λ v. AllCome (tasks.Put local.now path.now storing) v.more) }
-    ensures touches { Touches F.finds F.reads F.writes F.lists F.makes local.now folder.old folder.new }
+    ensures touches { Touches F.finds F.reads F.writes F.lists F.makes F.tries local.now folder.old folder.new }
 {
-    match folder.kind(local) {
+    match folder.kind(local, !storing.inner) {
         Kind::File => put_file(alloc, remote, folder, local, path, storing),
         Kind::Folder => put_folder(alloc, remote, folder, local, path, storing),
         Kind::Missing => faulty(alloc, local, LocalFault::Missing),
+        Kind::Link => faulty(alloc, local, LocalFault::Link),
         Kind::Other => faulty(alloc, local, LocalFault::Odd),
     }
 }
 
 /// A folder is there for a directory, or why there is none.
 fn make_local<F: Folder>(folder: &mut F, local: &str) -> Result<(), LocalFault>
-    ensures { Touches F.finds F.reads F.writes F.lists F.makes local.now folder.old folder.new }
+    ensures { Touches F.finds F.reads F.writes F.lists F.makes F.tries local.now folder.old folder.new }
 {
     match folder.make_folder(local) {
-        Err(LocalFault::Exists) => match folder.kind(local) {
+        Err(LocalFault::Exists) => match folder.kind(local, true) {
             Kind::Folder => Ok(()),
             _ => Err(LocalFault::NotFolder),
         },
@@ -434,7 +503,7 @@ fn get_names(
 {
     let more = get_tasks(alloc, path, local, names)?;
     let note = bad_names(alloc, names)?;
-    Ok(leads(more, note))
+    Ok(leads(alloc, more, note))
 }
 
 /// A directory is fetched that has these names: its folder first, then what is in it.
@@ -446,12 +515,31 @@ fn get_listed<F: Folder>(
     names: &[Name],
 ) -> Result<Visited, AllocError>
     ensures come { (deep : Bool) → IfOk result (λ v. AllCome (tasks.Get path.now local.now deep) v.more) }
-    ensures touches { Touches F.finds F.reads F.writes F.lists F.makes local.now folder.old folder.new }
+    ensures touches { Touches F.finds F.reads F.writes F.lists F.makes F.tries local.now folder.old folder.new }
 {
     match make_local(folder, local) {
         Ok(()) => get_names(alloc, path, local, names),
         Err(fault) => faulty(alloc, local, fault),
     }
+}
+
+/// What was to go into a folder can't be listed: a file, which has no place there, or what isn't there.
+fn unlisted<R: Remote>(
+    alloc: Global,
+    remote: &mut R,
+    path: &[Name],
+    local: &str,
+    why: Why,
+) -> Result<Visited, AllocError>
+    ensures { IfOk result (λ v. v.more ≡ []) }
+{
+    if matches!(why, Why::Refused(NOTDIR)) {
+        let looked = ask_on(alloc, remote, Deed::Look, path)?;
+        if seen_of(&looked).is_some() {
+            return faulty(alloc, local, LocalFault::IsFolder);
+        }
+    }
+    refused(alloc, path, why)
 }
 
 /// A directory is fetched: its folder first, then what is in it.
@@ -463,11 +551,11 @@ fn get_directory<R: Remote, F: Folder>(
     local: &str,
 ) -> Result<Visited, AllocError>
     ensures come { (deep : Bool) → IfOk result (λ v. AllCome (tasks.Get path.now local.now deep) v.more) }
-    ensures touches { Touches F.finds F.reads F.writes F.lists F.makes local.now folder.old folder.new }
+    ensures touches { Touches F.finds F.reads F.writes F.lists F.makes F.tries local.now folder.old folder.new }
 {
     match ask_on(alloc, remote, Deed::List, path)? {
         Answer::Names(names) => get_listed(alloc, folder, path, local, names.as_slice()),
-        answer => refused(alloc, path, why_of(&answer)),
+        answer => unlisted(alloc, remote, path, local, why_of(&answer)),
     }
 }
 
@@ -482,7 +570,7 @@ fn settle_get<R: Remote, F: Folder>(
     got: Got,
 ) -> Result<Visited, AllocError>
     ensures come { IfOk result (λ v. AllCome (tasks.Get path.now local.now deep) v.more) }
-    ensures touches { Touches F.finds F.reads F.writes F.lists F.makes local.now folder.old folder.new }
+    ensures touches { Touches F.finds F.reads F.writes F.lists F.makes F.tries local.now folder.old folder.new }
 {
     match got {
         Got::Fine(bytes) => Ok(one_file(alloc, bytes)),
@@ -504,10 +592,44 @@ fn get_file<R: Remote, F: Folder>(
     deep: bool,
 ) -> Result<Visited, AllocError>
     ensures come { IfOk result (λ v. AllCome (tasks.Get path.now local.now deep) v.more) }
-    ensures touches { OnOk result (Touches F.finds F.reads F.writes F.lists F.makes local.now folder.old folder.new) }
+    ensures touches { OnOk result (Touches F.finds F.reads F.writes F.lists F.makes F.tries local.now folder.old folder.new) }
 {
     let got = get(alloc, remote, folder, path, local)?;
     settle_get(alloc, remote, folder, path, local, deep, got)
+}
+
+/// A file is fetched over one that is there, of whose bytes none travels.
+fn get_over<R: Remote, F: Folder>(
+    alloc: Global,
+    remote: &mut R,
+    folder: &mut F,
+    path: &[Name],
+    local: &str,
+    deep: bool,
+) -> Result<Visited, AllocError>
+    ensures come { IfOk result (λ v. AllCome (tasks.Get path.now local.now deep) v.more) }
+    ensures touches { OnOk result (Touches F.finds F.reads F.writes F.lists F.makes F.tries local.now folder.old folder.new) }
+{
+    offer_local(alloc, remote, folder, local);
+    get_file(alloc, remote, folder, path, local, deep)
+}
+
+/// Something is fetched where a folder is: a directory, into it. A file has no place there.
+fn get_into<R: Remote, F: Folder>(
+    alloc: Global,
+    remote: &mut R,
+    folder: &mut F,
+    path: &[Name],
+    local: &str,
+    deep: bool,
+) -> Result<Visited, AllocError>
+    ensures come { IfOk result (λ v. AllCome (tasks.Get path.now local.now deep) v.more) }
+    ensures touches { OnOk result (Touches F.finds F.reads F.writes F.lists F.makes F.tries local.now folder.old folder.new) }
+{
+    if deep {
+        return get_directory(alloc, remote, folder, path, local);
+    }
+    get_file(alloc, remote, folder, path, local, deep)
 }
 
 /// Something is fetched.
@@ -520,13 +642,16 @@ fn visit_get<R: Remote, F: Folder>(
     deep: bool,
 ) -> Result<Visited, AllocError>
     ensures come { IfOk result (λ v. AllCome (tasks.Get path.now local.now deep) v.more) }
-    ensures touches { OnOk result (Touches F.finds F.reads F.writes F.lists F.makes local.now folder.old folder.new) }
+    ensures touches { OnOk result (Touches F.finds F.reads F.writes F.lists F.makes F.tries local.now folder.old folder.new) }
 {
     if deep && path.is_empty() {
         return get_directory(alloc, remote, folder, path, local);
     }
-    offer_local(alloc, remote, folder, local);
-    get_file(alloc, remote, folder, path, local, deep)
+    match folder.kind(local, true) {
+        Kind::Folder => get_into(alloc, remote, folder, path, local, deep),
+        Kind::File => get_over(alloc, remote, folder, path, local, deep),
+        _ => get_file(alloc, remote, folder, path, local, deep),
+    }
 }
 
 /// What has a path goes, with all that is in it.
@@ -537,8 +662,8 @@ fn visit_removal<R: Remote>(
 ) -> Result<Visited, AllocError>
     ensures { IfOk result (λ v. v.more ≡ []) }
 {
-    let note = remove_all(alloc, remote, path)?;
-    Ok(leads(Items::new(alloc), note))
+    let Removal { note, news } = remove_all(alloc, remote, path)?;
+    Ok(with_news(leads(alloc, Items::new(alloc), note), news))
 }
 
 /// Does a task. What isn't done is said, and the others go on. Of the host's files it touches the path of the
@@ -550,7 +675,7 @@ pub fn visit<R: Remote, F: Folder>(
     task: Task,
 ) -> Result<Visited, AllocError>
     ensures come { IfOk result (λ v. AllCome task v.more) }
-    ensures touches { OnOk result (TouchesFor F.finds F.reads F.writes F.lists F.makes task folder.old folder.new) }
+    ensures touches { OnOk result (TouchesFor F.finds F.reads F.writes F.lists F.makes F.tries task folder.old folder.new) }
 {
     match task {
         Task::Put {

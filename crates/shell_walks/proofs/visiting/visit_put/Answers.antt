@@ -12,3 +12,6 @@ returns-in-Missing-clause-touches g c = only_found _ _ _ _ c.kind.ensures
 
 pub returns-in-Other-clause-touches : goal.returns-in-Other-clause-touches
 returns-in-Other-clause-touches g c = only_found _ _ _ _ c.kind.ensures
+
+pub returns-in-Link-clause-touches : goal.returns-in-Link-clause-touches
+returns-in-Link-clause-touches g c = only_found _ _ _ _ c.kind.ensures
