@@ -1,15 +1,13 @@
 //! How long a client may go by a lease, by its own clock (`note_until` in `specs/Leases.antt`).
 
-ghost use Rattle.std.specs.Prelude.{◌≡◌, ◌<◌, ◌^◌};
+ghost use Rattle.std.specs.Prelude.{◌≡◌};
 ghost use Rattle.lease_rules.specs.Leases.{note_until};
 
 /// The first reading of its clock at which a client goes no more by a lease that an answer grants
 /// for this term: the lease began at the server behind the call, which was sent at the reading
 /// `sent`, and clocks drift apart. None where the term isn't above the drift. `now` is the reading
-/// at which the answer came, and says nothing. All are in milliseconds.
-pub fn note_until(sent: u64, now: u64, term: u32, drift: u64) -> Option<u64>
-    requires sent { sent < 2 ^ 63 }
-    requires now { now < 2 ^ 63 }
+/// at which the answer came, and says nothing. All are in milliseconds, and the sum may pass 64 bits.
+pub fn note_until(sent: u64, now: u64, term: u32, drift: u64) -> Option<u128>
     ensures { result ≡ note_until sent term drift }
 {
     let _now = now;
@@ -18,5 +16,5 @@ pub fn note_until(sent: u64, now: u64, term: u32, drift: u64) -> Option<u64>
     if !is_above {
         return None;
     }
-    Some(sent + (term - drift))
+    Some(u128::from(sent) + u128::from(term - drift))
 }
