@@ -51,7 +51,7 @@ impl Model for Cache {
 fn is_fresh(content: &Content, note: Note, now: u64) -> bool
     ensures { result ≡ is_fresh content.now note now }
 {
-    content.version == note.version && now < note.until
+    content.version == note.version && u128::from(now) < note.until
 }
 
 /// Gives a file an entry, which goes first.
@@ -222,9 +222,9 @@ impl Cache {
     }
 
     /// Notes a lease: the version that it was granted with, and the reading of the client's clock at
-    /// which it is taken to have ended, in milliseconds. It takes no memory: the file has an entry.
-    pub fn note_lease(&mut self, file: u64, version: u64, until: u64)
-        requires { IsSome (kept_of self.old file) }
+    /// which it is taken to have ended, in milliseconds. Nothing is noted where the file has no entry. It
+    /// takes no memory.
+    pub fn note_lease(&mut self, file: u64, version: u64, until: u128)
         ensures { self.new ≡ with_note self.old file version until }
     {
         set_note(&mut self.entries, file, Some(Note { version, until }));

@@ -16,8 +16,9 @@ pub struct Content {
 pub struct Note {
     /// The version that the file had when the lease was granted.
     pub version: u64,
-    /// The reading of the client's clock at which the lease is taken to have ended, in milliseconds.
-    pub until: u64,
+    /// The reading of the client's clock at which the lease is taken to have ended, in milliseconds. It is
+    /// a reading and a term, which may pass 64 bits.
+    pub until: u128,
 }
 
 /// What is kept of a file: a content or none, and a note or none.

@@ -5,12 +5,13 @@ use Rattle.std.proofs.Math.Seq.{drop-append_seam, take-append_seam}
 use Rattle.std.proofs.lemmas.List.{length-append, length-drop}
 use Rattle.std.proofs.lemmas.List.Elements.{filter-append}
 use Rattle.wire.specs.declared.message.Pending.{Pending}
+use Rattle.wire.specs.declared.message.Waiting.{Waiting}
 use Rattle.client_state.specs.declared.state.ClientState.{ClientState}
 use Rattle.client_state.specs.State.{State, pending, has_call, without_call}
 use Rattle.std.specs.List.{All}
 use Rattle.chunk_index.specs.Index.{Indexed}
 use Rattle.client_cache.specs.Cache.{Entries}
-use Rattle.client_state.specs.View.{whole_of, TaskIsThere, TaskIsWithin, TaskHasXids, IsKeptBounded, IsHeld, IsSound}
+use Rattle.client_state.specs.View.{whole_of, TaskIsThere, TaskIsWithin, TaskHasXids, IsKeptBounded, IsBase, IsHeld, IsSound}
 use Rattle.client_state.specs.declared.task.Task.{Task}
 
 pub drop_front : (xs ys : List Pending) (n : ℕ) → n ≡ length xs → drop n (xs ++ ys) ≡ ys
@@ -46,11 +47,9 @@ others_stay own calls n xid e is other =
 pub held_of : (s : ClientState) → IsSound s → s.task ≡ None → IsHeld s
 held_of s h e = record { base = h.base; task = e }
 
--- and it is sound again, where nothing was changed
-pub sound_again : (s t : ClientState) → IsSound s → s.task ≡ None → IsHeld t → whole_of t ≡ whole_of s → IsSound t
-sound_again s t h idle k e =
-    let calls : t.waiting.calls ≡ s.waiting.calls = ap (λ (w : State × List Pending). w.1) e in
-    let left : drop t.own t.waiting.calls ≡ drop s.own s.waiting.calls = ap (λ (w : State × List Pending). w.0.forgotten) e in
+-- and it is sound again, where no call was sent or answered
+pub sound_still : (s t : ClientState) → IsSound s → s.task ≡ None → IsHeld t → t.waiting.calls ≡ s.waiting.calls → drop t.own t.waiting.calls ≡ drop s.own s.waiting.calls → IsSound t
+sound_still s t h idle k calls left =
     let all : s.waiting.calls ≡ drop s.own s.waiting.calls = h.calls ∙ ap (λ (o : Option Task). pending o ++ drop s.own s.waiting.calls) idle in
     let same : drop t.own t.waiting.calls ≡ t.waiting.calls = left ∙ (sym all ∙ sym calls) in
     let none : t.own ≡ 0 = (let n = length-drop t.own t.waiting.calls in let m : length (drop t.own t.waiting.calls) ≡ length t.waiting.calls = ap length same in let le = k.base.own in omega (arith, n, m, le)) in
@@ -62,6 +61,17 @@ sound_again s t h idle k e =
       within = subst TaskIsWithin (sym k.task) tt;
       there = subst (λ (o : Option Task). TaskIsThere t.cache o) (sym k.task) tt;
     }
+
+-- so where the calls that wait stand as they stood,
+pub sound_kept : (s t : ClientState) → IsSound s → s.task ≡ None → IsHeld t → t.waiting ≡ s.waiting → t.own ≡ s.own → IsSound t
+sound_kept s t h idle k waiting own = sound_still s t h idle k (ap (λ (w : Waiting). w.calls) waiting) (ap (λ (w : Waiting). drop t.own w.calls) waiting ∙ ap (λ (n : ℕ). drop n s.waiting.calls) own)
+
+pub sound_put : (s t : ClientState) → IsSound s → s.task ≡ None → IsBase t → t.task ≡ s.task → t.waiting ≡ s.waiting → t.own ≡ s.own → IsSound t
+sound_put s t h idle b task waiting own = sound_kept s t h idle (record { base = b; task = task ∙ idle }) waiting own
+
+-- and where nothing was changed
+pub sound_again : (s t : ClientState) → IsSound s → s.task ≡ None → IsHeld t → whole_of t ≡ whole_of s → IsSound t
+sound_again s t h idle k e = sound_still s t h idle k (ap (λ (w : State × List Pending). w.1) e) (ap (λ (w : State × List Pending). w.0.forgotten) e)
 
 -- another index, or another cache, is held as well
 pub held_index : (s : ClientState) (index : Indexed) → IsHeld s → IsHeld (record s { index = index })
@@ -82,7 +92,8 @@ sound_index s index h =
     let b = h.base in
     record { base = record { side = b.side; own = b.own; next = b.next; temps = b.temps; ids = b.ids; locals = b.locals; kept = b.kept }; calls = h.calls; own = h.own; xids = h.xids; within = h.within; there = h.there }
 
-no_task : (o : Option Task) → is_some o ≡ false → o ≡ None
+-- where none is under way
+pub no_task : (o : Option Task) → is_some o ≡ false → o ≡ None
 no_task None e = refl
 no_task (Some t) e = absurd (true≢false e)
 

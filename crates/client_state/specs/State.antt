@@ -45,9 +45,15 @@ pub record State : Type 0 where
   pub cache : Entries
   -- where the bytes of chunks may be found among what is kept
   pub index : Indexed
+  -- the reading of its clock at the last command or message, in milliseconds
+  pub clock : ℕ
+  -- the reading at which a call went out last that may bring a lease
+  pub sent : ℕ
+  -- how far its clock and the server's may drift apart while a lease lasts
+  pub drift : ℕ
 
-abbrev pub start : State
-start = record { linked = false; next_xid = 1; next_temp = 1; opened = []; task = None; forgotten = []; cache = []; index = no_index }
+abbrev pub start_with : (drift : ℕ) → State
+start_with drift = record { linked = false; next_xid = 1; next_temp = 1; opened = []; task = None; forgotten = []; cache = []; index = no_index; clock = 0; sent = 0; drift = drift }
 
 -- ---- what is kept
 

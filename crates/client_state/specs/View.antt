@@ -27,7 +27,7 @@ use Rattle.client_state.specs.declared.task.Way.TheVariants as way
 use Rattle.client_state.specs.declared.task.Way.{Way}
 
 abbrev pub state_of : ClientState → State
-state_of s = record { linked = s.linked; next_xid = s.next_xid; next_temp = s.next_temp; opened = s.opened.entries; task = s.task; forgotten = drop s.own s.waiting.calls; cache = s.cache; index = s.index }
+state_of s = record { linked = s.linked; next_xid = s.next_xid; next_temp = s.next_temp; opened = s.opened.entries; task = s.task; forgotten = drop s.own s.waiting.calls; cache = s.cache; index = s.index; clock = s.clock; sent = s.sent; drift = s.drift }
 
 -- the state, and all calls that wait
 abbrev pub whole_of : ClientState → State × List Pending

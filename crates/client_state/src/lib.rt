@@ -9,6 +9,7 @@
 pub mod bounding;
 pub mod hints;
 pub mod local;
+pub mod noting;
 pub mod parts;
 pub mod state;
 pub mod step;

@@ -57,6 +57,12 @@ pub struct ClientState {
     pub cache: Cache,
     /// Where the bytes of chunks may be found among what is kept.
     pub index: Index,
+    /// The reading of its clock at the last command or message, in milliseconds.
+    pub clock: u64,
+    /// The reading at which a call went out last that may bring a lease.
+    pub sent: u64,
+    /// How far its clock and the server's may drift apart while a lease lasts, in milliseconds.
+    pub drift: u64,
 }
 
 /// By hand, so that the crates above prove nothing of how the parts go.
@@ -72,6 +78,9 @@ impl Drop for ClientState {
             own: _,
             cache,
             index,
+            clock: _,
+            sent: _,
+            drift: _,
         } = self;
         drop(opened);
         drop(task);
@@ -222,7 +231,8 @@ impl ClientState {
         }
     }
 
-    /// As `wait`, where the file's entry in the cache is there, which goes first. An `Err` changes nothing.
+    /// As `wait`, with a call that may bring a lease, for which the file's entry is there in the cache, and
+    /// goes first. An `Err` changes nothing.
     pub fn wait_there(
         &mut self,
         alloc: Global,
@@ -234,7 +244,7 @@ impl ClientState {
         requires rises { self.old.next_xid ≤ next_xid }
         requires xids { HasXids next_xid stage }
         requires within { IsWithin stage }
-        ensures ok { OnOk result (state_of self.new ≡ record (state_of self.old) { next_xid = next_xid; task = Some (record { file = file; stage = stage }); cache = reserved self.old.cache file }) }
+        ensures ok { OnOk result (state_of self.new ≡ record (state_of self.old) { next_xid = next_xid; task = Some (record { file = file; stage = stage }); cache = reserved self.old.cache file; sent = self.old.clock }) }
         ensures err { OnErr result (whole_of self.new ≡ whole_of self.old) }
         ensures sound { OnOk result (IsSound self.new) }
         ensures held { OnErr result (IsHeld self.new) }
@@ -249,6 +259,7 @@ impl ClientState {
         match self.cache.reserve(file) {
             Ok(()) => {
                 self.set_waiting(calls, own, file, stage, next_xid);
+                self.mark_sent();
                 Ok(())
             }
             Err(error) => {
@@ -271,7 +282,7 @@ impl ClientState {
         requires xids { HasXids (self.old.next_xid + 1) (stage.Hashing tries self.old.next_xid) }
         requires within { IsWithin (stage.Hashing tries self.old.next_xid) }
         requires there { IsThere self.old.cache file }
-        ensures ok { OnOk result (state_of self.new ≡ record (forgets (state_of self.old) self.old.waiting.calls xid) { next_xid = self.old.next_xid + 1; task = Some (record { file = file; stage = stage.Hashing tries self.old.next_xid }) }) }
+        ensures ok { OnOk result (state_of self.new ≡ record (forgets (state_of self.old) self.old.waiting.calls xid) { next_xid = self.old.next_xid + 1; task = Some (record { file = file; stage = stage.Hashing tries self.old.next_xid }); sent = self.old.clock }) }
         ensures err { OnErr result (whole_of self.new ≡ whole_of self.old) }
         ensures sound { OnOk result (IsSound self.new) }
         ensures held { OnErr result (IsHeld self.new) }
@@ -281,6 +292,7 @@ impl ClientState {
         self.waiting.calls = calls;
         self.own = 1;
         self.next_xid = asked + 1;
+        self.sent = self.clock;
         let stage = Stage::Hashing { tries, xid: asked };
         let old = self.task.replace(Task { file, stage });
         drop(old);

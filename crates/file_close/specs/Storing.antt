@@ -10,7 +10,7 @@ use Rattle.hash_calls.specs.declared.message.Lb.TheVariants as lb
 use Rattle.wire.specs.declared.message.Body.TheVariants as body
 use Rattle.wire.specs.declared.message.Body.{Body}
 use Rattle.wire.specs.declared.message.Pending.{Pending}
-use Rattle.client_cache.specs.Cache.{reserved, with_content}
+use Rattle.client_cache.specs.Cache.{reserved, with_content, without_note}
 use Rattle.client_state.specs.Counting.{no_counts, sends, sends_one, ends}
 use Rattle.client_state.specs.Ending.{may_ask, forgets, unknown, refused}
 use Rattle.client_state.specs.State.{State, without_local}
@@ -36,9 +36,9 @@ closes s file l = asks_temp s file (may_ask s)
 
 -- ---- the chunks of a close
 
--- CONDWRITEs go out, or COMMITTMP where all chunks are stored: the file then has an entry in the cache for the content that it gets
+-- CONDWRITEs go out, or COMMITTMP where all chunks are stored: the file then has an entry in the cache for the content that it gets, and what was noted of it goes
 abbrev pub goes_if : State → (file : ℕ) → (content : List ℕ) → Names → (is_stored : Bool) → State × ClientStep
-goes_if s file content n true = (record s { next_xid = n.next_xid + 1; cache = reserved s.cache file; task = Some (record { file = file; stage = stage.Committing n.next_xid }) }, sends (n.send ++ commit_call n.next_xid n.store.temp file (length content) ∷ []) (record no_counts { cond_writes = length n.send }))
+goes_if s file content n true = (record s { next_xid = n.next_xid + 1; cache = without_note (reserved s.cache file) file; task = Some (record { file = file; stage = stage.Committing n.next_xid }); sent = s.clock }, sends (n.send ++ commit_call n.next_xid n.store.temp file (length content) ∷ []) (record no_counts { cond_writes = length n.send }))
 goes_if s file content n false = (record s { next_xid = n.next_xid; task = Some (record { file = file; stage = stage.Storing n.store }) }, sends n.send (record no_counts { cond_writes = length n.send }))
 
 abbrev pub goes_on : State → (file : ℕ) → (content : List ℕ) → Store → State × ClientStep

@@ -3,6 +3,7 @@
 
 ghost use Rattle.std.specs.Prelude.{◌≡◌, ◌+◌, ◌<◌, ◌≤◌, length, None, Some, slice_get, IfOk, OnOk, OnErr, false, true};
 ghost use Rattle.client_state.specs.View.{state_of, whole_of, IsHeld, IsSound, IsThere, HasXids, calls_after, store_left, IsStore};
+ghost use Rattle.client_cache.specs.Cache.{reserved, without_note};
 ghost use Rattle.file_close.specs.Closing.{store_of};
 ghost use Rattle.client_state.specs.State.{local_at, local_bytes};
 ghost use Rattle.client_state.specs.Ending.{on_local, may_ask, MayMissOn};
@@ -67,8 +68,28 @@ fn ask_temp(alloc: Global, state: &mut ClientState, file: u64) -> Result<ClientS
     Ok(parts::sends_one(alloc, call, 0))
 }
 
+/// COMMITTMP goes out with this xid, and what was noted of the file goes. An `Err` changes nothing.
+fn wait_commit(
+    alloc: Global,
+    state: &mut ClientState,
+    file: u64,
+    xid: u32,
+) -> Result<(), AllocError>
+    requires held { IsHeld state.old }
+    requires rises { state.old.next_xid ≤ xid }
+    requires xid { xid + 1 < 4294967296 }
+    ensures ok { OnOk result (state_of state.new ≡ record (state_of state.old) { next_xid = xid + 1; cache = without_note (reserved state.old.cache file) file; task = Some (record { file = file; stage = stage.Committing xid }); sent = state.old.clock }) }
+    ensures err { OnErr result (whole_of state.new ≡ whole_of state.old) }
+    ensures sound { OnOk result (IsSound state.new) }
+    ensures held { OnErr result (IsHeld state.new) }
+{
+    state.wait_there(alloc, file, Stage::Committing(xid), xid + 1)?;
+    state.drop_note(file);
+    Ok(())
+}
+
 /// All chunks are stored: COMMITTMP goes out behind what goes out already, which are so many
-/// CONDWRITEs. An `Err` changes nothing.
+/// CONDWRITEs, and what was noted of the file goes. An `Err` changes nothing.
 fn commit(
     alloc: Global,
     state: &mut ClientState,
@@ -95,7 +116,7 @@ fn commit(
     drop(store);
     let size = parts::local_bytes(&state.opened, file).len() as u64;
     calls::send_commit(alloc, next_xid, temp, file, size, &mut send)?;
-    state.wait_there(alloc, file, Stage::Committing(next_xid), next_xid + 1)?;
+    wait_commit(alloc, state, file, next_xid)?;
     Ok(parts::sends(send, stores::names_counted(count)))
 }
 

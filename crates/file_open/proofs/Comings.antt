@@ -1,6 +1,6 @@
 -- A step that was to come, whether places are wanting in the index or not.
 use Rattle.std.proofs.Common.{◌≡◌, sym, ap, subst, ◌∙◌, ℕ, Bool, true, false}
-use Rattle.std.specs.Prelude.{Option, Some, Result, Ok, Err, IfOk}
+use Rattle.std.specs.Prelude.{Option, Some, Result, Ok, Err, IfOk, OnErr}
 use Rattle.chunk_index.specs.Index.{Indexed}
 use Rattle.chunk_places.specs.Places.{indexed, LeavesSome}
 use Rattle.wire.specs.declared.message.Message.{Message}
@@ -49,3 +49,8 @@ comes_at old e comes new step missed index gains all lacks rest said none =
 -- one message was sent, behind a change of the state
 pub sent_one : (s new : State) (step : ClientStep) (m call : Message) (bytes : ℕ) → new ≡ s → step ≡ sends_one call bytes → call ≡ m → ◌≡◌ {A = State × ClientStep} (s, sends_one m bytes) (new, step)
 sent_one s new step m call bytes is said same = sym (ap (λ (t : State). (t, step)) is ∙ ap (λ (a : ClientStep). (s, a)) (said ∙ ap (λ (n : Message). sends_one n bytes) same))
+
+-- an error comes only where both hold
+pub on_err_both : {E : Type 0} (r : Result ClientStep E) (P Q : Type 0) → P → OnErr r Q → OnErr r (P × Q)
+on_err_both (Ok a) P Q p q = tt
+on_err_both (Err e) P Q p q = (p, q)

@@ -9,10 +9,10 @@ use Rattle.chunk_cut.specs.declared.chunk.Chunk.{Chunk}
 use Rattle.chunk_index.specs.Index.{Indexed, key_of, place_of}
 use Rattle.chunk_index.specs.declared.place.Place.{Place}
 use Rattle.client_cache.proofs.Held.{at_kept}
-use Rattle.client_cache.specs.Cache.{Entries, kept_of, content_of, bytes_in, content_in as content_in_kept}
+use Rattle.client_cache.specs.Cache.{Entries, kept_of, content_of, fresh_of, bytes_in, content_in as content_in_kept}
 use Rattle.client_cache.specs.declared.kept.Content.{Content}
 use Rattle.client_cache.specs.declared.kept.Kept.{Kept}
-use Rattle.file_open.specs.Caching.{content_in, bytes_there, with_digest, from_index}
+use Rattle.file_open.specs.Caching.{content_in, fresh_if, fresh_content, bytes_there, with_digest, from_index}
 use Rattle.client_state.specs.Counting.{sends_one}
 use Rattle.file_open.specs.Opening.{lease_call}
 use Rattle.transfer_rules.specs.Limits.{file_limit}
@@ -72,12 +72,33 @@ content_small cache file version bytes h e = by (kept_of cache file) refl e
     by None is e = absurd (none_some e)
     by (Some k) is e = within k.content (at_kept IsKeptBounded cache file k h is) e
 
+pub fresh_small : (cache : Entries) (file now : ℕ) (c : Content) → All IsKeptBounded cache → fresh_content cache file now ≡ Some c → length c.bytes ≤ file_limit
+fresh_small cache file now c h e = by (kept_of cache file) refl e
+  where
+    some_same : (x : Content) → Some x ≡ Some c → x ≡ c
+    some_same x e = cc
+
+    no_content : None ≡ Some c → ⊥
+    no_content e = cc
+
+    inside : (x : Content) → length x.bytes ≤ file_limit → (t : Bool) → (if t then Some x else None) ≡ Some c → length c.bytes ≤ file_limit
+    inside x small true e = subst (λ (y : Content). length y.bytes ≤ file_limit) (some_same x e) small
+    inside x small false e = absurd (no_content e)
+
+    within : (o : Option Content) → IsContentBounded o → fresh_if (is_some (fresh_of cache file now)) o ≡ Some c → length c.bytes ≤ file_limit
+    within None b e = absurd (no_content e)
+    within (Some x) b e = inside x b (is_some (fresh_of cache file now) && not (x.version == 0)) e
+
+    by : (o : Option Kept) → kept_of cache file ≡ o → fresh_if (is_some (fresh_of cache file now)) (content_in_kept o) ≡ Some c → length c.bytes ≤ file_limit
+    by None is e = absurd (no_content e)
+    by (Some k) is e = within k.content (at_kept IsKeptBounded cache file k h is) e
+
 -- ---- what an open asks for
 
 apart : false ≡ true → ⊥
 apart e = cc
 
-pub asks_version : (s : State) (file : ℕ) (o : Option Content) → is_some o ≡ true → asks_kept s file o ≡ (record s { next_xid = s.next_xid + 1; task = Some (record { file = file; stage = stage.Asking s.next_xid }) }, sends_one (lease_call s.next_xid file) 0)
+pub asks_version : (s : State) (file : ℕ) (o : Option Content) → is_some o ≡ true → asks_kept s file o ≡ (record s { next_xid = s.next_xid + 1; task = Some (record { file = file; stage = stage.Asking s.next_xid }); sent = s.clock }, sends_one (lease_call s.next_xid file) 0)
 asks_version s file None e = absurd (apart e)
 asks_version s file (Some c) e = refl
 

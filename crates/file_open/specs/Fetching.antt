@@ -25,7 +25,7 @@ use Rattle.client_state.specs.declared.task.Fetch.{Fetch}
 use Rattle.client_state.specs.declared.task.ReadCall.{ReadCall}
 use Rattle.client_state.specs.declared.task.Stage.TheVariants as stage
 use Rattle.client_state.specs.declared.task.Task.{Task}
-use Rattle.file_open.specs.Caching.{content_in, found_all}
+use Rattle.file_open.specs.Caching.{content_in, fresh_content, found_all}
 use Rattle.file_open.specs.Looking.{Entering}
 use Rattle.file_open.specs.Opening.{lease_call, hash_call, fetch_of, with_hashes, listed, Reads, reads_all, looked_up, is_here, slots_bytes, fault_in, other_version, with_bytes}
 use Rattle.file_open.specs.Shape.{Broken, broken_of}
@@ -34,21 +34,38 @@ use Rattle.file_open.specs.Shape.{Broken, broken_of}
 
 -- an attempt begins: its first GETHASH goes out, after so many bytes of a READ came
 abbrev pub tries_anew : State → (file tries bytes : ℕ) → State × ClientStep
-tries_anew s file tries bytes = (record s { next_xid = s.next_xid + 1; task = Some (record { file = file; stage = stage.Hashing tries s.next_xid }) }, sends_one (hash_call s.next_xid file 0) bytes)
+tries_anew s file tries bytes = (record s { next_xid = s.next_xid + 1; task = Some (record { file = file; stage = stage.Hashing tries s.next_xid }); sent = s.clock }, sends_one (hash_call s.next_xid file 0) bytes)
 
 -- a content that is kept is asked for by its version, and else the file by its chunks
 abbrev pub asks_kept : State → (file : ℕ) → (kept : Option Content) → State × ClientStep
 asks_kept s file None = tries_anew s file 1 0
-asks_kept s file (Some c) = (record s { next_xid = s.next_xid + 1; task = Some (record { file = file; stage = stage.Asking s.next_xid }) }, sends_one (lease_call s.next_xid file) 0)
+asks_kept s file (Some c) = (record s { next_xid = s.next_xid + 1; task = Some (record { file = file; stage = stage.Asking s.next_xid }); sent = s.clock }, sends_one (lease_call s.next_xid file) 0)
 
 -- the file's entry comes first in the cache, and is there for what the answers bring
 abbrev pub asks_file : State → (file : ℕ) → (may_ask : Bool) → State × ClientStep
 asks_file s file true = asks_kept (record s { cache = reserved s.cache file }) file (content_of s.cache file)
 asks_file s file false = (s, ends outcome.NoLink 0 0)
 
+-- a content that is kept is open again, resting on the call with this xid
+abbrev pub reopens : State → (file version : ℕ) → (bytes : List ℕ) → (rests_on : ℕ) → State × ClientStep
+reopens s file version bytes rests_on = (record s { opened = with_local s.opened file (record { version = version; bytes = bytes }) }, ends (outcome.Opened file (length bytes) (sha1 bytes)) rests_on 0)
+
+-- one that is fresh is opened at once: nobody is asked, and it rests on no call
+abbrev pub opens_fresh : State → (file : ℕ) → Content → State × ClientStep
+opens_fresh s file c = reopens s file c.version c.bytes 0
+
+abbrev pub opens_kept : State → (file : ℕ) → (fresh : Option Content) → State × ClientStep
+opens_kept s file (Some c) = opens_fresh s file c
+opens_kept s file None = asks_file s file (may_ask s)
+
 abbrev pub opens_if : State → ℕ → Bool → State × ClientStep
 opens_if s file true = (s, ends outcome.AlreadyOpen 0 0)
-opens_if s file false = asks_file s file (may_ask s)
+opens_if s file false = opens_kept s file (fresh_content s.cache file s.clock)
+
+-- the file is one that a path was found to stand for, by the answer with this xid
+abbrev pub finds_kept : State → (calls : List Pending) → (xid file : ℕ) → (fresh : Option Content) → State × ClientStep
+finds_kept s calls xid file (Some c) = opens_fresh (forgets s calls xid) file c
+finds_kept s calls xid file None = asks_file s file true
 
 abbrev pub opens : State → ℕ → Option Task → State × ClientStep
 opens s file (Some t) = (s, ends outcome.Busy 0 0)
@@ -85,7 +102,7 @@ reads_on s calls file xid f bytes =
 -- the further chunks are asked for, from the end of the last one on, or all are told
 abbrev pub lists_on : State → (calls : List Pending) → (file xid : ℕ) → Fetch → (eof : Bool) → State × ClientStep
 lists_on s calls file xid f true = reads_on s calls file xid (listed f) 0
-lists_on s calls file xid f false = (record s { next_xid = s.next_xid + 1; task = Some (record { file = file; stage = stage.Listing s.next_xid f }) }, sends_one (hash_call s.next_xid file (end_of f.chunks)) 0)
+lists_on s calls file xid f false = (record s { next_xid = s.next_xid + 1; task = Some (record { file = file; stage = stage.Listing s.next_xid f }); sent = s.clock }, sends_one (hash_call s.next_xid file (end_of f.chunks)) 0)
 
 abbrev pub told_shape : State → (calls : List Pending) → (file xid : ℕ) → Fetch → Hashes → Broken → State × ClientStep
 told_shape s calls file xid f h None = lists_on s calls file xid (with_hashes f h) h.eof
@@ -108,7 +125,7 @@ told_first s calls file xid tries (Done h) = told_hashes s calls file xid (fetch
 
 -- one that is kept in the file's version is opened again, and else the file is fetched
 abbrev pub uses_kept : State → (calls : List Pending) → (file xid version : ℕ) → (kept : Option (List ℕ)) → State × ClientStep
-uses_kept s calls file xid version (Some bytes) = (record (forgets s calls xid) { opened = with_local s.opened file (record { version = version; bytes = bytes }) }, ends (outcome.Opened file (length bytes) (sha1 bytes)) xid 0)
+uses_kept s calls file xid version (Some bytes) = reopens (forgets s calls xid) file version bytes xid
 uses_kept s calls file xid version None = tries_anew (forgets s calls xid) file 1 0
 
 -- what was asked for may have been dropped meanwhile
@@ -138,9 +155,13 @@ told_piece s calls file xid f piece (Some c) = told_chunk s calls file xid f c p
 
 -- ---- want of memory
 
--- an open takes memory only where it asks for the file
+-- an open takes memory only where it opens what is fresh, or asks for the file
+abbrev pub MayMissKept : State → (fresh : Option Content) → Type 0
+MayMissKept s (Some c) = Unit {0}
+MayMissKept s None = may_ask s ≡ true
+
 abbrev pub MayMissOpen : State → ℕ → Option Task → Type 0
-MayMissOpen s file None = (is_open s.opened file ≡ false) × (may_ask s ≡ true)
+MayMissOpen s file None = (is_open s.opened file ≡ false) × MayMissKept s (fresh_content s.cache file s.clock)
 MayMissOpen s file (Some t) = ⊥
 
 -- the operation under way has ended, and this is the index of chunks

@@ -1,8 +1,8 @@
 //! What the index gives of a chunk among what is kept of files: `specs/Caching.antt`.
 
 ghost use Rattle.std.specs.Prelude.{◌≡◌, ◌-◌, ◌≤◌, length, take, drop, is_some, IfOk, false, true};
-ghost use Rattle.client_cache.specs.Cache.{content_of};
-ghost use Rattle.file_open.specs.Caching.{found_all, content_in, bytes_there, from_index};
+ghost use Rattle.client_cache.specs.Cache.{content_of, fresh_of, lent};
+ghost use Rattle.file_open.specs.Caching.{found_all, content_in, fresh_content, bytes_there, from_index};
 ghost use Rattle.std.specs.Option.{option_copied};
 ghost use Rattle.chunk_places.specs.Places.{indexed, LeavesSome};
 
@@ -24,6 +24,32 @@ pub fn is_kept(cache: &Cache, file: u64) -> bool
     match cache.content(file) {
         Some(_) => true,
         None => false,
+    }
+}
+
+/// Whether a content is kept of a file whose note of that version hasn't ended.
+fn is_fresh(cache: &Cache, file: u64, now: u64) -> bool
+    ensures { result ≡ is_some (fresh_of cache.now file now) }
+{
+    match cache.fresh(file, now) {
+        Some(_) => true,
+        None => false,
+    }
+}
+
+/// The content that is kept of a file, with its version, where it is fresh: nobody needs to be asked. What is
+/// no file's has the version 0, and isn't lent, whatever a server told. It takes no memory.
+pub fn fresh(cache: &Cache, file: u64, now: u64) -> Option<(u64, &SharedBytes)>
+    ensures { lent result ≡ fresh_content cache.now file now }
+{
+    let is_fresh = is_fresh(cache, file, now);
+    let Some((version, bytes)) = cache.content(file) else {
+        return None;
+    };
+    if is_fresh && version != 0 {
+        Some((version, bytes))
+    } else {
+        None
     }
 }
 

@@ -3,7 +3,8 @@
 
 ghost use Rattle.std.specs.Prelude.{◌≡◌, ◌≤◌, length, None, Some, IfOk, OnOk, OnErr, false};
 ghost use Rattle.client_cache.specs.Cache.{content_of, with_content};
-ghost use Rattle.file_open.specs.Fetching.{uses_kept};
+ghost use Rattle.file_open.specs.Fetching.{opens_fresh, reopens, uses_kept};
+ghost use Rattle.client_state.specs.Ending.{forgets};
 ghost use Rattle.client_state.specs.View.{state_of, whole_of, IsHeld, IsSound, IsThere, HasXids};
 ghost use Rattle.limits.specs.declared.TheConstants.{FILE_MOST};
 ghost use Rattle.sha1.specs.Sha1.{sha1};
@@ -38,6 +39,7 @@ fn put_open(
     ensures rest { OnOk result (state_of state.new ≡ record (state_of state.old) { opened = with_local state.old.opened.entries file (record { version = version; bytes = content }) }) }
     ensures err { OnErr result (state_of state.new ≡ state_of state.old) }
     ensures waiting { state.new.waiting ≡ state.old.waiting }
+    ensures own { state.new.own ≡ state.old.own }
     ensures cache { state.new.cache ≡ state.old.cache }
     ensures index { state.new.index ≡ state.old.index }
     ensures held { IsHeld state.new }
@@ -75,25 +77,48 @@ pub fn keep_open(
     Ok(step)
 }
 
-/// A content that is kept is open again. An `Err` changes nothing.
-fn use_kept(
+/// A content that is kept is open again by the answer with this xid, and this is what that rests on. An
+/// `Err` changes nothing.
+pub fn use_kept(
     alloc: Global,
     state: &mut ClientState,
     file: u64,
     xid: u32,
     version: u64,
     bytes: SharedBytes,
+    rests_on: u32,
 ) -> Result<ClientStep, AllocError>
     requires held { IsHeld state.old }
     requires small { length bytes ≤ FILE_MOST }
-    ensures ok { IfOk result (λ a. uses_kept (state_of state.old) state.old.waiting.calls file xid version (Some bytes) ≡ (state_of state.new, a)) }
+    ensures ok { IfOk result (λ a. reopens (forgets (state_of state.old) state.old.waiting.calls xid) file version bytes rests_on ≡ (state_of state.new, a)) }
     ensures done { IfOk result (λ a. a.missed ≡ false) }
     ensures err { OnErr result (whole_of state.new ≡ whole_of state.old) }
     ensures sound { OnOk result (IsSound state.new) }
     ensures held { OnErr result (IsHeld state.new) }
 {
-    let step = put_open(alloc, state, file, version, bytes, xid, 0)?;
+    let step = put_open(alloc, state, file, version, bytes, rests_on, 0)?;
     state.forget(alloc, xid);
+    Ok(step)
+}
+
+/// A content that is fresh is opened by a command. An `Err` changes nothing.
+#[tactic(auto, using(client_state::proofs::Pending::held_of, client_state::proofs::Pending::sound_kept))]
+pub fn open_fresh(
+    alloc: Global,
+    state: &mut ClientState,
+    file: u64,
+    version: u64,
+    bytes: SharedBytes,
+) -> Result<ClientStep, AllocError>
+    requires sound { IsSound state.old }
+    requires idle { state.old.task ≡ None }
+    requires small { length bytes ≤ FILE_MOST }
+    ensures ok { IfOk result (λ a. opens_fresh (state_of state.old) file (record { version = version; bytes = bytes }) ≡ (state_of state.new, a)) }
+    ensures done { IfOk result (λ a. a.missed ≡ false) }
+    ensures err { OnErr result (state_of state.new ≡ state_of state.old) }
+    ensures sound { IsSound state.new }
+{
+    let step = put_open(alloc, state, file, version, bytes, 0, 0)?;
     Ok(step)
 }
 
@@ -117,7 +142,7 @@ pub fn told_leased(
     ensures held { OnErr result (IsHeld state.new) }
 {
     match caching::content_in(&state.cache, file, version)? {
-        Some(bytes) => use_kept(alloc, state, file, xid, version, bytes),
+        Some(bytes) => use_kept(alloc, state, file, xid, version, bytes, xid),
         None => opening::retry(alloc, state, file, 0, xid, 0),
     }
 }

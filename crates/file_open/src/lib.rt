@@ -5,7 +5,7 @@
 //! `specs/Fetching.antt` what is done at each answer.
 #![tactic(auto)]
 
-mod caching;
+pub mod caching;
 mod calls;
 mod faults;
 pub mod fetch;

@@ -2,13 +2,13 @@
 //! `specs/Opening.antt` and `specs/Fetching.antt` say how.
 
 ghost use Rattle.std.specs.Prelude.{◌≡◌, ◌+◌, ◌-◌, ◌<◌, ◌≤◌, ◌==◌, length, take, drop, None, Some, slice_get, IfOk, OnOk, OnErr, false, true};
-ghost use Rattle.file_open.specs.Caching.{found_all};
+ghost use Rattle.file_open.specs.Caching.{found_all, fresh_content};
 ghost use Rattle.file_open.specs.Opening.{read_at, fault_in, with_hashes};
 ghost use Rattle.transfer_rules.specs.Limits.{tries_most};
 ghost use Rattle.file_open.specs.Looking.{with_file, listed_if, listed_by, taken_if, taken_by, entering_by};
 ghost use Rattle.file_open.specs.Shape.{broken_of};
-ghost use Rattle.file_open.specs.Fetching.{opens, asks_file, MayMissOpen, Comes, tries_anew, opened_with, changes, reads_if, reads_on, lists_on, told_version, told_bytes, told_piece};
-ghost use Rattle.client_state.specs.Ending.{forgets};
+ghost use Rattle.file_open.specs.Fetching.{opens, opens_kept, finds_kept, asks_file, MayMissOpen, MayMissKept, Comes, tries_anew, opened_with, changes, reads_if, reads_on, lists_on, told_version, told_bytes, told_piece};
+ghost use Rattle.client_state.specs.Ending.{forgets, may_ask};
 ghost use Rattle.client_state.specs.View.{state_of, whole_of, later_left, IsListing, IsReading, IsHeld, IsSound, IsThere, HasXids};
 ghost use Rattle.client_state.specs.declared.task.Stage.TheVariants as stage;
 
@@ -26,8 +26,8 @@ use transfer_rules::chunks::chunk_at;
 use transfer_rules::{bounds, pieces};
 use xdr_codec::handle::Handle;
 
-/// A command to open a file. An `Err` changes nothing, and comes only where the file is asked for.
-#[tactic(auto, using(client_state::proofs::Pending::held_of, client_state::proofs::Pending::sound_again))]
+/// A command to open a file. Where its content is fresh nobody is asked. An `Err` changes nothing, and comes
+/// only where a fresh content is opened or the file is asked for.
 pub fn open(alloc: Global, state: &mut ClientState, file: u64) -> Result<ClientStep, AllocError>
     requires { IsSound state.old }
     ensures ok { IfOk result (λ a. opens (state_of state.old) file state.old.task ≡ (state_of state.new, a)) }
@@ -42,15 +42,74 @@ pub fn open(alloc: Global, state: &mut ClientState, file: u64) -> Result<ClientS
     if parts::is_open(&state.opened, file) {
         return Ok(parts::ends(alloc, Outcome::AlreadyOpen, 0, 0));
     }
+    open_kept(alloc, state, file)
+}
+
+/// A file that isn't open is opened at once, where its content is fresh, or asked for. An `Err` changes
+/// nothing.
+fn open_kept(alloc: Global, state: &mut ClientState, file: u64) -> Result<ClientStep, AllocError>
+    requires sound { IsSound state.old }
+    requires idle { state.old.task ≡ None }
+    ensures ok { IfOk result (λ a. opens_kept (state_of state.old) file (fresh_content state.old.cache file state.old.clock) ≡ (state_of state.new, a)) }
+    ensures done { IfOk result (λ a. a.missed ≡ false) }
+    ensures err { OnErr result (state_of state.new ≡ state_of state.old) }
+    ensures sure { OnErr result (MayMissKept (state_of state.old) (fresh_content state.old.cache file state.old.clock)) }
+    ensures sound { IsSound state.new }
+{
+    match caching::fresh(&state.cache, file, state.clock) {
+        Some((version, bytes)) => {
+            let bytes = bytes.share()?;
+            kept::open_fresh(alloc, state, file, version, bytes)
+        }
+        None => ask_linked(alloc, state, file),
+    }
+}
+
+/// A file is asked for, where a connection is joined. An `Err` changes nothing.
+#[tactic(auto, using(client_state::proofs::Pending::held_of, client_state::proofs::Pending::sound_again))]
+fn ask_linked(alloc: Global, state: &mut ClientState, file: u64) -> Result<ClientStep, AllocError>
+    requires sound { IsSound state.old }
+    requires idle { state.old.task ≡ None }
+    ensures ok { IfOk result (λ a. asks_file (state_of state.old) file (may_ask (state_of state.old)) ≡ (state_of state.new, a)) }
+    ensures done { IfOk result (λ a. a.missed ≡ false) }
+    ensures err { OnErr result (state_of state.new ≡ state_of state.old) }
+    ensures sure { OnErr result (may_ask (state_of state.old) ≡ true) }
+    ensures sound { IsSound state.new }
+{
     if !state.may_ask() {
         return Ok(parts::ends(alloc, Outcome::NoLink, 0, 0));
     }
     ask_file(alloc, state, file)
 }
 
+/// A file that a path was found to stand for, by the answer with this xid, and which isn't open: it is opened
+/// at once, where its content is fresh, or asked for. An `Err` changes nothing.
+pub fn open_found(
+    alloc: Global,
+    state: &mut ClientState,
+    xid: u32,
+    file: u64,
+) -> Result<ClientStep, AllocError>
+    requires held { IsHeld state.old }
+    requires xids { HasXids (state.old.next_xid + 1) (stage.Asking 0) }
+    ensures ok { IfOk result (λ a. finds_kept (state_of state.old) state.old.waiting.calls xid file (fresh_content state.old.cache file state.old.clock) ≡ (state_of state.new, a)) }
+    ensures done { IfOk result (λ a. a.missed ≡ false) }
+    ensures err { OnErr result (whole_of state.new ≡ whole_of state.old) }
+    ensures sound { OnOk result (IsSound state.new) }
+    ensures held { OnErr result (IsHeld state.new) }
+{
+    match caching::fresh(&state.cache, file, state.clock) {
+        Some((version, bytes)) => {
+            let bytes = bytes.share()?;
+            kept::use_kept(alloc, state, file, xid, version, bytes, 0)
+        }
+        None => ask_file(alloc, state, file),
+    }
+}
+
 /// The file is asked for: by its version where a content is kept, else by its chunks. An `Err`
 /// changes nothing.
-pub fn ask_file(alloc: Global, state: &mut ClientState, file: u64) -> Result<ClientStep, AllocError>
+fn ask_file(alloc: Global, state: &mut ClientState, file: u64) -> Result<ClientStep, AllocError>
     requires held { IsHeld state.old }
     requires xids { HasXids (state.old.next_xid + 1) (stage.Asking 0) }
     ensures ok { IfOk result (λ a. asks_file (state_of state.old) file true ≡ (state_of state.new, a)) }
@@ -254,6 +313,7 @@ fn list_on(
     let offset = shape::end_of(fetch.chunks.as_slice());
     let handle = Handle::of_file(alloc, file)?;
     state.wait(alloc, file, Stage::Listing { xid, fetch }, xid + 1)?;
+    state.mark_sent();
     let call = messages::hash_call(xid, handle, offset);
     Ok(parts::sends_one(alloc, call, 0))
 }

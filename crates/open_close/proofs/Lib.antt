@@ -1,1 +1,4 @@
+pub mod Calls
+mod Clocks
+pub mod Notings
 pub mod Walks

@@ -1,4 +1,5 @@
 pub mod Walking
 pub mod Step
 pub mod Hashed
+pub mod LeaseRows
 pub mod Rows

@@ -41,9 +41,13 @@ use Rattle.file_open.specs.Looking.{Entering, entering}
 use Rattle.transfer_rules.specs.Limits.{calls_most}
 use Rattle.file_open.specs.Opening.{lease_call, hash_call, read_call}
 use Rattle.file_open.specs.Shape.{with_pairs}
-use Rattle.client_state.specs.State.{State, start, read_pending, evicted, forged, index_cleared}
+use Rattle.client_state.specs.State.{State, start_with, read_pending, evicted, forged, index_cleared}
 use Rattle.open_close.specs.Step.{command_step, got_step}
 use Rattle.client_state.specs.Ending.{joined, cut}
+
+-- clocks may drift apart by 100 ms
+abbrev start : State
+start = start_with 100
 
 -- ---- a run
 

@@ -6,6 +6,9 @@ use Rattle.command_text.specs.declared.command.Command.TheVariants as command
 use Rattle.command_text.specs.declared.command.Command.{Command}
 use Rattle.command_text.specs.declared.content.Part.{Part}
 use Rattle.xdr_codec.specs.declared.answer.Answer.TheVariants.{Done, Failed}
+use Rattle.xdr_codec.specs.Handle.{file_of}
+use Rattle.hash_calls.specs.declared.message.Back.{Back}
+use Rattle.hash_calls.specs.declared.message.Back.TheVariants as back
 use Rattle.hash_calls.specs.declared.message.Lb.TheVariants as lb
 use Rattle.nfs3_calls.specs.declared.message.Nfs.TheVariants as nfs
 use Rattle.wire.specs.declared.fault.WireFault.TheVariants as wire
@@ -19,6 +22,8 @@ use Rattle.wire.specs.declared.message.RpcRefusal.{RpcRefusal}
 use Rattle.client_state.specs.Counting.{misses, by_memory, nothing_done, sends_one, ends}
 use Rattle.client_state.specs.Ending.{may_ask, on_local, idle, forgets, bad_peer, unknown, refused, denied, cut_off, drops, MayMissOn}
 use Rattle.client_state.specs.Local.{local_most, written_size, written, truncated, part_of}
+use Rattle.client_state.specs.Noting.{at, unnoted, noting}
+use Rattle.client_state.specs.declared.noting.Granted.{Granted}
 use Rattle.client_state.specs.State.{State, local_at, with_local, without_local, local_bytes, pending, calls_of, has_call}
 use Rattle.client_state.specs.declared.step.BadPeer.TheVariants as bad
 use Rattle.client_state.specs.declared.step.BadPeer.{BadPeer}
@@ -61,33 +66,49 @@ reads s offset count l = let piece : List ℕ = part_of l.bytes offset count in 
 abbrev pub abandons : State → (file : ℕ) → Local → State × ClientStep
 abandons s file l = (record s { opened = without_local s.opened file }, ends outcome.Done 0 0)
 
+abbrev pub does : State → Command → State × ClientStep
+does s (command.Open file) = opens s file s.task
+does s (command.Rewrite file) = rewrites s file s.task
+does s (command.Write file offset content) = on_local s s.task (local_at s.opened file) (writes s file offset content)
+does s (command.Trunc file size) = on_local s s.task (local_at s.opened file) (truncates s file size)
+does s (command.Read file offset count) = on_local s s.task (local_at s.opened file) (reads s offset count)
+does s (command.Close file) = on_local s s.task (local_at s.opened file) (closes s file)
+does s (command.Abandon file) = on_local s s.task (local_at s.opened file) (abandons s file)
+does s (command.Named c) = walks s c s.task
+
 -- a command, at a reading of the client's clock
 abbrev pub command_step : State → Command → (now : ℕ) → State × ClientStep
-command_step s (command.Open file) now = opens s file s.task
-command_step s (command.Rewrite file) now = rewrites s file s.task
-command_step s (command.Write file offset content) now = on_local s s.task (local_at s.opened file) (writes s file offset content)
-command_step s (command.Trunc file size) now = on_local s s.task (local_at s.opened file) (truncates s file size)
-command_step s (command.Read file offset count) now = on_local s s.task (local_at s.opened file) (reads s offset count)
-command_step s (command.Close file) now = on_local s s.task (local_at s.opened file) (closes s file)
-command_step s (command.Abandon file) now = on_local s s.task (local_at s.opened file) (abandons s file)
-command_step s (command.Named c) now = walks s c s.task
+command_step s c now = does (at s now) c
 
 -- ---- a message
 
--- an answer to a call of the operation under way
+-- the lease that an answer grants beside what it tells, where a call is under way that asked for it
+abbrev pub lease_in : Stage → Body → Option Granted
+lease_in (stage.Asking asked) (body.Lb (lb.GetLeaseAnswer (Done l))) = Some (record { version = l.version; term = l.term })
+lease_in (stage.Rewriting asked) (body.Lb (lb.GetLeaseAnswer (Done l))) = Some (record { version = l.version; term = l.term })
+lease_in (stage.Hashing tries asked) (body.Lb (lb.GetHashAnswer (Done h))) = Some (record { version = h.version; term = h.term })
+lease_in (stage.Listing asked f) (body.Lb (lb.GetHashAnswer (Done h))) = Some (record { version = h.version; term = h.term })
+lease_in (stage.Committing asked) (body.Lb (lb.CommitTmpAnswer (Done c))) = Some (record { version = c.version; term = c.term })
+lease_in p b = None
+
+-- what an answer to a call of the operation under way tells
+abbrev pub takes : State → (calls : List Pending) → (file : ℕ) → Stage → (xid : ℕ) → Body → State × ClientStep
+takes s calls file (stage.Asking asked) xid (body.Lb (lb.GetLeaseAnswer a)) = told_lease s calls file xid a
+takes s calls file (stage.Rewriting asked) xid (body.Lb (lb.GetLeaseAnswer a)) = told_anew s calls file xid a
+takes s calls file (stage.Hashing tries asked) xid (body.Lb (lb.GetHashAnswer a)) = told_first s calls file xid tries a
+takes s calls file (stage.Listing asked f) xid (body.Lb (lb.GetHashAnswer a)) = told_hashes s calls file xid f a
+takes s calls file (stage.Reading f) xid (body.Nfs (nfs.ReadAnswer (Failed status a))) = refused s calls xid status
+takes s calls file (stage.Reading f) xid (body.Nfs (nfs.ReadAnswer (Done piece))) = told_piece s calls file xid f piece (read_at f.under xid)
+takes s calls file (stage.Making asked temp) xid (body.Lb (lb.MkTmpFileAnswer a)) = told_temp s calls file xid temp (local_bytes s.opened file) a
+takes s calls file (stage.Storing st) xid b = told_stored s calls file xid (local_bytes s.opened file) st b (store_at st.under xid)
+takes s calls file (stage.Committing asked) xid (body.Lb (lb.CommitTmpAnswer (Failed status u))) = refused s calls xid status
+takes s calls file (stage.Committing asked) xid (body.Lb (lb.CommitTmpAnswer (Done c))) = closed s calls file xid c.version (local_bytes s.opened file)
+takes s calls file (stage.Walking asked w) xid (body.Nfs a) = told_walk s calls xid w a (is_its w a)
+takes s calls file p xid b = unknown s xid
+
+-- the lease that it grants is noted, by the reading at which its call went out, before another may
 abbrev pub took : State → (calls : List Pending) → (file : ℕ) → Stage → (xid : ℕ) → Body → State × ClientStep
-took s calls file (stage.Asking asked) xid (body.Lb (lb.GetLeaseAnswer a)) = told_lease s calls file xid a
-took s calls file (stage.Rewriting asked) xid (body.Lb (lb.GetLeaseAnswer a)) = told_anew s calls file xid a
-took s calls file (stage.Hashing tries asked) xid (body.Lb (lb.GetHashAnswer a)) = told_first s calls file xid tries a
-took s calls file (stage.Listing asked f) xid (body.Lb (lb.GetHashAnswer a)) = told_hashes s calls file xid f a
-took s calls file (stage.Reading f) xid (body.Nfs (nfs.ReadAnswer (Failed status a))) = refused s calls xid status
-took s calls file (stage.Reading f) xid (body.Nfs (nfs.ReadAnswer (Done piece))) = told_piece s calls file xid f piece (read_at f.under xid)
-took s calls file (stage.Making asked temp) xid (body.Lb (lb.MkTmpFileAnswer a)) = told_temp s calls file xid temp (local_bytes s.opened file) a
-took s calls file (stage.Storing st) xid b = told_stored s calls file xid (local_bytes s.opened file) st b (store_at st.under xid)
-took s calls file (stage.Committing asked) xid (body.Lb (lb.CommitTmpAnswer (Failed status u))) = refused s calls xid status
-took s calls file (stage.Committing asked) xid (body.Lb (lb.CommitTmpAnswer (Done c))) = closed s calls file xid c.version (local_bytes s.opened file)
-took s calls file (stage.Walking asked w) xid (body.Nfs a) = told_walk s calls xid w a (is_its w a)
-took s calls file p xid b = unknown s xid
+took s calls file p xid b = noting s.sent file (lease_in p b) (takes s calls file p xid b)
 
 abbrev pub took_if : State → Option Task → (xid : ℕ) → Body → (is_own : Bool) → State × ClientStep
 took_if s (Some t) xid b true = took (idle s) (calls_of s) t.file t.stage xid b
@@ -97,12 +118,28 @@ abbrev pub denied_if : State → Option Task → (xid : ℕ) → RpcRefusal → 
 denied_if s (Some t) xid r true = denied (idle s) (calls_of s) xid r
 denied_if s task xid r is_own = drops s task xid (has_call s.forgotten xid)
 
+-- the lease on a file is asked for back: what is noted of it goes
+abbrev pub recalls : State → Option ℕ → State
+recalls s None = s
+recalls s (Some file) = unnoted s file
+
+-- A call of the callback program is answered at any moment, and the operation under way goes on.
+abbrev pub called_back : State → (xid : ℕ) → Back → State × ClientStep
+called_back s xid (back.Recall handle) = (recalls s (file_of handle), sends_one (message.Answer xid (body.Back back.RecallAnswer)) 0)
+called_back s xid back.Null = (s, sends_one (message.Answer xid (body.Back back.NullAnswer)) 0)
+called_back s xid b = (s, nothing_done)
+
+-- no other program is the client's
+abbrev pub called : State → (xid : ℕ) → Body → State × ClientStep
+called s xid (body.Back b) = called_back s xid b
+called s xid b = (s, nothing_done)
+
 -- an answer takes the operation under way, and its step says what is under way then
 abbrev pub got_message : State → Option Task → Message → State × ClientStep
 got_message s task (message.Answer xid b) = took_if s task xid b (has_call (pending task) xid)
 got_message s task (message.Refuse xid r) = denied_if s task xid r (has_call (pending task) xid)
 got_message s task (message.Unfit xid r) = (s, sends_one (message.Refuse xid r) 0)
-got_message s task (message.Call xid b) = (s, nothing_done)
+got_message s task (message.Call xid b) = called s xid b
 
 abbrev pub fault_of : WireFault → BadPeer
 fault_of (wire.NotRpc at) = bad.Garbage at
@@ -113,10 +150,14 @@ abbrev pub got_fault : State → Option Task → WireFault → State × ClientSt
 got_fault s (Some t) e = bad_peer s (fault_of e) 0
 got_fault s None e = cut_off s
 
--- what comes from the other end, at a reading of the client's clock: a message, or why a record is none
+-- what comes from the other end: a message, or why a record is none
+abbrev pub hears : State → Result Message WireFault → State × ClientStep
+hears s (Ok m) = got_message s s.task m
+hears s (Err e) = got_fault s s.task e
+
+-- at a reading of the client's clock
 abbrev pub got_step : State → Result Message WireFault → (now : ℕ) → State × ClientStep
-got_step s (Ok m) now = got_message s s.task m
-got_step s (Err e) now = got_fault s s.task e
+got_step s m now = hears (at s now) m
 
 -- ---- want of memory
 

@@ -25,8 +25,9 @@ use Rattle.client_state.specs.declared.step.Outcome.TheVariants as outcome
 use Rattle.client_state.specs.declared.step.Outcome.{Outcome}
 use Rattle.client_state.specs.declared.task.Stage.TheVariants as stage
 use Rattle.client_state.specs.declared.task.Task.{Task}
-use Rattle.file_open.specs.Fetching.{asks_file}
-use Rattle.file_open.specs.Rewriting.{asks_anew}
+use Rattle.file_open.specs.Caching.{fresh_content}
+use Rattle.file_open.specs.Fetching.{finds_kept}
+use Rattle.file_open.specs.Rewriting.{empties_kept}
 
 -- ---- its calls
 
@@ -51,12 +52,12 @@ finding id p = (p.0, record p.1 { found = Some id })
 -- The name that was to be opened stands for this id: the open goes on as one of the id, behind its look-ups.
 abbrev pub finds_if : State → (calls : List Pending) → (xid id : ℕ) → (is_open : Bool) → State × ClientStep
 finds_if s calls xid id true = finding id (forgets s calls xid, ends outcome.AlreadyOpen 0 0)
-finds_if s calls xid id false = finding id (asks_file s id true)
+finds_if s calls xid id false = finding id (finds_kept s calls xid id (fresh_content s.cache id s.clock))
 
 -- so does a rewrite, whose file is asked for its version
 abbrev pub renews_if : State → (calls : List Pending) → (xid id : ℕ) → (is_open : Bool) → State × ClientStep
 renews_if s calls xid id true = finding id (forgets s calls xid, ends outcome.AlreadyOpen 0 0)
-renews_if s calls xid id false = finding id (asks_anew s id true)
+renews_if s calls xid id false = finding id (empties_kept s calls xid id (fresh_content s.cache id s.clock))
 
 abbrev pub outcome_of : WalkEnd → Outcome
 outcome_of ended.Done = outcome.Done

@@ -1,11 +1,11 @@
-//! The answer to a call of the operation under way, by how far that has come: `took` of
+//! The answer to a call of the operation under way, by how far that has come: `takes` of
 //! `specs/Step.antt`.
 
 ghost use Rattle.std.specs.Prelude.{◌≡◌, ◌≤◌, IfOk, OnOk, OnErr, false};
 ghost use Rattle.transfer_rules.specs.Limits.{tries_most};
 ghost use Rattle.file_open.specs.Looking.{with_file, reading_by, entering_by};
 ghost use Rattle.file_open.specs.Fetching.{Comes};
-ghost use Rattle.open_close.specs.Step.{took};
+ghost use Rattle.open_close.specs.Step.{takes};
 ghost use Rattle.client_state.specs.View.{state_of, whole_of, IsListing, IsReading, IsHeld, IsSound, IsThere, HasXids, IsStore};
 ghost use Rattle.client_state.specs.declared.task.Stage.TheVariants as stage;
 
@@ -31,7 +31,7 @@ pub fn took_lease(
     requires held { IsHeld state.old }
     requires there { IsThere state.old.cache file }
     requires xids { HasXids state.old.next_xid (stage.Asking 0) }
-    ensures ok { IfOk result (λ a. took (state_of state.old) state.old.waiting.calls file (stage.Asking 0) xid body.now ≡ (state_of state.new, a)) }
+    ensures ok { IfOk result (λ a. takes (state_of state.old) state.old.waiting.calls file (stage.Asking 0) xid body.now ≡ (state_of state.new, a)) }
     ensures done { IfOk result (λ a. a.missed ≡ false) }
     ensures err { OnErr result (whole_of state.new ≡ whole_of state.old) }
     ensures sound { OnOk result (IsSound state.new) }
@@ -55,7 +55,7 @@ pub fn took_version(
     body: &Body,
 ) -> Result<ClientStep, AllocError>
     requires held { IsHeld state.old }
-    ensures ok { IfOk result (λ a. took (state_of state.old) state.old.waiting.calls file (stage.Rewriting 0) xid body.now ≡ (state_of state.new, a)) }
+    ensures ok { IfOk result (λ a. takes (state_of state.old) state.old.waiting.calls file (stage.Rewriting 0) xid body.now ≡ (state_of state.new, a)) }
     ensures done { IfOk result (λ a. a.missed ≡ false) }
     ensures err { OnErr result (whole_of state.new ≡ whole_of state.old) }
     ensures sound { OnOk result (IsSound state.new) }
@@ -65,7 +65,7 @@ pub fn took_version(
         Body::Lb(Lb::GetLeaseAnswer(answer)) => match answer {
             Answer::Failed(status, _) => Ok(state.refused(alloc, xid, *status)),
             Answer::Done(leased) => {
-                rewriting::open_empty(alloc, state, file, xid, leased.version)
+                rewriting::open_empty(alloc, state, file, xid, leased.version, xid)
             }
         },
         _ => Ok(state.unknown(alloc, xid)),
@@ -86,7 +86,7 @@ pub fn took_first(
     requires there { IsThere state.old.cache file }
     requires tries { tries ≤ tries_most }
     requires xids { HasXids state.old.next_xid (stage.Hashing tries 0) }
-    ensures ok { IfOk result (λ a. Comes state.old.index (entering_by (state_of state.old) (with_file file (reading_by (stage.Hashing tries 0) xid body.now))) (took (state_of state.old) state.old.waiting.calls file (stage.Hashing tries 0) xid body.now) (state_of state.new) a) }
+    ensures ok { IfOk result (λ a. Comes state.old.index (entering_by (state_of state.old) (with_file file (reading_by (stage.Hashing tries 0) xid body.now))) (takes (state_of state.old) state.old.waiting.calls file (stage.Hashing tries 0) xid body.now) (state_of state.new) a) }
     ensures err { OnErr result (whole_of state.new ≡ whole_of state.old) }
     ensures sound { OnOk result (IsSound state.new) }
     ensures held { OnErr result (IsHeld state.new) }
@@ -116,7 +116,7 @@ pub fn took_piece(
     requires there { IsThere state.old.cache file }
     requires within { IsListing fetch }
     requires xids { HasXids state.old.next_xid (stage.Listing 0 fetch) }
-    ensures ok { IfOk result (λ a. Comes state.old.index (entering_by (state_of state.old) (with_file file (reading_by (stage.Listing 0 fetch) xid body.now))) (took (state_of state.old) state.old.waiting.calls file (stage.Listing 0 fetch) xid body.now) (state_of state.new) a) }
+    ensures ok { IfOk result (λ a. Comes state.old.index (entering_by (state_of state.old) (with_file file (reading_by (stage.Listing 0 fetch) xid body.now))) (takes (state_of state.old) state.old.waiting.calls file (stage.Listing 0 fetch) xid body.now) (state_of state.new) a) }
     ensures err { OnErr result (whole_of state.new ≡ whole_of state.old) }
     ensures sound { OnOk result (IsSound state.new) }
     ensures held { OnErr result (IsHeld state.new) }
@@ -143,7 +143,7 @@ pub fn took_bytes(
     requires there { IsThere state.old.cache file }
     requires within { IsReading fetch }
     requires xids { HasXids state.old.next_xid (stage.Reading fetch) }
-    ensures ok { IfOk result (λ a. Comes state.old.index (entering_by (state_of state.old) (with_file file (reading_by (stage.Reading fetch) xid body.old))) (took (state_of state.old) state.old.waiting.calls file (stage.Reading fetch) xid body.old) (state_of state.new) a) }
+    ensures ok { IfOk result (λ a. Comes state.old.index (entering_by (state_of state.old) (with_file file (reading_by (stage.Reading fetch) xid body.old))) (takes (state_of state.old) state.old.waiting.calls file (stage.Reading fetch) xid body.old) (state_of state.new) a) }
     ensures err { OnErr result (whole_of state.new ≡ whole_of state.old) }
     ensures sound { OnOk result (IsSound state.new) }
     ensures held { OnErr result (IsHeld state.new) }
@@ -171,7 +171,7 @@ pub fn took_temp(
 ) -> Result<ClientStep, AllocError>
     requires held { IsHeld state.old }
     requires xids { HasXids state.old.next_xid (stage.Making 0 temp) }
-    ensures ok { IfOk result (λ a. took (state_of state.old) state.old.waiting.calls file (stage.Making 0 temp) xid body.now ≡ (state_of state.new, a)) }
+    ensures ok { IfOk result (λ a. takes (state_of state.old) state.old.waiting.calls file (stage.Making 0 temp) xid body.now ≡ (state_of state.new, a)) }
     ensures done { IfOk result (λ a. a.missed ≡ false) }
     ensures err { OnErr result (whole_of state.new ≡ whole_of state.old) }
     ensures sound { OnOk result (IsSound state.new) }
@@ -199,7 +199,7 @@ pub fn took_stored(
     requires held { IsHeld state.old }
     requires within { IsStore store }
     requires xids { HasXids state.old.next_xid (stage.Storing store) }
-    ensures ok { IfOk result (λ a. took (state_of state.old) state.old.waiting.calls file (stage.Storing store) xid body.now ≡ (state_of state.new, a)) }
+    ensures ok { IfOk result (λ a. takes (state_of state.old) state.old.waiting.calls file (stage.Storing store) xid body.now ≡ (state_of state.new, a)) }
     ensures done { IfOk result (λ a. a.missed ≡ false) }
     ensures err { OnErr result (whole_of state.new ≡ whole_of state.old) }
     ensures sound { OnOk result (IsSound state.new) }
@@ -224,7 +224,7 @@ pub fn took_commit(
 ) -> ClientStep
     requires held { IsHeld state.old }
     requires there { IsThere state.old.cache file }
-    ensures ok { took (state_of state.old) state.old.waiting.calls file (stage.Committing 0) xid body.now ≡ (state_of state.new, result) }
+    ensures ok { takes (state_of state.old) state.old.waiting.calls file (stage.Committing 0) xid body.now ≡ (state_of state.new, result) }
     ensures done { result.missed ≡ false }
     ensures sound { IsSound state.new }
 {

@@ -5,8 +5,10 @@ ghost use Rattle.std.specs.Prelude.{◌≡◌, ◌≤◌, length, false, true, o
 ghost use Rattle.client_state.specs.Bounding.{kept_within};
 ghost use Rattle.client_state.specs.Hints.{Learns, Offers, Warms};
 ghost use Rattle.std.specs.Option.{option_copied};
-ghost use Rattle.client_state.specs.State.{start, evicted, forged, index_cleared, waiting_of, local_at};
+ghost use Rattle.client_state.specs.Noting.{at};
+ghost use Rattle.client_state.specs.State.{start_with, evicted, forged, index_cleared, waiting_of, local_at};
 ghost use Rattle.client_state.specs.Counting.{misses, by_memory};
+ghost use Rattle.file_open.specs.Caching.{fresh_content};
 ghost use Rattle.open_close.specs.Step.{command_step, got_step, Misses, MayMissCommand};
 ghost use Rattle.client_state.specs.Ending.{cut, joined};
 
@@ -18,6 +20,7 @@ use client_state::parts;
 use client_state::state::ClientState;
 use client_state::step::{ClientStep, Ended, Outcome};
 use command_text::command::Command;
+use file_open::caching;
 use lb_base::items::{Bytes, Items};
 use send_list::SendList;
 use shared_bytes::SharedBytes;
@@ -70,9 +73,10 @@ fn missed(alloc: Global) -> ClientStep
 }
 
 impl Client {
-    /// A client with no connection and no file. The one error is want of memory.
-    pub fn new(alloc: Global) -> Result<Client, AllocError>
-        ensures { IfOk result (λ c. c ≡ start) }
+    /// A client with no connection and no file, whose clock and the server's may drift apart so far, in
+    /// milliseconds, while a lease lasts. The one error is want of memory.
+    pub fn new(alloc: Global, drift: u64) -> Result<Client, AllocError>
+        ensures { IfOk result (λ c. c ≡ start_with drift) }
     {
         let cache = Cache::new(alloc)?;
         let index = chunk_places::empty(alloc)?;
@@ -90,27 +94,35 @@ impl Client {
                 own: 0,
                 cache,
                 index,
+                clock: 0,
+                sent: 0,
+                drift,
             },
         })
     }
 
-    /// A command, at a reading of the client's clock in milliseconds (nothing depends on the reading yet:
-    /// leases will). Only one that sends a call or makes a local content may run out of memory: it then
-    /// ends by that, and all else is as before.
+    /// A command, at a reading of the client's clock in milliseconds: it says whether what is kept is fresh,
+    /// and from when on a lease counts that a call may bring. Only a command that sends a call, makes a local
+    /// content or opens what is fresh may run out of memory: it then ends by that, and all else is as before.
     pub fn command(&mut self, alloc: Global, command: Command, now: u64) -> ClientStep
         ensures exact { result.missed ≡ false → command_step self.old command now ≡ (self.new, result) }
         ensures missed { result.missed ≡ true → self.new ≡ self.old }
         ensures silent { result.missed ≡ true → result ≡ misses (Some by_memory) }
-        ensures sure { result.missed ≡ true → MayMissCommand self.old command }
+        ensures sure { result.missed ≡ true → MayMissCommand (at self.old now) command }
     {
-        match taking::command(alloc, &mut self.state, command, now) {
+        let before = self.state.clock;
+        self.state.set_clock(now);
+        match taking::command(alloc, &mut self.state, command) {
             Ok(step) => step,
-            Err(_) => missed(alloc),
+            Err(_) => {
+                self.state.set_clock(before);
+                missed(alloc)
+            }
         }
     }
 
-    /// What comes from the other end, at a reading of the client's clock in milliseconds (which nothing
-    /// depends on yet): a message, or why a record is none. Only an answer to a call of the operation
+    /// What comes from the other end, at a reading of the client's clock in milliseconds: a message, or why a
+    /// record is none. Only an answer to a call of the operation
     /// under way may run out of memory, and none once COMMITTMP was sent: the operation then ends by
     /// that, its other calls are forgotten, and all else is as before; or a fetch ended well, and the
     /// index lacks places of its chunks.
@@ -123,9 +135,14 @@ impl Client {
         ensures exact { result.missed ≡ false → got_step self.old message now ≡ (self.new, result) }
         ensures missed { result.missed ≡ true → Misses self.old message now self.new result }
     {
-        match taking::got(alloc, &mut self.state, message, now) {
+        let before = self.state.clock;
+        self.state.set_clock(now);
+        match taking::got(alloc, &mut self.state, message) {
             Ok(step) => step,
-            Err(_) => missed(alloc),
+            Err(_) => {
+                self.state.set_clock(before);
+                missed(alloc)
+            }
         }
     }
 
@@ -192,6 +209,17 @@ impl Client {
         ensures { self.new ≡ kept_within most self.old }
     {
         self.state.keep_within(most);
+    }
+
+    /// What an open of a file that isn't open would give at this reading with no message: the content that is
+    /// kept of it, where it is fresh. It takes no memory.
+    pub fn fresh(&self, file: u64, now: u64) -> Option<&[u8]>
+        ensures { option_copied result ≡ option_map (λ c. c.bytes) (fresh_content self.now.cache file now) }
+    {
+        match caching::fresh(&self.state.cache, file, now) {
+            Some((_version, bytes)) => Some(bytes.as_slice()),
+            None => None,
+        }
     }
 
     /// What is kept of files. It takes no memory.

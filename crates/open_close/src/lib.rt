@@ -9,5 +9,7 @@
 mod answers;
 pub mod client;
 mod commands;
+mod granting;
+mod recalling;
 mod taking;
 mod walking;

@@ -1,14 +1,15 @@
-//! One command, or one message: `command_step` and `got_step` of `specs/Step.antt`.
+//! One command, or one message: `does` and `hears` of `specs/Step.antt`.
 
 ghost use Rattle.std.specs.Prelude.{◌≡◌, IfOk, OnOk, OnErr, false, Ok};
 ghost use Rattle.file_open.specs.Looking.{with_file, reading_by, entering_by, entering};
 ghost use Rattle.file_open.specs.Fetching.{Comes};
 ghost use Rattle.client_state.specs.Ending.{forgets};
-ghost use Rattle.open_close.specs.Step.{took, command_step, got_message, got_fault, got_step, missed_at, MayMiss, MayMissCommand, InCommit, fault_of};
+ghost use Rattle.open_close.specs.Step.{lease_in, takes, took, does, got_message, got_fault, hears, missed_at, MayMiss, MayMissCommand, InCommit, fault_of};
 ghost use Rattle.client_state.specs.View.{state_of, whole_of, IsHeld, IsSound, HasXids, IsWithin, StageIsThere};
 ghost use Rattle.wire.specs.declared.message.Message.TheVariants as message;
 
-use crate::{answers, commands, walking};
+use crate::{answers, commands, granting, recalling, walking};
+use client_state::noting::Granted;
 use client_state::state::ClientState;
 use client_state::step::{BadPeer, ClientStep};
 use client_state::task::{Stage, Task};
@@ -25,10 +26,9 @@ pub fn command(
     alloc: Global,
     state: &mut ClientState,
     command: Command,
-    _now: u64,
 ) -> Result<ClientStep, AllocError>
     requires { IsSound state.old }
-    ensures ok { IfOk result (λ a. command_step (state_of state.old) command _now ≡ (state_of state.new, a)) }
+    ensures ok { IfOk result (λ a. does (state_of state.old) command ≡ (state_of state.new, a)) }
     ensures done { IfOk result (λ a. a.missed ≡ false) }
     ensures err { OnErr result (state_of state.new ≡ state_of state.old) }
     ensures sure { OnErr result (MayMissCommand (state_of state.old) command) }
@@ -72,7 +72,7 @@ fn fault_of(fault: WireFault) -> BadPeer
 
 /// An answer to a call of this operation, which is taken out. An `Err` changes nothing, and doesn't
 /// come once COMMITTMP was sent.
-fn took(
+fn takes(
     alloc: Global,
     state: &mut ClientState,
     task: Task,
@@ -83,7 +83,7 @@ fn took(
     requires xids { HasXids state.old.next_xid task.stage }
     requires within { IsWithin task.stage }
     requires there { StageIsThere state.old.cache task.file task.stage }
-    ensures ok { IfOk result (λ a. Comes state.old.index (entering_by (state_of state.old) (with_file task.file (reading_by task.stage xid body.old))) (took (state_of state.old) state.old.waiting.calls task.file task.stage xid body.old) (state_of state.new) a) }
+    ensures ok { IfOk result (λ a. Comes state.old.index (entering_by (state_of state.old) (with_file task.file (reading_by task.stage xid body.old))) (takes (state_of state.old) state.old.waiting.calls task.file task.stage xid body.old) (state_of state.new) a) }
     ensures err { OnErr result (whole_of state.new ≡ whole_of state.old) }
     ensures calm { OnErr result (InCommit task.stage → ⊥) }
     ensures sound { OnOk result (IsSound state.new) }
@@ -104,6 +104,49 @@ fn took(
         Stage::Storing(store) => answers::took_stored(alloc, state, file, store, xid, body),
         Stage::Committing(_) => Ok(answers::took_commit(alloc, state, file, xid, body)),
         Stage::Walking { xid: _, walk } => walking::took_walk(alloc, state, file, walk, xid, body),
+    }
+}
+
+/// The lease that an answer grants beside what it tells.
+fn lease_in(stage: &Stage, body: &Body) -> Option<Granted>
+    ensures { result ≡ lease_in stage.now body.now }
+{
+    match stage {
+        Stage::Asking(_) | Stage::Rewriting(_) => granting::by_lease(body),
+        Stage::Hashing { .. } | Stage::Listing { .. } => granting::by_hashes(body),
+        Stage::Committing(_) => granting::by_commit(body),
+        _ => None,
+    }
+}
+
+/// As `takes`, and the lease that it grants is noted. An `Err` changes nothing, and doesn't come once
+/// COMMITTMP was sent.
+fn took(
+    alloc: Global,
+    state: &mut ClientState,
+    task: Task,
+    xid: u32,
+    body: &mut Body,
+) -> Result<ClientStep, AllocError>
+    requires held { IsHeld state.old }
+    requires xids { HasXids state.old.next_xid task.stage }
+    requires within { IsWithin task.stage }
+    requires there { StageIsThere state.old.cache task.file task.stage }
+    ensures ok { IfOk result (λ a. Comes state.old.index (entering_by (state_of state.old) (with_file task.file (reading_by task.stage xid body.old))) (took (state_of state.old) state.old.waiting.calls task.file task.stage xid body.old) (state_of state.new) a) }
+    ensures err { OnErr result (whole_of state.new ≡ whole_of state.old) }
+    ensures calm { OnErr result (InCommit task.stage → ⊥) }
+    ensures sound { OnOk result (IsSound state.new) }
+    ensures held { OnErr result (IsHeld state.new) }
+{
+    let sent = state.sent;
+    let file = task.file;
+    let granted = lease_in(&task.stage, body);
+    match takes(alloc, state, task, xid, body) {
+        Ok(step) => {
+            state.note(sent, file, granted);
+            Ok(step)
+        }
+        Err(error) => Err(error),
     }
 }
 
@@ -216,9 +259,10 @@ fn got_message(
             let refuse = Message::Refuse(xid, refusal);
             Ok(parts::sends_one(alloc, refuse, 0))
         }
-        Message::Call(_, body) => {
+        Message::Call(xid, body) => {
+            let step = recalling::called(alloc, state, xid, &body);
             drop(body);
-            Ok(parts::nothing_done(alloc))
+            Ok(step)
         }
     }
 }
@@ -229,10 +273,9 @@ pub fn got(
     alloc: Global,
     state: &mut ClientState,
     message: Result<Message, WireFault>,
-    _now: u64,
 ) -> Result<ClientStep, AllocError>
     requires { IsSound state.old }
-    ensures ok { IfOk result (λ a. Comes state.old.index (entering (state_of state.old) message) (got_step (state_of state.old) message _now) (state_of state.new) a) }
+    ensures ok { IfOk result (λ a. Comes state.old.index (entering (state_of state.old) message) (hears (state_of state.old) message) (state_of state.new) a) }
     ensures err { OnErr result (state_of state.new ≡ missed_at (state_of state.old) message) }
     ensures sure { OnErr result (MayMiss (state_of state.old) message) }
     ensures sound { IsSound state.new }

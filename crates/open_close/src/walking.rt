@@ -5,7 +5,7 @@ ghost use Rattle.std.specs.Prelude.{◌≡◌, ◌+◌, Some, IfOk, OnOk, OnErr,
 ghost use Rattle.client_state.specs.Ending.{is_open};
 ghost use Rattle.client_state.specs.View.{state_of, whole_of, IsHeld, IsSound, HasXids};
 ghost use Rattle.client_state.specs.declared.task.Stage.TheVariants as stage;
-ghost use Rattle.open_close.specs.Step.{took};
+ghost use Rattle.open_close.specs.Step.{takes};
 ghost use Rattle.open_close.specs.Walking.{asks_next, walks, finds_if, renews_if, outcome_of, is_look, seen_in, walked, HasXidsFor, MayMissWalk};
 ghost use Rattle.path_calls.specs.declared.answers.Told.TheVariants as told;
 
@@ -89,7 +89,7 @@ fn found(
         state.forget(alloc, xid);
         return Ok(finding(id, parts::ends(alloc, Outcome::AlreadyOpen, 0, 0)));
     }
-    let step = opening::ask_file(alloc, state, id)?;
+    let step = opening::open_found(alloc, state, xid, id)?;
     Ok(finding(id, step))
 }
 
@@ -112,7 +112,7 @@ fn renewed(
         state.forget(alloc, xid);
         return Ok(finding(id, parts::ends(alloc, Outcome::AlreadyOpen, 0, 0)));
     }
-    let step = rewriting::ask_anew(alloc, state, id)?;
+    let step = rewriting::renew_found(alloc, state, xid, id)?;
     Ok(finding(id, step))
 }
 
@@ -214,7 +214,7 @@ pub fn took_walk(
 ) -> Result<ClientStep, AllocError>
     requires held { IsHeld state.old }
     requires xids { HasXids state.old.next_xid (stage.Walking 0 walk) }
-    ensures ok { IfOk result (λ a. took (state_of state.old) state.old.waiting.calls _file (stage.Walking 0 walk) xid body.now ≡ (state_of state.new, a)) }
+    ensures ok { IfOk result (λ a. takes (state_of state.old) state.old.waiting.calls _file (stage.Walking 0 walk) xid body.now ≡ (state_of state.new, a)) }
     ensures done { IfOk result (λ a. a.missed ≡ false) }
     ensures err { OnErr result (whole_of state.new ≡ whole_of state.old) }
     ensures sound { OnOk result (IsSound state.new) }

@@ -7,6 +7,7 @@ use Rattle.wire.specs.declared.message.Body.TheVariants as body
 use Rattle.wire.specs.declared.message.Message.{Message}
 use Rattle.wire.specs.declared.message.Message.TheVariants as message
 use Rattle.file_open.specs.Opening.{hash_call}
+use Rattle.client_state.specs.Noting.{asks_lease}
 use Rattle.client_state.specs.State.{State}
 use Rattle.client_state.specs.View.{state_of}
 use Rattle.client_state.specs.declared.task.Stage.TheVariants as stage
@@ -18,7 +19,7 @@ returns-clause-ok c =
     let s = state_of c.args.state.now in
     let f = c.args.fetch in
     let file = c.args.file in
-    let begun : State = record s { next_xid = s.next_xid + 1; task = Some (record { file = file; stage = stage.Listing s.next_xid f }) } in
+    let begun : State = record s { next_xid = s.next_xid + 1; task = Some (record { file = file; stage = stage.Listing s.next_xid f }); sent = s.clock } in
     let asked : List ℕ → ℕ → Message = λ h o. message.Call s.next_xid (body.Lb (lb.GetHash (record { handle = h; offset = o; count = 4294967295 }))) in
-    sent_one begun (state_of c.wait.new.self) c.sends_one.result (hash_call s.next_xid file (end_of f.chunks)) c.hash_call-call.result 0 c.in_ok-wait.ensures.ok c.sends_one.ensures
+    sent_one begun (state_of c.mark_sent.new.self) c.sends_one.result (hash_call s.next_xid file (end_of f.chunks)) c.hash_call-call.result 0 (c.mark_sent.ensures.rest ∙ ap (λ (t : State). asks_lease t) c.in_ok-wait.ensures.ok) c.sends_one.ensures
     (c.hash_call-call.ensures ∙ (ap (λ (h : List ℕ). asked h c.end_of-offset.result) c.in_ok-handle.ensures ∙ ap (asked (handle_bytes file)) (c.end_of-offset.ensures ∙ ap end_of c.as_slice.ensures)))

@@ -1,5 +1,5 @@
 use Rattle.std.proofs.Common.{◌≡◌, rules}
-use Rattle.open_close.specs.Step.{took}
+use Rattle.open_close.specs.Step.{takes}
 use Rattle.client_state.specs.View.{state_of}
 use Rattle.client_state.specs.declared.task.Stage.TheVariants as stage
 use Rattle.file_open.proofs.Comings.{comes_so}
@@ -8,11 +8,11 @@ use Rattle.open_close.proofs.answers.took_first.Goals as goal
 pub returns-in-Failed-clause-ok : goal.returns-in-Failed-clause-ok
 returns-in-Failed-clause-ok c =
     let s = c.args.state.now in
-    let so : took (state_of s) s.waiting.calls c.args.file (stage.Hashing c.args.tries 0) c.args.xid c.args.body.now ≡ (state_of c.refused.new.self, c.refused.result) = search rules in
-    comes_so s.index (took (state_of s) s.waiting.calls c.args.file (stage.Hashing c.args.tries 0) c.args.xid c.args.body.now) (state_of c.refused.new.self) c.refused.result so c.refused.ensures.done
+    let so : takes (state_of s) s.waiting.calls c.args.file (stage.Hashing c.args.tries 0) c.args.xid c.args.body.now ≡ (state_of c.refused.new.self, c.refused.result) = search rules in
+    comes_so s.index (takes (state_of s) s.waiting.calls c.args.file (stage.Hashing c.args.tries 0) c.args.xid c.args.body.now) (state_of c.refused.new.self) c.refused.result so c.refused.ensures.done
 
 pub returns-in_default-clause-ok : goal.returns-in_default-clause-ok
 returns-in_default-clause-ok c =
     let s = c.args.state.now in
-    let so : took (state_of s) s.waiting.calls c.args.file (stage.Hashing c.args.tries 0) c.args.xid c.args.body.now ≡ (state_of c.unknown.new.self, c.unknown.result) = search rules in
-    comes_so s.index (took (state_of s) s.waiting.calls c.args.file (stage.Hashing c.args.tries 0) c.args.xid c.args.body.now) (state_of c.unknown.new.self) c.unknown.result so c.unknown.ensures.done
+    let so : takes (state_of s) s.waiting.calls c.args.file (stage.Hashing c.args.tries 0) c.args.xid c.args.body.now ≡ (state_of c.unknown.new.self, c.unknown.result) = search rules in
+    comes_so s.index (takes (state_of s) s.waiting.calls c.args.file (stage.Hashing c.args.tries 0) c.args.xid c.args.body.now) (state_of c.unknown.new.self) c.unknown.result so c.unknown.ensures.done

@@ -20,5 +20,5 @@ returns-in-Unfit-clause-ok c =
 pub returns-in-Call-clause-ok : goal.returns-in-Call-clause-ok
 returns-in-Call-clause-ok c =
     let s = c.args.state.now in
-    let so : got_message (state_of s) s.task c.args.message ≡ (state_of s, c.nothing_done.result) = search rules in
-    comes_so s.index (got_message (state_of s) s.task c.args.message) (state_of s) c.nothing_done.result so (ap (λ (a : ClientStep). a.missed) c.nothing_done.ensures)
+    let so : got_message (state_of s) s.task c.args.message ≡ (state_of c.called-step.new.state, c.called-step.result) = search rules in
+    comes_so s.index (got_message (state_of s) s.task c.args.message) (state_of c.called-step.new.state) c.called-step.result so c.called-step.ensures.done

@@ -1,41 +1,21 @@
-use Rattle.std.proofs.Common.{◌≡◌, rules, IfOk}
-use Rattle.open_close.specs.Step.{took}
+use Rattle.std.proofs.Common.{sym, ap, subst, ◌∙◌}
+use Rattle.std.specs.Prelude.{Option}
+use Rattle.client_state.specs.Noting.{noted}
+use Rattle.client_state.specs.State.{State}
 use Rattle.client_state.specs.View.{state_of}
-use Rattle.client_state.specs.declared.step.ClientStep.{ClientStep}
-use Rattle.file_open.proofs.Comings.{comes_so, comes_ok}
+use Rattle.client_state.specs.declared.noting.Granted.{Granted}
+use Rattle.file_open.specs.Fetching.{Comes}
+use Rattle.file_open.specs.Looking.{Entering, with_file, reading_by, entering_by}
+use Rattle.open_close.specs.Step.{lease_in, takes, took}
+use Rattle.open_close.proofs.Notings.{comes_noted}
 use Rattle.open_close.proofs.taking.took.Goals as goal
 
-pub returns-in-Asking-clause-ok : goal.returns-in-Asking-clause-ok
-returns-in-Asking-clause-ok c =
+pub returns-in-Ok-clause-ok : goal.returns-in-Ok-clause-ok
+returns-in-Ok-clause-ok c =
     let s = c.args.state.now in
     let t = c.args.task in
-    let so : IfOk c.took_lease.result (λ (a : ClientStep). took (state_of s) s.waiting.calls t.file t.stage c.args.xid c.args.body.now ≡ (state_of c.took_lease.new.state, a)) = search rules in
-    comes_ok c.took_lease.result s.index _ (took (state_of s) s.waiting.calls t.file t.stage c.args.xid c.args.body.now) (state_of c.took_lease.new.state) so c.took_lease.ensures.done
-
-pub returns-in-Making-clause-ok : goal.returns-in-Making-clause-ok
-returns-in-Making-clause-ok c =
-    let s = c.args.state.now in
-    let t = c.args.task in
-    let so : IfOk c.took_temp.result (λ (a : ClientStep). took (state_of s) s.waiting.calls t.file t.stage c.args.xid c.args.body.now ≡ (state_of c.took_temp.new.state, a)) = search rules in
-    comes_ok c.took_temp.result s.index _ (took (state_of s) s.waiting.calls t.file t.stage c.args.xid c.args.body.now) (state_of c.took_temp.new.state) so c.took_temp.ensures.done
-
-pub returns-in-Storing-clause-ok : goal.returns-in-Storing-clause-ok
-returns-in-Storing-clause-ok c =
-    let s = c.args.state.now in
-    let t = c.args.task in
-    let so : IfOk c.took_stored.result (λ (a : ClientStep). took (state_of s) s.waiting.calls t.file t.stage c.args.xid c.args.body.now ≡ (state_of c.took_stored.new.state, a)) = search rules in
-    comes_ok c.took_stored.result s.index _ (took (state_of s) s.waiting.calls t.file t.stage c.args.xid c.args.body.now) (state_of c.took_stored.new.state) so c.took_stored.ensures.done
-
-pub returns-in-Committing-clause-ok : goal.returns-in-Committing-clause-ok
-returns-in-Committing-clause-ok c =
-    let s = c.args.state.now in
-    let t = c.args.task in
-    let so : took (state_of s) s.waiting.calls t.file t.stage c.args.xid c.args.body.now ≡ (state_of c.took_commit.new.state, c.took_commit.result) = search rules in
-    comes_so s.index (took (state_of s) s.waiting.calls t.file t.stage c.args.xid c.args.body.now) (state_of c.took_commit.new.state) c.took_commit.result so c.took_commit.ensures.done
-
-pub returns-in-Walking-clause-ok : goal.returns-in-Walking-clause-ok
-returns-in-Walking-clause-ok c =
-    let s = c.args.state.now in
-    let t = c.args.task in
-    let so : IfOk c.took_walk.result (λ (a : ClientStep). took (state_of s) s.waiting.calls t.file t.stage c.args.xid c.args.body.now ≡ (state_of c.took_walk.new.state, a)) = search rules in
-    comes_ok c.took_walk.result s.index _ (took (state_of s) s.waiting.calls t.file t.stage c.args.xid c.args.body.now) (state_of c.took_walk.new.state) so c.took_walk.ensures.done
+    let b = c.args.body.now in
+    let enters : Option Entering = entering_by (state_of s) (with_file t.file (reading_by t.stage c.args.xid b)) in
+    subst (λ (n : State). Comes s.index enters (took (state_of s) s.waiting.calls t.file t.stage c.args.xid b) n c.in-Ok.step)
+    (sym (c.note.ensures.rest ∙ ap (λ (g : Option Granted). noted (state_of c.takes.new.state) s.sent t.file g) c.lease_in-granted.ensures))
+    (comes_noted s.index enters (takes (state_of s) s.waiting.calls t.file t.stage c.args.xid b) (state_of c.takes.new.state) c.in-Ok.step s.sent t.file (lease_in t.stage b) c.in-Ok.ensures.ok)

@@ -2,6 +2,8 @@ use Rattle.std.proofs.Common.{sym, ap, subst, ◌∙◌}
 use Rattle.std.specs.Prelude.{Some}
 use Rattle.std.specs.List.{All}
 use Rattle.client_cache.specs.Cache.{Entries}
+use Rattle.client_state.specs.Noting.{asks_lease}
+use Rattle.client_state.specs.State.{State}
 use Rattle.client_state.specs.View.{state_of, IsKeptBounded}
 use Rattle.client_state.proofs.Keeping.{bounded_reserved, entry_there}
 use Rattle.client_state.proofs.Pending.{held_cache}
@@ -17,4 +19,7 @@ set_waiting-requires-clause-there c = entry_there c.reserve.new.self c.args.file
 
 pub returns-in-Ok-reserve-clause-ok : goal.returns-in-Ok-reserve-clause-ok
 returns-in-Ok-reserve-clause-ok c =
-    c.set_waiting.ensures.rest ∙ ap (λ (es : Entries). record (state_of c.args.self.now) { next_xid = c.args.next_xid; task = Some (record { file = c.args.file; stage = c.args.stage }); cache = es }) c.in-Ok-reserve.ensures.ok
+    let s = state_of c.args.self.now in
+    c.mark_sent.ensures.rest
+    ∙ (ap (λ (t : State). asks_lease t) c.set_waiting.ensures.rest
+    ∙ ap (λ (es : Entries). record s { next_xid = c.args.next_xid; task = Some (record { file = c.args.file; stage = c.args.stage }); cache = es; sent = s.clock }) c.in-Ok-reserve.ensures.ok)

@@ -1,0 +1,12 @@
+use Rattle.std.proofs.Common.{sym, subst}
+use Rattle.std.specs.List.{All}
+use Rattle.client_cache.specs.Cache.{Entries}
+use Rattle.client_state.specs.View.{IsKeptBounded, TaskIsThere}
+use Rattle.client_state.proofs.Keeping.{bounded_recalled, task_recalled}
+use Rattle.client_state.proofs.Pending.{sound_cache}
+use Rattle.client_state.proofs.state.ClientState.drop_note.Goals as goal
+
+pub returns-clause-sound : goal.returns-clause-sound
+returns-clause-sound c =
+    let s = c.args.self.now in
+    sound_cache s c.recall.new.self c.requires (subst (λ (es : Entries). All IsKeptBounded es) (sym c.recall.ensures) (bounded_recalled s.cache c.args.file c.requires.base.kept)) (subst (λ (es : Entries). TaskIsThere es s.task) (sym c.recall.ensures) (task_recalled s.cache c.args.file s.task c.requires.there))
