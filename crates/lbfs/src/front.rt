@@ -40,10 +40,10 @@ fn run_over<H: Threads + Wait + Sync>(
 ) -> ShellEnd {
     let ShellOptions {
         port,
+        drift,
         links,
         quiet,
         command,
-        ..
     } = options;
     let out = Outside {
         screen: HostScreen::new(rt.stderr(), rt.stdin()),
@@ -54,6 +54,7 @@ fn run_over<H: Threads + Wait + Sync>(
     };
     let asked = ShellAsked {
         links,
+        drift,
         quiet,
         command,
     };

@@ -5,3 +5,4 @@ pub mod Sayings
 pub mod Worked
 mod Cachings
 mod Hintings
+pub mod Recalls

@@ -8,7 +8,7 @@ use Rattle.command_text.specs.declared.content.Part.TheVariants as part
 use Rattle.links.specs.declared.files.FilesError.TheVariants as errors
 use Rattle.wire.specs.declared.message.Message.{Message}
 use Rattle.xdr_codec.specs.declared.status.Status.TheVariants as status
-use Rattle.client_state.specs.State.{State, start, local_bytes}
+use Rattle.client_state.specs.State.{State, start_with, local_bytes}
 use Rattle.client_state.specs.declared.step.Outcome.TheVariants as outcome
 use Rattle.file_close.specs.Closing.{make_call}
 use Rattle.open_close.specs.Step.{command_step}
@@ -20,6 +20,9 @@ use Rattle.lbfs_client.specs.Host.{Host}
 use Rattle.lbfs_client.specs.Mounting.{Mount, Runs, PutsRead, joined_step}
 use Rattle.lbfs_client.specs.Walks.{says, answer_of, Stores.at_close, Renewed, noted, Closed, Fetched}
 use Rattle.lbfs_client.specs.declared.walk.Walk.TheVariants as walk
+
+abbrev start : State
+start = start_with 100
 
 apart : false ≡ true → ⊥
 apart e = cc

@@ -4,6 +4,7 @@ use Rattle.command_text.specs.declared.command.Command.{Command}
 use Rattle.wire.specs.declared.fault.WireFault.{WireFault}
 use Rattle.wire.specs.declared.message.Message.{Message}
 use Rattle.client_state.specs.Counting.{misses, by_memory}
+use Rattle.client_state.specs.Noting.{at}
 use Rattle.client_state.specs.State.{State}
 use Rattle.client_state.specs.declared.step.ClientStep.{ClientStep}
 use Rattle.client_state.specs.declared.step.Ended.{Ended}
@@ -12,7 +13,7 @@ use Rattle.open_close.specs.Step.{command_step, got_step, Misses, MayMissCommand
 -- a command
 pub record Takes (old : State) (c : Command) (now : ℕ) (new : State) (step : ClientStep) : Type 0 where
   pub exact : step.missed ≡ false → command_step old c now ≡ (new, step)
-  pub missed : step.missed ≡ true → (new ≡ old) × (step ≡ misses (Some by_memory)) × MayMissCommand old c
+  pub missed : step.missed ≡ true → (new ≡ old) × (step ≡ misses (Some by_memory)) × MayMissCommand (at old now) c
 
 -- what comes from the other end
 pub record Hears (old : State) (m : Result Message WireFault) (now : ℕ) (new : State) (step : ClientStep) : Type 0 where

@@ -4,7 +4,7 @@
 ghost use Rattle.std.specs.Prelude.{◌≡◌, IfOk, IfErr, None, true, false};
 ghost use Rattle.lbfs_client.specs.Caching.{Loads, Saves, within};
 ghost use Rattle.lbfs_client.specs.Hinting.{LearnsIn, OffersIf, closing_of};
-ghost use Rattle.client_state.specs.State.{start};
+ghost use Rattle.client_state.specs.State.{start_with};
 ghost use Rattle.lbfs_client.specs.Mounting.{Runs, Receives, Stops, joined_step};
 
 use crate::answer::Answer;
@@ -53,13 +53,14 @@ impl<F: Files> Model for Mounted<F> {
 }
 
 impl<F: Files> Mounted<F> {
-    /// A client with no connection and no file, over these files of the host. It is refused for want
-    /// of memory alone, and the files are handed back.
-    pub fn new(alloc: Global, files: F) -> Result<Mounted<F>, F>
-        ensures ok { IfOk result (λ m. m ≡ record { host = record { files = F.files files; faults = F.faults files }; client = start; walk = None }) }
+    /// A client with no connection and no file, over these files of the host, whose clock and the server's
+    /// may drift apart so far, in milliseconds, while a lease lasts. It is refused for want of memory alone,
+    /// and the files are handed back.
+    pub fn new(alloc: Global, files: F, drift: u64) -> Result<Mounted<F>, F>
+        ensures ok { IfOk result (λ m. m ≡ record { host = record { files = F.files files; faults = F.faults files }; client = start_with drift; walk = None }) }
         ensures back { IfErr result (λ f. f ≡ files) }
     {
-        match Client::new(alloc) {
+        match Client::new(alloc, drift) {
             Ok(client) => Ok(Mounted {
                 files,
                 client,

@@ -6,3 +6,4 @@ mod Telling
 mod Hintings
 mod Cachings
 mod Courses
+mod Outlets

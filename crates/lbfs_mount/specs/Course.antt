@@ -1,7 +1,7 @@
 -- What the client of a mount goes through, from its beginning to its end: turns, each a line, a connection, a record or the end of a link.
 use Rattle.std.specs.Prelude.{◌≡◌, ℕ, List, Option, None, Result, Ok, Err, Bool, true, false}
 use Rattle.record_ends.specs.declared.end.End.{End}
-use Rattle.client_state.specs.State.{start}
+use Rattle.client_state.specs.State.{start_with}
 use Rattle.lbfs_client.specs.Caching.{Loads, Saves, within}
 use Rattle.lbfs_client.specs.Host.{Host}
 use Rattle.lbfs_client.specs.Mounting.{Mount, joined_step}
@@ -12,14 +12,14 @@ use Rattle.lbfs_mount.specs.Turns.{Hears, Loses, RunsHinted, Turns, counted}
 use Rattle.lbfs_mount.specs.declared.mount_error.MountError.{MountError}
 use Rattle.lbfs_mount.specs.declared.mount_error.MountError.TheVariants as errors
 
--- no connection, no file, and no line
-abbrev pub nothing_done : Host → Mount
-nothing_done host = record { host = host; client = start; walk = None }
+-- no connection, no file, and no line; clocks may drift apart so far while a lease lasts
+abbrev pub nothing_done : (drift : ℕ) → Host → Mount
+nothing_done drift host = record { host = host; client = start_with drift; walk = None }
 
 -- a mount begins so, or with the items of a cache file
 pub data Begun (m : Mount) : Type 0 where
-  bare : (host : Host) → m ≡ nothing_done host → Begun m
-  loaded : (host : Host) (name : List ℕ) (told : Option Answer) → Loads (nothing_done host) name told m → Begun m
+  bare : (drift : ℕ) (host : Host) → m ≡ nothing_done drift host → Begun m
+  loaded : (drift : ℕ) (host : Host) (name : List ℕ) (told : Option Answer) → Loads (nothing_done drift host) name told m → Begun m
 
 -- and goes on by turns. The answers to a line are counted, from none as it begins; where a line ends, what is kept is bounded (Sends of Turns)
 pub data Course (most : ℕ) : (listed : ℕ) → Mount → Type 0 where

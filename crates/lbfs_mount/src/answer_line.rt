@@ -1,5 +1,6 @@
 //! The line of an operation that ended, as it is written.
 
+ghost use Rattle.std.specs.Prelude.{◌≡◌};
 ghost use Rattle.lbfs_mount.specs.Mounts.{IsAnswer};
 
 use lb_base::items::Bytes;
@@ -15,6 +16,7 @@ impl AnswerLine {
     /// The line with these bytes.
     pub(crate) fn of(text: Bytes) -> AnswerLine
         requires { IsAnswer text }
+        ensures { result.text ≡ text }
     {
         AnswerLine { text }
     }

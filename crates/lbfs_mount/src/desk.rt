@@ -1,11 +1,14 @@
 //! What the threads of a mount share: the client, the link on which its messages go, and the line of
 //! what ended last. `specs/Turns.antt` says what a turn makes of the client.
 
-ghost use Rattle.std.specs.Prelude.{◌≡◌, ◌⊎◌, ◌==◌, ◌+◌, ◌-◌, ◌^◌, ◌++◌, min, is_some, IfOk, OnOk, IsTrue, true, false};
+ghost use Rattle.std.specs.Prelude.{◌≡◌, ◌⊎◌, ◌+◌, ◌-◌, ◌^◌, ◌++◌, ◌||◌, [], min, Some, None, is_some, IfOk, OnErr, true, false};
+ghost use Rattle.std.specs.Option.{option_or};
 ghost use Rattle.lbfs_client.specs.Mounting.{joined_step};
+ghost use Rattle.lbfs_mount.specs.Outlet.{HearsOut, LosesOut, SaysOut, SaysOutOf, SendsOut, TurnsOut, outlet, stands, text_of};
 ghost use Rattle.lbfs_mount.specs.Turns.{GoesOut, Hears, Hints, MayLearn, MayOffer, IsTold, Loses, RunsHinted, Sends, SendsOf, Turns, bounded_if, counted, wants_link};
 
 use crate::answer_line::AnswerLine;
+use crate::giving::{add, close, close_unless, give_waits, may_wait};
 use command_text::command::Command;
 use lb_base::items::{Bytes, Items};
 use lbfs_client::line::MountLine;
@@ -14,9 +17,7 @@ use lbfs_client::said::Said;
 use links::files::Files;
 use links::link::Link;
 use record_ends::end::End;
-use record_ends::outgoing::put_out;
 use std::alloc::{AllocError, Global};
-use std::mem;
 use wire::message::Message;
 
 /// A mounted client with its connection. Once memory ran out nothing is known of the client any
@@ -40,29 +41,6 @@ pub(crate) struct Desk<F: Files, L> {
     listed: u64,
     /// How many bytes the client may keep.
     most: u64,
-}
-
-/// The link is shut, where there is one.
-fn close<L: Link + Drop>(link: &mut Option<L>) {
-    if let Some(link) = link {
-        link.shut();
-    }
-    *link = None;
-}
-
-/// The link is shut where the client is done with it.
-fn close_unless<L: Link + Drop>(linked: bool, link: &mut Option<L>) {
-    if !linked {
-        close(link);
-    }
-}
-
-/// Messages go out, where there are any and a connection is joined.
-fn send_on<L: Link>(alloc: Global, link: &mut Option<L>, send: &Items<Message>) -> Result<(), End> {
-    match link {
-        Some(link) if !send.is_empty() => put_out(alloc, link, send.as_slice()),
-        _ => Ok(()),
-    }
 }
 
 /// The file that a line closes by itself.
@@ -109,24 +87,10 @@ fn keep_within<F: Files>(line: &Option<Bytes>, mounted: &mut Mounted<F>, most: u
     }
 }
 
-/// What was said goes behind what waits. The one error is want of memory.
-fn add(alloc: Global, waits: &mut Items<Message>, send: Items<Message>) -> Result<(), AllocError>
-    ensures { OnOk result (waits.new ≡ waits.old ++ send) }
-{
-    if waits.is_empty() {
-        *waits = send;
-        return Ok(());
-    }
-    let mut all = mem::replace(waits, Items::new(alloc)).into_vec();
-    let mut more = send.into_vec();
-    all.append(&mut more)?;
-    *waits = Items::from_vec(all);
-    Ok(())
-}
-
 /// The line of what ended is kept until it is taken.
 fn keep(held: &mut Option<AnswerLine>, line: Option<Bytes>)
     requires { IsTold line }
+    ensures { text_of held.new ≡ option_or line (text_of held.old) }
 {
     if let Some(text) = line {
         *held = Some(AnswerLine::of(text));
@@ -171,7 +135,7 @@ impl<F: Files + Drop, L: Link + Drop> Desk<F, L> {
 
     /// Whether this is the connection that is joined.
     fn is_open(&self, connection: u64) -> bool
-        ensures { IsTrue result → (self.now.connection == connection) ≡ true }
+        ensures { result ≡ stands self.now.connection connection self.now.link self.now.starved }
     {
         self.connection == connection && self.link.is_some() && !self.starved
     }
@@ -181,6 +145,7 @@ impl<F: Files + Drop, L: Link + Drop> Desk<F, L> {
     fn hint(&mut self, alloc: Global, line: &MountLine)
         ensures hints { Hints self.old.mounted self.new.mounted }
         ensures rest { (self.new.starved ≡ self.old.starved) × (self.new.connection ≡ self.old.connection) × (self.new.most ≡ self.old.most) × (self.new.listed ≡ self.old.listed) }
+        ensures out { outlet self.new.link self.new.waits self.new.line ≡ outlet self.old.link self.old.waits self.old.line }
     {
         learn_stored(alloc, &mut self.mounted, self.stored);
         offer_local(alloc, &mut self.mounted, line);
@@ -192,6 +157,7 @@ impl<F: Files + Drop, L: Link + Drop> Desk<F, L> {
     fn settle(&mut self, alloc: Global, said: Result<Said, AllocError>, more: bool, now: u64)
         requires { IfOk said (λ s. IsTold s.line) }
         ensures sent { self.new.starved ≡ false → SendsOf self.old.most self.old.mounted said now self.new.mounted }
+        ensures out { self.new.starved ≡ false → SaysOutOf L.held L.faults self.old.most self.old.mounted said now self.new.mounted (outlet self.old.link self.old.waits self.old.line) (outlet self.new.link self.new.waits self.new.line) more }
         ensures fed { self.new.starved ≡ false → self.old.starved ≡ false }
         ensures number { (self.new.connection ≡ self.old.connection) × (self.new.most ≡ self.old.most) × (self.new.listed ≡ self.old.listed) }
     {
@@ -206,6 +172,7 @@ impl<F: Files + Drop, L: Link + Drop> Desk<F, L> {
     fn take_said(&mut self, alloc: Global, said: Said, more: bool, now: u64)
         requires { IsTold said.line }
         ensures sent { self.new.starved ≡ false → Sends self.old.most self.old.mounted said now self.new.mounted }
+        ensures out { self.new.starved ≡ false → SaysOut L.held L.faults self.old.most self.old.mounted said now self.new.mounted (outlet self.old.link self.old.waits self.old.line) (outlet self.new.link self.new.waits self.new.line) more }
         ensures fed { self.new.starved ≡ false → self.old.starved ≡ false }
         ensures number { (self.new.connection ≡ self.old.connection) × (self.new.most ≡ self.old.most) × (self.new.listed ≡ self.old.listed) }
     {
@@ -219,20 +186,27 @@ impl<F: Files + Drop, L: Link + Drop> Desk<F, L> {
     /// they wait.
     fn send_out(&mut self, alloc: Global, send: Items<Message>, more: bool, now: u64)
         ensures sent { self.new.starved ≡ false → GoesOut self.old.most self.old.mounted now self.new.mounted }
+        ensures out { self.new.starved ≡ false → SendsOut L.held L.faults self.old.most self.old.mounted now self.new.mounted (outlet self.old.link self.old.waits self.old.line) (outlet self.new.link self.new.waits self.new.line) (self.old.waits ++ send) more }
         ensures fed { self.new.starved ≡ false → self.old.starved ≡ false }
         ensures number { (self.new.connection ≡ self.old.connection) × (self.new.most ≡ self.old.most) × (self.new.listed ≡ self.old.listed) }
     {
-        if add(alloc, &mut self.waits, send).is_err() {
-            self.starved = true;
-            return;
+        match add(alloc, &mut self.waits, send) {
+            Ok(()) => self.send_waits(alloc, more, now),
+            Err(_want) => self.starved = true,
         }
+    }
+
+    /// What waits goes out, or the link ends as it doesn't; where more records are there it waits on.
+    fn send_waits(&mut self, alloc: Global, more: bool, now: u64)
+        ensures sent { self.new.starved ≡ false → GoesOut self.old.most self.old.mounted now self.new.mounted }
+        ensures out { self.new.starved ≡ false → SendsOut L.held L.faults self.old.most self.old.mounted now self.new.mounted (outlet self.old.link self.old.waits self.old.line) (outlet self.new.link self.new.waits self.new.line) self.old.waits more }
+        ensures fed { self.new.starved ≡ false → self.old.starved ≡ false }
+        ensures number { (self.new.connection ≡ self.old.connection) × (self.new.most ≡ self.old.most) × (self.new.listed ≡ self.old.listed) }
+    {
         if more {
             return;
         }
-        let waits = mem::replace(&mut self.waits, Items::new(alloc));
-        let sent = send_on(alloc, &mut self.link, &waits);
-        drop(waits);
-        match sent {
+        match give_waits(alloc, &mut self.link, &mut self.waits) {
             Ok(()) => {}
             Err(end) => self.lose(alloc, end, now),
         }
@@ -241,6 +215,8 @@ impl<F: Files + Drop, L: Link + Drop> Desk<F, L> {
     /// The link has ended so. Nothing more goes out on it.
     fn lose(&mut self, alloc: Global, end: End, now: u64)
         ensures lost { self.new.starved ≡ false → Loses self.old.most self.old.mounted end now self.new.mounted }
+        ensures out { self.new.starved ≡ false → LosesOut self.old.most self.old.mounted end now self.new.mounted (text_of self.old.line) (text_of self.new.line) }
+        ensures link { (self.new.link ≡ None) × (self.new.waits ≡ self.old.waits) }
         ensures fed { self.new.starved ≡ false → self.old.starved ≡ false }
         ensures number { (self.new.connection ≡ self.old.connection) × (self.new.most ≡ self.old.most) × (self.new.listed ≡ self.old.listed) }
     {
@@ -257,13 +233,17 @@ impl<F: Files + Drop, L: Link + Drop> Desk<F, L> {
     }
 
     /// Whether there is something for whoever waits for a line.
-    pub(crate) fn has_news(&self) -> bool {
+    pub(crate) fn has_news(&self) -> bool
+        ensures { result ≡ (is_some self.now.line || self.now.starved) }
+    {
         self.line.is_some() || self.starved
     }
 
     /// The line of what ended. The error says that memory ran out.
     pub(crate) fn take_line(&mut self) -> Result<AnswerLine, AllocError>
-        ensures { (self.new.mounted ≡ self.old.mounted) × (self.new.starved ≡ self.old.starved) × (self.new.connection ≡ self.old.connection) × (self.new.most ≡ self.old.most) × (self.new.listed ≡ self.old.listed) }
+        ensures line { IfOk result (λ line. (self.old.line ≡ Some line) × (self.new.line ≡ None)) }
+        ensures none { OnErr result ((self.old.starved ≡ true) ⊎ (self.old.line ≡ None)) }
+        ensures rest { (self.new.mounted ≡ self.old.mounted) × (self.new.starved ≡ self.old.starved) × (self.new.connection ≡ self.old.connection) × (self.new.most ≡ self.old.most) × (self.new.listed ≡ self.old.listed) }
     {
         if self.starved {
             return Err(AllocError);
@@ -277,6 +257,7 @@ impl<F: Files + Drop, L: Link + Drop> Desk<F, L> {
     /// A line of the script begins. It answers whether a connection is to be joined for it.
     pub(crate) fn run(&mut self, alloc: Global, line: MountLine, now: u64) -> bool
         ensures turn { self.new.starved ≡ false → Turns self.old.most (λ m said. RunsHinted self.old.mounted line now m said) now self.new.mounted }
+        ensures out { self.new.starved ≡ false → TurnsOut L.held L.faults self.old.most (λ m said. RunsHinted self.old.mounted line now m said) now self.new.mounted (outlet self.old.link self.old.waits self.old.line) (outlet self.new.link self.new.waits self.new.line) (λ m. false) }
         ensures wants { result ≡ wants_link line self.old.mounted.client.linked }
         ensures listed { self.new.listed ≡ 0 }
         ensures fed { self.new.starved ≡ false → self.old.starved ≡ false }
@@ -295,6 +276,7 @@ impl<F: Files + Drop, L: Link + Drop> Desk<F, L> {
     /// known by. What was to go out on the one before doesn't.
     pub(crate) fn join(&mut self, alloc: Global, link: L, now: u64) -> u64
         ensures turn { self.new.starved ≡ false → Turns self.old.most (λ m said. joined_step self.old.mounted ≡ (m, said)) now self.new.mounted }
+        ensures out { self.new.starved ≡ false → TurnsOut L.held L.faults self.old.most (λ m said. joined_step self.old.mounted ≡ (m, said)) now self.new.mounted (outlet (Some link) [] self.old.line) (outlet self.new.link self.new.waits self.new.line) (λ m. false) }
         ensures listed { self.new.listed ≡ self.old.listed }
         ensures fed { self.new.starved ≡ false → self.old.starved ≡ false }
         ensures number { (result ≡ self.new.connection) × (self.new.connection ≡ min (self.old.connection + 1) (2 ^ 64 - 1)) × (self.new.most ≡ self.old.most) }
@@ -318,8 +300,11 @@ impl<F: Files + Drop, L: Link + Drop> Desk<F, L> {
         more: bool,
         now: u64,
     ) -> bool
-        ensures other { (self.old.connection == connection) ≡ false → self.new ≡ self.old }
+        ensures other { stands self.old.connection connection self.old.link self.old.starved ≡ false → self.new ≡ self.old }
         ensures turn { ((self.new.mounted ≡ self.old.mounted) × (self.new.starved ≡ self.old.starved) × (self.new.listed ≡ self.old.listed)) ⊎ ((self.new.listed ≡ counted self.old.listed record.now) × (self.new.starved ≡ false → Hears self.old.most self.old.listed self.old.mounted record.now now self.new.mounted)) }
+        ensures count { stands self.old.connection connection self.old.link self.old.starved ≡ true → self.new.listed ≡ counted self.old.listed record.now }
+        ensures out { stands self.old.connection connection self.old.link self.old.starved ≡ true → self.new.starved ≡ false → HearsOut L.held L.faults self.old.most self.old.listed self.old.mounted record.now now self.new.mounted (outlet self.old.link self.old.waits self.old.line) (outlet self.new.link self.new.waits self.new.line) more }
+        ensures goes_on { result ≡ stands self.new.connection connection self.new.link self.new.starved }
         ensures fed { self.new.starved ≡ false → self.old.starved ≡ false }
         ensures number { (self.new.connection ≡ self.old.connection) × (self.new.most ≡ self.old.most) }
     {
@@ -330,16 +315,20 @@ impl<F: Files + Drop, L: Link + Drop> Desk<F, L> {
         let said = self.mounted.got(alloc, self.listed, record, now);
         self.stored = self.mounted.closing().or(self.stored);
         // A client that is done with its link says what it had to say, and no more.
-        let more = more && self.mounted.linked();
-        self.settle(alloc, said, more, now);
-        close_unless(self.mounted.linked(), &mut self.link);
+        let linked = self.mounted.linked();
+        let waits = may_wait(more, linked);
+        self.settle(alloc, said, waits, now);
+        let stays = self.mounted.linked();
+        close_unless(stays, &mut self.link);
         self.is_open(connection)
     }
 
     /// No more records come on a connection.
     pub(crate) fn stop(&mut self, alloc: Global, connection: u64, end: End, now: u64)
-        ensures other { (self.old.connection == connection) ≡ false → self.new ≡ self.old }
+        ensures other { stands self.old.connection connection self.old.link self.old.starved ≡ false → self.new ≡ self.old }
         ensures turn { ((self.new.mounted ≡ self.old.mounted) × (self.new.starved ≡ self.old.starved) × (self.new.listed ≡ self.old.listed)) ⊎ ((self.new.listed ≡ self.old.listed) × (self.new.starved ≡ false → Loses self.old.most self.old.mounted end now self.new.mounted)) }
+        ensures out { stands self.old.connection connection self.old.link self.old.starved ≡ true → self.new.starved ≡ false → LosesOut self.old.most self.old.mounted end now self.new.mounted (text_of self.old.line) (text_of self.new.line) }
+        ensures link { stands self.old.connection connection self.old.link self.old.starved ≡ true → self.new.link ≡ None }
         ensures fed { self.new.starved ≡ false → self.old.starved ≡ false }
         ensures number { (self.new.connection ≡ self.old.connection) × (self.new.most ≡ self.old.most) }
     {

@@ -1,7 +1,8 @@
 //! A mount: the lines of a script, run one by one over a client on its connection.
 //!
 //! `desk` has what the threads share: the client, and the link on which its messages go. `shared` has
-//! it under a lock, as a `KeptDesk`; each turn is one call of `Desk`, by the trait of `turns`. `hearing` is the thread
+//! it under a lock, as a `KeptDesk`; each turn is one call of `Desk`, by the trait of `turns`. `giving` gives
+//! messages to its link. `hearing` is the thread
 //! of a connection, which takes its records; `connecting` dials one; `running` goes through the script,
 //! whose lines `script` gives as they come. `mount` has them all.
 #![tactic(auto)]
@@ -9,6 +10,7 @@
 pub mod answer_line;
 mod connecting;
 mod desk;
+mod giving;
 mod hearing;
 mod kept_desk;
 pub mod mount;

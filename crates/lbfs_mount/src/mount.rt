@@ -132,7 +132,7 @@ fn run_cached<
 ) -> (Result<(), MountError>, S, K, F, Dialler<N, N::L>)
 where
     N::L: Drop + Send,
-    requires { (host : Host) × (mounted ≡ nothing_done host) }
+    requires { (drift : ℕ) × (host : Host) × (mounted ≡ nothing_done drift host) }
     ensures saved { OnOk result.0 (IfSome cache.entry (λ name. ∥ IsSaved keep name.now (record { files = F.files result.3; faults = F.faults result.3 }) ∥₁)) }
     ensures ends { EndsAll (is_some cache.entry) (IsFaulty N.L.faults result.4.unpaired) (record { left = S.left script; reads = S.faults script; held = K.held sink; writes = K.faults sink; dials = N.faults dialler.net }) (record { left = S.left result.1; reads = S.faults result.1; held = K.held result.2; writes = K.faults result.2; dials = N.faults result.4.net }) result.0 }
     ensures later { (S.faults script ≤ S.faults result.1) × (K.faults sink ≤ K.faults result.2) }
@@ -167,7 +167,8 @@ where
 ///
 /// Where there is a cache file its items are the client's before the first line, and what the client keeps
 /// is written to it behind a script that was read to its end. What is wrong with either is written, in a
-/// line of its own before all others, or behind them. The client keeps at most so many bytes of contents.
+/// line of its own before all others, or behind them. The client keeps at most so many bytes of contents,
+/// and takes its clock and the server's to drift apart so far, in milliseconds, while a lease lasts.
 ///
 /// The client takes turns alone, each a line, a connection, a record or the end of a link: the bytes of
 /// records are counted from a line's beginning, and what is kept is bounded where a line ends (`Course`).
@@ -188,6 +189,7 @@ pub fn mount<
     net: N,
     clock: &C,
     port: u16,
+    drift: u64,
     cache: Option<&str>,
     keep: u64,
 ) -> (Result<(), MountError>, S, K, F, N, Option<N::L>)
@@ -204,7 +206,7 @@ where
     ensures bad_line { (n : ℕ) → IsErrOf result.0 (errors.BadLine n) → IsBadLineAll (is_some cache.entry) (S.left script) (S.left result.1) (K.held sink) (K.held result.2) n }
     ensures too_long { IsErrOf result.0 errors.TooLong → IsTooLong (S.left script) (S.left result.1) }
 {
-    let mounted = match Mounted::new(alloc, files) {
+    let mounted = match Mounted::new(alloc, files, drift) {
         Ok(mounted) => mounted,
         Err(files) => return (Err(MountError::Memory), script, sink, files, net, None),
     };

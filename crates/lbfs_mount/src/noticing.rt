@@ -1,7 +1,7 @@
 //! A mount's cache file is read and written, and what is to be said of it is: `NoticeEnds` of
 //! `specs/Cached.antt`.
 
-ghost use Rattle.std.specs.Prelude.{◌≡◌, ◌≤◌, Option, IfSome, is_some, true};
+ghost use Rattle.std.specs.Prelude.{◌≡◌, ℕ, ◌≤◌, Option, IfSome, is_some, true};
 ghost use Rattle.lbfs_client.specs.Caching.{Saves, within};
 ghost use Rattle.lbfs_client.specs.Host.{Host};
 ghost use Rattle.lbfs_client.specs.declared.answer.Answer.{Answer};
@@ -50,7 +50,7 @@ pub(crate) fn load<F: Files, K: Sink>(
     cache: Option<&str>,
     sink: &mut K,
 ) -> Result<(), MountError>
-    requires { (host : Host) × (mounted.old ≡ nothing_done host) }
+    requires { (drift : ℕ) × (host : Host) × (mounted.old ≡ nothing_done drift host) }
     ensures begun { Begun mounted.new }
     ensures ends { NoticeEnds (is_some cache.entry) (K.held sink.old) (K.held sink.new) (K.faults sink.old) (K.faults sink.new) result }
     ensures later { K.faults sink.old ≤ K.faults sink.new }

@@ -26,6 +26,8 @@ use std::thread::{Scope, Threads};
 pub(crate) struct Manner {
     /// How many connections there may be.
     pub(crate) links: u32,
+    /// How far clocks may drift apart while a lease lasts, in milliseconds.
+    pub(crate) drift: u64,
     /// Whether how far it is is shown.
     pub(crate) shows: bool,
     /// Whether what was stored and removed isn't said.
@@ -88,13 +90,14 @@ fn help_out<W: Wait, P: Screen, H: Folders, D: Dials, C: Clock, T>(
     alloc: Global,
     pool: &Pool,
     out: &Outside<P, H, D, C, T>,
+    drift: u64,
     number: u32,
 )
 where
     D::L: Drop + Send,
     H::F: Drop + Send,
 {
-    if let Ok(mut session) = Session::new(alloc, &out.dialler, &out.clock) {
+    if let Ok(mut session) = Session::new(alloc, drift, &out.dialler, &out.clock) {
         let mut folder = out.folders.folder(number);
         work(rt, alloc, pool, &out.screen, &mut session, &mut folder);
     }
@@ -116,14 +119,15 @@ fn call_others<
     alloc: Global,
     pool: &'e Pool,
     out: &'e Outside<P, H, D, C, T>,
-    links: u32,
+    manner: Manner,
 )
 where
     D::L: Drop + Send,
     H::F: Drop + Send,
 {
-    for number in 1..links {
-        let help = move || help_out(rt, alloc, pool, out, number);
+    let drift = manner.drift;
+    for number in 1..manner.links {
+        let help = move || help_out(rt, alloc, pool, out, drift, number);
         if scope.spawn(help).is_err() {
             return;
         }
@@ -192,7 +196,7 @@ where
             call_watcher(scope, rt, alloc, pool, out, manner);
             begin(rt, alloc, pool, &out.screen, remote, folder);
             if pool.goes_on(rt) {
-                call_others(scope, rt, alloc, pool, out, manner.links);
+                call_others(scope, rt, alloc, pool, out, manner);
                 work(rt, alloc, pool, &out.screen, remote, folder);
             }
             pool.end(rt, &out.screen);

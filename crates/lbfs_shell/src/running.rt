@@ -38,6 +38,8 @@ use std::thread::Threads;
 pub struct ShellAsked {
     /// How many connections there may be at once.
     pub links: u32,
+    /// How far clocks may drift apart while a lease lasts, in milliseconds.
+    pub drift: u64,
     /// Whether neither how far a command is nor what it came to is said.
     pub quiet: bool,
     /// The words of the one command; none where lines are read.
@@ -77,6 +79,7 @@ where
 {
     let manner = Manner {
         links: asked.links,
+        drift: asked.drift,
         shows: !asked.quiet && out.screen.is_watched(),
         quiet: asked.quiet,
     };
@@ -390,6 +393,7 @@ fn command_of(alloc: Global, words: &[Name]) -> Result<Option<Line>, ReadError>
 /// A client that has a connection; or how the shell ends.
 fn joined<'e, D: Dials, C: Clock>(
     alloc: Global,
+    drift: u64,
     dialler: &'e D,
     clock: &'e C,
 ) -> Result<Session<'e, D, C>, ShellEnd>
@@ -397,7 +401,7 @@ where
     D::L: Drop,
     ensures { IfErr result (λ e. (e ≡ ends.Network) ⊎ (e ≡ ends.Memory)) }
 {
-    match Session::new(alloc, dialler, clock) {
+    match Session::new(alloc, drift, dialler, clock) {
         Ok(mut session) => {
             if session.join(alloc) {
                 Ok(session)
@@ -412,6 +416,7 @@ where
 /// A shell in the folder of the host that the program runs in, with a connection; or how it ends.
 fn seated<'e, P, H: Folders, D: Dials, C: Clock, T>(
     alloc: Global,
+    drift: u64,
     out: &'e Outside<P, H, D, C, T>,
 ) -> Result<Seat<Session<'e, D, C>, H::F>, ShellEnd>
 where
@@ -422,7 +427,7 @@ where
     let Ok(here) = LocalPath::copy_of(alloc, ".") else {
         return Err(ShellEnd::Memory);
     };
-    match joined(alloc, &out.dialler, &out.clock) {
+    match joined(alloc, drift, &out.dialler, &out.clock) {
         Ok(remote) => Ok(Seat {
             shell: Shell::new(alloc, here),
             remote,
@@ -462,7 +467,7 @@ where
             Err(end) => end,
         };
     }
-    match seated(alloc, out) {
+    match seated(alloc, asked.drift, out) {
         Ok(mut seat) => run_once(rt, alloc, out, asked, &mut seat, sink, line),
         Err(end) => end,
     }
@@ -492,7 +497,7 @@ where
     ensures cause { HasCause (S.faults source.old) (S.faults source.new) (K.faults sink.old) (K.faults sink.new) result }
     ensures later { (S.faults source.old ≤ S.faults source.new) × (K.faults sink.old ≤ K.faults sink.new) }
 {
-    match seated(alloc, out) {
+    match seated(alloc, asked.drift, out) {
         Ok(mut seat) => run_lines(rt, alloc, out, asked, &mut seat, source, sink),
         Err(end) => end,
     }

@@ -119,8 +119,7 @@ pub struct CheckOptions {
 pub struct MountOptions {
     /// The port at which the server listens.
     pub port: u16,
-    /// `--drift`: how far clocks may drift apart, in milliseconds. Checked, and not used until leases
-    /// are served.
+    /// `--drift`: how far clocks may drift apart while a lease lasts, in milliseconds.
     pub drift: u64,
     /// `--cache`: the cache file, where there is one.
     pub cache: Option<StorePath>,

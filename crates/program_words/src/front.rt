@@ -37,8 +37,7 @@ pub const LINKS_MOST: u64 = 32;
 pub struct ShellOptions {
     /// The port at which the server listens.
     pub port: u16,
-    /// `--drift`: how far clocks may drift apart, in milliseconds. Checked, and not used until leases
-    /// are served.
+    /// `--drift`: how far clocks may drift apart while a lease lasts, in milliseconds.
     pub drift: u64,
     /// `--links`: how many connections it uses at once.
     pub links: u32,

@@ -1,8 +1,8 @@
 //! A client on its connection. `specs/Asking.antt` says what a command comes to.
 
-ghost use Rattle.std.specs.Prelude.{◌≡◌, ◌≤◌, true, false, None, length};
+ghost use Rattle.std.specs.Prelude.{◌≡◌, ◌≤◌, true, false, None, IfOk, length};
 ghost use Rattle.limits.specs.declared.TheConstants.{FILE_MOST};
-ghost use Rattle.client_state.specs.State.{State, local_bytes};
+ghost use Rattle.client_state.specs.State.{State, start_with, local_bytes};
 ghost use Rattle.client_state.specs.Ending.{cut, joined};
 ghost use Rattle.command_text.specs.declared.command.Command.{Command};
 ghost use Rattle.shell_link.specs.Asking.{answer_of, told_of, kept, Sends, Runs, Once, Asks, AsksHinted, MayLearn, MayOffer, rereads};
@@ -237,14 +237,18 @@ impl<'e, D: Dials, C: Clock> Session<'e, D, C>
 where
     D::L: Drop,
 {
-    /// A client that isn't connected yet. The one error is want of memory.
+    /// A client that isn't connected yet, whose clock and the server's may drift apart so far, in
+    /// milliseconds, while a lease lasts. The one error is want of memory.
     pub fn new(
         alloc: Global,
+        drift: u64,
         dialler: &'e D,
         clock: &'e C,
-    ) -> Result<Session<'e, D, C>, AllocError> {
+    ) -> Result<Session<'e, D, C>, AllocError>
+        ensures { IfOk result (λ s. s.client ≡ start_with drift) }
+    {
         Ok(Session {
-            client: Client::new(alloc)?,
+            client: Client::new(alloc, drift)?,
             line: None,
             stored: None,
             dialler,

@@ -6,3 +6,6 @@ keep-requires g c = stops_told c.args.self.now.mounted c.args.end c.args.now c.e
 
 pub returns-in-Ok-clause-lost : goal.returns-in-Ok-clause-lost
 returns-in-Ok-clause-lost g c = λ fed. record { mid = c.ended.new.self; said = c.in-Ok.said; stops = c.in-Ok.ensures; bounds = c.keep_within.ensures }
+
+pub returns-in-Ok-clause-out : goal.returns-in-Ok-clause-out
+returns-in-Ok-clause-out g c = λ fed. (record { mid = c.ended.new.self; said = c.in-Ok.said; stops = c.in-Ok.ensures; bounds = c.keep_within.ensures }, c.keep.ensures)
