@@ -6,7 +6,7 @@ use Rattle.wire.specs.Parse.{parse_of}
 use Rattle.wire.specs.declared.message.Message.{Message}
 use Rattle.wire.specs.declared.fault.WireFault.{WireFault}
 use Rattle.command_text.specs.declared.command.Command.{Command}
-use Rattle.trace_ends.specs.Core.{Event.Does, Event.Serves, Event.Hears, server_waiting, serves, serves_if, hears, hears_at, hears_if, does}
+use Rattle.trace_ends.specs.Core.{Event.Does, Event.Serves, Event.Hears, server_waits, serves, serves_if, hears, hears_at, hears_if, does}
 use Rattle.trace_ends.specs.Session.{Seat, Session, is_newest}
 use Rattle.trace_ends.specs.Numbers.{numbered, with_numbered}
 use Rattle.trace_replay.specs.World.{World, happened}
@@ -27,7 +27,7 @@ with_length xs (suc i) x = set_length xs i x
 
 served : (w : World) (n now : ℕ) (bytes : List ℕ) (o : Option Session) → length (serves w.core n now bytes o).core.seats ≡ count w
 served w n now bytes None = refl
-served w n now bytes (Some x) = by (parse_of server_waiting bytes)
+served w n now bytes (Some x) = by (parse_of (server_waits w.core n) bytes)
   where
     by : (r : Result Message WireFault) → length (serves_if w.core n now x r).core.seats ≡ count w
     by (Ok m) = refl

@@ -127,6 +127,7 @@ where
         network,
         &clock,
         options.port,
+        options.drift,
         cache_name(&options.cache),
         options.keep,
     );

@@ -8,6 +8,7 @@ use Rattle.command_text.specs.declared.path.PathCommand.{PathCommand}
 use Rattle.command_text.specs.declared.path.PathCommand.TheVariants as path
 use Rattle.client_state.specs.State as client
 use Rattle.client_state.specs.State.{local_at}
+use Rattle.client_state.specs.Noting.{at}
 use Rattle.open_close.specs.Step.{command_step}
 use Rattle.client_state.specs.Ending.{on_local, may_ask}
 use Rattle.file_close.specs.Storing.{closes, asks_temp}
@@ -32,7 +33,7 @@ as_core_step k t = record { core = k; loss = loss_of t.loss; session = t.session
 -- what is left where these are the seats, the sessions and the operations
 abbrev pub left : Core → (first : Seat) → List Seat → List Session → List Op → ClientStep → CoreStep
 left k first seats sessions ops acts = record {
-  core = record { server = k.server; seats = seats; sessions = sessions; steps = k.steps + 1; ops = ops; entries = k.entries };
+  core = record { server = k.server; drift = k.drift; seats = seats; sessions = sessions; steps = k.steps + 1; ops = ops; entries = k.entries };
   loss = Nothing;
   session = first.session;
   up = acts.send;
@@ -66,14 +67,14 @@ value_stays s (command.Abandon file) now = refl
 value_stays s (command.Named k) now = names_store_nothing s (command_step s (command.Named k) now).0 k 0 (command_step s (command.Named k) now).1.ended
 value_stays s (command.Close file) now = by s.task (local_at s.opened file)
   where
-    asks : (b : Bool) → value_at_begin (asks_temp s file b).0 word.Close file (asks_temp s file b).1.ended ≡ value_at_begin s word.Close file (asks_temp s file b).1.ended
+    asks : (b : Bool) → value_at_begin (asks_temp (at s now) file b).0 word.Close file (asks_temp (at s now) file b).1.ended ≡ value_at_begin s word.Close file (asks_temp (at s now) file b).1.ended
     asks true = refl
     asks false = refl
 
-    by : (t : Option Task) (l : Option Local) → (let r = on_local s t l (closes s file) in value_at_begin r.0 word.Close file r.1.ended ≡ value_at_begin s word.Close file r.1.ended)
+    by : (t : Option Task) (l : Option Local) → (let r = on_local (at s now) t l (closes (at s now) file) in value_at_begin r.0 word.Close file r.1.ended ≡ value_at_begin s word.Close file r.1.ended)
     by (Some t) l = refl
     by None None = refl
-    by None (Some l) = asks (may_ask s)
+    by None (Some l) = asks (may_ask (at s now))
 
 -- the operation that a command begins, from the client behind its step
 op_is : (c now step : ℕ) (command : Command) (s t : client.State) (acts : ClientStep)
@@ -118,9 +119,9 @@ pub left_is : (k : Core) (seat : Seat) (seats : List Seat) (sessions : List Sess
     → t ≡ record { loss = lost.Nothing; session = session; up = acts.send; down = [] }
     → step ≡ k.steps + 1
     → session ≡ seat.session
-    → as_core_step (record { server = k.server; seats = seats; sessions = sessions; steps = step; ops = ops; entries = k.entries }) t ≡ left k seat seats sessions ops acts
+    → as_core_step (record { server = k.server; drift = k.drift; seats = seats; sessions = sessions; steps = step; ops = ops; entries = k.entries }) t ≡ left k seat seats sessions ops acts
 left_is k seat seats sessions ops acts step session t e n s =
-    let core : ℕ → Core = λ m. record { server = k.server; seats = seats; sessions = sessions; steps = m; ops = ops; entries = k.entries } in
+    let core : ℕ → Core = λ m. record { server = k.server; drift = k.drift; seats = seats; sessions = sessions; steps = m; ops = ops; entries = k.entries } in
     ap (as_core_step (core step)) e
     ∙ ap (λ (m : ℕ). as_core_step (core m) (record { loss = lost.Nothing; session = session; up = acts.send; down = [] })) n
     ∙ ap (λ (o : Option ℕ). as_core_step (core (k.steps + 1)) (record { loss = lost.Nothing; session = o; up = acts.send; down = [] })) s

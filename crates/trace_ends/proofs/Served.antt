@@ -3,7 +3,7 @@ use Rattle.std.proofs.Common.{◌≡◌, ℕ, zero, suc, ◌<◌, List, [], ◌�
 use Rattle.std.specs.Prelude.{slice_get, Result, Ok, Err, IfOk, IfSome}
 use Rattle.wire.specs.Parse.{parse_of}
 use Rattle.wire.specs.declared.message.Message.{Message}
-use Rattle.trace_ends.specs.Core.{Core, CoreStep, server_waiting, server_got, serves_if, serves}
+use Rattle.trace_ends.specs.Core.{Core, CoreStep, server_waits, server_got, serves_if, serves}
 use Rattle.trace_ends.specs.Session.{Session}
 
 found : {A : Type 0} (xs : List A) (i : ℕ) → i < length xs → (x : A) × (slice_get xs i ≡ Some x)
@@ -13,7 +13,7 @@ found (x ∷ xs) (suc i) lt = found xs i (omega (arith, lt))
 
 pub serves_is : {T E : Type 0} (k : Core) (place number now : ℕ) (bytes : List ℕ) (m : Message) (r : Result T E) (left : T → CoreStep)
     → place < length k.sessions
-    → parse_of server_waiting bytes ≡ Ok m
+    → parse_of (server_waits k number) bytes ≡ Ok m
     → IfOk r (λ t. IfSome (slice_get k.sessions place) (λ x. left t ≡ server_got k number now x m))
     → IfOk r (λ t. left t ≡ serves k number now bytes (slice_get k.sessions place))
 serves_is k place number now bytes m (Err e) left lt parsed told = tt

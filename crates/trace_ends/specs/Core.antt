@@ -11,6 +11,7 @@ use Rattle.command_text.specs.Content.{content_bytes}
 use Rattle.command_text.specs.declared.command.Command.{Command}
 use Rattle.tree_reading.specs.declared.entry.EntryKind.{EntryKind}
 use Rattle.tree_reading.specs.declared.entry.EntryKind.TheVariants as kind
+use Rattle.callback_core.specs.BackCalls.{waiting_at}
 use Rattle.server_core.specs.State as server
 use Rattle.server_core.specs.Step.{server_step, forges, clears_index}
 use Rattle.server_core.specs.declared.event.Event.TheVariants as event
@@ -40,6 +41,8 @@ use Rattle.trace_ends.specs.Numbers.{numbered, with_numbered}
 
 pub record Core : Type 0 where
   pub server : server.State
+  -- how far a client's clock and the server's may drift apart while a lease lasts, in milliseconds
+  pub drift : ℕ
   -- the clients, by their numbers
   pub seats : List Seat
   -- the sessions that were ever made, by their numbers
@@ -101,9 +104,13 @@ changed_file es = option_map (λ e. e.file) (find (λ e. is_of_file e.kind) es)
 
 -- ---- the server's end
 
--- the server asks for nothing, so nothing waits there
+-- no answer is waited for: a call is read so, whatever else waits
 abbrev pub server_waiting : Waiting
 server_waiting = record { side = side.Server; calls = [] }
+
+-- what the server waits for on a session: answers to RECALLs
+abbrev pub server_waits : Core → (number : ℕ) → Waiting
+server_waits k number = waiting_at k.server.leasing.calls number
 
 -- A session's message is taken by the server, at a reading of its clock. A change that doesn't wait is made at once, and is that of the session's last
 -- operation that may change a file.
@@ -125,7 +132,7 @@ serves_if k number now x (Err e) = idles k
 
 abbrev pub serves : Core → (number now : ℕ) → List ℕ → Option Session → CoreStep
 serves k number now bytes None = quiet k
-serves k number now bytes (Some x) = serves_if k number now x (parse_of server_waiting bytes)
+serves k number now bytes (Some x) = serves_if k number now x (parse_of (server_waits k number) bytes)
 
 -- ---- the client's end
 

@@ -1,5 +1,5 @@
 -- What becomes of operations.
-use Rattle.std.specs.Prelude.{ℕ, ◌+◌, List, [], find, Option, Some, None, Bool, true, false, ◌==◌, if◌then◌else◌, slice_get, slice_set}
+use Rattle.std.specs.Prelude.{ℕ, ◌+◌, List, [], find, Option, Some, None, unwrap_or, Bool, true, false, ◌==◌, if◌then◌else◌, slice_get, slice_set}
 use Rattle.std.specs.Option.{option_map}
 use Rattle.xdr_codec.specs.declared.status.Status.TheVariants as status
 use Rattle.client_state.specs.State as client
@@ -30,10 +30,10 @@ has_point w o = false
 abbrev pub taken_at : List TakenCall → (xid : ℕ) → Option ℕ
 taken_at taken xid = option_map (λ t. t.step) (find (λ t. t.xid == xid) taken)
 
--- the point that an open has by its end; that of a close is the step at which its change was made
-abbrev pub point_if : Bool → List TakenCall → (xid : ℕ) → Option ℕ → Option ℕ
-point_if true taken xid point = taken_at taken xid
-point_if false taken xid point = point
+-- The point that an open has by its end, in this step: where its outcome rests on no call it is this step. That of a close is the step at which its change was made.
+abbrev pub point_if : Bool → List TakenCall → (xid step : ℕ) → Option ℕ → Option ℕ
+point_if true taken xid step point = Some (unwrap_or (taken_at taken xid) step)
+point_if false taken xid step point = point
 
 -- the content that an open got; a close has its value from its begin
 abbrev pub value_of : List ℕ → client.State → Outcome → List ℕ
@@ -44,7 +44,7 @@ abbrev pub counted : Traffic → Counts → Traffic
 counted t n = record { cond = t.cond + n.cond_writes; tmp = t.tmp + n.temp_writes; read = t.read + n.reads; «data» = t.«data» + n.bytes }
 
 abbrev pub ended_op : Op → client.State → List TakenCall → (step : ℕ) → Ended → Op
-ended_op o c taken step e = record o { end = Some step; point = point_if (has_point o.word e.outcome) taken e.rests_on o.point; outcome = told_of e.outcome; value = value_of o.value c e.outcome }
+ended_op o c taken step e = record o { end = Some step; point = point_if (has_point o.word e.outcome) taken e.rests_on step o.point; outcome = told_of e.outcome; value = value_of o.value c e.outcome }
 
 abbrev pub op_ended : Op → client.State → List TakenCall → (step : ℕ) → Option Ended → Op
 op_ended o c taken step None = o

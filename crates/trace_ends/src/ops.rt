@@ -42,13 +42,19 @@ fn taken_at(taken: &[TakenCall], xid: u32) -> Option<u64>
     None
 }
 
-/// The point that an operation has by its end; that of a change is the step at which it was
-/// made.
-fn point_of(word: Word, point: Option<u64>, ended: &Ended, taken: &[TakenCall]) -> Option<u64>
-    ensures { result ≡ point_if (has_point word ended.now.outcome) taken.now ended.now.rests_on point }
+/// The point that an operation has by its end, in this step, which it is where its outcome rests on
+/// no call; that of a change is the step at which it was made.
+fn point_of(
+    word: Word,
+    point: Option<u64>,
+    ended: &Ended,
+    taken: &[TakenCall],
+    step: u64,
+) -> Option<u64>
+    ensures { result ≡ point_if (has_point word ended.now.outcome) taken.now ended.now.rests_on step point }
 {
     if has_point(word, &ended.outcome) {
-        taken_at(taken, ended.rests_on)
+        Some(taken_at(taken, ended.rests_on).unwrap_or(step))
     } else {
         point
     }
@@ -128,7 +134,7 @@ fn end(
     tell(&mut op.outcome, told);
     put_value(&mut op.value, client, &ended.outcome)?;
     op.end = Some(step);
-    op.point = point_of(op.word, op.point, ended, taken);
+    op.point = point_of(op.word, op.point, ended, taken, step);
     Ok(())
 }
 

@@ -63,11 +63,12 @@ impl Runs for Seat {
 }
 
 impl Seat {
-    /// A client that has not joined. The one error is want of memory.
-    pub fn new(alloc: Global) -> Result<Seat, AllocError>
-        ensures { IfOk result (λ seat. seat ≡ new_seat) }
+    /// A client that has not joined, and takes its clock and the server's to drift apart so far, in
+    /// milliseconds. The one error is want of memory.
+    pub fn new(alloc: Global, drift: u64) -> Result<Seat, AllocError>
+        ensures { IfOk result (λ seat. seat ≡ new_seat drift) }
     {
-        let client = Client::new(alloc)?;
+        let client = Client::new(alloc, drift)?;
         Ok(Seat {
             client,
             session: None,

@@ -1,7 +1,7 @@
 //! A record comes to the server. `serves` in `specs/Core.antt` says what that makes of the two ends.
 
 ghost use Rattle.std.specs.Prelude.{◌≡◌, ◌+◌, ◌<◌, ◌^◌, ◌++◌, length, replicate, slice_get, slice_set, IfOk, IfSome, OnOk};
-ghost use Rattle.trace_ends.specs.Core.{changed_file, newest_entries, server_waiting, server_got, serves, happens, Event.Serves};
+ghost use Rattle.trace_ends.specs.Core.{changed_file, newest_entries, server_got, serves, happens, Event.Serves};
 ghost use Rattle.trace_ends.specs.Ops.{pointed_at};
 ghost use Rattle.trace_ends.specs.Session.{taken_with};
 ghost use Rattle.trace_ends.specs.View.{core_of, core_step_of};
@@ -10,23 +10,12 @@ use crate::core_step::CoreStep;
 use crate::entering::{changed_by, enter};
 use crate::session::{remember, short_number};
 use crate::world_core::{Core, count_on};
-use lb_base::items::Items;
 use server_core::event::{Event, let_go, let_go_step};
 use session_rules::numbers::place_of;
 use session_rules::pointing::point_at;
 use std::alloc::{AllocError, Global};
-use wire::message::{Message, Side, Waiting};
+use wire::message::Message;
 use wire::parse::message_of;
-
-/// The server asks for nothing, so nothing waits there.
-fn server_waiting(alloc: Global) -> Waiting
-    ensures { result ≡ server_waiting }
-{
-    Waiting {
-        side: Side::Server,
-        calls: Items::new(alloc),
-    }
-}
 
 /// Counts the step in which a message of the session at this place is taken, and remembers it.
 fn note(core: &mut Core, place: usize, message: &Message) -> Result<(), AllocError>
@@ -109,7 +98,8 @@ fn serves_at(
     requires now { now < 2 ^ 63 }
     ensures { IfOk result (λ t. core_step_of core.new t ≡ serves (core_of core.old) (place + 1) now bytes.now (slice_get core.old.sessions.items place)) }
 {
-    let said = message_of(alloc, bytes, &server_waiting(alloc))?;
+    let session = short_number(place as u64 + 1)?;
+    let said = message_of(alloc, bytes, core.server.waiting(session))?;
     match said {
         Ok(message) => got(alloc, core, place, now, message),
         Err(_fault) => {

@@ -2,7 +2,7 @@
 //! and `happens` what each event makes of them. An event is a method of `Core`, in a module of its own.
 
 ghost use Rattle.std.specs.Prelude.{◌≡◌, ◌+◌, [], ◌++◌, replicate, IfOk, OnOk};
-ghost use Rattle.server_core.specs.State.{empty};
+ghost use Rattle.server_core.specs.State.{empty, with_term};
 ghost use Rattle.server_core.specs.Step.{opens_with};
 ghost use Rattle.trace_ends.specs.Session.{new_seat};
 ghost use Rattle.trace_ends.specs.View.{core_of};
@@ -18,6 +18,8 @@ use tree_nodes::node::Body;
 /// The server, the clients, and what the history tells of them, without the bytes between them.
 pub struct Core {
     pub server: Server,
+    /// How far a client's clock and the server's may drift apart while a lease lasts, in milliseconds.
+    pub drift: u64,
     /// The clients, by their numbers.
     pub seats: Vec<Seat>,
     /// The sessions that were ever made, by their numbers.
@@ -35,6 +37,7 @@ impl Drop for Core {
     fn drop(self) {
         let Core {
             server,
+            drift: _,
             seats,
             sessions,
             steps: _,
@@ -57,11 +60,11 @@ pub fn count_on(steps: u64, more: u64) -> Result<u64, AllocError>
 }
 
 /// Adds so many clients, none of which has joined.
-fn seat_more(alloc: Global, seats: &mut Vec<Seat>, count: u64) -> Result<(), AllocError>
-    ensures { OnOk result (seats.new.items ≡ seats.old.items ++ replicate count new_seat) }
+fn seat_more(alloc: Global, seats: &mut Vec<Seat>, drift: u64, count: u64) -> Result<(), AllocError>
+    ensures { OnOk result (seats.new.items ≡ seats.old.items ++ replicate count (new_seat drift)) }
 {
     for _i in 0..count {
-        seats.push(Seat::new(alloc)?)?;
+        seats.push(Seat::new(alloc, drift)?)?;
     }
     Ok(())
 }
@@ -69,11 +72,12 @@ fn seat_more(alloc: Global, seats: &mut Vec<Seat>, count: u64) -> Result<(), All
 impl Core {
     /// No file, no client and no session. The one error is want of memory.
     pub fn new(alloc: Global) -> Result<Core, AllocError>
-        ensures { IfOk result (λ core. core_of core ≡ record { server = empty; seats = []; sessions = []; steps = 0; ops = []; entries = [] }) }
+        ensures { IfOk result (λ core. core_of core ≡ record { server = empty; drift = 0; seats = []; sessions = []; steps = 0; ops = []; entries = [] }) }
     {
         let server = Server::new(alloc, 0)?;
         Ok(Core {
             server,
+            drift: 0,
             seats: Vec::new(alloc),
             sessions: Vec::new(alloc),
             steps: 0,
@@ -90,13 +94,27 @@ impl Core {
         self.server.open(dir, name, body)
     }
 
+    /// The server grants leases for this term from now on, in milliseconds.
+    pub fn set_term(&mut self, term: u32)
+        ensures { core_of self.new ≡ record (core_of self.old) { server = with_term (core_of self.old).server term } }
+    {
+        self.server.set_term(term);
+    }
+
+    /// The clients that come take their clocks and the server's to drift apart so far, in milliseconds.
+    pub fn set_drift(&mut self, drift: u64)
+        ensures { core_of self.new ≡ record (core_of self.old) { drift = drift } }
+    {
+        self.drift = drift;
+    }
+
     /// Puts `count` clients in the place of those that are there, none of which has joined. The one error
     /// is want of memory.
     pub fn seat_all(&mut self, alloc: Global, count: u64) -> Result<(), AllocError>
-        ensures { OnOk result (core_of self.new ≡ record (core_of self.old) { seats = replicate count new_seat }) }
+        ensures { OnOk result (core_of self.new ≡ record (core_of self.old) { seats = replicate count (new_seat self.old.drift) }) }
     {
         self.seats.clear();
-        seat_more(alloc, &mut self.seats, count)
+        seat_more(alloc, &mut self.seats, self.drift, count)
     }
 
     /// The operations and the number of steps. The ends are let go.
@@ -105,6 +123,7 @@ impl Core {
     {
         let Core {
             server,
+            drift: _,
             seats,
             sessions,
             steps,

@@ -94,11 +94,11 @@ at_version w line.Version t e = taken (turn.At stage.Term) t tt e
 at_version w l t e = refused_line Grammar t e
 
 at_term : (w : World) (l : Line) (t : Turn) → asks_at w stage.Term l ≡ asking t → IsTurnBounded t
-at_term w (line.Term n) t e = taken (turn.At stage.Drift) t tt e
+at_term w (line.Term n) t e = taken (turn.Term n) t tt e
 at_term w l t e = refused_line Grammar t e
 
 at_drift : (w : World) (l : Line) (t : Turn) → asks_at w stage.Drift l ≡ asking t → IsTurnBounded t
-at_drift w (line.Drift n) t e = taken (turn.At stage.Clients) t tt e
+at_drift w (line.Drift n) t e = taken (turn.Drift n) t tt e
 at_drift w l t e = refused_line Grammar t e
 
 at_clients : (w : World) (l : Line) (t : Turn) → asks_at w stage.Clients l ≡ asking t → IsTurnBounded t

@@ -1,5 +1,5 @@
 -- Why an operation ended as it did: for each outcome what must have happened.
-use Rattle.std.specs.Prelude.{◌≡◌, ℕ, zero, suc, ◌+◌, ◌<◌, ◌≤◌, List, [], ◌∷◌, length, take, filter, ◌⊎◌, Bool, true, false, ◌&&◌, ◌==◌, nat_lt, nat_le, Option, Some, None, Ok, IsSome, Contains, option_map, slice_get, if◌then◌else◌}
+use Rattle.std.specs.Prelude.{◌≡◌, ℕ, zero, suc, ◌+◌, ◌<◌, ◌≤◌, List, [], ◌∷◌, length, take, filter, ◌⊎◌, Bool, true, false, ◌&&◌, ◌||◌, ◌==◌, nat_lt, nat_le, Option, Some, None, Ok, IsSome, Contains, option_map, slice_get, if◌then◌else◌}
 use Rattle.std.specs.List.{list_any}
 use Rattle.sha1.specs.Sha1.{sha1}
 use Rattle.command_text.specs.Content.{content_length, content_bytes}
@@ -25,6 +25,7 @@ use Rattle.register_model.specs.declared.op.Outcome.{Outcome}
 use Rattle.register_model.specs.declared.op.Outcome.TheVariants as told
 use Rattle.trace_ends.specs.Core.{Event.Cuts, Event.Serves, server_waiting}
 use Rattle.trace_replay.specs.Trail.{Deed, Moment, step_of, hashed_of}
+use Rattle.trace_replay.specs.AtOnce.{EndsFresh}
 use Rattle.trace_replay.specs.Traffic.{until}
 use Rattle.trace_replay.specs.Book.{Book, Collides, value_at, version_at}
 use Rattle.trace_replay.specs.OwnCalls.{WaitsFor, TakesCall}
@@ -115,6 +116,10 @@ own_answer false asks k l = free_answer asks k l
 abbrev pub can_ask : (joined : Bool) → (calls : ℕ) → Bool
 can_ask joined calls = joined && nat_le (calls + 1000000) 4294967295
 
+-- A command that needs the server goes there where its client may ask it, and one that is to open a file, where that is fresh: then nobody is asked.
+abbrev pub can_go : Deed → Bool
+can_go d = can_ask d.joined d.calls || d.fresh
+
 -- ---- what the server's answers lead to
 
 -- A point lies within the operation.
@@ -192,14 +197,21 @@ pub record IsDirectory (book : Book) (o : Op) (id : ℕ) : Type 0 where
 abbrev pub IsOpenRefused : Book → (file : ℕ) → Op → (status : ℕ) → Type 0
 IsOpenRefused book file o status = ((status ≡ 21) × IsDirectory book o file) ⊎ ((status ≡ 70) × ((p : ℕ) × Within o p × (value_at book file p ≡ Absent)))
 
--- A rewrite's file was there when the server took its GETLEASE, while the client's operation under way waited for the answer. It has no point.
-pub record IsRewritten (book : Book) (o : Op) : Type 0 where
-  pub pointless : o.point ≡ None
+-- A rewrite's file was there when the server took its GETLEASE, while the client's operation under way waited for the answer.
+pub record IsRenewed (book : Book) (o : Op) : Type 0 where
   pub step : ℕ
   pub inside : IsInside o o.begin step
   pub there : IsSome (value_at book o.file step)
   pub xid : ℕ
   pub taken : TakesCall book o.client step xid (body.Lb (lb.GetLease (handle_bytes o.file)))
+
+-- or it ended at once, and its file was there then
+abbrev pub IsRenewedNow : Book → Op → Type 0
+IsRenewedNow book o = (e : EndsFresh book.moments o) × IsSome (value_at book o.file (step_of e.moment))
+
+-- It has no point.
+abbrev pub IsRewritten : Book → Op → Type 0
+IsRewritten book o = (o.point ≡ None) × (IsRenewed book o ⊎ IsRenewedNow book o)
 
 -- the point of an open of a path whose look-up was refused in this step: this one, where a directory was gone (70), and else none
 abbrev pub look_up_point : (status step : ℕ) → Option ℕ
@@ -256,7 +268,7 @@ HasNeither o = (o.file ≡ 0) × (o.point ≡ None)
 abbrev pub IsRenewRefused : Book → Op → Spot → (status : ℕ) → Type 0
 IsRenewRefused book o s status = (HasFound book o s × IsRewriteRefused book o status) ⊎ (IsRefused book o status × HasNeither o)
 
--- The cause of how an operation on names ended, or goes on, that asked the server. What was refused, but an open or a rewrite, has no file and no point, nor has a list.
+-- The cause of how an operation on names ended, or goes on, that its client didn't answer by itself. What was refused, but an open or a rewrite, has no file and no point, nor has a list.
 abbrev pub NamedCause : Book → PathCommand → Op → Outcome → Type 0
 NamedCause book (path.Find s) o (told.Opened len digest) = HasFound book o s × IsOpened book o.file o len digest
 NamedCause book (path.Find s) o told.AlreadyOpen = HasFound book o s × (o.point ≡ None)
@@ -275,7 +287,7 @@ NamedCause book k o told.Lost = IsLost book o
 NamedCause book k o told.Running = o.end ≡ None
 NamedCause book k o outcome = ⊥
 
--- the cause of how an operation ended, or goes on, that asked the server
+-- the cause of how an operation ended, or goes on, that its client didn't answer by itself
 abbrev pub HasCause : Book → Command → Op → Outcome → Type 0
 HasCause book (command.Open f) o (told.Opened len digest) = IsOpened book f o len digest
 HasCause book (command.Open f) o (told.Refused status) = IsOpenRefused book f o status

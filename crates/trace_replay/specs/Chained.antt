@@ -19,6 +19,7 @@ use Rattle.trace_text.specs.declared.line.Who.TheVariants as who
 use Rattle.tree_nodes.specs.declared.node.Body.{Body}
 use Rattle.tree_nodes.specs.declared.node.Body.TheVariants.{Directory, File}
 use Rattle.wire.specs.declared.message.Message.{Message}
+use Rattle.server_core.specs.State.{with_term}
 use Rattle.server_core.specs.Step.{opens_with}
 use Rattle.server_core.specs.declared.event.Sent.{Sent}
 use Rattle.trace_ends.specs.Session.{Seat, Session, new_seat}
@@ -131,8 +132,11 @@ pub record IsDelivered (sent : List ℕ) (came : ℕ) (k : Core) (d : Delivery) 
 
 -- ---- lines
 
--- a line opens with clients, or with a file or directory; something happens; an index or what a client keeps is changed; or bytes come
+-- a line says for how long leases are granted, or how far clocks may drift apart; it opens with clients, or with a file or directory; something happens; an
+-- index or what a client keeps is changed; or bytes come
 pub data Part : Type 0 where
+  Grants : (term : ℕ) → Part
+  Drifts : (drift : ℕ) → Part
   Clients : (count : ℕ) → Part
   Opens : Spot → Body → Part
   Tells : Event → Part
@@ -145,6 +149,8 @@ rounds_of zero session server at = []
 rounds_of (suc k) session server at = Brings (record { side = Up; session = session; amount = amount.All; now = server }) ∷ Brings (record { side = Down; session = session; amount = amount.All; now = at }) ∷ rounds_of k session server at
 
 abbrev pub parts_by : Option Line → List Part
+parts_by (Some (line.Term term)) = Grants term ∷ []
+parts_by (Some (line.Drift drift)) = Drifts drift ∷ []
 parts_by (Some (line.Clients count)) = Clients count ∷ []
 parts_by (Some (line.Dir spot)) = Opens spot Directory ∷ []
 parts_by (Some (line.File spot content)) = Opens spot (File (content_bytes content)) ∷ []
@@ -184,7 +190,9 @@ IsOpenedWith k s b after = (dir : ℕ) × (place_for k.server.tree s ≡ Some di
 
 -- which moments a part has, where the ends were so before, and are so after
 abbrev pub HasMoments : (past : List Moment) → Came → Core → Part → (own : List Moment) → (after : Core) → Type 0
-HasMoments past came k (Clients count) own after = (own ≡ []) × (after ≡ record k { seats = replicate count new_seat })
+HasMoments past came k (Grants term) own after = (own ≡ []) × (after ≡ record k { server = with_term k.server term })
+HasMoments past came k (Drifts drift) own after = (own ≡ []) × (after ≡ record k { drift = drift })
+HasMoments past came k (Clients count) own after = (own ≡ []) × (after ≡ record k { seats = replicate count (new_seat k.drift) })
 HasMoments past came k (Opens s b) own after = (own ≡ []) × IsOpenedWith k s b after
 HasMoments past came k (Tells e) own after = (own ≡ record { before = k; event = e } ∷ []) × (after ≡ (happens k e).core)
 HasMoments past came k (Changes l) own after = (own ≡ []) × (after ≡ changed_by k l)

@@ -1,5 +1,5 @@
 -- When the history of a run is faithful to its trace.
-use Rattle.std.specs.Prelude.{◌≡◌, ℕ, zero, suc, ◌+◌, ◌*◌, ◌<◌, ◌≤◌, List, [], length, drop, ◌⊎◌, Bool, true, false, not, Option, Some, None, IsSome, is_some, unwrap_or, Contains, slice_get, map}
+use Rattle.std.specs.Prelude.{◌≡◌, ℕ, zero, suc, ◌+◌, ◌*◌, ◌<◌, ◌≤◌, List, [], length, remove, max, ◌⊎◌, Bool, true, false, not, Option, Some, None, IsSome, is_some, unwrap_or, Contains, slice_get, map}
 use Rattle.sha1.specs.Sha1.{sha1}
 use Rattle.command_text.specs.Parts.{lines_of}
 use Rattle.command_text.specs.declared.command.Command.{Command}
@@ -14,6 +14,9 @@ use Rattle.wire.specs.declared.message.Body.TheVariants as body
 use Rattle.wire.specs.declared.message.Message.{Message}
 use Rattle.wire.specs.declared.message.Message.TheVariants as message
 use Rattle.transfer_rules.specs.Limits.{calls_most}
+use Rattle.lease_rules.specs.Changes.{asker, meets}
+use Rattle.lease_rules.specs.Leases.{is_others}
+use Rattle.lease_rules.specs.declared.lease.Lease.{Lease}
 use Rattle.server_core.specs.Closing.{ready_by}
 use Rattle.server_core.specs.State.{Change}
 use Rattle.server_core.specs.declared.change.Wanted.TheVariants as wanted
@@ -43,7 +46,8 @@ use Rattle.trace_replay.specs.Owing.{owes_nothing, PaysAll}
 use Rattle.trace_replay.specs.Numbered.{numbers_of, CountOn}
 use Rattle.trace_replay.specs.Book.{Book, Or, version_at}
 use Rattle.trace_replay.specs.OwnCalls.{TakesCall}
-use Rattle.trace_replay.specs.Causes.{HasCause, can_ask, is_busy, local_before, own_answer}
+use Rattle.trace_replay.specs.AtOnce.{EndsFresh}
+use Rattle.trace_replay.specs.Causes.{HasCause, can_go, is_busy, local_before, own_answer}
 
 -- ---- an operation
 
@@ -72,7 +76,7 @@ HasFile (command.Named k) o None = Unit {0}
 HasFile k o own = o.file ≡ file_of k
 
 -- What became of a command, where its client had this local content of the file before: it was answered by the client itself, in its own
--- step, exactly where that has an answer; else the operation went to the server, and ended by what came of it.
+-- step, exactly where that has an answer; else the operation began, and ended by its cause: what came of the server, or a content that was fresh.
 abbrev pub CameTo : Book → Deed → Op → Option (List ℕ) → Option Outcome → Type 0
 CameTo book d o l (Some own) = (o.outcome ≡ own) × (o.end ≡ Some o.begin) × (o.point ≡ None)
 CameTo book d o l None = HasCause book d.command o o.outcome × StoresLocal d.command o l
@@ -81,11 +85,11 @@ CameTo book d o l None = HasCause book d.command o o.outcome × StoresLocal d.co
 pub record IsDone (book : Book) (d : Deed) (o : Op) (l : Option (List ℕ)) : Type 0 where
   pub client : o.client ≡ d.client
   pub word : o.word ≡ word_of d.command
-  pub file : HasFile d.command o (own_answer (is_busy book.ops o) (can_ask d.joined d.calls) d.command l)
+  pub file : HasFile d.command o (own_answer (is_busy book.ops o) (can_go d) d.command l)
   pub begin : o.begin ≡ d.begin
   -- no step sends more calls than one operation may have under way
   pub few : d.calls ≤ calls_most * d.begin
-  pub came_to : CameTo book d o l (own_answer (is_busy book.ops o) (can_ask d.joined d.calls) d.command l)
+  pub came_to : CameTo book d o l (own_answer (is_busy book.ops o) (can_go d) d.command l)
   -- it has an end exactly where it is not running, and not before its begin
   pub end : is_some o.end ≡ not (is_running o.outcome)
   pub order : (e : ℕ) → o.end ≡ Some e → o.begin ≤ e
@@ -117,8 +121,12 @@ pub record OpensOne (book : Book) (o : Op) : Type 0 where
   pub some : (s : Said) × Contains (taken_of book.moments) s × (is_of o s ≡ true) × (point < s.step) × Carries (version_at book o.file point) s.message
   pub all : (s : Said) → Contains (taken_of book.moments) s → is_of o s ≡ true → point < s.step → TellsVersion s.message → Carries (version_at book o.file point) s.message
 
+-- Or it ended at once, by a content that is kept in that version.
+abbrev pub OpensFresh : Book → Op → Type 0
+OpensFresh book o = (e : EndsFresh book.moments o) × (o.point ≡ Some (step_of e.moment)) × (e.content.version ≡ version_at book o.file (step_of e.moment))
+
 abbrev pub OpensVersion : Book → Op → Outcome → Type 0
-OpensVersion book o (told.Opened len digest) = OpensOne book o
+OpensVersion book o (told.Opened len digest) = OpensOne book o ⊎ OpensFresh book o
 OpensVersion book o outcome = Unit {0}
 
 -- ---- the point of an open
@@ -131,13 +139,20 @@ IsFirstOf (suc n) file (body.Lb (lb.GetHash a)) = (a.handle ≡ handle_bytes fil
 IsFirstOf n file b = ⊥
 
 -- An open that got its content has its point in the step in which the server took that call, while the client's operation under way waited for the answer.
-pub record HasPoint (book : Book) (o : Op) : Type 0 where
+pub record PointsAsked (book : Book) (o : Op) : Type 0 where
   pub point : ℕ
   pub point_is : o.point ≡ Some point
   pub xid : ℕ
   pub call : Body
   pub first : IsFirstOf (attempts_of o (sent_of book.moments)) o.file call
   pub taken : TakesCall book o.client point xid call
+
+-- or in its own step, where it ended at once by what was kept
+abbrev pub PointsFresh : Book → Op → Type 0
+PointsFresh book o = (e : EndsFresh book.moments o) × (o.point ≡ Some (step_of e.moment)) × (o.value ≡ e.content.bytes)
+
+abbrev pub HasPoint : Book → Op → Type 0
+HasPoint book o = PointsAsked book o ⊎ PointsFresh book o
 
 abbrev pub OpensAt : Book → Op → Outcome → Type 0
 OpensAt book o (told.Opened len digest) = HasPoint book o
@@ -225,9 +240,35 @@ change_refusal m = None
 abbrev pub IsMadeOrRefused : Book → Moment → Change → Type 0
 IsMadeOrRefused book m c = (slice_get book.entries (length m.before.server.journal) ≡ Some (step_of m)) ⊎ ((answer : Message) × (s : Status) × Contains (happens m.before m.event).down (record { session = c.session; message = answer }) × (change_refusal answer ≡ Some s))
 
--- where changes wait, the one that came first is ready, and a settling takes it and no other
-abbrev pub SettlesFirst : Book → Type 0
-SettlesFirst book = (m : Moment) (now : ℕ) (c : Change) → Contains book.moments m → m.event ≡ Settles now → slice_get m.before.server.waiting 0 ≡ Some c → (ready_by m.before.server now ≡ Some c) × ((happens m.before m.event).core.server.waiting ≡ drop 1 m.before.server.waiting) × IsMadeOrRefused book m c
+-- A settling takes the change that is ready out, wherever it stands, and no other; it is made, or its session told why not. By then each lease on its file
+-- has ended, but for the session's own under its COMMITTMP.
+pub record TakesReady (book : Book) (m : Moment) (now : ℕ) (c : Change) : Type 0 where
+  pub place : ℕ
+  pub there : slice_get m.before.server.waiting place ≡ Some c
+  pub left : (happens m.before m.event).core.server.waiting ≡ remove m.before.server.waiting place
+  pub free : (i : ℕ) (l : Lease) → slice_get m.before.server.leasing.leases i ≡ Some l → l.file ≡ c.file → is_others l (asker c) ≡ true → l.ends ≤ max m.before.server.leasing.moment now
+  pub done : IsMadeOrRefused book m c
+
+-- where none is ready nothing of the server changes
+abbrev pub IsSettling : Book → Moment → (now : ℕ) → Option Change → Type 0
+IsSettling book m now None = (happens m.before m.event).core.server ≡ m.before.server
+IsSettling book m now (Some c) = TakesReady book m now c
+
+abbrev pub SettlesReady : Book → Type 0
+SettlesReady book = (m : Moment) (now : ℕ) → Contains book.moments m → m.event ≡ Settles now → IsSettling book m now (ready_by m.before.server now)
+
+-- Nothing holds the change at this place up: none that waits before it is of its file, each lease on that has ended, but for the session's own under its
+-- COMMITTMP, and the quiet after the server's start is over.
+pub record IsFreed (m : Moment) (now place : ℕ) (c : Change) : Type 0 where
+  pub there : slice_get m.before.server.waiting place ≡ Some c
+  pub first : (i : ℕ) (d : Change) → i < place → slice_get m.before.server.waiting i ≡ Some d → meets d c ≡ false
+  pub ended : (i : ℕ) (l : Lease) → slice_get m.before.server.leasing.leases i ≡ Some l → l.file ≡ c.file → is_others l (asker c) ≡ true → l.ends ≤ max m.before.server.leasing.moment now
+  pub awake : m.before.server.leasing.quiet ≤ max m.before.server.leasing.moment now
+
+-- A change waits for no more than that: where nothing holds it up, one that came no later is ready.
+abbrev pub WaitNoLonger : Book → Type 0
+WaitNoLonger book = (m : Moment) (now place : ℕ) (c : Change) → Contains book.moments m → IsFreed m now place c
+    → (d : Change) × (i : ℕ) × (i ≤ place) × (slice_get m.before.server.waiting i ≡ Some d) × (ready_by m.before.server now ≡ Some d)
 
 -- ---- all of it
 
@@ -246,8 +287,9 @@ pub record IsFaithful (input : List ℕ) (book : Book) : Type 0 where
   pub cuts : CutsEnd book
   pub journal : HasJournal book
   pub settled : (i p : ℕ) (e : Entry) → slice_get book.entries i ≡ Some p → slice_get book.journal i ≡ Some e → e.kind ≡ kind.Commit → IsSettled book i p
-  pub settles : SettlesFirst book
-  -- an open that got its content has its point by its GETLEASE, if it began no attempt, and else by the first GETHASH of one
+  pub settles : SettlesReady book
+  pub waits : WaitNoLonger book
+  -- an open that got its content has its point by its GETLEASE, if it began no attempt, or else by the first GETHASH of one, or in its own step, by a content that was fresh then
   pub points : (k : ℕ) (o : Op) → slice_get book.ops k ≡ Some o → OpensAt book o o.outcome
   pub versions : (k : ℕ) (o : Op) → slice_get book.ops k ≡ Some o → OpensVersion book o o.outcome
   -- a peer's fault never comes
@@ -259,7 +301,7 @@ pub record IsFaithful (input : List ℕ) (book : Book) : Type 0 where
   pub attempts : (k : ℕ) (o : Op) → slice_get book.ops k ≡ Some o → AttemptsEnd (sent_of book.moments) o
   -- and no open gave one up but where it had met another version
   pub met : (k : ℕ) (o : Op) → slice_get book.ops k ≡ Some o → o.word ≡ word.Open → AttemptsMet o (deals_of o book.moments)
-  -- nothing is sent or taken but for an operation, and what is sent for one are its own calls
+  -- no answer is taken and no call made but for an operation, and those made for one are its own
   pub owned : (m : Moment) → Contains book.moments m → IsFor book.ops m
   pub calls : (k : ℕ) (d : Deed) (o : Op) → slice_get (deeds_of book.moments) k ≡ Some d → slice_get book.ops k ≡ Some o → AreCalls d.command o (deals_of o book.moments)
   -- by which one on names has its file, whatever comes of it

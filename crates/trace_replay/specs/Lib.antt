@@ -8,11 +8,14 @@ pub mod Turns
 pub mod Readings
 pub mod Trail
 pub mod Book
+pub mod AtOnce
 pub mod OwnCalls
 pub mod Causes
 pub mod Rows
+pub mod LeaseRows
 pub mod NameRows
 pub mod TrailRows
+pub mod AtOnceRows
 pub mod Traffic
 pub mod Naming
 pub mod NameChanges

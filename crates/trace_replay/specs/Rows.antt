@@ -39,6 +39,10 @@ text_of (Err r) = refusal_of (refusal.Line r.line r.fault)
 abbrev pub header : List ℕ
 header = codes "lbfs-trace 1\nterm 60000\ndrift 100\nclients 1\n"
 
+-- the same where a lease lasts for a millisecond alone: none stands any more once the server's reading has risen
+abbrev brief : List ℕ
+brief = codes "lbfs-trace 1\nterm 1\ndrift 60000\nclients 1\n"
+
 pub empty_trace : text_of (accepted []) ≡ codes "refused line 1 grammar\n"
 unfolding digits
 empty_trace = refl
@@ -96,7 +100,7 @@ unfolding calls_most fronted key_of leased_form record_of digits encode_with dec
 local_changes = refl
 
 -- a file that was changed is closed, and opened again with its new content
-pub closed_and_reopened : text_of (accepted (header ++ codes "file a t:abc\njoin 1 0 0\ndo 1 0 open #2\npass 1 4 0 0\ndo 1 0 write #2 5 t:xy\ndo 1 0 close #2\npass 1 9 0 0\nsettle 0\npass 1 1 0 0\ndo 1 0 open #2\npass 1 9 0 0\n"))
+pub closed_and_reopened : text_of (accepted (brief ++ codes "file a t:abc\njoin 1 0 1\ndo 1 0 open #2\npass 1 4 2 0\ndo 1 0 write #2 5 t:xy\ndo 1 0 close #2\npass 1 9 3 0\nsettle 4\npass 1 1 5 0\ndo 1 0 open #2\npass 1 9 6 0\n"))
     ≡ codes "lbfs-history 1\nop 1 client 1 open file 2 begin 3 end 7 point 4 Opened 3 a9993e364706816aba3e25717850c26c9cd0d89d cond 0 tmp 0 read 1 data 3\nop 2 client 1 write file 2 begin 8 end 8 point - Done cond 0 tmp 0 read 0 data 0\nop 3 client 1 close file 2 begin 9 end 18 point 17 Closed 2 7 7b66c0a0c321b03c3e4f79dd040a70c67f37f431 cond 1 tmp 1 read 0 data 7\nop 4 client 1 open file 2 begin 19 end 21 point 20 Opened 7 7b66c0a0c321b03c3e4f79dd040a70c67f37f431 cond 0 tmp 0 read 0 data 0\nend ops 4 steps 21\n"
 unfolding calls_most fronted key_of leased_form record_of digits encode_with decode_pairs sha1 digest_bytes hash_after compress rounds schedule first_words closed_ends next_end outcome_form time_form kind_form attr_form u32_form u64_form bool_form bytes_form fixed_form count_form opaque_spell opaque_read hashes_form pair_form hash_range_form piece_form range_form new_temp_form temp_piece_form cond_piece_form commit_form committed_form direction_form front_form auth_form call_form versions_form accept_form denial_form reply_form
 closed_and_reopened = refl
@@ -126,7 +130,7 @@ unfolding digits
 not_open = refl
 
 -- a file that is abandoned is as it was, and can be opened again
-pub abandoned : text_of (accepted (header ++ codes "file e -\njoin 1 0 0\ndo 1 0 open #2\npass 1 2 0 0\ndo 1 0 write #2 0 t:xy\ndo 1 0 abandon #2\ndo 1 0 abandon #2\ndo 1 0 open #2\npass 1 2 0 0\n"))
+pub abandoned : text_of (accepted (brief ++ codes "file e -\njoin 1 0 1\ndo 1 0 open #2\npass 1 2 2 0\ndo 1 0 write #2 0 t:xy\ndo 1 0 abandon #2\ndo 1 0 abandon #2\ndo 1 0 open #2\npass 1 2 3 0\n"))
     ≡ codes "lbfs-history 1\nop 1 client 1 open file 2 begin 3 end 5 point 4 Opened 0 da39a3ee5e6b4b0d3255bfef95601890afd80709 cond 0 tmp 0 read 0 data 0\nop 2 client 1 write file 2 begin 6 end 6 point - Done cond 0 tmp 0 read 0 data 0\nop 3 client 1 abandon file 2 begin 7 end 7 point - Done cond 0 tmp 0 read 0 data 0\nop 4 client 1 abandon file 2 begin 8 end 8 point - NotOpen cond 0 tmp 0 read 0 data 0\nop 5 client 1 open file 2 begin 9 end 11 point 10 Opened 0 da39a3ee5e6b4b0d3255bfef95601890afd80709 cond 0 tmp 0 read 0 data 0\nend ops 5 steps 11\n"
 unfolding calls_most fronted key_of leased_form record_of digits encode_with decode_pairs sha1 digest_bytes hash_after compress rounds schedule first_words closed_ends next_end outcome_form time_form kind_form attr_form u32_form u64_form bool_form bytes_form fixed_form count_form opaque_spell opaque_read hashes_form pair_form hash_range_form piece_form range_form new_temp_form temp_piece_form cond_piece_form commit_form committed_form direction_form front_form auth_form call_form versions_form accept_form denial_form reply_form
 abandoned = refl
@@ -219,20 +223,23 @@ clocks_at_their_edge = refl
 abbrev pub header_of : List ℕ → List ℕ
 header_of clients = codes "lbfs-trace 1\nterm 60000\ndrift 100\nclients " ++ clients ++ codes "\n"
 
+abbrev brief_of : List ℕ → List ℕ
+brief_of clients = codes "lbfs-trace 1\nterm 1\ndrift 60000\nclients " ++ clients ++ codes "\n"
+
 -- one client's file is closed by another while the first still reads it
-pub two_closes : text_of (accepted (header_of (codes "2") ++ codes "file a t:a\njoin 1 0 0\njoin 2 0 0\ndo 1 0 open #2\nup 1 all 0\ndo 2 0 open #2\npass 2 3 0 0\ndo 2 0 write #2 0 t:b\ndo 2 0 close #2\npass 2 9 0 0\nsettle 0\npass 2 1 0 0\npass 1 9 0 0\n"))
+pub two_closes : text_of (accepted (brief_of (codes "2") ++ codes "file a t:a\njoin 1 0 1\njoin 2 0 2\ndo 1 0 open #2\nup 1 all 3\ndo 2 0 open #2\npass 2 3 4 0\ndo 2 0 write #2 0 t:b\ndo 2 0 close #2\npass 2 9 5 0\nsettle 6\npass 2 1 7 0\npass 1 9 8 0\n"))
     ≡ codes "lbfs-history 1\nop 1 client 1 open file 2 begin 5 end 29 point 26 Opened 1 e9d71f5ee7c92d6dc9e92ffdad17b8bd49418f98 cond 0 tmp 0 read 2 data 2\nop 2 client 2 open file 2 begin 7 end 11 point 8 Opened 1 86f7e437faa5a7fce15d1ddcb9eaeaea377667b8 cond 0 tmp 0 read 1 data 1\nop 3 client 2 write file 2 begin 12 end 12 point - Done cond 0 tmp 0 read 0 data 0\nop 4 client 2 close file 2 begin 13 end 22 point 21 Closed 2 1 e9d71f5ee7c92d6dc9e92ffdad17b8bd49418f98 cond 1 tmp 1 read 0 data 1\nend ops 4 steps 29\n"
 unfolding calls_most fronted key_of leased_form record_of digits encode_with decode_pairs sha1 digest_bytes hash_after compress rounds schedule first_words closed_ends next_end outcome_form time_form kind_form attr_form u32_form u64_form bool_form bytes_form fixed_form count_form opaque_spell opaque_read hashes_form pair_form hash_range_form piece_form range_form new_temp_form temp_piece_form cond_piece_form commit_form committed_form direction_form front_form auth_form call_form versions_form accept_form denial_form reply_form
 two_closes = refl
 
 -- a lost close whose change is made after that of the next session's close
-pub late_change : text_of (accepted (header_of (codes "2") ++ codes "file a t:a\njoin 1 0 0\njoin 2 0 0\ndo 1 0 open #2\npass 1 3 0 0\ndo 1 0 write #2 0 t:b\ndo 1 0 close #2\npass 1 9 0 0\ncut 1 0\njoin 1 0 0\ndo 1 0 write #2 1 t:c\ndo 1 0 close #2\npass 3 9 0 0\ndo 2 0 open #2\npass 2 3 0 0\nsettle 0\nsettle 0\npass 3 1 0 0\ndo 2 0 abandon #2\ndo 2 0 open #2\npass 2 3 0 0\n"))
+pub late_change : text_of (accepted (brief_of (codes "2") ++ codes "file a t:a\njoin 1 0 1\njoin 2 0 2\ndo 1 0 open #2\npass 1 3 3 0\ndo 1 0 write #2 0 t:b\ndo 1 0 close #2\npass 1 9 4 0\ncut 1 0\njoin 1 0 5\ndo 1 0 write #2 1 t:c\ndo 1 0 close #2\npass 3 9 6 0\ndo 2 0 open #2\npass 2 3 7 0\nsettle 8\nsettle 9\npass 3 1 10 0\ndo 2 0 abandon #2\ndo 2 0 open #2\npass 2 3 11 0\n"))
     ≡ codes "lbfs-history 1\nop 1 client 1 open file 2 begin 5 end 9 point 6 Opened 1 86f7e437faa5a7fce15d1ddcb9eaeaea377667b8 cond 0 tmp 0 read 1 data 1\nop 2 client 1 write file 2 begin 10 end 10 point - Done cond 0 tmp 0 read 0 data 0\nop 3 client 1 close file 2 begin 11 end 19 point 36 Lost cond 1 tmp 1 read 0 data 1\nop 4 client 1 write file 2 begin 22 end 22 point - Done cond 0 tmp 0 read 0 data 0\nop 5 client 1 close file 2 begin 23 end 38 point 37 Closed 3 2 5b2505039ac5af9e197f5dad04113906a9cf9a2a cond 1 tmp 1 read 0 data 2\nop 6 client 2 open file 2 begin 31 end 35 point 32 Opened 1 86f7e437faa5a7fce15d1ddcb9eaeaea377667b8 cond 0 tmp 0 read 1 data 1\nop 7 client 2 abandon file 2 begin 39 end 39 point - Done cond 0 tmp 0 read 0 data 0\nop 8 client 2 open file 2 begin 40 end 46 point 43 Opened 2 5b2505039ac5af9e197f5dad04113906a9cf9a2a cond 0 tmp 0 read 1 data 2\nend ops 8 steps 46\n"
 unfolding calls_most fronted key_of leased_form record_of digits encode_with decode_pairs sha1 digest_bytes hash_after compress rounds schedule first_words closed_ends next_end outcome_form time_form kind_form attr_form u32_form u64_form bool_form bytes_form fixed_form count_form opaque_spell opaque_read hashes_form pair_form hash_range_form piece_form range_form new_temp_form temp_piece_form cond_piece_form commit_form committed_form direction_form front_form auth_form call_form versions_form accept_form denial_form reply_form
 late_change = refl
 
 -- an old session hangs late, and drops its own change alone
-pub late_hang : text_of (accepted (header_of (codes "2") ++ codes "file a t:a\nfile b -\njoin 1 0 0\njoin 2 0 0\ndo 1 0 open #2\npass 1 3 0 0\ndo 1 0 write #2 0 t:b\ndo 1 0 close #2\npass 1 9 0 0\ncut 1 0\njoin 1 0 0\ndo 2 0 open #3\npass 2 3 0 0\ndo 2 0 write #3 0 t:c\ndo 2 0 close #3\npass 2 9 0 0\nhang 1 0\nsettle 0\nsettle 0\npass 2 1 0 0\ndo 1 0 close #2\npass 3 9 0 0\nsettle 0\npass 3 1 0 0\nhang 1 0\nup 1 all 0\ndown 1 all 0\n"))
+pub late_hang : text_of (accepted (brief_of (codes "2") ++ codes "file a t:a\nfile b -\njoin 1 0 1\njoin 2 0 2\ndo 1 0 open #2\npass 1 3 3 0\ndo 1 0 write #2 0 t:b\ndo 1 0 close #2\npass 1 9 4 0\ncut 1 0\njoin 1 0 5\ndo 2 0 open #3\npass 2 3 6 0\ndo 2 0 write #3 0 t:c\ndo 2 0 close #3\npass 2 9 7 0\nhang 1 8\nsettle 9\nsettle 10\npass 2 1 11 0\ndo 1 0 close #2\npass 3 9 12 0\nsettle 13\npass 3 1 14 0\nhang 1 15\nup 1 all 16\ndown 1 all 0\n"))
     ≡ codes "lbfs-history 1\nop 1 client 1 open file 2 begin 5 end 9 point 6 Opened 1 86f7e437faa5a7fce15d1ddcb9eaeaea377667b8 cond 0 tmp 0 read 1 data 1\nop 2 client 1 write file 2 begin 10 end 10 point - Done cond 0 tmp 0 read 0 data 0\nop 3 client 1 close file 2 begin 11 end 19 point - Lost cond 1 tmp 1 read 0 data 1\nop 4 client 2 open file 3 begin 22 end 24 point 23 Opened 0 da39a3ee5e6b4b0d3255bfef95601890afd80709 cond 0 tmp 0 read 0 data 0\nop 5 client 2 write file 3 begin 25 end 25 point - Done cond 0 tmp 0 read 0 data 0\nop 6 client 2 close file 3 begin 26 end 37 point 35 Closed 2 1 84a516841ba77a5b4648de2cd0dfcb30ea46dbb4 cond 1 tmp 1 read 0 data 1\nop 7 client 1 close file 2 begin 38 end 47 point 46 Closed 2 1 e9d71f5ee7c92d6dc9e92ffdad17b8bd49418f98 cond 1 tmp 1 read 0 data 1\nend ops 7 steps 47\n"
 unfolding calls_most fronted key_of leased_form record_of digits encode_with decode_pairs sha1 digest_bytes hash_after compress rounds schedule first_words closed_ends next_end outcome_form time_form kind_form attr_form u32_form u64_form bool_form bytes_form fixed_form count_form opaque_spell opaque_read hashes_form pair_form hash_range_form piece_form range_form new_temp_form temp_piece_form cond_piece_form commit_form committed_form direction_form front_form auth_form call_form versions_form accept_form denial_form reply_form
 late_hang = refl
@@ -244,7 +251,7 @@ unfolding calls_most fronted key_of leased_form record_of digits encode_with dec
 lost_then_seen = refl
 
 -- each of four attempts meets another version
-pub changed_four_times : text_of (accepted (header_of (codes "2") ++ codes "file a t:a\njoin 1 0 0\njoin 2 0 0\ndo 2 0 open #2\npass 2 3 0 0\ndo 2 0 write #2 0 t:b\ndo 2 0 close #2\npass 2 9 0 0\ndo 1 0 open #2\nup 1 all 0\nsettle 0\ndown 1 all 0\nup 1 all 0\ndown 1 all 0\npass 2 1 0 0\ndo 2 0 open #2\npass 2 3 0 0\ndo 2 0 write #2 0 t:c\ndo 2 0 close #2\npass 2 9 0 0\nup 1 all 0\nsettle 0\ndown 1 all 0\nup 1 all 0\ndown 1 all 0\npass 2 1 0 0\ndo 2 0 open #2\npass 2 3 0 0\ndo 2 0 write #2 0 t:d\ndo 2 0 close #2\npass 2 9 0 0\nup 1 all 0\nsettle 0\ndown 1 all 0\nup 1 all 0\ndown 1 all 0\npass 2 1 0 0\ndo 2 0 open #2\npass 2 3 0 0\ndo 2 0 write #2 0 t:e\ndo 2 0 close #2\npass 2 9 0 0\nup 1 all 0\nsettle 0\ndown 1 all 0\nup 1 all 0\ndown 1 all 0\npass 2 1 0 0\n"))
+pub changed_four_times : text_of (accepted (brief_of (codes "2") ++ codes "file a t:a\njoin 1 0 1\njoin 2 0 2\ndo 2 0 open #2\npass 2 3 3 0\ndo 2 0 write #2 0 t:b\ndo 2 0 close #2\npass 2 9 4 0\ndo 1 0 open #2\nup 1 all 5\nsettle 6\ndown 1 all 0\nup 1 all 7\ndown 1 all 0\npass 2 1 8 0\ndo 2 0 open #2\npass 2 3 9 0\ndo 2 0 write #2 0 t:c\ndo 2 0 close #2\npass 2 9 10 0\nup 1 all 11\nsettle 12\ndown 1 all 0\nup 1 all 13\ndown 1 all 0\npass 2 1 14 0\ndo 2 0 open #2\npass 2 3 15 0\ndo 2 0 write #2 0 t:d\ndo 2 0 close #2\npass 2 9 16 0\nup 1 all 17\nsettle 18\ndown 1 all 0\nup 1 all 19\ndown 1 all 0\npass 2 1 20 0\ndo 2 0 open #2\npass 2 3 21 0\ndo 2 0 write #2 0 t:e\ndo 2 0 close #2\npass 2 9 22 0\nup 1 all 23\nsettle 24\ndown 1 all 0\nup 1 all 25\ndown 1 all 0\npass 2 1 26 0\n"))
     ≡ codes "lbfs-history 1\nop 1 client 2 open file 2 begin 5 end 9 point 6 Opened 1 86f7e437faa5a7fce15d1ddcb9eaeaea377667b8 cond 0 tmp 0 read 1 data 1\nop 2 client 2 write file 2 begin 10 end 10 point - Done cond 0 tmp 0 read 0 data 0\nop 3 client 2 close file 2 begin 11 end 25 point 21 Closed 2 1 e9d71f5ee7c92d6dc9e92ffdad17b8bd49418f98 cond 1 tmp 1 read 0 data 1\nop 4 client 1 open file 2 begin 19 end 78 point - Changed 4 5 cond 0 tmp 0 read 4 data 4\nop 5 client 2 open file 2 begin 26 end 28 point 27 Opened 1 e9d71f5ee7c92d6dc9e92ffdad17b8bd49418f98 cond 0 tmp 0 read 0 data 0\nop 6 client 2 write file 2 begin 29 end 29 point - Done cond 0 tmp 0 read 0 data 0\nop 7 client 2 close file 2 begin 30 end 43 point 39 Closed 3 1 84a516841ba77a5b4648de2cd0dfcb30ea46dbb4 cond 1 tmp 1 read 0 data 1\nop 8 client 2 open file 2 begin 44 end 46 point 45 Opened 1 84a516841ba77a5b4648de2cd0dfcb30ea46dbb4 cond 0 tmp 0 read 0 data 0\nop 9 client 2 write file 2 begin 47 end 47 point - Done cond 0 tmp 0 read 0 data 0\nop 10 client 2 close file 2 begin 48 end 61 point 57 Closed 4 1 3c363836cf4e16666669a25da280a1865c2d2874 cond 1 tmp 1 read 0 data 1\nop 11 client 2 open file 2 begin 62 end 64 point 63 Opened 1 3c363836cf4e16666669a25da280a1865c2d2874 cond 0 tmp 0 read 0 data 0\nop 12 client 2 write file 2 begin 65 end 65 point - Done cond 0 tmp 0 read 0 data 0\nop 13 client 2 close file 2 begin 66 end 79 point 75 Closed 5 1 58e6b3a414a1e090dfc6029add0f3555ccba127f cond 1 tmp 1 read 0 data 1\nend ops 13 steps 79\n"
 unfolding calls_most fronted key_of leased_form record_of digits encode_with decode_pairs sha1 digest_bytes hash_after compress rounds schedule first_words closed_ends next_end outcome_form time_form kind_form attr_form u32_form u64_form bool_form bytes_form fixed_form count_form opaque_spell opaque_read hashes_form pair_form hash_range_form piece_form range_form new_temp_form temp_piece_form cond_piece_form commit_form committed_form direction_form front_form auth_form call_form versions_form accept_form denial_form reply_form
 changed_four_times = refl

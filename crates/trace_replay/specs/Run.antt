@@ -13,6 +13,7 @@ use Rattle.trace_text.specs.declared.line.Line.TheVariants as line
 use Rattle.trace_text.specs.declared.refusal.Limit.TheVariants as limit
 use Rattle.trace_text.specs.declared.refusal.LineFault.{LineFault}
 use Rattle.trace_text.specs.declared.refusal.LineFault.TheVariants.{Grammar, Limit}
+use Rattle.server_core.specs.State.{with_term}
 use Rattle.server_core.specs.Step.{opens_with}
 use Rattle.file_tree.specs.Opening.{can_open}
 use Rattle.tree_reading.specs.Reading.{stands_for}
@@ -79,9 +80,17 @@ free_in t name (Some dir) = if can_open t dir name then Some dir else None
 abbrev pub place_for : Tree → Spot → Option ℕ
 place_for t s = free_in t s.name (led_to t.nodes ROOT s.dirs)
 
+-- the server grants leases of so many milliseconds
+abbrev pub with_leases : World → (term : ℕ) → World
+with_leases w term = record w { stage = stage.Drift; core = record w.core { server = with_term w.core.server term } }
+
+-- the clients that come count with this drift of clocks
+abbrev pub with_drift : World → (drift : ℕ) → World
+with_drift w drift = record w { stage = stage.Clients; core = record w.core { drift = drift } }
+
 -- so many clients, none of which has joined
 abbrev pub with_clients : World → (count : ℕ) → World
-with_clients w count = record w { stage = stage.Files; core = record w.core { seats = replicate count new_seat } }
+with_clients w count = record w { stage = stage.Files; core = record w.core { seats = replicate count (new_seat w.core.drift) } }
 
 -- ---- what a line asks for
 
@@ -159,8 +168,8 @@ event_asks k l = adjust_asks k l
 -- First comes the header, then the files, and then the events.
 abbrev pub asks_at : World → Stage → Line → Result Turn LineFault
 asks_at w stage.Version line.Version = Ok (turn.At stage.Term)
-asks_at w stage.Term (line.Term t) = Ok (turn.At stage.Drift)
-asks_at w stage.Drift (line.Drift d) = Ok (turn.At stage.Clients)
+asks_at w stage.Term (line.Term t) = Ok (turn.Term t)
+asks_at w stage.Drift (line.Drift d) = Ok (turn.Drift d)
 asks_at w stage.Clients (line.Clients n) = Ok (turn.Clients n)
 asks_at w stage.Files (line.Dir spot) = directory_asks (place_for w.core.server.tree spot) spot.name
 asks_at w stage.Files (line.File spot content) = file_asks (place_for w.core.server.tree spot) w.size spot.name content
@@ -192,6 +201,8 @@ at_events w = record w { stage = stage.Events }
 abbrev pub turned : World → Turn → World
 turned w turn.Skip = w
 turned w (turn.At s) = record w { stage = s }
+turned w (turn.Term t) = with_leases w t
+turned w (turn.Drift d) = with_drift w d
 turned w (turn.Clients n) = with_clients w n
 turned w (turn.Dir dir name) = with_directory w dir name
 turned w (turn.File dir name content) = with_file w dir name (content_bytes content)

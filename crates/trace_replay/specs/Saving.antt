@@ -26,7 +26,8 @@ use Rattle.client_state.specs.declared.task.Stage.TheVariants as stage
 use Rattle.client_state.specs.declared.task.Task.{Task}
 use Rattle.path_calls.specs.declared.walk.Goal.{Goal}
 use Rattle.path_calls.specs.declared.walk.Goal.TheVariants as goal
-use Rattle.file_open.specs.Caching.{content_in}
+use Rattle.client_state.specs.Ending.{is_open}
+use Rattle.file_open.specs.Caching.{content_in, fresh_content}
 use Rattle.file_open.specs.Opening.{lease_call, hash_call}
 use Rattle.register_model.specs.declared.op.Op.{Op}
 use Rattle.register_model.specs.declared.op.Outcome.TheVariants as told
@@ -171,6 +172,18 @@ UsesKept m o = (xid : ℕ) (l : Leased) (seat : Seat) → o.word ≡ word.Open �
     → Contains (taken_by m.before (client_of m.before m.event) m.event) (lease_told xid l)
     → EndsBy o (step_of m) (happens m.before m.event).up (content_in l.version (content_of seat.client.cache o.file))
 
+-- a client that has nothing under way, to which a content of a file is fresh that isn't open
+pub record IsFreshIn (m : Moment) (client now file : ℕ) (c : Content) : Type 0 where
+  pub seat : Seat
+  pub seat_is : numbered m.before.seats client ≡ Some seat
+  pub free : seat.client.task ≡ None
+  pub shut : is_open seat.client.opened file ≡ false
+  pub fresh : fresh_content seat.client.cache file now ≡ Some c
+
+-- If it is told to open it, the open ends in that step by that content: nobody is asked, whether it is joined or not.
+abbrev pub OpensAtOnce : Moment → Op → Type 0
+OpensAtOnce m o = (client now file : ℕ) (c : Content) → m.event ≡ Does client now (command.Open file) → o.begin ≡ step_of m → IsFreshIn m client now file c → EndsBy o (step_of m) (happens m.before m.event).up (Some c.bytes)
+
 -- ---- a client wants no content
 
 -- a client that is told to write a file anew answers that by itself, and sends nothing, or asks for the file's version alone, whatever it keeps
@@ -186,6 +199,10 @@ abbrev pub FetchesNone : Moment → Op → Type 0
 FetchesNone m o = (xid : ℕ) (l : Leased) → o.word ≡ word.Rewrite → is_in o (step_of m) (client_of m.before m.event) ≡ true
     → Contains (taken_by m.before (client_of m.before m.event) m.event) (lease_told xid l)
     → EndsAnew o (step_of m) (happens m.before m.event).up
+
+-- nor does one whose file is fresh, in its first step
+abbrev pub RenewsAtOnce : Moment → Op → Type 0
+RenewsAtOnce m o = (client now file : ℕ) (c : Content) → m.event ≡ Does client now (command.Rewrite file) → o.begin ≡ step_of m → IsFreshIn m client now file c → EndsAnew o (step_of m) (happens m.before m.event).up
 
 -- ---- all of it
 
@@ -208,3 +225,5 @@ pub record IsSaving (book : Book) : Type 0 where
   pub spares : (m : Moment) → Contains book.moments m → AsksVersion m
   -- and fetches nothing once it is told
   pub anew : (m : Moment) (k : ℕ) (o : Op) → Contains book.moments m → slice_get book.ops k ≡ Some o → FetchesNone m o
+  -- and what is fresh is open at once
+  pub at_once : (m : Moment) (k : ℕ) (o : Op) → Contains book.moments m → slice_get book.ops k ≡ Some o → OpensAtOnce m o × RenewsAtOnce m o

@@ -23,6 +23,7 @@ holds pairs = record {
     seats = [];
     sessions = [];
     steps = 0;
+    drift = 0;
     ops = [];
     entries = [];
   };
@@ -47,5 +48,5 @@ pub first_calls : first_call 7 2 None ∷ first_call 7 2 (Some (record { version
 first_calls = refl
 
 -- what comes down session 1 is dropped by a client that has session 2
-pub left_alone : (bytes : List ℕ) → heard_hashed 1 0 bytes (Some (record new_seat { session = Some 2 })) ≡ []
+pub left_alone : (bytes : List ℕ) → heard_hashed 1 0 bytes (Some (record (new_seat 0) { session = Some 2 })) ≡ []
 left_alone bytes = refl

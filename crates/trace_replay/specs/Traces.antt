@@ -1,8 +1,9 @@
 -- What the replay of a trace answers, and what is promised of its history.
-use Rattle.std.specs.Prelude.{[], true, false, ◌≡◌, ℕ, ◌+◌, ◌<◌, ◌⊎◌, List, ◌++◌, length, All, Result, Ok, Err, Option, Some, None, slice_get}
+use Rattle.std.specs.Prelude.{Bool, [], true, false, ◌≡◌, ℕ, ◌+◌, ◌<◌, ◌⊎◌, List, ◌++◌, length, All, Result, Ok, Err, Option, Some, None, slice_get}
 use Rattle.rpc_record.specs.Records.{Unread}
 use Rattle.wire.specs.Message.{MessageFits, message_spell}
 use Rattle.wire.specs.Parse.{parse_of}
+use Rattle.hash_calls.specs.declared.message.Back.TheVariants as back
 use Rattle.hash_calls.specs.declared.message.Lb.TheVariants as lb
 use Rattle.nfs3_calls.specs.declared.message.Nfs.TheVariants as nfs
 use Rattle.wire.specs.declared.message.Body.TheVariants as body
@@ -27,7 +28,7 @@ use Rattle.trace_replay.specs.declared.fault.TraceError.{TraceError}
 use Rattle.trace_replay.specs.declared.fault.TraceError.TheVariants as errors
 use Rattle.trace_ends.specs.Session.{Seat, Session}
 use Rattle.trace_ends.specs.Numbers.{numbered}
-use Rattle.trace_ends.specs.Core.{server_waiting}
+use Rattle.trace_ends.specs.Core.{server_waits}
 use Rattle.trace_replay.specs.World.{World, history_of}
 use Rattle.trace_ends.specs.Wires.{Wire, bytes_of}
 use Rattle.trace_replay.specs.Trail.{moments, hashed}
@@ -96,28 +97,30 @@ HoldsContents book w = (c file : ℕ) (seat : Seat) (kept : Content) → numbere
 abbrev pub IsRead : Waiting → Message → Type 0
 IsRead waiting m = MessageFits m × (parse_of waiting (message_spell m) ≡ Ok m)
 
--- a call that these clients make
-abbrev pub IsServed : Message → Type 0
-IsServed (message.Call xid (body.Lb (lb.GetLease handle))) = Unit {0}
-IsServed (message.Call xid (body.Lb (lb.GetHash a))) = Unit {0}
-IsServed (message.Call xid (body.Lb (lb.MkTmpFile a))) = Unit {0}
-IsServed (message.Call xid (body.Lb (lb.TmpWrite a))) = Unit {0}
-IsServed (message.Call xid (body.Lb (lb.CondWrite a))) = Unit {0}
-IsServed (message.Call xid (body.Lb (lb.CommitTmp a))) = Unit {0}
-IsServed (message.Call xid (body.Nfs (nfs.Read a))) = Unit {0}
-IsServed (message.Call xid (body.Nfs (nfs.GetAttr a))) = Unit {0}
-IsServed (message.Call xid (body.Nfs (nfs.Lookup a))) = Unit {0}
-IsServed (message.Call xid (body.Nfs (nfs.ReadDir a))) = Unit {0}
-IsServed (message.Call xid (body.Nfs (nfs.Create a))) = Unit {0}
-IsServed (message.Call xid (body.Nfs (nfs.MkDir a))) = Unit {0}
-IsServed (message.Call xid (body.Nfs (nfs.Remove a))) = Unit {0}
-IsServed (message.Call xid (body.Nfs (nfs.RmDir a))) = Unit {0}
-IsServed (message.Call xid (body.Nfs (nfs.Rename a))) = Unit {0}
-IsServed m = ⊥
+-- a call that these clients make, or an answer to a RECALL that the server waits for
+abbrev pub IsServed : List Pending → Message → Type 0
+IsServed waits (message.Call xid (body.Lb (lb.GetLease handle))) = Unit {0}
+IsServed waits (message.Call xid (body.Lb (lb.GetHash a))) = Unit {0}
+IsServed waits (message.Call xid (body.Lb (lb.MkTmpFile a))) = Unit {0}
+IsServed waits (message.Call xid (body.Lb (lb.TmpWrite a))) = Unit {0}
+IsServed waits (message.Call xid (body.Lb (lb.CondWrite a))) = Unit {0}
+IsServed waits (message.Call xid (body.Lb (lb.CommitTmp a))) = Unit {0}
+IsServed waits (message.Call xid (body.Nfs (nfs.Read a))) = Unit {0}
+IsServed waits (message.Call xid (body.Nfs (nfs.GetAttr a))) = Unit {0}
+IsServed waits (message.Call xid (body.Nfs (nfs.Lookup a))) = Unit {0}
+IsServed waits (message.Call xid (body.Nfs (nfs.ReadDir a))) = Unit {0}
+IsServed waits (message.Call xid (body.Nfs (nfs.Create a))) = Unit {0}
+IsServed waits (message.Call xid (body.Nfs (nfs.MkDir a))) = Unit {0}
+IsServed waits (message.Call xid (body.Nfs (nfs.Remove a))) = Unit {0}
+IsServed waits (message.Call xid (body.Nfs (nfs.RmDir a))) = Unit {0}
+IsServed waits (message.Call xid (body.Nfs (nfs.Rename a))) = Unit {0}
+IsServed waits (message.Answer xid (body.Back back.RecallAnswer)) = has_call waits xid ≡ true
+IsServed waits m = ⊥
 
--- an answer to one of these calls
+-- an answer to one of these calls, or a RECALL
 abbrev pub IsAnswered : List Pending → Message → Type 0
 IsAnswered calls (message.Answer xid b) = has_call calls xid ≡ true
+IsAnswered calls (message.Call xid (body.Back (back.Recall handle))) = Unit {0}
 IsAnswered calls m = ⊥
 
 abbrev pub xid_of : Message → ℕ
@@ -126,6 +129,15 @@ xid_of (message.Answer xid b) = xid
 xid_of (message.Refuse xid why) = xid
 xid_of (message.Unfit xid why) = xid
 
+-- whether it is of the client's numbers or of the server's
+abbrev pub is_call : Message → Bool
+is_call (message.Call xid b) = true
+is_call m = false
+
+-- two of one number: that of one call, or of one answer
+abbrev pub AreOfOne : Message → Message → Type 0
+AreOfOne a b = (is_call a ≡ is_call b) × (xid_of a ≡ xid_of b)
+
 -- what an end has of a record and what is on its way to it are together the bytes of these whole messages, each of which it reads, and no
 -- start of its stream is spoilt
 pub record AreOfMessages (waiting : Waiting) (end : Unread) (queue : List ℕ) (ms : List Message) : Type 0 where
@@ -133,8 +145,8 @@ pub record AreOfMessages (waiting : Waiting) (end : Unread) (queue : List ℕ) (
   pub read : All (IsRead waiting) ms
   pub bytes : end.rest ++ queue ≡ bytes_of ms
 
--- So it is at both ends of a session. Up come calls that the server does, and down answers to calls that the session's owner waits for, each
--- to another; nor do two calls have one number, while the owner does not see the session lost. Nothing comes up once the server has seen it
+-- So it is at both ends of a session. Up come calls that the server does and answers to RECALLs that it waits for, and down answers to calls that the
+-- session's owner waits for, each to another, and RECALLs; nor do two calls have one number, while the owner does not see the session lost. Nothing comes up once the server has seen it
 -- lost, and nothing down once its owner has.
 pub record HoldsQueues (w : World) (number : ℕ) (q : Wire) : Type 0 where
   pub session : Session
@@ -142,13 +154,13 @@ pub record HoldsQueues (w : World) (number : ℕ) (q : Wire) : Type 0 where
   pub session_is : numbered w.core.sessions number ≡ Some session
   pub seat_is : numbered w.core.seats session.owner ≡ Some seat
   pub ups : List Message
-  pub up : AreOfMessages server_waiting q.server_end q.up ups
-  pub done : All IsServed ups
-  pub apart : session.cut ≡ false → (i j : ℕ) (a b : Message) → slice_get ups i ≡ Some a → slice_get ups j ≡ Some b → xid_of a ≡ xid_of b → i ≡ j
+  pub up : AreOfMessages (server_waits w.core number) q.server_end q.up ups
+  pub done : All (IsServed (server_waits w.core number).calls) ups
+  pub apart : session.cut ≡ false → (i j : ℕ) (a b : Message) → slice_get ups i ≡ Some a → slice_get ups j ≡ Some b → AreOfOne a b → i ≡ j
   pub downs : List Message
   pub down : AreOfMessages (waiting_of seat.client) q.client_end q.down downs
   pub answered : All (IsAnswered (calls_of seat.client)) downs
-  pub once : (i j : ℕ) (a b : Message) → slice_get downs i ≡ Some a → slice_get downs j ≡ Some b → xid_of a ≡ xid_of b → i ≡ j
+  pub once : (i j : ℕ) (a b : Message) → slice_get downs i ≡ Some a → slice_get downs j ≡ Some b → AreOfOne a b → i ≡ j
   pub lost : session.hung ≡ true → ups ≡ []
   pub shut : session.cut ≡ true → downs ≡ []
 

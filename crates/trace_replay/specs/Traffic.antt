@@ -19,8 +19,7 @@ use Rattle.register_model.specs.declared.op.Traffic.{Traffic}
 use Rattle.register_model.specs.declared.op.Word.{Word}
 use Rattle.register_model.specs.declared.op.Word.TheVariants as word
 use Rattle.trace_ends.specs.Ops.{no_traffic}
-use Rattle.trace_ends.specs.Core.{happens}
-use Rattle.trace_replay.specs.Trail.{Moment, Said, step_of, client_of, taken_by, given_by}
+use Rattle.trace_replay.specs.Trail.{Moment, Said, step_of, client_of, taken_by, given_by, asked_in}
 
 abbrev pub until : (end : Option ℕ) → (step : ℕ) → Bool
 until None step = true
@@ -108,7 +107,7 @@ pub record AttemptsEnd (sent : List Said) (o : Op) : Type 0 where
 
 -- ---- what was said for an operation, in order
 
--- a message that its client took, a chunk whose bytes it then found by its index, or a message that it sent
+-- a message that its client took, a chunk whose bytes it then found by its index, or a call that it sent
 pub data Deal : Type 0 where
   Took : Message → Deal
   Found : (place : ℕ × ℕ) → Deal
@@ -124,15 +123,15 @@ deals_if false taken found sent = []
 
 -- at a moment, and at all of them
 abbrev pub deals_in : Op → Moment → List Deal
-deals_in o m = let c : ℕ = client_of m.before m.event in deals_if (is_in o (step_of m) c) (taken_by m.before c m.event) (given_by m.before c m.event) (happens m.before m.event).up
+deals_in o m = let c : ℕ = client_of m.before m.event in deals_if (is_in o (step_of m) c) (taken_by m.before c m.event) (given_by m.before c m.event) (asked_in m)
 
 abbrev pub deals_of : Op → List Moment → List Deal
 deals_of o [] = []
 deals_of o (m ∷ ms) = deals_in o m ++ deals_of o ms
 
--- what a client took, found by its index or sent at a moment was for one of these operations, which it had under way in that step
+-- what a client took, found by its index or called for at a moment was for one of these operations, which it had under way in that step
 abbrev pub IsFor : List Op → Moment → Type 0
-IsFor ops m = let c : ℕ = client_of m.before m.event in (deals_with (taken_by m.before c m.event) (given_by m.before c m.event) (happens m.before m.event).up ≡ []) ⊎ ((k : ℕ) × (o : Op) × (slice_get ops k ≡ Some o) × (is_in o (step_of m) c ≡ true))
+IsFor ops m = let c : ℕ = client_of m.before m.event in (deals_with (taken_by m.before c m.event) (given_by m.before c m.event) (asked_in m) ≡ []) ⊎ ((k : ℕ) × (o : Op) × (slice_get ops k ≡ Some o) × (is_in o (step_of m) c ≡ true))
 
 -- ---- what a close named and sent
 

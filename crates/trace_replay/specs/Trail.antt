@@ -2,6 +2,7 @@
 use Rattle.std.specs.Prelude.{◌≡◌, ℕ, zero, suc, ◌+◌, List, [], ◌∷◌, ◌++◌, Option, Some, None, Result, Ok, Err, Bool, true, false, not, ◌==◌, flat_map, is_some}
 use Rattle.command_text.specs.Content.{content_bytes}
 use Rattle.command_text.specs.declared.command.Command.{Command}
+use Rattle.command_text.specs.declared.command.Command.TheVariants as command
 use Rattle.command_text.specs.Parts.{lines_of}
 use Rattle.trace_text.specs.Grammar.{line_of}
 use Rattle.trace_text.specs.declared.line.Line.{Line}
@@ -14,7 +15,7 @@ use Rattle.client_state.specs.State.{State, waiting_of, pending, has_call}
 use Rattle.chunk_cut.specs.declared.chunk.Chunk.{Chunk}
 use Rattle.chunk_index.specs.Index.{Indexed}
 use Rattle.client_cache.specs.Cache.{Entries}
-use Rattle.file_open.specs.Caching.{from_index}
+use Rattle.file_open.specs.Caching.{from_index, fresh_content}
 use Rattle.open_close.specs.Hashed.{client_hashed}
 use Rattle.file_open.specs.Looking.{reading}
 use Rattle.file_open.specs.Opening.{reads_all, looked_up}
@@ -188,22 +189,34 @@ abbrev pub calls_from : (client was : ℕ) → List Moment → ℕ
 calls_from client was [] = was
 calls_from client was (m ∷ ms) = calls_from client (calls_by client was m) ms
 
--- which client was told what, in which step, whether it was joined, and how many calls it had sent on its connection
+-- which client was told what, in which step, whether it was joined, how many calls it had sent on its connection, and whether the file was fresh to it that it is to open
 pub record Deed : Type 0 where
   pub client : ℕ
   pub command : Command
   pub begin : ℕ
   pub joined : Bool
   pub calls : ℕ
+  pub fresh : Bool
 
-abbrev pub deed_by : (past : List Moment) → (step : ℕ) → Event → List Deed
-deed_by past step (Does c now command) = record { client = c; command = command; begin = step; joined = joined_from c false past; calls = calls_from c 0 past } ∷ []
-deed_by past step e = []
+-- whether a client keeps a content of a file that is fresh at this reading of its clock
+abbrev pub is_fresh_to : Option Seat → (now file : ℕ) → Bool
+is_fresh_to None now file = false
+is_fresh_to (Some seat) now file = is_some (fresh_content seat.client.cache file now)
+
+-- of the file that a command is to open
+abbrev pub is_fresh_for : Option Seat → (now : ℕ) → Command → Bool
+is_fresh_for seat now (command.Open file) = is_fresh_to seat now file
+is_fresh_for seat now (command.Rewrite file) = is_fresh_to seat now file
+is_fresh_for seat now k = false
+
+abbrev pub deed_by : (past : List Moment) → Core → Event → List Deed
+deed_by past k (Does c now command) = record { client = c; command = command; begin = k.steps + 1; joined = joined_from c false past; calls = calls_from c 0 past; fresh = is_fresh_for (numbered k.seats c) now command } ∷ []
+deed_by past k e = []
 
 -- the commands of these moments, where those were before
 abbrev pub deeds_from : (past : List Moment) → List Moment → List Deed
 deeds_from past [] = []
-deeds_from past (m ∷ ms) = deed_by past (step_of m) m.event ++ deeds_from (past ++ m ∷ []) ms
+deeds_from past (m ∷ ms) = deed_by past m.before m.event ++ deeds_from (past ++ m ∷ []) ms
 
 abbrev pub deeds_of : List Moment → List Deed
 deeds_of ms = deeds_from [] ms
@@ -224,9 +237,18 @@ abbrev pub all_said : (step client : ℕ) → List Message → List Said
 all_said step client [] = []
 all_said step client (m ∷ ms) = record { step = step; client = client; message = m } ∷ all_said step client ms
 
--- what clients sent
+-- the calls among messages: an answer to a RECALL is of no operation
+abbrev pub calls_in : List Message → List Message
+calls_in [] = []
+calls_in (message.Call xid b ∷ ms) = message.Call xid b ∷ calls_in ms
+calls_in (m ∷ ms) = calls_in ms
+
+-- what clients asked for
+abbrev pub asked_in : Moment → List Message
+asked_in m = calls_in (happens m.before m.event).up
+
 abbrev pub sent_in : Moment → List Said
-sent_in m = all_said (step_of m) (client_of m.before m.event) (happens m.before m.event).up
+sent_in m = all_said (step_of m) (client_of m.before m.event) (asked_in m)
 
 abbrev pub sent_of : List Moment → List Said
 sent_of ms = flat_map sent_in ms

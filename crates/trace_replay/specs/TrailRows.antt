@@ -202,7 +202,8 @@ other_is_not = λ h. absurd (omega (arith, h.0))
 abbrev holds : (linked : Bool) → Core
 holds linked = record {
   server = server.empty;
-  seats = record new_seat { client = record client.start { linked = linked; opened = (2, record { version = 1; bytes = codes "abc" }) ∷ [] } } ∷ [];
+  drift = 0;
+  seats = record (new_seat 0) { client = record (client.start_with 0) { linked = linked; opened = (2, record { version = 1; bytes = codes "abc" }) ∷ [] } } ∷ [];
   sessions = [];
   steps = 4;
   ops = [];

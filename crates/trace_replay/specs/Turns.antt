@@ -37,6 +37,8 @@ is_delivery l = false
 abbrev pub stage_after : Stage → Turn → Stage
 stage_after s turn.Skip = s
 stage_after s (turn.At next) = next
+stage_after s (turn.Term term) = stage.Drift
+stage_after s (turn.Drift drift) = stage.Clients
 stage_after s (turn.Clients count) = stage.Files
 stage_after s (turn.Dir dir name) = s
 stage_after s (turn.File dir name content) = s

@@ -28,7 +28,7 @@ start = record {
   stage = stage.Version;
   opening = [];
   size = 0;
-  core = record { server = server.empty; seats = []; sessions = []; steps = 0; ops = []; entries = [] };
+  core = record { server = server.empty; drift = 0; seats = []; sessions = []; steps = 0; ops = []; entries = [] };
   wires = [];
 }
 

@@ -2,6 +2,8 @@
 
 ghost use Rattle.std.specs.Prelude.{◌≡◌, ◌+◌, IfOk, OnOk, length};
 ghost use Rattle.command_text.specs.Content.{content_bytes};
+ghost use Rattle.server_core.specs.State.{with_term};
+ghost use Rattle.trace_ends.specs.View.{core_of};
 ghost use Rattle.trace_replay.specs.Run.{with_file, with_directory, with_clients, turned};
 ghost use Rattle.trace_replay.specs.Turns.{IsTurnBounded};
 ghost use Rattle.trace_replay.specs.declared.state.Event.TheVariants as event;
@@ -15,6 +17,8 @@ use command_text::content::{Content, build};
 use lb_base::items::Name;
 use shared_bytes::SharedBytes;
 use std::alloc::{AllocError, Global};
+use trace_ends::session::short_number;
+use trace_ends::world_core::Core;
 use tree_nodes::content::Content as Whole;
 use tree_nodes::node::Body;
 
@@ -38,6 +42,16 @@ fn does(client: u64, now: u64, command: Command) -> Event
         now,
         command,
     }
+}
+
+/// The server grants leases of so many milliseconds. No header has a term of 2^32, so there it is want of
+/// memory.
+fn grants(core: &mut Core, term: u64) -> Result<(), AllocError>
+    ensures { OnOk result (core_of core.new ≡ record (core_of core.old) { server = with_term core.old.server term }) }
+{
+    let term = short_number(term)?;
+    core.set_term(term);
+    Ok(())
 }
 
 impl WorldState {
@@ -67,6 +81,11 @@ impl WorldState {
         self.stage = stage_after(self.stage, &turn);
         match turn {
             Turn::Skip | Turn::At(_) => Ok(()),
+            Turn::Term(term) => grants(&mut self.core, term),
+            Turn::Drift(drift) => {
+                self.core.set_drift(drift);
+                Ok(())
+            }
             Turn::Clients(count) => self.core.seat_all(alloc, count),
             Turn::Dir { dir, name } => self.core.open(dir, name, Body::Directory),
             Turn::File { dir, name, content } => self.builds(alloc, dir, name, content),

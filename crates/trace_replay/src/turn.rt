@@ -35,6 +35,10 @@ pub enum Turn {
     Skip,
     /// Nothing but that other lines come next.
     At(Stage),
+    /// The server grants leases of so many milliseconds.
+    Term(u64),
+    /// The clients that come take their clocks and the server's to drift apart by so many milliseconds.
+    Drift(u64),
     /// So many clients.
     Clients(u64),
     /// A directory, of this name in the directory of an id.
@@ -92,6 +96,8 @@ pub fn stage_after(stage: Stage, turn: &Turn) -> Stage
     match turn {
         Turn::Skip | Turn::Dir { .. } | Turn::File { .. } => stage,
         Turn::At(next) => *next,
+        Turn::Term(_) => Stage::Drift,
+        Turn::Drift(_) => Stage::Clients,
         Turn::Clients(_) => Stage::Files,
         _ => Stage::Events,
     }
@@ -115,8 +121,8 @@ fn header_asks(stage: Stage, line: &Line) -> Result<Turn, LineFault>
 {
     match (stage, line) {
         (Stage::Version, Line::Version) => Ok(Turn::At(Stage::Term)),
-        (Stage::Term, Line::Term(_)) => Ok(Turn::At(Stage::Drift)),
-        (Stage::Drift, Line::Drift(_)) => Ok(Turn::At(Stage::Clients)),
+        (Stage::Term, Line::Term(term)) => Ok(Turn::Term(*term)),
+        (Stage::Drift, Line::Drift(drift)) => Ok(Turn::Drift(*drift)),
         (Stage::Clients, Line::Clients(count)) => Ok(Turn::Clients(*count)),
         _ => Err(LineFault::Grammar),
     }
