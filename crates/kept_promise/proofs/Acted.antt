@@ -20,7 +20,7 @@ use Rattle.kept_promise.proofs.Comes.{GoesTo, EndsIn, Comes}
 -- a client acted: this is its state and the place of its operation now, and these are the operations
 abbrev pub acted_as : Core → (i : ℕ) → (was : Option ℕ) → client.State → (place : Option ℕ) → List Op → (session : Option ℕ) → List Message → CoreStep
 acted_as k i was c place ops session up = record {
-  core = record {
+  core = record k {
     server = k.server;
     seats = with_numbered k.seats i (record { client = c; session = was; place = place });
     sessions = k.sessions;
@@ -65,7 +65,7 @@ ups_around qs n q r ts is =
 
 pub leads_acted : (book : Book) (k : Core) (qs : List Queue) (n : ℕ) (x : Session) (q : Queue) (ts : List Told) (seat : Seat) (c : client.State) (acts : ClientStep) (place : Option ℕ) (ops : List Op) (asks : List Ask) → IsKept book k qs → numbered k.sessions n ≡ Some x → numbered qs n ≡ Some q → numbered k.seats x.owner ≡ Some seat → seat.session ≡ Some n
     → place_after seat.place acts.ended ≡ place → ops_with book.ops seat.place c x.taken (book.steps + 1) acts ≡ ops → acts.send ≡ map ask_message asks
-    → ((seats : List Seat) (after : List Queue) → Around k.seats seats x.owner (record seat { client = c; place = place }) → Around qs after n (put_up q x.hung asks ts) → IsKept (onward book 1 ops) (turned_core (onward book 1 ops) k.server seats k.sessions) after)
+    → ((seats : List Seat) (after : List Queue) → Around k.seats seats x.owner (record seat { client = c; place = place }) → Around qs after n (put_up q x.hung asks ts) → IsKept (onward book 1 ops) (turned_core k (onward book 1 ops) k.server seats k.sessions) after)
     → Leads book (rest_down qs n q ts) (acted k x.owner seat c acts)
 leads_acted book k qs n x q ts seat c acts place ops asks kept at is owner here place_is ops_is send_is done =
     let more = onward book 1 ops in
@@ -75,7 +75,7 @@ leads_acted book k qs n x q ts seat c acts place ops asks kept at is owner here 
     let core = cut_core book more k k.server seats k.sessions ops (ap (λ (s : ℕ). s + 1) kept.steps) refl kept.entries in
     let ops_now : ops_with k.ops seat.place c x.taken (k.steps + 1) acts ≡ ops = ap (λ (l : List Op). ops_with l seat.place c x.taken (k.steps + 1) acts) (sym kept.ops) ∙ ap (λ (s : ℕ). ops_with book.ops seat.place c x.taken (s + 1) acts) (sym kept.steps) ∙ ops_is in
     subst (Leads book (rest_down qs n q ts)) (sym (acted_is k x.owner n x seat c acts place ops asks at here place_is ops_now send_is)) (record {
-      sends = record { asks = asks; up_is = refl; tolds = []; down_is = refl };
+      sends = record { replies = []; replies_fit = tt; asks = asks; up_is = refl; recalls = []; recalls_fit = tt; tolds = []; down_is = refl };
       more = more;
       moments = refl;
       opening = refl;
@@ -106,7 +106,7 @@ leads_goes book k qs n x q t ts j g c acts none w =
     let ops_is = ops_now book x.owner h.seat j of c x.taken acts g.job_is ∙ ap (slice_set book.ops j.place) (op_found of.op c x.taken (book.steps + 1) acts none) ∙ ap (λ (e : Option Ended). slice_set book.ops j.place (op_ended (counting of.op tr) c x.taken (book.steps + 1) e)) w.ended_is in
     let place_is = ap (place_after h.seat.place) w.ended_is ∙ place_of h.seat j g.job_is in
     leads_acted book k qs n x q ts h.seat c acts (Some j.place) (slice_set book.ops j.place (counting of.op tr)) w.asks g.kept g.at g.is h.owner (h.here g.uncut).0 place_is ops_is w.send_is
-    (λ seats after around queues. kept_goes book k qs n x q t ts j g w.to w.next w.forgotten w.asks w.cache w.index tr seats after w.shows w.cached (subst (λ (s : client.State). Around k.seats seats x.owner (record h.seat { client = s; place = Some j.place })) w.state_is around) queues)
+    (λ seats after around queues. kept_goes book k qs n x q t ts j g w.to w.next w.forgotten w.asks w.cache w.index w.sent tr seats after w.shows w.cached (subst (λ (s : client.State). Around k.seats seats x.owner (record h.seat { client = s; place = Some j.place })) w.state_is around) queues)
 
 leads_ends : (book : Book) (k : Core) (qs : List Queue) (n : ℕ) (x : Session) (q : Queue) (t : Told) (ts : List Told) (j : Job) (g : Here book k qs n x q t ts j) (c : client.State) (acts : ClientStep) → acts.found ≡ None → EndsIn book k qs n x q t ts j g c acts → Leads book (rest_down qs n q ts) (acted k x.owner (session_at book k qs n x q t ts j g).seat c acts)
 leads_ends book k qs n x q t ts j g c acts none w =

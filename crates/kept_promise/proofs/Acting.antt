@@ -16,7 +16,7 @@ use Rattle.kept_promise.proofs.Facts.{IsMatched, is_naming}
 use Rattle.kept_promise.proofs.Leaving.{EndsWith, Leaves}
 use Rattle.kept_promise.proofs.Locally.{Idles, other_client, other_file, its_own, leaves_alike, leaves_all, leaves_none, idles_by, local_same, local_late}
 use Rattle.kept_promise.proofs.Deeds.{also_there, FromServer, IsOnNames, IsDeed, local_of, HasLocals, HasDeeds, Moved, moved_same, AllMoved, all_same, StaysBy, stays_same, stays_by, stays_named, AllStay, all_stay, deeds_moved, busy_behind}
-use Rattle.kept_promise.proofs.WalkLeaves.{IsNeither as IsNone, EndsNeither}
+use Rattle.kept_promise.proofs.WalkLeaves.{OpensNow, IsNeither as IsNone, EndsNeither}
 use Rattle.kept_promise.proofs.Found.{op_found}
 use Rattle.trace_ends.specs.Ops.{file_with, op_ended}
 
@@ -244,7 +244,7 @@ pub record Acts (ds : List Deed) (k : Core) (c : ℕ) (seat : Seat) (t : client.
   pub op : (j : Job) → job seat ≡ Some j → (o : Op) × (slice_get k.ops j.place ≡ Some o) × (o.client ≡ c) × (is_naming j.stage ≡ false → o.file ≡ j.file) × (o.outcome ≡ told.Running) × (o.end ≡ None) × (o.word ≡ stage_word j.stage)
   pub idle : seat.client.task ≡ None → (t.opened ≡ seat.client.opened) × (acts.ended ≡ None)
   -- of a file that is known; or it is one on names
-  pub busy : (x : Task) (p : ℕ) → seat.client.task ≡ Some x → seat.place ≡ Some p → ((acts.found ≡ None) × ((file : ℕ) → (is_naming x.stage ≡ false → file ≡ x.file) → Leaves (stage_word x.stage) seat.client.opened t.opened file acts.ended)) ⊎ (((d : Deed) → slice_get ds p ≡ Some d → IsOnNames d.command) × (t.opened ≡ seat.client.opened) × EndsNeither (stage_word x.stage) acts.ended)
+  pub busy : (x : Task) (p : ℕ) → seat.client.task ≡ Some x → seat.place ≡ Some p → ((acts.found ≡ None) × ((file : ℕ) → (is_naming x.stage ≡ false → file ≡ x.file) → Leaves (stage_word x.stage) seat.client.opened t.opened file acts.ended)) ⊎ (((d : Deed) → slice_get ds p ≡ Some d → IsOnNames d.command) × (((t.opened ≡ seat.client.opened) × EndsNeither (stage_word x.stage) acts.ended) ⊎ OpensNow (stage_word x.stage) seat.client (t, acts)))
   pub words : (i : ℕ) (r : Op) → slice_get (acted k c seat t acts).core.ops i ≡ Some r → HasWord r.word r.outcome
 
 -- what a step of this client leaves, whose operations are these then
@@ -281,13 +281,14 @@ module _ (ds : List Deed) (k : Core) (c : ℕ) (seat : Seat) (t : client.State) 
   goes_on p place o r at m g u v opened = same_left p place o r at m opened (λ d is. (stays_by d.command o r g (λ q. subst (FromServer (word_of d.command)) (sym u) q), λ z f. set_alike z f ds k.ops p d o r is at g u v))
 
   -- one ends
-  one_ends : (p : ℕ) (place : Option ℕ) (o : Op) (taken : List TakenCall) (e : Ended) → slice_get k.ops p ≡ Some o → o.client ≡ c → o.outcome ≡ told.Running → o.end ≡ None
-      → EndsWith o.word seat.client.opened t.opened o.file e.outcome → HasWord o.word (told_of e.outcome) → (n : Rattle.register_model.specs.declared.op.Traffic.Traffic)
-      → Left ds k c seat t place (slice_set k.ops p (ended_op (record o { traffic = n }) t taken (k.steps + 1) e))
-  one_ends p place o taken e at mine running under ends word n =
-      let q : Op = record o { traffic = n } in
+  ends_with : (p : ℕ) (place : Option ℕ) (o : Op) (file : ℕ) (taken : List TakenCall) (e : Ended) → slice_get k.ops p ≡ Some o → o.client ≡ c → o.outcome ≡ told.Running → o.end ≡ None
+      → EndsWith o.word seat.client.opened t.opened file e.outcome → HasWord o.word (told_of e.outcome) → (n : Rattle.register_model.specs.declared.op.Traffic.Traffic)
+      → ((d : Deed) → slice_get ds p ≡ Some d → StaysBy d.command o (ended_op (record o { file = file; traffic = n }) t taken (k.steps + 1) e))
+      → Left ds k c seat t place (slice_set k.ops p (ended_op (record o { file = file; traffic = n }) t taken (k.steps + 1) e))
+  ends_with p place o file taken e at mine running under ends word n stays =
+      let q : Op = record o { file = file; traffic = n } in
       let r = ended_op q t taken (k.steps + 1) e in
-      let m0 = moved_ended (k.steps + 1) q t taken e seat.client.opened o.file under ends word in
+      let m0 = moved_ended (k.steps + 1) q t taken e seat.client.opened file under ends word in
       let m : Moved (k.steps + 1) o r = record { client = refl; word = refl; begin = refl; value = m0.value; ended = λ n z. nothing_there n (sym under ∙ z); ends = m0.ends } in
       let moved = all_set (k.steps + 1) k.ops p o r at m in
       let d = also_there k.ops ds p o (sym h.count) at in
@@ -296,23 +297,28 @@ module _ (ds : List Deed) (k : Core) (c : ℕ) (seat : Seat) (t : client.State) 
       record {
         moved = moved;
         deeds = deeds_moved (k.steps + 1) ds k.ops (slice_set k.ops p r) k.seats (with_numbered k.seats c (record seat { client = t; place = place })) h a.begins moved
-            (stay_set ds k.ops p d.0 o r d.1 at (stays_by d.0.command o r refl (λ q. subst (λ (w : Word). FromServer w (told_of e.outcome)) deed.word (from_server o.word e.outcome seat.client.opened t.opened o.file ends))))
+            (stay_set ds k.ops p d.0 o r d.1 at (stays d.0 d.1))
             (locals_with ds (slice_set k.ops p r) k.seats c seat (record seat { client = t; place = place }) a.here
             (λ f. own d.0 r f of deed refl refl refl ∙ sym (local_late c f None ds k.ops p d.0 o r d.1 at (idles_by c f d.0 o (λ l. leaves_none d.0.command o.outcome o.value l (inl running))) (λ i x q lt b s. subst (λ (z : ℕ). Idles z f x q) mine (busy_behind ds k.ops p o f h.rising h.each at under i x q lt b s))))
             (λ z x apart is f. h.locals z x is f ∙ sym (set_else z f ds k.ops p d.0 o r d.1 at (λ same. apart (sym same ∙ of)))));
       }
     where
-      own : (d : Deed) (r : Op) (f : ℕ) → d.client ≡ c → IsDeed ds k.ops p d o → r.file ≡ o.file → r.outcome ≡ told_of e.outcome → r.value ≡ value_of o.value t e.outcome → local_of t f ≡ after_one c f d r (local_from c f None ds k.ops)
-      own d r f of deed g u v = elim (same_or_not f o.file) [
-        | inr apart ↦ ended_else o.word seat.client.opened t.opened o.file f e.outcome ends apart ∙ h.locals c seat a.here f ∙ sym (other_file c f d r (λ same. apart (sym same ∙ g)) (local_from c f None ds k.ops))
+      own : (d : Deed) (r : Op) (f : ℕ) → d.client ≡ c → IsDeed ds k.ops p d o → r.file ≡ file → r.outcome ≡ told_of e.outcome → r.value ≡ value_of o.value t e.outcome → local_of t f ≡ after_one c f d r (local_from c f None ds k.ops)
+      own d r f of deed g u v = elim (same_or_not f file) [
+        | inr apart ↦ ended_else o.word seat.client.opened t.opened file f e.outcome ends apart ∙ h.locals c seat a.here f ∙ sym (other_file c f d r (λ same. apart (sym same ∙ g)) (local_from c f None ds k.ops))
         | inl same ↦
             ap (bytes_at t.opened) same
-            ∙ ended_here d.command seat.client.opened t o.file o.value e.outcome (subst (λ (w : Word). EndsWith w seat.client.opened t.opened o.file e.outcome) deed.word ends) (subst (λ (w : Word). HasWord w (told_of e.outcome)) deed.word word)
+            ∙ ended_here d.command seat.client.opened t file o.value e.outcome (subst (λ (w : Word). EndsWith w seat.client.opened t.opened file e.outcome) deed.word ends) (subst (λ (w : Word). HasWord w (told_of e.outcome)) deed.word word)
             ∙ ap (λ (x : ℕ). leaves d.command (told_of e.outcome) (value_of o.value t e.outcome) (bytes_at seat.client.opened x)) (sym same)
             ∙ ap (leaves d.command (told_of e.outcome) (value_of o.value t e.outcome)) (h.locals c seat a.here f)
             ∙ sym (its_own c f d r (local_from c f None ds k.ops) of (g ∙ sym same)
             ∙ ap (λ (x : Told). leaves d.command x r.value (local_from c f None ds k.ops)) u ∙ ap (λ (x : List ℕ). leaves d.command (told_of e.outcome) x (local_from c f None ds k.ops)) v)
       ]
+
+  one_ends : (p : ℕ) (place : Option ℕ) (o : Op) (taken : List TakenCall) (e : Ended) → slice_get k.ops p ≡ Some o → o.client ≡ c → o.outcome ≡ told.Running → o.end ≡ None
+      → EndsWith o.word seat.client.opened t.opened o.file e.outcome → HasWord o.word (told_of e.outcome) → (n : Rattle.register_model.specs.declared.op.Traffic.Traffic)
+      → Left ds k c seat t place (slice_set k.ops p (ended_op (record o { traffic = n }) t taken (k.steps + 1) e))
+  one_ends p place o taken e at mine running under ends word n = ends_with p place o o.file taken e at mine running under ends word n (λ d is. stays_by d.command o (ended_op (record o { traffic = n }) t taken (k.steps + 1) e) refl (λ q. subst (λ (w : Word). FromServer w (told_of e.outcome)) (h.each p d o is at).word (from_server o.word e.outcome seat.client.opened t.opened o.file ends)))
 
   -- one on names finds its file, goes on, or ends with no content
   walks_on : (p : ℕ) (place : Option ℕ) (o r : Op) → slice_get k.ops p ≡ Some o → o.outcome ≡ told.Running → Moved (k.steps + 1) o r → t.opened ≡ seat.client.opened → ((d : Deed) → slice_get ds p ≡ Some d → IsOnNames d.command × ((l : Option (List ℕ)) → leaves d.command r.outcome r.value l ≡ l)) → Left ds k c seat t place (slice_set k.ops p r)
@@ -339,7 +345,10 @@ module _ (ds : List Deed) (k : Core) (c : ℕ) (seat : Seat) (t : client.State) 
       subst (Left ds k c seat t (place_after (Some p) acts.ended)) (sym ops_is)
       (elim (a.busy x p f e) [
         | inl of ↦ by of.0 o.0 o.1 o.2 o.4 o.5 taken acts.ended refl (subst (λ (w : Word). Leaves w seat.client.opened t.opened o.0.file acts.ended) (sym o.6) (of.1 o.0.file o.3)) rights
-        | inr walk ↦ walks o.0 o.1 o.4 o.5 taken walk.0 walk.1 acts.ended (subst (λ (w : Word). EndsNeither w acts.ended) (sym o.6) walk.2)
+        | inr walk ↦ elim walk.1 [
+          | inl left ↦ walks o.0 o.1 o.4 o.5 taken walk.0 left.0 acts.ended (subst (λ (w : Word). EndsNeither w acts.ended) (sym o.6) left.1)
+          | inr now ↦ opens_now o.0 o.1 o.2 o.4 o.5 taken walk.0 (subst (λ (w : Word). OpensNow w seat.client (t, acts)) (sym o.6) now) rights
+        ]
       ])
     where
       becomes : (r q : Op) → r ≡ q → Left ds k c seat t (place_after (Some p) acts.ended) (slice_set k.ops p q) → Left ds k c seat t (place_after (Some p) acts.ended) (slice_set k.ops p r)
@@ -355,6 +364,17 @@ module _ (ds : List Deed) (k : Core) (c : ℕ) (seat : Seat) (t : client.State) 
           let r = ended_op q t taken (k.steps + 1) e in
           walks_on p (place_after (Some p) acts.ended) o r at running (record { client = refl; word = refl; begin = refl; value = λ w. value_stays o.word o.value t e.outcome none; ended = λ n b. nothing_there n (sym under ∙ b); ends = λ n. inr refl }) opened
           (λ d is. (names d is, λ l. neither_stays d.command e.outcome r.value l (names d is) (subst (λ (w : Word). IsNone w e.outcome) (h.each p d o is at).word none)))
+
+      opens_now : (o : Op) → slice_get k.ops p ≡ Some o → o.client ≡ c → o.outcome ≡ told.Running → o.end ≡ None → (taken : List TakenCall) → ((d : Deed) → slice_get ds p ≡ Some d → IsOnNames d.command) → OpensNow o.word seat.client (t, acts) → HasWord (op_after o t taken (k.steps + 1) acts).word (op_after o t taken (k.steps + 1) acts).outcome
+          → Left ds k c seat t (place_after (Some p) acts.ended) (slice_set k.ops p (op_after o t taken (k.steps + 1) acts))
+      opens_now o at mine running under taken names now word =
+          let id = now.0 in
+          let e = now.2.0 in
+          let q : Op = record o { file = now.0; traffic = counted o.traffic acts.counts } in
+          let r_is : op_after o t taken (k.steps + 1) acts ≡ ended_op q t taken (k.steps + 1) e =
+          ap (λ (z : Option ℕ). op_ended (record o { file = file_with o.file z; traffic = counted o.traffic acts.counts }) t taken (k.steps + 1) acts.ended) now.1 ∙ ap (λ (z : Option Ended). op_ended q t taken (k.steps + 1) z) now.2.1 in
+          becomes (op_after o t taken (k.steps + 1) acts) (ended_op q t taken (k.steps + 1) e) r_is
+          (ends_with p (place_after (Some p) acts.ended) o id taken e at mine running under now.2.2 (subst (λ (z : Op). HasWord z.word z.outcome) r_is word) (counted o.traffic acts.counts) (λ d there. stays_named d.command o (ended_op q t taken (k.steps + 1) e) (names d there)))
 
       by : acts.found ≡ None → (o : Op) → slice_get k.ops p ≡ Some o → o.client ≡ c → o.outcome ≡ told.Running → o.end ≡ None → (taken : List TakenCall) (ended : Option Ended) → acts.ended ≡ ended → Leaves o.word seat.client.opened t.opened o.file acts.ended → HasWord (op_after o t taken (k.steps + 1) acts).word (op_after o t taken (k.steps + 1) acts).outcome
           → Left ds k c seat t (place_after (Some p) acts.ended) (slice_set k.ops p (op_after o t taken (k.steps + 1) acts))

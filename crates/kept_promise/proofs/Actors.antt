@@ -1,10 +1,10 @@
 -- The client that acts in an event: its session, its seat and its operation.
-use Rattle.std.proofs.Common.{inl, inr, ◌≡◌, ℕ, ◌+◌, List, [], ◌∷◌, Option, Some, None, Bool, true, false, refl, sym, ap, ◌∙◌, subst, arith, ne_eqb, Result, Ok}
+use Rattle.std.proofs.Common.{inl, inr, ◌≡◌, ℕ, ◌+◌, List, [], ◌∷◌, length, Option, Some, None, Bool, true, false, refl, sym, ap, ◌∙◌, subst, arith, ne_eqb, Result, Ok}
 use Rattle.client_state.specs.State as client
 use Rattle.register_model.specs.declared.op.Outcome.{Outcome}
 use Rattle.register_model.specs.declared.op.Outcome.TheVariants as told
 use Rattle.trace_replay.specs.Trail.{given_by_message, given_by_record, given_from}
-use Rattle.kept_promise.proofs.Common.{nat_tests, ◌==◌, ◌&&◌, nat_le, slice_get, is_some, not, MessageFits, message_spell, parse_of, WireFault, Message, got_step, Task, Op, Core, Seat, Session, Event.Hears, is_newest, acted, hears, hears_at, hears_if, numbered, happens, wanted_by, taken_if, taken_from, taken_by, given_by, until, Book, is_running, Told, Queue, told_message, Event.Serves, server_waiting, ask_message}
+use Rattle.kept_promise.proofs.Common.{nat_tests, ◌==◌, ◌&&◌, nat_le, slice_get, is_some, not, MessageFits, message_spell, parse_of, WireFault, Message, got_step, Task, Op, Core, Seat, Session, Event.Hears, is_newest, acted, hears, hears_at, hears_if, numbered, happens, wanted_by, taken_if, taken_from, taken_by, given_by, until, Book, is_running, Told, Queue, told_message, Event.Serves, server_waiting, server_waits, ask_message, call_message, Call, Call.Lease, IsExpected}
 use Rattle.kept_promise.proofs.Lists.{some_is, nothing_there, same_or_not}
 use Rattle.kept_promise.proofs.Messages.{Job, job, job_of, AllTolds, AllAsks}
 use Rattle.kept_promise.proofs.Fits.{FitLaws}
@@ -12,7 +12,7 @@ use Rattle.kept_promise.proofs.Moves.{expected}
 use Rattle.kept_promise.proofs.Rights.{IsRight}
 use Rattle.kept_promise.proofs.Facts.{IsKept, IsSession, IsMatched, is_naming}
 use Rattle.kept_promise.proofs.Turns.{also_numbered}
-use Rattle.kept_promise.proofs.RunsCarried.{Finds}
+use Rattle.kept_promise.proofs.RunsCarried.{FindsAsk, FindsTold, Finds}
 use Rattle.kept_promise.proofs.Counted.{IsActor}
 use Rattle.kept_promise.proofs.Statements.{CallFits}
 
@@ -124,7 +124,7 @@ pub newest_is : (o : Option ℕ) (n : ℕ) → o ≡ Some n → is_newest o n �
 newest_is None n e = nothing_there n e
 newest_is (Some m) n e = let same : m ≡ n = some_is m n e in grind (arith, nat_tests, same)
 
-pub heard_at : (book : Book) (k : Core) (qs : List Queue) (n now : ℕ) (bytes : List ℕ) (mid : List Queue) → IsKept book k qs → Finds k qs (Hears n now bytes) mid → Heard k qs n now bytes mid
+pub heard_at : (book : Book) (k : Core) (qs : List Queue) (n now : ℕ) (bytes : List ℕ) (mid : List Queue) → IsKept book k qs → FindsTold qs n bytes mid → Heard k qs n now bytes mid
 heard_at book k qs n now bytes mid kept f = by (also_numbered qs k.sessions n f.0 (sym kept.made.1) f.3)
   where
     uncut : (x : Session) → IsSession book k.seats k.server n x f.0 → (b : Bool) → x.cut ≡ b → x.cut ≡ false
@@ -177,14 +177,30 @@ heard_gives laws book k qs n now bytes mid kept h = ap (given_from n bytes) h.ow
 -- ---- what the server reads
 
 -- the first call on its way fits
-pub serves_fits : (book : Book) (k : Core) (qs : List Queue) (n now : ℕ) (bytes : List ℕ) (mid : List Queue) → IsKept book k qs → (f : Finds k qs (Serves n now bytes) mid) → CallFits f.1.xid f.1.call
+pub serves_fits : (book : Book) (k : Core) (qs : List Queue) (n now : ℕ) (bytes : List ℕ) (mid : List Queue) → IsKept book k qs → (f : FindsAsk qs n bytes mid) → CallFits f.1.xid f.1.call
 serves_fits book k qs n now bytes mid kept f =
     let x = also_numbered qs k.sessions n f.0 (sym kept.made.1) f.3 in
     let s = kept.sessions n x.0 f.0 x.1 f.3 in
     (subst (AllAsks (λ a. CallFits a.xid a.call)) f.4 s.ups_fit).0
 
+-- a call is expected whatever answers the server waits for
+pub ask_expected : (k : Core) (n xid : ℕ) (c : Call) → IsExpected server_waiting (call_message xid c) → IsExpected (server_waits k n) (call_message xid c)
+ask_expected k n xid (Lease file) e = e
+ask_expected k n xid _ e = e
+
 -- a record that reaches it is read as the first call on its way
-pub serves_read : FitLaws → (book : Book) (k : Core) (qs : List Queue) (n now : ℕ) (bytes : List ℕ) (mid : List Queue) → IsKept book k qs → (f : Finds k qs (Serves n now bytes) mid) → parse_of server_waiting bytes ≡ Ok (ask_message f.1)
+pub serves_read : FitLaws → (book : Book) (k : Core) (qs : List Queue) (n now : ℕ) (bytes : List ℕ) (mid : List Queue) → IsKept book k qs → (f : FindsAsk qs n bytes mid) → parse_of (server_waits k n) bytes ≡ Ok (ask_message f.1)
 serves_read laws book k qs n now bytes mid kept f =
     let c = laws.calls f.1.xid f.1.call (serves_fits book k qs n now bytes mid kept f) in
+    ap (parse_of (server_waits k n)) f.5 ∙ laws.again (server_waits k n) (ask_message f.1) c.0.0 (ask_expected k n f.1.xid f.1.call c.1)
+
+-- and by who waits for nothing
+pub serves_read_plain : FitLaws → (book : Book) (k : Core) (qs : List Queue) (n now : ℕ) (bytes : List ℕ) (mid : List Queue) → IsKept book k qs → (f : FindsAsk qs n bytes mid) → parse_of server_waiting bytes ≡ Ok (ask_message f.1)
+serves_read_plain laws book k qs n now bytes mid kept f =
+    let c = laws.calls f.1.xid f.1.call (serves_fits book k qs n now bytes mid kept f) in
     ap (parse_of server_waiting) f.5 ∙ laws.again server_waiting (ask_message f.1) c.0.0 c.1
+
+-- the session on which something comes to the server
+pub session_served : (k : Core) (qs : List Queue) (n now : ℕ) (bytes : List ℕ) (mid : List Queue) → length qs ≡ length k.sessions → Finds k qs (Serves n now bytes) mid → (x : Session) × (numbered k.sessions n ≡ Some x)
+session_served k qs n now bytes mid made (inl f) = also_numbered qs k.sessions n f.0 (sym made) f.3
+session_served k qs n now bytes mid made (inr f) = (f.session, f.at)

@@ -1,5 +1,5 @@
--- Another index, or other contents that are kept: no step, and what is kept stays kept.
-use Rattle.std.proofs.Common.{inl, inr, ◌≡◌, ℕ, List, length, Option, Some, None, Bool, refl, sym, ap, ◌∙◌, subst}
+-- Another index, other contents that are kept, or another reading of a clock: no step, and what is kept stays kept.
+use Rattle.std.proofs.Common.{inl, inr, ◌≡◌, ℕ, List, length, Option, Some, None, refl, sym, ap, ◌∙◌, subst}
 use Rattle.chunk_index.specs.Index.{Indexed, put, cleared}
 use Rattle.cache_file.specs.Items.{items}
 use Rattle.client_cache.specs.Cache.{without_content}
@@ -12,38 +12,38 @@ use Rattle.trace_text.specs.declared.line.Who.TheVariants as who
 use Rattle.trace_ends.specs.declared.adjusting.Adjustment.{Adjustment}
 use Rattle.trace_ends.specs.declared.adjusting.Adjustment.TheVariants as adjustment
 use Rattle.trace_ends.specs.Core.{with_client, adjusted}
-use Rattle.kept_promise.proofs.Common.{Entries, Core, Seat, Session, numbered, with_numbered, Book, Queue}
+use Rattle.kept_promise.proofs.Common.{Entries, Core, Seat, numbered, with_numbered, Book, Queue}
 use Rattle.kept_promise.proofs.Lists.{some_is, same_or_not}
-use Rattle.kept_promise.proofs.Orderly.{Orderly}
-use Rattle.kept_promise.proofs.Facts.{Cached, IsTalk, IsSession, IsSeat, IsServer, IsKept}
+use Rattle.kept_promise.proofs.Facts.{Cached, IsKept}
+use Rattle.kept_promise.proofs.Kin.{Kin, parts_of, kept_kin}
 use Rattle.kept_promise.proofs.Turns.{Around, around_with}
 use Rattle.kept_promise.proofs.Caches.{cached_without, cached_warm, AddsNone, same_notes, without_notes, warm_notes}
 
--- ---- a client with another cache and index
+-- ---- a client with another cache, and another index and clock
 
-abbrev pub with_kept : Seat → Entries → Indexed → Seat
-with_kept c es ix = record c { client = record c.client { cache = es; index = ix } }
+abbrev pub with_kept : Seat → Entries → Indexed × ℕ → Seat
+with_kept c es p = record c { client = record c.client { cache = es; index = p.0; clock = p.1 } }
 
 -- each client is as it was, but for these; it has no note more
 pub record SameSeats (seats after : List Seat) : Type 0 where
-  pub was : (i : ℕ) (e : Seat) → numbered after i ≡ Some e → (c : Seat) × (es : Entries) × (ix : Indexed) × (numbered seats i ≡ Some c) × (e ≡ with_kept c es ix) × AddsNone c.client.cache es
-  pub is : (i : ℕ) (c : Seat) → numbered seats i ≡ Some c → (es : Entries) × (ix : Indexed) × (numbered after i ≡ Some (with_kept c es ix))
+  pub was : (i : ℕ) (e : Seat) → numbered after i ≡ Some e → (c : Seat) × (es : Entries) × (ix : Indexed × ℕ) × (numbered seats i ≡ Some c) × (e ≡ with_kept c es ix) × AddsNone c.client.cache es
+  pub is : (i : ℕ) (c : Seat) → numbered seats i ≡ Some c → (es : Entries) × (ix : Indexed × ℕ) × (numbered after i ≡ Some (with_kept c es ix))
   pub count : length after ≡ length seats
 
 pub same_seats : (seats : List Seat) → SameSeats seats seats
-same_seats seats = record { was = λ i e at. (e, e.client.cache, e.client.index, at, refl, same_notes e.client.cache); is = λ i c at. (c.client.cache, c.client.index, at); count = refl }
+same_seats seats = record { was = λ i e at. (e, e.client.cache, (e.client.index, e.client.clock), at, refl, same_notes e.client.cache); is = λ i c at. (c.client.cache, (c.client.index, c.client.clock), at); count = refl }
 
-pub one_seat : (seats : List Seat) (i : ℕ) (c : Seat) (es : Entries) (ix : Indexed) → numbered seats i ≡ Some c → AddsNone c.client.cache es → SameSeats seats (with_numbered seats i (with_kept c es ix))
+pub one_seat : (seats : List Seat) (i : ℕ) (c : Seat) (es : Entries) (ix : Indexed × ℕ) → numbered seats i ≡ Some c → AddsNone c.client.cache es → SameSeats seats (with_numbered seats i (with_kept c es ix))
 one_seat seats i c es ix here adds = record {
   was = λ j e at. elim (same_or_not j i) [
     | inl mine ↦ (c, es, ix, ap (numbered seats) mine ∙ here, some_is e (with_kept c es ix) (sym at ∙ ap (numbered after) mine ∙ around.there), adds)
-    | inr away ↦ (e, e.client.cache, e.client.index, sym (around.others j away) ∙ at, refl, same_notes e.client.cache)
+    | inr away ↦ (e, e.client.cache, (e.client.index, e.client.clock), sym (around.others j away) ∙ at, refl, same_notes e.client.cache)
   ];
   is = λ j d at. elim (same_or_not j i) [
     | inl mine ↦
         let same : c ≡ d = some_is c d (sym here ∙ ap (numbered seats) (sym mine) ∙ at) in
         (es, ix, ap (numbered after) mine ∙ around.there ∙ ap (λ (z : Seat). Some (with_kept z es ix)) same)
-    | inr away ↦ (d.client.cache, d.client.index, around.others j away ∙ at)
+    | inr away ↦ (d.client.cache, (d.client.index, d.client.clock), around.others j away ∙ at)
   ];
   count = around.count;
 }
@@ -60,62 +60,15 @@ adjusted_core k index seats = record k { server = with_index k.server index; sea
 
 -- ---- what is kept
 
-talk_kept : (book : Book) (n : ℕ) (s : server.State) (index : Indexed) (x : Session) (q : Queue) (c : Seat) (es : Entries) (ix : Indexed) → IsTalk book n s.waiting x q c → IsTalk book n (with_index s index).waiting x q (with_kept c es ix)
-talk_kept book n s index x q c es ix t = record { floor = t.floor; under = t.under; rising = t.rising; asked = t.asked; answers = t.answers; fetch = t.fetch; balanced = t.balanced; busy = t.busy }
-
-orderly_kept : (book : Book) (n : ℕ) (s : server.State) (index : Indexed) (hung : Bool) (q : Queue) (c : Seat) (es : Entries) (ix : Indexed) → Orderly book n s.temps hung q c → Orderly book n (with_index s index).temps hung q (with_kept c es ix)
-orderly_kept book n s index hung q c es ix o = record { asks = o.asks; tolds = o.tolds; holds = o.holds; tree = o.tree }
-
-session_kept : (book : Book) (seats after : List Seat) (s : server.State) (index : Indexed) (n : ℕ) (x : Session) (q : Queue) → SameSeats seats after → IsSession book seats s n x q → IsSession book after (with_index s index) n x q
-session_kept book seats after s index n x q same h =
-    let e = same.is x.owner h.seat h.owner in
-    record {
-      seat = with_kept h.seat e.0 e.1;
-      owner = e.2;
-      here = h.here;
-      shut = h.shut;
-      lost = h.lost;
-      stands_is = h.stands_is;
-      ups_fit = h.ups_fit;
-      downs_fit = h.downs_fit;
-      talk = λ uncut. talk_kept book n s index x q h.seat e.0 e.1 (h.talk uncut);
-      contents = h.contents;
-      lengths = h.lengths;
-      commits = h.commits;
-      pieces = h.pieces;
-      temps = h.temps;
-      temps_below = h.temps_below;
-      closes = h.closes;
-      pending = h.pending;
-      single = h.single;
-      old = h.old;
-      orderly = λ uncut. orderly_kept book n s index x.hung q h.seat e.0 e.1 (h.orderly uncut);
-    }
-
-seat_kept : (book : Book) (sessions : List Session) (i : ℕ) (c : Seat) (es : Entries) (ix : Indexed) → Cached book es → IsSeat book sessions i c → IsSeat book sessions i (with_kept c es ix)
-seat_kept book sessions i c es ix cached h = record { session = h.session; linked = h.linked; unlinked = h.unlinked; matched = h.matched; task = h.task; trying = h.trying; xids = h.xids; next = h.next; opened = h.opened; kept = cached }
-
-server_kept : (book : Book) (s : server.State) (index : Indexed) → IsServer book s → IsServer book (with_index s index)
-server_kept book s index h = record { held = h.held; fresh = h.fresh; bounded = h.bounded; zero = h.zero; rooted = h.rooted; wants = h.wants; changes = h.changes; bytes = h.bytes; lengths = h.lengths; targets = h.targets; xids = h.xids; leases = h.leases }
+kin : (seats after : List Seat) → SameSeats seats after → Kin seats after
+kin seats after same = record {
+  was = λ i e at. let w = same.was i e at in (w.0, record (parts_of w.0) { cache = w.1; index = w.2.0; clock = w.2.1 }, w.3, w.4);
+  is = λ i c at. let e = same.is i c at in (record (parts_of c) { cache = e.0; index = e.1.0; clock = e.1.1 }, e.2);
+}
 
 -- where each content that is kept is still what its file had in its version
 pub kept_adjusted : (book : Book) (k : Core) (qs : List Queue) (index : Indexed) (seats : List Seat) → SameSeats k.seats seats → ((i : ℕ) (e : Seat) → numbered seats i ≡ Some e → Cached book e.client.cache) → IsKept book k qs → IsKept book (adjusted_core k index seats) qs
-kept_adjusted book k qs index seats same cached h = record {
-  ops = h.ops;
-  steps = h.steps;
-  journal = h.journal;
-  entries = h.entries;
-  sound = h.sound;
-  server = server_kept book k.server index h.server;
-  made = h.made;
-  sessions = λ n x q at is. session_kept book k.seats seats k.server index n x q same (h.sessions n x q at is);
-  seats = λ i e at. let w = same.was i e at in subst (IsSeat book k.sessions i) (sym w.4) (seat_kept book k.sessions i w.0 w.1 w.2 (subst (λ (z : Seat). Cached book z.client.cache) w.4 (cached i e at)) (h.seats i w.0 w.3));
-  running = λ p o at run. let r = h.running p o at run in let e = same.is o.client r.0 r.2 in (with_kept r.0 e.0 e.1, r.1, e.2, r.3, r.4);
-  closings = h.closings;
-  home = h.home;
-  shelf = h.shelf;
-  unborn = h.unborn;
-}
+kept_adjusted book k qs index seats same cached h = kept_kin book k qs index seats (kin k.seats seats same) cached h
 
 -- ---- what a line changes
 
@@ -133,13 +86,13 @@ client_adjusts : (book : Book) (k : Core) (qs : List Queue) (a : Adjustment) (c 
 client_adjusts book k qs a c es ix kept still adds None at e = record { index = k.server.index; seats = k.seats; is = e; same = same_seats k.seats; cached = λ i d is. (kept.seats i d is).kept }
 client_adjusts book k qs a c es ix kept still adds (Some seat) at e =
     let bare : Seat = record { client = seat.client; session = None; place = None } in
-    let d : Seat = with_kept seat (es bare) (ix bare) in
+    let d : Seat = with_kept seat (es bare) (ix bare, seat.client.clock) in
     let around = around_with k.seats c seat d at in
     record {
       index = k.server.index;
       seats = with_numbered k.seats c d;
       is = e;
-      same = one_seat k.seats c seat (es bare) (ix bare) at (adds bare);
+      same = one_seat k.seats c seat (es bare) (ix bare, seat.client.clock) at (adds bare);
       cached = λ i z is. elim (same_or_not i c) [
         | inl mine ↦ subst (λ (v : Seat). Cached book v.client.cache) (some_is d z (sym around.there ∙ ap (numbered (with_numbered k.seats c d)) (sym mine) ∙ is)) (still bare (kept.seats c seat at).kept)
         | inr away ↦ (kept.seats i z (sym (around.others i away) ∙ is)).kept

@@ -17,7 +17,7 @@ use Rattle.trace_text.specs.declared.line.Who.TheVariants as who
 use Rattle.trace_ends.specs.declared.adjusting.Adjustment.{Adjustment}
 use Rattle.trace_ends.specs.declared.adjusting.Adjustment.TheVariants as adjustment
 use Rattle.trace_ends.specs.Core.{adjusted, with_client}
-use Rattle.kept_promise.proofs.Common.{Contains, Contains-push_cases, content_bytes, stands, at, makes_change, lines_of, line_of, Line, LineFault, Turn, Event, Event.Joins, Event.Does, Event.Settles, Event.Cuts, Event.Hangs, File, Change, Core, Seat, Session, numbered, does, hears, joins, settles, cuts, hangs_if, hangs, happens, World, Wire, start, happened, all_happened, up_taken, up_events, up_at, up_length, up_all, down_taken, down_events, down_at, down_length, round, is_still, passes, asked, asked_by, at_events, count_of, turned, Moment, moments_of, up_moments_at, down_moments_at, round_moments, passes_moments, turn_moments, moments_from, moments, Wanted, Tree, step_of}
+use Rattle.kept_promise.proofs.Common.{Contains, Contains-push_cases, in_header, ended, run, run_from, content_bytes, stands, at, makes_change, lines_of, line_of, Line, LineFault, Turn, Event, Event.Joins, Event.Does, Event.Settles, Event.Cuts, Event.Hangs, File, Change, Core, Seat, Session, numbered, does, hears, joins, settles, cuts, hangs_if, hangs, happens, World, Wire, start, happened, all_happened, up_taken, up_events, up_at, up_length, up_all, down_taken, down_events, down_at, down_length, round, is_still, passes, asked, asked_by, at_events, count_of, turned, Moment, moments_of, up_moments_at, down_moments_at, round_moments, passes_moments, turn_moments, moments_from, moments, Wanted, Tree, step_of}
 use Rattle.kept_promise.proofs.Lists.{some_is}
 use Rattle.kept_promise.proofs.Rights.{AreAlike}
 use Rattle.server_law.proofs.Trees.{IsGiven, IsSince, IsLater, later_join, Keeps, keeps_same, file_below}
@@ -27,7 +27,7 @@ use Rattle.kept_promise.proofs.TreeOpens.{opens_file, opens_directory, opens_cou
 use Rattle.kept_promise.proofs.CallsKeep.{got_tree, got_dirs}
 use Rattle.kept_promise.proofs.TreeNames.{IsCounted, AreDirsLater, KeepsDirs, dirs_same, dirs_join}
 use Rattle.kept_promise.proofs.TreeNameCalls.{commits_dirs, settles_dirs}
-use Rattle.kept_promise.proofs.RunsResults.{moments_by}
+use Rattle.kept_promise.proofs.RunsResults.{moments_by, ran_by, no_world, ended_is}
 use Rattle.kept_promise.proofs.RunsLines.{is_early, Allows, allowed, line_fits}
 use Rattle.kept_promise.proofs.Happens.{what_happens}
 
@@ -317,7 +317,9 @@ adjusted_steps k (adjustment.Warm c content) = by (numbered k.seats c)
 
 pub rises_next : (past : List Moment) (w : World) (t : Turn) → Allows w t → Rises past w → Rises (past ++ turn_moments w t) (turned w t)
 rises_next past w turn.Skip f h = rises_same past w h
-rises_next past w (turn.At s) f h = rises_early past w (record w { stage = s }) (λ n. n) (λ n. n) (h.early f) h
+rises_next past w (turn.At s) f h = rises_early past w (record w { stage = s }) (λ n. n) (λ n. n) (h.early (ap is_early f)) h
+rises_next past w (turn.Term n) f h = rises_early past w (turned w (turn.Term n)) (λ n. n) (λ n. n) (h.early (ap is_early f.0)) h
+rises_next past w (turn.Drift n) f h = rises_early past w (turned w (turn.Drift n)) (λ n. n) (λ n. n) (h.early (ap is_early f)) h
 rises_next past w (turn.Clients m) f h = rises_early past w (turned w (turn.Clients m)) (λ n. n) (λ n. n) (h.early f) h
 rises_next past w (turn.Dir dir name) f h = rises_early past w (turned w (turn.Dir dir name)) (λ n. (opens_directory w.core.server.tree dir name n f.1).given) (λ n. opens_counted w.core.server.tree dir name Directory f.1 n) (h.early f.0) h
 rises_next past w (turn.File dir name content) f h = rises_early past w (turned w (turn.File dir name content)) (λ n. (opens_file w.core.server.tree dir name (content_bytes content) n f.1.0).given) (λ n. opens_counted w.core.server.tree dir name (Plain (content_bytes content)) f.1.0 n) (h.early f.0) h
@@ -363,3 +365,22 @@ runs_alike input = (rises_lines 1 [] start (lines_of input) rises_start).0
 -- directories keep their names in each version
 pub runs_in_order : (input : List ℕ) → AreInOrder (moments input)
 runs_in_order input = (rises_lines 1 [] start (lines_of input) rises_start).1
+
+-- and at its end the ids of the tree were given once, as at each moment
+given_lines : (n : ℕ) (past : List Moment) (w v : World) (ls : List (List ℕ)) → Rises past w → run_from w n ls ≡ Ok v → IsGiven (tree v.core)
+given_lines n past w v [] h e = subst (λ (x : World). IsGiven (tree x.core)) (ended_is w v n (in_header w.stage) e) h.given
+given_lines n past w v (l ∷ ls) h e = by_line (line_of l) refl e (λ t more g. given_lines (n + 1) more (turned w t) v ls g)
+  where
+    by_turn : (x : Line) → line_of l ≡ Some x → (r : Result Turn LineFault) → asked w n x ≡ r → ran_by w n ls r ≡ Ok v → ((t : Turn) (more : List Moment) → Rises more (turned w t) → run_from (turned w t) (n + 1) ls ≡ Ok v → IsGiven (tree v.core)) → IsGiven (tree v.core)
+    by_turn x read (Err f) is e go = no_world _ v e
+    by_turn x read (Ok t) is e go = go t (past ++ turn_moments w t) (rises_next past w t (allowed w n x t (line_fits l x read) is) h) e
+
+    by_line : (o : Option Line) → line_of l ≡ o → ran_by w n ls (asked_by w n o) ≡ Ok v → ((t : Turn) (more : List Moment) → Rises more (turned w t) → run_from (turned w t) (n + 1) ls ≡ Ok v → IsGiven (tree v.core)) → IsGiven (tree v.core)
+    by_line None read e go = no_world _ v e
+    by_line (Some x) read e go = by_turn x read (asked w n x) refl e go
+
+pub run_given : (input : List ℕ) (w : World) → run input ≡ Ok w → IsGiven w.core.server.tree
+run_given input w e = given_lines 1 [] start w (lines_of input) rises_start e
+
+pub all_given : (input : List ℕ) (m : Moment) → Contains (moments input) m → IsGiven m.before.server.tree
+all_given input m there = (runs_in_order input m m there there (omega arith)).0

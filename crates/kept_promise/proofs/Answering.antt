@@ -1,5 +1,5 @@
 -- What a client's step for a command says: its own answer, and what it leaves of the local content, or that it asks the server.
-use Rattle.std.proofs.Common.{◌≡◌, ℕ, zero, suc, ◌+◌, ◌≤◌, List, [], ◌∷◌, length, Option, Some, None, Bool, true, false, ◌&&◌, ◌<◌, refl, sym, ap, ◌∙◌, subst, arith}
+use Rattle.std.proofs.Common.{◌⊎◌, inl, inr, ◌≡◌, ℕ, zero, suc, ◌+◌, ◌≤◌, List, [], ◌∷◌, length, Option, Some, None, Bool, true, false, ◌&&◌, ◌<◌, refl, sym, ap, ◌∙◌, subst, arith}
 use Rattle.command_text.specs.declared.command.Command.TheVariants as command
 use Rattle.command_text.specs.declared.path.PathCommand.TheVariants as path
 use Rattle.command_text.specs.declared.path.PathCommand.{PathCommand}
@@ -17,10 +17,15 @@ use Rattle.client_state.specs.declared.step.Outcome.TheVariants as outcome
 use Rattle.register_model.specs.declared.op.Outcome.{Outcome as Told}
 use Rattle.register_model.specs.declared.op.Outcome.TheVariants as told
 use Rattle.trace_replay.specs.Causes.{free_answer}
-use Rattle.kept_promise.proofs.Common.{nat_tests, ◌==◌, nat_lt, is_some, option_map, if◌then◌else◌, sha1, content_length, content_bytes, Part, Command, content_size, ends, local_most, written_size, written, truncated, part_of, calls_most, may_ask, asks_file, asks_kept, opens_if, opens, on_local, done_with, too_big, edits, writes, truncates, reads, abandons, asks_temp, closes, command_step, ClientStep, Outcome, Local, Task, local_at_itself, local_at_another, without_at_itself, without_at_another, file_of, told_of, value_of, leaves, own_answer, unless_asks, write_outcome, sized_outcome}
+use Rattle.kept_promise.proofs.Common.{◌||◌, Op, nat_tests, ◌==◌, nat_lt, is_some, option_map, if◌then◌else◌, sha1, content_length, content_bytes, Part, Command, content_size, ends, local_most, written_size, written, truncated, part_of, calls_most, may_ask, asks_file, asks_kept, opens_if, opens, on_local, done_with, too_big, edits, writes, truncates, reads, abandons, asks_temp, closes, command_step, ClientStep, Outcome, Local, Task, local_at_itself, local_at_another, without_at_itself, without_at_another, file_of, told_of, value_of, leaves, own_answer, unless_asks, write_outcome, sized_outcome}
+use Rattle.client_state.specs.Noting.{at as clocked}
+use Rattle.file_open.specs.Caching.{fresh_content}
+use Rattle.file_open.specs.Fetching.{opens_kept, opens_fresh}
+use Rattle.file_open.specs.Rewriting.{renews_kept, empties_fresh}
+use Rattle.open_close.specs.Step.{does}
 use Rattle.kept_promise.proofs.Does.{own_ended}
-use Rattle.kept_promise.proofs.StepCases.{some_call}
-use Rattle.kept_promise.proofs.Deeds.{local_of}
+use Rattle.kept_promise.proofs.StepCases.{some_call, IsPlain}
+use Rattle.kept_promise.proofs.Deeds.{local_of, ByServer, IsLate, Stores}
 use Rattle.kept_promise.proofs.Locally.{leaves_all}
 use Rattle.kept_promise.proofs.PathNames.{IsSmall, HasNames}
 
@@ -29,6 +34,7 @@ use Rattle.kept_promise.proofs.PathNames.{IsSmall, HasNames}
 -- it answers so by itself
 pub record AnswersSo (s : client.State) (d : Command) (r : client.State × ClientStep) (own : Told) : Type 0 where
   pub outcome : Outcome
+  pub plain : IsPlain outcome
   pub ended : r.1.ended ≡ Some (own_ended outcome)
   pub told_is : told_of outcome ≡ own
   pub value : (v : List ℕ) → value_of v r.0 outcome ≡ v
@@ -40,23 +46,57 @@ abbrev pub ValueIs : client.State → Command → Type 0
 ValueIs s (command.Close f) = local_of s f ≡ Some (client.local_bytes s.opened f)
 ValueIs s d = Unit {0}
 
+-- what is fresh is open at once, or a file is so with nothing in it
+pub record AtOnce (s : client.State) (d : Command) (r : client.State × ClientStep) : Type 0 where
+  pub outcome : Outcome
+  pub ended : r.1.ended ≡ Some (own_ended outcome)
+  pub from : ByServer d (told_of outcome)
+  pub late : (o : Op) → IsLate d o
+  pub stores : (o : Op) (l : Option (List ℕ)) → Stores d o l
+  pub here : (v : List ℕ) → local_of r.0 (file_of d) ≡ leaves d (told_of outcome) (value_of v r.0 outcome) (local_of s (file_of d))
+  pub others : (f : ℕ) → (f ≡ file_of d → ⊥) → local_of r.0 f ≡ local_of s f
+
+-- whether the file is fresh that a command is to open
+abbrev pub fresh_by : client.State → Command → Bool
+fresh_by s (command.Open file) = is_some (fresh_content s.cache file s.clock)
+fresh_by s (command.Rewrite file) = is_some (fresh_content s.cache file s.clock)
+fresh_by s d = false
+
+abbrev pub may_go : client.State → Command → Bool
+may_go s d = may_ask s || fresh_by s d
+
+or_false : (b : Bool) → (b || false) ≡ b
+or_false true = refl
+or_false false = refl
+
+or_true : (b : Bool) → (b || true) ≡ true
+or_true true = refl
+or_true false = refl
+
 abbrev pub AnswersBy : client.State → Command → client.State × ClientStep → Option Told → Type 0
 AnswersBy s d r (Some own) = AnswersSo s d r own
-AnswersBy s d r None = (r.1.ended ≡ None) × (r.0.opened ≡ s.opened) × ValueIs s d
+AnswersBy s d r None = ((r.1.ended ≡ None) × (r.0.opened ≡ s.opened) × ValueIs s d) ⊎ AtOnce s d r
 
 -- what else a command leaves
 abbrev pub Stays : client.State → client.State → Type 0
 Stays s r = (r.next_xid ≤ s.next_xid + calls_most) × (r.linked ≡ s.linked)
 
 abbrev pub IsAnswered : client.State → Command → client.State × ClientStep → Type 0
-IsAnswered s d r = Stays s r.0 × AnswersBy s d r (own_answer false (may_ask s) d (local_of s (file_of d)))
+IsAnswered s d r = Stays s r.0 × AnswersBy s d r (own_answer false (may_go s d) d (local_of s (file_of d)))
+
+abbrev IsAsked : client.State → Command → client.State × ClientStep → Type 0
+IsAsked s d r = Stays s r.0 × AnswersBy s d r (own_answer false (may_ask s) d (local_of s (file_of d)))
+
+-- what opens nothing is never fresh
+plainly : (s : client.State) (d : Command) (r : client.State × ClientStep) → fresh_by s d ≡ false → IsAsked s d r → IsAnswered s d r
+plainly s d r none h = subst (λ (b : Bool). Stays s r.0 × AnswersBy s d r (own_answer false b d (local_of s (file_of d)))) (sym (ap (λ (b : Bool). may_ask s || b) none ∙ or_false (may_ask s))) h
 
 stays : (s : client.State) → Stays s s
 stays s = (omega arith, refl)
 
 -- nothing is left but the answer
-so : (s : client.State) (d : Command) (o : Outcome) (own : Told) → told_of o ≡ own → ((v : List ℕ) → value_of v s o ≡ v) → ((v : List ℕ) (l : Option (List ℕ)) → leaves d own v l ≡ l) → AnswersSo s d (s, ends o 0 0) own
-so s d o own is value idle = record { outcome = o; ended = refl; told_is = is; value = value; here = λ v. sym (idle v (local_of s (file_of d))); others = λ f apart. refl }
+so : (s : client.State) (d : Command) (o : Outcome) (own : Told) → IsPlain o → told_of o ≡ own → ((v : List ℕ) → value_of v s o ≡ v) → ((v : List ℕ) (l : Option (List ℕ)) → leaves d own v l ≡ l) → AnswersSo s d (s, ends o 0 0) own
+so s d o own plain is value idle = record { outcome = o; plain = plain; ended = refl; told_is = is; value = value; here = λ v. sym (idle v (local_of s (file_of d))); others = λ f apart. refl }
 
 -- ---- on an open file
 
@@ -72,11 +112,12 @@ edited : (s : client.State) (d : Command) (file : ℕ) (l : Local) (size : ℕ) 
 edited s d file l size content mine at done big = by (nat_lt local_most size)
   where
     by : (b : Bool) → (let r : client.State × ClientStep = if b then too_big s size else done_with s file l content in Stays s r.0 × AnswersSo s d r (if b then told.TooBig size else told.Done))
-    by true = (stays s, so s d (outcome.TooBig size) (told.TooBig size) refl (λ v. refl) (big size))
+    by true = (stays s, so s d (outcome.TooBig size) (told.TooBig size) tt refl (λ v. refl) (big size))
     by false = (
       (omega arith, refl),
       record {
         outcome = outcome.Done;
+        plain = tt;
         ended = refl;
         told_is = refl;
         value = λ v. refl;
@@ -106,6 +147,7 @@ wrote s file offset content l at = by (content_length content == 0) refl
           stays s,
           subst (λ (own : Told). AnswersSo s (command.Write file offset content) (s, ends outcome.Done 0 0) own) (sym (ap (write_outcome (length l.bytes) offset) z)) (record {
             outcome = outcome.Done;
+            plain = tt;
             ended = refl;
             told_is = refl;
             value = λ v. refl;
@@ -123,11 +165,11 @@ wrote s file offset content l at = by (content_length content == 0) refl
 local_one : (s : client.State) (d : Command) (file : ℕ) (does_it : Local → client.State × ClientStep) → s.task ≡ None → file_of d ≡ file
     → free_answer (may_ask s) d None ≡ Some told.NotOpen → ((v : List ℕ) (l : Option (List ℕ)) → leaves d told.NotOpen v l ≡ l)
     → ((l : Local) → client.local_at s.opened file ≡ Some l → local_of s file ≡ Some l.bytes → Stays s (does_it l).0 × AnswersBy s d (does_it l) (free_answer (may_ask s) d (Some l.bytes)))
-    → IsAnswered s d (on_local s s.task (client.local_at s.opened file) does_it)
+    → IsAsked s d (on_local s s.task (client.local_at s.opened file) does_it)
 local_one s d file does_it free mine shut idle goes = subst (λ (f : ℕ). (let r = on_local s s.task (client.local_at s.opened file) does_it in Stays s r.0 × AnswersBy s d r (free_answer (may_ask s) d (local_of s f)))) (sym mine) (subst (λ (t : Option Task). (let r = on_local s t (client.local_at s.opened file) does_it in Stays s r.0 × AnswersBy s d r (free_answer (may_ask s) d (local_of s file)))) (sym free) (by (client.local_at s.opened file) refl))
   where
     by : (o : Option Local) → client.local_at s.opened file ≡ o → (let r = on_local s None o does_it in Stays s r.0 × AnswersBy s d r (free_answer (may_ask s) d (option_map (λ (z : Local). z.bytes) o)))
-    by None e = (stays s, subst (λ (x : Option Told). AnswersBy s d (s, ends outcome.NotOpen 0 0) x) (sym shut) (so s d outcome.NotOpen told.NotOpen refl (λ v. refl) idle))
+    by None e = (stays s, subst (λ (x : Option Told). AnswersBy s d (s, ends outcome.NotOpen 0 0) x) (sym shut) (so s d outcome.NotOpen told.NotOpen tt refl (λ v. refl) idle))
     by (Some l) e = goes l e (ap (option_map (λ (z : Local). z.bytes)) e)
 
 -- ---- the server is asked
@@ -135,28 +177,61 @@ local_one s d file does_it free mine shut idle goes = subst (λ (f : ℕ). (let 
 opened_answer : (s : client.State) (file : ℕ) → s.task ≡ None → IsAnswered s (command.Open file) (opens s file s.task)
 opened_answer s file free = subst (λ (t : Option Task). IsAnswered s (command.Open file) (opens s file t)) (sym free) (by (client.local_at s.opened file))
   where
-    by : (o : Option Local) → (let r = opens_if s file (is_some o) in Stays s r.0 × AnswersBy s (command.Open file) r (free_answer (may_ask s) (command.Open file) (option_map (λ (z : Local). z.bytes) o)))
-    by (Some l) = (stays s, so s (command.Open file) outcome.AlreadyOpen told.AlreadyOpen refl (λ v. refl) (λ v l. refl))
-    by None = ask (may_ask s)
+    by : (o : Option Local) → (let r = opens_if s file (is_some o) in Stays s r.0 × AnswersBy s (command.Open file) r (free_answer (may_go s (command.Open file)) (command.Open file) (option_map (λ (z : Local). z.bytes) o)))
+    by (Some l) = (stays s, so s (command.Open file) outcome.AlreadyOpen told.AlreadyOpen tt refl (λ v. refl) (λ v l. refl))
+    by None = fresh (fresh_content s.cache file s.clock)
       where
         kept : (o : Option Content) → (let r = asks_kept (record s { cache = reserved s.cache file }) file o in Stays s r.0 × AnswersBy s (command.Open file) r None)
-        kept None = ((let o = some_call in omega (arith, o), refl), (refl, refl, tt))
-        kept (Some c) = ((let o = some_call in omega (arith, o), refl), (refl, refl, tt))
+        kept None = ((let o = some_call in omega (arith, o), refl), inl (refl, refl, tt))
+        kept (Some c) = ((let o = some_call in omega (arith, o), refl), inl (refl, refl, tt))
 
         ask : (b : Bool) → (let r = asks_file s file b in Stays s r.0 × AnswersBy s (command.Open file) r (unless_asks b))
         ask true = kept (content_of s.cache file)
-        ask false = (stays s, so s (command.Open file) outcome.NoLink told.NoLink refl (λ v. refl) (λ v l. refl))
+        ask false = (stays s, so s (command.Open file) outcome.NoLink told.NoLink tt refl (λ v. refl) (λ v l. refl))
+
+        fresh : (o : Option Content) → (let r = opens_kept s file o in Stays s r.0 × AnswersBy s (command.Open file) r (unless_asks (may_ask s || is_some o)))
+        fresh None = subst (λ (b : Bool). (let r = asks_file s file (may_ask s) in Stays s r.0 × AnswersBy s (command.Open file) r (unless_asks b))) (sym (or_false (may_ask s))) (ask (may_ask s))
+        fresh (Some v) =
+            let l : Local = record { version = v.version; bytes = v.bytes } in
+            let put = put_here s file (record { version = v.version; bytes = v.bytes }) in
+            subst (λ (b : Bool). (let r = opens_fresh s file v in Stays s r.0 × AnswersBy s (command.Open file) r (unless_asks b))) (sym (or_true (may_ask s))) (
+              (omega arith, refl),
+              inr (record {
+                outcome = outcome.Opened file (length v.bytes) (sha1 v.bytes);
+                ended = refl;
+                from = tt;
+                late = λ o. tt;
+                stores = λ o x. tt;
+                here = λ x. put ∙ sym (ap (λ (z : Option (List ℕ)). Some (Rattle.std.specs.Prelude.unwrap_or z [])) put);
+                others = λ f apart. put_else s file f (record { version = v.version; bytes = v.bytes }) apart;
+              }),
+            )
 
 rewritten_answer : (s : client.State) (file : ℕ) → s.task ≡ None → IsAnswered s (command.Rewrite file) (rewrites s file s.task)
 rewritten_answer s file free = subst (λ (t : Option Task). IsAnswered s (command.Rewrite file) (rewrites s file t)) (sym free) (by (client.local_at s.opened file))
   where
-    by : (o : Option Local) → (let r = rewrites_if s file (is_some o) in Stays s r.0 × AnswersBy s (command.Rewrite file) r (free_answer (may_ask s) (command.Rewrite file) (option_map (λ (z : Local). z.bytes) o)))
-    by (Some l) = (stays s, so s (command.Rewrite file) outcome.AlreadyOpen told.AlreadyOpen refl (λ v. refl) (λ v l. refl))
-    by None = ask (may_ask s)
+    by : (o : Option Local) → (let r = rewrites_if s file (is_some o) in Stays s r.0 × AnswersBy s (command.Rewrite file) r (free_answer (may_go s (command.Rewrite file)) (command.Rewrite file) (option_map (λ (z : Local). z.bytes) o)))
+    by (Some l) = (stays s, so s (command.Rewrite file) outcome.AlreadyOpen told.AlreadyOpen tt refl (λ v. refl) (λ v l. refl))
+    by None = fresh (fresh_content s.cache file s.clock)
       where
         ask : (b : Bool) → (let r = asks_anew s file b in Stays s r.0 × AnswersBy s (command.Rewrite file) r (unless_asks b))
-        ask true = ((let o = some_call in omega (arith, o), refl), (refl, refl, tt))
-        ask false = (stays s, so s (command.Rewrite file) outcome.NoLink told.NoLink refl (λ v. refl) (λ v l. refl))
+        ask true = ((let o = some_call in omega (arith, o), refl), inl (refl, refl, tt))
+        ask false = (stays s, so s (command.Rewrite file) outcome.NoLink told.NoLink tt refl (λ v. refl) (λ v l. refl))
+
+        fresh : (o : Option Content) → (let r = renews_kept s file o in Stays s r.0 × AnswersBy s (command.Rewrite file) r (unless_asks (may_ask s || is_some o)))
+        fresh None = subst (λ (b : Bool). (let r = asks_anew s file (may_ask s) in Stays s r.0 × AnswersBy s (command.Rewrite file) r (unless_asks b))) (sym (or_false (may_ask s))) (ask (may_ask s))
+        fresh (Some v) = subst (λ (b : Bool). (let r = empties_fresh s file v in Stays s r.0 × AnswersBy s (command.Rewrite file) r (unless_asks b))) (sym (or_true (may_ask s))) (
+          (omega arith, refl),
+          inr (record {
+            outcome = outcome.Done;
+            ended = refl;
+            from = refl;
+            late = λ o. tt;
+            stores = λ o x. tt;
+            here = λ x. put_here s file (record { version = v.version; bytes = [] });
+            others = λ f apart. put_else s file f (record { version = v.version; bytes = [] }) apart;
+          }),
+        )
 
 closed_answer : (s : client.State) (file : ℕ) (l : Local) → local_of s file ≡ Some l.bytes → (let r = closes s file l in Stays s r.0 × AnswersBy s (command.Close file) r (unless_asks (may_ask s)))
 closed_answer s file l at = ask (may_ask s)
@@ -165,8 +240,8 @@ closed_answer s file l at = ask (may_ask s)
     value = at ∙ ap (λ z. Some z) (sym (ap (λ (o : Option (List ℕ)). Rattle.std.specs.Prelude.unwrap_or o []) at))
 
     ask : (b : Bool) → (let r = asks_temp s file b in Stays s r.0 × AnswersBy s (command.Close file) r (unless_asks b))
-    ask true = ((let o = some_call in omega (arith, o), refl), (refl, refl, value))
-    ask false = (stays s, so s (command.Close file) outcome.NoLink told.NoLink refl (λ v. refl) (λ v l. refl))
+    ask true = ((let o = some_call in omega (arith, o), refl), inl (refl, refl, value))
+    ask false = (stays s, so s (command.Close file) outcome.NoLink told.NoLink tt refl (λ v. refl) (λ v l. refl))
 
 -- ---- a command on names
 
@@ -207,49 +282,65 @@ no_link_leaves (path.Find s) v l = refl
 no_link_leaves (path.Rewrite s) v l = refl
 no_link_leaves k v l = refl
 
-named_answer : (s : client.State) (k : PathCommand) → HasNames k → s.task ≡ None → IsAnswered s (command.Named k) (walks s k s.task)
+named_answer : (s : client.State) (k : PathCommand) → HasNames k → s.task ≡ None → IsAsked s (command.Named k) (walks s k s.task)
 named_answer s k names free =
-    subst (λ (t : Option Task). IsAnswered s (command.Named k) (walks s k t)) (sym free)
+    subst (λ (t : Option Task). IsAsked s (command.Named k) (walks s k t)) (sym free)
     (subst (λ (x : Option Told). (let r = walks_if s (begun k) (may_walk s (begun k)) in Stays s r.0 × AnswersBy s (command.Named k) r x)) (sym (own_named (may_ask s) k (local_of s 0)))
     (subst (λ (b : Bool). (let r = walks_if s (begun k) (may_walk s (begun k)) in Stays s r.0 × AnswersBy s (command.Named k) r (unless_asks b))) (walk_asks s k names) (ask (may_walk s (begun k)))))
   where
     ask : (b : Bool) → (let r = walks_if s (begun k) b in Stays s r.0 × AnswersBy s (command.Named k) r (unless_asks b))
-    ask true = ((let o = some_call in omega (arith, o), refl), (refl, refl, tt))
-    ask false = (stays s, so s (command.Named k) outcome.NoLink told.NoLink refl (λ v. refl) (no_link_leaves k))
+    ask true = ((let o = some_call in omega (arith, o), refl), inl (refl, refl, tt))
+    ask false = (stays s, so s (command.Named k) outcome.NoLink told.NoLink tt refl (λ v. refl) (no_link_leaves k))
 
 -- ---- any command
 
 -- with nothing under way
-pub free_answers : (s : client.State) (d : Command) (now : ℕ) → IsSmall d → s.task ≡ None → IsAnswered s d (command_step s d now)
-free_answers s (command.Open file) now small free = opened_answer s file free
-free_answers s (command.Rewrite file) now small free = rewritten_answer s file free
-free_answers s (command.Write file offset content) now small free = local_one s (command.Write file offset content) file (writes s file offset content) free refl refl (λ v l. refl) (λ l e at. wrote s file offset content l at)
-free_answers s (command.Trunc file size) now small free = local_one s (command.Trunc file size) file (truncates s file size) free refl refl (λ v l. refl) (λ l e at. edited s (command.Trunc file size) file l size (truncated l.bytes size) refl at (λ v. refl) (λ n v x. refl))
-free_answers s (command.Read file offset count) now small free = local_one s (command.Read file offset count) file (reads s offset count) free refl refl (λ v l. refl) (λ l e at. (stays s, so s (command.Read file offset count) (outcome.Piece (length (part_of l.bytes offset count)) (sha1 (part_of l.bytes offset count))) (told.Piece (length (part_of l.bytes offset count)) (sha1 (part_of l.bytes offset count))) refl (λ v. refl) (λ v l. refl)))
-free_answers s (command.Close file) now small free = local_one s (command.Close file) file (closes s file) free refl refl (λ v l. refl) (λ l e at. closed_answer s file l at)
-free_answers s (command.Abandon file) now small free = local_one s (command.Abandon file) file (abandons s file) free refl refl (λ v l. refl) (λ l e at. (
+free_does : (s : client.State) (d : Command) → IsSmall d → s.task ≡ None → IsAnswered s d (does s d)
+free_does s (command.Open file) small free = opened_answer s file free
+free_does s (command.Rewrite file) small free = rewritten_answer s file free
+free_does s (command.Write file offset content) small free = plainly s (command.Write file offset content) _ refl (local_one s (command.Write file offset content) file (writes s file offset content) free refl refl (λ v l. refl) (λ l e at. wrote s file offset content l at))
+free_does s (command.Trunc file size) small free = plainly s (command.Trunc file size) _ refl (local_one s (command.Trunc file size) file (truncates s file size) free refl refl (λ v l. refl) (λ l e at. edited s (command.Trunc file size) file l size (truncated l.bytes size) refl at (λ v. refl) (λ n v x. refl)))
+free_does s (command.Read file offset count) small free = plainly s (command.Read file offset count) _ refl (local_one s (command.Read file offset count) file (reads s offset count) free refl refl (λ v l. refl) (λ l e at. (stays s, so s (command.Read file offset count) (outcome.Piece (length (part_of l.bytes offset count)) (sha1 (part_of l.bytes offset count))) (told.Piece (length (part_of l.bytes offset count)) (sha1 (part_of l.bytes offset count))) tt refl (λ v. refl) (λ v l. refl))))
+free_does s (command.Close file) small free = plainly s (command.Close file) _ refl (local_one s (command.Close file) file (closes s file) free refl refl (λ v l. refl) (λ l e at. closed_answer s file l at))
+free_does s (command.Abandon file) small free = plainly s (command.Abandon file) _ refl (local_one s (command.Abandon file) file (abandons s file) free refl refl (λ v l. refl) (λ l e at. (
   (omega arith, refl),
   record {
     outcome = outcome.Done;
+    plain = tt;
     ended = refl;
     told_is = refl;
     value = λ v. refl;
     here = λ v. ap (option_map (λ (z : Local). z.bytes)) (without_at_itself s.opened file);
     others = λ f apart. ap (option_map (λ (z : Local). z.bytes)) (without_at_another s.opened file f apart);
   },
-))
-free_answers s (command.Named k) now small free = named_answer s k small free
+)))
+free_does s (command.Named k) small free = plainly s (command.Named k) _ refl (named_answer s k small free)
+
+-- the same client before its clock was read
+value_still : (s : client.State) (now : ℕ) (d : Command) → ValueIs (clocked s now) d → ValueIs s d
+value_still s now (command.Close f) h = h
+value_still s now _ h = tt
+
+unclocked : (s : client.State) (now : ℕ) (d : Command) (r : client.State × ClientStep) (x : Option Told) → AnswersBy (clocked s now) d r x → AnswersBy s d r x
+unclocked s now d r (Some own) h = record { outcome = h.outcome; plain = h.plain; ended = h.ended; told_is = h.told_is; value = h.value; here = h.here; others = h.others }
+unclocked s now d r None (inl h) = inl (h.0, h.1, value_still s now d h.2)
+unclocked s now d r None (inr h) = inr (record { outcome = h.outcome; ended = h.ended; from = h.from; late = h.late; stores = h.stores; here = h.here; others = h.others })
+
+pub free_answers : (s : client.State) (d : Command) (now : ℕ) → IsSmall d → s.task ≡ None → (let r = command_step s d now in Stays s r.0 × AnswersBy s d r (own_answer false (may_go (clocked s now) d) d (local_of s (file_of d))))
+free_answers s d now small free =
+    let h = free_does (clocked s now) d small free in
+    (h.0, unclocked s now d (command_step s d now) (own_answer false (may_go (clocked s now) d) d (local_of s (file_of d))) h.1)
 
 -- with an operation under way it is busy
-busy_by : (s : client.State) (d : Command) (t : Task) (now : ℕ) → s.task ≡ Some t → command_step s d now ≡ (s, ends outcome.Busy 0 0)
-busy_by s (command.Open file) t now e = ap (opens s file) e
-busy_by s (command.Rewrite file) t now e = ap (rewrites s file) e
-busy_by s (command.Write file offset content) t now e = ap (λ z. on_local s z (client.local_at s.opened file) (writes s file offset content)) e
-busy_by s (command.Trunc file size) t now e = ap (λ z. on_local s z (client.local_at s.opened file) (truncates s file size)) e
-busy_by s (command.Read file offset count) t now e = ap (λ z. on_local s z (client.local_at s.opened file) (reads s offset count)) e
-busy_by s (command.Close file) t now e = ap (λ z. on_local s z (client.local_at s.opened file) (closes s file)) e
-busy_by s (command.Abandon file) t now e = ap (λ z. on_local s z (client.local_at s.opened file) (abandons s file)) e
-busy_by s (command.Named k) t now e = ap (walks s k) e
+busy_by : (s : client.State) (d : Command) (t : Task) (now : ℕ) → s.task ≡ Some t → command_step s d now ≡ (clocked s now, ends outcome.Busy 0 0)
+busy_by s (command.Open file) t now e = ap (opens (clocked s now) file) e
+busy_by s (command.Rewrite file) t now e = ap (rewrites (clocked s now) file) e
+busy_by s (command.Write file offset content) t now e = ap (λ z. on_local (clocked s now) z (client.local_at s.opened file) (writes (clocked s now) file offset content)) e
+busy_by s (command.Trunc file size) t now e = ap (λ z. on_local (clocked s now) z (client.local_at s.opened file) (truncates (clocked s now) file size)) e
+busy_by s (command.Read file offset count) t now e = ap (λ z. on_local (clocked s now) z (client.local_at s.opened file) (reads (clocked s now) offset count)) e
+busy_by s (command.Close file) t now e = ap (λ z. on_local (clocked s now) z (client.local_at s.opened file) (closes (clocked s now) file)) e
+busy_by s (command.Abandon file) t now e = ap (λ z. on_local (clocked s now) z (client.local_at s.opened file) (abandons (clocked s now) file)) e
+busy_by s (command.Named k) t now e = ap (walks (clocked s now) k) e
 
 pub busy_answers : (s : client.State) (d : Command) (t : Task) (now : ℕ) → IsSmall d → s.task ≡ Some t → (let r = command_step s d now in Stays s r.0 × AnswersBy s d r (Some told.Busy))
-busy_answers s d t now small e = subst (λ (r : client.State × ClientStep). Stays s r.0 × AnswersBy s d r (Some told.Busy)) (sym (busy_by s d t now e)) (stays s, so s d outcome.Busy told.Busy refl (λ v. refl) (λ v l. leaves_all d told.Busy v l tt))
+busy_answers s d t now small e = subst (λ (r : client.State × ClientStep). Stays s r.0 × AnswersBy s d r (Some told.Busy)) (sym (busy_by s d t now e)) ((omega arith, refl), record { outcome = outcome.Busy; plain = tt; ended = refl; told_is = refl; value = λ v. refl; here = λ v. sym (leaves_all d told.Busy v (local_of s (file_of d)) tt); others = λ f apart. refl })

@@ -16,7 +16,7 @@ use Rattle.trace_ends.specs.Core.{newest_entries, changed_file, server_got, sett
 use Rattle.trace_ends.specs.Ops.{pointed_at, pointed, point_if, has_point, begun, ops_after}
 use Rattle.trace_ends.specs.Session.{settled_ops, taken_of as session_taken}
 use Rattle.trace_replay.specs.Entries.{Awaited, GrowsBy, IsChangedBy}
-use Rattle.kept_promise.proofs.Common.{nat_tests, ◌==◌, ◌&&◌, ◌||◌, nat_le, cond, slice_get, slice_set, Contains, Contains-append_left, Contains-append_right, Contains-push, changes, parse_of, Message, WireFault, stands, makes_change, serves, serves_if, server_step, command_step, word_of, file_of, value_at_begin, ClientStep, Ended, Outcome, Op, Opening, Word, TakenCall, op_after, ops_with, Core, Session, Event, Event.Serves, Event.Settles, CoreStep, numbered, session_of, server_waiting, happens, Moment, step_of, is_in, until, Book, Queue, Ask, ask_message, call_message, unless, Call, Call.Commit, Call.Walks, Change, Wanted, Entry}
+use Rattle.kept_promise.proofs.Common.{nat_tests, ◌==◌, ◌&&◌, ◌||◌, nat_le, cond, slice_get, slice_set, Contains, Contains-append_left, Contains-append_right, Contains-push, changes, parse_of, Message, WireFault, stands, makes_change, serves, serves_if, server_step, command_step, word_of, file_of, value_at_begin, ClientStep, Ended, Outcome, Op, Opening, Word, TakenCall, op_after, ops_with, Core, Session, Event, Event.Serves, Event.Settles, CoreStep, numbered, session_of, server_waiting, server_waits, happens, Moment, step_of, is_in, until, Book, Queue, Ask, ask_message, call_message, unless, Call, Call.Commit, Call.Walks, Change, Wanted, Entry}
 use Rattle.kept_promise.proofs.TakenOut.{ready_waits}
 use Rattle.kept_promise.proofs.Lists.{some_is, nothing_there, of_appended, of_replaced, kept_appended, at_replaced, set_else, same_or_not, true_and_false, all_append, AllOf}
 use Rattle.kept_promise.proofs.Messages.{Job, job, AllAsks, CommitOf, IsCommit, WaitsFor as Pends}
@@ -24,13 +24,14 @@ use Rattle.kept_promise.proofs.PathNames.{is_creating}
 use Rattle.kept_promise.proofs.Fits.{FitLaws}
 use Rattle.kept_promise.proofs.Facts.{IsKept, IsSession, change_number}
 use Rattle.kept_promise.proofs.Turns.{also_numbered}
-use Rattle.kept_promise.proofs.RunsCarried.{book_at, moment, Step, Carried}
+use Rattle.kept_promise.proofs.RunsCarried.{book_at, moment, FindsAsk, Step, Carried}
+use Rattle.kept_promise.proofs.SentUp.{asked_only}
 use Rattle.kept_promise.proofs.Counted.{AlikeUpTo, running_now}
-use Rattle.kept_promise.proofs.Actors.{job_place, acts_alone, serves_read}
+use Rattle.kept_promise.proofs.Actors.{job_place, acts_alone, serves_read, serves_read_plain}
 use Rattle.kept_promise.proofs.OpsAfter.{OpsAfter, ops_after_event, stays_in}
 use Rattle.kept_promise.proofs.Tells.{waits_in}
 use Rattle.kept_promise.proofs.Leading.{queues_lost, ups_put, queues_after}
-use Rattle.kept_promise.proofs.LeftCommits.{QueuesHave, have_lost, have_ups, have_downs, taken_off, leaves, got_waits}
+use Rattle.kept_promise.proofs.LeftCommits.{QueuesHave, have_lost, have_ups, have_downs, taken_off, leaves, got_waits, no_asks}
 use Rattle.kept_promise.proofs.ServesQuietly.{serves_still}
 use Rattle.kept_promise.proofs.Promised.{own_there}
 use Rattle.kept_promise.proofs.EntriesGrow.{Grows, GrewBy, ByEvent, event_grows, AllEntered, carried_entered, entered_event, grown_later, grown_now, settled_at}
@@ -240,11 +241,11 @@ ups_event fits all past rest opening k qs e mid after s h = subst (QueuesHave T)
             every [] never = tt
             every (b ∷ bs) never = ((λ y there gone one. absurd (never y there gone)), every bs never)
 
-            not_none : {m : Message} {ms : List Message} → m ∷ ms ≡ [] → ⊥
+            not_none : {a : Ask} {us : List Ask} → a ∷ us ≡ [] → ⊥
             not_none z = absurd cc
 
             some_sent : (y : Session) → numbered (happens k e).core.sessions n ≡ Some y → y.cut ≡ true → ⊥
-            some_sent y there gone = not_none (ap (Rattle.std.specs.Prelude.map ask_message) all_ ∙ sym s.sends.up_is ∙ (leaves fits opening all k qs mid e s.kept s.finds).quiet n y is there gone)
+            some_sent y there gone = not_none (all_ ∙ no_asks s.sends.replies s.sends.asks (sym ((leaves fits opening all k qs mid e s.kept s.finds).quiet n y is there gone) ∙ s.sends.up_is))
 
         more : (n : ℕ) (q : Queue) (lost : Bool) → (happens k e).session ≡ Some n → LeftAsks (past ++ moment k e ∷ []) (happens k e).core n q → AllAsks (LeftAsk (past ++ moment k e ∷ []) (happens k e).core n) (unless lost q.ups s.sends.asks)
         more n q true is z = z
@@ -271,10 +272,9 @@ number_is x (Walks w) = refl
 number_is x _ = refl
 
 -- a call that is taken, and may change a file
-ask_before : FitLaws → (all past rest : List Moment) (opening : List Opening) (k : Core) (qs : List Queue) (n now : ℕ) (bytes : List ℕ) (mid after : List Queue) → (s : Step all past rest opening k qs (Serves n now bytes) mid after) → AllAwaited all past opening k qs → (xid : ℕ) (b : Body) → parse_of server_waiting bytes ≡ Ok (message.Call xid b) → change_number s.finds.1.call ≡ 1
-    → (x : Session) × (numbered k.sessions n ≡ Some x) × ((h : IsSession (book_at opening k all) k.seats k.server n x s.finds.0) × (x.cut ≡ true → Sender past k x n xid) × (x.cut ≡ false → JobFor x.closing (job h.seat) xid))
-ask_before fits all past rest opening k qs n now bytes mid after s h xid b read one =
-    let f = s.finds in
+ask_before : FitLaws → (all past rest : List Moment) (opening : List Opening) (k : Core) (qs : List Queue) (n now : ℕ) (bytes : List ℕ) (mid after : List Queue) → (s : Step all past rest opening k qs (Serves n now bytes) mid after) → (f : FindsAsk qs n bytes mid) → AllAwaited all past opening k qs → (xid : ℕ) (b : Body) → parse_of server_waiting bytes ≡ Ok (message.Call xid b) → change_number f.1.call ≡ 1
+    → (x : Session) × (numbered k.sessions n ≡ Some x) × ((h : IsSession (book_at opening k all) k.seats k.server n x f.0) × (x.cut ≡ true → Sender past k x n xid) × (x.cut ≡ false → JobFor x.closing (job h.seat) xid))
+ask_before fits all past rest opening k qs n now bytes mid after s f h xid b read one =
     let x = also_numbered qs k.sessions n f.0 (sym s.kept.made.1) f.3 in
     let c = s.kept.sessions n x.0 f.0 x.1 f.3 in
     let commit = (subst (AllAsks (IsCommit (book_at opening k all) x.0.closing x.0.cut (job c.seat) c.contents)) f.4 c.commits).0 in
@@ -287,8 +287,8 @@ ask_before fits all past rest opening k qs n now bytes mid after s h xid b read 
     xid_is : (a : Ask) → ask_message a ≡ message.Call xid b → a.xid ≡ xid
     xid_is a e = sym (number_is a.xid a.call) ∙ ap number_of e
 
-    number : s.finds.1.xid ≡ xid
-    number = xid_is s.finds.1 (same_read (parse_of server_waiting bytes) (ask_message s.finds.1) (message.Call xid b) (serves_read fits (book_at opening k all) k qs n now bytes mid s.kept s.finds) read)
+    number : f.1.xid ≡ xid
+    number = xid_is f.1 (same_read (parse_of server_waiting bytes) (ask_message f.1) (message.Call xid b) (serves_read_plain fits (book_at opening k all) k qs n now bytes mid s.kept f) read)
 
 -- what waits then
 waiting_event : FitLaws → (all past rest : List Moment) (opening : List Opening) (k : Core) (qs : List Queue) (e : Event) (mid after : List Queue) → Step all past rest opening k qs e mid after → AllAwaited all past opening k qs
@@ -311,8 +311,8 @@ waiting_event fits all past rest opening k qs e mid after s h i c y there at gon
         of_served : (e : Event) → Step all past rest opening k qs e mid after → slice_get (happens k e).core.server.waiting i ≡ Some c → numbered (happens k e).core.sessions c.session ≡ Some y → e ≡ Serves c.session now bytes → Sender (past ++ moment k e ∷ []) (happens k e).core y c.session c.xid
         of_served e s there at is = subst (λ (z : Event). Step all past rest opening k qs z mid after → slice_get (happens k z).core.server.waiting i ≡ Some c → numbered (happens k z).core.sessions c.session ≡ Some y → Sender (past ++ moment k z ∷ []) (happens k z).core y c.session c.xid) (sym is) serve s there at
           where
-            serve : Step all past rest opening k qs (Serves c.session now bytes) mid after → slice_get (happens k (Serves c.session now bytes)).core.server.waiting i ≡ Some c → numbered (happens k (Serves c.session now bytes)).core.sessions c.session ≡ Some y → Sender (past ++ moment k (Serves c.session now bytes) ∷ []) (happens k (Serves c.session now bytes)).core y c.session c.xid
-            serve s there at = elim (got_waits k.server c.session now s.finds.1 (stands k.server c.session) (Rattle.kept_promise.proofs.Actors.serves_fits (book_at opening k all) k qs c.session now bytes mid s.kept s.finds)) [
+            ask : FindsAsk qs c.session bytes mid → Step all past rest opening k qs (Serves c.session now bytes) mid after → slice_get (happens k (Serves c.session now bytes)).core.server.waiting i ≡ Some c → numbered (happens k (Serves c.session now bytes)).core.sessions c.session ≡ Some y → Sender (past ++ moment k (Serves c.session now bytes) ∷ []) (happens k (Serves c.session now bytes)).core y c.session c.xid
+            ask f s there at = elim (got_waits k.server c.session now f.1 (stands k.server c.session) (Rattle.kept_promise.proofs.Actors.serves_fits (book_at opening k all) k qs c.session now bytes mid s.kept f)) [
               | inl same ↦
                   let was : slice_get k.server.waiting i ≡ Some c = ap (λ (l : List Change). slice_get l i) (sym same) ∙ ap (λ (z : server.State). slice_get z.waiting i) (sym server_is) ∙ there in
                   let w = waited_before fits all past rest opening k qs (Serves c.session now bytes) mid after s h i c was in
@@ -320,17 +320,20 @@ waiting_event fits all past rest opening k qs e mid after s h i c y there at gon
                   let one : x.0 ≡ w.0 = some_is x.0 w.0 (sym x.1 ∙ w.2) in
                   sender_next fits all past rest opening k qs (Serves c.session now bytes) mid after s c.session c.xid w.0 y w.1 w.2 w.3.0 at gone (x.2 ∙ ap (λ (z : Session). z.closing) one) w.3.1 w.3.2
               | inr new ↦
-                  let w = ask_before fits all past rest opening k qs c.session now bytes mid after s h c.xid b read new.3 in
+                  let w = ask_before fits all past rest opening k qs c.session now bytes mid after s f h c.xid b read new.3 in
                   let x = (leaves fits opening all k qs mid (Serves c.session now bytes) s.kept s.finds).were c.session y at gone in
                   let one : x.0 ≡ w.0 = some_is x.0 w.0 (sym x.1 ∙ w.1) in
-                  sender_next fits all past rest opening k qs (Serves c.session now bytes) mid after s c.session c.xid w.0 y s.finds.0 w.1 w.2.0 at gone (x.2 ∙ ap (λ (z : Session). z.closing) one) w.2.1 w.2.2
+                  sender_next fits all past rest opening k qs (Serves c.session now bytes) mid after s c.session c.xid w.0 y f.0 w.1 w.2.0 at gone (x.2 ∙ ap (λ (z : Session). z.closing) one) w.2.1 w.2.2
             ]
               where
                 x : (x : Session) × (numbered k.sessions c.session ≡ Some x)
-                x = also_numbered qs k.sessions c.session s.finds.0 (sym s.kept.made.1) s.finds.3
+                x = also_numbered qs k.sessions c.session f.0 (sym s.kept.made.1) f.3
 
-                server_is : (happens k (Serves c.session now bytes)).core.server ≡ (server_step k.server (event.Got c.session (ask_message s.finds.1) now)).0
-                server_is = ap (λ (o : Option Session). (serves k c.session now bytes o).core.server) x.1 ∙ ap (λ (r : Result Message WireFault). (serves_if k c.session now x.0 r).core.server) (serves_read fits (book_at opening k all) k qs c.session now bytes mid s.kept s.finds)
+                server_is : (happens k (Serves c.session now bytes)).core.server ≡ (server_step k.server (event.Got c.session (ask_message f.1) now)).0
+                server_is = ap (λ (o : Option Session). (serves k c.session now bytes o).core.server) x.1 ∙ ap (λ (r : Result Message WireFault). (serves_if k c.session now x.0 r).core.server) (serves_read fits (book_at opening k all) k qs c.session now bytes mid s.kept f)
+
+            serve : Step all past rest opening k qs (Serves c.session now bytes) mid after → slice_get (happens k (Serves c.session now bytes)).core.server.waiting i ≡ Some c → numbered (happens k (Serves c.session now bytes)).core.sessions c.session ≡ Some y → Sender (past ++ moment k (Serves c.session now bytes) ∷ []) (happens k (Serves c.session now bytes)).core y c.session c.xid
+            serve s there at = ask (asked_only fits k qs c.session now bytes mid s.finds c.xid b read) s there at
 
 -- ---- points of changes
 
@@ -351,7 +354,7 @@ same_points k e t same = record { by = λ p q r at alters point. inl (r, ap (λ 
 acted_point : (o : Op) (c : client.State) (taken : List TakenCall) (step : ℕ) (acts : ClientStep) → changes (op_after o c taken step acts).word ≡ true → (changes o.word ≡ true) × ((op_after o c taken step acts).point ≡ o.point)
 acted_point o c taken step acts = by acts.ended
   where
-    word : (w : Word) (u : Outcome) (x : ℕ) → changes w ≡ true → point_if (has_point w u) taken x o.point ≡ o.point
+    word : (w : Word) (u : Outcome) (x : ℕ) → changes w ≡ true → point_if (has_point w u) taken x step o.point ≡ o.point
     word words.Open u x e = absurd cc
     word _ u x e = refl
 
@@ -437,7 +440,7 @@ points_by k e = what_happens k e (Points k e) (record {
     not_serves : {A : Type 0} (n now t : ℕ) (bytes : List ℕ) → Settles t ≡ Serves n now bytes → A
     not_serves n now t bytes e = absurd cc
 
-    taken : (n now : ℕ) (bytes : List ℕ) (x : Session) (m : Message) → numbered k.sessions n ≡ Some x → parse_of server_waiting bytes ≡ Ok m → Grows k (Serves n now bytes) (server_got k n now x m) → Points k (Serves n now bytes) (server_got k n now x m)
+    taken : (n now : ℕ) (bytes : List ℕ) (x : Session) (m : Message) → numbered k.sessions n ≡ Some x → parse_of (server_waits k n) bytes ≡ Ok m → Grows k (Serves n now bytes) (server_got k n now x m) → Points k (Serves n now bytes) (server_got k n now x m)
     taken n now bytes x m there read g = record {
       by = λ p q r at alters point.
           let step = server_step k.server (event.Got n m now) in
@@ -544,14 +547,17 @@ made_event fits all past rest opening k qs e mid after s h p q r at alters point
         by (inr (now, c, is, first, session, number)) = of_settling now c first session number
         by (inl (now, bytes, b, is, read, may)) = of_serving
           where
-            serve : Step all past rest opening k qs (Serves g.session now bytes) mid after → slice_get (happens k (Serves g.session now bytes)).core.ops p ≡ Some r → k.steps + 1 ≤ (happens k (Serves g.session now bytes)).core.steps → OldPoint k p q ⊎ Held (past ++ moment k (Serves g.session now bytes) ∷ []) (happens k (Serves g.session now bytes)).core.steps r g.session g.xid
-            serve t there stepped_ = elim (zero_or_one t.finds.1.call) [
-              | inl none ↦ inl (r, ap (λ (l : List Op). slice_get l p) (sym (serves_still fits (book_at opening k all) k qs g.session now bytes mid t.kept t.finds none)) ∙ there, alters, point)
+            ask : FindsAsk qs g.session bytes mid → Step all past rest opening k qs (Serves g.session now bytes) mid after → slice_get (happens k (Serves g.session now bytes)).core.ops p ≡ Some r → k.steps + 1 ≤ (happens k (Serves g.session now bytes)).core.steps → OldPoint k p q ⊎ Held (past ++ moment k (Serves g.session now bytes) ∷ []) (happens k (Serves g.session now bytes)).core.steps r g.session g.xid
+            ask f t there stepped_ = elim (zero_or_one f.1.call) [
+              | inl none ↦ inl (r, ap (λ (l : List Op). slice_get l p) (sym (serves_still fits (book_at opening k all) k qs g.session now bytes mid t.kept f none)) ∙ there, alters, point)
               | inr one ↦
-                  let w = ask_before fits all past rest opening k qs g.session now bytes mid after t h g.xid b read one in
+                  let w = ask_before fits all past rest opening k qs g.session now bytes mid after t f h g.xid b read one in
                   let mine : x ≡ w.0 = some_is x w.0 (sym home ∙ w.1) in
-                  inr (held_next fits all past rest opening k qs (Serves g.session now bytes) mid after t g.session g.xid w.0 t.finds.0 w.1 w.2.0 (λ uncut. stepped_) w.2.1 w.2.2 p r (ap (λ (v : Session). v.closing) (sym mine) ∙ known) there)
+                  inr (held_next fits all past rest opening k qs (Serves g.session now bytes) mid after t g.session g.xid w.0 f.0 w.1 w.2.0 (λ uncut. stepped_) w.2.1 w.2.2 p r (ap (λ (v : Session). v.closing) (sym mine) ∙ known) there)
             ]
+
+            serve : Step all past rest opening k qs (Serves g.session now bytes) mid after → slice_get (happens k (Serves g.session now bytes)).core.ops p ≡ Some r → k.steps + 1 ≤ (happens k (Serves g.session now bytes)).core.steps → OldPoint k p q ⊎ Held (past ++ moment k (Serves g.session now bytes) ∷ []) (happens k (Serves g.session now bytes)).core.steps r g.session g.xid
+            serve t there stepped_ = ask (asked_only fits k qs g.session now bytes mid t.finds g.xid b read) t there stepped_
 
             of_serving : OldPoint k p q ⊎ Held (past ++ moment k e ∷ []) (happens k e).core.steps r g.session g.xid
             of_serving = subst (λ (z : Event). Step all past rest opening k qs z mid after → slice_get (happens k z).core.ops p ≡ Some r → k.steps + 1 ≤ (happens k z).core.steps → OldPoint k p q ⊎ Held (past ++ moment k z ∷ []) (happens k z).core.steps r g.session g.xid) (sym is) serve s at stepped

@@ -176,8 +176,8 @@ pub record Free (book : Book) (k : Core) (qs : List Queue) (c n : ℕ) (x : Sess
   pub task : seat.client.task ≡ None
   pub free : job seat ≡ None
 
-abbrev pub begun_client : client.State → (cache : Entries) → (temp file : ℕ) → Stage → client.State
-begun_client s cache temp file g = record s { cache = cache; next_xid = s.next_xid + 1; next_temp = temp; task = Some (record { file = file; stage = g }) }
+abbrev pub begun_client : client.State → (cache : Entries) → (sent temp file : ℕ) → Stage → client.State
+begun_client s cache sent temp file g = record s { cache = cache; sent = sent; next_xid = s.next_xid + 1; next_temp = temp; task = Some (record { file = file; stage = g }) }
 
 -- what an operation shows that begins
 pub record Starts (book : Book) (k : Core) (qs : List Queue) (c n : ℕ) (x : Session) (q : Queue) (seat : Seat) (new : Op) (cache : Entries) (temp file : ℕ) (s : Stage) (a : Ask) (closing : Option ℕ) (value : List ℕ) : Type 0 where
@@ -206,14 +206,14 @@ pub record Starts (book : Book) (k : Core) (qs : List Queue) (c n : ℕ) (x : Se
   pub begins : BeginsWith s a
   pub tree : stage_word s ≡ words.Close → WasThere book file
 
-pub kept_begins : (book : Book) (k : Core) (qs : List Queue) (c n : ℕ) (x : Session) (q : Queue) (seat : Seat) (new : Op) (cache : Entries) (temp file : ℕ) (s : Stage) (a : Ask) (closing : Option ℕ) (value : List ℕ) (seats : List Seat) (sessions : List Session) (after : List Queue) → Free book k qs c n x q seat → Starts book k qs c n x q seat new cache temp file s a closing value
-    → Around k.seats seats c (record { client = begun_client seat.client cache temp file s; session = seat.session; place = Some (length book.ops) }) → Around k.sessions sessions n (record x { closing = closing }) → Around qs after n (record { ups = unless x.hung q.ups (a ∷ []); downs = q.downs })
-    → (let more = onward book 1 (book.ops ++ new ∷ []) in IsKept more (turned_core more k.server seats sessions) after)
-kept_begins book k qs c n x q seat new cache temp file s a closing value seats sessions after g w seat_around session_around queue_around =
+pub kept_begins : (book : Book) (k : Core) (qs : List Queue) (c n : ℕ) (x : Session) (q : Queue) (seat : Seat) (new : Op) (cache : Entries) (sent temp file : ℕ) (s : Stage) (a : Ask) (closing : Option ℕ) (value : List ℕ) (seats : List Seat) (sessions : List Session) (after : List Queue) → Free book k qs c n x q seat → Starts book k qs c n x q seat new cache temp file s a closing value
+    → Around k.seats seats c (record { client = begun_client seat.client cache sent temp file s; session = seat.session; place = Some (length book.ops) }) → Around k.sessions sessions n (record x { closing = closing }) → Around qs after n (record { ups = unless x.hung q.ups (a ∷ []); downs = q.downs })
+    → (let more = onward book 1 (book.ops ++ new ∷ []) in IsKept more (turned_core k more k.server seats sessions) after)
+kept_begins book k qs c n x q seat new cache sent temp file s a closing value seats sessions after g w seat_around session_around queue_around =
     let h = g.kept.sessions n x q g.at g.is in
     let more = onward book 1 (book.ops ++ new ∷ []) in
     let j : Job = record { place = length book.ops; file = file; stage = s } in
-    let d : Seat = record { client = begun_client seat.client cache temp file s; session = seat.session; place = Some (length book.ops) } in
+    let d : Seat = record { client = begun_client seat.client cache sent temp file s; session = seat.session; place = Some (length book.ops) } in
     let y : Session = record x { closing = closing } in
     let ups = unless x.hung q.ups (a ∷ []) in
     let seat_is : h.seat ≡ seat = some_is h.seat seat (sym h.owner ∙ ap (numbered k.seats) g.owner ∙ g.here) in
@@ -254,6 +254,7 @@ kept_begins book k qs c n x q seat new cache temp file s a closing value seats s
         downs_fit = h.downs_fit;
         talk = λ u. record {
           floor = talk.floor;
+          numbered = talk.numbered;
           under = talk.under;
           rising = unless_rising x.hung talk.floor q.ups a seat.client.next_xid talk.rising w.first.xid;
           asked = all_unless (IsAsked (Some j)) x.hung q.ups (a ∷ []) (all_map (λ (v : Ask). v.xid < seat.client.next_xid) (IsAsked (Some j)) (λ v lt. call_first seat.client.next_xid j s a w.first refl v.xid v.call lt) q.ups (asks_below talk.floor q.ups seat.client.next_xid talk.rising)) (w.asked, tt);

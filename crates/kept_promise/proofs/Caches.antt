@@ -6,7 +6,7 @@ use Rattle.std.specs.Prelude.{nat_eq, cond, unwrap_or}
 use Rattle.std.specs.List.{concat}
 use Rattle.std.specs.Map.{remove_entry, set_value}
 use Rattle.std.proofs.lemmas.Bool.{leb-true}
-use Rattle.client_cache.specs.Cache.{Entries, files_most, kept_of, nothing, content_in, content_of, bytes_in, fronted, reserved, keeps, evicts, with_content, without_content}
+use Rattle.client_cache.specs.Cache.{Entries, files_most, kept_of, nothing, content_in, content_of, bytes_in, fronted, reserved, keeps, evicts, notes, with_content, without_content, with_note, without_note, fresh_of, fresh_in, is_fresh}
 use Rattle.client_cache.specs.declared.kept.Content.{Content}
 use Rattle.client_cache.specs.declared.kept.Kept.{Kept}
 use Rattle.client_cache.specs.declared.kept.Note.{Note}
@@ -15,11 +15,12 @@ use Rattle.client_state.specs.State as client
 use Rattle.client_state.specs.declared.task.Task.{Task}
 use Rattle.chunk_index.specs.Index.{Indexed, key_of, place_of}
 use Rattle.chunk_index.specs.declared.place.Place.{Place}
-use Rattle.file_open.specs.Caching.{bytes_there, with_digest, from_index}
+use Rattle.file_open.specs.Caching.{bytes_there, with_digest, from_index, fresh_content, fresh_if as content_if}
 use Rattle.file_open.specs.Looking.{found_bytes, chunks_found}
 use Rattle.trace_replay.specs.Book.{HadContent}
-use Rattle.kept_promise.proofs.Common.{nat_tests, Contains-append_left, Contains-append_right, Contains-push, ◌==◌, if◌then◌else◌, nat_le, bytes_eq, slice_get, Contains, sha1, Chunk, Book}
+use Rattle.kept_promise.proofs.Common.{◌&&◌, not, is_some, nat_tests, Contains-append_left, Contains-append_right, Contains-push, ◌==◌, if◌then◌else◌, nat_le, bytes_eq, slice_get, Contains, sha1, Chunk, Book}
 use Rattle.kept_promise.proofs.Lists.{some_is, nothing_there, same_or_not}
+use Rattle.kept_promise.proofs.Rights.{WasThere}
 use Rattle.kept_promise.proofs.Facts.{Cached}
 
 -- ---- entries
@@ -60,7 +61,7 @@ front_content es f g k c e = by (kept_of (fronted es g k) f) refl e
     by None at e = nothing_there c e
     by (Some x) at e = elim (front_found files_most es f g k x at) [ inl new ↦ inl (new.0, ap (λ (z : Kept). z.content) new.1 ∙ e) | inr old ↦ inr (ap content_in old ∙ e) ]
 
-set_found : (es : Entries) (f g : ℕ) (w x : Kept) → kept_of (set_value (nat_eq g) es w) f ≡ Some x → ((f ≡ g) × (w ≡ x)) ⊎ (kept_of es f ≡ Some x)
+pub set_found : (es : Entries) (f g : ℕ) (w x : Kept) → kept_of (set_value (nat_eq g) es w) f ≡ Some x → ((f ≡ g) × (w ≡ x)) ⊎ (kept_of es f ≡ Some x)
 set_found [] f g w x e = nothing_there x e
 set_found (y ∷ es) f g w x e = by (nat_eq g y.0) refl e (set_found es f g w x)
   where
@@ -86,8 +87,8 @@ cached_reserved book es file h f c e = elim (front_content es f file (unwrap_or 
     there (Some k) e = e
 
 -- a content of a file, or one that is no file's
-pub cached_as : (book : Book) (es : Entries) (file version : ℕ) (bytes : List ℕ) → (0 < file → HadContent book file version bytes) → length bytes ≤ 67108864 → Cached book es → Cached book (with_content es file version bytes)
-cached_as book es file version bytes had short h = by (kept_of es file)
+pub cached_as : (book : Book) (es : Entries) (file version : ℕ) (bytes : List ℕ) → (0 < file → HadContent book file version bytes) → length bytes ≤ 67108864 → (0 < file → WasThere book file) → (file ≡ 0 → version ≡ 0) → Cached book es → Cached book (with_content es file version bytes)
+cached_as book es file version bytes had short known none h = by (kept_of es file)
   where
     new : Content
     new = record { version = version; bytes = bytes }
@@ -95,12 +96,12 @@ cached_as book es file version bytes had short h = by (kept_of es file)
     by : (o : Option Kept) → Cached book (keeps es file version bytes o)
     by None f c e = h f c e
     by (Some k) f c e = elim (front_content es f file (record k { content = Some (record { version = version; bytes = bytes }) }) c e) [
-      | inl here ↦ subst (λ (z : Content). (0 < f → HadContent book f z.version z.bytes) × (length z.bytes ≤ 67108864)) (some_is new c here.1) (λ positive. subst (λ (z : ℕ). HadContent book z version bytes) (sym here.0) (had (subst (λ (z : ℕ). 0 < z) here.0 positive)), short)
+      | inl here ↦ subst (λ (z : Content). (0 < f → HadContent book f z.version z.bytes) × (length z.bytes ≤ 67108864) × (0 < f → WasThere book f) × (f ≡ 0 → z.version ≡ 0)) (some_is new c here.1) (λ positive. subst (λ (z : ℕ). HadContent book z version bytes) (sym here.0) (had (subst (λ (z : ℕ). 0 < z) here.0 positive)), short, λ positive. subst (λ (z : ℕ). WasThere book z) (sym here.0) (known (subst (λ (z : ℕ). 0 < z) here.0 positive)), λ e. none (sym here.0 ∙ e))
       | inr old ↦ h f c old
     ]
 
-pub cached_with : (book : Book) (es : Entries) (file version : ℕ) (bytes : List ℕ) → HadContent book file version bytes → length bytes ≤ 67108864 → Cached book es → Cached book (with_content es file version bytes)
-cached_with book es file version bytes had short h = cached_as book es file version bytes (λ positive. had) short h
+pub cached_with : (book : Book) (es : Entries) (file version : ℕ) (bytes : List ℕ) → HadContent book file version bytes → WasThere book file → length bytes ≤ 67108864 → Cached book es → Cached book (with_content es file version bytes)
+cached_with book es file version bytes had there short h = cached_as book es file version bytes (λ positive. had) short (λ positive. there) (λ none. absurd (let some = there.positive in omega (arith, none, some))) h
 
 -- the items of a cache file
 pub cached_warm : (book : Book) (s : client.State) (items : List (List ℕ)) → Cached book s.cache → Cached book (warms s items).cache
@@ -111,7 +112,7 @@ cached_warm book s items h = by (can_warm s.task items) refl
     short (Some t) e = absurd cc
 
     by : (b : Bool) → can_warm s.task items ≡ b → Cached book (if b then (keeps_items s items).cache else s.cache)
-    by true e = cached_as book (reserved s.cache 0) 0 0 (concat items) (λ none. absurd (omega arith)) (short s.task e) (cached_reserved book s.cache 0 h)
+    by true e = cached_as book (reserved s.cache 0) 0 0 (concat items) (λ none. absurd (omega arith)) (short s.task e) (λ none. absurd (omega arith)) (λ e. refl) (cached_reserved book s.cache 0 h)
     by false e = h
 
 pub cached_without : (book : Book) (es : Entries) (file : ℕ) → Cached book es → Cached book (without_content es file)
@@ -121,9 +122,76 @@ cached_without book es file h = by (kept_of es file)
     by None f c e = h f c e
     by (Some k) f c e = found (kept_of (set_value (nat_eq file) es (record k { content = None })) f) refl e
       where
-        found : (o : Option Kept) → kept_of (set_value (nat_eq file) es (record k { content = None })) f ≡ o → content_in o ≡ Some c → (0 < f → HadContent book f c.version c.bytes) × (length c.bytes ≤ 67108864)
+        found : (o : Option Kept) → kept_of (set_value (nat_eq file) es (record k { content = None })) f ≡ o → content_in o ≡ Some c → (0 < f → HadContent book f c.version c.bytes) × (length c.bytes ≤ 67108864) × (0 < f → WasThere book f) × (f ≡ 0 → c.version ≡ 0)
         found None at e = nothing_there c e
         found (Some x) at e = elim (set_found es f file (record k { content = None }) x at) [ inl gone ↦ nothing_there c (ap (λ (z : Kept). z.content) gone.1 ∙ e) | inr old ↦ h f c (ap content_in old ∙ e) ]
+
+-- another note changes no content
+set_itself : (es : Entries) (g : ℕ) (w k : Kept) → kept_of es g ≡ Some k → kept_of (set_value (nat_eq g) es w) g ≡ Some w
+set_itself [] g w k e = nothing_there k e
+set_itself (y ∷ es) g w k e = by (nat_eq g y.0) refl e (set_itself es g w k)
+  where
+    by : (b : Bool) → nat_eq g y.0 ≡ b → cond b (Some y.1) (kept_of es g) ≡ Some k → (kept_of es g ≡ Some k → kept_of (set_value (nat_eq g) es w) g ≡ Some w) → kept_of (cond b ((y.0, w) ∷ es) (y ∷ set_value (nat_eq g) es w)) g ≡ Some w
+    by true is e later = ap (λ (b : Bool). cond b (Some w) (kept_of es g)) is
+    by false is e later = ap (λ (b : Bool). cond b (Some y.1) (kept_of (set_value (nat_eq g) es w) g)) is ∙ later e
+
+noted_content : (es : Entries) (f g : ℕ) (n : Option Note) (o : Option Kept) → kept_of es g ≡ o → (c : Content) → content_of (notes es g n o) f ≡ Some c → content_of es f ≡ Some c
+noted_content es f g n None at c e = e
+noted_content es f g n (Some k) at c e = found (kept_of (set_value (nat_eq g) es (record k { note = n })) f) refl e
+  where
+    found : (o : Option Kept) → kept_of (set_value (nat_eq g) es (record k { note = n })) f ≡ o → content_in o ≡ Some c → content_of es f ≡ Some c
+    found None is e = nothing_there c e
+    found (Some x) is e = elim (set_found es f g (record k { note = n }) x is) [
+      | inl here ↦ ap (content_of es) here.0 ∙ ap content_in at ∙ ap (λ (z : Kept). z.content) here.1 ∙ e
+      | inr old ↦ ap content_in old ∙ e
+    ]
+
+pub cached_noted : (book : Book) (es : Entries) (file version until : ℕ) → Cached book es → Cached book (with_note es file version until)
+cached_noted book es file version until h f c e = h f c (noted_content es f file (Some (record { version = version; until = until })) (kept_of es file) refl c e)
+
+pub cached_unnoted : (book : Book) (es : Entries) (file : ℕ) → Cached book es → Cached book (without_note es file)
+cached_unnoted book es file h f c e = h f c (noted_content es f file None (kept_of es file) refl c e)
+
+-- what is fresh is kept, by a note of its version that hasn't ended, and is some file's
+pub record FreshIn (es : Entries) (file now : ℕ) (c : Content) : Type 0 where
+  pub kept : content_of es file ≡ Some c
+  pub fresh : fresh_of es file now ≡ Some c.bytes
+  pub some : (c.version == 0) ≡ false
+
+pub fresh_in_is : (es : Entries) (file now : ℕ) (c : Content) → fresh_content es file now ≡ Some c → FreshIn es file now c
+fresh_in_is es file now c e = by (kept_of es file) refl e
+  where
+    both : (a b : Bool) → (a && not b) ≡ true → (a ≡ true) × (b ≡ false)
+    both true false e = (refl, refl)
+    both true true e = absurd cc
+    both false b e = absurd cc
+
+    content : (d : Content) (o : Option (List ℕ)) → ((b : List ℕ) → o ≡ Some b → d.bytes ≡ b) → content_if (is_some o) (Some d) ≡ Some c → (d ≡ c) × (o ≡ Some d.bytes) × ((d.version == 0) ≡ false)
+    content d None same e = absurd cc
+    content d (Some b) same e = some (d.version == 0) refl e
+      where
+        some : (z : Bool) → (d.version == 0) ≡ z → (if true && not z then Some d else None) ≡ Some c → (d ≡ c) × (Some b ≡ Some d.bytes) × ((d.version == 0) ≡ false)
+        some true is e = nothing_there c e
+        some false is e = (some_is d c e, ap (λ (l : List ℕ). Some l) (sym (same b refl)), is)
+
+    by : (o : Option Kept) → kept_of es file ≡ o → content_if (is_some (fresh_in o now)) (content_in o) ≡ Some c → FreshIn es file now c
+    by None is e = nothing_there c e
+    by (Some k) is e = at k.content k.note refl refl e
+      where
+        at : (d : Option Content) (n : Option Note) → k.content ≡ d → k.note ≡ n → content_if (is_some (Rattle.client_cache.specs.Cache.fresh_if d n now)) d ≡ Some c → FreshIn es file now c
+        at None n content_is note_is e = nothing_there c e
+        at (Some d) None content_is note_is e = nothing_there c e
+        at (Some d) (Some n) content_is note_is e =
+            let h = content d (Rattle.client_cache.specs.Cache.fresh_if (Some d) (Some n) now) (bytes (is_fresh d n now)) e in
+            record {
+              kept = ap content_in is ∙ content_is ∙ ap (λ (z : Content). Some z) h.0;
+              fresh = ap (λ (o : Option Kept). fresh_in o now) is ∙ ap (λ (o : Option Content). Rattle.client_cache.specs.Cache.fresh_if o k.note now) content_is ∙ ap (λ (o : Option Note). Rattle.client_cache.specs.Cache.fresh_if (Some d) o now) note_is ∙ h.1 ∙ ap (λ (z : Content). Some z.bytes) h.0;
+              some = ap (λ (z : Content). z.version == 0) (sym h.0) ∙ h.2;
+            }
+          where
+            bytes : (t : Bool) (b : List ℕ) → (if t then Some d.bytes else None) ≡ Some b → d.bytes ≡ b
+            bytes true b e = some_is d.bytes b e
+            bytes false b e = nothing_there b e
 
 -- ---- the notes of leases
 
@@ -155,6 +223,35 @@ with_notes es file version bytes = by (kept_of es file) refl
     by : (o : Option Kept) → kept_of es file ≡ o → AddsNone es (keeps es file version bytes o)
     by None at = same_notes es
     by (Some k) at = fronted_notes es file (record k { content = Some (record { version = version; bytes = bytes }) }) (λ n is. (k, at, is))
+
+-- a note that is cleared is there no more, and no other appears
+pub unnoted_notes : (es : Entries) (file : ℕ) → AddsNone es (without_note es file)
+unnoted_notes es file = by (kept_of es file) refl
+  where
+    by : (o : Option Kept) → kept_of es file ≡ o → AddsNone es (notes es file None o)
+    by None at f x n found is = same_notes es f x n found is
+    by (Some k) at f x n found is = elim (set_found es f file (record k { note = None }) x found) [
+      | inl gone ↦ nothing_there n (ap (λ (z : Kept). z.note) gone.1 ∙ is)
+      | inr old ↦ (x, old, is)
+    ]
+
+pub unnoted_none : (es : Entries) (file : ℕ) (k : Kept) → kept_of (without_note es file) file ≡ Some k → k.note ≡ None
+unnoted_none es file k found = by (kept_of es file) refl found
+  where
+    by : (o : Option Kept) → kept_of es file ≡ o → kept_of (notes es file None o) file ≡ Some k → k.note ≡ None
+    by None at found = nothing_there k (sym at ∙ found)
+    by (Some x) at found = ap (λ (z : Kept). z.note) (sym (some_is (record x { note = None }) k (sym (set_itself es file (record x { note = None }) x at) ∙ found)))
+
+-- one that is set is of that file, and all others were there
+pub noted_notes : (es : Entries) (file version until : ℕ) (f : ℕ) (k : Kept) (n : Note) → kept_of (with_note es file version until) f ≡ Some k → k.note ≡ Some n → ((g : Kept) × (kept_of es f ≡ Some g) × (g.note ≡ Some n)) ⊎ ((f ≡ file) × (n ≡ record { version = version; until = until }))
+noted_notes es file version until f k n found is = by (kept_of es file) refl found
+  where
+    by : (o : Option Kept) → kept_of es file ≡ o → kept_of (notes es file (Some (record { version = version; until = until })) o) f ≡ Some k → ((g : Kept) × (kept_of es f ≡ Some g) × (g.note ≡ Some n)) ⊎ ((f ≡ file) × (n ≡ record { version = version; until = until }))
+    by None at found = inl (k, found, is)
+    by (Some x) at found = elim (set_found es f file (record x { note = Some (record { version = version; until = until }) }) k found) [
+      | inl here ↦ inr (here.0, sym (some_is (record { version = version; until = until }) n (ap (λ (z : Kept). z.note) here.1 ∙ is)))
+      | inr old ↦ inl (k, old, is)
+    ]
 
 pub without_notes : (es : Entries) (file : ℕ) → AddsNone es (without_content es file)
 without_notes es file = by (kept_of es file) refl

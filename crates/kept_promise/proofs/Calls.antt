@@ -8,16 +8,17 @@ use Rattle.chunk_calls.specs.Writing.{done_unless}
 use Rattle.chunk_calls.specs.Entering.{with_told}
 use Rattle.temp_files.specs.Temps.{with_piece}
 use Rattle.client_state.specs.declared.task.Way.TheVariants as way
-use Rattle.kept_promise.proofs.Common.{slice_get, Chunk, handle_bytes, Done, Failed, Status, message_spell, MessageFits, Node, directory, file, node_of, at, makes, makes_unless, writes_unless, room_fault, Temp, temp_at, with_temp, key_of, piece_fault, range_fault, insert_entry, nat_cmp, ServerStep, Indexed, File, Core, Session, Event.Serves, CoreStep, Loss.Nothing, numbered, with_numbered, unless, hashed_of, Book, Call.Lease, Call.Hash, Call.Read, Call.Make, Call.Send, Reply, Reply.Made, Reply.Stored, Ask, Told, Queue, ask_message, told_message, call_program, reply_program, Tree, Call.Walks, Reply.Walked, happens, serves, serves_if, got_if, stands, Message, WireFault, Contains, Contains-push, name_answer, not, value_at, later}
-use Rattle.server_law.proofs.Unleased.{unleased_at}
+use Rattle.kept_promise.proofs.Common.{slice_get, Chunk, handle_bytes, Done, Failed, Status, message_spell, MessageFits, Node, directory, file, node_of, at, makes, makes_unless, writes_unless, room_fault, Temp, temp_at, with_temp, key_of, piece_fault, range_fault, insert_entry, nat_cmp, ServerStep, Indexed, File, Core, Session, Event.Serves, CoreStep, Loss.Nothing, numbered, with_numbered, unless, hashed_of, Book, Call.Lease, Call.Hash, Call.Read, Call.Make, Call.Send, Reply, Reply.Made, Reply.Stored, Ask, Told, Queue, ask_message, told_message, call_program, reply_program, Tree, Call.Walks, Reply.Walked, happens, serves, serves_if, got_if, stands, Message, WireFault, Contains, Contains-push, name_answer, not, value_at, later, Leasing}
+use Rattle.server_core.specs.Recalling.{term_on, file_in, grants_on}
+use Rattle.kept_promise.proofs.Recallings.{term_small}
 use Rattle.kept_promise.proofs.Statements.{CallFits, IsPlain}
 use Rattle.kept_promise.proofs.Lists.{some_is, nothing_there, at_end}
 use Rattle.kept_promise.proofs.Messages.{Job, job, stage_word, AllAsks, Rising, AreParts, IsPiece, TempUnder, AnswerOf}
 use Rattle.kept_promise.proofs.History.{onward}
 use Rattle.kept_promise.proofs.Fits.{FitLaws}
 use Rattle.kept_promise.proofs.Takes.{took, Answers}
-use Rattle.kept_promise.proofs.Facts.{IsSession, IsKept, is_naming}
-use Rattle.kept_promise.proofs.Serves.{answered, leads_answer, parsed}
+use Rattle.kept_promise.proofs.Facts.{HasTerm, IsServer, IsSession, IsKept, is_naming}
+use Rattle.kept_promise.proofs.Serves.{answered, leads_answer, parsed_at}
 use Rattle.kept_promise.proofs.Tells.{hash_range, lease_reply, lease_reply_fits, lease_told, hash_reply, hash_reply_fits, hash_told, read_reply, read_reply_fits, read_told, walk_told}
 use Rattle.kept_promise.proofs.Shelves.{of_inserted, of_lookup, keys_tell, keys_number, parts_put}
 use Rattle.kept_promise.proofs.Shelf.{IsShelf, NoTemp, shelf_put, one_put, other_put}
@@ -119,8 +120,12 @@ first_fits book k qs n now x q a us g = (subst (AllAsks (λ b. CallFits b.xid b.
 abbrev pub rest_of : List Queue → (n : ℕ) → Queue → List Ask → List Queue
 rest_of qs n q us = with_numbered qs n (record q { ups = us })
 
+-- with these leases
+leads_with : (book : Book) (k : Core) (qs : List Queue) (n now : ℕ) (leasing : Leasing) (x : Session) (q : Queue) (a : Ask) (us : List Ask) (temps : List (ℕ × Temp)) (index : Indexed) (r : Reply) → (g : Given book k qs n now x q a us) → HasTerm leasing → Answers book k n x q a temps r (session_in book k qs n now x q a us g) → Leads book (rest_of qs n q us) (answered k n leasing x a temps index r)
+leads_with book k qs n now leasing x q a us temps index r g leases shows = leads_answer book k qs n leasing x q a us temps index r leases g.kept g.at g.is g.first g.unhung shows
+
 pub leads_by : (book : Book) (k : Core) (qs : List Queue) (n now : ℕ) (x : Session) (q : Queue) (a : Ask) (us : List Ask) (temps : List (ℕ × Temp)) (index : Indexed) (r : Reply) → (g : Given book k qs n now x q a us) → Answers book k n x q a temps r (session_in book k qs n now x q a us g) → Leads book (rest_of qs n q us) (answered k n (later k.server.leasing now) x a temps index r)
-leads_by book k qs n now x q a us temps index r g shows = leads_answer book k qs n (later k.server.leasing now) x q a us temps index r (unleased_at k.server now g.kept.server.leases) g.kept g.at g.is g.first g.unhung shows
+leads_by book k qs n now x q a us temps index r g shows = leads_with book k qs n now (later k.server.leasing now) x q a us temps index r g g.kept.server.leases shows
 
 -- what is held of a session once a call was taken that leaves it as it was
 pub held_still : (book : Book) (k : Core) (qs : List Queue) (n now : ℕ) (x : Session) (q : Queue) (a : Ask) (us : List Ask) → (g : Given book k qs n now x q a us) → (r : Reply) → TellsNone r → IsQuietCall a.call → x.cut ≡ false → (vs : List Ask) → q.ups ≡ a ∷ vs
@@ -152,22 +157,33 @@ rest_above book k qs n now x q a us g uncut i b at e =
     above n (c ∷ cs) top r zero b at = subst (λ (z : Ask). n ≤ z.xid) (some_is c b at) r.0
     above n (c ∷ cs) top r (suc i) b at = let le = above (c.xid + 1) cs top r.1 i b at in let f = r.0 in omega (arith, le, f)
 
-hash_wanted : (book : Book) (o : Option Job) (xid : ℕ) (t : Tree) (f p : ℕ) → Wanted book o xid (hash_reply t f p)
-hash_wanted book o xid t f p = tt
+hash_wanted : (book : Book) (o : Option Job) (xid term : ℕ) (t : Tree) (f p : ℕ) → Wanted book o xid (hash_reply term t f p)
+hash_wanted book o xid term t f p = tt
 
 read_wanted : (book : Book) (o : Option Job) (xid : ℕ) (t : Tree) (f : ℕ) (d : Chunk) → Wanted book o xid (read_reply t f d)
 read_wanted book o xid t f d = tt
+
+-- what a GETLEASE and a GETHASH are told for a term, and the leases that they leave
+abbrev pub told_term : server.State → (f : ℕ) → ℕ
+told_term s f = term_on s (file_in (node_of s.tree (handle_bytes f)))
+
+abbrev pub told_leasing : server.State → (n now f : ℕ) → Leasing
+told_leasing s n now f = (grants_on (at s now) n (file_in (node_of s.tree (handle_bytes f)))).leasing
+
+term_fits : (book : Book) (s : server.State) (f : ℕ) → IsServer book s → told_term s f < 4294967296
+term_fits book s f h = term_small s.leasing.term s.waiting (file_in (node_of s.tree (handle_bytes f))) h.leases
 
 -- what a GETHASH leaves of the index
 abbrev pub hash_index : server.State → (f o : ℕ) → Indexed
 hash_index s f o = with_told s.index (chunks_told (node_of s.tree (handle_bytes f)) (hash_range f o))
 
-pub serve_hash : FitLaws → (book : Book) (k : Core) (qs : List Queue) (n now : ℕ) (x : Session) (q : Queue) (xid f o : ℕ) (us : List Ask) → Given book k qs n now x q (record { xid = xid; call = Hash f o }) us → Leads book (rest_of qs n q us) (answered k n (later k.server.leasing now) x (record { xid = xid; call = Hash f o }) k.server.temps (hash_index k.server f o) (hash_reply k.server.tree f o))
+pub serve_hash : FitLaws → (book : Book) (k : Core) (qs : List Queue) (n now : ℕ) (x : Session) (q : Queue) (xid f o : ℕ) (us : List Ask) → Given book k qs n now x q (record { xid = xid; call = Hash f o }) us → Leads book (rest_of qs n q us) (answered k n (told_leasing k.server n now f) x (record { xid = xid; call = Hash f o }) k.server.temps (hash_index k.server f o) (hash_reply (told_term k.server f) k.server.tree f o))
 serve_hash laws book k qs n now x q xid f o us g =
     let a : Ask = record { xid = xid; call = Hash f o } in
     let h = session_in book k qs n now x q a us g in
     let fits = first_fits book k qs n now x q a us g in
-    leads_by book k qs n now x q a us k.server.temps (hash_index k.server f o) (hash_reply k.server.tree f o) g (same_temps book k n x q a (hash_reply k.server.tree f o) h g.kept.shelf (λ uncut. hash_wanted (onward book 1 book.ops) (job h.seat) xid k.server.tree f o) (λ uncut vs e. held_still book k qs n now x q a us g (hash_reply k.server.tree f o) tt tt uncut vs e) refl (hash_reply_fits laws book k.server xid f o g.kept.server fits.0 fits.1) (λ uncut. hash_told laws book k qs n now x q xid f o us h.seat g.kept h.owner (h.here uncut).0 (h.talk uncut) g.first fits g.noted))
+    let term = told_term k.server f in
+    leads_with book k qs n now (told_leasing k.server n now f) x q a us k.server.temps (hash_index k.server f o) (hash_reply term k.server.tree f o) g g.kept.server.leases (same_temps book k n x q a (hash_reply term k.server.tree f o) h g.kept.shelf (λ uncut. hash_wanted (onward book 1 book.ops) (job h.seat) xid term k.server.tree f o) (λ uncut vs e. held_still book k qs n now x q a us g (hash_reply term k.server.tree f o) tt tt uncut vs e) refl (hash_reply_fits laws book k.server xid term f o g.kept.server fits.0 (term_fits book k.server f g.kept.server) fits.1) (λ uncut. hash_told laws book k qs n now x q xid term f o us h.seat g.kept h.owner (h.here uncut).0 (h.talk uncut) g.first fits g.noted))
 
 pub serve_read : FitLaws → (book : Book) (k : Core) (qs : List Queue) (n now : ℕ) (x : Session) (q : Queue) (xid f : ℕ) (d : Chunk) (us : List Ask) → Given book k qs n now x q (record { xid = xid; call = Read f d }) us → Leads book (rest_of qs n q us) (answered k n (later k.server.leasing now) x (record { xid = xid; call = Read f d }) k.server.temps k.server.index (read_reply k.server.tree f d))
 serve_read laws book k qs n now x q xid f d us g =
@@ -176,15 +192,16 @@ serve_read laws book k qs n now x q xid f d us g =
     let fits = first_fits book k qs n now x q a us g in
     leads_by book k qs n now x q a us k.server.temps k.server.index (read_reply k.server.tree f d) g (same_temps book k n x q a (read_reply k.server.tree f d) h g.kept.shelf (λ uncut. read_wanted (onward book 1 book.ops) (job h.seat) xid k.server.tree f d) (λ uncut vs e. held_still book k qs n now x q a us g (read_reply k.server.tree f d) tt tt uncut vs e) refl (read_reply_fits laws book k.server xid f d g.kept.server fits.0 fits.1) (λ uncut. read_told book k qs n now x q xid f d us h.seat g.kept h.owner (h.talk uncut) g.first fits.1 g.noted))
 
-lease_wanted : (book : Book) (o : Option Job) (xid : ℕ) (t : Tree) (f : ℕ) → Wanted book o xid (lease_reply t f)
-lease_wanted book o xid t f = tt
+lease_wanted : (book : Book) (o : Option Job) (xid term : ℕ) (t : Tree) (f : ℕ) → Wanted book o xid (lease_reply term t f)
+lease_wanted book o xid term t f = tt
 
-pub serve_lease : FitLaws → (book : Book) (k : Core) (qs : List Queue) (n now : ℕ) (x : Session) (q : Queue) (xid f : ℕ) (us : List Ask) → Given book k qs n now x q (record { xid = xid; call = Lease f }) us → Leads book (rest_of qs n q us) (answered k n (later k.server.leasing now) x (record { xid = xid; call = Lease f }) k.server.temps k.server.index (lease_reply k.server.tree f))
+pub serve_lease : FitLaws → (book : Book) (k : Core) (qs : List Queue) (n now : ℕ) (x : Session) (q : Queue) (xid f : ℕ) (us : List Ask) → Given book k qs n now x q (record { xid = xid; call = Lease f }) us → Leads book (rest_of qs n q us) (answered k n (told_leasing k.server n now f) x (record { xid = xid; call = Lease f }) k.server.temps k.server.index (lease_reply (told_term k.server f) k.server.tree f))
 serve_lease laws book k qs n now x q xid f us g =
     let a : Ask = record { xid = xid; call = Lease f } in
     let h = session_in book k qs n now x q a us g in
     let fits = first_fits book k qs n now x q a us g in
-    leads_by book k qs n now x q a us k.server.temps k.server.index (lease_reply k.server.tree f) g (same_temps book k n x q a (lease_reply k.server.tree f) h g.kept.shelf (λ uncut. lease_wanted (onward book 1 book.ops) (job h.seat) xid k.server.tree f) (λ uncut vs e. held_still book k qs n now x q a us g (lease_reply k.server.tree f) tt tt uncut vs e) refl (lease_reply_fits laws book k.server xid f g.kept.server fits.0 fits.1) (λ uncut. lease_told laws book k qs n now x q xid f us h.seat g.kept h.owner (h.here uncut).0 (h.talk uncut) g.first fits g.noted))
+    let term = told_term k.server f in
+    leads_with book k qs n now (told_leasing k.server n now f) x q a us k.server.temps k.server.index (lease_reply term k.server.tree f) g g.kept.server.leases (same_temps book k n x q a (lease_reply term k.server.tree f) h g.kept.shelf (λ uncut. lease_wanted (onward book 1 book.ops) (job h.seat) xid term k.server.tree f) (λ uncut vs e. held_still book k qs n now x q a us g (lease_reply term k.server.tree f) tt tt uncut vs e) refl (lease_reply_fits laws book k.server xid term f g.kept.server fits.0 (term_fits book k.server f g.kept.server) fits.1) (λ uncut. lease_told laws book k qs n now x q xid term f us h.seat g.kept h.owner (h.here uncut).0 (h.talk uncut) g.first fits g.noted))
 
 -- the answer to a walk's call is all that is sent
 walk_sent : FitLaws → (book : Book) (k : Core) (qs : List Queue) (n now : ℕ) (x : Session) (q : Queue) (xid : ℕ) (w : Walk) (us : List Ask) → Given book k qs n now x q (record { xid = xid; call = Walks w }) us → is_making w ≡ false
@@ -195,7 +212,7 @@ walk_sent laws book k qs n now x q xid w us g none =
     let fits = first_fits book k qs n now x q a us g in
     let standing : stands k.server n ≡ true = h.stands_is ∙ ap not g.unhung in
     ap (λ (o : Option Session). (serves k n now (message_spell (ask_message a)) o).down) g.at
-    ∙ ap (λ (r : Result Message WireFault). (serves_if k n now x r).down) (parsed laws a fits)
+    ∙ ap (λ (r : Result Message WireFault). (serves_if k n now x r).down) (parsed_at laws k n a fits)
     ∙ ap (λ (b : Bool). (got_if k.server b n (ask_message a) now).1.send) standing
     ∙ ap (λ (r : server.State × ServerStep). r.1.send) (called_walk (at k.server now) n xid w fits.1 none)
 

@@ -7,18 +7,18 @@ use Rattle.client_state.specs.declared.task.Stage.TheVariants as stage
 use Rattle.client_state.specs.declared.task.Way.TheVariants as way
 use Rattle.register_model.specs.declared.op.Outcome.TheVariants as told
 use Rattle.register_model.specs.declared.op.Word.TheVariants as words
-use Rattle.client_cache.specs.Cache.{reserved, with_content}
+use Rattle.client_cache.specs.Cache.{reserved, with_content, without_note}
 use Rattle.open_close.specs.Hashed.{named_by as part_of_named, named as parts_named}
 use Rattle.file_close.specs.Storing.{closed}
 use Rattle.kept_promise.proofs.Common.{refused, slice_get, sha1, Chunk, Answer, Done, Failed, Status, Committed, store_pending, store_of, is_stored, store_at, answered, no_counts, idle, goes_on, goes_if, told_temp, sends_whole, told_named, told_whole, Local, Store, StoreCall, Op, Traffic, Contains, Contains-append_left, slice_set, unwrap_or, option_map, Message, ClientStep, Core, Session, has_point, point_if, counted, Book, HadContent, value_at, version_at, Reply, Reply.Made, Reply.Named, Reply.Stored, Reply.Changed, Told, Queue, reply_program}
 use Rattle.kept_promise.proofs.Lists.{some_is, there_at}
 use Rattle.kept_promise.proofs.Messages.{Job, CommitTold, CloseOf, stage_word}
 use Rattle.kept_promise.proofs.Rights.{IsMade}
-use Rattle.kept_promise.proofs.Growth.{Grows, value_later, version_later}
+use Rattle.kept_promise.proofs.Growth.{Grows, value_later, version_later, there_later}
 use Rattle.kept_promise.proofs.History.{onward, grows_becomes}
 use Rattle.kept_promise.proofs.Later.{cached_later}
 use Rattle.kept_promise.proofs.Facts.{Cached}
-use Rattle.kept_promise.proofs.Caches.{cached_reserved, cached_with}
+use Rattle.kept_promise.proofs.Caches.{cached_reserved, cached_unnoted, cached_with}
 use Rattle.kept_promise.proofs.Heard.{told_pending}
 use Rattle.kept_promise.proofs.Steps.{Here, session_at, Quiet, job_op, close_unnamed}
 use Rattle.kept_promise.proofs.CloseEnds.{quiet_before, quiet_after, Unmade, refused_op, stops_refused, closed_op, stops_closed}
@@ -58,11 +58,12 @@ comes_on book k qs n x q t ts j g st fits w filled = by (is_stored (named st (cl
           to = stage.Committing (named st c.next_xid).next_xid;
           next = (named st c.next_xid).next_xid + 1;
           forgotten = c.forgotten;
-          cache = reserved c.cache j.file;
+          cache = without_note (reserved c.cache j.file) j.file;
           index = c.index;
+          sent = c.clock;
           asks = committing st c.next_xid j.file (length (local_of g));
           shows = goes_committing book k qs n x q t ts j g st fits w filled (λ b h. noted b (named_front (local_of g) (named st c.next_xid).send _ b h)) e;
-          cached = cached_reserved book c.cache j.file (seat_kept g);
+          cached = cached_unnoted book (reserved c.cache j.file) j.file (cached_reserved book c.cache j.file (seat_kept g));
           state_is = refl;
           send_is = committing_sent st c.next_xid j.file (length (local_of g));
           ended_is = refl;
@@ -75,6 +76,7 @@ comes_on book k qs n x q t ts j g st fits w filled = by (is_stored (named st (cl
           forgotten = c.forgotten;
           cache = c.cache;
           index = c.index;
+          sent = c.sent;
           asks = naming st c.next_xid;
           shows = goes_storing book k qs n x q t ts j g st w filled noted e;
           cached = seat_kept g;
@@ -104,7 +106,7 @@ comes_unmade book k qs n x q t ts j g s quiet over close denied u =
       state_is = refl;
       send_is = refl;
       ended_is = refl;
-      op_is = ap (λ v. record o { end = Some (book.steps + 1); point = point_if (has_point v (outcome.Refused s)) x.taken t.xid o.point; outcome = told.Refused (status_number s); traffic = tr }) ((job_op book k qs x (session_at book k qs n x q t ts j g).seat j g.kept (session_at book k qs n x q t ts j g).owner g.job_is).word ∙ close);
+      op_is = ap (λ v. record o { end = Some (book.steps + 1); point = point_if (has_point v (outcome.Refused s)) x.taken t.xid (book.steps + 1) o.point; outcome = told.Refused (status_number s); traffic = tr }) ((job_op book k qs x (session_at book k qs n x q t ts j g).seat j g.kept (session_at book k qs n x q t ts j g).owner g.job_is).word ∙ close);
     })
 
 -- what the answer is
@@ -182,6 +184,7 @@ comes_named book k qs n x q t ts j g st u a fits waits found by_name same is = b
           forgotten = s.forgotten;
           cache = s.cache;
           index = s.index;
+          sent = s.sent;
           asks = sending (answered st t.xid) s.next_xid (local_of g) c;
           shows = goes_whole book k qs n x q t ts j g (answered st t.xid) u c ready inside at (filled_named book k qs n x q t ts j g st u c waits found by_name none) (ready_named book k qs n x q t ts j g st u waits found by_name);
           cached = seat_kept g;
@@ -238,7 +241,8 @@ closed_kept book k qs n x q t ts j g new version made value grows =
       version_is = version_later book more None (Some j.place) j.file m.0 grows m.1 ∙ ap (λ f. version_at book f m.0) file ∙ m.2;
       value_is = inl (value_later book more None (Some j.place) j.file m.0 grows m.1 ∙ ap (λ f. value_at book f m.0) file ∙ m.3 ∙ ap (λ (z : Op). Some z.value) same ∙ ap (λ (l : List ℕ). Some l) (sym value));
     } in
-    cached_with more c.cache j.file version (local_of g) had (local_short c.opened j.file (λ l at. ((g.kept.seats x.owner h.seat h.owner).opened j.file l at).1)) (cached_later book more None (Some j.place) c.cache grows (seat_kept g))
+    let word = sym of.word ∙ ap (λ (z : Op). z.word) (sym same) ∙ made.3 in
+    cached_with more c.cache j.file version (local_of g) had (there_later book more None (Some j.place) j.file grows ((h.orderly g.uncut).tree j g.job_is word)) (local_short c.opened j.file (λ l at. ((g.kept.seats x.owner h.seat h.owner).opened j.file l at).1)) (cached_later book more None (Some j.place) c.cache grows (seat_kept g))
 
 pub comes_closed : (book : Book) (k : Core) (qs : List Queue) (n : ℕ) (x : Session) (q : Queue) (t : Told) (ts : List Told) (j : Job) (g : Here book k qs n x q t ts j) (c : Committed) → j.stage ≡ stage.Committing t.xid → t.reply ≡ Changed (Done c) → CommitTold book x.closing j (Done c)
     → Comes book k qs n x q t ts j g (closed (idle (client_at book k qs n x q t ts j g)) (client.calls_of (client_at book k qs n x q t ts j g)) j.file t.xid c.version (local_of g))
@@ -266,5 +270,5 @@ comes_closed book k qs n x q t ts j g d waits is made =
       state_is = refl;
       send_is = refl;
       ended_is = refl;
-      op_is = ap (λ v. record o { end = Some (book.steps + 1); point = point_if (has_point v (outcome.Closed j.file d.version (length (local_of g)) (sha1 (local_of g)))) x.taken t.xid o.point; outcome = told.Closed d.version (length (local_of g)) (sha1 (local_of g)); traffic = tr }) word ∙ ap (λ (l : List ℕ). record o { end = Some (book.steps + 1); outcome = told.Closed d.version (length l) (sha1 l); traffic = tr }) value;
+      op_is = ap (λ v. record o { end = Some (book.steps + 1); point = point_if (has_point v (outcome.Closed j.file d.version (length (local_of g)) (sha1 (local_of g)))) x.taken t.xid (book.steps + 1) o.point; outcome = told.Closed d.version (length (local_of g)) (sha1 (local_of g)); traffic = tr }) word ∙ ap (λ (l : List ℕ). record o { end = Some (book.steps + 1); outcome = told.Closed d.version (length l) (sha1 l); traffic = tr }) value;
     })

@@ -267,7 +267,7 @@ closes_heard book more taken j o p s x b a log h = record {
     known = a.known
 
     left : Leaves log x b o.value j.stage (found_in s j.file j.stage x b) (took (idle s) (client.calls_of s) j.file j.stage x b)
-    left = took_cases (Leaves log x b o.value j.stage) (idle s) (client.calls_of s) j.file j.stage x b known (of_closes (Leaves log x b o.value j.stage) (idle s) (client.calls_of s) j.file j.stage x b known (leaves_cases log (idle s) j.file o.value j.stage x b (subst (λ f. ClosesBy log f o.value j.stage) a.taking.file h) a.value))
+    left = took_cases (Leaves log x b o.value j.stage) (idle s) (client.calls_of s) j.file j.stage x b known (λ found r g until lease is z. z) (of_closes (Leaves log x b o.value j.stage) (idle s) (client.calls_of s) j.file j.stage x b known (leaves_cases log (idle s) j.file o.value j.stage x b (subst (λ f. ClosesBy log f o.value j.stage) a.taking.file h) a.value))
 
     running_value : (e : Option Ended) → e ≡ None → (op_after o r.0 taken (book.steps + 1) (record r.1 { ended = e })).value ≡ o.value
     running_value None is = refl
@@ -288,6 +288,7 @@ closes_laws all = record {
   walks = λ log file v x w h. h;
   walked = λ log file v x w h. h;
   none = λ w file v u un same log names. none w file v u log names;
+  now = λ log file v len digest names. tt;
   asks = λ log names x file v. tt;
   opens = λ log names x file v. tt;
   renews = λ log names x file v. tt;

@@ -6,10 +6,10 @@ use Rattle.client_state.specs.declared.step.Outcome.TheVariants as outcome
 use Rattle.register_model.specs.declared.op.Outcome.{Outcome}
 use Rattle.register_model.specs.declared.op.Outcome.TheVariants as told
 use Rattle.register_model.specs.declared.op.Word.TheVariants as words
-use Rattle.kept_promise.proofs.Common.{refused, slice_get, slice_set, not, Pending, Status, Entries, Indexed, no_counts, idle, ClientStep, Ended, Local, Stage, Op, Traffic, Word, Core, Session, has_point, point_if, counted, ended_op, Book, value_at, IsOpenRefused, is_running, Ask, Told, Queue, ask_message, changes}
+use Rattle.kept_promise.proofs.Common.{refused, unwrap_or, slice_get, slice_set, not, Pending, Status, Entries, Indexed, no_counts, idle, ClientStep, Ended, Local, Stage, Op, Traffic, Word, Core, Session, has_point, point_if, counted, ended_op, Book, value_at, IsOpenRefused, is_running, Ask, Told, Queue, ask_message, changes}
 use Rattle.kept_promise.proofs.Lists.{some_is, nothing_there, false_and_true, true_and_false}
 use Rattle.kept_promise.proofs.Messages.{Job, stage_word, IsTold, RefusedTold}
-use Rattle.kept_promise.proofs.Rights.{is_remote, may_point, Caused, RefusedBy, WasThere}
+use Rattle.kept_promise.proofs.Rights.{may_point, Caused, RefusedBy, WasThere}
 use Rattle.tree_reading.specs.Tree.{directory_of}
 use Rattle.trace_replay.specs.Causes.{IsDirectory}
 use Rattle.trace_replay.specs.Naming.{tree_at}
@@ -32,10 +32,12 @@ pub record GoesTo (book : Book) (k : Core) (qs : List Queue) (n : ℕ) (x : Sess
   pub forgotten : List Pending
   pub cache : Entries
   pub index : Indexed
+  -- when its last call went out that may bring a lease
+  pub sent : ℕ
   pub asks : List Ask
   pub shows : GoesOn book k qs n x q t ts j g to next forgotten asks
   pub cached : Cached book cache
-  pub state_is : c ≡ gone_on (client_at book k qs n x q t ts j g) j.file next to forgotten cache index
+  pub state_is : c ≡ gone_on (client_at book k qs n x q t ts j g) j.file next sent to forgotten cache index
   pub send_is : acts.send ≡ map ask_message asks
   pub ended_is : acts.ended ≡ None
 
@@ -188,7 +190,7 @@ comes_refused book k qs n x q t ts j g s word quiet refused_ = by refused_
       state_is = refl;
       send_is = refl;
       ended_is = refl;
-      op_is = ap (λ v. open_op of.op tr (book.steps + 1) (point_if (has_point v (outcome.Refused status.IsDir)) x.taken t.xid of.op.point) (told.Refused 21) of.op.value) w;
+      op_is = ap (λ v. open_op of.op tr (book.steps + 1) (point_if (has_point v (outcome.Refused status.IsDir)) x.taken t.xid (book.steps + 1) of.op.point) (told.Refused 21) of.op.value) w;
     }))
       where
         r : Op
@@ -224,7 +226,7 @@ comes_refused book k qs n x q t ts j g s word quiet refused_ = by refused_
       state_is = refl;
       send_is = refl;
       ended_is = refl;
-      op_is = ap (λ v. open_op of.op tr (book.steps + 1) (point_if (has_point v (outcome.Refused status.Stale)) x.taken t.xid of.op.point) (told.Refused 70) of.op.value) w ∙ ap (λ p. open_op of.op tr (book.steps + 1) p (told.Refused 70) of.op.value) stale.1.1.was;
+      op_is = ap (λ v. open_op of.op tr (book.steps + 1) (point_if (has_point v (outcome.Refused status.Stale)) x.taken t.xid (book.steps + 1) of.op.point) (told.Refused 70) of.op.value) w ∙ ap (λ p. open_op of.op tr (book.steps + 1) (Some (unwrap_or p (book.steps + 1))) (told.Refused 70) of.op.value) stale.1.1.was;
     }))
       where
         m : ℕ

@@ -1,8 +1,9 @@
 -- The operation that a command makes, and what is known of it at once.
-use Rattle.std.proofs.Common.{◌≡◌, ℕ, ◌+◌, ◌<◌, List, [], ◌∷◌, ◌++◌, length, Option, Some, None, Bool, true, false, refl, sym, ap, ◌∙◌, arith}
+use Rattle.std.proofs.Common.{◌⊎◌, inl, inr, ◌≡◌, ℕ, ◌+◌, ◌<◌, ◌≤◌, List, [], ◌∷◌, ◌++◌, length, Option, Some, None, Bool, true, false, refl, sym, ap, ◌∙◌, arith}
 use Rattle.client_state.specs.State as client
-use Rattle.kept_promise.proofs.Common.{slice_get, Command, no_counts, command_step, ClientStep, Ended, Op, word_of, file_of, value_at_begin, no_traffic, counted, begun, has_point, point_if, op_after, place_with, Core, Seat, numbered, Book, Queue}
-use Rattle.kept_promise.proofs.Lists.{nothing_there, at_end, within}
+use Rattle.register_model.specs.declared.op.Word.TheVariants as words
+use Rattle.kept_promise.proofs.Common.{changes, until, Outcome, Word, slice_get, Command, no_counts, command_step, ClientStep, Ended, Op, word_of, file_of, value_at_begin, no_traffic, counted, begun, has_point, point_if, op_after, place_with, Core, Seat, numbered, Book, Queue}
+use Rattle.kept_promise.proofs.Lists.{some_is, nothing_there, at_end, within}
 use Rattle.kept_promise.proofs.Rights.{IsRight, IsSound}
 use Rattle.kept_promise.proofs.Messages.{Job, job, job_of}
 use Rattle.kept_promise.proofs.Facts.{IsKept}
@@ -27,13 +28,28 @@ made_silent k c now d seat s acts q e = by e
     by None = ap (counted no_traffic) q ∙ none
     by (Some e) = ap (counted no_traffic) q ∙ none
 
-pub made_pointless : (k : Core) (c now : ℕ) (d : Command) (seat : Seat) (s : client.State) (acts : ClientStep) (e : Option Ended) → (made_by k c now d seat s (record acts { ended = e })).point ≡ None
-made_pointless k c now d seat s acts None = refl
-made_pointless k c now d seat s acts (Some e) = by (has_point (word_of d) e.outcome)
+-- its point, if it has one yet, is its begin
+pub made_point : (k : Core) (c now : ℕ) (d : Command) (seat : Seat) (s : client.State) (acts : ClientStep) (e : Option Ended) (p : ℕ) → (made_by k c now d seat s (record acts { ended = e })).point ≡ Some p → p ≡ k.steps + 1
+made_point k c now d seat s acts None p is = nothing_there p is
+made_point k c now d seat s acts (Some e) p is = by (has_point (word_of d) e.outcome) is
   where
-    by : (b : Bool) → point_if b [] e.rests_on None ≡ None
-    by true = refl
-    by false = refl
+    by : (b : Bool) → point_if b [] e.rests_on (k.steps + 1) None ≡ Some p → p ≡ k.steps + 1
+    by true is = sym (some_is (k.steps + 1) p is)
+    by false is = nothing_there p is
+
+-- it has none yet, or changes nothing
+pub made_quiet : (k : Core) (c now : ℕ) (d : Command) (seat : Seat) (s : client.State) (acts : ClientStep) (e : Option Ended) → ((made_by k c now d seat s (record acts { ended = e })).point ≡ None) ⊎ (changes (made_by k c now d seat s (record acts { ended = e })).word ≡ false)
+made_quiet k c now d seat s acts None = inl refl
+made_quiet k c now d seat s acts (Some e) = by (word_of d) e.outcome
+  where
+    by : (w : Word) (u : Outcome) → (point_if (has_point w u) [] e.rests_on (k.steps + 1) None ≡ None) ⊎ (changes w ≡ false)
+    by words.Open u = inr refl
+    by _ u = inl refl
+
+-- if it has ended already, then now
+pub made_by_now : (k : Core) (c now : ℕ) (d : Command) (seat : Seat) (s : client.State) (acts : ClientStep) (e : Option Ended) (step : ℕ) → step ≤ k.steps + 1 → until (made_by k c now d seat s (record acts { ended = e })).end step ≡ true
+made_by_now k c now d seat s acts None step le = refl
+made_by_now k c now d seat s acts (Some e) step le = grind (arith, Rattle.std.proofs.lemmas.Bool.Decides.nat_tests, le)
 
 -- the last operation of a history is right where all are
 pub last_right : (more : Book) (ops : List Op) (new : Op) → more.ops ≡ ops ++ new ∷ [] → IsSound more → IsRight more new

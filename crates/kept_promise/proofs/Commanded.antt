@@ -112,7 +112,7 @@ deeds_told : (past ms : List Moment) → map told_in (deeds_from past ms) ≡ fl
 deeds_told past [] = refl
 deeds_told past (m ∷ ms) = by m.event (deeds_from (past ++ m ∷ []) ms) (told_of ms) (deeds_told (past ++ m ∷ []) ms)
   where
-    by : (e : Event) (ds : List Deed) (es : List Event) → map told_in ds ≡ flat_map commanded es → map told_in (deed_by past (step_of m) e ++ ds) ≡ flat_map commanded (told_by e ++ es)
+    by : (e : Event) (ds : List Deed) (es : List Event) → map told_in ds ≡ flat_map commanded es → map told_in (deed_by past m.before e ++ ds) ≡ flat_map commanded (told_by e ++ es)
     by (Does c now d) ds es h = ap (λ (z : List Told). (c, d) ∷ z) h
     by _ ds es h = h
 

@@ -4,13 +4,11 @@ use Rattle.xdr_codec.specs.declared.status.Status.TheVariants as status
 use Rattle.hash_calls.specs.declared.message.Lb.TheVariants as lb
 use Rattle.server_core.specs.State as server
 use Rattle.server_core.specs.Closing.{answers, changes_most, tree_most}
-use Rattle.server_core.specs.Steps.{sends}
 use Rattle.temp_files.specs.Pieces.{joined}
 use Rattle.client_state.specs.State as client
 use Rattle.client_state.specs.declared.task.Stage.TheVariants as stage
-use Rattle.kept_promise.proofs.Common.{nat_tests, slice_get, cond, ◌==◌, ◌||◌, nat_lt, if◌then◌else◌, handle_bytes, chunks_of, Failed, Status, message_spell, Node, directory, file, node_of, at, commits, commits_to, commits_whole, has_waiting, is_full, size_most, Temp, temp_at, without_temp, key_of, assembled, Change, File, Stage, Op, Core, Session, Event.Serves, numbered, hashed_of, Book, Or, Call.Commit, Reply.Changed, Ask, Queue, ask_message, value_at, later, change_of, ServerStep}
+use Rattle.kept_promise.proofs.Common.{nat_tests, slice_get, cond, ◌==◌, ◌||◌, nat_lt, if◌then◌else◌, handle_bytes, chunks_of, Failed, Status, message_spell, Node, directory, file, node_of, at, commits, commits_to, commits_whole, has_waiting, is_full, size_most, Temp, temp_at, without_temp, key_of, assembled, Change, File, Stage, Op, Core, Session, Event.Serves, numbered, hashed_of, Book, Or, Call.Commit, Reply.Changed, Ask, Queue, ask_message, value_at, later, change_of}
 use Rattle.server_core.specs.Recalling.{comes}
-use Rattle.server_law.proofs.Unleased.{unleased_at, comes_is}
 use Rattle.kept_promise.proofs.Lists.{some_is, nothing_there, false_and_true}
 use Rattle.kept_promise.proofs.Keys.{own}
 use Rattle.kept_promise.proofs.Messages.{Job, job, stage_word, AllAsks, AnswerOf, IsCommit, IsPending, AreParts}
@@ -91,7 +89,7 @@ leads_waits : (book : Book) (k : Core) (qs : List Queue) (n now : ℕ) (x : Sess
     → SameBytes book ((session_in book k qs n now x q (record { xid = xid; call = Commit m f size }) us g).contents m) content
     → Roomy k.server content → WasThere book f → IsShelf temps → ((o : ℕ) → (o ≡ n → ⊥) → SameFound k.server.temps temps o)
     → (x.cut ≡ false → Held temps n us q.downs (locals_of (session_in book k qs n now x q (record { xid = xid; call = Commit m f size }) us g).seat.client) (job (session_in book k qs n now x q (record { xid = xid; call = Commit m f size }) us g).seat))
-    → Leads book (rest_of qs n q us) (served k n x xid (record (at k.server now) { temps = temps; waiting = k.server.waiting ++ change_of n xid f (what.Content content) ∷ [] }, sends []))
+    → Leads book (rest_of qs n q us) (served k n x xid (comes (record (at k.server now) { temps = temps }) (change_of n xid f (what.Content content))))
 leads_waits book k qs n now x q xid m f size us temps content g were same room known shelf found held =
     let h = session_in book k qs n now x q (record { xid = xid; call = Commit m f size }) us g in
     let d : Change = change_of n xid f (what.Content content) in
@@ -258,7 +256,7 @@ serve_commit laws book k qs n now x q xid m f size us g = by (temp_at k.server.t
         → Leads book (rest_of qs n q us) (served k n x xid (if w then answers (record (at k.server now) { temps = left }) n xid (lb.CommitTmpAnswer (Failed status.Jukebox tt)) else if full then answers (record (at k.server now) { temps = left }) n xid (lb.CommitTmpAnswer (Failed status.NoSpc tt)) else comes (record (at k.server now) { temps = left }) (change_of n xid id (what.Content content))))
     has_room id content true full waits e same known is = ends status.Jukebox (λ uncut. absurd (false_and_true (has_waiting k.server.waiting n) (ready uncut).alone waits))
     has_room id content false true waits e same known is = ends status.NoSpc (λ uncut. no_room laws book k qs n now x q xid m f size us g content uncut is e)
-    has_room id content false false waits e same known is = subst (λ (r : server.State × ServerStep). Leads book (rest_of qs n q us) (served k n x xid r)) (sym (comes_is (record (at k.server now) { temps = left }) (unleased_at k.server now g.kept.server.leases) (change_of n xid id (what.Content content)))) (subst (λ (i : ℕ). Leads book (rest_of qs n q us) (served k n x xid (record (at k.server now) { temps = left; waiting = k.server.waiting ++ change_of n xid i (what.Content content) ∷ [] }, sends []))) (sym same) (leads_waits book k qs n now x q xid m f size us left content g (λ i u w. of_removed _ k.server.temps i u w) is (not_full changes_most (k.server.tree.changes + server.entries_held k.server.waiting + 1) tree_most (server.bytes_held k.server + length content) e) known (shelf_out k.server.temps n m g.kept.shelf) others (λ uncut. (ready uncut).left)))
+    has_room id content false false waits e same known is = subst (λ (i : ℕ). Leads book (rest_of qs n q us) (served k n x xid (comes (record (at k.server now) { temps = left }) (change_of n xid i (what.Content content))))) (sym same) (leads_waits book k qs n now x q xid m f size us left content g (λ i u w. of_removed _ k.server.temps i u w) is (not_full changes_most (k.server.tree.changes + server.entries_held k.server.waiting + 1) tree_most (server.bytes_held k.server + length content) e) known (shelf_out k.server.temps n m g.kept.shelf) others (λ uncut. (ready uncut).left))
 
     whole : (id : ℕ) (t : Temp) (o : Option (List ℕ)) → temp_at k.server.temps n m ≡ Some t → assembled t size ≡ o → id ≡ f → WasThere book f → ((c : List ℕ) → o ≡ Some c → SameBytes book (h.contents m) c) → Leads book (rest_of qs n q us) (served k n x xid (commits_whole (record (at k.server now) { temps = left }) n xid id o))
     whole id t None found none same known is = ends status.Inval (λ uncut. let r = ready uncut in nothing_there r.content (sym none ∙ ap (λ (z : Temp). assembled z size) (some_is t r.temp (sym found ∙ r.found)) ∙ r.whole))

@@ -5,7 +5,7 @@ use Rattle.client_state.specs.State as client
 use Rattle.client_state.specs.declared.step.Outcome.TheVariants as outcome
 use Rattle.trace_ends.specs.Session.{taken_of as session_taken}
 use Rattle.trace_replay.specs.Trail.{taken_in, taken_of, given_by_message}
-use Rattle.kept_promise.proofs.Common.{slice_get, Command, Message, no_counts, command_step, got_step, ended_by, BadPeer, ClientStep, Ended, Outcome, Op, Opening, TakenCall, no_traffic, counted, op_after, ended_op, told_of, Core, session_of, ops_after, ops_with, happens, Moment, all_said, client_of, sent_in, sent_of, wanted_by, taken_by, Book, Queue, Traffic, both, told_message, acted, Counts, taken_traffic, Done, Deal, deals_with, deals_of, step_of}
+use Rattle.kept_promise.proofs.Common.{asked_in, slice_get, Command, Message, no_counts, command_step, got_step, ended_by, BadPeer, ClientStep, Ended, Outcome, Op, Opening, TakenCall, no_traffic, counted, op_after, ended_op, told_of, Core, session_of, ops_after, ops_with, happens, Moment, all_said, client_of, sent_in, sent_of, wanted_by, taken_by, Book, Queue, Traffic, both, told_message, acted, Counts, taken_traffic, Done, Deal, deals_with, deals_of, step_of}
 use Rattle.kept_promise.proofs.Lists.{nothing_there, at_replaced, some_is}
 use Rattle.kept_promise.proofs.Rights.{IsRight, Caused}
 use Rattle.kept_promise.proofs.Facts.{IsKept}
@@ -39,7 +39,7 @@ walk_silent : (x : ℕ) (w : Walk) → sent_sum (message.Call x (body.Nfs (next_
 walk_silent x w = ap (λ (t : Traffic). both t no_traffic) (call_counts x w)
 
 pub silent_command : (s : client.State) (d : Command) (now : ℕ) → IsSmall d → IsSilent (command_step s d now)
-silent_command s d now small = command_cases IsSilent s d now (record { busy = λ t is. (refl, refl); answers = λ free opened o plain. (refl, refl); fetches = λ file is free may. (refl, refl); asks = λ file c is free may at. (refl, refl); renews = λ file is free may. (refl, refl); closes = λ file l is free may at. (refl, refl); walks = λ c is free may. (walk_silent s.next_xid (walk_begun c), refl) })
+silent_command s d now small = command_cases IsSilent s d now (record { busy = λ t is. (refl, refl); answers = λ free opened o plain. (refl, refl); fetches = λ file is free may. (refl, refl); asks = λ file c is free may at. (refl, refl); renews = λ file is free may. (refl, refl); opens_now = λ file c is free shut fresh. (refl, refl); empties_now = λ file c is free shut fresh. (refl, refl); closes = λ file l is free may at. (refl, refl); walks = λ c is free may. (walk_silent s.next_xid (walk_begun c), refl) })
 
 -- ---- one more moment
 
@@ -57,7 +57,7 @@ said_past n step c ms (inr none) = subst (λ (l : List Message). SaidBy n (all_s
 
 sent_past : (n : ℕ) (past : List Moment) → ArePast n past → SaidBy n (sent_of past)
 sent_past n [] h = tt
-sent_past n (m ∷ past) h = said_append n (sent_in m) (sent_of past) (said_past n (step_of m) (client_of m.before m.event) (happens m.before m.event).up (elim h.0 [ inl le ↦ inl le | inr s ↦ inr s.2 ])) (sent_past n past h.1)
+sent_past n (m ∷ past) h = said_append n (sent_in m) (sent_of past) (said_past n (step_of m) (client_of m.before m.event) (asked_in m) (elim h.0 [ inl le ↦ inl le | inr s ↦ inr s.2 ])) (sent_past n past h.1)
 
 taken_past : (n : ℕ) (past : List Moment) → ArePast n past → SaidBy n (taken_of past)
 taken_past n [] h = tt

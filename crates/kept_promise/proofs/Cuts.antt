@@ -49,7 +49,7 @@ cut_kept : (book more : Book) (k : Core) (qs : List Queue) (c n : ℕ) (x : Sess
     → ((p : ℕ) (o : Op) → ended ≡ Some p → slice_get book.ops p ≡ Some o → o.client ≡ c)
     → ((p : ℕ) (o : Op) → slice_get more.ops p ≡ Some o → o.outcome ≡ told.Running → (e : Seat) × (j : Job) × (numbered (with_numbered k.seats c (cut_seat seat)) o.client ≡ Some e) × (job e ≡ Some j) × (j.place ≡ p))
     → Around qs after n (left_queue q)
-    → IsKept more (turned_core more k.server (with_numbered k.seats c (cut_seat seat)) (with_numbered k.sessions n (record x { cut = true }))) after
+    → IsKept more (turned_core k more k.server (with_numbered k.seats c (cut_seat seat)) (with_numbered k.sessions n (record x { cut = true }))) after
 cut_kept book more k qs c n x q seat ended after kept here at is owner newest goes still opening journal ends running queues =
     let h = kept.sessions n x q at is in
     let g = goes.grows in
@@ -160,14 +160,14 @@ lost_becomes book p o s taken step late =
     }
   where
     lost_point : (lost_op o s taken step).point ≡ o.point
-    lost_point = ap (λ (b : Bool). point_if b taken 0 o.point) (lost_pointless o.word)
+    lost_point = ap (λ (b : Bool). point_if b taken 0 step o.point) (lost_pointless o.word)
 
 lost_right : (book : Book) (k : Core) (qs : List Queue) (c p : ℕ) (o : Op) (s : client.State) (taken : List TakenCall) → IsKept book k qs → IsNoted book k (Cuts c) → slice_get book.ops p ≡ Some o → o.client ≡ c → is_remote o.word ≡ true
     → IsRight (onward book 1 (slice_set book.ops p (lost_op o s taken (k.steps + 1)))) (lost_op o s taken (k.steps + 1))
 lost_right book k qs c p o s taken kept noted there mine remote =
     let r = kept.sound.rights p o there in
     let steps = kept.steps in
-    let point : (lost_op o s taken (k.steps + 1)).point ≡ o.point = ap (λ (b : Bool). point_if b taken 0 o.point) (lost_pointless o.word) in
+    let point : (lost_op o s taken (k.steps + 1)).point ≡ o.point = ap (λ (b : Bool). point_if b taken 0 (k.steps + 1) o.point) (lost_pointless o.word) in
     record {
       cause = (remote, record { end = k.steps + 1; end_is = refl; moment = record { before = k; event = Cuts c }; there = noted.there; step_is = refl; event_is = ap Cuts (sym mine) });
       begun = let b = r.begun in omega (arith, b);
@@ -180,7 +180,7 @@ lost_right book k qs c p o s taken kept noted there mine remote =
 
 -- ---- the event
 
-idle_kept : (book : Book) (k : Core) (qs : List Queue) → IsKept book k qs → IsKept (onward book 1 book.ops) (record k { steps = k.steps + 1 }) qs
+pub idle_kept : (book : Book) (k : Core) (qs : List Queue) → IsKept book k qs → IsKept (onward book 1 book.ops) (record k { steps = k.steps + 1 }) qs
 idle_kept book k qs kept =
     subst (λ (z : Core). IsKept (onward book 1 book.ops) z qs) (core_is book k qs k.server k.seats k.sessions kept)
     (kept_rest book (onward book 1 book.ops) k qs k.server (goes_same book 1 kept.sound)
@@ -188,12 +188,12 @@ idle_kept book k qs kept =
     refl (λ m. same_view m k.server) kept.home kept.running kept.journal kept.shelf kept)
 
 pub leads_idle : (book : Book) (k : Core) (qs : List Queue) → IsKept book k qs → Leads book qs (idles k)
-leads_idle book k qs kept = record { sends = record { asks = []; up_is = refl; tolds = []; down_is = refl }; more = onward book 1 book.ops; moments = refl; opening = refl; kept = idle_kept book k qs kept }
+leads_idle book k qs kept = record { sends = record { replies = []; replies_fit = tt; asks = []; up_is = refl; recalls = []; recalls_fit = tt; tolds = []; down_is = refl }; more = onward book 1 book.ops; moments = refl; opening = refl; kept = idle_kept book k qs kept }
 
 -- what a cut leaves, by what its client had under way
 abbrev cut_after : Core → (c : ℕ) → Seat → (place : Option ℕ) → ClientStep → (session : Option ℕ) → CoreStep
 cut_after k c seat place did session = record {
-  core = record {
+  core = record k {
     server = k.server;
     seats = with_numbered k.seats c (record { client = (cut seat.client).0; session = seat.session; place = place_after place did.ended });
     sessions = cut_session k.sessions session (session_of k.sessions session);
@@ -226,11 +226,11 @@ queue_cut sessions qs n x q is at =
     no_more true = refl
     no_more false = append-nil q.ups
 
-pub cut_core : (book more : Book) (k : Core) (r : server.State) (seats : List Seat) (sessions : List Session) (ops : List Op) → more.steps ≡ k.steps + 1 → more.ops ≡ ops → more.entries ≡ k.entries → turned_core more r seats sessions ≡ record { server = r; seats = seats; sessions = sessions; steps = k.steps + 1; ops = ops; entries = k.entries }
+pub cut_core : (book more : Book) (k : Core) (r : server.State) (seats : List Seat) (sessions : List Session) (ops : List Op) → more.steps ≡ k.steps + 1 → more.ops ≡ ops → more.entries ≡ k.entries → turned_core k more r seats sessions ≡ record k { server = r; seats = seats; sessions = sessions; steps = k.steps + 1; ops = ops; entries = k.entries }
 cut_core book more k r seats sessions ops a b c =
-    ap (λ (s : ℕ). record { server = r; seats = seats; sessions = sessions; steps = s; ops = more.ops; entries = more.entries }) a
-    ∙ ap (λ (o : List Op). record { server = r; seats = seats; sessions = sessions; steps = k.steps + 1; ops = o; entries = more.entries }) b
-    ∙ ap (λ (e : List ℕ). record { server = r; seats = seats; sessions = sessions; steps = k.steps + 1; ops = ops; entries = e }) c
+    ap (λ (s : ℕ). record k { server = r; seats = seats; sessions = sessions; steps = s; ops = more.ops; entries = more.entries }) a
+    ∙ ap (λ (o : List Op). record k { server = r; seats = seats; sessions = sessions; steps = k.steps + 1; ops = o; entries = more.entries }) b
+    ∙ ap (λ (e : List ℕ). record k { server = r; seats = seats; sessions = sessions; steps = k.steps + 1; ops = ops; entries = e }) c
 
 -- with nothing under way
 cut_free : (book : Book) (k : Core) (qs : List Queue) (c n : ℕ) (x : Session) (q : Queue) (seat : Seat) → IsKept book k qs → numbered k.seats c ≡ Some seat → numbered k.sessions n ≡ Some x → numbered qs n ≡ Some q → x.owner ≡ c → seat.session ≡ Some n → job seat ≡ None → Leads book qs (cut_after k c seat None nothing_done (Some n))
@@ -245,11 +245,11 @@ cut_free book k qs c n x q seat kept here at is owner newest free =
     let now = cut_kept book more k qs c n x q seat None after kept here at is owner newest (goes_same book 1 kept.sound) (still_same book 1 kept.sound) refl refl (λ p o f. nothing_there p f) (λ p o f run. runs seated p o f run) (queue_cut sessions qs n y q is around.there) in
     let core = cut_core book more k k.server (with_numbered k.seats c (cut_seat seat)) sessions k.ops (ap (λ s. s + 1) kept.steps) kept.ops kept.entries in
     record {
-      sends = record { asks = []; up_is = refl; tolds = []; down_is = refl };
+      sends = record { replies = []; replies_fit = tt; asks = []; up_is = refl; recalls = []; recalls_fit = tt; tolds = []; down_is = refl };
       more = more;
       moments = refl;
       opening = refl;
-      kept = subst (λ (zs : List Session). IsKept more (record { server = k.server; seats = with_numbered k.seats c (cut_seat seat); sessions = zs; steps = k.steps + 1; ops = k.ops; entries = k.entries }) (ups_put zs (downs_lost qs n (numbered qs n)) (Some n) [])) (sym cuts_) (subst (λ (z : Core). IsKept more z after) core now);
+      kept = subst (λ (zs : List Session). IsKept more (record k { server = k.server; seats = with_numbered k.seats c (cut_seat seat); sessions = zs; steps = k.steps + 1; ops = k.ops; entries = k.entries }) (ups_put zs (downs_lost qs n (numbered qs n)) (Some n) [])) (sym cuts_) (subst (λ (z : Core). IsKept more z after) core now);
     }
   where
     runs : Around k.seats (with_numbered k.seats c (cut_seat seat)) c (cut_seat seat) → (p : ℕ) (o : Op) → slice_get book.ops p ≡ Some o → o.outcome ≡ told.Running → (e : Seat) × (j : Job) × (numbered (with_numbered k.seats c (cut_seat seat)) o.client ≡ Some e) × (job e ≡ Some j) × (j.place ≡ p)
@@ -283,11 +283,11 @@ cut_busy book k qs c n p x q seat j kept noted here at is owner newest busy plac
     let ops_is : ops_with k.ops (Some p) s taken (k.steps + 1) lost_step ≡ slice_set book.ops p r = ap (λ (os : List Op). ops_with os (Some p) s taken (k.steps + 1) lost_step) (sym kept.ops) ∙ ap (λ (z : Option Op). ops_after book.ops p z s taken (k.steps + 1) lost_step) there in
     let core = cut_core book more k k.server (with_numbered k.seats c (cut_seat seat)) sessions (ops_with k.ops (Some p) s taken (k.steps + 1) lost_step) (ap (λ z. z + 1) kept.steps) (sym ops_is) kept.entries in
     record {
-      sends = record { asks = []; up_is = refl; tolds = []; down_is = refl };
+      sends = record { replies = []; replies_fit = tt; asks = []; up_is = refl; recalls = []; recalls_fit = tt; tolds = []; down_is = refl };
       more = more;
       moments = refl;
       opening = refl;
-      kept = subst (λ (zs : List Session). IsKept more (record { server = k.server; seats = with_numbered k.seats c (cut_seat seat); sessions = zs; steps = k.steps + 1; ops = ops_with k.ops (Some p) s taken (k.steps + 1) lost_step; entries = k.entries }) (ups_put zs (downs_lost qs n (numbered qs n)) (Some n) [])) (sym cuts_) (subst (λ (z : Core). IsKept more z after) core now);
+      kept = subst (λ (zs : List Session). IsKept more (record k { server = k.server; seats = with_numbered k.seats c (cut_seat seat); sessions = zs; steps = k.steps + 1; ops = ops_with k.ops (Some p) s taken (k.steps + 1) lost_step; entries = k.entries }) (ups_put zs (downs_lost qs n (numbered qs n)) (Some n) [])) (sym cuts_) (subst (λ (z : Core). IsKept more z after) core now);
     }
   where
     not_lost : told.Lost ≡ told.Running → ⊥

@@ -6,7 +6,7 @@ use Rattle.client_state.specs.State as client
 use Rattle.register_model.specs.declared.op.Outcome.{Outcome}
 use Rattle.register_model.specs.declared.op.Outcome.TheVariants as told
 use Rattle.register_model.specs.declared.op.Word.TheVariants as words
-use Rattle.kept_promise.proofs.Common.{nat_tests, slice_get, nat_lt, option_map, Command, Local, Op, word_of, file_of, Seat, numbered, Deed, can_ask, lasts, is_busy, local_from, local_before, own_answer, after_one, is_untold, if◌then◌else◌, local_most, written_size, content_length, unless_asks, write_outcome, sized_outcome}
+use Rattle.kept_promise.proofs.Common.{nat_tests, slice_get, nat_lt, option_map, Command, Local, Op, word_of, file_of, Seat, numbered, Deed, can_go, lasts, is_busy, local_from, local_before, own_answer, after_one, is_untold, if◌then◌else◌, local_most, written_size, content_length, unless_asks, write_outcome, sized_outcome}
 use Rattle.kept_promise.proofs.Lists.{some_is, nothing_there, same_or_not, of_appended, within, take_before, take_whole}
 use Rattle.kept_promise.proofs.Locally.{Idles, other_client, leaves_alike, leaves_none, idles_by, local_same, local_more, in_taken, keeps, busy_by, free_each, busy_same, busy_more, keeps_is, keeps_if, keeps_not, leaves_untold}
 use Rattle.kept_promise.proofs.PathNames.{IsSmall}
@@ -53,10 +53,21 @@ pub id_file : (d : Command) (o : Op) → o.file ≡ file_of d → HasIdFile d o
 id_file (command.Named k) o e = tt
 id_file _ o e = e
 
+-- what isn't answered by its client ends in a later step, but for what is open at once
+abbrev pub IsLate : Command → Op → Type 0
+IsLate (command.Open f) o = Unit {0}
+IsLate (command.Rewrite f) o = Unit {0}
+IsLate k o = o.end ≡ Some o.begin → ⊥
+
+late_still : (k : Command) (o r : Op) → ((o.end ≡ Some o.begin → ⊥) → r.end ≡ Some r.begin → ⊥) → IsLate k o → IsLate k r
+late_still (command.Open f) o r h late = tt
+late_still (command.Rewrite f) o r h late = tt
+late_still _ o r h late = h late
+
 -- what became of a command whose client's own answer is this one, or none
 abbrev pub Came : Deed → Op → Option (List ℕ) → Option Outcome → Type 0
 Came d o l (Some own) = (o.outcome ≡ own) × (o.end ≡ Some o.begin) × ((o.word ≡ words.Close → ⊥) → o.point ≡ None) × (o.file ≡ file_of d.command)
-Came d o l None = Stores d.command o l × ByServer d.command o.outcome × (o.end ≡ Some o.begin → ⊥)
+Came d o l None = Stores d.command o l × ByServer d.command o.outcome × IsLate d.command o
 
 pub record IsDeed (ds : List Deed) (ops : List Op) (i : ℕ) (d : Deed) (o : Op) : Type 0 where
   pub small : IsSmall d.command
@@ -64,7 +75,7 @@ pub record IsDeed (ds : List Deed) (ops : List Op) (i : ℕ) (d : Deed) (o : Op)
   pub word : o.word ≡ word_of d.command
   pub file : HasIdFile d.command o
   pub begin : o.begin ≡ d.begin
-  pub came : Came d o (local_before ds ops i d.client (file_of d.command)) (own_answer (is_busy ops o) (can_ask d.joined d.calls) d.command (local_before ds ops i d.client (file_of d.command)))
+  pub came : Came d o (local_before ds ops i d.client (file_of d.command)) (own_answer (is_busy ops o) (can_go d) d.command (local_before ds ops i d.client (file_of d.command)))
 
 -- the local content that a client has of a file
 abbrev pub local_of : client.State → (file : ℕ) → Option (List ℕ)
@@ -210,14 +221,14 @@ own_told false asks (command.Abandon f) (Some x) = refl
 
 came_moved : (step : ℕ) (d : Deed) (o r : Op) (l : Option (List ℕ)) (x : Option Outcome) → IsTold x → o.begin < step → o.word ≡ word_of d.command → Moved step o r → StaysBy d.command o r → Came d o l x → Came d r l x
 came_moved step d o r l (Some own) is lt w m b h = let e = m.ended o.begin h.1 in let k = e.3 (ap is_untold h.0 ∙ is) in (e.1 ∙ h.0, e.0 ∙ ap (λ n. Some n) (sym m.begin), (λ z. k.0 ∙ h.2 (λ w. z (m.word ∙ w))), k.1 ∙ h.3)
-came_moved step d o r l None is lt w m b h = (stores d.command w h.0, b.asked h.1, λ z. later o.end refl z)
+came_moved step d o r l None is lt w m b h = (stores d.command w h.0, b.asked h.1, late_still d.command o r (λ never z. later never o.end refl z) h.2)
   where
-    later : (e : Option ℕ) → o.end ≡ e → r.end ≡ Some r.begin → ⊥
-    later None e z = elim (m.ends e) [
+    later : (o.end ≡ Some o.begin → ⊥) → (e : Option ℕ) → o.end ≡ e → r.end ≡ Some r.begin → ⊥
+    later never None e z = elim (m.ends e) [
       | inl none ↦ nothing_there r.begin (sym none ∙ z)
       | inr now ↦ let same = some_is step r.begin (sym now ∙ z) in let begin = m.begin in absurd (omega (arith, lt, same, begin))
     ]
-    later (Some n) e z = h.2 (e ∙ ap (λ q. Some q) (some_is n r.begin (sym (m.ended n e).0 ∙ z) ∙ m.begin))
+    later never (Some n) e z = never (e ∙ ap (λ q. Some q) (some_is n r.begin (sym (m.ended n e).0 ∙ z) ∙ m.begin))
 
     stores : (k : Command) → o.word ≡ word_of k → Stores k o l → Stores k r l
     stores (command.Close f) w s = s ∙ ap (λ z. Some z) (sym (m.value w))
@@ -262,16 +273,16 @@ each_moved step ds ops rs count rising each past moved stay i d r at is =
       word = m.word ∙ h.word;
       file = b.file h.file;
       begin = m.begin ∙ h.begin;
-      came = subst (λ (b : Bool). Came d r (local_before ds rs i d.client (file_of d.command)) (own_answer b (can_ask d.joined d.calls) d.command (local_before ds rs i d.client (file_of d.command)))) (sym busy) (by o h m b w.1 (is_busy ops o) refl h.came);
+      came = subst (λ (b : Bool). Came d r (local_before ds rs i d.client (file_of d.command)) (own_answer b (can_go d) d.command (local_before ds rs i d.client (file_of d.command)))) (sym busy) (by o h m b w.1 (is_busy ops o) refl h.came);
     }
   where
     by : (o : Op) (h : IsDeed ds ops i d o) → Moved step o r → StaysBy d.command o r → slice_get ops i ≡ Some o → (b : Bool) → is_busy ops o ≡ b
-        → Came d o (local_before ds ops i d.client (file_of d.command)) (own_answer b (can_ask d.joined d.calls) d.command (local_before ds ops i d.client (file_of d.command)))
-        → Came d r (local_before ds rs i d.client (file_of d.command)) (own_answer b (can_ask d.joined d.calls) d.command (local_before ds rs i d.client (file_of d.command)))
+        → Came d o (local_before ds ops i d.client (file_of d.command)) (own_answer b (can_go d) d.command (local_before ds ops i d.client (file_of d.command)))
+        → Came d r (local_before ds rs i d.client (file_of d.command)) (own_answer b (can_go d) d.command (local_before ds rs i d.client (file_of d.command)))
     by o h m b there true e c = came_moved step d o r (local_before ds ops i d.client (file_of d.command)) (Some told.Busy) refl (past i o there) h.word m b c
     by o h m b there false e c =
-        subst (λ (l : Option (List ℕ)). Came d r l (own_answer false (can_ask d.joined d.calls) d.command l)) (sym (local_before_same step ds ops rs i d o (file_of d.command) rising each moved at there e))
-        (came_moved step d o r (local_before ds ops i d.client (file_of d.command)) (own_answer false (can_ask d.joined d.calls) d.command (local_before ds ops i d.client (file_of d.command))) (own_told false (can_ask d.joined d.calls) d.command (local_before ds ops i d.client (file_of d.command))) (past i o there) h.word m b c)
+        subst (λ (l : Option (List ℕ)). Came d r l (own_answer false (can_go d) d.command l)) (sym (local_before_same step ds ops rs i d o (file_of d.command) rising each moved at there e))
+        (came_moved step d o r (local_before ds ops i d.client (file_of d.command)) (own_answer false (can_go d) d.command (local_before ds ops i d.client (file_of d.command))) (own_told false (can_go d) d.command (local_before ds ops i d.client (file_of d.command))) (past i o there) h.word m b c)
 
 pub deeds_moved : (step : ℕ) (ds : List Deed) (ops rs : List Op) (seats others : List Seat) → HasDeeds ds ops seats → ((i : ℕ) (o : Op) → slice_get ops i ≡ Some o → o.begin < step) → AllMoved step ops rs → AllStay ds ops rs → HasLocals ds rs others → HasDeeds ds rs others
 deeds_moved step ds ops rs seats others h past moved stay locals = record {
@@ -295,7 +306,7 @@ busy_behind ds ops p o f rising each at under i e q lt a b = elim (same_or_not e
   | inl mine ↦
       let h = each i e q a b in
       let busy : is_busy ops q ≡ true = busy_by ops q p o at (keeps_if q o (sym mine ∙ sym h.client) (rising p i o q lt at b) (ap (λ z. lasts z q.begin) under)) in
-      let c : Came e q (local_before ds ops i e.client (file_of e.command)) (Some told.Busy) = subst (λ (z : Bool). Came e q (local_before ds ops i e.client (file_of e.command)) (own_answer z (can_ask e.joined e.calls) e.command (local_before ds ops i e.client (file_of e.command)))) busy h.came in
+      let c : Came e q (local_before ds ops i e.client (file_of e.command)) (Some told.Busy) = subst (λ (z : Bool). Came e q (local_before ds ops i e.client (file_of e.command)) (own_answer z (can_go e) e.command (local_before ds ops i e.client (file_of e.command)))) busy h.came in
       idles_by o.client f e q (λ l. leaves_none e.command q.outcome q.value l (inr c.0))
 ]
 
@@ -308,7 +319,7 @@ pub record IsNew (ds : List Deed) (ops : List Op) (d : Deed) (o : Op) : Type 0 w
   pub word : o.word ≡ word_of d.command
   pub file : o.file ≡ file_of d.command
   pub begin : o.begin ≡ d.begin
-  pub came : Came d o (local_from d.client (file_of d.command) None ds ops) (own_answer (is_busy ops o) (can_ask d.joined d.calls) d.command (local_from d.client (file_of d.command) None ds ops))
+  pub came : Came d o (local_from d.client (file_of d.command) None ds ops) (own_answer (is_busy ops o) (can_go d) d.command (local_from d.client (file_of d.command) None ds ops))
 
 pub before_more : (ds : List Deed) (ops : List Op) (d : Deed) (o : Op) (i c f : ℕ) → length ops ≡ length ds → i ≤ length ops → local_before (ds ++ d ∷ []) (ops ++ o ∷ []) i c f ≡ local_before ds ops i c f
 before_more ds ops d o i c f n le = ap (λ z. local_from c f None z (take i (ops ++ o ∷ []))) (take_before ds d i (omega (arith, n, le))) ∙ ap (local_from c f None (take i ds)) (take_before ops o i le)
@@ -354,8 +365,8 @@ deeds_added ds ops seats others d new h past fresh locals = record {
       word = fresh.word;
       file = id_file d.command new fresh.file;
       begin = fresh.begin;
-      came = subst (λ (b : Bool). Came d new (local_before (ds ++ d ∷ []) (ops ++ new ∷ []) (length ops) d.client (file_of d.command)) (own_answer b (can_ask d.joined d.calls) d.command (local_before (ds ++ d ∷ []) (ops ++ new ∷ []) (length ops) d.client (file_of d.command)))) (sym busy_new)
-          (subst (λ (l : Option (List ℕ)). Came d new l (own_answer (is_busy ops new) (can_ask d.joined d.calls) d.command l)) (sym (before_more ds ops d new (length ops) d.client (file_of d.command) h.count (omega arith) ∙ before_all ds ops d.client (file_of d.command) h.count)) fresh.came);
+      came = subst (λ (b : Bool). Came d new (local_before (ds ++ d ∷ []) (ops ++ new ∷ []) (length ops) d.client (file_of d.command)) (own_answer b (can_go d) d.command (local_before (ds ++ d ∷ []) (ops ++ new ∷ []) (length ops) d.client (file_of d.command)))) (sym busy_new)
+          (subst (λ (l : Option (List ℕ)). Came d new l (own_answer (is_busy ops new) (can_go d) d.command l)) (sym (before_more ds ops d new (length ops) d.client (file_of d.command) h.count (omega arith) ∙ before_all ds ops d.client (file_of d.command) h.count)) fresh.came);
     }
 
     was : (i : ℕ) (e : Deed) (o : Op) → slice_get ops i ≡ Some o → IsDeed ds ops i e o → IsDeed (ds ++ d ∷ []) (ops ++ new ∷ []) i e o
@@ -366,6 +377,6 @@ deeds_added ds ops seats others d new h past fresh locals = record {
       file = k.file;
       begin = k.begin;
       came = let lt = past i o at in let there = within ops i o at in
-          subst (λ (b : Bool). Came e o (local_before (ds ++ d ∷ []) (ops ++ new ∷ []) i e.client (file_of e.command)) (own_answer b (can_ask e.joined e.calls) e.command (local_before (ds ++ d ∷ []) (ops ++ new ∷ []) i e.client (file_of e.command)))) (sym (busy_more ops o new (keeps_not o new (λ less. omega (arith, lt, less)))))
-          (subst (λ (l : Option (List ℕ)). Came e o l (own_answer (is_busy ops o) (can_ask e.joined e.calls) e.command l)) (sym (before_more ds ops d new i e.client (file_of e.command) h.count (omega (arith, there)))) k.came);
+          subst (λ (b : Bool). Came e o (local_before (ds ++ d ∷ []) (ops ++ new ∷ []) i e.client (file_of e.command)) (own_answer b (can_go e) e.command (local_before (ds ++ d ∷ []) (ops ++ new ∷ []) i e.client (file_of e.command)))) (sym (busy_more ops o new (keeps_not o new (λ less. omega (arith, lt, less)))))
+          (subst (λ (l : Option (List ℕ)). Came e o l (own_answer (is_busy ops o) (can_go e) e.command l)) (sym (before_more ds ops d new i e.client (file_of e.command) h.count (omega (arith, there)))) k.came);
     }

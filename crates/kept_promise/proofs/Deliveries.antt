@@ -3,7 +3,7 @@ use Rattle.std.proofs.Common.{◌≡◌, ℕ, zero, suc, ◌+◌, List, [], ◌�
 use Rattle.rpc_record.specs.Records.{continued}
 use Rattle.rpc_record.proofs.Splitting.{split_cut}
 use Rattle.server_core.specs.declared.event.Sent.{Sent}
-use Rattle.kept_promise.proofs.Common.{slice_get, Fed, Refusal, Unread, Parts, split, fed, parse_of, Message, WireFault, Core, Seat, Session, Event, Event.Serves, Event.Hears, server_waiting, CoreStep, Loss, Loss.Nothing, numbered, serves_if, serves, hears_if, hears_at, hears, is_newest, happens, World, Wire, bytes_of, unless, up_put_in, up_put, down_put_in, down_put, lost_by, routed, happened, all_happened, up_events, up_at, up_some, down_events, down_at, down_some}
+use Rattle.kept_promise.proofs.Common.{slice_get, Fed, Refusal, Unread, Parts, split, fed, parse_of, Message, WireFault, Core, Seat, Session, Event, Event.Serves, Event.Hears, server_waits, CoreStep, Loss, Loss.Nothing, numbered, serves_if, serves, hears_if, hears_at, hears, is_newest, happens, World, Wire, bytes_of, unless, up_put_in, up_put, down_put_in, down_put, lost_by, routed, happened, all_happened, up_events, up_at, up_some, down_events, down_at, down_some}
 use Rattle.kept_promise.proofs.Statements.{UpsAddUp, DownsAddUp}
 use Rattle.kept_promise.proofs.Places.{at_place, becomes, there_is, swap, twice, own, put_is}
 use Rattle.kept_promise.proofs.Shelves.{drop_next}
@@ -134,7 +134,7 @@ serves_silent k number now bytes = by (numbered k.sessions number)
 
     by : (o : Option Session) → ((serves k number now bytes o).loss ≡ Nothing) × ((serves k number now bytes o).session ≡ None)
     by None = (refl, refl)
-    by (Some x) = by_message x (parse_of server_waiting bytes)
+    by (Some x) = by_message x (parse_of (server_waits k number) bytes)
 
 routed_down : (w : World) (ws : List Wire) (t : CoreStep) → t.loss ≡ Nothing → t.session ≡ None → routed (wired w ws) t ≡ record w { core = t.core; wires = all_become (downs t.core.sessions t.down) ws }
 routed_down w ws t loss session =

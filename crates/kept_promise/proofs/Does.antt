@@ -9,7 +9,7 @@ use Rattle.kept_promise.proofs.Common.{slice_get, slice_set, not, ends, Ended, O
 use Rattle.kept_promise.proofs.Lists.{some_is, nothing_there, same_or_not, of_appended}
 use Rattle.kept_promise.proofs.Messages.{Job, job, AllTolds, IsAnswer}
 use Rattle.kept_promise.proofs.Rights.{Caused, IsRight, WasThere, DoneBy, is_remote}
-use Rattle.kept_promise.proofs.History.{onward, goes_appended, still_appended, grows_appended}
+use Rattle.kept_promise.proofs.History.{onward, MakesNone, makes_none, goes_added, still_added, grows_added}
 use Rattle.kept_promise.proofs.Later.{same_view}
 use Rattle.kept_promise.proofs.Turns.{Around, around_with, turned_core}
 use Rattle.kept_promise.proofs.Rests.{kept_rest, with_opened, kept_opened}
@@ -19,7 +19,6 @@ use Rattle.kept_promise.proofs.Takes.{server_still}
 use Rattle.kept_promise.proofs.Cuts.{cut_core}
 use Rattle.kept_promise.proofs.OrderSteps.{ups_same}
 use Rattle.kept_promise.proofs.Growth.{there_later}
-use Rattle.register_model.specs.Register.{changes}
 
 -- ---- a list with the same at a number
 
@@ -50,7 +49,7 @@ session_cleared book seats s n x q h free = record {
   stands_is = h.stands_is;
   ups_fit = h.ups_fit;
   downs_fit = h.downs_fit;
-  talk = λ u. let t = h.talk u in record { floor = t.floor; under = tt; rising = t.rising; asked = t.asked; answers = answers_free book [] x.closing (job h.seat) q.downs free; fetch = λ j e. nothing_there j (sym free ∙ e); balanced = t.balanced; busy = t.busy };
+  talk = λ u. let t = h.talk u in record { floor = t.floor; under = tt; rising = t.rising; numbered = (t.numbered.0, refl); asked = t.asked; answers = answers_free book [] x.closing (job h.seat) q.downs free; fetch = λ j e. nothing_there j (sym free ∙ e); balanced = t.balanced; busy = t.busy };
   contents = h.contents;
   lengths = h.lengths;
   commits = h.commits;
@@ -143,7 +142,7 @@ own_right more step c w file value s o own now = record {
   failed = λ a b d. none w o own;
 }
   where
-    none : (w : Word) (o : Outcome) → IsOwn w o → point_if (has_point w o) [] 0 None ≡ None
+    none : (w : Word) (o : Outcome) → IsOwn w o → point_if (has_point w o) [] 0 step None ≡ None
     none words.Open outcome.Done i = refl
     none words.Open outcome.Busy i = refl
     none words.Open outcome.NotOpen i = refl
@@ -205,7 +204,7 @@ own_op k c w file value s o = op_after (begun c w file value (k.steps + 1)) s []
 
 abbrev pub after_own : Core → (c : ℕ) → Seat → (place session : Option ℕ) → Option Session → Word → (file : ℕ) → (value : List ℕ) → client.State → Outcome → CoreStep
 after_own k c seat place session found w file value s o = record {
-  core = record {
+  core = record k {
     server = k.server;
     seats = with_numbered k.seats c (record { client = s; session = seat.session; place = place_with place (length k.ops) (Some (own_ended o)) });
     sessions = commanded_sessions k.sessions session found place (length k.ops) w (ends o 0 0);
@@ -239,7 +238,7 @@ own_pointless k c w file value s o own = by (own_op k c w file value s o).point 
     by None e = refl
     by (Some p) e = none_of w o own e
       where
-        none_of : (w : Word) (o : Outcome) → IsOwn w o → point_if (has_point w o) [] 0 None ≡ Some p → Some p ≡ None
+        none_of : (w : Word) (o : Outcome) → IsOwn w o → point_if (has_point w o) [] 0 (k.steps + 1) None ≡ Some p → Some p ≡ None
         none_of words.Open outcome.Done i e = nothing_there p e
         none_of words.Open outcome.Busy i e = nothing_there p e
         none_of words.Open outcome.NotOpen i e = nothing_there p e
@@ -250,52 +249,72 @@ own_pointless k c w file value s o own = by (own_op k c w file value s o).point 
         none_of words.Open o i e = absurd i
         none_of w o i e = nothing_there p e
 
--- the operation is appended, and nothing else changes
-own_appended : (book : Book) (k : Core) (qs : List Queue) (c : ℕ) (w : Word) (file : ℕ) (value : List ℕ) (s : client.State) (o : Outcome) → IsOwn w o → IsKept book k qs → (let more = onward book 1 (book.ops ++ own_op k c w file value s o ∷ []) in IsKept more (turned_core more k.server k.seats k.sessions) qs)
-own_appended book k qs c w file value s o own kept =
+-- an operation that ends in its first step, and makes no change
+pub record EndsFirst (book : Book) (new : Op) : Type 0 where
+  pub none : MakesNone book new
+  pub right : IsRight (onward book 1 (book.ops ++ new ∷ [])) new
+  pub over : new.outcome ≡ told.Running → ⊥
+
+own_first : (book : Book) (k : Core) (qs : List Queue) (c : ℕ) (w : Word) (file : ℕ) (value : List ℕ) (s : client.State) (o : Outcome) → IsOwn w o → IsKept book k qs → EndsFirst book (own_op k c w file value s o)
+own_first book k qs c w file value s o own kept =
     let new = own_op k c w file value s o in
     let more = onward book 1 (book.ops ++ new ∷ []) in
-    let none = own_pointless k c w file value s o own in
-    let goes = goes_appended book new none (own_right more (k.steps + 1) c w file value s o own (ap (λ z. z + 1) kept.steps)) kept.sound in
-    kept_rest book more k qs k.server goes (server_still book more None None k.server k.server.leasing k.server.temps k.server.index kept.server.leases goes.grows (still_appended book new none kept.sound) kept.server) refl (λ m. same_view m k.server) kept.home
+    record {
+      none = makes_none book new (own_pointless k c w file value s o own);
+      right = own_right more (k.steps + 1) c w file value s o own (ap (λ z. z + 1) kept.steps);
+      over = not_running w o own;
+    }
+
+-- the operation is appended, and nothing else changes
+first_appended : (book : Book) (k : Core) (qs : List Queue) (new : Op) → EndsFirst book new → IsKept book k qs → (let more = onward book 1 (book.ops ++ new ∷ []) in IsKept more (turned_core k more k.server k.seats k.sessions) qs)
+first_appended book k qs new first kept =
+    let more = onward book 1 (book.ops ++ new ∷ []) in
+    let goes = goes_added book new first.none first.right kept.sound in
+    kept_rest book more k qs k.server goes (server_still book more None None k.server k.server.leasing k.server.temps k.server.index kept.server.leases goes.grows (still_added book new first.none kept.sound) kept.server) refl (λ m. same_view m k.server) kept.home
     (λ p q at run. elim (of_appended book.ops new p q at) [
-      | inl last ↦ absurd (not_running w o own (ap (λ (z : Op). z.outcome) (sym last.1) ∙ run))
+      | inl last ↦ absurd (first.over (ap (λ (z : Op). z.outcome) (sym last.1) ∙ run))
       | inr was ↦ kept.running p q was run
     ]) kept.journal kept.shelf kept
 
 -- with nothing under way
-pub leads_free : (book : Book) (k : Core) (qs : List Queue) (c : ℕ) (seat : Seat) (session : Option ℕ) (found : Option Session) (w : Word) (file : ℕ) (value : List ℕ) (opened : List (ℕ × Local)) (o : Outcome) → IsOwn w o → IsKept book k qs → numbered k.seats c ≡ Some seat → seat.place ≡ None → job seat ≡ None
+pub leads_first : (book : Book) (k : Core) (qs : List Queue) (c : ℕ) (seat : Seat) (session : Option ℕ) (found : Option Session) (w : Word) (file : ℕ) (value : List ℕ) (opened : List (ℕ × Local)) (o : Outcome) → EndsFirst book (own_op k c w file value (record seat.client { opened = opened }) o) → IsKept book k qs → numbered k.seats c ≡ Some seat → seat.place ≡ None → job seat ≡ None
     → ((f : ℕ) (l : Local) → client.local_at opened f ≡ Some l → WasThere book f × (length l.bytes ≤ 67108864))
     → session_of k.sessions session ≡ found → ((n : ℕ) (x : Session) → session ≡ Some n → found ≡ Some x → x.owner ≡ c)
     → Leads book qs (after_own k c seat None session found w file value (record seat.client { opened = opened }) o)
-leads_free book k qs c seat session found w file value opened o own kept here idle free fits is owners =
+leads_first book k qs c seat session found w file value opened o first kept here idle free fits is owners =
     let s : client.State = record seat.client { opened = opened } in
     let new = own_op k c w file value s o in
     let more = onward book 1 (book.ops ++ new ∷ []) in
     let seats = with_numbered k.seats c (with_opened seat opened) in
-    let one = own_appended book k qs c w file value s o own kept in
-    let two = kept_opened more (turned_core more k.server k.seats k.sessions) qs seats c seat opened free here (around_with k.seats c seat (with_opened seat opened) here) (λ f l e. let there = fits f l e in (there_later book more None None f (grows_appended book new (own_pointless k c w file value s o own)) there.0, there.1)) one in
+    let one = first_appended book k qs new first kept in
+    let two = kept_opened more (turned_core k more k.server k.seats k.sessions) qs seats c seat opened free here (around_with k.seats c seat (with_opened seat opened) here) (λ f l e. let there = fits f l e in (there_later book more None None f (grows_added book new first.none) there.0, there.1)) one in
     let sat : with_numbered k.seats c (record { client = s; session = seat.session; place = None }) ≡ seats = ap (λ (p : Option ℕ). with_numbered k.seats c (record { client = s; session = seat.session; place = p })) (sym idle) in
     let three = by session found is owners more seats two in
     let core = cut_core book more k k.server seats (commanded_sessions k.sessions session found None (length k.ops) w (ends o 0 0)) (k.ops ++ new ∷ []) (ap (λ z. z + 1) kept.steps) (ap (λ (l : List Op). l ++ new ∷ []) kept.ops) kept.entries in
     let four = subst (λ (z : Core). IsKept more z qs) core three in
-    let five = subst (λ (z : List Seat). IsKept more (record { server = k.server; seats = z; sessions = commanded_sessions k.sessions session found None (length k.ops) w (ends o 0 0); steps = k.steps + 1; ops = k.ops ++ new ∷ []; entries = k.entries }) qs) (sym sat) four in
+    let five = subst (λ (z : List Seat). IsKept more (record k { server = k.server; seats = z; sessions = commanded_sessions k.sessions session found None (length k.ops) w (ends o 0 0); steps = k.steps + 1; ops = k.ops ++ new ∷ []; entries = k.entries }) qs) (sym sat) four in
     record {
-      sends = record { asks = []; up_is = refl; tolds = []; down_is = refl };
+      sends = record { replies = []; replies_fit = tt; asks = []; up_is = refl; recalls = []; recalls_fit = tt; tolds = []; down_is = refl };
       more = more;
       moments = refl;
       opening = refl;
       kept = subst (λ (z : List Queue). IsKept more (after_own k c seat None session found w file value s o).core z) (sym (ups_none (commanded_sessions k.sessions session found None (length k.ops) w (ends o 0 0)) qs session)) five;
     }
   where
-    by : (session : Option ℕ) (found : Option Session) → session_of k.sessions session ≡ found → ((n : ℕ) (x : Session) → session ≡ Some n → found ≡ Some x → x.owner ≡ c) → (more : Book) (seats : List Seat) → IsKept more (turned_core more k.server (with_numbered k.seats c (with_opened seat opened)) k.sessions) qs → IsKept more (turned_core more k.server (with_numbered k.seats c (with_opened seat opened)) (commanded_sessions k.sessions session found None (length k.ops) w (ends o 0 0))) qs
+    by : (session : Option ℕ) (found : Option Session) → session_of k.sessions session ≡ found → ((n : ℕ) (x : Session) → session ≡ Some n → found ≡ Some x → x.owner ≡ c) → (more : Book) (seats : List Seat) → IsKept more (turned_core k more k.server (with_numbered k.seats c (with_opened seat opened)) k.sessions) qs → IsKept more (turned_core k more k.server (with_numbered k.seats c (with_opened seat opened)) (commanded_sessions k.sessions session found None (length k.ops) w (ends o 0 0))) qs
     by None found is owners more seats h = h
     by (Some n) None is owners more seats h = h
     by (Some n) (Some x) is owners more seats h =
         let around = around_with k.seats c seat (with_opened seat opened) here in
         let own = ap (numbered (with_numbered k.seats c (with_opened seat opened))) (owners n x refl refl) ∙ around.there in
-        let done = kept_cleared more (turned_core more k.server (with_numbered k.seats c (with_opened seat opened)) k.sessions) qs n x (with_opened seat opened) h is own free in
-        subst (λ (p : Option ℕ). IsKept more (turned_core more k.server (with_numbered k.seats c (with_opened seat opened)) (with_numbered k.sessions n (record x { taken = []; closing = p }))) qs) (sym (closing_same x.closing (length k.ops) w (own_ended o))) done
+        let done = kept_cleared more (turned_core k more k.server (with_numbered k.seats c (with_opened seat opened)) k.sessions) qs n x (with_opened seat opened) h is own free in
+        subst (λ (p : Option ℕ). IsKept more (turned_core k more k.server (with_numbered k.seats c (with_opened seat opened)) (with_numbered k.sessions n (record x { taken = []; closing = p }))) qs) (sym (closing_same x.closing (length k.ops) w (own_ended o))) done
+
+pub leads_free : (book : Book) (k : Core) (qs : List Queue) (c : ℕ) (seat : Seat) (session : Option ℕ) (found : Option Session) (w : Word) (file : ℕ) (value : List ℕ) (opened : List (ℕ × Local)) (o : Outcome) → IsOwn w o → IsKept book k qs → numbered k.seats c ≡ Some seat → seat.place ≡ None → job seat ≡ None
+    → ((f : ℕ) (l : Local) → client.local_at opened f ≡ Some l → WasThere book f × (length l.bytes ≤ 67108864))
+    → session_of k.sessions session ≡ found → ((n : ℕ) (x : Session) → session ≡ Some n → found ≡ Some x → x.owner ≡ c)
+    → Leads book qs (after_own k c seat None session found w file value (record seat.client { opened = opened }) o)
+leads_free book k qs c seat session found w file value opened o own kept here idle free fits is owners = leads_first book k qs c seat session found w file value opened o (own_first book k qs c w file value (record seat.client { opened = opened }) o own kept) kept here idle free fits is owners
 
 -- with an operation under way it is busy
 pub leads_busy : (book : Book) (k : Core) (qs : List Queue) (c p : ℕ) (seat : Seat) (session : Option ℕ) (found : Option Session) (w : Word) (file : ℕ) (value : List ℕ) → IsKept book k qs → numbered k.seats c ≡ Some seat → seat.place ≡ Some p → session_of k.sessions session ≡ found
@@ -303,15 +322,15 @@ pub leads_busy : (book : Book) (k : Core) (qs : List Queue) (c p : ℕ) (seat : 
 leads_busy book k qs c p seat session found w file value kept here busy is =
     let new = own_op k c w file value seat.client outcome.Busy in
     let more = onward book 1 (book.ops ++ new ∷ []) in
-    let one = own_appended book k qs c w file value seat.client outcome.Busy tt kept in
+    let one = first_appended book k qs new (own_first book k qs c w file value seat.client outcome.Busy tt kept) kept in
     let sat : with_numbered k.seats c (record { client = seat.client; session = seat.session; place = Some p }) ≡ k.seats = ap (λ (q : Option ℕ). with_numbered k.seats c (record { client = seat.client; session = seat.session; place = q })) (sym busy) ∙ with_same k.seats c seat here in
     let stays = by session found is in
     let core = cut_core book more k k.server k.seats k.sessions (k.ops ++ new ∷ []) (ap (λ z. z + 1) kept.steps) (ap (λ (l : List Op). l ++ new ∷ []) kept.ops) kept.entries in
     let two = subst (λ (z : Core). IsKept more z qs) core one in
-    let three = subst (λ (z : List Seat). IsKept more (record { server = k.server; seats = z; sessions = k.sessions; steps = k.steps + 1; ops = k.ops ++ new ∷ []; entries = k.entries }) qs) (sym sat) two in
-    let four = subst (λ (z : List Session). IsKept more (record { server = k.server; seats = with_numbered k.seats c (record { client = seat.client; session = seat.session; place = Some p }); sessions = z; steps = k.steps + 1; ops = k.ops ++ new ∷ []; entries = k.entries }) qs) (sym stays) three in
+    let three = subst (λ (z : List Seat). IsKept more (record k { server = k.server; seats = z; sessions = k.sessions; steps = k.steps + 1; ops = k.ops ++ new ∷ []; entries = k.entries }) qs) (sym sat) two in
+    let four = subst (λ (z : List Session). IsKept more (record k { server = k.server; seats = with_numbered k.seats c (record { client = seat.client; session = seat.session; place = Some p }); sessions = z; steps = k.steps + 1; ops = k.ops ++ new ∷ []; entries = k.entries }) qs) (sym stays) three in
     record {
-      sends = record { asks = []; up_is = refl; tolds = []; down_is = refl };
+      sends = record { replies = []; replies_fit = tt; asks = []; up_is = refl; recalls = []; recalls_fit = tt; tolds = []; down_is = refl };
       more = more;
       moments = refl;
       opening = refl;

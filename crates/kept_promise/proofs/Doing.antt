@@ -4,7 +4,10 @@ use Rattle.command_text.specs.declared.command.Command.TheVariants as command
 use Rattle.client_state.specs.State as client
 use Rattle.register_model.specs.declared.op.Outcome.{Outcome as Told}
 use Rattle.register_model.specs.declared.op.Outcome.TheVariants as told
-use Rattle.kept_promise.proofs.Common.{nat_tests, slice_get, nat_le, not, is_some, Command, has_xids, may_ask, command_step, ClientStep, Ended, Local, Task, Op, Word, word_of, file_of, value_at_begin, Core, Seat, numbered, with_numbered, begun, counted, op_ended, op_after, has_point, point_if, value_of, Deed, Book, can_ask, leaves, lasts, is_busy, after_one, local_from, own_answer, is_running, Queue}
+use Rattle.register_model.specs.declared.op.Word.TheVariants as words
+use Rattle.client_state.specs.declared.step.Outcome.{Outcome}
+use Rattle.client_state.specs.declared.step.Outcome.TheVariants as outcome
+use Rattle.kept_promise.proofs.Common.{can_go, nat_tests, slice_get, nat_le, not, is_some, Command, has_xids, may_ask, command_step, ClientStep, Ended, Local, Task, Op, Word, word_of, file_of, value_at_begin, Core, Seat, numbered, with_numbered, begun, counted, op_ended, op_after, has_point, point_if, value_of, Deed, Book, can_ask, leaves, lasts, is_busy, after_one, local_from, own_answer, is_running, Queue}
 use Rattle.kept_promise.proofs.Lists.{some_is, nothing_there, same_or_not}
 use Rattle.kept_promise.proofs.Messages.{Job, job, job_of}
 use Rattle.kept_promise.proofs.Rights.{IsRight}
@@ -12,8 +15,10 @@ use Rattle.kept_promise.proofs.Turns.{around_with}
 use Rattle.kept_promise.proofs.Facts.{IsMatched, IsKept}
 use Rattle.kept_promise.proofs.Does.{own_ended}
 use Rattle.kept_promise.proofs.Locally.{other_client, other_file, its_own, leaves_none, busy_by, free_by, keeps, keeps_is, keeps_if}
-use Rattle.kept_promise.proofs.Deeds.{Stores, by_server, Came, local_of, HasDeeds, deeds_added}
-use Rattle.kept_promise.proofs.Answering.{AnswersBy, ValueIs, Stays, free_answers, busy_answers}
+use Rattle.kept_promise.proofs.Deeds.{IsLate, Stores, by_server, Came, local_of, HasDeeds, deeds_added}
+use Rattle.kept_promise.proofs.Answering.{may_go, AnswersBy, ValueIs, Stays, free_answers, busy_answers}
+use Rattle.client_state.specs.Noting.{at as clocked}
+use Rattle.kept_promise.proofs.StepCases.{IsPlain}
 use Rattle.kept_promise.proofs.PathNames.{IsSmall}
 use Rattle.kept_promise.proofs.Found.{op_found, command_finds}
 
@@ -99,9 +104,11 @@ fixed c w file value step r none = by r.1.ended refl
     by None e = subst (λ (o : Op). (o.client ≡ c) × (o.word ≡ w) × (o.file ≡ file) × (o.begin ≡ step)) (sym (new_ended c w file value step r None none e)) (refl, refl, refl, refl)
     by (Some x) e = subst (λ (o : Op). (o.client ≡ c) × (o.word ≡ w) × (o.file ≡ file) × (o.begin ≡ step)) (sym (new_ended c w file value step r (Some x) none e)) (refl, refl, refl, refl)
 
-no_point : (b : Bool) (xid : ℕ) → point_if b [] xid None ≡ None
-no_point true xid = refl
-no_point false xid = refl
+no_point : (w : Word) (o : Outcome) (step : ℕ) → IsPlain o → point_if (has_point w o) [] 0 step None ≡ None
+no_point words.Open (outcome.Opened file len digest) step plain = absurd plain
+no_point words.Open (outcome.Refused s) step plain = absurd plain
+no_point words.Open o step plain = refl
+no_point w o step plain = refl
 
 -- what became of it, and of the local contents
 record IsOne (s : client.State) (d : Deed) (new : Op) (r : client.State × ClientStep) (x : Option Told) : Type 0 where
@@ -115,22 +122,35 @@ one_new c step s d r (Some own) small none h =
     let v = value_at_begin s (word_of d.command) (file_of d.command) r.1.ended in
     let q : Op = record (begun c w (file_of d.command) v step) { traffic = counted (begun c w (file_of d.command) v step).traffic r.1.counts } in
     subst (λ (o : Op). IsOne s d o r (Some own)) (sym (new_ended c w (file_of d.command) v step r (Some (own_ended h.outcome)) none h.ended)) (record {
-      came = (h.told_is, refl, (λ z. no_point (has_point w h.outcome) 0), refl);
+      came = (h.told_is, refl, (λ z. no_point w h.outcome step h.plain), refl);
       here = h.here (value_of v r.0 h.outcome) ∙ ap (λ (u : Told). leaves d.command u (value_of v r.0 h.outcome) (local_of s (file_of d.command))) (sym h.told_is);
       others = h.others;
     })
-one_new c step s d r None small none h =
+one_new c step s d r None small none (inr h) =
+    let w = word_of d.command in
+    let v = value_at_begin s (word_of d.command) (file_of d.command) r.1.ended in
+    subst (λ (o : Op). IsOne s d o r None) (sym (new_ended c w (file_of d.command) v step r (Some (own_ended h.outcome)) none h.ended)) (record {
+      came = (h.stores _ (local_of s (file_of d.command)), h.from, h.late _);
+      here = h.here v;
+      others = h.others;
+    })
+one_new c step s d r None small none (inl h) =
     let w = word_of d.command in
     let v = value_at_begin s (word_of d.command) (file_of d.command) r.1.ended in
     let q : Op = record (begun c w (file_of d.command) v step) { traffic = counted (begun c w (file_of d.command) v step).traffic r.1.counts } in
     subst (λ (o : Op). IsOne s d o r None) (sym (new_ended c w (file_of d.command) v step r None none h.0)) (record {
-      came = (subst (λ (e : Option Ended). Stores d.command (record (begun c w (file_of d.command) (value_at_begin s w (file_of d.command) e) step) { traffic = counted (begun c w (file_of d.command) (value_at_begin s w (file_of d.command) e) step).traffic r.1.counts }) (local_of s (file_of d.command))) (sym h.0) (stores d.command h.2), by_server d.command told.Running tt, λ z. nothing_there _ z);
+      came = (subst (λ (e : Option Ended). Stores d.command (record (begun c w (file_of d.command) (value_at_begin s w (file_of d.command) e) step) { traffic = counted (begun c w (file_of d.command) (value_at_begin s w (file_of d.command) e) step).traffic r.1.counts }) (local_of s (file_of d.command))) (sym h.0) (stores d.command h.2), by_server d.command told.Running tt, never d.command);
       here = same (file_of d.command) ∙ sym (leaves_none d.command told.Running v (local_of s (file_of d.command)) (inl refl));
       others = λ f apart. same f;
     })
   where
     same : (f : ℕ) → local_of r.0 f ≡ local_of s f
     same f = ap (λ (l : List (ℕ × Local)). Rattle.std.specs.Prelude.option_map (λ (z : Local). z.bytes) (client.local_at l f)) h.1
+
+    never : (k : Command) → IsLate k (record (begun c (word_of d.command) (file_of d.command) (value_at_begin s (word_of d.command) (file_of d.command) r.1.ended) step) { traffic = counted (begun c (word_of d.command) (file_of d.command) (value_at_begin s (word_of d.command) (file_of d.command) r.1.ended) step).traffic r.1.counts })
+    never (command.Open f) = tt
+    never (command.Rewrite f) = tt
+    never _ = λ z. nothing_there _ z
 
     stores : (k : Command) → ValueIs s k → Stores k (record (begun c (word_of k) (file_of k) (value_at_begin s (word_of k) (file_of k) None) step) { traffic = counted (begun c (word_of k) (file_of k) (value_at_begin s (word_of k) (file_of k) None) step).traffic r.1.counts }) (local_of s (file_of k))
     stores (command.Close f) v = v
@@ -142,10 +162,10 @@ pub record IsDoneSo (ds : List Deed) (k : Core) (c : ℕ) (seat : Seat) (d : Dee
   pub deeds : HasDeeds (ds ++ d ∷ []) (k.ops ++ new_op c (word_of d.command) (file_of d.command) (value_at_begin seat.client (word_of d.command) (file_of d.command) r.1.ended) (k.steps + 1) r ∷ []) (with_numbered k.seats c (record seat { client = r.0; place = place }))
   pub stays : Stays seat.client r.0
 
-does_by : (ds : List Deed) (k : Core) (c : ℕ) (seat : Seat) (d : Deed) (r : client.State × ClientStep) (place : Option ℕ) (b : Bool) → IsSmall d.command → r.1.found ≡ None → HasDeeds ds k.ops k.seats → numbered k.seats c ≡ Some seat → ((i : ℕ) (o : Op) → slice_get k.ops i ≡ Some o → o.begin < k.steps + 1) → d.client ≡ c → d.begin ≡ k.steps + 1
-    → can_ask d.joined d.calls ≡ may_ask seat.client → is_busy k.ops (new_op c (word_of d.command) (file_of d.command) (value_at_begin seat.client (word_of d.command) (file_of d.command) r.1.ended) (k.steps + 1) r) ≡ b
-    → Stays seat.client r.0 × AnswersBy seat.client d.command r (own_answer b (may_ask seat.client) d.command (local_of seat.client (file_of d.command))) → IsDoneSo ds k c seat d r place
-does_by ds k c seat d r place b small none h here begins mine starts may busy answers =
+does_by : (ds : List Deed) (k : Core) (c : ℕ) (seat : Seat) (d : Deed) (r : client.State × ClientStep) (place : Option ℕ) (b asks : Bool) → IsSmall d.command → r.1.found ≡ None → HasDeeds ds k.ops k.seats → numbered k.seats c ≡ Some seat → ((i : ℕ) (o : Op) → slice_get k.ops i ≡ Some o → o.begin < k.steps + 1) → d.client ≡ c → d.begin ≡ k.steps + 1
+    → can_go d ≡ asks → is_busy k.ops (new_op c (word_of d.command) (file_of d.command) (value_at_begin seat.client (word_of d.command) (file_of d.command) r.1.ended) (k.steps + 1) r) ≡ b
+    → Stays seat.client r.0 × AnswersBy seat.client d.command r (own_answer b asks d.command (local_of seat.client (file_of d.command))) → IsDoneSo ds k c seat d r place
+does_by ds k c seat d r place b asks small none h here begins mine starts may busy answers =
     let f = fixed c (word_of d.command) (file_of d.command) (value_at_begin seat.client (word_of d.command) (file_of d.command) r.1.ended) (k.steps + 1) r none in
     record {
       stays = answers.0;
@@ -155,9 +175,9 @@ does_by ds k c seat d r place b small none h here begins mine starts may busy an
         word = f.1;
         file = f.2;
         begin = f.3 ∙ sym starts;
-        came = subst (λ (l : Option (List ℕ)). Came d new l (own_answer (is_busy k.ops new) (can_ask d.joined d.calls) d.command l)) (h.locals c seat here (file_of d.command) ∙ ap (λ (z : ℕ). local_from z (file_of d.command) None ds k.ops) (sym mine))
+        came = subst (λ (l : Option (List ℕ)). Came d new l (own_answer (is_busy k.ops new) (can_go d) d.command l)) (h.locals c seat here (file_of d.command) ∙ ap (λ (z : ℕ). local_from z (file_of d.command) None ds k.ops) (sym mine))
             (subst (λ (a : Bool). Came d new (local_of seat.client (file_of d.command)) (own_answer (is_busy k.ops new) a d.command (local_of seat.client (file_of d.command)))) (sym may)
-            (subst (λ (z : Bool). Came d new (local_of seat.client (file_of d.command)) (own_answer z (may_ask seat.client) d.command (local_of seat.client (file_of d.command)))) (sym busy) one.came));
+            (subst (λ (z : Bool). Came d new (local_of seat.client (file_of d.command)) (own_answer z asks d.command (local_of seat.client (file_of d.command)))) (sym busy) one.came));
       }) (λ z e at g. elim (same_or_not z c) [
         | inr apart ↦ h.locals z e (sym (around.others z apart) ∙ at) g ∙ sym (other_client z g d new (λ same. apart (sym same ∙ mine)) (local_from z g None ds k.ops))
         | inl own ↦
@@ -169,8 +189,8 @@ does_by ds k c seat d r place b small none h here begins mine starts may busy an
     new : Op
     new = new_op c (word_of d.command) (file_of d.command) (value_at_begin seat.client (word_of d.command) (file_of d.command) r.1.ended) (k.steps + 1) r
 
-    one : IsOne seat.client d new r (own_answer b (may_ask seat.client) d.command (local_of seat.client (file_of d.command)))
-    one = one_new c (k.steps + 1) seat.client d r (own_answer b (may_ask seat.client) d.command (local_of seat.client (file_of d.command))) small none answers.1
+    one : IsOne seat.client d new r (own_answer b asks d.command (local_of seat.client (file_of d.command)))
+    one = one_new c (k.steps + 1) seat.client d r (own_answer b asks d.command (local_of seat.client (file_of d.command))) small none answers.1
 
     file_is : new.file ≡ file_of d.command
     file_is = (fixed c (word_of d.command) (file_of d.command) (value_at_begin seat.client (word_of d.command) (file_of d.command) r.1.ended) (k.steps + 1) r none).2
@@ -183,7 +203,7 @@ does_by ds k c seat d r place b small none h here begins mine starts may busy an
     around = around_with k.seats c seat (record seat { client = r.0; place = place }) here
 
 pub does_follows : (book : Book) (ds : List Deed) (k : Core) (qs : List Queue) (c now : ℕ) (seat : Seat) (d : Deed) (place : Option ℕ) → IsSmall d.command → IsKept book k qs → book.ops ≡ k.ops → book.steps ≡ k.steps → HasDeeds ds k.ops k.seats → numbered k.seats c ≡ Some seat → ((i : ℕ) (o : Op) → slice_get k.ops i ≡ Some o → o.begin < k.steps + 1) → d.client ≡ c → d.begin ≡ k.steps + 1
-    → can_ask d.joined d.calls ≡ may_ask seat.client → IsDoneSo ds k c seat d (command_step seat.client d.command now) place
+    → can_go d ≡ may_go (clocked seat.client now) d.command → IsDoneSo ds k c seat d (command_step seat.client d.command now) place
 does_follows book ds k qs c now seat d place small kept ops steps h here begins mine starts may = by seat.place seat.client.task refl refl (kept.seats c seat here).matched
   where
     r : client.State × ClientStep
@@ -199,10 +219,10 @@ does_follows book ds k qs c now seat d place small kept ops steps h here begins 
     f = fixed c (word_of d.command) (file_of d.command) (value_at_begin seat.client (word_of d.command) (file_of d.command) (command_step seat.client d.command now).1.ended) (k.steps + 1) (command_step seat.client d.command now) none
 
     by : (p : Option ℕ) (task : Option Task) → seat.place ≡ p → seat.client.task ≡ task → IsMatched seat → IsDoneSo ds k c seat d (command_step seat.client d.command now) place
-    by None None e g m = does_by ds k c seat d r place false small none h here begins mine starts may (is_free book k qs c seat new kept ops steps here (ap (λ (z : Option ℕ). job_of z seat.client.task) e) f.0 f.3) (free_answers seat.client d.command now small g)
+    by None None e g m = does_by ds k c seat d r place false (may_go (clocked seat.client now) d.command) small none h here begins mine starts may (is_free book k qs c seat new kept ops steps here (ap (λ (z : Option ℕ). job_of z seat.client.task) e) f.0 f.3) (free_answers seat.client d.command now small g)
     by (Some p) (Some t) e g m =
         let j : Job = record { place = p; file = t.file; stage = t.stage } in
-        does_by ds k c seat d r place true small none h here begins mine starts may (is_occupied book k qs c seat j new kept ops steps here (ap (λ (z : Option ℕ). job_of z seat.client.task) e ∙ ap (job_of (Some p)) g) f.0 f.3) (busy_answers seat.client d.command t now small g)
+        does_by ds k c seat d r place true (may_go (clocked seat.client now) d.command) small none h here begins mine starts may (is_occupied book k qs c seat j new kept ops steps here (ap (λ (z : Option ℕ). job_of z seat.client.task) e ∙ ap (job_of (Some p)) g) f.0 f.3) (busy_answers seat.client d.command t now small g)
     by None (Some x) e g (inl m) = nothing_there x (sym m.1 ∙ g)
     by None (Some x) e g (inr m) = nothing_there m.0 (sym (ap (λ (p : Option ℕ). job_of p seat.client.task) e) ∙ m.1)
     by (Some p) None e g (inl m) = nothing_there p (sym m.0 ∙ e)

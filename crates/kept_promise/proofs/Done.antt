@@ -5,12 +5,12 @@ use Rattle.register_model.specs.Register.{success}
 use Rattle.register_model.specs.declared.op.Outcome.{Outcome}
 use Rattle.register_model.specs.declared.op.Outcome.TheVariants as told
 use Rattle.register_model.specs.declared.op.Word.TheVariants as words
-use Rattle.kept_promise.proofs.Common.{slice_get, nat_lt, if◌then◌else◌, content_length, Command, local_most, written_size, is_closed, is_untold, Op, Word, word_of, file_of, World, calls_most, Moment, Deed, deeds_of, Book, book_of, can_ask, IsOpened, IsClosed, IsChanged, IsOpenRefused, HasCause, is_busy, local_before, own_answer, unless_asks, write_outcome, sized_outcome, CameTo, IsDone, Queue, changes}
+use Rattle.kept_promise.proofs.Common.{slice_get, nat_lt, ◌||◌, if◌then◌else◌, content_length, Command, local_most, written_size, is_closed, is_untold, Op, Word, word_of, file_of, World, calls_most, Moment, Deed, deeds_of, Book, book_of, can_ask, can_go, IsOpened, IsClosed, IsChanged, IsOpenRefused, HasCause, is_busy, local_before, own_answer, unless_asks, write_outcome, sized_outcome, CameTo, IsDone, Queue, changes}
 use Rattle.command_text.specs.declared.path.PathCommand.{PathCommand}
 use Rattle.trace_replay.specs.Causes.{NamedCause, IsRewritten, IsRewriteRefused}
 use Rattle.trace_replay.specs.Complete.{EndsNamed}
 use Rattle.trace_replay.specs.Faithful.{HasFile, FindsOpen, StoresLocal}
-use Rattle.kept_promise.proofs.Rights.{Soon, opened_if, closed_if, may_point, RewriteRefused, Renewed, RefusedBy, DoneBy, Caused, IsRight}
+use Rattle.kept_promise.proofs.Rights.{Soon, opened_if, closed_if, may_point, RewriteRefused, RenewedBy, AreLeased, RefusedBy, DoneBy, Caused, IsRight}
 use Rattle.kept_promise.proofs.Lists.{true_and_false}
 use Rattle.kept_promise.proofs.Facts.{IsKept}
 use Rattle.kept_promise.proofs.Deeds.{FromServer, ByServer, Stores, HasIdFile, Came, IsDeed}
@@ -101,42 +101,43 @@ rewrite_pointless book o right w = by o.point refl
     by None e = refl
     by (Some p) e = absurd (true_and_false (may_point o.word) (right.pointed p e).2 (ap may_point w))
 
-pub rewrite_done : (book : Book) (o : Op) → o.point ≡ None → Renewed book o → IsRewritten book o
-rewrite_done book o none h = record { pointless = none; step = h.step; inside = h.inside; there = subst (λ (v : Option (List ℕ)). IsSome v) (sym h.value_is) refl; xid = h.xid; taken = h.taken }
+pub rewrite_done : (book : Book) (o : Op) → AreLeased book.moments → o.point ≡ None → RenewedBy book o → IsRewritten book o
+rewrite_done book o leased none (inl h) = (none, inl (record { step = h.step; inside = h.inside; there = subst (λ (v : Option (List ℕ)). IsSome v) (sym h.value_is) refl; xid = h.xid; taken = h.taken }))
+rewrite_done book o leased none (inr h) = (none, inr (h.ends, h.value_is leased))
 
 pub rewrite_refusal : (book : Book) (o : Op) (status : ℕ) → o.point ≡ None → RewriteRefused book o status → IsRewriteRefused book o status
 rewrite_refusal book o status none (inl h) = inl (h.0, none, h.1)
 rewrite_refusal book o status none (inr h) = inr (record { status_is = h.0; pointless = none; step = h.1.0; inside = h.1.1; value_is = h.1.3 })
 
-rewrite_cause : (book : Book) (f : ℕ) (o : Op) (u : Outcome) → o.word ≡ words.Rewrite → o.point ≡ None → ((status : ℕ) → u ≡ told.Refused status → RewriteRefused book o status) → FromServer words.Rewrite u → Caused book o u → HasCause book (command.Rewrite f) o u
-rewrite_cause book f o told.Done w none r s h = rewrite_done book o none (subst (DoneBy book o) w h)
-rewrite_cause book f o (told.Refused t) w none r s h = rewrite_refusal book o t none (r t refl)
-rewrite_cause book f o told.Lost w none r s h = h.1
-rewrite_cause book f o told.Running w none r s h = h.1
-rewrite_cause book f o (told.Opened n d) w none r s h = absurd (apart (sym h.0 ∙ w))
+rewrite_cause : (book : Book) (f : ℕ) (o : Op) (u : Outcome) → AreLeased book.moments → o.word ≡ words.Rewrite → o.point ≡ None → ((status : ℕ) → u ≡ told.Refused status → RewriteRefused book o status) → FromServer words.Rewrite u → Caused book o u → HasCause book (command.Rewrite f) o u
+rewrite_cause book f o told.Done leased w none r s h = rewrite_done book o leased none (subst (DoneBy book o) w h)
+rewrite_cause book f o (told.Refused t) leased w none r s h = rewrite_refusal book o t none (r t refl)
+rewrite_cause book f o told.Lost leased w none r s h = h.1
+rewrite_cause book f o told.Running leased w none r s h = h.1
+rewrite_cause book f o (told.Opened n d) leased w none r s h = absurd (apart (sym h.0 ∙ w))
   where
     apart : words.Open ≡ words.Rewrite → ⊥
     apart e = absurd cc
-rewrite_cause book f o (told.Changed a b) w none r s h = absurd (apart (sym h.0 ∙ w))
+rewrite_cause book f o (told.Changed a b) leased w none r s h = absurd (apart (sym h.0 ∙ w))
   where
     apart : words.Open ≡ words.Rewrite → ⊥
     apart e = absurd cc
-rewrite_cause book f o (told.Closed v n d) w none r s h = absurd (apart (sym h.0 ∙ w))
+rewrite_cause book f o (told.Closed v n d) leased w none r s h = absurd (apart (sym h.0 ∙ w))
   where
     apart : words.Close ≡ words.Rewrite → ⊥
     apart e = absurd cc
-rewrite_cause book f o told.PeerMemory w none r s h = h
-rewrite_cause book f o (told.BadPeer n) w none r s h = h
-rewrite_cause book f o told.Memory w none r s h = h
-rewrite_cause book f o (told.Names n) w none r s h = absurd (apart (sym h ∙ w))
+rewrite_cause book f o told.PeerMemory leased w none r s h = h
+rewrite_cause book f o (told.BadPeer n) leased w none r s h = h
+rewrite_cause book f o told.Memory leased w none r s h = h
+rewrite_cause book f o (told.Names n) leased w none r s h = absurd (apart (sym h ∙ w))
   where
     apart : words.List ≡ words.Rewrite → ⊥
     apart e = absurd cc
-rewrite_cause book f o (told.Seen a b c d) w none r s h = absurd (apart (sym h ∙ w))
+rewrite_cause book f o (told.Seen a b c d) leased w none r s h = absurd (apart (sym h ∙ w))
   where
     apart : words.Look ≡ words.Rewrite → ⊥
     apart e = absurd cc
-rewrite_cause book f o _ w none r s h = s
+rewrite_cause book f o _ leased w none r s h = s
 
 close_cause : (book : Book) (f : ℕ) (o : Op) (u : Outcome) → Soon book o u → o.word ≡ words.Close → o.file ≡ f → FromServer words.Close u → Caused book o u → HasCause book (command.Close f) o u
 close_cause book f o (told.Closed v n d) soon w e s h = subst (λ (x : ℕ). IsClosed book x o v n d) e (closed_if book o v n d soon h.1)
@@ -196,12 +197,12 @@ came_to book d o l None right stores cause plain c = (cause plain c.1, stores c.
 pub record IsKnown (book : Book) (d : Deed) (o : Op) (l : Option (List ℕ)) : Type 0 where
   pub refused : (f : ℕ) → d.command ≡ command.Open f → (status : ℕ) → o.outcome ≡ told.Refused status → IsOpenRefused book f o status
   pub renewed : (f : ℕ) → d.command ≡ command.Rewrite f → (status : ℕ) → o.outcome ≡ told.Refused status → RewriteRefused book o status
-  pub named : (n : PathCommand) → d.command ≡ command.Named n → own_answer (is_busy book.ops o) (can_ask d.joined d.calls) d.command None ≡ None → (o.end ≡ Some o.begin → ⊥) → NamedCause book n o o.outcome × FindsOpen n o.outcome l
+  pub named : (n : PathCommand) → d.command ≡ command.Named n → own_answer (is_busy book.ops o) (can_go d) d.command None ≡ None → (o.end ≡ Some o.begin → ⊥) → NamedCause book n o o.outcome × FindsOpen n o.outcome l
   -- the status of one that was refused so is one that it may have
   pub ends : (n : PathCommand) → d.command ≡ command.Named n → (o.end ≡ Some o.begin → ⊥) → (status : ℕ) → o.outcome ≡ told.Refused status → EndsNamed n (told.Refused status)
 
 -- its file, and what it came to
-module _ (book : Book) (ds : List Deed) (i : ℕ) (d : Deed) (o : Op) (soon : Soon book o o.outcome) (right : IsRight book o) (busy asks : Bool) where
+module _ (book : Book) (ds : List Deed) (i : ℕ) (d : Deed) (o : Op) (leased : AreLeased book.moments) (soon : Soon book o o.outcome) (right : IsRight book o) (busy asks : Bool) where
   abbrev before : ℕ → Option (List ℕ)
   before f = local_before ds book.ops i d.client f
 
@@ -235,15 +236,15 @@ module _ (book : Book) (ds : List Deed) (i : ℕ) (d : Deed) (o : Op) (soon : So
 
   part : (k : Command) → HasIdFile k o → o.word ≡ word_of k → ((f : ℕ) → k ≡ command.Open f → (status : ℕ) → o.outcome ≡ told.Refused status → IsOpenRefused book f o status) → ((f : ℕ) → k ≡ command.Rewrite f → (status : ℕ) → o.outcome ≡ told.Refused status → RewriteRefused book o status) → ((n : PathCommand) → k ≡ command.Named n → own_answer busy asks k None ≡ None → (o.end ≡ Some o.begin → ⊥) → NamedCause book n o o.outcome × FindsOpen n o.outcome (before o.file))
       → Came (record d { command = k }) o (before (file_of k)) (own k (file_of k)) → Part k o.file
-  part (command.Rewrite f) e w refused renewed named c = id_part (command.Rewrite f) e (λ x. e) (λ s. s) (λ a s. rewrite_cause book f o o.outcome w (rewrite_pointless book o right w) (renewed f refl) s right.cause) c
+  part (command.Rewrite f) e w refused renewed named c = id_part (command.Rewrite f) e (λ x. e) (λ s. s) (λ a s. rewrite_cause book f o o.outcome leased w (rewrite_pointless book o right w) (renewed f refl) s right.cause) c
   part (command.Open f) e w refused renewed named c = id_part (command.Open f) e (λ x. e) (λ s. s) (λ a s. open_cause book f o o.outcome soon w e (refused f refl) s right.cause) c
   part (command.Close f) e w refused renewed named c = id_part (command.Close f) e (λ x. e) (λ s. s) (λ a s. close_cause book f o o.outcome soon w e s right.cause) c
   part (command.Named n) e w refused renewed named c = named_part n (named n refl) c
   part d e w refused renewed named c = id_part d e (λ x. e) (λ s. s) (λ a s. absurd a) c
 
-pub is_done : (book : Book) (ds : List Deed) (i : ℕ) (d : Deed) (o : Op) → Soon book o o.outcome → d.calls ≤ calls_most * d.begin → IsRight book o → IsDeed ds book.ops i d o → IsKnown book d o (local_before ds book.ops i d.client o.file) → IsDone book d o (local_before ds book.ops i d.client o.file)
-is_done book ds i d o soon few right h known =
-    let p = part book ds i d o soon right (is_busy book.ops o) (can_ask d.joined d.calls) d.command h.file h.word known.refused known.renewed known.named h.came in
+pub is_done : (book : Book) (ds : List Deed) (i : ℕ) (d : Deed) (o : Op) → AreLeased book.moments → Soon book o o.outcome → d.calls ≤ calls_most * d.begin → IsRight book o → IsDeed ds book.ops i d o → IsKnown book d o (local_before ds book.ops i d.client o.file) → IsDone book d o (local_before ds book.ops i d.client o.file)
+is_done book ds i d o leased soon few right h known =
+    let p = part book ds i d o leased soon right (is_busy book.ops o) (can_go d) d.command h.file h.word known.refused known.renewed known.named h.came in
     record {
       client = h.client;
       word = h.word;
@@ -258,19 +259,19 @@ is_done book ds i d o soon few right h known =
 -- a command on names that asked the server isn't over in its first step
 pub asked_late : (ds : List Deed) (ops : List Op) (i : ℕ) (d : Deed) (o : Op) (n : PathCommand) → IsDeed ds ops i d o → d.command ≡ command.Named n → can_ask d.joined d.calls ≡ true → is_busy ops o ≡ false → o.end ≡ Some o.begin → ⊥
 asked_late ds ops i d o n h is asks free =
-    (subst (Came (record d { command = command.Named n }) o (local_before ds ops i d.client 0)) (own (local_before ds ops i d.client 0)) (subst (λ (k : Command). Came (record d { command = k }) o (local_before ds ops i d.client (file_of k)) (own_answer (is_busy ops o) (can_ask d.joined d.calls) k (local_before ds ops i d.client (file_of k)))) is h.came)).2
+    (subst (Came (record d { command = command.Named n }) o (local_before ds ops i d.client 0)) (own (local_before ds ops i d.client 0)) (subst (λ (k : Command). Came (record d { command = k }) o (local_before ds ops i d.client (file_of k)) (own_answer (is_busy ops o) (can_go d) k (local_before ds ops i d.client (file_of k)))) is h.came)).2
   where
     asked : (l : Option (List ℕ)) → own_answer false true (command.Named n) l ≡ None
     asked None = refl
     asked (Some x) = refl
 
-    own : (l : Option (List ℕ)) → own_answer (is_busy ops o) (can_ask d.joined d.calls) (command.Named n) l ≡ None
-    own l = ap (λ (b : Bool). own_answer b (can_ask d.joined d.calls) (command.Named n) l) free ∙ ap (λ (b : Bool). own_answer false b (command.Named n) l) asks ∙ asked l
+    own : (l : Option (List ℕ)) → own_answer (is_busy ops o) (can_go d) (command.Named n) l ≡ None
+    own l = ap (λ (b : Bool). own_answer b (can_go d) (command.Named n) l) free ∙ ap (λ (b : Bool). own_answer false (b || d.fresh) (command.Named n) l) asks ∙ asked l
 
 -- of a whole run: each command has its one operation, in order
 pub deeds_counted : (w : World) (all : List Moment) → IsFollowed all w.core → length w.core.ops ≡ length (deeds_of all)
 deeds_counted w all h = h.deeds.count
 
-pub deeds_done : (w : World) (all : List Moment) (soon : (k : ℕ) (o : Op) → slice_get w.core.ops k ≡ Some o → Soon (book_of w all) o o.outcome) (qs : List Queue) → IsKept (book_of w all) w.core qs → IsFollowed all w.core → (k : ℕ) (d : Deed) (o : Op) → slice_get (deeds_of all) k ≡ Some d → slice_get w.core.ops k ≡ Some o → IsKnown (book_of w all) d o (local_before (deeds_of all) w.core.ops k d.client o.file)
+pub deeds_done : (w : World) (all : List Moment) (leased : AreLeased all) (soon : (k : ℕ) (o : Op) → slice_get w.core.ops k ≡ Some o → Soon (book_of w all) o o.outcome) (qs : List Queue) → IsKept (book_of w all) w.core qs → IsFollowed all w.core → (k : ℕ) (d : Deed) (o : Op) → slice_get (deeds_of all) k ≡ Some d → slice_get w.core.ops k ≡ Some o → IsKnown (book_of w all) d o (local_before (deeds_of all) w.core.ops k d.client o.file)
     → IsDone (book_of w all) d o (local_before (deeds_of all) w.core.ops k d.client o.file)
-deeds_done w all soon qs kept h k d o at is known = is_done (book_of w all) (deeds_of all) k d o (soon k o is) (h.few k d at) (kept.sound.rights k o is) (h.deeds.each k d o at is) known
+deeds_done w all leased soon qs kept h k d o at is known = is_done (book_of w all) (deeds_of all) k d o leased (soon k o is) (h.few k d at) (kept.sound.rights k o is) (h.deeds.each k d o at is) known

@@ -95,7 +95,7 @@ kept_dropped : (book : Book) (ops : List Op) (k : Core) (qs : List Queue) (n : �
     → IsSeat (onward book 1 ops) k.sessions x.owner (record (kept.sessions n x q at is).seat { client = dropped (kept.sessions n x q at is).seat.client t.xid })
     → ((others : List Seat) → Around k.seats others x.owner (record (kept.sessions n x q at is).seat { client = dropped (kept.sessions n x q at is).seat.client t.xid }) → (p : ℕ) (o : Op) → slice_get ops p ≡ Some o → o.outcome ≡ told.Running → (e : Seat) × (j : Job) × (numbered others o.client ≡ Some e) × (job e ≡ Some j) × (j.place ≡ p))
     → Around k.seats seats x.owner (record (kept.sessions n x q at is).seat { client = dropped (kept.sessions n x q at is).seat.client t.xid }) → Around qs after n (put_up q x.hung [] ts)
-    → IsKept (onward book 1 ops) (turned_core (onward book 1 ops) k.server seats k.sessions) after
+    → IsKept (onward book 1 ops) (turned_core k (onward book 1 ops) k.server seats k.sessions) after
 kept_dropped book ops k qs n x q t ts seats after kept at is first uncut i there goes still seat running around queues =
     let h = kept.sessions n x q at is in
     let more = onward book 1 ops in

@@ -1,5 +1,5 @@
 -- An operation that is left alone has ended well, by what it came to.
-use Rattle.std.proofs.Common.{◌≡◌, inl, inr, ℕ, ◌≤◌, List, Option, Some, None, Bool, true, false, refl, subst, arith, IsSome}
+use Rattle.std.proofs.Common.{◌≡◌, inl, inr, ℕ, ◌≤◌, List, Option, Some, None, Bool, true, false, refl, ap, subst, arith, IsSome}
 use Rattle.command_text.specs.declared.command.Command.TheVariants as command
 use Rattle.register_model.specs.declared.op.Outcome.{Outcome}
 use Rattle.register_model.specs.declared.op.Outcome.TheVariants as told
@@ -7,7 +7,7 @@ use Rattle.command_text.specs.declared.path.PathCommand.{PathCommand}
 use Rattle.command_text.specs.declared.path.PathCommand.TheVariants as path
 use Rattle.trace_replay.specs.Causes.{NamedCause}
 use Rattle.trace_replay.specs.Complete.{IsUncut, EndsNamed, EndsWell}
-use Rattle.kept_promise.proofs.Common.{Command, Op, Deed, Book, can_ask, IsLost, HasCause, is_busy, own_answer, CameTo, IsDone}
+use Rattle.kept_promise.proofs.Common.{Command, Op, Deed, Book, can_ask, can_go, ◌||◌, IsLost, HasCause, is_busy, own_answer, CameTo, IsDone}
 
 -- a client that saw no connection lost since its operation began did not end it so
 not_lost : (book : Book) (o : Op) → IsUncut book o → ((e : ℕ) → o.end ≡ Some e → o.begin ≤ e) → IsLost book o → ⊥
@@ -77,5 +77,5 @@ came_well book d o _ _ e named lost runs h = tt
 
 pub ends_well : (book : Book) (d : Deed) (o : Op) (l : Option (List ℕ)) → ((n : PathCommand) → d.command ≡ command.Named n → (status : ℕ) → o.outcome ≡ told.Refused status → EndsNamed n (told.Refused status)) → IsDone book d o l → IsSome o.end → can_ask d.joined d.calls ≡ true → is_busy book.ops o ≡ false → IsUncut book o → EndsWell d.command l o.outcome
 ends_well book d o l named h ended asks free uncut =
-    let came : CameTo book d o l (own_answer false true d.command l) = subst (λ (b : Bool). CameTo book d o l (own_answer false b d.command l)) asks (subst (λ (b : Bool). CameTo book d o l (own_answer b (can_ask d.joined d.calls) d.command l)) free h.came_to) in
+    let came : CameTo book d o l (own_answer false true d.command l) = subst (λ (b : Bool). CameTo book d o l (own_answer false b d.command l)) (ap (λ (b : Bool). b || d.fresh) asks) (subst (λ (b : Bool). CameTo book d o l (own_answer b (can_go d) d.command l)) free h.came_to) in
     came_well book d o l d.command refl named (not_lost book o uncut h.order) (some_end o.end ended) came

@@ -16,7 +16,7 @@ kept_entered : (book more : Book) (k : Core) (qs : List Queue) (n : ℕ) (leasin
     → (kept : IsKept book k qs) → (at : numbered k.sessions n ≡ Some x) → (is : numbered qs n ≡ Some q) → q.ups ≡ a ∷ us → x.hung ≡ false
     → Around k.sessions sessions n (took x a.xid (book.steps + 1)) → Around qs after n (put_down q us x.cut (record { xid = a.xid; reply = r }))
     → Shows book more k n x q a us (entered_server k.server leasing tree journal) r made (kept.sessions n x q at is)
-    → IsKept more (turned_core more (entered_server k.server leasing tree journal) k.seats sessions) after
+    → IsKept more (turned_core k more (entered_server k.server leasing tree journal) k.seats sessions) after
 kept_entered book more k qs n leasing tree journal x q a us r made sessions after kept at is e unhung around queues shows =
     let h = kept.sessions n x q at is in
     kept_taken book more k qs n leasing tree journal k.server.temps k.server.index x q a us r made sessions after kept at is e unhung around queues shows
@@ -46,13 +46,13 @@ leads_entered book more k qs n leasing tree journal ops entries x q a us r made 
     let sessions = with_numbered k.sessions n z in
     let around = around_with k.sessions n x z at in
     let after = with_numbered (with_numbered qs n (record q { ups = us })) n (put_down q us x.cut t) in
-    let done : IsKept more (turned_core more s k.seats sessions) after = kept_entered book more k qs n leasing tree journal x q a us r made sessions after kept at is e unhung (record { there = around.there ∙ ap (λ v. Some v) (sym same); others = around.others; count = around.count }) (again qs n q (put_down q us x.cut t) us is) shows in
-    let core : turned_core more s k.seats sessions ≡ (entered_step k n leasing x a tree journal ops entries r).core =
-    ap (λ v. record { server = s; seats = k.seats; sessions = sessions; steps = v; ops = more.ops; entries = more.entries }) steps
-    ∙ ap (λ o. record { server = s; seats = k.seats; sessions = sessions; steps = k.steps + 1; ops = o; entries = more.entries }) ops_is
-    ∙ ap (λ o. record { server = s; seats = k.seats; sessions = sessions; steps = k.steps + 1; ops = ops; entries = o }) entries_is in
+    let done : IsKept more (turned_core k more s k.seats sessions) after = kept_entered book more k qs n leasing tree journal x q a us r made sessions after kept at is e unhung (record { there = around.there ∙ ap (λ v. Some v) (sym same); others = around.others; count = around.count }) (again qs n q (put_down q us x.cut t) us is) shows in
+    let core : turned_core k more s k.seats sessions ≡ (entered_step k n leasing x a tree journal ops entries r).core =
+    ap (λ v. record k { server = s; seats = k.seats; sessions = sessions; steps = v; ops = more.ops; entries = more.entries }) steps
+    ∙ ap (λ o. record k { server = s; seats = k.seats; sessions = sessions; steps = k.steps + 1; ops = o; entries = more.entries }) ops_is
+    ∙ ap (λ o. record k { server = s; seats = k.seats; sessions = sessions; steps = k.steps + 1; ops = ops; entries = o }) entries_is in
     record {
-      sends = record { asks = []; up_is = refl; tolds = (n, t) ∷ []; down_is = refl };
+      sends = record { replies = []; replies_fit = tt; asks = []; up_is = refl; recalls = []; recalls_fit = tt; tolds = (n, t) ∷ []; down_is = refl };
       more = more;
       moments = moments;
       opening = opening;

@@ -10,20 +10,20 @@ use Rattle.xdr_codec.specs.declared.status.Status.TheVariants as status
 use Rattle.tree_reading.specs.Tree.{Tree}
 use Rattle.tree_reading.specs.declared.entry.Entry.{Entry as TreeEntry}
 use Rattle.tree_calls.specs.Telling.{told as told_by}
-use Rattle.tree_calls.specs.Waiting.{calls, asks_remove, asks_rename, removes_in, removing, renames_in, renaming, told_outcome}
+use Rattle.tree_calls.specs.Waiting.{calls, told_outcome}
 use Rattle.tree_calls.specs.declared.asked.Outcome.{Outcome}
 use Rattle.tree_calls.specs.declared.asked.Outcome.TheVariants.{Answered, Waits as ToWait}
 use Rattle.server_core.specs.State as server
 use Rattle.server_core.specs.Closing.{answers, looked_up, entries_by, entered_by, entry_by, ready_by, settles_by}
 use Rattle.callback_core.specs.Waits.{without}
-use Rattle.server_core.specs.Step.{asks, asks_tree, tells_hashes}
+use Rattle.server_core.specs.Step.{asks, asks_tree}
 use Rattle.server_core.specs.Steps.{sends}
 use Rattle.server_core.specs.declared.change.Wanted.TheVariants as wanted
 use Rattle.server_core.specs.declared.event.ServerStep.{ServerStep}
 use Rattle.trace_replay.specs.Entries.{MayEnter, TakesEntering, GrowsBy, JournalGrows}
 use Rattle.trace_replay.specs.NameChanges.{IsStepOf}
 use Rattle.trace_replay.specs.OwnCalls.{ComesTo}
-use Rattle.kept_promise.proofs.Common.{slice_get, nat_lt, if◌then◌else◌, Contains, Contains-append_left, Contains-append_right, Contains-push, Contains-push_cases, Failed, Status, Body, Message, WireFault, numbered, parse_of, Temp, size_most, temp_at, room_fault, piece_fault, cond_fault, assembled, without_temp, File, Node, file, directory, node_of, called, got_if, at, stands, makes, makes_unless, writes_unless, names_unless, names_bytes, commits, commits_to, commits_whole, has_waiting, is_full, makes_change, Wanted, Change, Entry, Op, Opening, Core, Session, Event, Event.Serves, Event.Settles, CoreStep, server_waiting, happens, Moment, step_of, client_of, is_in, Book, Queue, ask_message, change_of}
+use Rattle.kept_promise.proofs.Common.{slice_get, nat_lt, if◌then◌else◌, Contains, Contains-append_left, Contains-append_right, Contains-push, Contains-push_cases, Failed, Status, Body, Message, WireFault, numbered, parse_of, Temp, size_most, temp_at, room_fault, piece_fault, cond_fault, assembled, without_temp, File, Node, file, directory, node_of, called, got_if, at, stands, makes, makes_unless, writes_unless, names_unless, names_bytes, commits, commits_to, commits_whole, has_waiting, is_full, makes_change, Wanted, Change, Entry, Op, Opening, Core, Session, Event, Event.Serves, Event.Settles, CoreStep, server_waiting, server_waits, happens, Moment, step_of, client_of, is_in, Book, Queue, ask_message, change_of}
 use Rattle.kept_promise.proofs.Hangs.{left_there}
 use Rattle.kept_promise.proofs.TakenOut.{ready_waits}
 use Rattle.server_core.specs.Recalling.{comes, term_at}
@@ -34,9 +34,10 @@ use Rattle.kept_promise.proofs.Fits.{FitLaws}
 use Rattle.kept_promise.proofs.Serves.{parsed}
 use Rattle.kept_promise.proofs.Facts.{IsKept}
 use Rattle.kept_promise.proofs.Turns.{also_numbered}
-use Rattle.kept_promise.proofs.RunsCarried.{book_at, moment, Finds, Step, Carried}
+use Rattle.kept_promise.proofs.RunsCarried.{book_at, moment, FindsAsk, Step, Carried}
+use Rattle.kept_promise.proofs.CallsAlike.{call_read}
 use Rattle.kept_promise.proofs.ServesFiles.{count_is}
-use Rattle.kept_promise.proofs.SentUp.{WasCalled, UpsSent, called_after}
+use Rattle.kept_promise.proofs.SentUp.{WasCalled, UpsSent, called_after, call_asked, asked_only}
 use Rattle.kept_promise.proofs.OpsAfter.{ops_after_event}
 use Rattle.kept_promise.proofs.Logs.{IsSilent}
 use Rattle.kept_promise.proofs.Hangs.{left_there}
@@ -200,27 +201,27 @@ still k e t journal entries waiting = record { journal = inl (journal, entries);
 no_entries : (es : List ℕ) (count step : ℕ) → count ≡ 0 → es ++ replicate count step ≡ es
 no_entries es count step none = ap (λ m. es ++ replicate m step) none ∙ append-nil es
 
-pub taken_grows : (k : Core) (n now : ℕ) (bytes : List ℕ) (x : Session) (m : Message) → parse_of server_waiting bytes ≡ Ok m → Grows k (Serves n now bytes) (Rattle.trace_ends.specs.Core.server_got k n now x m)
+pub taken_grows : (k : Core) (n now : ℕ) (bytes : List ℕ) (x : Session) (m : Message) → parse_of (server_waits k n) bytes ≡ Ok m → Grows k (Serves n now bytes) (Rattle.trace_ends.specs.Core.server_got k n now x m)
 taken_grows k n now bytes x m read = record { journal = journal (stands k.server n) m read; came = came (stands k.server n) m read }
   where
-    journal : (b : Bool) (m : Message) → parse_of server_waiting bytes ≡ Ok m → (let r = got_if k.server b n m now in let t : CoreStep = record (Rattle.trace_ends.specs.Core.server_got k n now x m) { core = record (Rattle.trace_ends.specs.Core.server_got k n now x m).core { server = r.0; entries = k.entries ++ replicate r.1.entries (k.steps + 1) } } in
+    journal : (b : Bool) (m : Message) → parse_of (server_waits k n) bytes ≡ Ok m → (let r = got_if k.server b n m now in let t : CoreStep = record (Rattle.trace_ends.specs.Core.server_got k n now x m) { core = record (Rattle.trace_ends.specs.Core.server_got k n now x m).core { server = r.0; entries = k.entries ++ replicate r.1.entries (k.steps + 1) } } in
         ((t.core.server.journal ≡ k.server.journal) × (t.core.entries ≡ k.entries)) ⊎ GrewBy k (Serves n now bytes) t)
     journal true (message.Call xid b) read = by (body_grows (at k.server now) n xid b)
       where
         by : CallGrows n xid b (at k.server now) (called (at k.server now) n xid b) → (let r = called (at k.server now) n xid b in let t : CoreStep = record (Rattle.trace_ends.specs.Core.server_got k n now x (message.Call xid b)) { core = record (Rattle.trace_ends.specs.Core.server_got k n now x (message.Call xid b)).core { server = r.0; entries = k.entries ++ replicate r.1.entries (k.steps + 1) } } in ((t.core.server.journal ≡ k.server.journal) × (t.core.entries ≡ k.entries)) ⊎ GrewBy k (Serves n now bytes) t)
         by (inl h) = inl (h.0.0, no_entries k.entries _ (k.steps + 1) h.0.1)
         by (inr (may, comes, inl h)) = inl (h.0, no_entries k.entries _ (k.steps + 1) h.1)
-        by (inr (may, comes, inr g)) = inr (record { session = n; xid = xid; by = inl (now, bytes, b, refl, read, may); new = g.new; journal_is = g.journal_is; entries_is = ap (λ c. k.entries ++ replicate c (k.steps + 1)) g.count; sessions = g.sessions })
+        by (inr (may, comes, inr g)) = inr (record { session = n; xid = xid; by = inl (now, bytes, b, refl, call_read k n bytes xid b read, may); new = g.new; journal_is = g.journal_is; entries_is = ap (λ c. k.entries ++ replicate c (k.steps + 1)) g.count; sessions = g.sessions })
     journal true (message.Unfit xid why) read = inl (refl, append-nil k.entries)
     journal true (message.Answer xid b) read = inl (refl, append-nil k.entries)
     journal true (message.Refuse xid why) read = inl (refl, append-nil k.entries)
     journal false m read = inl (refl, append-nil k.entries)
 
-    came : (b : Bool) (m : Message) → parse_of server_waiting bytes ≡ Ok m → (i : ℕ) (c : Change) → slice_get (got_if k.server b n m now).0.waiting i ≡ Some c → ((j : ℕ) × (slice_get k.server.waiting j ≡ Some c)) ⊎ ((t : ℕ) × (z : List ℕ) × (b : Body) × (Serves n now bytes ≡ Serves c.session t z) × (parse_of server_waiting z ≡ Ok (message.Call c.xid b)) × MayEnter b)
+    came : (b : Bool) (m : Message) → parse_of (server_waits k n) bytes ≡ Ok m → (i : ℕ) (c : Change) → slice_get (got_if k.server b n m now).0.waiting i ≡ Some c → ((j : ℕ) × (slice_get k.server.waiting j ≡ Some c)) ⊎ ((t : ℕ) × (z : List ℕ) × (b : Body) × (Serves n now bytes ≡ Serves c.session t z) × (parse_of server_waiting z ≡ Ok (message.Call c.xid b)) × MayEnter b)
     came true (message.Call xid b) read i c there = by (body_grows (at k.server now) n xid b)
       where
         new : (d : Change) → d.session ≡ n → d.xid ≡ xid → MayEnter b → c ≡ d → (t : ℕ) × (z : List ℕ) × (b : Body) × (Serves n now bytes ≡ Serves c.session t z) × (parse_of server_waiting z ≡ Ok (message.Call c.xid b)) × MayEnter b
-        new d session number may same = (now, bytes, b, ap (λ i. Serves i now bytes) (sym session ∙ ap (λ (z : Change). z.session) (sym same)), read ∙ ap (λ i. Ok (message.Call i b)) (sym number ∙ ap (λ (z : Change). z.xid) (sym same)), may)
+        new d session number may same = (now, bytes, b, ap (λ i. Serves i now bytes) (sym session ∙ ap (λ (z : Change). z.session) (sym same)), call_read k n bytes xid b read ∙ ap (λ i. Ok (message.Call i b)) (sym number ∙ ap (λ (z : Change). z.xid) (sym same)), may)
 
         by : CallGrows n xid b (at k.server now) (called (at k.server now) n xid b) → ((j : ℕ) × (slice_get k.server.waiting j ≡ Some c)) ⊎ ((t : ℕ) × (z : List ℕ) × (b : Body) × (Serves n now bytes ≡ Serves c.session t z) × (parse_of server_waiting z ≡ Ok (message.Call c.xid b)) × MayEnter b)
         by (inl h) = inl (i, ap (λ (l : List Change). slice_get l i) (sym h.1) ∙ there)
@@ -298,7 +299,7 @@ entering_later past m session xid t = record {
 }
 
 -- a call that is taken had been sent
-taken_sent : FitLaws → (all past : List Moment) (opening : List Opening) (k : Core) (qs mid : List Queue) (n now : ℕ) (bytes : List ℕ) (xid : ℕ) (b : Body) → IsKept (book_at opening k all) k qs → Finds k qs (Serves n now bytes) mid → UpsSent past k.steps qs → parse_of server_waiting bytes ≡ Ok (message.Call xid b) → MayEnter b
+taken_sent : FitLaws → (all past : List Moment) (opening : List Opening) (k : Core) (qs mid : List Queue) (n now : ℕ) (bytes : List ℕ) (xid : ℕ) (b : Body) → IsKept (book_at opening k all) k qs → FindsAsk qs n bytes mid → UpsSent past k.steps qs → parse_of server_waiting bytes ≡ Ok (message.Call xid b) → MayEnter b
     → (t : TakesEntering (past ++ moment k (Serves n now bytes) ∷ []) n xid) × (step_of t.taken ≡ k.steps + 1)
 taken_sent fits all past opening k qs mid n now bytes xid b kept f sent read may = (
   record {
@@ -338,13 +339,16 @@ pub takes_for : FitLaws → (all past rest : List Moment) (opening : List Openin
     → (t : TakesEntering (past ++ moment k e ∷ []) n xid) × ComesTo (moment k e) n xid (step_of t.taken)
 takes_for fits all past rest opening k qs (Serves m at_ z) mid after s h n xid (inl (now, bytes, b, is, read, may)) =
     subst (λ i. (t : TakesEntering (past ++ moment k (Serves m at_ z) ∷ []) i xid) × ComesTo (moment k (Serves m at_ z)) i xid (step_of t.taken)) (session_is m n at_ now z bytes is)
-    (let w = taken_sent fits all past opening k qs mid m at_ z xid b s.kept s.finds h.called (ap (parse_of server_waiting) (bytes_are m n at_ now z bytes is) ∙ read) may in (w.0, inl (sym w.1)))
+    (let w = taken_sent fits all past opening k qs mid m at_ z xid b s.kept (asked_only fits k qs m at_ z mid s.finds xid b reads) h.called reads may in (w.0, inl (sym w.1)))
   where
     session_is : (n m i j : ℕ) (a b : List ℕ) → Serves n i a ≡ Serves m j b → n ≡ m
     session_is n m i j a b e = cc
 
     bytes_are : (n m i j : ℕ) (a b : List ℕ) → Serves n i a ≡ Serves m j b → a ≡ b
     bytes_are n m i j a b e = cc
+
+    reads : parse_of server_waiting z ≡ Ok (message.Call xid b)
+    reads = ap (parse_of server_waiting) (bytes_are m n at_ now z bytes is) ∙ read
 takes_for fits all past rest opening k qs (Settles at_) mid after s h n xid (inr (now, c, is, first, session, number)) =
     let z = ready_waits k.server now c first in
     let t = entering_later past (moment k (Settles at_)) c.session c.xid (h.waiting z.0 c z.1) in
@@ -445,4 +449,4 @@ journal_grows book m (inr g) owned = (let w = own (owned g.takes.sent.moment g.t
 
     own : IsSilent g.takes.sent.moment ⊎ ((k : ℕ) × (o : Op) × (slice_get book.ops k ≡ Some o) × (is_in o (step_of g.takes.sent.moment) (client_of g.takes.sent.moment.before g.takes.sent.moment.event) ≡ true)) → (k : ℕ) × (o : Op) × (slice_get book.ops k ≡ Some o) × IsStepOf o g.takes.sent.moment
     own (inr has) = has
-    own (inl silent) = absurd (none_sent (message.Call g.xid g.takes.call) (subst (λ (l : List Message). Contains l (message.Call g.xid g.takes.call)) silent.2 g.takes.sent.sent))
+    own (inl silent) = absurd (none_sent (message.Call g.xid g.takes.call) (subst (λ (l : List Message). Contains l (message.Call g.xid g.takes.call)) silent.2 (call_asked (happens g.takes.sent.moment.before g.takes.sent.moment.event).up g.xid g.takes.call g.takes.sent.sent)))

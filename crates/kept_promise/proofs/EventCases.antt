@@ -11,8 +11,9 @@ use Rattle.server_rules.specs.declared.told.Told.TheVariants as announced
 use Rattle.client_state.specs.declared.step.Outcome.TheVariants as outcome
 use Rattle.register_model.specs.declared.op.Word.TheVariants as words
 use Rattle.trace_ends.specs.Session.{taken_of as session_taken}
-use Rattle.trace_ends.specs.Core.{newest_entries, changed_file}
-use Rattle.kept_promise.proofs.Common.{slice_get, slice_set, cond, find, ◌==◌, Command, File, parse_of, WireFault, Message, Change, Wanted, server_step, got_step, ended_by, joined, Task, Op, Opening, TakenCall, taken_at, pointed, pointed_at, settled_ops, settled_by, Core, Seat, Session, Event, Event.Joins, Event.Does, Event.Serves, Event.Hears, Event.Settles, Event.Cuts, Event.Hangs, CoreStep, numbered, with_numbered, new_session, session_of, taken_with, server_waiting, serves_if, serves, acted, does, joins_as, joins, settles, cuts_if, cuts, hangs_if, hangs, happens, Moment, deed_by, Book, Queue, ask_message, told_message, ServerStep, connect, calls_by, joined_by}
+use Rattle.trace_ends.specs.Core.{newest_entries, changed_file, idles}
+use Rattle.server_core.specs.Leasing.{Leasing}
+use Rattle.kept_promise.proofs.Common.{slice_get, slice_set, cond, find, ◌==◌, Command, File, parse_of, WireFault, Message, Change, Wanted, server_step, reply_message, got_step, ended_by, joined, Task, Op, Opening, TakenCall, taken_at, pointed, pointed_at, settled_ops, settled_by, Core, Seat, Session, Event, Event.Joins, Event.Does, Event.Serves, Event.Hears, Event.Settles, Event.Cuts, Event.Hangs, CoreStep, numbered, with_numbered, new_session, session_of, taken_with, server_waits, serves_if, serves, acted, does, joins_as, joins, settles, cuts_if, cuts, hangs_if, hangs, happens, Moment, calls_in, sent_if, owner_in, client_of, Entries, Indexed, deed_by, Book, Queue, ask_message, told_message, ServerStep, connect, calls_by, joined_by}
 use Rattle.kept_promise.proofs.Lists.{some_is, nothing_there, same_or_not, kept_appended, set_else, set_count}
 use Rattle.kept_promise.proofs.PathNames.{IsSmall}
 use Rattle.kept_promise.proofs.Messages.{Job, job, job_of, WaitsFor, content_wanted}
@@ -22,8 +23,11 @@ use Rattle.kept_promise.proofs.Keys.{own}
 use Rattle.kept_promise.proofs.Turns.{also_numbered, around_with}
 use Rattle.kept_promise.proofs.Facts.{IsKept}
 use Rattle.kept_promise.proofs.Logs.{IsSilent}
-use Rattle.kept_promise.proofs.RunsCarried.{book_at, moment, Step, Finds}
+use Rattle.kept_promise.proofs.RunsCarried.{book_at, moment, Step, FindsAsk, FindsReply, FindsRecall}
 use Rattle.kept_promise.proofs.Actors.{Heard, heard_at, heard_acts, serves_read}
+use Rattle.kept_promise.proofs.Adjusts.{SameSeats, same_seats, one_seat, with_kept}
+use Rattle.kept_promise.proofs.Caches.{AddsNone, same_notes}
+use Rattle.kept_promise.proofs.Replies.{reply_taken, Recalled, recalled_step, recall_heard, recall_adds, recall_takes, recall_gives}
 use Rattle.kept_promise.proofs.Versions.{of_numbered, takens, Extends, extends_same}
 use Rattle.kept_promise.proofs.ServesFiles.{newest_one}
 use Rattle.kept_promise.proofs.TakenOut.{SettlesOut, settled_to}
@@ -89,8 +93,8 @@ settled_are book k qs now kept = by (settling book k qs now kept)
 
 -- ---- nothing is said
 
-pub joins_silent : (k : Core) (c : ℕ) → IsSilent (moment k (Joins c))
-joins_silent k c = (refl, refl, up (numbered k.seats c))
+pub joins_unsent : (k : Core) (c : ℕ) → (joins k c (numbered k.seats c)).up ≡ []
+joins_unsent k c = up (numbered k.seats c)
   where
     made : (z : Seat) (s : server.State) (o : Announced) → (joins_as k c z s o).up ≡ []
     made z s (announced.Session n) = refl
@@ -100,9 +104,12 @@ joins_silent k c = (refl, refl, up (numbered k.seats c))
     up None = refl
     up (Some z) = let r = server_step k.server event.Connect in made z r.0 r.1.told
 
+pub joins_silent : (k : Core) (c : ℕ) → IsSilent (moment k (Joins c))
+joins_silent k c = (refl, refl, ap calls_in (joins_unsent k c))
+
 pub serves_silent : (k : Core) (n now : ℕ) (bytes : List ℕ) (x : Option Session) → (let t = serves k n now bytes x in (t.up ≡ []) × (t.core.seats ≡ k.seats) × (k.steps ≤ t.core.steps))
 serves_silent k n now bytes None = (refl, refl, omega arith)
-serves_silent k n now bytes (Some x) = by (parse_of server_waiting bytes)
+serves_silent k n now bytes (Some x) = by (parse_of (server_waits k n) bytes)
   where
     by : (m : Result Message WireFault) → (let t = serves_if k n now x m in (t.up ≡ []) × (t.core.seats ≡ k.seats) × (k.steps ≤ t.core.steps))
     by (Ok m) = (refl, refl, omega arith)
@@ -116,8 +123,8 @@ hangs_silent k n (Some x) = by x.hung
     by true = (refl, refl, refl, omega arith)
     by false = (refl, refl, refl, omega arith)
 
-pub cuts_silent : (k : Core) (c : ℕ) → IsSilent (moment k (Cuts c))
-cuts_silent k c = (refl, refl, up (numbered k.seats c))
+pub cuts_unsent : (k : Core) (c : ℕ) → (cuts k c (numbered k.seats c)).up ≡ []
+cuts_unsent k c = up (numbered k.seats c)
   where
     acts : (t : Option Task) → (ended_by t (record { outcome = outcome.Lost; rests_on = 0 })).send ≡ []
     acts None = refl
@@ -130,6 +137,9 @@ cuts_silent k c = (refl, refl, up (numbered k.seats c))
     up : (o : Option Seat) → (cuts k c o).up ≡ []
     up None = refl
     up (Some z) = link z z.client.linked
+
+pub cuts_silent : (k : Core) (c : ℕ) → IsSilent (moment k (Cuts c))
+cuts_silent k c = (refl, refl, ap calls_in (cuts_unsent k c))
 
 -- ---- what was taken of a client's newest session
 
@@ -180,7 +190,7 @@ taken_more_at n (u ∷ taken) t lt = (λ y q e. keeps y q (u.xid == y) e ((taken
     adds y q false e later = later e
 
 -- what the server took of a session since is newer
-takens_serve : (k : Core) (n now : ℕ) (bytes : List ℕ) (m : Message) (x : Option Session) → parse_of server_waiting bytes ≡ Ok m → numbered k.sessions n ≡ x → (z : Seat) → Extends k.steps (takens k.sessions z) (takens (serves k n now bytes x).core.sessions z)
+takens_serve : (k : Core) (n now : ℕ) (bytes : List ℕ) (m : Message) (x : Option Session) → parse_of (server_waits k n) bytes ≡ Ok m → numbered k.sessions n ≡ x → (z : Seat) → Extends k.steps (takens k.sessions z) (takens (serves k n now bytes x).core.sessions z)
 takens_serve k n now bytes m None read is z = extends_same k.steps (takens k.sessions z)
 takens_serve k n now bytes m (Some x) read is z = subst (λ (r : Result Message WireFault). Extends k.steps (takens k.sessions z) (takens (serves_if k n now x r).core.sessions z)) (sym read) (takens_with k.steps n k.sessions x (record x { taken = taken_with x.taken m (k.steps + 1) }) z.session is (called m))
   where
@@ -190,28 +200,39 @@ takens_serve k n now bytes m (Some x) read is z = subst (λ (r : Result Message 
 
 -- ---- what an event comes to
 
--- clients and operations are as they were, but for a change that is made, and nothing is said
+-- clients and operations are as they were, but for a change that is made, and nothing is said for an operation
 pub record IsStill (k : Core) (e : Event) (t : CoreStep) : Type 0 where
   pub silent : IsSilent (moment k e)
-  pub up : t.up ≡ []
+  pub asks : calls_in t.up ≡ []
   pub passes : k.steps ≤ t.core.steps
   pub ops : Settled k t.core.ops
-  -- a client with a job is just as it was
-  pub jobs : (i : ℕ) (seat : Seat) (j : Job) → numbered t.core.seats i ≡ Some seat → job seat ≡ Some j → numbered k.seats i ≡ Some seat
+  -- a client with a job is just as it was, but for its clock, its index and what it keeps
+  pub jobs : (i : ℕ) (seat : Seat) (j : Job) → numbered t.core.seats i ≡ Some seat → job seat ≡ Some j → (old : Seat) × (es : Entries) × (ix : Indexed × ℕ) × (numbered k.seats i ≡ Some old) × (seat ≡ with_kept old es ix)
   -- what was taken of its session was so, or is taken now
   pub newer : (i : ℕ) (seat : Seat) → numbered k.seats i ≡ Some seat → Extends k.steps (takens k.sessions seat) (takens t.core.sessions seat)
-  -- what each client keeps is as it was
-  pub caches : (i : ℕ) (d : Seat) → numbered t.core.seats i ≡ Some d → (c : Seat) × (numbered k.seats i ≡ Some c) × (d.client.cache ≡ c.client.cache)
+  -- no client has a note more
+  pub notes : (i : ℕ) (d : Seat) → numbered t.core.seats i ≡ Some d → (c : Seat) × (numbered k.seats i ≡ Some c) × AddsNone c.client.cache d.client.cache
   -- no command is told
-  pub deedless : (past : List Moment) → deed_by past (k.steps + 1) e ≡ []
+  pub deedless : (past : List Moment) → deed_by past k e ≡ []
 
--- nothing becomes of any client
+-- its job was that, too
+pub old_job : (old seat : Seat) (es : Entries) (ix : Indexed × ℕ) (j : Job) → seat ≡ with_kept old es ix → job seat ≡ Some j → job old ≡ Some j
+old_job old seat es ix j same is = ap job (sym same) ∙ is
+
+-- nothing becomes of any client, but of its clock, its index and what it keeps
 pub record IsIdle (k : Core) (e : Event) (t : CoreStep) : Type 0 where
   pub still : IsStill k e t
-  pub seats : t.core.seats ≡ k.seats
+  pub seats : SameSeats k.seats t.core.seats
   pub links : (i : ℕ) (seat : Seat) → numbered k.seats i ≡ Some seat → seat.client.linked ≡ joined_by i seat.client.linked e
   pub uncalled : (i n : ℕ) → calls_by i n (moment k e) ≡ n
   pub count : length t.core.sessions ≡ length k.sessions
+
+-- each client is as it was
+abbrev as_was : (seats : List Seat) (i : ℕ) (seat : Seat) → numbered seats i ≡ Some seat → (old : Seat) × (es : Entries) × (ix : Indexed × ℕ) × (numbered seats i ≡ Some old) × (seat ≡ with_kept old es ix)
+as_was seats i seat there = (seat, seat.client.cache, (seat.client.index, seat.client.clock), there, refl)
+
+abbrev none_more : (seats : List Seat) (i : ℕ) (d : Seat) → numbered seats i ≡ Some d → (c : Seat) × (numbered seats i ≡ Some c) × AddsNone c.client.cache d.client.cache
+none_more seats i d at = (d, at, same_notes d.client.cache)
 
 -- a client that joins has a session
 abbrev pub joins_now : Core → (c : ℕ) → Seat → CoreStep
@@ -242,17 +263,17 @@ pub record EventCases (all past rest : List Moment) (opening : List Opening) (k 
 joins_still : (book : Book) (k : Core) (qs : List Queue) (c : ℕ) (seat : Seat) → IsKept book k qs → numbered k.seats c ≡ Some seat → seat.client.linked ≡ false → (s : server.State) (o : Announced) → IsStill k (Joins c) (joins_as k c seat s o)
 joins_still book k qs c seat kept here free s (announced.Session made) = record {
   silent = joins_silent k c;
-  up = refl;
+  asks = refl;
   passes = omega arith;
   ops = inl refl;
   jobs = λ i z j there is. elim (of_numbered k.seats c new i z there) [
     | inl mine ↦ nothing_there j (sym (idle seat.place) ∙ ap job (sym mine.1) ∙ is)
-    | inr other ↦ other.1
+    | inr other ↦ as_was k.seats i z other.1
   ];
   newer = λ i z there. takens_more k.steps k.sessions (new_session c) z.session (λ l e. let x = (kept.seats i z there).session l e in (x.0, x.1));
-  caches = λ i d at. elim (of_numbered k.seats c new i d at) [
-    | inl mine ↦ (seat, ap (numbered k.seats) mine.0 ∙ here, ap (λ (z : Seat). z.client.cache) mine.1)
-    | inr other ↦ (d, other.1, refl)
+  notes = λ i d at. elim (of_numbered k.seats c new i d at) [
+    | inl mine ↦ (seat, ap (numbered k.seats) mine.0 ∙ here, subst (λ (z : Seat). AddsNone seat.client.cache z.client.cache) (sym mine.1) (same_notes seat.client.cache))
+    | inr other ↦ none_more k.seats i d other.1
   ];
   deedless = λ past. refl;
 }
@@ -266,43 +287,7 @@ joins_still book k qs c seat kept here free s (announced.Session made) = record 
     idle : (l : Option ℕ) → job_of l seat.client.task ≡ None
     idle None = refl
     idle (Some l) = ap (job_of (Some l)) none
-joins_still book k qs c seat kept here free s _ = record { silent = joins_silent k c; up = refl; passes = omega arith; ops = inl refl; jobs = λ i z j there is. there; newer = λ i z there. extends_same k.steps (takens k.sessions z); caches = λ i d at. (d, at, refl); deedless = λ past. refl }
-
-serves_still : FitLaws → (book : Book) (k : Core) (qs : List Queue) (n now : ℕ) (bytes : List ℕ) (mid : List Queue) → IsKept book k qs → Finds k qs (Serves n now bytes) mid → IsStill k (Serves n now bytes) (happens k (Serves n now bytes))
-serves_still laws book k qs n now bytes mid kept f =
-    let q = serves_quiet laws book k qs n now bytes mid kept f in
-    record {
-      silent = (refl, refl, q.up);
-      up = q.up;
-      passes = q.passes;
-      ops = elim q.ops [ inl same ↦ inl same | inr made ↦ inr (change_of made) ];
-      jobs = λ i z j there is. ap (λ (l : List Seat). numbered l i) (sym q.seats) ∙ there;
-      newer = λ i z there. takens_serve k n now bytes (ask_message f.1) (numbered k.sessions n) (serves_read laws book k qs n now bytes mid kept f) refl z;
-      caches = λ i d at. (d, ap (λ (l : List Seat). numbered l i) (sym q.seats) ∙ at, refl);
-      deedless = λ past. refl;
-    }
-
-hangs_still : (k : Core) (n : ℕ) → IsStill k (Hangs n) (hangs k n (numbered k.sessions n))
-hangs_still k n =
-    let q = hangs_silent k n (numbered k.sessions n) in
-    record {
-      silent = (refl, refl, q.0);
-      up = q.0;
-      passes = q.3;
-      ops = inl q.1;
-      jobs = λ i z j there is. ap (λ (l : List Seat). numbered l i) (sym q.2) ∙ there;
-      newer = λ i z there. later z (numbered k.sessions n) refl;
-      caches = λ i d at. (d, ap (λ (l : List Seat). numbered l i) (sym q.2) ∙ at, refl);
-      deedless = λ past. refl;
-    }
-  where
-    later : (z : Seat) (x : Option Session) → numbered k.sessions n ≡ x → Extends k.steps (takens k.sessions z) (takens (hangs k n x).core.sessions z)
-    later z None at = extends_same k.steps (takens k.sessions z)
-    later z (Some x) at = by x.hung
-      where
-        by : (b : Bool) → Extends k.steps (takens k.sessions z) (takens (hangs_if k n x b).core.sessions z)
-        by true = extends_same k.steps (takens k.sessions z)
-        by false = takens_with k.steps n k.sessions x (record x { hung = true }) z.session at (extends_same k.steps x.taken)
+joins_still book k qs c seat kept here free s _ = record { silent = joins_silent k c; asks = refl; passes = omega arith; ops = inl refl; jobs = λ i z j there is. as_was k.seats i z there; newer = λ i z there. extends_same k.steps (takens k.sessions z); notes = λ i d at. none_more k.seats i d at; deedless = λ past. refl }
 
 -- ---- how many sessions there are
 
@@ -312,7 +297,7 @@ with_count xs (suc n) x = set_count xs n x
 
 serves_count : (k : Core) (n now : ℕ) (bytes : List ℕ) (o : Option Session) → length (serves k n now bytes o).core.sessions ≡ length k.sessions
 serves_count k n now bytes None = refl
-serves_count k n now bytes (Some x) = by (parse_of server_waiting bytes)
+serves_count k n now bytes (Some x) = by (parse_of (server_waits k n) bytes)
   where
     by : (m : Result Message WireFault) → length (serves_if k n now x m).core.sessions ≡ length k.sessions
     by (Ok m) = with_count k.sessions n _
@@ -325,6 +310,101 @@ hangs_count k n (Some x) = by x.hung
     by : (b : Bool) → length (hangs_if k n x b).core.sessions ≡ length k.sessions
     by true = refl
     by false = with_count k.sessions n _
+
+-- ---- the server takes a call, or an answer to a RECALL
+
+asks_still : FitLaws → (book : Book) (k : Core) (qs : List Queue) (n now : ℕ) (bytes : List ℕ) (mid : List Queue) → IsKept book k qs → FindsAsk qs n bytes mid → IsStill k (Serves n now bytes) (happens k (Serves n now bytes))
+asks_still laws book k qs n now bytes mid kept f =
+    let q = serves_quiet laws book k qs n now bytes mid kept (inl f) in
+    record {
+      silent = (refl, refl, ap calls_in q.up);
+      asks = ap calls_in q.up;
+      passes = q.passes;
+      ops = elim q.ops [ inl same ↦ inl same | inr made ↦ inr (change_of made) ];
+      jobs = λ i z j there is. as_was k.seats i z (ap (λ (l : List Seat). numbered l i) (sym q.seats) ∙ there);
+      newer = λ i z there. takens_serve k n now bytes (ask_message f.1) (numbered k.sessions n) (serves_read laws book k qs n now bytes mid kept f) refl z;
+      notes = λ i d at. none_more k.seats i d (ap (λ (l : List Seat). numbered l i) (sym q.seats) ∙ at);
+      deedless = λ past. refl;
+    }
+
+asks_idle : FitLaws → (book : Book) (k : Core) (qs : List Queue) (n now : ℕ) (bytes : List ℕ) (mid : List Queue) → IsKept book k qs → FindsAsk qs n bytes mid → IsIdle k (Serves n now bytes) (happens k (Serves n now bytes))
+asks_idle laws book k qs n now bytes mid kept f =
+    let q = serves_quiet laws book k qs n now bytes mid kept (inl f) in
+    record {
+      still = asks_still laws book k qs n now bytes mid kept f;
+      seats = subst (SameSeats k.seats) (sym q.seats) (same_seats k.seats);
+      links = λ i seat at. refl;
+      uncalled = λ i m. no_calls i 0 m (happens k (Serves n now bytes)).up q.up;
+      count = serves_count k n now bytes (numbered k.sessions n);
+    }
+
+-- the leasing of the server alone changes
+reply_idle : (k : Core) (n now : ℕ) (bytes : List ℕ) (l : Leasing) → happens k (Serves n now bytes) ≡ idles (record k { server = record k.server { leasing = l } }) → IsIdle k (Serves n now bytes) (idles (record k { server = record k.server { leasing = l } }))
+reply_idle k n now bytes l is = record {
+  still = record {
+    silent = (refl, refl, ap (λ (t : CoreStep). calls_in t.up) is);
+    asks = refl;
+    passes = omega arith;
+    ops = inl refl;
+    jobs = λ i z j there on. as_was k.seats i z there;
+    newer = λ i z there. extends_same k.steps (takens k.sessions z);
+    notes = λ i d at. none_more k.seats i d at;
+    deedless = λ past. refl;
+  };
+  seats = same_seats k.seats;
+  links = λ i seat at. refl;
+  uncalled = λ i m. no_calls i 0 m (happens k (Serves n now bytes)).up (ap (λ (t : CoreStep). t.up) is);
+  count = refl;
+}
+
+-- ---- a client hears a RECALL
+
+recall_idle : (k : Core) (n now : ℕ) (bytes : List ℕ) (r : Recalled k n now bytes) → IsIdle k (Hears n now bytes) (recalled_step k r.session.owner now r.seat r.cache r.xid)
+recall_idle k n now bytes r = record {
+  still = record {
+    silent = (recall_takes k n now bytes r, recall_gives k n now bytes r, ap (λ (t : CoreStep). calls_in t.up) r.is);
+    asks = refl;
+    passes = omega arith;
+    ops = inl refl;
+    jobs = λ i z j there on. (let w = same.was i z there in (w.0, w.1, w.2, w.3, w.4));
+    newer = λ i z there. extends_same k.steps (takens k.sessions z);
+    notes = λ i d at. (let w = same.was i d at in (w.0, w.3, subst (λ (z : Seat). AddsNone w.0.client.cache z.client.cache) (sym w.4) w.5));
+    deedless = λ past. refl;
+  };
+  seats = same;
+  links = λ i seat at. refl;
+  uncalled = λ i m. ap (λ (t : CoreStep). m + sent_if (client_of k (Hears n now bytes) == i) t.up) r.is ∙ by m (client_of k (Hears n now bytes) == i);
+  count = refl;
+}
+  where
+    same : SameSeats k.seats (with_numbered k.seats r.session.owner (with_kept r.seat r.cache (r.seat.client.index, now)))
+    same = one_seat k.seats r.session.owner r.seat r.cache (r.seat.client.index, now) r.owner (recall_adds k n now bytes r)
+
+    by : (m : ℕ) (b : Bool) → m + sent_if b (reply_message r.xid ∷ []) ≡ m
+    by m true = omega arith
+    by m false = omega arith
+
+hangs_still : (k : Core) (n : ℕ) → IsStill k (Hangs n) (hangs k n (numbered k.sessions n))
+hangs_still k n =
+    let q = hangs_silent k n (numbered k.sessions n) in
+    record {
+      silent = (refl, refl, ap calls_in q.0);
+      asks = ap calls_in q.0;
+      passes = q.3;
+      ops = inl q.1;
+      jobs = λ i z j there is. as_was k.seats i z (ap (λ (l : List Seat). numbered l i) (sym q.2) ∙ there);
+      newer = λ i z there. later z (numbered k.sessions n) refl;
+      notes = λ i d at. none_more k.seats i d (ap (λ (l : List Seat). numbered l i) (sym q.2) ∙ at);
+      deedless = λ past. refl;
+    }
+  where
+    later : (z : Seat) (x : Option Session) → numbered k.sessions n ≡ x → Extends k.steps (takens k.sessions z) (takens (hangs k n x).core.sessions z)
+    later z None at = extends_same k.steps (takens k.sessions z)
+    later z (Some x) at = by x.hung
+      where
+        by : (b : Bool) → Extends k.steps (takens k.sessions z) (takens (hangs_if k n x b).core.sessions z)
+        by true = extends_same k.steps (takens k.sessions z)
+        by false = takens_with k.steps n k.sessions x (record x { hung = true }) z.session at (extends_same k.steps x.taken)
 
 -- ---- any event
 
@@ -343,21 +423,21 @@ event_turns laws all past rest opening k qs (Joins c) mid after s Z cases =
     let still = joins_still (book_at opening k all) k qs c seat s.kept s.finds.1 s.finds.2 (connect k.server true).0 (connect k.server true).1.told in
     subst (λ (o : Option Seat). Z (Joins c) (joins k c o)) (sym s.finds.1) (subst (λ (r : server.State × ServerStep). Z (Joins c) (joins_as k c s.finds.0 r.0 r.1.told)) (sym (connects k.server s.finds.3 s.finds.4)) (cases.joins c seat refl s s.finds.1 still))
 event_turns laws all past rest opening k qs (Does c now d) mid after s Z cases = subst (λ (o : Option Seat). IsKept (book_at opening (does k c now d o).core all) (does k c now d o).core after → Z (Does c now d) (does k c now d o)) (sym s.finds.1) (cases.begins c now d s.finds.0 s s.finds.1 s.finds.2) s.left
-event_turns laws all past rest opening k qs (Serves n now bytes) mid after s Z cases =
-    let q = serves_quiet laws (book_at opening k all) k qs n now bytes mid s.kept s.finds in
-    cases.idle (happens k (Serves n now bytes)) (record {
-      still = serves_still laws (book_at opening k all) k qs n now bytes mid s.kept s.finds;
-      seats = q.seats;
-      links = λ i seat at. refl;
-      uncalled = λ i m. no_calls i 0 m (happens k (Serves n now bytes)).up q.up;
-      count = serves_count k n now bytes (numbered k.sessions n);
-    })
-event_turns laws all past rest opening k qs (Hears n now bytes) mid after s Z cases =
-    let h = heard_at (book_at opening k all) k qs n now bytes mid s.kept s.finds in
-    subst (λ (t : CoreStep). IsKept (book_at opening t.core all) t.core after → Z (Hears n now bytes) t) (sym (heard_acts laws (book_at opening k all) k qs n now bytes mid s.kept h)) (cases.hears n now bytes s h) s.left
+event_turns laws all past rest opening k qs (Serves n now bytes) mid after s Z cases = elim s.finds [
+  | inl ask ↦ cases.idle (happens k (Serves n now bytes)) (asks_idle laws (book_at opening k all) k qs n now bytes mid s.kept ask)
+  | inr reply ↦ (let l = reply_taken laws k qs n now bytes mid reply in subst (Z (Serves n now bytes)) (sym l.1) (cases.idle (idles (record k { server = record k.server { leasing = l.0 } })) (reply_idle k n now bytes l.0 l.1)))
+]
+event_turns laws all past rest opening k qs (Hears n now bytes) mid after s Z cases = elim s.finds [
+  | inl told ↦
+      let h = heard_at (book_at opening k all) k qs n now bytes mid s.kept told in
+      subst (λ (t : CoreStep). IsKept (book_at opening t.core all) t.core after → Z (Hears n now bytes) t) (sym (heard_acts laws (book_at opening k all) k qs n now bytes mid s.kept h)) (cases.hears n now bytes s h) s.left
+  | inr recall ↦
+      let r = recall_heard laws (book_at opening k all) k qs n now bytes mid s.kept recall in
+      subst (Z (Hears n now bytes)) (sym r.is) (cases.idle (recalled_step k r.session.owner now r.seat r.cache r.xid) (recall_idle k n now bytes r))
+]
 event_turns laws all past rest opening k qs (Settles now) mid after s Z cases = cases.idle (settles k now) (record {
-  still = record { silent = (refl, refl, refl); up = refl; passes = omega arith; ops = settled_are (book_at opening k all) k qs now s.kept; jobs = λ i z j there is. there; newer = λ i z there. extends_same k.steps (takens k.sessions z); caches = λ i d at. (d, at, refl); deedless = λ past. refl };
-  seats = refl;
+  still = record { silent = (refl, refl, refl); asks = refl; passes = omega arith; ops = settled_are (book_at opening k all) k qs now s.kept; jobs = λ i z j there is. as_was k.seats i z there; newer = λ i z there. extends_same k.steps (takens k.sessions z); notes = λ i d at. none_more k.seats i d at; deedless = λ past. refl };
+  seats = same_seats k.seats;
   links = λ i seat at. refl;
   uncalled = λ i m. no_calls i 0 m [] refl;
   count = refl;
@@ -367,17 +447,17 @@ event_turns laws all past rest opening k qs (Cuts c) mid after s Z cases = subst
     by : (b : Bool) → s.finds.0.client.linked ≡ b → IsKept (book_at opening (cuts_if k c s.finds.0 b).core all) (cuts_if k c s.finds.0 b).core after → Z (Cuts c) (cuts_if k c s.finds.0 b)
     by true is left = cases.lost c s.finds.0 s s.finds.1 left
     by false is left = cases.idle (cuts_if k c s.finds.0 false) (record {
-      still = record { silent = cuts_silent k c; up = refl; passes = omega arith; ops = inl refl; jobs = λ i z j there is. there; newer = λ i z there. extends_same k.steps (takens k.sessions z); caches = λ i d at. (d, at, refl); deedless = λ past. refl };
-      seats = refl;
+      still = record { silent = cuts_silent k c; asks = refl; passes = omega arith; ops = inl refl; jobs = λ i z j there is. as_was k.seats i z there; newer = λ i z there. extends_same k.steps (takens k.sessions z); notes = λ i d at. none_more k.seats i d at; deedless = λ past. refl };
+      seats = same_seats k.seats;
       links = cut_links k c s.finds.0 s.finds.1 is;
-      uncalled = λ i m. no_calls i 0 m (happens k (Cuts c)).up (cuts_silent k c).2;
+      uncalled = λ i m. no_calls i 0 m (happens k (Cuts c)).up (cuts_unsent k c);
       count = refl;
     })
 event_turns laws all past rest opening k qs (Hangs n) mid after s Z cases =
     let q = hangs_silent k n (numbered k.sessions n) in
     cases.idle (hangs k n (numbered k.sessions n)) (record {
       still = hangs_still k n;
-      seats = q.2;
+      seats = subst (SameSeats k.seats) (sym q.2) (same_seats k.seats);
       links = λ i seat at. refl;
       uncalled = λ i m. no_calls i 0 m (happens k (Hangs n)).up q.0;
       count = hangs_count k n (numbered k.sessions n);

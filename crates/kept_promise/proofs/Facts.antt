@@ -8,7 +8,7 @@ use Rattle.client_state.specs.State as client
 use Rattle.client_state.specs.declared.task.Stage.TheVariants as stage
 use Rattle.client_state.specs.declared.task.Way.TheVariants as way
 use Rattle.register_model.specs.declared.op.Outcome.TheVariants as told
-use Rattle.kept_promise.proofs.Common.{slice_get, not, MessageFits, Pending, stands, Temp, key_of, Change, File, Local, Stage, StoreCall, Op, Core, Seat, Session, numbered, hashed_of, Book, HadContent, Or, value_at, version_at, Call, Call.Commit, Call.Walks, Ask, Queue, told_message, cond, changes, Leasing, unleased}
+use Rattle.kept_promise.proofs.Common.{slice_get, not, MessageFits, Pending, stands, Temp, key_of, Change, File, Local, Stage, StoreCall, Op, Core, Seat, Session, numbered, hashed_of, Book, HadContent, Or, value_at, version_at, Call, Call.Commit, Call.Walks, Ask, Queue, told_message, cond, changes, Leasing, taken_at}
 use Rattle.kept_promise.proofs.PathNames.{IsWalkSmall, walk_calls, is_creating}
 use Rattle.kept_promise.proofs.Statements.{CallFits}
 use Rattle.kept_promise.proofs.Keys.{times, own, on_way, pending_key, IsOurs}
@@ -57,6 +57,8 @@ pub record IsTalk (book : Book) (n : ℕ) (waiting : List Change) (x : Session) 
   pub floor : ℕ
   pub under : AllUnder floor x.taken
   pub rising : Rising floor q.ups seat.client.next_xid
+  -- numbers of calls begin with 1
+  pub numbered : (0 < floor) × (taken_at x.taken 0 ≡ None)
   pub asked : AllAsks (IsAsked (job seat)) q.ups
   pub answers : AllTolds (IsAnswer book x.taken x.closing (job seat)) q.downs
   pub fetch : HasFetch book x.taken (job seat)
@@ -117,7 +119,7 @@ pub record IsOf (book : Book) (i : ℕ) (j : Job) : Type 0 where
 
 -- each content that is kept of a file is what it had in its version: what is kept under 0 is no file's
 abbrev pub Cached : Book → Entries → Type 0
-Cached book cache = (f : ℕ) (c : Content) → kept_of cache f ≡ Some c → (0 < f → HadContent book f c.version c.bytes) × (length c.bytes ≤ 67108864)
+Cached book cache = (f : ℕ) (c : Content) → kept_of cache f ≡ Some c → (0 < f → HadContent book f c.version c.bytes) × (length c.bytes ≤ 67108864) × (0 < f → WasThere book f) × (f ≡ 0 → c.version ≡ 0)
 
 -- an operation is under way where a task is
 abbrev pub IsMatched : Seat → Type 0
@@ -159,9 +161,9 @@ abbrev pub IsWanted : (file : ℕ) → Wanted → Type 0
 IsWanted file (wanted.Content content) = Unit {0}
 IsWanted file (wanted.Asked a) = (file ≡ file_of a) × AreTwo a × IsWalkSmall (walk_for a)
 
--- no lease stands, and none is granted
-abbrev pub GrantsNone : Leasing → Type 0
-GrantsNone g = g ≡ unleased g.moment
+-- the term has a record
+abbrev pub HasTerm : Leasing → Type 0
+HasTerm g = g.term < 4294967296
 
 pub record IsServer (book : Book) (s : server.State) : Type 0 where
   pub held : (f : ℕ) → FileIs book f (the_files.file_at s.tree f)
@@ -181,7 +183,7 @@ pub record IsServer (book : Book) (s : server.State) : Type 0 where
   -- each change that waits is of a file of the tree
   pub targets : (i : ℕ) (c : Change) → slice_get s.waiting i ≡ Some c → WasThere book c.file
   pub xids : (i : ℕ) (c : Change) → slice_get s.waiting i ≡ Some c → c.xid < 4294967296
-  pub leases : GrantsNone s.leasing
+  pub leases : HasTerm s.leasing
 
 -- ---- all of it
 

@@ -1,6 +1,6 @@
 -- Only an open, or a rewrite, is told of a file that a path stands for, and a walk that goes on is one of the same command.
 use Rattle.std.specs.Prelude.{nat_le}
-use Rattle.std.proofs.Common.{◌≡◌, ℕ, ◌+◌, List, [], ◌∷◌, Option, Some, None, Bool, true, false, refl, sym, ap, ◌∙◌, subst}
+use Rattle.std.proofs.Common.{◌≡◌, ℕ, ◌+◌, List, [], ◌∷◌, Option, Some, None, Bool, true, false, refl, subst}
 use Rattle.nfs3_calls.specs.declared.message.Nfs.{Nfs}
 use Rattle.nfs3_calls.specs.declared.message.Nfs.TheVariants as nfs
 use Rattle.nfs3_calls.specs.declared.listing.Entry.{Entry}
@@ -25,12 +25,12 @@ use Rattle.kept_promise.proofs.Messages.{goal_word}
 -- ---- a file is found for an open or a rewrite alone
 
 -- what this word asks for, where a file is found
-abbrev FoundFor : Word → Told → Type 0
+abbrev pub FoundFor : Word → Told → Type 0
 FoundFor what (told.Finds id) = what ≡ words.Open
 FoundFor what (told.Rewrites id) = what ≡ words.Rewrite
 FoundFor what t = Unit {0}
 
-found_for : (w : Walk) (a : Nfs) → FoundFor (goal_word w.goal) (walk_told w a)
+pub found_for : (w : Walk) (a : Nfs) → FoundFor (goal_word w.goal) (walk_told w a)
 found_for w a = by a
   where
     down : (what : Word) (ns : List (List ℕ)) (g : Goal) (o : Option ℕ) → FoundFor what (goes_down ns g o)

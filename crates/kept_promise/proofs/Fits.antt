@@ -2,10 +2,11 @@
 use Rattle.std.proofs.Common.{◌≡◌, Ok}
 use Rattle.wire.specs.Message.{IsSpelled}
 use Rattle.kept_promise.proofs.Common.{message_spell, parse_of, IsExpected, Message, Waiting}
-use Rattle.kept_promise.proofs.Statements.{CallsFit, HashAnswersFit, LeaseAnswersFit, ReadAnswersFit, PlainAnswersFit, NameAnswersFit, MakingAnswersFit, GoingAnswersFit, SettledAnswersFit}
+use Rattle.kept_promise.proofs.Statements.{CallsFit, CallsExpected, HashAnswersFit, LeaseAnswersFit, ReadAnswersFit, PlainAnswersFit, NameAnswersFit, MakingAnswersFit, GoingAnswersFit, SettledAnswersFit}
 
 pub record FitLaws : Type 0 where
   pub calls : CallsFit
+  pub expected : CallsExpected
   pub hashes : HashAnswersFit
   pub leases : LeaseAnswersFit
   pub reads : ReadAnswersFit

@@ -14,13 +14,18 @@ use Rattle.kept_promise.proofs.Keys.{own}
 use Rattle.kept_promise.proofs.Turns.{around_with, also_numbered}
 use Rattle.kept_promise.proofs.Facts.{IsMatched, IsKept, is_naming}
 use Rattle.kept_promise.proofs.Adjusts.{SameSeats, adjusted_core}
-use Rattle.kept_promise.proofs.RunsCarried.{book_at, first_core, moment, Step, Carried}
+use Rattle.kept_promise.proofs.RunsCarried.{Header, book_at, first_core, moment, Step, Carried}
 use Rattle.kept_promise.proofs.Leaving.{Leaves, step_left, step_idle}
 use Rattle.kept_promise.proofs.Numbering.{got_number, command_number, calls_more, no_calls, other_calls, own_calls}
 use Rattle.kept_promise.proofs.Locally.{deeds_more, joined_more, idles_by, leaves_untold}
 use Rattle.kept_promise.proofs.Deeds.{also_there, local_of, HasDeeds, Moved, AllMoved, all_same, stays_by, all_stay, deeds_moved, IsOnNames, stays_named, StaysBy, IsDeed}
 use Rattle.kept_promise.proofs.Ways.{HasWays, InDeeds, stage_case, job_parts, command_goes, ways_added, ways_acted}
-use Rattle.kept_promise.proofs.WalkLeaves.{EndsNeither, walk_left, got_file}
+use Rattle.kept_promise.proofs.WalkLeaves.{OpensNow, EndsNeither, walk_left, got_file}
+use Rattle.client_state.specs.Noting.{at as clocked}
+use Rattle.client_state.specs.Ending.{may_ask}
+use Rattle.trace_replay.specs.Trail.{is_fresh_for}
+use Rattle.kept_promise.proofs.Answering.{fresh_by, may_go}
+use Rattle.kept_promise.proofs.Common.{◌||◌, can_ask}
 use Rattle.kept_promise.proofs.StepCases.{IsOfFile}
 use Rattle.kept_promise.proofs.Messages.{job, job_of, stage_word}
 use Rattle.kept_promise.proofs.Acting.{all_set, stay_set, HasWord, caused_word, locals_with, Acts, acted_follows, set_same}
@@ -30,7 +35,7 @@ use Rattle.kept_promise.proofs.PathNames.{IsSmall}
 use Rattle.kept_promise.proofs.Fits.{FitLaws}
 use Rattle.kept_promise.proofs.MakingGoals.{file_unnamed}
 use Rattle.kept_promise.proofs.Rights.{gets_file}
-use Rattle.kept_promise.proofs.EventCases.{IsChange, Remembers, Settled, IsIdle, joins_now, event_turns, cuts_silent}
+use Rattle.kept_promise.proofs.EventCases.{IsChange, Remembers, Settled, IsIdle, joins_now, event_turns, cuts_unsent}
 use Rattle.kept_promise.proofs.Actors.{Heard, heard_acts}
 use Rattle.register_model.specs.declared.op.Word.{Word}
 
@@ -52,7 +57,7 @@ pub record Goes (past : List Moment) (k : Core) (e : Event) (after : Core) : Typ
   pub followed : IsFollowed (past ++ moment k e ∷ []) after
   pub ops : OpsAfter k after.ops
   -- but by a command there is none more
-  pub moved : deed_by past (k.steps + 1) e ≡ [] → AllMoved (k.steps + 1) k.ops after.ops
+  pub moved : deed_by past k e ≡ [] → AllMoved (k.steps + 1) k.ops after.ops
   pub passes : k.steps ≤ after.steps
 
 -- ---- before the first event
@@ -62,35 +67,35 @@ replicated zero i x y e = nothing_there y e
 replicated (suc n) zero x y e = sym (some_is x y e)
 replicated (suc n) (suc i) x y e = replicated n i x y e
 
-pub seat_first : (count c : ℕ) (seat : Seat) → numbered (replicate count new_seat) c ≡ Some seat → seat ≡ new_seat
-seat_first count zero seat e = nothing_there seat e
-seat_first count (suc c) seat e = replicated count c new_seat seat e
+pub seat_first : (drift count c : ℕ) (seat : Seat) → numbered (replicate count (new_seat drift)) c ≡ Some seat → seat ≡ new_seat drift
+seat_first drift count zero seat e = nothing_there seat e
+seat_first drift count (suc c) seat e = replicated count c (new_seat drift) seat e
 
-pub followed_first : (tree : Tree) (count : ℕ) → IsFollowed [] (first_core tree count)
+pub followed_first : (tree : Tree) (count : Header) → IsFollowed [] (first_core tree count)
 unfolding calls_most
 followed_first tree count = record {
   deeds = record {
     count = refl;
     rising = λ i j o q lt a b. nothing_there o a;
     each = λ i d o a b. nothing_there d a;
-    locals = λ c seat at f. ap (λ (x : Seat). local_of x.client f) (seat_first count c seat at);
+    locals = λ c seat at f. ap (λ (x : Seat). local_of x.client f) (seat_first count.drift count.count c seat at);
   };
-  joined = λ c seat at. ap (λ (x : Seat). x.client.linked) (seat_first count c seat at);
-  next = λ c seat at. let n = ap (λ (x : Seat). x.client.next_xid) (seat_first count c seat at) in omega (arith, n);
-  calls = λ c seat at. ap (λ (x : Seat). x.client.next_xid) (seat_first count c seat at);
+  joined = λ c seat at. ap (λ (x : Seat). x.client.linked) (seat_first count.drift count.count c seat at);
+  next = λ c seat at. let n = ap (λ (x : Seat). x.client.next_xid) (seat_first count.drift count.count c seat at) in omega (arith, n);
+  calls = λ c seat at. ap (λ (x : Seat). x.client.next_xid) (seat_first count.drift count.count c seat at);
   few = λ i d at. nothing_there d at;
   ways = λ c seat j d at is there. nothing_there d there;
 }
 
 -- ---- an event that is no command
 
-pub no_deed : (past : List Moment) (k : Core) (e : Event) → deed_by past (k.steps + 1) e ≡ [] → deeds_of (past ++ moment k e ∷ []) ≡ deeds_of past
+pub no_deed : (past : List Moment) (k : Core) (e : Event) → deed_by past k e ≡ [] → deeds_of (past ++ moment k e ∷ []) ≡ deeds_of past
 no_deed past k e none = deeds_more past (moment k e) ∙ ap (λ l. deeds_of past ++ l) none ∙ append-nil (deeds_of past)
 
 pub begins : (opening : List Opening) (k : Core) (all : List Moment) (qs : List Queue) → IsKept (book_at opening k all) k qs → (i : ℕ) (o : Op) → slice_get k.ops i ≡ Some o → o.begin < k.steps + 1
 begins opening k all qs kept i o at = let le = (kept.sound.rights i o at).begun in omega (arith, le)
 
-goes_by : (past : List Moment) (k : Core) (e : Event) (after : Core) → IsFollowed past k → deed_by past (k.steps + 1) e ≡ [] → AllMoved (k.steps + 1) k.ops after.ops → HasDeeds (deeds_of past) after.ops after.seats → HasWays (deeds_of past) after.seats → k.steps ≤ after.steps
+goes_by : (past : List Moment) (k : Core) (e : Event) (after : Core) → IsFollowed past k → deed_by past k e ≡ [] → AllMoved (k.steps + 1) k.ops after.ops → HasDeeds (deeds_of past) after.ops after.seats → HasWays (deeds_of past) after.seats → k.steps ≤ after.steps
     → ((c : ℕ) (seat : Seat) → numbered after.seats c ≡ Some seat → seat.client.linked ≡ joined_by c (joined_from c false past) e)
     → ((c : ℕ) (seat : Seat) → numbered after.seats c ≡ Some seat → seat.client.next_xid ≤ calls_most * after.steps + 1)
     → ((c : ℕ) (seat : Seat) → numbered after.seats c ≡ Some seat → seat.client.next_xid ≡ calls_by c (calls_from c 0 past) (moment k e) + 1)
@@ -109,20 +114,27 @@ goes_by past k e after h none moved deeds ways passes links nexts calls = record
   passes = passes;
 }
 
+-- clients with other indexes, clocks, or contents that are kept
+deeds_same : (ds : List Deed) (ops : List Op) (seats after : List Seat) → SameSeats seats after → HasDeeds ds ops seats → HasDeeds ds ops after
+deeds_same ds ops seats after same h = record { count = h.count; rising = h.rising; each = h.each; locals = λ c e at f. let w = same.was c e at in ap (λ (z : Seat). local_of z.client f) w.4 ∙ h.locals c w.0 w.3 f }
+
+ways_same : (ds : List Deed) (seats after : List Seat) → SameSeats seats after → HasWays ds seats → HasWays ds after
+ways_same ds seats after same h = λ c e j d at is there. let w = same.was c e at in h c w.0 j d w.3 (ap job (sym w.4) ∙ is) there
+
 idle_links : (past : List Moment) (k : Core) (e : Event) (t : CoreStep) → IsIdle k e t → IsFollowed past k → (c : ℕ) (seat : Seat) → numbered t.core.seats c ≡ Some seat → seat.client.linked ≡ joined_by c (joined_from c false past) e
-idle_links past k e t i h c seat at = let was = ap (λ l. numbered l c) (sym i.seats) ∙ at in i.links c seat was ∙ ap (λ b. joined_by c b e) (h.joined c seat was)
+idle_links past k e t i h c seat at = let w = i.seats.was c seat at in ap (λ (z : Seat). z.client.linked) w.4 ∙ i.links c w.0 w.3 ∙ ap (λ b. joined_by c b e) (h.joined c w.0 w.3)
 
 idle_calls : (past : List Moment) (k : Core) (e : Event) (t : CoreStep) → IsIdle k e t → IsFollowed past k → (c : ℕ) (seat : Seat) → numbered t.core.seats c ≡ Some seat → seat.client.next_xid ≡ calls_by c (calls_from c 0 past) (moment k e) + 1
-idle_calls past k e t i h c seat at = h.calls c seat (ap (λ l. numbered l c) (sym i.seats) ∙ at) ∙ ap (λ n. n + 1) (sym (i.uncalled c (calls_from c 0 past)))
+idle_calls past k e t i h c seat at = let w = i.seats.was c seat at in ap (λ (z : Seat). z.client.next_xid) w.4 ∙ h.calls c w.0 w.3 ∙ ap (λ n. n + 1) (sym (i.uncalled c (calls_from c 0 past)))
 
 -- the operations and the clients are as they were
 goes_same : (past : List Moment) (k : Core) (e : Event) (t : CoreStep) → IsIdle k e t → IsFollowed past k → t.core.ops ≡ k.ops → Goes past k e t.core
 unfolding calls_most
 goes_same past k e t i h ops =
     let passes = i.still.passes in
-    goes_by past k e t.core h (i.still.deedless past) (subst (AllMoved (k.steps + 1) k.ops) (sym ops) (all_same (k.steps + 1) k.ops)) (subst (λ (l : List Seat). HasDeeds (deeds_of past) t.core.ops l) (sym i.seats) (subst (λ (l : List Op). HasDeeds (deeds_of past) l k.seats) (sym ops) h.deeds)) (subst (HasWays (deeds_of past)) (sym i.seats) h.ways) passes
+    goes_by past k e t.core h (i.still.deedless past) (subst (AllMoved (k.steps + 1) k.ops) (sym ops) (all_same (k.steps + 1) k.ops)) (subst (λ (l : List Op). HasDeeds (deeds_of past) l t.core.seats) (sym ops) (deeds_same (deeds_of past) k.ops k.seats t.core.seats i.seats h.deeds)) (ways_same (deeds_of past) k.seats t.core.seats i.seats h.ways) passes
     (λ c seat at. idle_links past k e t i h c seat at)
-    (λ c seat at. let n = h.next c seat (ap (λ l. numbered l c) (sym i.seats) ∙ at) in omega (arith, n, passes))
+    (λ c seat at. let w = i.seats.was c seat at in let n = h.next c w.0 w.3 in let same = ap (λ (z : Seat). z.client.next_xid) w.4 in omega (arith, n, same, passes))
     (λ c seat at. idle_calls past k e t i h c seat at)
 
 -- ---- a client joins
@@ -174,9 +186,9 @@ goes_set past opening all k qs e t p q r kept h i at m stay same ops =
     let d = also_there k.ops (deeds_of past) p q (sym h.deeds.count) at in
     let passes = i.still.passes in
     let now = deeds_moved (k.steps + 1) (deeds_of past) k.ops (slice_set k.ops p r) k.seats k.seats h.deeds (begins opening k all qs kept) moved (stay_set (deeds_of past) k.ops p d.0 q r d.1 at (stay d.0 (h.deeds.each p d.0 q d.1 at))) (λ c seat is f. h.deeds.locals c seat is f ∙ sym (set_same c f None (deeds_of past) k.ops p d.0 q r d.1 at (same d.0 c f))) in
-    goes_by past k e t.core h (i.still.deedless past) (subst (AllMoved (k.steps + 1) k.ops) (sym ops) moved) (subst (λ (l : List Seat). HasDeeds (deeds_of past) t.core.ops l) (sym i.seats) (subst (λ (l : List Op). HasDeeds (deeds_of past) l k.seats) (sym ops) now)) (subst (HasWays (deeds_of past)) (sym i.seats) h.ways) passes
+    goes_by past k e t.core h (i.still.deedless past) (subst (AllMoved (k.steps + 1) k.ops) (sym ops) moved) (subst (λ (l : List Op). HasDeeds (deeds_of past) l t.core.seats) (sym ops) (deeds_same (deeds_of past) (slice_set k.ops p r) k.seats t.core.seats i.seats now)) (ways_same (deeds_of past) k.seats t.core.seats i.seats h.ways) passes
     (λ c seat is. idle_links past k e t i h c seat is)
-    (λ c seat is. let n = h.next c seat (ap (λ l. numbered l c) (sym i.seats) ∙ is) in omega (arith, n, passes))
+    (λ c seat is. let w = i.seats.was c seat is in let n = h.next c w.0 w.3 in let same_xid = ap (λ (z : Seat). z.client.next_xid) w.4 in omega (arith, n, same_xid, passes))
     (λ c seat is. idle_calls past k e t i h c seat is)
 
 -- what gets its file from the server is on names
@@ -211,7 +223,7 @@ ops_words : (opening : List Opening) (after : Core) (all : List Moment) (qs : Li
 ops_words opening after all qs kept i r at = caused_word (book_at opening after all) r r.outcome (kept.sound.rights i r at).cause
 
 acts_by : (opening : List Opening) (all : List Moment) (ds : List Deed) (k : Core) (qs : List Queue) (c : ℕ) (seat : Seat) (t : client.State) (acts : ClientStep) → IsKept (book_at opening k all) k qs → numbered k.seats c ≡ Some seat → (seat.client.task ≡ None → (t.opened ≡ seat.client.opened) × (acts.ended ≡ None))
-    → ((x : Task) (p : ℕ) → seat.client.task ≡ Some x → seat.place ≡ Some p → ((acts.found ≡ None) × ((file : ℕ) → (is_naming x.stage ≡ false → file ≡ x.file) → Leaves (stage_word x.stage) seat.client.opened t.opened file acts.ended)) ⊎ (((d : Deed) → slice_get ds p ≡ Some d → IsOnNames d.command) × (t.opened ≡ seat.client.opened) × EndsNeither (stage_word x.stage) acts.ended))
+    → ((x : Task) (p : ℕ) → seat.client.task ≡ Some x → seat.place ≡ Some p → ((acts.found ≡ None) × ((file : ℕ) → (is_naming x.stage ≡ false → file ≡ x.file) → Leaves (stage_word x.stage) seat.client.opened t.opened file acts.ended)) ⊎ (((d : Deed) → slice_get ds p ≡ Some d → IsOnNames d.command) × (((t.opened ≡ seat.client.opened) × EndsNeither (stage_word x.stage) acts.ended) ⊎ OpensNow (stage_word x.stage) seat.client (t, acts))))
     → ((i : ℕ) (r : Op) → slice_get (acted k c seat t acts).core.ops i ≡ Some r → HasWord r.word r.outcome) → Acts ds k c seat t acts
 acts_by opening all ds k qs c seat t acts kept here idle busy word =
     let s = kept.seats c seat here in
@@ -274,7 +286,7 @@ goes_cuts past opening all k qs after c seat kept h here left =
     ])
   where
     silent : (z : ℕ) → calls_from z 0 past + 1 ≡ calls_by z (calls_from z 0 past) (moment k (Cuts c)) + 1
-    silent z = ap (λ n. n + 1) (sym (no_calls z 0 (calls_from z 0 past) (happens k (Cuts c)).up (cuts_silent k c).2))
+    silent z = ap (λ n. n + 1) (sym (no_calls z 0 (calls_from z 0 past) (happens k (Cuts c)).up (cuts_unsent k c)))
 
 -- ---- an answer comes
 
@@ -353,7 +365,7 @@ goes_hears laws past opening all k qs mid after n now bytes kept h w left =
         by (inr walk) = (walk_left seat.client m now t walk.0 walk.1 e walk.2).0
 
     busy : (m : Result Message WireFault) (x : Task) (p : ℕ) → seat.client.task ≡ Some x → seat.place ≡ Some p → IsOfFile x.stage ⊎ ((y : ℕ) × (w : Walk) × (x.stage ≡ stage.Walking y w))
-        → (let r = got_step seat.client m now in ((r.1.found ≡ None) × ((file : ℕ) → (is_naming x.stage ≡ false → file ≡ x.file) → Leaves (stage_word x.stage) seat.client.opened r.0.opened file r.1.ended)) ⊎ (((d : Deed) → slice_get (deeds_of past) p ≡ Some d → IsOnNames d.command) × (r.0.opened ≡ seat.client.opened) × EndsNeither (stage_word x.stage) r.1.ended))
+        → (let r = got_step seat.client m now in ((r.1.found ≡ None) × ((file : ℕ) → (is_naming x.stage ≡ false → file ≡ x.file) → Leaves (stage_word x.stage) seat.client.opened r.0.opened file r.1.ended)) ⊎ (((d : Deed) → slice_get (deeds_of past) p ≡ Some d → IsOnNames d.command) × (((r.0.opened ≡ seat.client.opened) × EndsNeither (stage_word x.stage) r.1.ended) ⊎ OpensNow (stage_word x.stage) seat.client r)))
     busy m x p f g (inl known) = inl (got_finds seat.client m now (λ u e. subst (λ (z : Task). IsOfFile z.stage) (some_is x u (sym f ∙ e)) known), λ file is. subst (λ (z : ℕ). Leaves (stage_word x.stage) seat.client.opened (got_step seat.client m now).0.opened z (got_step seat.client m now).1.ended) (sym (is (file_unnamed x.stage known))) (step_left seat.client m now x f known).1)
     busy m x p f g (inr walk) =
         let left = walk_left seat.client m now x walk.0 walk.1 f walk.2 in
@@ -362,22 +374,33 @@ goes_hears laws past opening all k qs mid after n now bytes kept h w left =
             | inl known ↦ absurd (subst IsOfFile walk.2 known)
             | inr names ↦ names
           ]),
-          left.1,
-          subst (λ (z : Word). EndsNeither z (got_step seat.client m now).1.ended) (sym (ap stage_word walk.2)) left.2,
+          elim left.1 [
+            | inl same ↦ inl (same.0, subst (λ (z : Word). EndsNeither z (got_step seat.client m now).1.ended) (sym (ap stage_word walk.2)) same.1)
+            | inr opens ↦ inr (subst (λ (z : Word). OpensNow z seat.client (got_step seat.client m now)) (sym (ap stage_word walk.2)) opens)
+          ],
         )
 
 -- ---- a command
 
+-- whether it may go on is what its client says
+fresh_is : (seat : Seat) (now : ℕ) (d : Command) → is_fresh_for (Some seat) now d ≡ fresh_by (clocked seat.client now) d
+fresh_is seat now (command.Open file) = refl
+fresh_is seat now (command.Rewrite file) = refl
+fresh_is seat now _ = refl
+
+goes_by_reading : (seat : Seat) (now : ℕ) (joined : Bool) (calls : ℕ) (fresh : Bool) (d : Command) → can_ask joined calls ≡ may_ask seat.client → fresh ≡ fresh_by (clocked seat.client now) d → (can_ask joined calls || fresh) ≡ may_go (clocked seat.client now) d
+goes_by_reading seat now joined calls fresh d asks is = ap (λ (b : Bool). b || fresh) asks ∙ ap (λ (b : Bool). may_ask seat.client || b) is
+
 goes_does : (past : List Moment) (opening : List Opening) (all : List Moment) (k : Core) (qs : List Queue) (c now : ℕ) (d : Command) (seat : Seat) → IsSmall d → IsKept (book_at opening k all) k qs → IsFollowed past k → numbered k.seats c ≡ Some seat → Goes past k (Does c now d) (does k c now d (Some seat)).core
 unfolding calls_most
 goes_does past opening all k qs c now d seat small kept h here =
-    let deed : Deed = record { client = c; command = d; begin = k.steps + 1; joined = joined_from c false past; calls = calls_from c 0 past } in
+    let deed : Deed = record { client = c; command = d; begin = k.steps + 1; joined = joined_from c false past; calls = calls_from c 0 past; fresh = is_fresh_for (numbered k.seats c) now d } in
     let r = command_step seat.client d now in
     let place = place_with seat.place (length k.ops) r.1.ended in
     let after : Core = (does k c now d (Some seat)).core in
     let then : Seat = record seat { client = r.0; place = place } in
     let around = around_with k.seats c seat then here in
-    let may = asks_by seat.client (joined_from c false past) (calls_from c 0 past) (h.joined c seat here) (h.calls c seat here) in
+    let may = goes_by_reading seat now (joined_from c false past) (calls_from c 0 past) (is_fresh_for (numbered k.seats c) now d) d (asks_by seat.client (joined_from c false past) (calls_from c 0 past) (h.joined c seat here) (h.calls c seat here)) (ap (λ (o : Option Seat). is_fresh_for o now d) here ∙ fresh_is seat now d) in
     let f = does_follows (book_at opening k all) (deeds_of past) k qs c now seat deed place small kept refl refl h.deeds here (begins opening k all qs kept) refl refl may in
     let nexts = f.stays.0 in
     record {
@@ -435,12 +458,12 @@ goes laws all past rest opening k qs e mid after s h = event_turns laws all past
 -- it looks at no index, and at nothing that is kept
 pub followed_adjusted : (past : List Moment) (k : Core) (index : Indexed) (seats : List Seat) → SameSeats k.seats seats → IsFollowed past k → IsFollowed past (adjusted_core k index seats)
 followed_adjusted past k index seats same h = record {
-  deeds = record { count = h.deeds.count; rising = h.deeds.rising; each = h.deeds.each; locals = λ c e at f. let w = same.was c e at in ap (λ (z : Seat). local_of z.client f) w.4 ∙ h.deeds.locals c w.0 w.3 f };
+  deeds = deeds_same (deeds_of past) k.ops k.seats seats same h.deeds;
   joined = λ c e at. let w = same.was c e at in ap (λ (z : Seat). z.client.linked) w.4 ∙ h.joined c w.0 w.3;
   next = λ c e at. let w = same.was c e at in subst (λ (z : Seat). z.client.next_xid ≤ calls_most * k.steps + 1) (sym w.4) (h.next c w.0 w.3);
   calls = λ c e at. let w = same.was c e at in ap (λ (z : Seat). z.client.next_xid) w.4 ∙ h.calls c w.0 w.3;
   few = h.few;
-  ways = λ c e j d at is there. let w = same.was c e at in h.ways c w.0 j d w.3 (ap job (sym w.4) ∙ is) there;
+  ways = ways_same (deeds_of past) k.seats seats same h.ways;
 }
 
 pub carried_deeds : FitLaws → Carried (λ all past opening k qs. IsFollowed past k)

@@ -1,5 +1,5 @@
 -- A step finds no file by a path, where its command has none and no walk is under way: its operation has the file that it began with.
-use Rattle.std.proofs.Common.{◌≡◌, ℕ, List, Option, Some, None, Bool, true, false, Result, length, refl, sym, ap, ◌∙◌, subst, inl, inr, ◌⊎◌}
+use Rattle.std.proofs.Common.{[], ◌≡◌, ℕ, List, Option, Some, None, Bool, true, false, Result, length, refl, sym, ap, ◌∙◌, subst, inl, inr, ◌⊎◌}
 use Rattle.command_text.specs.declared.command.Command.TheVariants as command
 use Rattle.xdr_codec.specs.declared.status.Status.TheVariants as status
 use Rattle.hash_calls.specs.declared.message.Lb.TheVariants as lb
@@ -9,9 +9,10 @@ use Rattle.client_cache.specs.Cache.{content_of, reserved}
 use Rattle.client_state.specs.declared.step.Outcome.TheVariants as outcome
 use Rattle.client_state.specs.declared.task.Stage.TheVariants as stage
 use Rattle.client_state.specs.declared.task.Way.TheVariants as way
-use Rattle.file_open.specs.Caching.{content_in, found_all}
-use Rattle.file_open.specs.Fetching.{changes as gives_up}
-use Rattle.file_open.specs.Rewriting.{asks_anew, rewrites_if, rewrites, told_anew}
+use Rattle.file_open.specs.Caching.{content_in, found_all, fresh_content}
+use Rattle.client_state.specs.Noting.{at as clocked}
+use Rattle.file_open.specs.Fetching.{changes as gives_up, opens_kept}
+use Rattle.file_open.specs.Rewriting.{asks_anew, rewrites_if, rewrites, renews_kept, told_anew}
 use Rattle.kept_promise.proofs.Common.{Word, changes, Op, TakenCall, op_after, op_ended, counted, Book, Core, Queue, ends, too_big, done_with, Part, content_length, content_bytes, nat_lt, ◌==◌, if◌then◌else◌, slice_get, Answer, Done, Failed, Hashes, Leased, Piece, Body, Message, Pending, WireFault, Content, Chunk, Command, Broken, broken_of, with_hashes, listed, reads_all, is_here, looked_up, read_at, with_bytes, fault_in, other_version, fetch_of, tries_most, State, local_at, local_bytes, calls_of, idle, may_ask, is_open, ended_by, cut, on_local, local_most, written_size, written, truncated, edits, writes, truncates, reads, abandons, opens, opens_if, asks_file, asks_kept, retries, reads_if, reads_on, lists_on, told_shape, told_version, told_hashes, told_first, uses_kept, told_lease, misfits, told_bytes, told_chunk, told_piece, store_of, store_at, answered, names_all, is_stored, goes_if, goes_on, told_temp, sends_whole, told_named, told_whole, told_way, told_stored, closes, asks_temp, command_step, took, got_step, BadPeer, ClientStep, Ended, Fetch, Local, ReadCall, Stage, Store, StoreCall, Task, Way}
 use Rattle.trace_ends.specs.Ops.{file_with}
 use Rattle.kept_promise.proofs.Lists.{some_is, nothing_there}
@@ -64,9 +65,13 @@ opens_none : (s : State) (file : ℕ) (t : Option Task) → FindsNone (opens s f
 opens_none s file (Some t) = refl
 opens_none s file None = by (is_open s.opened file)
   where
+    fresh : (o : Option Content) → FindsNone (opens_kept s file o)
+    fresh None = asks_none s file (may_ask s)
+    fresh (Some c) = refl
+
     by : (b : Bool) → FindsNone (opens_if s file b)
     by true = refl
-    by false = asks_none s file (may_ask s)
+    by false = fresh (fresh_content s.cache file s.clock)
 
 renews_none : (s : State) (file : ℕ) (b : Bool) → FindsNone (asks_anew s file b)
 renews_none s file true = refl
@@ -76,9 +81,13 @@ rewrites_none : (s : State) (file : ℕ) (t : Option Task) → FindsNone (rewrit
 rewrites_none s file (Some t) = refl
 rewrites_none s file None = by (is_open s.opened file)
   where
+    fresh : (o : Option Content) → FindsNone (renews_kept s file o)
+    fresh None = renews_none s file (may_ask s)
+    fresh (Some c) = refl
+
     by : (b : Bool) → FindsNone (rewrites_if s file b)
     by true = refl
-    by false = renews_none s file (may_ask s)
+    by false = fresh (fresh_content s.cache file s.clock)
 
 local_none : (s : State) (t : Option Task) (l : Option Local) (does : Local → State × ClientStep) → ((l : Local) → FindsNone (does l)) → FindsNone (on_local s t l does)
 local_none s (Some t) l does h = refl
@@ -107,22 +116,22 @@ closes_none s file l = by (may_ask s)
     by false = refl
 
 pub command_finds : (s : State) (d : Command) (now : ℕ) → IsSmall d → (command_step s d now).1.found ≡ None
-command_finds s (command.Open file) now small = opens_none s file s.task
-command_finds s (command.Rewrite file) now small = rewrites_none s file s.task
-command_finds s (command.Write file offset content) now small = local_none s s.task (local_at s.opened file) (writes s file offset content) (λ l. writes_none s file offset content l)
-command_finds s (command.Trunc file size) now small = local_none s s.task (local_at s.opened file) (truncates s file size) (λ l. edits_none s file l size (truncated l.bytes size))
-command_finds s (command.Read file offset count) now small = local_none s s.task (local_at s.opened file) (reads s offset count) (λ l. refl)
-command_finds s (command.Close file) now small = local_none s s.task (local_at s.opened file) (closes s file) (λ l. closes_none s file l)
-command_finds s (command.Abandon file) now small = local_none s s.task (local_at s.opened file) (abandons s file) (λ l. refl)
+command_finds s (command.Open file) now small = opens_none (clocked s now) file s.task
+command_finds s (command.Rewrite file) now small = rewrites_none (clocked s now) file s.task
+command_finds s (command.Write file offset content) now small = local_none (clocked s now) s.task (local_at s.opened file) (writes (clocked s now) file offset content) (λ l. writes_none (clocked s now) file offset content l)
+command_finds s (command.Trunc file size) now small = local_none (clocked s now) s.task (local_at s.opened file) (truncates (clocked s now) file size) (λ l. edits_none (clocked s now) file l size (truncated l.bytes size))
+command_finds s (command.Read file offset count) now small = local_none (clocked s now) s.task (local_at s.opened file) (reads (clocked s now) offset count) (λ l. refl)
+command_finds s (command.Close file) now small = local_none (clocked s now) s.task (local_at s.opened file) (closes (clocked s now) file) (λ l. closes_none (clocked s now) file l)
+command_finds s (command.Abandon file) now small = local_none (clocked s now) s.task (local_at s.opened file) (abandons (clocked s now) file) (λ l. refl)
 command_finds s (command.Named c) now small = by s.task
   where
-    asks : (b : Bool) → FindsNone (walks_if s (walk_begun c) b)
+    asks : (b : Bool) → FindsNone (walks_if (clocked s now) (walk_begun c) b)
     asks true = refl
     asks false = refl
 
-    by : (t : Option Task) → FindsNone (walks s c t)
+    by : (t : Option Task) → FindsNone (walks (clocked s now) c t)
     by (Some t) = refl
-    by None = asks (may_walk s (walk_begun c))
+    by None = asks (may_walk (clocked s now) (walk_begun c))
 
 -- ---- an answer to an open
 
@@ -240,13 +249,15 @@ took_finds s calls file (stage.Walking y w) xid b of = absurd of
 took_finds s calls file st xid b of = refl
 
 -- a step finds no file where an answer to what is under way finds none
-got_none : (s : State) (m : Result Message WireFault) (now : ℕ) → ((t : Task) → s.task ≡ Some t → (xid : ℕ) (b : Body) → FindsNone (took (idle s) (calls_of s) t.file t.stage xid b)) → (got_step s m now).1.found ≡ None
+got_none : (s : State) (m : Result Message WireFault) (now : ℕ) → ((t : Task) → s.task ≡ Some t → (xid : ℕ) (b : Body) → FindsNone (took (idle (clocked s now)) (calls_of s) t.file t.stage xid b)) → (got_step s m now).1.found ≡ None
 got_none s m now none = got_cases FindsNone s m now (record {
   took = none;
   memory = λ t is xid. refl;
   bad = λ t is f. refl;
   off = λ free. refl;
   forgot = λ xid. refl;
+  recalled = λ xid o. refl;
+  greeted = λ xid. refl;
   unfit = λ xid r. refl;
   call = refl;
 })
@@ -256,7 +267,7 @@ abbrev pub NoWalk : Option Task → Type 0
 NoWalk t = (u : Task) → t ≡ Some u → IsOfFile u.stage
 
 pub got_finds : (s : State) (m : Result Message WireFault) (now : ℕ) → NoWalk s.task → (got_step s m now).1.found ≡ None
-got_finds s m now none = got_none s m now (λ t is xid b. took_finds (idle s) (calls_of s) t.file t.stage xid b (none t is))
+got_finds s m now none = got_none s m now (λ t is xid b. took_finds (idle (clocked s now)) (calls_of s) t.file t.stage xid b (none t is))
 
 -- ---- the connection is lost
 
@@ -289,6 +300,8 @@ took_makes s calls file (stage.Walking y w) x b make = walk_cases FindsNone s ca
   open_already = λ id k is. absurd (never k.asked k.walk k.answer id k.stage_is k.told_is);
   fetches = λ id k shut none. absurd (never k.asked k.walk k.answer id k.stage_is k.told_is);
   leases = λ id c k shut there. absurd (never k.asked k.walk k.answer id k.stage_is k.told_is);
+  opens_now = λ id c k shut fresh. absurd (never k.asked k.walk k.answer id k.stage_is k.told_is);
+  empties_now = λ id c k shut fresh. absurd (never_anew k.asked k.walk k.answer id k.stage_is k.told_is);
   renew_already = λ id k is. absurd (never_anew k.asked k.walk k.answer id k.stage_is k.told_is);
   renews = λ id k shut. absurd (never_anew k.asked k.walk k.answer id k.stage_is k.told_is);
   ends = λ v e k same. ap (λ (b : Bool). seen_in b e) (unseen v.goal (ap (λ (z : Walk). gets_file (goal_word z.goal)) (sym (walk_is k.asked k.walk k.stage_is ∙ same)) ∙ make)) ∙ none_seen e;
@@ -318,7 +331,7 @@ took_makes s calls file (stage.Walking y w) x b make = walk_cases FindsNone s ca
 took_makes s calls file st x b make = absurd cc
 
 got_makes : (s : State) (m : Result Message WireFault) (now : ℕ) → ((u : Task) → s.task ≡ Some u → gets_file (stage_word u.stage) ≡ true) → (got_step s m now).1.found ≡ None
-got_makes s m now make = got_none s m now (λ t is xid b. took_makes (idle s) (calls_of s) t.file t.stage xid b (make t is))
+got_makes s m now make = got_none s m now (λ t is xid b. took_makes (idle (clocked s now)) (calls_of s) t.file t.stage xid b (make t is))
 
 -- a step finds no file, or is of an operation that changes no file
 abbrev pub Quietly : ClientStep → Word → Type 0
@@ -362,7 +375,11 @@ IsFresh st = ⊥
 
 pub record FoundSo (r : State × ClientStep) : Type 0 where
   pub begins : (u : Task) → r.0.task ≡ Some u → IsFresh u.stage
-  pub unopened : (e : Ended) → r.1.ended ≡ Some e → IsOpenedBy e.outcome → ⊥
+  -- unless it is fresh, and opened at once
+  pub unopened : (e : Ended) → r.1.ended ≡ Some e → IsOpenedBy e.outcome → (e.rests_on ≡ 0) × (r.1.send ≡ [])
+
+abbrev none_sent : List Message
+none_sent = []
 
 abbrev WhereFound : State × ClientStep → Type 0
 WhereFound r = (id : ℕ) → r.1.found ≡ Some id → FoundSo r
@@ -378,22 +395,26 @@ took_found : (s : State) (calls : List Pending) (file : ℕ) (st : Stage) (x : �
 took_found s calls file (stage.Walking y w) x b = walk_cases WhereFound s calls file y w x b (record {
   fault = λ f bad id e. nothing_there id e;
   asks = λ v k id e. nothing_there id e;
-  open_already = λ found k is id e. record { begins = λ u at. nothing_there u at; unopened = λ d at. subst (λ (z : Ended). IsOpenedBy z.outcome → ⊥) (some_is _ d at) (λ h. h) };
+  open_already = λ found k is id e. record { begins = λ u at. nothing_there u at; unopened = λ d at. subst (λ (z : Ended). IsOpenedBy z.outcome → (z.rests_on ≡ 0) × (none_sent ≡ [])) (some_is _ d at) (λ h. absurd h) };
   fetches = λ found k shut none id e. record { begins = λ u at. subst (λ (z : Task). IsFresh z.stage) (some_is _ u at) tt; unopened = λ d at. nothing_there d at };
   leases = λ found c k shut there id e. record { begins = λ u at. subst (λ (z : Task). IsFresh z.stage) (some_is _ u at) tt; unopened = λ d at. nothing_there d at };
-  renew_already = λ found k is id e. record { begins = λ u at. nothing_there u at; unopened = λ d at. subst (λ (z : Ended). IsOpenedBy z.outcome → ⊥) (some_is _ d at) (λ h. h) };
+  opens_now = λ found c k shut fresh id e. record { begins = λ u at. nothing_there u at; unopened = λ d at. subst (λ (z : Ended). IsOpenedBy z.outcome → (z.rests_on ≡ 0) × (none_sent ≡ [])) (some_is _ d at) (λ h. (refl, refl)) };
+  empties_now = λ found c k shut fresh id e. record { begins = λ u at. nothing_there u at; unopened = λ d at. subst (λ (z : Ended). IsOpenedBy z.outcome → (z.rests_on ≡ 0) × (none_sent ≡ [])) (some_is _ d at) (λ h. (refl, refl)) };
+  renew_already = λ found k is id e. record { begins = λ u at. nothing_there u at; unopened = λ d at. subst (λ (z : Ended). IsOpenedBy z.outcome → (z.rests_on ≡ 0) × (none_sent ≡ [])) (some_is _ d at) (λ h. absurd h) };
   renews = λ found k shut id e. record { begins = λ u at. subst (λ (z : Task). IsFresh z.stage) (some_is _ u at) tt; unopened = λ d at. nothing_there d at };
-  ends = λ v end k same id e. record { begins = λ u at. nothing_there u at; unopened = λ d at. subst (λ (z : Ended). IsOpenedBy z.outcome → ⊥) (some_is _ d at) (end_plain end) };
+  ends = λ v end k same id e. record { begins = λ u at. nothing_there u at; unopened = λ d at. subst (λ (z : Ended). IsOpenedBy z.outcome → (z.rests_on ≡ 0) × (none_sent ≡ [])) (some_is _ d at) (λ h. absurd (end_plain end h)) };
 })
 took_found s calls file st x b = found_none (took s calls file st x b) (took_finds s calls file st x b tt)
 
 pub step_found : (s : State) (m : Result Message WireFault) (now : ℕ) → WhereFound (got_step s m now)
 step_found s m now = got_cases WhereFound s m now (record {
-  took = λ t is xid b. took_found (idle s) (calls_of s) t.file t.stage xid b;
+  took = λ t is xid b. took_found (idle (clocked s now)) (calls_of s) t.file t.stage xid b;
   memory = λ t is xid id e. nothing_there id e;
   bad = λ t is f id e. nothing_there id e;
   off = λ none id e. nothing_there id e;
   forgot = λ xid id e. nothing_there id e;
+  recalled = λ xid o id e. nothing_there id e;
+  greeted = λ xid id e. nothing_there id e;
   unfit = λ xid r id e. nothing_there id e;
   call = λ id e. nothing_there id e;
 })

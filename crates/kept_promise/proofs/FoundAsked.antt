@@ -11,10 +11,14 @@ use Rattle.client_cache.specs.Cache.{content_of, reserved}
 use Rattle.client_state.specs.State as client
 use Rattle.client_state.specs.declared.task.Stage.TheVariants as stage
 use Rattle.client_state.specs.declared.task.Way.TheVariants as way
+use Rattle.file_open.specs.Caching.{fresh_content}
+use Rattle.file_open.specs.Fetching.{finds_kept}
+use Rattle.file_open.specs.Rewriting.{empties_kept}
+use Rattle.client_state.specs.Noting.{at as at_clock}
 use Rattle.path_calls.specs.declared.walk.Goal.{Goal}
 use Rattle.path_calls.specs.declared.walk.Goal.TheVariants as goal
 use Rattle.path_calls.specs.Told.{told_found, told_goal, goes_down, finds, finds_anew, sees}
-use Rattle.open_close.specs.Walking.{walked, finds_if, renews_if, told_walk, is_its}
+use Rattle.open_close.specs.Walking.{finding, walked, finds_if, renews_if, told_walk, is_its}
 use Rattle.trace_replay.specs.Saving.{found_told, first_call, is_anew, anew_at, anew_in, found_call, AsksFound}
 use Rattle.kept_promise.proofs.Common.{Contains, Contains-push_cases, Done, Body, Message, Pending, Content, is_open, asks_kept, got_step, took, took_if, idle, Task, Stage, StoreCall, Way, store_at, told_stored, told_way, answered, reply_body, Core, Seat, Event.Hears, numbered, happens, CoreStep, owner_in, wanted_if, taken_by, Book, Queue, told_message}
 use Rattle.kept_promise.proofs.Lists.{some_is}
@@ -41,17 +45,25 @@ walk_asks s calls x [] g l f = by g
     kept id None = (s.next_xid, refl)
     kept id (Some c) = (s.next_xid, refl)
 
+    fresh : (id : ℕ) → file_of f.handle ≡ Some id → (o : Option Content) → AsksSo s false f (finding id (finds_kept s calls x id o)).1.send
+    fresh id is None = (let h = kept id (content_of s.cache id) in inr (inr (h.0, id, is, h.1)))
+    fresh id is (Some c) = inl refl
+
     shut : (id : ℕ) → file_of f.handle ≡ Some id → (b : Bool) → AsksSo s false f (finds_if s calls x id b).1.send
     shut id is true = inl refl
-    shut id is false = (let h = kept id (content_of s.cache id) in inr (inr (h.0, id, is, h.1)))
+    shut id is false = fresh id is (fresh_content s.cache id s.clock)
 
     found : (o : Option ℕ) → file_of f.handle ≡ o → AsksSo s false f (walked s calls x l (finds o)).1.send
     found None is = inl refl
     found (Some id) is = shut id is (is_open s.opened id)
 
+    fresh_anew : (id : ℕ) → file_of f.handle ≡ Some id → (o : Option Content) → AsksSo s true f (finding id (empties_kept s calls x id o)).1.send
+    fresh_anew id is None = inr (inr (s.next_xid, id, is, refl))
+    fresh_anew id is (Some c) = inl refl
+
     shut_anew : (id : ℕ) → file_of f.handle ≡ Some id → (b : Bool) → AsksSo s true f (renews_if s calls x id b).1.send
     shut_anew id is true = inl refl
-    shut_anew id is false = inr (inr (s.next_xid, id, is, refl))
+    shut_anew id is false = fresh_anew id is (fresh_content s.cache id s.clock)
 
     found_anew : (o : Option ℕ) → file_of f.handle ≡ o → AsksSo s true f (walked s calls x l (finds_anew o)).1.send
     found_anew None is = inl refl
@@ -99,9 +111,9 @@ found_asked fits book k qs n now bytes mid kept h xid f seat here there = by (cl
     sends : client.has_call (client.pending h.seat.client.task) h.told.xid ≡ true → told_message h.told ≡ found_told xid f → AsksSo h.seat.client (anew_in h.seat.client.task) f (happens k (Hears n now bytes)).up
     sends own same = subst (AsksSo h.seat.client (anew_in h.seat.client.task) f) (sym up) (by_task h.seat.client.task waits)
       where
-        by_task : (o : Option Task) → client.has_call (client.pending o) xid ≡ true → AsksSo h.seat.client (anew_in o) f (took_if h.seat.client o xid (body.Nfs (nfs.LookupAnswer (Done f))) (client.has_call (client.pending o) xid)).1.send
+        by_task : (o : Option Task) → client.has_call (client.pending o) xid ≡ true → AsksSo h.seat.client (anew_in o) f (took_if (at_clock h.seat.client now) o xid (body.Nfs (nfs.LookupAnswer (Done f))) (client.has_call (client.pending o) xid)).1.send
         by_task None own = absurd cc
-        by_task (Some t) own = subst (λ (b : Bool). AsksSo h.seat.client (anew_at t.stage) f (took_if h.seat.client (Some t) xid (body.Nfs (nfs.LookupAnswer (Done f))) b).1.send) (sym own) (takes_found (idle h.seat.client) (client.calls_of h.seat.client) t.file xid t.stage f)
+        by_task (Some t) own = subst (λ (b : Bool). AsksSo h.seat.client (anew_at t.stage) f (took_if (at_clock h.seat.client now) (Some t) xid (body.Nfs (nfs.LookupAnswer (Done f))) b).1.send) (sym own) (takes_found (idle (at_clock h.seat.client now)) (client.calls_of h.seat.client) t.file xid t.stage f)
 
         xid_is : (a : ℕ) (b : Body) → message.Answer a b ≡ found_told xid f → a ≡ xid
         xid_is a b e = cc

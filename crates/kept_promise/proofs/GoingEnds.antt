@@ -25,7 +25,7 @@ use Rattle.path_calls.specs.declared.answers.Told.TheVariants as leading
 use Rattle.server_core.specs.State as server
 use Rattle.chunk_calls.specs.Files as the_files
 use Rattle.server_core.specs.Closing as closing
-use Rattle.server_core.specs.Closing.{entered_by, entries_by, entry_by as written_by, count_of}
+use Rattle.server_core.specs.Closing.{makes_change, entered_by, entries_by, entry_by as written_by, count_of}
 use Rattle.server_core.specs.declared.change.Wanted.{Wanted}
 use Rattle.server_core.specs.declared.change.Wanted.TheVariants as wanted
 use Rattle.server_core.specs.declared.event.Sent.{Sent}
@@ -40,9 +40,7 @@ use Rattle.trace_replay.specs.Naming.{entry_file, refusal_of}
 use Rattle.trace_ends.specs.Ops.{pointed_at, pointed}
 use Rattle.server_law.proofs.Trees.{IsBounded, given}
 use Rattle.kept_promise.proofs.Common.{slice_get, slice_set, cond, option_map, unwrap_or, value_from, Contains, Contains-push, MessageFits, at, Change, Entry, Op, Word, Core, Seat, Session, Event.Settles, CoreStep, numbered, with_numbered, happens, unless, quiet, Book, value_at, version_at, Reply.Walked, NameReply, name_answer, Told, Queue, told_message}
-use Rattle.server_law.specs.Unleased.{makes_so}
 use Rattle.trace_replay.specs.OwnCalls.{others_waiting}
-use Rattle.server_law.proofs.Unleased.{unleased_at}
 use Rattle.kept_promise.proofs.Lists.{some_is, nothing_there, at_replaced, of_replaced}
 use Rattle.kept_promise.proofs.PathNames.{is_creating}
 use Rattle.kept_promise.proofs.Makings.{step_by}
@@ -81,7 +79,7 @@ asked_step k now c cs p = record (quiet (record k {
 pub asked_settles : (k : Core) (now : ℕ) (c : Change) (cs : List Change) (a : Asked) → SettlesOut k now c cs → c.what ≡ wanted.Asked a → settles k now ≡ asked_step k now c cs (tree_settles k.server.tree (server.held cs) a)
 asked_settles k now c cs a out what =
     out.is
-    ∙ ap (λ (w : Wanted). settled_to k (makes_so (at (record k.server { waiting = cs }) now) false c w)) what
+    ∙ ap (λ (w : Wanted). settled_to k (makes_change (at (record k.server { waiting = cs }) now) c w)) what
     ∙ ap (λ (es : List Entry). record (asked_step k now c cs p) { core = record (asked_step k now c cs p).core { ops = settled_ops k.ops (k.steps + 1) (changed_file es) (numbered k.sessions c.session) } }) (newest_more k.server.journal (entries_by c.session p.1.first p.1.second) (count_of p.1.first p.1.second) (count_is c.session p.1.first p.1.second))
   where
     p : Tree × Finished
@@ -192,13 +190,13 @@ module _ (laws : FitLaws) (book : Book) (k : Core) (qs : List Queue) (now : ℕ)
   lead more tree es d r made settled_is answer entries count moments opening steps ops entered_is shows =
       let t : Told = record { xid = c.xid; reply = Walked r } in
       let done = kept_settled book more k qs now c cs a x q tree (k.server.journal ++ es) r made kept out.out here unhung is p shows in
-      let core : (turned_core more (settled_server k.server now cs tree (k.server.journal ++ es)) k.seats k.sessions) ≡ (stepped tree es (name_answer r)).core =
-      ap (λ (s : ℕ). record { server = settled_server k.server now cs tree (k.server.journal ++ es); seats = k.seats; sessions = k.sessions; steps = s; ops = more.ops; entries = more.entries }) (steps ∙ ap (λ (s : ℕ). s + 1) kept.steps)
-      ∙ ap (λ (o : List Op). record { server = settled_server k.server now cs tree (k.server.journal ++ es); seats = k.seats; sessions = k.sessions; steps = k.steps + 1; ops = o; entries = more.entries }) (ops ∙ ap (λ (l : List Op). settled_ops l (book.steps + 1) (changed_file es) (Some x)) kept.ops ∙ ap (λ (s : ℕ). settled_ops k.ops (s + 1) (changed_file es) (Some x)) kept.steps ∙ ap (settled_ops k.ops (k.steps + 1) (changed_file es)) (sym here))
-      ∙ ap (λ (l : List ℕ). record { server = settled_server k.server now cs tree (k.server.journal ++ es); seats = k.seats; sessions = k.sessions; steps = k.steps + 1; ops = settled_ops k.ops (k.steps + 1) (changed_file es) (numbered k.sessions n); entries = l }) (entered_is ∙ ap (λ (l : List ℕ). l ++ replicate (length es) (book.steps + 1)) kept.entries ∙ ap (λ (s : ℕ). k.entries ++ replicate (length es) (s + 1)) kept.steps) in
+      let core : (turned_core k more (settled_server k.server now cs tree (k.server.journal ++ es)) k.seats k.sessions) ≡ (stepped tree es (name_answer r)).core =
+      ap (λ (s : ℕ). record k { server = settled_server k.server now cs tree (k.server.journal ++ es); seats = k.seats; sessions = k.sessions; steps = s; ops = more.ops; entries = more.entries }) (steps ∙ ap (λ (s : ℕ). s + 1) kept.steps)
+      ∙ ap (λ (o : List Op). record k { server = settled_server k.server now cs tree (k.server.journal ++ es); seats = k.seats; sessions = k.sessions; steps = k.steps + 1; ops = o; entries = more.entries }) (ops ∙ ap (λ (l : List Op). settled_ops l (book.steps + 1) (changed_file es) (Some x)) kept.ops ∙ ap (λ (s : ℕ). settled_ops k.ops (s + 1) (changed_file es) (Some x)) kept.steps ∙ ap (settled_ops k.ops (k.steps + 1) (changed_file es)) (sym here))
+      ∙ ap (λ (l : List ℕ). record k { server = settled_server k.server now cs tree (k.server.journal ++ es); seats = k.seats; sessions = k.sessions; steps = k.steps + 1; ops = settled_ops k.ops (k.steps + 1) (changed_file es) (numbered k.sessions n); entries = l }) (entered_is ∙ ap (λ (l : List ℕ). l ++ replicate (length es) (book.steps + 1)) kept.entries ∙ ap (λ (s : ℕ). k.entries ++ replicate (length es) (s + 1)) kept.steps) in
       subst (Leads book qs) (sym (step_is ∙ ap (asked_step k now c cs) settled_is ∙ stepped_is tree es d r answer entries count))
       (record {
-        sends = record { asks = []; up_is = refl; tolds = (n, t) ∷ []; down_is = refl };
+        sends = record { replies = []; replies_fit = tt; asks = []; up_is = refl; recalls = []; recalls_fit = tt; tolds = (n, t) ∷ []; down_is = refl };
         more = more;
         moments = moments;
         opening = opening;
@@ -242,7 +240,7 @@ module _ (laws : FitLaws) (book : Book) (k : Core) (qs : List Queue) (now : ℕ)
         lengths = λ i d z. let y = out.out.others i d z in was.lengths y.0 d y.1;
         targets = λ i d z. let y = out.out.others i d z in there_later book more None None d.file grows (was.targets y.0 d y.1);
         xids = λ i d z. let y = out.out.others i d z in was.xids y.0 d y.1;
-        leases = unleased_at k.server now was.leases;
+        leases = was.leases;
       })
 
   unmade_at : x.cut ≡ false → (j : Job) (o : Op) → job h.seat ≡ Some j → slice_get book.ops j.place ≡ Some o → UnmadeBy true x.closing j o
@@ -316,7 +314,7 @@ module _ (laws : FitLaws) (book : Book) (k : Core) (qs : List Queue) (now : ℕ)
           lengths = λ i d z. let y = out.out.others i d z in kept.server.lengths y.0 d y.1;
           targets = λ i d z. let y = out.out.others i d z in there_later book more (Some p.place) None d.file g (kept.server.targets y.0 d y.1);
           xids = λ i d z. let y = out.out.others i d z in kept.server.xids y.0 d y.1;
-          leases = unleased_at k.server now kept.server.leases;
+          leases = kept.server.leases;
         };
         journal_is = ap (λ (l : List Entry). l ++ es) kept.journal;
         made_here = λ z f. p.known ∙ f;

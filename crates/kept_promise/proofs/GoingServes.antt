@@ -35,7 +35,6 @@ use Rattle.trace_ends.specs.Ops.{pointed_at}
 use Rattle.server_law.proofs.Trees.{IsBounded}
 use Rattle.server_law.proofs.TreeCalls.{entries_more, sizes_more}
 use Rattle.kept_promise.proofs.Common.{slice_get, cond, option_map, Contains, Contains-push, message_spell, MessageFits, stands, not, has_waiting, at, Entry, File, Op, TakenCall, Core, Session, Event.Serves, CoreStep, with_numbered, happens, serves, serves_if, quiet, Book, Call.Walks, Reply.Walked, NameReply, name_answer, Ask, Queue, ask_message, told_message, Leasing, later}
-use Rattle.server_law.proofs.Unleased.{unleased_at}
 use Rattle.kept_promise.proofs.Statements.{CallFits}
 use Rattle.kept_promise.proofs.Lists.{some_is, nothing_there, all_map}
 use Rattle.kept_promise.proofs.PathNames.{IsWalkSmall, going_makes, going_creates, is_going, is_making, is_creating}
@@ -56,7 +55,7 @@ use Rattle.kept_promise.proofs.Taken.{finds_more, answer_found}
 use Rattle.kept_promise.proofs.Takes.{took, file_still, fresh_still}
 use Rattle.kept_promise.proofs.Fits.{FitLaws}
 use Rattle.kept_promise.proofs.Facts.{FileIs, is_there, IsServer, IsSession}
-use Rattle.kept_promise.proofs.Serves.{answered, parsed}
+use Rattle.kept_promise.proofs.Serves.{answered, parsed, parsed_at}
 use Rattle.kept_promise.proofs.ServesFiles.{count_is, making_got, pointed_none}
 use Rattle.kept_promise.proofs.Calls.{Given, session_in, first_fits, rest_of, leads_by, same_temps, held_still}
 use Rattle.kept_promise.proofs.Orderly.{locals_of, Orderly}
@@ -129,10 +128,10 @@ module _ (laws : FitLaws) (book : Book) (k : Core) (qs : List Queue) (n now : �
   standing = h.stands_is ∙ ap not g.unhung
 
   answered_is : (after : Tree) (d : Finished) → comes_by t held busy w.dir w.goal ≡ (after, Answered d) → happens k (Serves n now (message_spell (ask_message a))) ≡ making_got k n now x xid (after, d)
-  answered_is after d is = ap (serves k n now (message_spell (ask_message a))) g.at ∙ ap (serves_if k n now x) (parsed laws a fits) ∙ got_answered k n now x xid w after d fits.1 going standing is
+  answered_is after d is = ap (serves k n now (message_spell (ask_message a))) g.at ∙ ap (serves_if k n now x) (parsed_at laws k n a fits) ∙ got_answered k n now x xid w after d fits.1 going standing is
 
   waits_is : (b : Asked) → comes_by t held busy w.dir w.goal ≡ (t, Waits b) → happens k (Serves n now (message_spell (ask_message a))) ≡ waits_got k n now x xid b
-  waits_is b is = ap (serves k n now (message_spell (ask_message a))) g.at ∙ ap (serves_if k n now x) (parsed laws a fits) ∙ got_waits k n now x xid w b fits.1 going standing g.kept.server.leases is
+  waits_is b is = ap (serves k n now (message_spell (ask_message a))) g.at ∙ ap (serves_if k n now x) (parsed_at laws k n a fits) ∙ got_waits k n now x xid w b fits.1 going standing is
 
   sent : (after : Tree) (d : Finished) (r : NameReply) → comes_by t held busy w.dir w.goal ≡ (after, Answered d) → d.answer ≡ name_answer r → Contains (happens k (Serves n now (message_spell (ask_message a)))).down (record { session = n; message = message.Answer xid (body.Nfs (name_answer r)) })
   sent after d r is same =
@@ -210,7 +209,7 @@ module _ (laws : FitLaws) (book : Book) (k : Core) (qs : List Queue) (n now : �
         lengths = g.kept.server.lengths;
         targets = λ i c f. there_later book more None None c.file grows (g.kept.server.targets i c f);
         xids = g.kept.server.xids;
-        leases = unleased_at k.server now g.kept.server.leases;
+        leases = g.kept.server.leases;
       }
 
   -- the step, with these entries more

@@ -14,7 +14,7 @@ use Rattle.server_core.specs.declared.change.Wanted.TheVariants as wanted
 use Rattle.client_state.specs.State as client
 use Rattle.client_state.specs.declared.task.Stage.TheVariants as stage
 use Rattle.register_model.specs.declared.op.Outcome.TheVariants as told
-use Rattle.kept_promise.proofs.Common.{slice_get, Contains, MessageFits, Change, Entry, Op, Core, Seat, Session, Event.Settles, numbered, with_numbered, happens, unless, hashed_of, Book, Reply.Walked, NameReply, name_answer, Told, Queue, told_message, Reply, Indexed, later}
+use Rattle.kept_promise.proofs.Common.{slice_get, Contains, MessageFits, Change, Entry, Op, Core, Seat, Session, Event.Settles, numbered, with_numbered, happens, unless, hashed_of, Book, Reply.Walked, NameReply, name_answer, Told, Queue, told_message, Reply, Indexed, Leasing, later}
 use Rattle.kept_promise.proofs.Tells.{came_told}
 use Rattle.kept_promise.proofs.Orderly.{Wanted}
 use Rattle.kept_promise.proofs.Lists.{some_is, nothing_there, true_and_false, all_append, all_unless}
@@ -89,8 +89,8 @@ pub record ShowsTold (book more : Book) (k : Core) (c : Change) (x : Session) (q
   pub wanted : x.cut ≡ false → Wanted more (job h.seat) c.xid r
   pub running : (p : ℕ) (o : Op) → slice_get more.ops p ≡ Some o → o.outcome ≡ told.Running → (e : Seat) × (j : Job) × (numbered k.seats o.client ≡ Some e) × (job e ≡ Some j) × (j.place ≡ p)
 
-module _ (book more : Book) (k : Core) (qs : List Queue) (now : ℕ) (c : Change) (cs : List Change) (x : Session) (q : Queue) (tree : Tree) (journal : List Entry) (index : Indexed) (r : Reply) (made : Option ℕ)
-    (kept : IsKept book k qs) (out : IsOut k.server.waiting c cs) (here : numbered k.sessions c.session ≡ Some x) (is : numbered qs c.session ≡ Some q) (shows : ShowsTold book more k c x q (record (settled_server k.server now cs tree journal) { index = index }) r made (kept.sessions c.session x q here is)) where
+module _ (book more : Book) (k : Core) (qs : List Queue) (now : ℕ) (c : Change) (cs : List Change) (x : Session) (q : Queue) (leasing : Leasing) (tree : Tree) (journal : List Entry) (index : Indexed) (r : Reply) (made : Option ℕ)
+    (kept : IsKept book k qs) (out : IsOut k.server.waiting c cs) (here : numbered k.sessions c.session ≡ Some x) (is : numbered qs c.session ≡ Some q) (shows : ShowsTold book more k c x q (record (settled_server k.server now cs tree journal) { leasing = leasing; index = index }) r made (kept.sessions c.session x q here is)) where
   abbrev n : ℕ
   n = c.session
 
@@ -101,7 +101,7 @@ module _ (book more : Book) (k : Core) (qs : List Queue) (now : ℕ) (c : Change
   t = record { xid = c.xid; reply = r }
 
   abbrev s : server.State
-  s = record (settled_server k.server now cs tree journal) { index = index }
+  s = record (settled_server k.server now cs tree journal) { leasing = leasing; index = index }
 
   abbrev p : Queue
   p = record q { downs = unless x.cut q.downs (t ∷ []) }
@@ -121,6 +121,7 @@ module _ (book more : Book) (k : Core) (qs : List Queue) (now : ℕ) (c : Change
   talks : x.cut ≡ false → IsTalk book n k.server.waiting x q h.seat → IsTalk more n cs x (record q { downs = q.downs ++ t ∷ [] }) h.seat
   talks uncut talk = record {
     floor = talk.floor;
+    numbered = talk.numbered;
     under = talk.under;
     rising = talk.rising;
     asked = talk.asked;
@@ -136,7 +137,7 @@ module _ (book more : Book) (k : Core) (qs : List Queue) (now : ℕ) (c : Change
     busy = talk.busy;
   }
 
-  pub kept_told : IsKept more (turned_core more s k.seats k.sessions) (with_numbered qs n p)
+  pub kept_told : IsKept more (turned_core k more s k.seats k.sessions) (with_numbered qs n p)
   kept_told =
       let g = shows.goes.grows in
       kept_turn book more k qs s k.seats k.sessions (with_numbered qs n p) n x x p h.seat h.seat made None (record {
@@ -206,8 +207,8 @@ module _ (book more : Book) (k : Core) (qs : List Queue) (now : ℕ) (c : Change
       let w = pending.waited uncut in
       ap (λ (z : Job). z.stage) (some_is j (record { place = pending.place; file = 0; stage = stage.Walking c.xid w.0 }) (sym at ∙ w.1)) ∙ ap (stage.Walking c.xid) (walk_is w.0 a w.2)
 
-  pub kept_settled : IsKept more (turned_core more (settled_server k.server now cs tree journal) k.seats k.sessions) (with_numbered qs c.session (record q { downs = unless x.cut q.downs (record { xid = c.xid; reply = Walked r } ∷ []) }))
-  kept_settled = kept_told book more k qs now c cs x q tree journal k.server.index (Walked r) made kept out here is (record {
+  pub kept_settled : IsKept more (turned_core k more (settled_server k.server now cs tree journal) k.seats k.sessions) (with_numbered qs c.session (record q { downs = unless x.cut q.downs (record { xid = c.xid; reply = Walked r } ∷ []) }))
+  kept_settled = kept_told book more k qs now c cs x q (later k.server.leasing now) tree journal k.server.index (Walked r) made kept out here is (record {
     goes = shows.goes;
     server = shows.server;
     journal_is = shows.journal_is;

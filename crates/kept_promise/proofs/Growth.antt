@@ -1,5 +1,5 @@
 -- How a history grows in a step, and what stays true of operations then.
-use Rattle.std.proofs.Common.{◌⊎◌, inl, inr, ◌≡◌, ℕ, zero, suc, ◌+◌, ◌<◌, ◌≤◌, List, length, Option, Some, Bool, true, false, refl, sym, ap, ◌∙◌, subst, arith}
+use Rattle.std.proofs.Common.{IsSome, ◌⊎◌, inl, inr, ◌≡◌, ℕ, zero, suc, ◌+◌, ◌<◌, ◌≤◌, List, length, Option, Some, Bool, true, false, refl, sym, ap, ◌∙◌, subst, arith}
 use Rattle.std.proofs.lemmas.Slice.Eq.{bytes_eq-Decides}
 use Rattle.register_model.specs.declared.op.Outcome.{Outcome}
 use Rattle.register_model.specs.declared.op.Outcome.TheVariants as told
@@ -7,10 +7,10 @@ use Rattle.register_model.specs.declared.op.Word.TheVariants as words
 use Rattle.trace_replay.specs.Book.{first_version}
 use Rattle.register_model.specs.Register.{changes, IsFit}
 use Rattle.trace_replay.specs.OwnCalls.{WaitsFor, TakesCall}
-use Rattle.kept_promise.proofs.Common.{Body, slice_get, bytes_eq, Contains, sha1, Entry, File, Value, content_of, Op, Opening, Word, Moment, hashed_of, Book, Or, Collides, history, value_at, version_at, Tried}
+use Rattle.kept_promise.proofs.Common.{step_of, Body, slice_get, bytes_eq, Contains, sha1, Entry, File, Value, content_of, Op, Opening, Word, Moment, hashed_of, Book, Or, Collides, history, value_at, version_at, Tried}
 use Rattle.kept_promise.proofs.Lists.{false_and_true}
 use Rattle.kept_promise.proofs.Marks.{Mark, marks, latest_mark, left_by, value_is, count_is}
-use Rattle.kept_promise.proofs.Rights.{AreLeased, IsEnteredIf, WasThere, gets_file, Caused, WasWalk, RefusedBy, DoneBy, IsRight, IsUnmade, IsMade, IsHeld, IsFitted}
+use Rattle.kept_promise.proofs.Rights.{IsEnteredIf, WasThere, gets_file, Caused, WasWalk, RefusedBy, DoneBy, IsRight, IsUnmade, IsMade, IsHeld, IsFitted}
 
 -- what becomes of an operation; at most one is made, and at most one goes on, or ends, by a step of its client
 pub record Follows (book : Book) (made ended : Option ℕ) (k : ℕ) (o r : Op) : Type 0 where
@@ -140,7 +140,13 @@ refused_later book more made ended o words.Close s g past (inr (h, before)) = le
 refused_later book more made ended o _ s g past h = h
 
 done_later : (book more : Book) (made ended : Option ℕ) (o : Op) (w : Word) → Grows book more made ended → DoneBy book o w → DoneBy more o w
-done_later book more made ended o words.Rewrite g h = let le = h.past in let n = g.passes in record {
+done_later book more made ended o words.Rewrite g (inr h) = let le = h.past in let n = g.passes in inr (record {
+  ends = record { moment = h.ends.moment; there = g.happened h.ends.moment h.ends.there; end_is = h.ends.end_is; quiet = h.ends.quiet; now = h.ends.now; acts = h.ends.acts; seat = h.ends.seat; seat_is = h.ends.seat_is; content = h.ends.content; fresh = h.ends.fresh };
+  past = omega (arith, le, n);
+  value_is = λ leased. subst (λ (v : Option (List ℕ)). IsSome v) (sym (value_later book more made ended o.file (step_of h.ends.moment) g (omega (arith, le)))) (h.value_is (λ m c now f seat kept there. leased m c now f seat kept (g.happened m there)));
+  known = there_later book more made ended o.file g h.known;
+})
+done_later book more made ended o words.Rewrite g (inl h) = let le = h.past in let n = g.passes in inl (record {
   step = h.step;
   inside = h.inside;
   past = omega (arith, le, n);
@@ -149,7 +155,7 @@ done_later book more made ended o words.Rewrite g h = let le = h.past in let n =
   xid = h.xid;
   taken = takes_later book more made ended o.client o.client h.step h.xid _ g refl h.taken;
   known = there_later book more made ended o.file g h.known;
-}
+})
 done_later book more made ended o _ g h = h
 
 cause_later : (book more : Book) (made ended : Option ℕ) (o : Op) (u : Outcome) → Grows book more made ended → IsRight book o → Caused book o u → Caused more o u

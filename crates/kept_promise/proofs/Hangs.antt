@@ -6,8 +6,7 @@ use Rattle.server_core.specs.Step.{hangs, hangs_if}
 use Rattle.server_core.specs.declared.event.Event.TheVariants as event
 use Rattle.client_state.specs.State as client
 use Rattle.trace_ends.specs.Core.{hangs_if as core_hangs_if, hangs as core_hangs}
-use Rattle.kept_promise.proofs.Common.{slice_get, not, cond, ◌==◌, filter, list_any, stands, server_step, Change, Op, Core, Seat, Session, quiet, numbered, with_numbered, Book, Ask, Queue, version_at, Leasing}
-use Rattle.server_core.specs.Leasing.{unheard}
+use Rattle.kept_promise.proofs.Common.{slice_get, not, cond, ◌==◌, filter, list_any, stands, server_step, Change, Op, Core, Seat, Session, quiet, numbered, with_numbered, Book, Ask, Queue, version_at}
 use Rattle.kept_promise.proofs.Lists.{some_is, nothing_there, same_or_not, all_map}
 use Rattle.kept_promise.proofs.Keys.{times, times_append, own, on_way, change_key, ask_key, told_key, pending_key}
 use Rattle.kept_promise.proofs.Messages.{job, Rising, IsAnswer}
@@ -103,7 +102,7 @@ server_hung book s n kept held fresh = record {
   lengths = λ i c e. let r = left_there n s.waiting i c e in kept.lengths r.0.0 c r.0.1;
   targets = λ i c e. let r = left_there n s.waiting i c e in there_later book (onward book 1 book.ops) None None c.file (grows_same book 1) (kept.targets r.0.0 c r.0.1);
   xids = λ i c e. let r = left_there n s.waiting i c e in kept.xids r.0.0 c r.0.1;
-  leases = ap (λ (g : Leasing). unheard g n) kept.leases;
+  leases = kept.leases;
 }
 
 -- what a hung session and its owner still say to each other
@@ -113,6 +112,7 @@ talk_hung book s n x q c t =
     let spares : Spares x.closing None = λ p u v. nothing_there p v in
     record {
       floor = t.floor;
+      numbered = t.numbered;
       under = t.under;
       rising = top t.floor q.ups t.rising;
       asked = tt;
@@ -134,14 +134,14 @@ talk_hung book s n x q c t =
         let b = times_append y (map change_key (own n s.waiting)) (map told_key q.downs) in
         omega (arith, h, now, a, b)
 
-pub core_is : (book : Book) (k : Core) (qs : List Queue) (r : server.State) (seats : List Seat) (sessions : List Session) → IsKept book k qs → turned_core (onward book 1 book.ops) r seats sessions ≡ record { server = r; seats = seats; sessions = sessions; steps = k.steps + 1; ops = k.ops; entries = k.entries }
+pub core_is : (book : Book) (k : Core) (qs : List Queue) (r : server.State) (seats : List Seat) (sessions : List Session) → IsKept book k qs → turned_core k (onward book 1 book.ops) r seats sessions ≡ record k { server = r; seats = seats; sessions = sessions; steps = k.steps + 1; ops = k.ops; entries = k.entries }
 core_is book k qs r seats sessions h =
-    ap (λ (s : ℕ). record { server = r; seats = seats; sessions = sessions; steps = s + 1; ops = book.ops; entries = book.entries }) h.steps
-    ∙ ap (λ (o : List Op). record { server = r; seats = seats; sessions = sessions; steps = k.steps + 1; ops = o; entries = book.entries }) h.ops
-    ∙ ap (λ (e : List ℕ). record { server = r; seats = seats; sessions = sessions; steps = k.steps + 1; ops = k.ops; entries = e }) h.entries
+    ap (λ (s : ℕ). record k { server = r; seats = seats; sessions = sessions; steps = s + 1; ops = book.ops; entries = book.entries }) h.steps
+    ∙ ap (λ (o : List Op). record k { server = r; seats = seats; sessions = sessions; steps = k.steps + 1; ops = o; entries = book.entries }) h.ops
+    ∙ ap (λ (e : List ℕ). record k { server = r; seats = seats; sessions = sessions; steps = k.steps + 1; ops = k.ops; entries = e }) h.entries
 
 hung_now : (book : Book) (k : Core) (qs : List Queue) (n : ℕ) (x : Session) (q : Queue) → (kept : IsKept book k qs) → numbered k.sessions n ≡ Some x → numbered qs n ≡ Some q → x.hung ≡ false
-    → IsKept (onward book 1 book.ops) (turned_core (onward book 1 book.ops) (hangs k.server n) k.seats (with_numbered k.sessions n (record x { hung = true }))) (with_numbered qs n (record q { ups = [] }))
+    → IsKept (onward book 1 book.ops) (turned_core k (onward book 1 book.ops) (hangs k.server n) k.seats (with_numbered k.sessions n (record x { hung = true }))) (with_numbered qs n (record q { ups = [] }))
 hung_now book k qs n x q kept at is unhung =
     let h = kept.sessions n x q at is in
     let more = onward book 1 book.ops in
@@ -207,7 +207,7 @@ hung_now book k qs n x q kept at is unhung =
 
 -- nothing is done, and nothing sent
 pub leads_quiet : (book : Book) (k : Core) (qs : List Queue) → IsKept book k qs → Leads book qs (quiet k)
-leads_quiet book k qs kept = record { sends = record { asks = []; up_is = refl; tolds = []; down_is = refl }; more = book; moments = refl; opening = refl; kept = kept }
+leads_quiet book k qs kept = record { sends = record { replies = []; replies_fit = tt; asks = []; up_is = refl; recalls = []; recalls_fit = tt; tolds = []; down_is = refl }; more = book; moments = refl; opening = refl; kept = kept }
 
 leads_hung : (book : Book) (k : Core) (qs : List Queue) (n : ℕ) (x : Session) (q : Queue) → IsKept book k qs → numbered k.sessions n ≡ Some x → numbered qs n ≡ Some q → (hung : Bool) → x.hung ≡ hung → Leads book qs (core_hangs_if k n x hung)
 leads_hung book k qs n x q kept at is true e = leads_quiet book k qs kept
@@ -217,13 +217,13 @@ leads_hung book k qs n x q kept at is false e =
     let r : (server_step k.server (event.Hang n)).0 ≡ hangs k.server n = ap (λ (b : Bool). (hangs_if k.server b n).0) stands_is in
     let sessions = with_numbered k.sessions n (record x { hung = true }) in
     let now = subst (λ (z : Core). IsKept (onward book 1 book.ops) z (with_numbered qs n (record q { ups = [] }))) (core_is book k qs (hangs k.server n) k.seats sessions kept) (hung_now book k qs n x q kept at is e) in
-    let with_server = subst (λ (z : server.State). IsKept (onward book 1 book.ops) (record { server = z; seats = k.seats; sessions = sessions; steps = k.steps + 1; ops = k.ops; entries = k.entries }) (with_numbered qs n (record q { ups = [] }))) (sym r) now in
+    let with_server = subst (λ (z : server.State). IsKept (onward book 1 book.ops) (record k { server = z; seats = k.seats; sessions = sessions; steps = k.steps + 1; ops = k.ops; entries = k.entries }) (with_numbered qs n (record q { ups = [] }))) (sym r) now in
     record {
-      sends = record { asks = []; up_is = refl; tolds = []; down_is = refl };
+      sends = record { replies = []; replies_fit = tt; asks = []; up_is = refl; recalls = []; recalls_fit = tt; tolds = []; down_is = refl };
       more = onward book 1 book.ops;
       moments = refl;
       opening = refl;
-      kept = subst (λ (o : Option Queue). IsKept (onward book 1 book.ops) (record { server = (server_step k.server (event.Hang n)).0; seats = k.seats; sessions = sessions; steps = k.steps + 1; ops = k.ops; entries = k.entries }) (ups_lost qs n o)) (sym is) with_server;
+      kept = subst (λ (o : Option Queue). IsKept (onward book 1 book.ops) (record k { server = (server_step k.server (event.Hang n)).0; seats = k.seats; sessions = sessions; steps = k.steps + 1; ops = k.ops; entries = k.entries }) (ups_lost qs n o)) (sym is) with_server;
     }
 
 pub kept_hangs : KeptHangs

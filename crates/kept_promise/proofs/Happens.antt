@@ -1,7 +1,7 @@
 -- What an event is at the two ends, by its definition alone: whatever holds of each case holds of the event.
 use Rattle.std.proofs.Common.{◌≡◌, ℕ, List, Option, Some, None, Result, Ok, Err, Bool, true, false, refl}
 use Rattle.trace_ends.specs.Core.{idles, hears_by, server_got}
-use Rattle.kept_promise.proofs.Common.{Command, Message, WireFault, parse_of, connect, has_room, Core, Seat, Session, Event, Event.Joins, Event.Does, Event.Serves, Event.Hears, Event.Settles, Event.Cuts, Event.Hangs, CoreStep, quiet, numbered, server_waiting, is_newest, serves_if, serves, hears_if, hears_at, hears, does, joins_as, joins, settles, cuts_if, cuts, hangs_if, hangs, happens}
+use Rattle.kept_promise.proofs.Common.{Command, Message, WireFault, parse_of, connect, has_room, Core, Seat, Session, Event, Event.Joins, Event.Does, Event.Serves, Event.Hears, Event.Settles, Event.Cuts, Event.Hangs, CoreStep, quiet, numbered, server_waits, is_newest, serves_if, serves, hears_if, hears_at, hears, does, joins_as, joins, settles, cuts_if, cuts, hangs_if, hangs, happens}
 
 -- a client asks for a session, and has one, or there is no room for it
 abbrev pub joins_by : Core → (c : ℕ) → Seat → (has_room : Bool) → CoreStep
@@ -14,7 +14,7 @@ pub record Happens (k : Core) (e : Event) (Z : CoreStep → Type 0) : Type 0 whe
   pub joins : (c : ℕ) (seat : Seat) → e ≡ Joins c → Z (joins_by k c seat true)
   pub refuses : (c : ℕ) (seat : Seat) → e ≡ Joins c → Z (joins_by k c seat false)
   pub does : (c now : ℕ) (d : Command) (seat : Seat) → e ≡ Does c now d → Z (does k c now d (Some seat))
-  pub takes : (n now : ℕ) (bytes : List ℕ) (x : Session) (m : Message) → e ≡ Serves n now bytes → numbered k.sessions n ≡ Some x → parse_of server_waiting bytes ≡ Ok m → Z (server_got k n now x m)
+  pub takes : (n now : ℕ) (bytes : List ℕ) (x : Session) (m : Message) → e ≡ Serves n now bytes → numbered k.sessions n ≡ Some x → parse_of (server_waits k n) bytes ≡ Ok m → Z (server_got k n now x m)
   pub hears : (n now : ℕ) (bytes : List ℕ) (owner : ℕ) (seat : Seat) → e ≡ Hears n now bytes → Z (hears_by k owner now seat bytes)
   pub settles : (now : ℕ) → e ≡ Settles now → Z (settles k now)
   pub cuts : (c : ℕ) (seat : Seat) → e ≡ Cuts c → Z (cuts_if k c seat true)
@@ -37,13 +37,13 @@ what_happens k (Does c now d) Z h = by (numbered k.seats c)
     by (Some seat) = h.does c now d seat refl
 what_happens k (Serves n now bytes) Z h = by (numbered k.sessions n) refl
   where
-    read : (x : Session) → numbered k.sessions n ≡ Some x → (m : Result Message WireFault) → parse_of server_waiting bytes ≡ m → Z (serves_if k n now x m)
+    read : (x : Session) → numbered k.sessions n ≡ Some x → (m : Result Message WireFault) → parse_of (server_waits k n) bytes ≡ m → Z (serves_if k n now x m)
     read x at (Ok m) is = h.takes n now bytes x m refl at is
     read x at (Err e) is = h.idle
 
     by : (o : Option Session) → numbered k.sessions n ≡ o → Z (serves k n now bytes o)
     by None at = h.nothing
-    by (Some x) at = read x at (parse_of server_waiting bytes) refl
+    by (Some x) at = read x at (parse_of (server_waits k n) bytes) refl
 what_happens k (Hears n now bytes) Z h = by (numbered k.sessions n)
   where
     newest : (owner : ℕ) (seat : Seat) (b : Bool) → Z (hears_if k owner now seat bytes b)

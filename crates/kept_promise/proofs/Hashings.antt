@@ -173,6 +173,7 @@ comes_changed book k qs n x q t ts j g f last version bytes fact word quiet lt l
       forgotten = forgotten;
       cache = c.cache;
       index = c.index;
+      sent = c.clock;
       asks = hash_ask c.next_xid j.file 0 ∷ [];
       shows = goes_hash book k qs n x q t ts j g s 0 forgotten quiet (sym word) (λ y. refl) (λ y e. absurd cc) (λ y e. nothing_there y e) (λ f e. absurd cc) refl moves small (omega arith) tt tt
           (λ m y e. subst (λ v. Trying book (on j s) v) (ap tries_of e) (tried_again book x.taken j s f last fact lt le (λ same. apart (sym is ∙ same)))) (xids (grind (arith, nat_tests, less))) (let b = left.2 in let z = left.0 in omega (arith, b)) word;
@@ -208,5 +209,5 @@ comes_changed book k qs n x q t ts j g f last version bytes fact word quiet lt l
       state_is = refl;
       send_is = refl;
       ended_is = refl;
-      op_is = ap (λ v. open_op of.op tr (book.steps + 1) (point_if (has_point v (outcome.Changed f.version version)) x.taken 0 of.op.point) (told.Changed f.version version) of.op.value) w;
+      op_is = ap (λ v. open_op of.op tr (book.steps + 1) (point_if (has_point v (outcome.Changed f.version version)) x.taken 0 (book.steps + 1) of.op.point) (told.Changed f.version version) of.op.value) w;
     })

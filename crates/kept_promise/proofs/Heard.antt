@@ -166,7 +166,7 @@ pub kept_heard : (book : Book) (ops : List Op) (k : Core) (qs : List Queue) (n :
     → (kept : IsKept book k qs) → (at : numbered k.sessions n ≡ Some x) → (is : numbered qs n ≡ Some q) → q.downs ≡ t ∷ ts → x.cut ≡ false
     → Around k.seats seats x.owner (record (kept.sessions n x q at is).seat { client = c; place = place }) → Around qs after n (put_up q x.hung asks ts)
     → Hearing book ops k n x q t ts c place asks made ended (kept.sessions n x q at is)
-    → IsKept (onward book 1 ops) (turned_core (onward book 1 ops) k.server seats k.sessions) after
+    → IsKept (onward book 1 ops) (turned_core k (onward book 1 ops) k.server seats k.sessions) after
 kept_heard book ops k qs n x q t ts c place asks made ended seats after kept at is e uncut around queues shows =
     let h = kept.sessions n x q at is in
     let more = onward book 1 ops in
@@ -203,6 +203,7 @@ kept_heard book ops k qs n x q t ts c place asks made ended seats after kept at 
             let talk = h.talk uncut in
             record {
               floor = talk.floor;
+              numbered = talk.numbered;
               under = talk.under;
               rising = rising_unless x.hung talk.floor q.ups asks h.seat.client.next_xid c.next_xid talk.rising shows.rising;
               asked = all_unless (IsAsked (job_of place c.task)) x.hung q.ups asks shows.old_asks shows.asked;

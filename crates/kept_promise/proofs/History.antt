@@ -103,25 +103,43 @@ goes_same book n sound = record {
 pub still_same : (book : Book) (n : ℕ) → IsSound book → Still book (onward book n book.ops)
 still_same book n sound = still_by book n book.ops sound (λ f p. refl)
 
--- ---- one is appended, which has no point
+-- ---- one is appended, which has no point, or one that is no change's
 
-pub grows_appended : (book : Book) (new : Op) → new.point ≡ None → Grows book (onward book 1 (book.ops ++ new ∷ [])) None None
-grows_appended book new none = record { opening = refl; happened = λ m h. h; hashed = λ b h. h; passes = omega arith; steps_kept = λ j p e. e; entries_new = λ j p e. inl e; journal_kept = λ j e at. at; values = λ f p le. marks_appended f p book.ops new (unpointed f p new none); each = λ k o at. (o, kept_appended book.ops new k o at, follows_same book None None k o) }
+-- it makes no change: its point, if it has one, is none of a change
+abbrev pub MakesNone : Book → Op → Type 0
+MakesNone book new = (p : ℕ) → new.point ≡ Some p → (changes new.word ≡ false) × ((i : ℕ) → slice_get book.entries i ≡ Some p → ⊥)
 
-pub goes_appended : (book : Book) (new : Op) → new.point ≡ None → IsRight (onward book 1 (book.ops ++ new ∷ [])) new → IsSound book → Goes book (onward book 1 (book.ops ++ new ∷ [])) None None
-goes_appended book new none right sound = record {
-  grows = grows_appended book new none;
+pub makes_none : (book : Book) (new : Op) → new.point ≡ None → MakesNone book new
+makes_none book new none p e = nothing_there p (sym none ∙ e)
+
+no_mark : (book : Book) (f p : ℕ) (new : Op) → MakesNone book new → (changed_before f p new ≡ false)
+no_mark book f p new h = by (changes new.word) refl
+  where
+    none : (o : Option ℕ) → new.point ≡ o → changes new.word ≡ true → o ≡ None
+    none None e c = refl
+    none (Some q) e c = absurd (true_and_false (changes new.word) c (h q e).0)
+
+    by : (b : Bool) → changes new.word ≡ b → changed_before f p new ≡ false
+    by true c = unpointed f p new (none new.point refl c)
+    by false c = unchanging f p new c
+
+pub grows_added : (book : Book) (new : Op) → MakesNone book new → Grows book (onward book 1 (book.ops ++ new ∷ [])) None None
+grows_added book new h = record { opening = refl; happened = λ m h. h; hashed = λ b h. h; passes = omega arith; steps_kept = λ j p e. e; entries_new = λ j p e. inl e; journal_kept = λ j e at. at; values = λ f p le. marks_appended f p book.ops new (no_mark book f p new h); each = λ k o at. (o, kept_appended book.ops new k o at, follows_same book None None k o) }
+
+pub goes_added : (book : Book) (new : Op) → MakesNone book new → IsRight (onward book 1 (book.ops ++ new ∷ [])) new → IsSound book → Goes book (onward book 1 (book.ops ++ new ∷ [])) None None
+goes_added book new h right sound = record {
+  grows = grows_added book new h;
   sound = record {
     rights = λ k o at. elim (of_appended book.ops new k o at) [
       | inl is ↦ subst (IsRight (onward book 1 (book.ops ++ new ∷ []))) (sym is.1) right
-      | inr was ↦ right_later book (onward book 1 (book.ops ++ new ∷ [])) None None o (grows_appended book new none) (sound.rights k o was)
+      | inr was ↦ right_later book (onward book 1 (book.ops ++ new ∷ [])) None None o (grows_added book new h) (sound.rights k o was)
     ];
     fits = λ k o at. elim (of_appended book.ops new k o at) [
-      | inl is ↦ λ c p e. nothing_there p (sym none ∙ ap (λ (z : Op). z.point) (sym is.1) ∙ e)
-      | inr was ↦ fitted_later book (onward book 1 (book.ops ++ new ∷ [])) None None o o (grows_appended book new none) refl (λ c. (refl, refl)) (sound.rights k o was) (sound.fits k o was)
+      | inl is ↦ λ c p e. absurd (true_and_false (changes o.word) c (subst (λ (z : Op). (p : ℕ) → z.point ≡ Some p → changes z.word ≡ false) (sym is.1) (λ q f. (h q f).0) p e))
+      | inr was ↦ fitted_later book (onward book 1 (book.ops ++ new ∷ [])) None None o o (grows_added book new h) refl (λ c. (refl, refl)) (sound.rights k o was) (sound.fits k o was)
     ];
-    journal = journal_grown book 1 (book.ops ++ new ∷ []) None None (grows_appended book new none) (λ k q p at e. elim (of_appended book.ops new k q at) [
-      | inl is ↦ nothing_there p (sym none ∙ ap (λ (z : Op). z.point) (sym is.1) ∙ e)
+    journal = journal_grown book 1 (book.ops ++ new ∷ []) None None (grows_added book new h) (λ k q p at e. elim (of_appended book.ops new k q at) [
+      | inl is ↦ inr (subst (λ (z : Op). z.point ≡ Some p → (changes z.word ≡ false) × ((i : ℕ) → slice_get book.entries i ≡ Some p → ⊥)) (sym is.1) (h p) e)
       | inr old ↦ inl (q, old, refl, e)
     ]) sound;
     past = λ i p at. past_grown book 1 i p sound at;
@@ -129,8 +147,14 @@ goes_appended book new none right sound = record {
   };
 }
 
+pub still_added : (book : Book) (new : Op) → MakesNone book new → IsSound book → Still book (onward book 1 (book.ops ++ new ∷ []))
+still_added book new h sound = still_by book 1 (book.ops ++ new ∷ []) sound (λ f p. marks_appended f p book.ops new (no_mark book f p new h))
+
+pub goes_appended : (book : Book) (new : Op) → new.point ≡ None → IsRight (onward book 1 (book.ops ++ new ∷ [])) new → IsSound book → Goes book (onward book 1 (book.ops ++ new ∷ [])) None None
+goes_appended book new none right sound = goes_added book new (makes_none book new none) right sound
+
 pub still_appended : (book : Book) (new : Op) → new.point ≡ None → IsSound book → Still book (onward book 1 (book.ops ++ new ∷ []))
-still_appended book new none sound = still_by book 1 (book.ops ++ new ∷ []) sound (λ f p. marks_appended f p book.ops new (unpointed f p new none))
+still_appended book new none sound = still_added book new (makes_none book new none) sound
 
 -- ---- one takes another form
 

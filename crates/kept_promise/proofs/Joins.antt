@@ -85,7 +85,8 @@ new_talk book s n c seat free none =
     let calls : client.calls_of (joined seat.client) ≡ [] = no_calls seat.client.task [] free refl in
     let way : on_way n s.waiting no_queue ≡ [] = ap (λ (l : List Change). map change_key l ++ []) none in
     record {
-      floor = 0;
+      floor = 1;
+      numbered = (omega arith, refl);
       under = tt;
       rising = omega arith;
       asked = tt;
@@ -102,7 +103,7 @@ new_talk book s n c seat free none =
     }
 
 joined_now : (book : Book) (k : Core) (qs : List Queue) (c n : ℕ) (seat : Seat) → IsKept book k qs → n ≡ k.server.sessions_made + 1 → numbered k.seats c ≡ Some seat → seat.client.linked ≡ false
-    → IsKept (onward book 2 book.ops) (turned_core (onward book 2 book.ops) (with_session k.server n) (with_numbered k.seats c (seated seat n)) (k.sessions ++ new_session c ∷ [])) (qs ++ no_queue ∷ [])
+    → IsKept (onward book 2 book.ops) (turned_core k (onward book 2 book.ops) (with_session k.server n) (with_numbered k.seats c (seated seat n)) (k.sessions ++ new_session c ∷ [])) (qs ++ no_queue ∷ [])
 joined_now book k qs c n seat kept number at unlinked =
     let more = onward book 2 book.ops in
     let g = grows_same book 2 in
@@ -228,11 +229,11 @@ joined_now book k qs c n seat kept number at unlinked =
           kept = cached_later book (onward book 2 book.ops) None None seat.client.cache (grows_same book 2) was.kept;
         }
 
-core_joined : (book : Book) (k : Core) (qs : List Queue) (r : server.State) (seats : List Seat) (sessions : List Session) → IsKept book k qs → turned_core (onward book 2 book.ops) r seats sessions ≡ record { server = r; seats = seats; sessions = sessions; steps = k.steps + 2; ops = k.ops; entries = k.entries }
+core_joined : (book : Book) (k : Core) (qs : List Queue) (r : server.State) (seats : List Seat) (sessions : List Session) → IsKept book k qs → turned_core k (onward book 2 book.ops) r seats sessions ≡ record k { server = r; seats = seats; sessions = sessions; steps = k.steps + 2; ops = k.ops; entries = k.entries }
 core_joined book k qs r seats sessions h =
-    ap (λ (s : ℕ). record { server = r; seats = seats; sessions = sessions; steps = s + 2; ops = book.ops; entries = book.entries }) h.steps
-    ∙ ap (λ (o : List Op). record { server = r; seats = seats; sessions = sessions; steps = k.steps + 2; ops = o; entries = book.entries }) h.ops
-    ∙ ap (λ (e : List ℕ). record { server = r; seats = seats; sessions = sessions; steps = k.steps + 2; ops = k.ops; entries = e }) h.entries
+    ap (λ (s : ℕ). record k { server = r; seats = seats; sessions = sessions; steps = s + 2; ops = book.ops; entries = book.entries }) h.steps
+    ∙ ap (λ (o : List Op). record k { server = r; seats = seats; sessions = sessions; steps = k.steps + 2; ops = o; entries = book.entries }) h.ops
+    ∙ ap (λ (e : List ℕ). record k { server = r; seats = seats; sessions = sessions; steps = k.steps + 2; ops = k.ops; entries = e }) h.entries
 
 -- below the limits the server makes a session
 pub connects : (s : server.State) → s.sessions_made < 4294967295 → length s.sessions < 64 → connect s (has_room s) ≡ connect s true
@@ -250,7 +251,7 @@ leads_joined book k qs c seat kept at unlinked made few =
     let sessions = k.sessions ++ new_session c ∷ [] in
     let now = subst (λ (z : Core). IsKept (onward book 2 book.ops) z (qs ++ no_queue ∷ [])) (core_joined book k qs (with_session k.server n) seats sessions kept) (joined_now book k qs c n seat kept refl at unlinked) in
     subst (λ (r : server.State × ServerStep). Leads book qs (joins_as k c seat r.0 r.1.told)) (sym step) (record {
-      sends = record { asks = []; up_is = refl; tolds = []; down_is = refl };
+      sends = record { replies = []; replies_fit = tt; asks = []; up_is = refl; recalls = []; recalls_fit = tt; tolds = []; down_is = refl };
       more = onward book 2 book.ops;
       moments = refl;
       opening = refl;

@@ -5,19 +5,25 @@ use Rattle.wire.specs.declared.message.Body.TheVariants as body
 use Rattle.wire.specs.declared.message.Message.TheVariants as message
 use Rattle.client_cache.specs.Cache.{content_of}
 use Rattle.file_open.specs.Caching.{content_in}
+use Rattle.client_state.specs.Noting.{at as at_clock, noted_until}
+use Rattle.client_state.specs.declared.step.Ended.{Ended}
+use Rattle.client_state.specs.declared.step.Outcome.{Outcome}
+use Rattle.client_state.specs.declared.step.Outcome.TheVariants as outcome
+use Rattle.lease_rules.specs.Leases.{note_until}
 use Rattle.client_state.specs.State as client
 use Rattle.register_model.specs.declared.op.Word.TheVariants as words
 use Rattle.trace_ends.specs.Session.{taken_of as session_taken}
 use Rattle.trace_replay.specs.Saving.{lease_told, EndsBy, UsesKept, TellsLease, EndsAnew, FetchesNone}
 use Rattle.hash_calls.specs.declared.call.Leased.{Leased}
 use Rattle.client_state.specs.declared.task.Stage.TheVariants as stage
-use Rattle.kept_promise.proofs.Common.{Contains, Contains-push_cases, no_counts, slice_get, option_map, unwrap_or, Done, Message, Pending, got_step, took, uses_kept, idle, hash_call, ClientStep, Local, Stage, Op, Word, Opening, TakenCall, op_after, counted, no_traffic, Core, Seat, Event, Event.Hears, numbered, session_of, happens, Moment, step_of, client_of, owner_in, taken_by, is_in, local_at_itself, hashed_of, deals_of, CountsOwn, Book, Queue, told_message}
+use Rattle.kept_promise.proofs.Common.{value_of, Contains, Contains-push_cases, no_counts, slice_get, option_map, unwrap_or, Done, Message, Pending, got_step, took, uses_kept, idle, hash_call, ClientStep, Local, Stage, Op, Word, Opening, TakenCall, op_after, counted, no_traffic, Core, Seat, Event, Event.Hears, numbered, session_of, happens, Moment, step_of, client_of, owner_in, taken_by, is_in, local_at_itself, deals_of, CountsOwn, Book, Queue, told_message}
 use Rattle.kept_promise.proofs.Lists.{some_is, nothing_there, of_appended, of_replaced, true_and_false}
 use Rattle.kept_promise.proofs.Messages.{stage_word}
 use Rattle.kept_promise.proofs.Fits.{FitLaws}
 use Rattle.kept_promise.proofs.Facts.{IsKept}
 use Rattle.kept_promise.proofs.RunsCarried.{book_at, moment, Step}
 use Rattle.kept_promise.proofs.Actors.{acts_alone, Heard, heard_at}
+use Rattle.kept_promise.proofs.Replies.{recall_untaken}
 use Rattle.kept_promise.proofs.Counted.{early, running_past}
 use Rattle.kept_promise.proofs.JobFacts.{ops_shape}
 use Rattle.kept_promise.proofs.Logs.{IsSilent}
@@ -29,6 +35,7 @@ use Rattle.kept_promise.proofs.OpsAfter.{OpsAfter, Becomes, ops_after_event}
 use Rattle.kept_promise.proofs.OpensLog.{OpensBy, OpenRead, bare_counts}
 use Rattle.kept_promise.proofs.OwnLog.{OwnBy, OpOwn, own_counts}
 use Rattle.kept_promise.proofs.VersionRuns.{word_after}
+use Rattle.kept_promise.proofs.AtOnceRuns.{AreAtOnce, at_once_event}
 
 -- ---- what is carried
 
@@ -52,6 +59,8 @@ pub record AreUsed (past : List Moment) (book : Book) : Type 0 where
   pub leased : (m : Moment) → Contains past m → (p : ℕ) (o : Op) → slice_get book.ops p ≡ Some o → TellsLease book m o
   pub each : (m : Moment) → Contains past m → (p : ℕ) (o : Op) → slice_get book.ops p ≡ Some o → Follows m o
   pub shut : (m : Moment) → Contains past m → (p : ℕ) (o : Op) → slice_get book.ops p ≡ Some o → HasFile m o
+  -- and what is fresh is open at once
+  pub now : AreAtOnce past book.steps book.ops
 
 abbrev pub UsedAt : (all past : List Moment) → List Opening → Core → Type 0
 UsedAt all past opening k = AreUsed past (book_at opening k all)
@@ -105,6 +114,19 @@ stays book k qs e ops m kept le (inr (inr (inr (inr s)))) h shut p o at = elim (
   ])
 ]
 
+-- what is noted of a lease is nothing to an operation
+noted_after : (q : Op) (c : client.State) (file version : ℕ) (until : Option ℕ) (taken : List TakenCall) (step : ℕ) (acts : ClientStep) → op_after q (noted_until c file version until) taken step acts ≡ op_after q c taken step acts
+noted_after q c file version None taken step acts = refl
+noted_after q c file version (Some until) taken step acts = by acts.ended
+  where
+    value : (u : Outcome) → value_of q.value (noted_until c file version (Some until)) u ≡ value_of q.value c u
+    value (outcome.Opened g len digest) = refl
+    value u = refl
+
+    by : (e : Option Ended) → op_after q (noted_until c file version (Some until)) taken step (record acts { ended = e }) ≡ op_after q c taken step (record acts { ended = e })
+    by None = refl
+    by (Some e) = ap (λ (v : List ℕ). record (op_after q c taken step (record acts { ended = Some e })) { value = v }) (value e.outcome)
+
 -- ---- the answer to a GETLEASE
 
 -- what it comes to
@@ -154,8 +176,8 @@ used_hears fits all past opening k qs after n now bytes mid kept h left known p 
         sum : IsSum w.old.traffic (deals_of w.old past)
         sum = counts_log w.old past (known.counted.counts p w.old w.was)
 
-        became : (st : Stage) → w.of.stage ≡ st → got_step h.seat.client (Ok (lease_told x l)) now ≡ took (idle h.seat.client) (client.calls_of h.seat.client) w.of.file st x (body.Lb (lb.GetLeaseAnswer (Done l)))
-        became st is = w.got ∙ ap (λ (st : Stage). took (idle h.seat.client) (client.calls_of h.seat.client) w.of.file st x (body.Lb (lb.GetLeaseAnswer (Done l)))) is
+        became : (st : Stage) → w.of.stage ≡ st → got_step h.seat.client (Ok (lease_told x l)) now ≡ took (idle (at_clock h.seat.client now)) (client.calls_of h.seat.client) w.of.file st x (body.Lb (lb.GetLeaseAnswer (Done l)))
+        became st is = w.got ∙ ap (λ (st : Stage). took (idle (at_clock h.seat.client now)) (client.calls_of h.seat.client) w.of.file st x (body.Lb (lb.GetLeaseAnswer (Done l)))) is
 
         -- an open
         opened : w.of.stage ≡ stage.Asking x → EndsOf words.Open m (op_after w.old r.0 taken (k.steps + 1) r.1) l
@@ -167,7 +189,9 @@ used_hears fits all past opening k qs after n now bytes mid kept h left known p 
             (subst (λ f. EndsBy (op_after w.old r.0 taken (k.steps + 1) r.1) (k.steps + 1) r.1.send (content_in l.version (content_of seat.client.cache f))) (sym (file_stays w.old r.0 taken (k.steps + 1) r.1 w.finds ∙ w.file))
             (subst (λ (c : Seat). EndsBy (op_after w.old r.0 taken (k.steps + 1) r.1) (k.steps + 1) r.1.send (content_in l.version (content_of c.client.cache w.of.file))) same_seat
             (subst (λ (z : client.State × ClientStep). EndsBy (op_after w.old z.0 taken (k.steps + 1) z.1) (k.steps + 1) z.1.send (content_in l.version (content_of h.seat.client.cache w.of.file))) (sym (became (stage.Asking x) asking))
-            (kept_ends w.old (idle h.seat.client) (client.calls_of h.seat.client) w.of.file x l.version (k.steps + 1) taken w.file none (content_in l.version (content_of h.seat.client.cache w.of.file))))))
+            (let z : client.State × ClientStep = uses_kept (idle (at_clock h.seat.client now)) (client.calls_of h.seat.client) w.of.file x l.version (content_in l.version (content_of h.seat.client.cache w.of.file)) in
+            subst (λ (o : Op). EndsBy o (k.steps + 1) z.1.send (content_in l.version (content_of h.seat.client.cache w.of.file))) (sym (noted_after w.old z.0 w.of.file l.version (note_until h.seat.client.sent l.term z.0.drift) taken (k.steps + 1) z.1))
+            (kept_ends w.old (idle (at_clock h.seat.client now)) (client.calls_of h.seat.client) w.of.file x l.version (k.steps + 1) taken w.file none (content_in l.version (content_of h.seat.client.cache w.of.file)))))))
 
         -- a rewrite
         renewed : w.of.stage ≡ stage.Rewriting x → EndsOf words.Rewrite m (op_after w.old r.0 taken (k.steps + 1) r.1) l
@@ -183,7 +207,10 @@ used_hears fits all past opening k qs after n now bytes mid kept h left known p 
 -- ---- any event
 
 used_now : FitLaws → (all past rest : List Moment) (opening : List Opening) (k : Core) (qs : List Queue) (e : Event) (mid after : List Queue) → Step all past rest opening k qs e mid after → Known all past k → (p : ℕ) (o : Op) → slice_get (happens k e).core.ops p ≡ Some o → Follows (moment k e) o
-used_now fits all past rest opening k qs (Hears n now bytes) mid after s known p o at = used_hears fits all past opening k qs after n now bytes mid s.kept (heard_at (book_at opening k all) k qs n now bytes mid s.kept s.finds) s.left known p o at
+used_now fits all past rest opening k qs (Hears n now bytes) mid after s known p o at = elim s.finds [
+  | inl told ↦ used_hears fits all past opening k qs after n now bytes mid s.kept (heard_at (book_at opening k all) k qs n now bytes mid s.kept told) s.left known p o at
+  | inr recall ↦ none_taken (moment k (Hears n now bytes)) o (recall_untaken fits (book_at opening k all) k qs n now bytes mid s.kept recall)
+]
 used_now fits all past rest opening k qs e mid after s known p o at = none_taken (moment k e) o refl
 
 pub used_event : FitLaws → (all past rest : List Moment) (opening : List Opening) (k : Core) (qs : List Queue) (e : Event) (mid after : List Queue) → Step all past rest opening k qs e mid after → Known all past k → (step_of (moment k e) ≤ (happens k e).core.steps) ⊎ IsSilent (moment k e) → UsedAt all past opening k → UsedAt all (past ++ moment k e ∷ []) opening (happens k e).core
@@ -213,6 +240,7 @@ used_event fits all past rest opening k qs e mid after s known said h = record {
     ]
     | inr new ↦ subst (λ (y : Moment). HasFile y o) new (shut_now fits all past rest opening k qs e mid after s p o at)
   ];
+  now = at_once_event fits all past rest opening k qs e mid after s h.now;
 }
   where
     w : Becomes e k (happens k e)

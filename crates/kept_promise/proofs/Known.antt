@@ -25,7 +25,7 @@ use Rattle.server_core.specs.Closing.{entries_by}
 use Rattle.trace_replay.specs.OwnCalls.{ComesTo}
 use Rattle.trace_replay.specs.Naming.{Leads, all_names, FindsFile, HasFound, IsSeen, IsRootSeen, IsListed, ListsTooLong, IsRefused, Makes, MakesIn, Renames}
 use Rattle.kept_promise.proofs.Common.{Op, Word, Book, IsOpenRefused, Contains, Contains-push}
-use Rattle.kept_promise.proofs.Rights.{Soon, opened_if, RewriteRefused, RefusedBy, DoneBy, Caused}
+use Rattle.kept_promise.proofs.Rights.{AreLeased, Soon, opened_if, RewriteRefused, RefusedBy, DoneBy, Caused}
 use Rattle.command_text.specs.declared.command.Command.TheVariants as command
 use Rattle.kept_promise.proofs.Common.{Command, Deed, local_before, slice_get}
 use Rattle.kept_promise.proofs.WalkRuns.{bare, EndsAs, IsOver, takes_on}
@@ -151,26 +151,26 @@ renew_refused book o s status positive none (inl r) (inl f) = inl (has_found boo
 renew_refused book o s status positive none (inr z) (inl f) = absurd (positive f.0 z.0)
 renew_refused book o s status positive none r (inr u) = inr (refused_in book o status u.1.0, u.1.1)
 
-renewed_as : (book : Book) (o : Op) (s : Spot) (u : Outcome) → o.word ≡ words.Rewrite → o.point ≡ None → (FindsFile (bare book.moments) o s → o.file ≡ 0 → ⊥) → Caused book o u → EndsAs book.moments (path.Rewrite s) o u → NamedCause book (path.Rewrite s) o u
-renewed_as book o s told.Done w none positive h (inl f) = (has_found book o s positive f.0, rewrite_done book o none (subst (DoneBy book o) w h))
-renewed_as book o s told.AlreadyOpen w none positive h (inl f) = (has_found book o s positive f.0, none)
-renewed_as book o s (told.Refused status) w none positive h ends = renew_refused book o s status positive none (subst (λ (v : Word). RefusedBy book o v status) w h) ends
-renewed_as book o s told.Lost w none positive h ends = h.1
-renewed_as book o s told.Running w none positive h ends = h.1
-renewed_as book o s (told.Opened len digest) w none positive h ends = absurd (apart words.Rewrite words.Open rewrite_open o.word w h.0)
-renewed_as book o s (told.Changed first last) w none positive h ends = absurd (apart words.Rewrite words.Open rewrite_open o.word w h.0)
-renewed_as book o s (told.Closed version len digest) w none positive h ends = absurd (apart words.Rewrite words.Close rewrite_close o.word w h.0)
-renewed_as book o s told.PeerMemory w none positive h ends = absurd h
-renewed_as book o s (told.BadPeer n) w none positive h ends = absurd h
-renewed_as book o s told.Memory w none positive h ends = absurd h
-renewed_as book o s (told.Names list) w none positive h ends = absurd (apart words.Rewrite words.List rewrite_list o.word w h)
-renewed_as book o s (told.Seen id kind version len) w none positive h ends = absurd (apart words.Rewrite words.Look rewrite_look o.word w h)
-renewed_as book o s (told.Piece len digest) w none positive h (inl f) = absurd f.1
-renewed_as book o s told.Busy w none positive h (inl f) = absurd f.1
-renewed_as book o s told.NotOpen w none positive h (inl f) = absurd f.1
-renewed_as book o s (told.TooBig size) w none positive h (inl f) = absurd f.1
-renewed_as book o s told.NoLink w none positive h (inl f) = absurd f.1
-renewed_as book o s _ w none positive h (inr x) = absurd x.1
+renewed_as : (book : Book) (o : Op) (s : Spot) (u : Outcome) → AreLeased book.moments → o.word ≡ words.Rewrite → o.point ≡ None → (FindsFile (bare book.moments) o s → o.file ≡ 0 → ⊥) → Caused book o u → EndsAs book.moments (path.Rewrite s) o u → NamedCause book (path.Rewrite s) o u
+renewed_as book o s told.Done leased w none positive h (inl f) = (has_found book o s positive f.0, rewrite_done book o leased none (subst (DoneBy book o) w h))
+renewed_as book o s told.AlreadyOpen leased w none positive h (inl f) = (has_found book o s positive f.0, none)
+renewed_as book o s (told.Refused status) leased w none positive h ends = renew_refused book o s status positive none (subst (λ (v : Word). RefusedBy book o v status) w h) ends
+renewed_as book o s told.Lost leased w none positive h ends = h.1
+renewed_as book o s told.Running leased w none positive h ends = h.1
+renewed_as book o s (told.Opened len digest) leased w none positive h ends = absurd (apart words.Rewrite words.Open rewrite_open o.word w h.0)
+renewed_as book o s (told.Changed first last) leased w none positive h ends = absurd (apart words.Rewrite words.Open rewrite_open o.word w h.0)
+renewed_as book o s (told.Closed version len digest) leased w none positive h ends = absurd (apart words.Rewrite words.Close rewrite_close o.word w h.0)
+renewed_as book o s told.PeerMemory leased w none positive h ends = absurd h
+renewed_as book o s (told.BadPeer n) leased w none positive h ends = absurd h
+renewed_as book o s told.Memory leased w none positive h ends = absurd h
+renewed_as book o s (told.Names list) leased w none positive h ends = absurd (apart words.Rewrite words.List rewrite_list o.word w h)
+renewed_as book o s (told.Seen id kind version len) leased w none positive h ends = absurd (apart words.Rewrite words.Look rewrite_look o.word w h)
+renewed_as book o s (told.Piece len digest) leased w none positive h (inl f) = absurd f.1
+renewed_as book o s told.Busy leased w none positive h (inl f) = absurd f.1
+renewed_as book o s told.NotOpen leased w none positive h (inl f) = absurd f.1
+renewed_as book o s (told.TooBig size) leased w none positive h (inl f) = absurd f.1
+renewed_as book o s told.NoLink leased w none positive h (inl f) = absurd f.1
+renewed_as book o s _ leased w none positive h (inr x) = absurd x.1
 
 -- ---- a look, and a listing
 
@@ -254,22 +254,22 @@ named_status book o (path.Rewrite s) status w h g ends = renewed_status book o s
 named_status book o _ status w h g ends = ends.2
 
 -- one that asked the server, which isn't over in its first step
-pub named_cause : (book : Book) (o : Op) (c : PathCommand) → Soon book o o.outcome → o.word ≡ path_word c → (o.word ≡ words.Rewrite → o.point ≡ None) → Caused book o o.outcome → IsGiven book c o → (o.outcome ≡ told.Running) ⊎ EndsAs book.moments c o o.outcome → NamedCause book c o o.outcome
-named_cause book o c soon word bare_ h given (inl running) = running_as book o c running h
-named_cause book o c soon word bare_ h given (inr ends) = by c word given ends
+pub named_cause : (book : Book) (o : Op) (c : PathCommand) → AreLeased book.moments → Soon book o o.outcome → o.word ≡ path_word c → (o.word ≡ words.Rewrite → o.point ≡ None) → Caused book o o.outcome → IsGiven book c o → (o.outcome ≡ told.Running) ⊎ EndsAs book.moments c o o.outcome → NamedCause book c o o.outcome
+named_cause book o c leased soon word bare_ h given (inl running) = running_as book o c running h
+named_cause book o c leased soon word bare_ h given (inr ends) = by c word given ends
   where
     by : (c : PathCommand) → o.word ≡ path_word c → IsGiven book c o → EndsAs book.moments c o o.outcome → NamedCause book c o o.outcome
     by (path.Find s) w g ends = found_as book o s o.outcome soon w (g.positive s) h ends
-    by (path.Rewrite s) w g ends = renewed_as book o s o.outcome w (bare_ w) (g.positive s) h ends
+    by (path.Rewrite s) w g ends = renewed_as book o s o.outcome leased w (bare_ w) (g.positive s) h ends
     by (path.Look s) w g ends = look_as book o s o.outcome h ends
     by path.LookRoot w g ends = root_as book o o.outcome h ends
     by (path.List p) w g ends = list_as book o p o.outcome (g.too_long p refl) h ends
     by e w g ends = change_as book o e o.outcome refl h ends
 
 -- all that is known of a command, for what it came to
-pub known_by : (book : Book) (ds : List Deed) (i : ℕ) (d : Deed) (o : Op) → o.word ≡ word_of d.command → Soon book o o.outcome → (o.word ≡ words.Rewrite → o.point ≡ None) → Caused book o o.outcome → IsOver book.moments d.command o → HasOpens ds book.ops → slice_get ds i ≡ Some d → slice_get book.ops i ≡ Some o
+pub known_by : (book : Book) (ds : List Deed) (i : ℕ) (d : Deed) (o : Op) → AreLeased book.moments → o.word ≡ word_of d.command → Soon book o o.outcome → (o.word ≡ words.Rewrite → o.point ≡ None) → Caused book o o.outcome → IsOver book.moments d.command o → HasOpens ds book.ops → slice_get ds i ≡ Some d → slice_get book.ops i ≡ Some o
     → ((c : PathCommand) → d.command ≡ command.Named c → (o.end ≡ Some o.begin → ⊥) → IsGiven book c o) → ((f : ℕ) → d.command ≡ command.Open f → (status : ℕ) → o.outcome ≡ told.Refused status → IsOpenRefused book f o status) → ((f : ℕ) → d.command ≡ command.Rewrite f → (status : ℕ) → o.outcome ≡ told.Refused status → RewriteRefused book o status) → IsKnown book d o (local_before ds book.ops i d.client o.file)
-known_by book ds i d o word soon bare_ cause over opens at is given refused renewed = record {
+known_by book ds i d o leased word soon bare_ cause over opens at is given refused renewed = record {
   refused = refused;
   renewed = renewed;
   named = λ c e own late. (
@@ -288,6 +288,6 @@ known_by book ds i d o word soon bare_ cause over opens at is given refused rene
     ended c status w at_end g (word_is, inr (inr ends)) late = named_status book o c status w (subst (Caused book o) at_end cause) g (subst (EndsAs book.moments c o) at_end ends)
 
     by : (c : PathCommand) → o.word ≡ path_word c → IsGiven book c o → IsOver book.moments (command.Named c) o → (o.end ≡ Some o.begin → ⊥) → NamedCause book c o o.outcome
-    by c w g (word_is, inl running) late = named_cause book o c soon w bare_ cause g (inl running)
+    by c w g (word_is, inl running) late = named_cause book o c leased soon w bare_ cause g (inl running)
     by c w g (word_is, inr (inl first)) late = absurd (late first)
-    by c w g (word_is, inr (inr ends)) late = named_cause book o c soon w bare_ cause g (inr ends)
+    by c w g (word_is, inr (inr ends)) late = named_cause book o c leased soon w bare_ cause g (inr ends)

@@ -264,6 +264,7 @@ balanced_later n w v q hung next calls e h = record {
 pub talk_later : (book more : Book) (made ended : Option ℕ) (n : ℕ) (w v : List Change) (x : Session) (q : Queue) (seat : Seat) → Grows book more made ended → Spares x.closing made → own n v ≡ own n w → IsTalk book n w x q seat → IsTalk more n v x q seat
 talk_later book more made ended n w v x q seat g spares e h = record {
   floor = h.floor;
+  numbered = h.numbered;
   under = h.under;
   rising = h.rising;
   asked = h.asked;
@@ -343,6 +344,8 @@ cached_later book more made ended cache g h = λ f c e.
             value_is = or_later book more made ended _ _ g (λ v. value_later book more made ended f had.moment g (omega (arith, le)) ∙ v) had.value_is;
           },
       o.1,
+      λ positive. there_later book more made ended f g (o.2 positive),
+      o.3,
     )
 
 pub seat_later : (book more : Book) (made ended : Option ℕ) (sessions after : List Session) (i : ℕ) (c : Seat) → Grows book more made ended → Stays sessions after i → ((p : ℕ) (o : Op) → ended ≡ Some p → slice_get book.ops p ≡ Some o → o.client ≡ i → ⊥) → IsSeat book sessions i c → IsSeat more after i c

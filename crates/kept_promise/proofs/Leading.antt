@@ -1,7 +1,11 @@
 -- What each event is to be shown to keep.
 use Rattle.std.proofs.Common.{◌≡◌, ℕ, ◌<◌, List, [], ◌∷◌, ◌++◌, length, Option, Some, None, false, map}
+use Rattle.std.specs.List.{AllByRecursion}
+use Rattle.callback_core.specs.declared.back_calls.Asked.{Asked}
+use Rattle.server_core.specs.Recalling.{recall_sent}
 use Rattle.server_core.specs.declared.event.Sent.{Sent}
-use Rattle.kept_promise.proofs.Common.{Contains, message_spell, Command, Core, Seat, Session, Event, Event.Joins, Event.Does, Event.Serves, Event.Hears, Event.Settles, Event.Cuts, Event.Hangs, Loss, Loss.Nothing, Loss.Down_of, Loss.Up_of, CoreStep, numbered, with_numbered, happens, Wire, unless, lost_by, up_put, down_put, hashed_of, hashed_by, Book, Ask, Told, Queue, no_queue, Carries, ask_message, told_message}
+use Rattle.lease_law.specs.Claims.{recall_message}
+use Rattle.kept_promise.proofs.Common.{Contains, message_spell, Command, Core, Seat, Session, Event, Event.Joins, Event.Does, Event.Serves, Event.Hears, Event.Settles, Event.Cuts, Event.Hangs, Loss, Loss.Nothing, Loss.Down_of, Loss.Up_of, CoreStep, numbered, with_numbered, happens, Wire, unless, lost_by, up_put, down_put, hashed_of, hashed_by, Book, Ask, Told, Queue, no_queue, Carries, ask_message, told_message, Up, Up.Asks, Up.Replies, Down, Down.Tells, Down.Recalls, Mix, no_mix, reply_message}
 use Rattle.kept_promise.proofs.PathNames.{IsSmall}
 use Rattle.kept_promise.proofs.Facts.{IsKept}
 use Rattle.trace_ends.specs.Core.{Loss.Made}
@@ -11,11 +15,33 @@ use Rattle.trace_ends.specs.Core.{Loss.Made}
 abbrev pub sent_message : ℕ × Told → Sent
 sent_message p = record { session = p.0; message = told_message p.1 }
 
+-- a RECALL's numbers have a record
+abbrev pub IsFit : Asked → Type 0
+IsFit a = (a.xid < 4294967296) × (a.file < 18446744073709551616)
+
+-- up go answers to RECALLs and calls, and down RECALLs and answers to calls; no step sends both
 pub record Sends (t : CoreStep) : Type 0 where
+  pub replies : List ℕ
+  pub replies_fit : AllByRecursion (λ xid. xid < 4294967296) replies
   pub asks : List Ask
-  pub up_is : t.up ≡ map ask_message asks
+  pub up_is : t.up ≡ map reply_message replies ++ map ask_message asks
+  pub recalls : List Asked
+  pub recalls_fit : AllByRecursion IsFit recalls
   pub tolds : List (ℕ × Told)
-  pub down_is : t.down ≡ map sent_message tolds
+  pub down_is : t.down ≡ map recall_sent recalls ++ map sent_message tolds
+
+-- the same, as what is on its way
+abbrev pub sent_ups : (t : CoreStep) → Sends t → List Up
+sent_ups t s = map Replies s.replies ++ map Asks s.asks
+
+abbrev pub recall_down : Asked → ℕ × Down
+recall_down a = (a.session, Recalls a.xid a.file)
+
+abbrev pub told_down : ℕ × Told → ℕ × Down
+told_down p = (p.0, Tells p.1)
+
+abbrev pub sent_downs : (t : CoreStep) → Sends t → List (ℕ × Down)
+sent_downs t s = map recall_down s.recalls ++ map told_down s.tolds
 
 abbrev pub ups_put_in : List Queue → (number : ℕ) → List Ask → Option Session → Option Queue → List Queue
 ups_put_in qs n asks (Some x) (Some q) = with_numbered qs n (record q { ups = unless x.hung q.ups asks })
@@ -51,6 +77,42 @@ queues_lost qs (Up_of n) = ups_lost qs n (numbered qs n)
 abbrev pub queues_after : List Queue → (t : CoreStep) → Sends t → List Queue
 queues_after qs t s = downs_put t.core.sessions (ups_put t.core.sessions (queues_lost qs t.loss) t.session s.asks) s.tolds
 
+-- ---- the same with RECALLs and their answers
+
+abbrev pub mix_ups_in : List Mix → (number : ℕ) → List Up → Option Session → Option Mix → List Mix
+mix_ups_in ms n ups (Some x) (Some m) = with_numbered ms n (record m { ups = unless x.hung m.ups ups })
+mix_ups_in ms n ups x m = ms
+
+abbrev pub mix_ups : List Session → List Mix → Option ℕ → List Up → List Mix
+mix_ups sessions ms None ups = ms
+mix_ups sessions ms (Some n) ups = mix_ups_in ms n ups (numbered sessions n) (numbered ms n)
+
+abbrev pub mix_downs_in : List Mix → ℕ × Down → Option Session → Option Mix → List Mix
+mix_downs_in ms p (Some x) (Some m) = with_numbered ms p.0 (record m { downs = unless x.cut m.downs (p.1 ∷ []) })
+mix_downs_in ms p x m = ms
+
+abbrev pub mix_downs : List Session → List Mix → List (ℕ × Down) → List Mix
+mix_downs sessions ms [] = ms
+mix_downs sessions ms (p ∷ ps) = mix_downs sessions (mix_downs_in ms p (numbered sessions p.0) (numbered ms p.0)) ps
+
+abbrev pub mix_downs_lost : List Mix → (number : ℕ) → Option Mix → List Mix
+mix_downs_lost ms n None = ms
+mix_downs_lost ms n (Some m) = with_numbered ms n (record m { downs = [] })
+
+abbrev pub mix_ups_lost : List Mix → (number : ℕ) → Option Mix → List Mix
+mix_ups_lost ms n None = ms
+mix_ups_lost ms n (Some m) = with_numbered ms n (record m { ups = [] })
+
+abbrev pub mixes_lost : List Mix → Loss → List Mix
+mixes_lost ms Nothing = ms
+mixes_lost ms Made = ms ++ no_mix ∷ []
+mixes_lost ms (Down_of n) = mix_downs_lost ms n (numbered ms n)
+mixes_lost ms (Up_of n) = mix_ups_lost ms n (numbered ms n)
+
+-- what is on its way after an event, which sent these
+abbrev pub mixes_after : List Mix → (t : CoreStep) → Sends t → List Mix
+mixes_after ms t s = mix_downs t.core.sessions (mix_ups t.core.sessions (mixes_lost ms t.loss) t.session (sent_ups t s)) (sent_downs t s)
+
 -- ---- an event
 
 -- the moment is noted in the book, with what is hashed at it, before its step is made
@@ -67,13 +129,13 @@ pub record Leads (book : Book) (qs : List Queue) (t : CoreStep) : Type 0 where
   pub kept : IsKept more t.core (queues_after qs t sends)
 
 -- wires carry what is on its way, one by one
-abbrev pub CarryAll : List Wire → List Queue → Type 0
-CarryAll wires qs = (length wires ≡ length qs) × ((n : ℕ) (q : Wire) (m : Queue) → numbered wires n ≡ Some q → numbered qs n ≡ Some m → Carries q m)
+abbrev pub CarryAll : List Wire → List Mix → Type 0
+CarryAll wires ms = (length wires ≡ length ms) × ((n : ℕ) (q : Wire) (m : Mix) → numbered wires n ≡ Some q → numbered ms n ≡ Some m → Carries q m)
 
 -- ---- wanted
 
 abbrev pub RoutesCarry : Type 0
-RoutesCarry = (wires : List Wire) (qs : List Queue) (t : CoreStep) (s : Sends t) → CarryAll wires qs → CarryAll (down_put t.core.sessions (up_put t.core.sessions (lost_by wires t.loss) t.session t.up) t.down) (queues_after qs t s)
+RoutesCarry = (wires : List Wire) (ms : List Mix) (t : CoreStep) (s : Sends t) → CarryAll wires ms → CarryAll (down_put t.core.sessions (up_put t.core.sessions (lost_by wires t.loss) t.session t.up) t.down) (mixes_after ms t s)
 
 -- the number of a session that can be made is not used up
 abbrev pub KeptJoins : Type 0
@@ -101,3 +163,10 @@ KeptServes = (book : Book) (k : Core) (qs : List Queue) (n now : ℕ) (q : Queue
 abbrev pub KeptHears : Type 0
 KeptHears = (book : Book) (k : Core) (qs : List Queue) (n now : ℕ) (q : Queue) (t : Told) (ts : List Told) → IsKept book k qs → numbered qs n ≡ Some q → q.downs ≡ t ∷ ts
     → IsNoted book k (Hears n now (message_spell (told_message t))) → Leads book (with_numbered qs n (record q { downs = ts })) (happens k (Hears n now (message_spell (told_message t))))
+
+-- an answer to a RECALL is taken, whether it is waited for or not, and a RECALL: of calls and answers nothing moves
+abbrev pub KeptReplies : Type 0
+KeptReplies = (book : Book) (k : Core) (qs : List Queue) (n now xid : ℕ) → xid < 4294967296 → IsKept book k qs → IsNoted book k (Serves n now (message_spell (reply_message xid))) → Leads book qs (happens k (Serves n now (message_spell (reply_message xid))))
+
+abbrev pub KeptRecalls : Type 0
+KeptRecalls = (book : Book) (k : Core) (qs : List Queue) (n now xid file : ℕ) → xid < 4294967296 → file < 18446744073709551616 → IsKept book k qs → IsNoted book k (Hears n now (message_spell (recall_message xid file))) → Leads book qs (happens k (Hears n now (message_spell (recall_message xid file))))

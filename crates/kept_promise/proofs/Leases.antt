@@ -4,6 +4,7 @@ use Rattle.hash_calls.specs.declared.call.Leased.{Leased}
 use Rattle.hash_calls.specs.declared.message.Lb.TheVariants as lb
 use Rattle.wire.specs.declared.message.Body.TheVariants as body
 use Rattle.wire.specs.declared.message.Message.TheVariants as message
+use Rattle.client_state.specs.Noting.{at as at_clock}
 use Rattle.client_state.specs.State as client
 use Rattle.client_state.specs.declared.step.BadPeer.TheVariants as bad
 use Rattle.client_state.specs.declared.task.Stage.TheVariants as stage
@@ -18,7 +19,8 @@ use Rattle.kept_promise.proofs.Lists.{some_is, of_appended, of_replaced, true_an
 use Rattle.kept_promise.proofs.Messages.{Job, job, lease_xid, lease_body, AllTolds, IsLeased, LeaseTold, AnswerOf, IsAnswer}
 use Rattle.kept_promise.proofs.Fits.{FitLaws}
 use Rattle.kept_promise.proofs.Facts.{IsKept, IsSession, is_naming}
-use Rattle.kept_promise.proofs.RunsCarried.{book_at, moment, Step}
+use Rattle.kept_promise.proofs.RunsCarried.{FindsTold, book_at, moment, Step}
+use Rattle.kept_promise.proofs.Replies.{recall_untaken}
 use Rattle.kept_promise.proofs.Actors.{job_task, acts_alone, Heard, heard_at, heard_acts, heard_takes, own_op}
 use Rattle.kept_promise.proofs.Counted.{IsActor, early, running_past}
 use Rattle.kept_promise.proofs.CountedRuns.{no_fault_after}
@@ -73,7 +75,7 @@ pub record HeardLease (k : Core) (seat : Seat) (now : ℕ) (x : ℕ) (l : Leased
   pub place : of.place ≡ p
   pub file : old.file ≡ of.file
   pub asking : AsksLease x of.stage
-  pub got : got_step seat.client (Ok (lease_told x l)) now ≡ took (idle seat.client) (client.calls_of seat.client) of.file of.stage x (body.Lb (lb.GetLeaseAnswer (Done l)))
+  pub got : got_step seat.client (Ok (lease_told x l)) now ≡ took (idle (at_clock seat.client now)) (client.calls_of seat.client) of.file of.stage x (body.Lb (lb.GetLeaseAnswer (Done l)))
   pub finds : (got_step seat.client (Ok (lease_told x l)) now).1.found ≡ None
   pub is : o ≡ op_after old (got_step seat.client (Ok (lease_told x l)) now).0 (session_taken (session_of k.sessions seat.session)) (k.steps + 1) (got_step seat.client (Ok (lease_told x l)) now).1
 
@@ -124,7 +126,7 @@ heard_lease fits all opening k qs after n now bytes mid kept h left p o at x l m
 
         acting : (q : Op) → h.seat.place ≡ Some p → slice_get k.ops p ≡ Some q → o ≡ op_after q (got_step h.seat.client (Ok (lease_told x l)) now).0 (session_taken (session_of k.sessions h.seat.session)) (k.steps + 1) (got_step h.seat.client (Ok (lease_told x l)) now).1
             → (j : Job) × (job h.seat ≡ Some j) × (j.place ≡ p) × (q.client ≡ h.session.owner) × (q.outcome ≡ told.Running) × (is_naming j.stage ≡ false → q.file ≡ j.file) → HeardLease k h.seat now x l p o
-        acting q place was is (j, job_is, at_place, client_is, running, file) = elim (takes_lease (idle h.seat.client) (client.calls_of h.seat.client) j.file j.stage x l) [
+        acting q place was is (j, job_is, at_place, client_is, running, file) = elim (takes_lease (idle (at_clock h.seat.client now)) (client.calls_of h.seat.client) j.file j.stage x l) [
           | inl fault ↦ absurd (no_fault_after (book_at opening (happens k (Hears n now bytes)).core all) q r.0 taken (k.steps + 1) r.1 (left.sound.rights p _ (at ∙ ap (λ (z : Op). Some z) is)) (subst (λ (z : client.State × ClientStep). IsFault z.1.ended) (sym got) fault))
           | inr (y, asking) ↦ record {
             old = q;
@@ -138,7 +140,7 @@ heard_lease fits all opening k qs after n now bytes mid kept h left p o at x l m
               | inr e ↦ inr (e ∙ ap (λ z. stage.Rewriting z) (eqb-true y x (or_none (y == x) (ap (λ st. client.has_call (client.pending_in st) x) (sym e) ∙ ap (λ (t : Option Task). client.has_call (client.pending t) x) (sym task) ∙ waits))))
             ];
             got = got;
-            finds = ap (λ (z : client.State × ClientStep). z.1.found) got ∙ took_finds (idle h.seat.client) (client.calls_of h.seat.client) j.file j.stage x (body.Lb (lb.GetLeaseAnswer (Done l))) (asks_file j.stage y asking);
+            finds = ap (λ (z : client.State × ClientStep). z.1.found) got ∙ took_finds (idle (at_clock h.seat.client now)) (client.calls_of h.seat.client) j.file j.stage x (body.Lb (lb.GetLeaseAnswer (Done l))) (asks_file j.stage y asking);
             is = is;
           }
         ]
@@ -146,10 +148,10 @@ heard_lease fits all opening k qs after n now bytes mid kept h left p o at x l m
             task : h.seat.client.task ≡ Some (record { file = j.file; stage = j.stage })
             task = job_task h.seat.place h.seat.client.task j job_is
 
-            got : got_step h.seat.client (Ok (lease_told x l)) now ≡ took (idle h.seat.client) (client.calls_of h.seat.client) j.file j.stage x (body.Lb (lb.GetLeaseAnswer (Done l)))
+            got : got_step h.seat.client (Ok (lease_told x l)) now ≡ took (idle (at_clock h.seat.client now)) (client.calls_of h.seat.client) j.file j.stage x (body.Lb (lb.GetLeaseAnswer (Done l)))
             got =
-                ap (λ (t : Option Task). took_if h.seat.client t x (body.Lb (lb.GetLeaseAnswer (Done l))) (client.has_call (client.pending t) x)) task
-                ∙ ap (took_if h.seat.client (Some (record { file = j.file; stage = j.stage })) x (body.Lb (lb.GetLeaseAnswer (Done l)))) (ap (λ (t : Option Task). client.has_call (client.pending t) x) (sym task) ∙ waits)
+                ap (λ (t : Option Task). took_if (at_clock h.seat.client now) t x (body.Lb (lb.GetLeaseAnswer (Done l))) (client.has_call (client.pending t) x)) task
+                ∙ ap (took_if (at_clock h.seat.client now) (Some (record { file = j.file; stage = j.stage })) x (body.Lb (lb.GetLeaseAnswer (Done l)))) (ap (λ (t : Option Task). client.has_call (client.pending t) x) (sym task) ∙ waits)
 
 -- ---- what it tells
 
@@ -224,15 +226,15 @@ counted_so book more f q opening same =
     let count : length (filter (changed_before f q) more.ops) ≡ length (filter (changed_before f q) book.ops) = omega (arith, same) in
     ap (λ (z : List Opening). length (filter (changed_before f q) more.ops) + first_version (content_of z f)) opening ∙ ap (λ (n : ℕ). n + first_version (content_of book.opening f)) count
 
-leased_hears : FitLaws → (all past rest : List Moment) (opening : List Opening) (k : Core) (qs : List Queue) (n now : ℕ) (bytes : List ℕ) (mid after : List Queue) → Step all past rest opening k qs (Hears n now bytes) mid after → OpsAfter (Hears n now bytes) k (happens k (Hears n now bytes)).core.ops
+leased_hears : FitLaws → (all past rest : List Moment) (opening : List Opening) (k : Core) (qs : List Queue) (n now : ℕ) (bytes : List ℕ) (mid after : List Queue) → Step all past rest opening k qs (Hears n now bytes) mid after → FindsTold qs n bytes mid → OpsAfter (Hears n now bytes) k (happens k (Hears n now bytes)).core.ops
     → (p : ℕ) (o : Op) → slice_get (happens k (Hears n now bytes)).core.ops p ≡ Some o → TellsLease (book_at opening (happens k (Hears n now bytes)).core all) (moment k (Hears n now bytes)) o
-leased_hears fits all past rest opening k qs n now bytes mid after s grown p o at x l mine there = by (heard_lease fits all opening k qs after n now bytes mid s.kept h s.left p o at x l mine there)
+leased_hears fits all past rest opening k qs n now bytes mid after s told grown p o at x l mine there = by (heard_lease fits all opening k qs after n now bytes mid s.kept h s.left p o at x l mine there)
   where
     book : Book
     book = book_at opening k all
 
     h : Heard k qs n now bytes mid
-    h = heard_at (book_at opening k all) k qs n now bytes mid s.kept s.finds
+    h = heard_at (book_at opening k all) k qs n now bytes mid s.kept told
 
     x_is : IsSession (book_at opening k all) k.seats k.server n h.session h.queue
     x_is = s.kept.sessions n h.session h.queue h.at h.queue_is
@@ -255,12 +257,12 @@ leased_hears fits all past rest opening k qs n now bytes mid after s grown p o a
         (leased_after (book_at opening k all) (book_at opening (happens k (Hears n now bytes)).core all) w.old (got_step h.seat.client (Ok (lease_told x l)) now).0 (session_taken (session_of k.sessions h.seat.session)) k.steps (got_step h.seat.client (Ok (lease_told x l)) now).1 (moment k (Hears n now bytes)) x l.version w.finds (λ z c. c) (λ f q lt. counted_so (book_at opening k all) (book_at opening (happens k (Hears n now bytes)).core all) f q refl (same_versions k (Hears n now bytes) (happens k (Hears n now bytes)).core.ops grown f q lt)) (omega arith) old)
 
 -- and its operation has its file
-shut_hears : FitLaws → (all past rest : List Moment) (opening : List Opening) (k : Core) (qs : List Queue) (n now : ℕ) (bytes : List ℕ) (mid after : List Queue) → Step all past rest opening k qs (Hears n now bytes) mid after
+shut_hears : FitLaws → (all past rest : List Moment) (opening : List Opening) (k : Core) (qs : List Queue) (n now : ℕ) (bytes : List ℕ) (mid after : List Queue) → Step all past rest opening k qs (Hears n now bytes) mid after → FindsTold qs n bytes mid
     → (p : ℕ) (o : Op) → slice_get (happens k (Hears n now bytes)).core.ops p ≡ Some o → HasFile (moment k (Hears n now bytes)) o
-shut_hears fits all past rest opening k qs n now bytes mid after s p o at x l mine there zero = by (heard_lease fits all opening k qs after n now bytes mid s.kept h s.left p o at x l mine there)
+shut_hears fits all past rest opening k qs n now bytes mid after s told p o at x l mine there zero = by (heard_lease fits all opening k qs after n now bytes mid s.kept h s.left p o at x l mine there)
   where
     h : Heard k qs n now bytes mid
-    h = heard_at (book_at opening k all) k qs n now bytes mid s.kept s.finds
+    h = heard_at (book_at opening k all) k qs n now bytes mid s.kept told
 
     x_is : IsSession (book_at opening k all) k.seats k.server n h.session h.queue
     x_is = s.kept.sessions n h.session h.queue h.at h.queue_is
@@ -288,14 +290,20 @@ pub none_leased : (book : Book) (m : Moment) (o : Op) → taken_by m.before (cli
 none_leased book m o none x l mine there = (let lt = (subst (λ (ms : List Message). Contains ms (lease_told x l)) none there).1 in absurd (omega (arith, lt)))
 
 pub leased_now : FitLaws → (all past rest : List Moment) (opening : List Opening) (k : Core) (qs : List Queue) (e : Event) (mid after : List Queue) → Step all past rest opening k qs e mid after → OpsAfter e k (happens k e).core.ops → (p : ℕ) (o : Op) → slice_get (happens k e).core.ops p ≡ Some o → TellsLease (book_at opening (happens k e).core all) (moment k e) o
-leased_now fits all past rest opening k qs (Hears n now bytes) mid after s grown p o at = leased_hears fits all past rest opening k qs n now bytes mid after s grown p o at
+leased_now fits all past rest opening k qs (Hears n now bytes) mid after s grown p o at = elim s.finds [
+  | inl told ↦ leased_hears fits all past rest opening k qs n now bytes mid after s told grown p o at
+  | inr recall ↦ none_leased (book_at opening (happens k (Hears n now bytes)).core all) (moment k (Hears n now bytes)) o (recall_untaken fits (book_at opening k all) k qs n now bytes mid s.kept recall)
+]
 leased_now fits all past rest opening k qs e mid after s grown p o at = none_leased (book_at opening (happens k e).core all) (moment k e) o refl
 
 pub none_shut : (m : Moment) (o : Op) → taken_by m.before (client_of m.before m.event) m.event ≡ [] → HasFile m o
 none_shut m o none x l mine there zero = (let lt = (subst (λ (ms : List Message). Contains ms (lease_told x l)) none there).1 in absurd (omega (arith, lt)))
 
 pub shut_now : FitLaws → (all past rest : List Moment) (opening : List Opening) (k : Core) (qs : List Queue) (e : Event) (mid after : List Queue) → Step all past rest opening k qs e mid after → (p : ℕ) (o : Op) → slice_get (happens k e).core.ops p ≡ Some o → HasFile (moment k e) o
-shut_now fits all past rest opening k qs (Hears n now bytes) mid after s p o at = shut_hears fits all past rest opening k qs n now bytes mid after s p o at
+shut_now fits all past rest opening k qs (Hears n now bytes) mid after s p o at = elim s.finds [
+  | inl told ↦ shut_hears fits all past rest opening k qs n now bytes mid after s told p o at
+  | inr recall ↦ none_shut (moment k (Hears n now bytes)) o (recall_untaken fits (book_at opening k all) k qs n now bytes mid s.kept recall)
+]
 shut_now fits all past rest opening k qs e mid after s p o at = none_shut (moment k e) o refl
 
 pub shut_stays : (book : Book) (k : Core) (qs : List Queue) (e : Event) (ops : List Op) (m : Moment) → IsKept book k qs → step_of m ≤ k.steps → OpsAfter e k ops → ((p : ℕ) (o : Op) → slice_get k.ops p ≡ Some o → HasFile m o) → (p : ℕ) (o : Op) → slice_get ops p ≡ Some o → HasFile m o

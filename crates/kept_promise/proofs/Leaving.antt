@@ -18,7 +18,12 @@ use Rattle.client_state.specs.declared.task.Way.TheVariants as way
 use Rattle.register_model.specs.declared.op.Word.TheVariants as words
 use Rattle.kept_promise.proofs.Common.{nat_tests, slice_get, nat_lt, if◌then◌else◌, ◌==◌, ◌&&◌, Chunk, Answer, Done, Failed, Status, Hashes, Piece, Body, Message, Pending, WireFault, names_from, names_next, names_more, names_all, is_stored, store_of, store_at, answered, calls_most, is_none, fetch_of, with_hashes, listed, reads_from, reads_next, reads_more, reads_all, is_here, read_at, fault_in, other_version, with_bytes, Broken, broken_of, idle, refused, reads_if, reads_on, lists_on, told_shape, told_version, told_hashes, told_first, retries, misfits, told_bytes, told_chunk, told_piece, goes_if, goes_on, told_temp, sends_whole, told_named, told_whole, told_way, told_stored, took, got_step, Names, Reads, BadPeer, ClientStep, Ended, Outcome, Fetch, Local, ReadCall, Stage, Store, StoreCall, Task, Way}
 use Rattle.kept_promise.proofs.Lists.{some_is, nothing_there}
-use Rattle.kept_promise.proofs.StepCases.{some_call, IsOfFile, got_cases}
+use Rattle.hash_calls.specs.declared.message.Back.TheVariants as back
+use Rattle.wire.specs.declared.message.Message.TheVariants as message
+use Rattle.client_state.specs.Noting.{at as clocked}
+use Rattle.client_state.specs.Counting.{sends_one}
+use Rattle.open_close.specs.Step.{takes, recalls}
+use Rattle.kept_promise.proofs.StepCases.{some_call, IsOfFile, renoted, got_cases}
 use Rattle.kept_promise.proofs.Messages.{stage_word}
 use Rattle.register_model.specs.declared.op.Word.{Word}
 
@@ -224,7 +229,7 @@ abbrev IsNoRewrite : Stage → Type 0
 IsNoRewrite (stage.Rewriting asked) = ⊥
 IsNoRewrite t = Unit {0}
 
-took_plainly : (s : client.State) (calls : List Pending) (file : ℕ) (t : Stage) (xid : ℕ) (b : Body) → IsOfFile t → IsNoRewrite t → IsLeft s file (took s calls file t xid b)
+took_plainly : (s : client.State) (calls : List Pending) (file : ℕ) (t : Stage) (xid : ℕ) (b : Body) → IsOfFile t → IsNoRewrite t → IsLeft s file (takes s calls file t xid b)
 took_plainly s calls file (stage.Asking asked) xid (body.Lb (lb.GetLeaseAnswer a)) known other = told_lease_left s calls file xid a
 took_plainly s calls file (stage.Rewriting asked) xid b known other = absurd other
 took_plainly s calls file (stage.Hashing tries asked) xid (body.Lb (lb.GetHashAnswer a)) known other = told_first_left s calls file xid tries a
@@ -238,24 +243,30 @@ took_plainly s calls file (stage.Committing asked) xid (body.Lb (lb.CommitTmpAns
 took_plainly s calls file (stage.Walking asked w) xid b known other = absurd known
 took_plainly s calls file p xid b known other = (omega arith, refl)
 
-pub took_left : (s : client.State) (calls : List Pending) (file : ℕ) (t : Stage) (xid : ℕ) (b : Body) → IsOfFile t → IsLeftBy (stage_word t) s file (took s calls file t xid b)
+pub took_left : (s : client.State) (calls : List Pending) (file : ℕ) (t : Stage) (xid : ℕ) (b : Body) → IsOfFile t → IsLeftBy (stage_word t) s file (takes s calls file t xid b)
 took_left s calls file (stage.Rewriting asked) xid (body.Lb (lb.GetLeaseAnswer (Done l))) known = (omega arith, (refl, (_, refl, refl)))
 took_left s calls file (stage.Rewriting asked) xid (body.Lb (lb.GetLeaseAnswer (Failed t u))) known = (omega arith, refl)
 took_left s calls file (stage.Rewriting asked) xid b known = (omega arith, refl)
 took_left s calls file (stage.Walking asked w) xid b known = absurd known
-took_left s calls file t xid b known = left_by (stage_word t) s file (took s calls file t xid b) (took_plainly s calls file t xid b known tt)
+took_left s calls file t xid b known = left_by (stage_word t) s file (takes s calls file t xid b) (took_plainly s calls file t xid b known tt)
 
 -- whatever comes
 pub step_left : (s : client.State) (m : Result Message WireFault) (now : ℕ) (t : Task) → s.task ≡ Some t → IsOfFile t.stage → IsLeftBy (stage_word t.stage) s t.file (got_step s m now)
 step_left s m now t at known = got_cases (IsLeftBy (stage_word t.stage) s t.file) s m now (record {
-  took = λ u is xid b. subst (λ (z : Task). IsLeftBy (stage_word t.stage) s t.file (took (idle s) (client.calls_of s) z.file z.stage xid b)) (some_is t u (sym at ∙ is)) (took_left (idle s) (client.calls_of s) t.file t.stage xid b known);
+  took = λ u is xid b. subst (λ (z : Task). IsLeftBy (stage_word t.stage) s t.file (took (idle (clocked s now)) (client.calls_of s) z.file z.stage xid b)) (some_is t u (sym at ∙ is)) (renoted (λ found r. IsLeftBy (stage_word t.stage) s t.file r) (idle (clocked s now)) t.file t.stage b (λ found r g until lease is h. h) [] (takes (idle (clocked s now)) (client.calls_of s) t.file t.stage xid b) (took_left (idle (clocked s now)) (client.calls_of s) t.file t.stage xid b known));
   memory = λ u is xid. (omega arith, refl);
   bad = λ u is f. (omega arith, refl);
   off = λ none. (omega arith, refl);
   forgot = λ xid. (omega arith, refl);
+  recalled = λ xid o. back_by o xid;
+  greeted = λ xid. (omega arith, refl);
   unfit = λ xid r. (omega arith, refl);
   call = (omega arith, refl);
 })
+  where
+    back_by : (o : Option ℕ) (xid : ℕ) → IsLeftBy (stage_word t.stage) s t.file (recalls (clocked s now) o, sends_one (message.Answer xid (body.Back back.RecallAnswer)) 0)
+    back_by None xid = (omega arith, refl)
+    back_by (Some f) xid = (omega arith, refl)
 
 -- with nothing under way nothing ends by it
 abbrev IsIdle : client.State → client.State × ClientStep → Type 0
@@ -268,6 +279,12 @@ step_idle s m now none = got_cases (IsIdle s) s m now (record {
   bad = λ t is f. nothing_there t (sym none ∙ is);
   off = λ none. (refl, refl, refl);
   forgot = λ xid. (refl, refl, refl);
+  recalled = λ xid o. back_by o xid;
+  greeted = λ xid. (refl, refl, refl);
   unfit = λ xid r. (refl, refl, refl);
   call = (refl, refl, refl);
 })
+  where
+    back_by : (o : Option ℕ) (xid : ℕ) → IsIdle s (recalls (clocked s now) o, sends_one (message.Answer xid (body.Back back.RecallAnswer)) 0)
+    back_by None xid = (refl, refl, refl)
+    back_by (Some f) xid = (refl, refl, refl)

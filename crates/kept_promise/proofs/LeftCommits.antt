@@ -15,7 +15,7 @@ use Rattle.server_core.specs.declared.event.ServerStep.{ServerStep}
 use Rattle.path_calls.specs.Walk.{begun}
 use Rattle.path_calls.specs.declared.walk.Walk.{Walk}
 use Rattle.client_state.specs.View.{walk_left}
-use Rattle.kept_promise.proofs.Common.{nat_lt, ◌&&◌, not, cond, filter, ◌==◌, Command, parse_of, got_if, stands, connect, has_room, Change, may_ask, command_step, ended_by, ClientStep, Ended, Task, Opening, Word, word_of, Core, Seat, Session, Event, Event.Joins, Event.Does, Event.Serves, Event.Hears, Event.Settles, Event.Cuts, Event.Hangs, CoreStep, numbered, with_numbered, server_waiting, session_of, serves_if, serves, is_newest, hears_if, hears_at, hears, commanded_session, commanded_sessions, does, joins_as, joins, settles, cut_session, cuts_if, cuts, hangs_if, hangs, happens, closing_with, Moment, unless, Call, Call.Commit, Ask, Told, Queue, ask_message, Loss, Loss.Nothing, Loss.Down_of, Loss.Up_of, no_queue, Call.Walks, has_waiting, Book}
+use Rattle.kept_promise.proofs.Common.{reply_message, nat_lt, ◌&&◌, not, cond, filter, ◌==◌, Command, parse_of, got_if, stands, connect, has_room, Change, may_ask, command_step, ended_by, ClientStep, Ended, Task, Opening, Word, word_of, Core, Seat, Session, Event, Event.Joins, Event.Does, Event.Serves, Event.Hears, Event.Settles, Event.Cuts, Event.Hangs, CoreStep, numbered, with_numbered, server_waits, session_of, serves_if, serves, is_newest, hears_if, hears_at, hears, commanded_session, commanded_sessions, does, joins_as, joins, settles, cut_session, cuts_if, cuts, hangs_if, hangs, happens, closing_with, Moment, unless, Call, Call.Commit, Ask, Told, Queue, ask_message, Loss, Loss.Nothing, Loss.Down_of, Loss.Up_of, no_queue, Call.Walks, has_waiting, Book}
 use Rattle.kept_promise.proofs.StepCases.{command_cases}
 use Rattle.kept_promise.proofs.CallsKeep.{IsByCommit, is_of_files, Waits, got_if_keeps, makes_call, walk_made}
 use Rattle.kept_promise.proofs.Statements.{CallFits}
@@ -26,7 +26,9 @@ use Rattle.kept_promise.proofs.Fits.{FitLaws}
 use Rattle.kept_promise.proofs.Turns.{also_numbered, numbered_within}
 use Rattle.kept_promise.proofs.Facts.{IsKept, commits_in, change_number}
 use Rattle.kept_promise.proofs.Leading.{Sends, ups_put_in, ups_put, downs_put_in, downs_put, downs_lost, ups_lost, queues_lost, queues_after}
-use Rattle.kept_promise.proofs.RunsCarried.{book_at, Finds, Step}
+use Rattle.kept_promise.proofs.RunsCarried.{book_at, Finds, FindsAsk, Step}
+use Rattle.kept_promise.proofs.Serves.{parsed_at}
+use Rattle.kept_promise.proofs.Replies.{reply_taken}
 use Rattle.kept_promise.proofs.Waitings.{own_more, own_there}
 use Rattle.kept_promise.proofs.TakenOut.{own_fewer, made_waiting, WhatSettles, settles_one, settles_none, what_settles}
 use Rattle.kept_promise.proofs.Takes.{commits_tail}
@@ -34,7 +36,7 @@ use Rattle.kept_promise.proofs.Makings.{called_making}
 use Rattle.kept_promise.proofs.PathNames.{IsWalkSmall, is_building, is_going, is_creating, making_is, going_creates}
 use Rattle.kept_promise.proofs.Departures.{comes_by, called_going}
 use Rattle.kept_promise.proofs.GoingSteps.{coming}
-use Rattle.trace_ends.specs.Core.{Loss.Made}
+use Rattle.trace_ends.specs.Core.{Loss.Made, idles}
 
 -- ---- the queues after an event
 
@@ -98,8 +100,10 @@ have_lost P qs (Up_of m) h new down up = by (numbered qs m) refl
 pub taken_off : (P : ℕ → Queue → Type 0) (k : Core) (qs mid : List Queue) (e : Event) → ((n : ℕ) (q : Queue) (a : Ask) (us : List Ask) → q.ups ≡ a ∷ us → P n q → P n (record q { ups = us })) → ((n : ℕ) (q : Queue) (t : Told) (ts : List Told) → q.downs ≡ t ∷ ts → P n q → P n (record q { downs = ts })) → Finds k qs e mid → QueuesHave P qs → QueuesHave P mid
 taken_off P k qs mid (Joins c) up down f h = subst (QueuesHave P) (sym f.5) h
 taken_off P k qs mid (Does c now d) up down f h = subst (QueuesHave P) (sym f.3) h
-taken_off P k qs mid (Serves n now bytes) up down f h = subst (QueuesHave P) (sym f.6) (have_with P qs n (record f.0 { ups = f.2 }) h (up n f.0 f.1 f.2 f.4 (h n f.0 f.3)))
-taken_off P k qs mid (Hears n now bytes) up down f h = subst (QueuesHave P) (sym f.6) (have_with P qs n (record f.0 { downs = f.2 }) h (down n f.0 f.1 f.2 f.4 (h n f.0 f.3)))
+taken_off P k qs mid (Serves n now bytes) up down (inl f) h = subst (QueuesHave P) (sym f.6) (have_with P qs n (record f.0 { ups = f.2 }) h (up n f.0 f.1 f.2 f.4 (h n f.0 f.3)))
+taken_off P k qs mid (Serves n now bytes) up down (inr f) h = subst (QueuesHave P) (sym f.mid_is) h
+taken_off P k qs mid (Hears n now bytes) up down (inl f) h = subst (QueuesHave P) (sym f.6) (have_with P qs n (record f.0 { downs = f.2 }) h (down n f.0 f.1 f.2 f.4 (h n f.0 f.3)))
+taken_off P k qs mid (Hears n now bytes) up down (inr f) h = subst (QueuesHave P) (sym f.mid_is) h
 taken_off P k qs mid (Settles now) up down f h = subst (QueuesHave P) (sym f) h
 taken_off P k qs mid (Cuts c) up down f h = subst (QueuesHave P) (sym f.2) h
 taken_off P k qs mid (Hangs n) up down f h = subst (QueuesHave P) (sym f.2) h
@@ -123,6 +127,8 @@ command_silent s d now off = command_cases IsSilent s d now (record {
   fetches = λ file is free may. absurd (true_and_false (may_ask s) may (not_joined s off));
   asks = λ file c is free may at. absurd (true_and_false (may_ask s) may (not_joined s off));
   renews = λ file is free may. absurd (true_and_false (may_ask s) may (not_joined s off));
+  opens_now = λ file c is free shut fresh. (refl, (_, refl));
+  empties_now = λ file c is free shut fresh. (refl, (_, refl));
   walks = λ c is free may. absurd (true_and_false (may_ask s) (both_first (may_ask s) (nat_lt (s.next_xid + 1 + walk_left (begun c)) 4294967296) may) (not_joined s off));
   closes = λ file l is free may at. absurd (true_and_false (may_ask s) may (not_joined s off));
 })
@@ -242,9 +248,10 @@ pub record Leaves (k : Core) (qs mid : List Queue) (t : CoreStep) : Type 0 where
   taken : QueuesHave (LeftSo k qs t.core) mid
   pub quiet : (n : ℕ) (y : Session) → t.session ≡ Some n → numbered t.core.sessions n ≡ Some y → y.cut ≡ true → t.up ≡ []
 
-no_asks : (us : List Ask) → [] ≡ map ask_message us → us ≡ []
-no_asks [] e = refl
-no_asks (a ∷ us) e = absurd cc
+pub no_asks : (rs : List ℕ) (us : List Ask) → [] ≡ map reply_message rs ++ map ask_message us → us ≡ []
+no_asks [] [] e = refl
+no_asks [] (a ∷ us) e = absurd cc
+no_asks (r ∷ rs) us e = absurd cc
 
 nothing_put : (b : Bool) (us asks : List Ask) → asks ≡ [] → unless b us asks ≡ us
 nothing_put true us asks e = refl
@@ -256,7 +263,7 @@ left_after k qs mid t s made l =
     let one = have_lost P mid t.loss l.taken (λ y at gone. let x = l.were (suc (length mid)) y at gone in let w = numbered_within k.sessions (suc (length mid)) x.0 x.1 in let c = l.count in absurd (omega (arith, w, c, made))) (λ n q h. h)
     (λ n q h y at gone. let w = h y at gone in let le = w.2 in (w.0, w.1, omega (arith, le))) in
     let two = have_ups P t.core.sessions (queues_lost mid t.loss) t.session s.asks one (λ n x q is at there h y is_y gone.
-    let none = no_asks s.asks (sym (l.quiet n y is is_y gone) ∙ s.up_is) in
+    let none = no_asks s.replies s.asks (sym (l.quiet n y is is_y gone) ∙ s.up_is) in
     let w = h y is_y gone in
     let same = ap commits_in (nothing_put x.hung q.ups s.asks none) in
     let le = w.2 in
@@ -374,30 +381,11 @@ leaves_does opening all k qs mid c now d kept same = by (numbered k.seats c) ref
         record { were = w.0; count = ap (λ (l : List Queue). length l) same; taken = taken_none k qs mid (does k c now d (Some seat)) same (λ n. omega arith); quiet = w.1 }
 
 -- what is heard comes on a session that is not cut
-leaves_hears : (opening : List Opening) (all : List Moment) (k : Core) (qs mid : List Queue) (m now : ℕ) (bytes : List ℕ) → IsKept (book_at opening k all) k qs → Finds k qs (Hears m now bytes) mid → Leaves k qs mid (hears k m now bytes (numbered k.sessions m))
-leaves_hears opening all k qs mid m now bytes kept f = by (numbered k.sessions m) refl
+leaves_heard : (k : Core) (qs mid : List Queue) (m now : ℕ) (bytes : List ℕ) → length mid ≡ length qs → ((t : CoreStep) → t.core.server.waiting ≡ k.server.waiting → QueuesHave (LeftSo k qs t.core) mid) → ((x : Session) → numbered k.sessions m ≡ Some x → x.cut ≡ true → ⊥) → Leaves k qs mid (hears k m now bytes (numbered k.sessions m))
+leaves_heard k qs mid m now bytes count_with heard full = by (numbered k.sessions m) refl
   where
-    count_with : length mid ≡ length qs
-    count_with = ap (λ (l : List Queue). length l) f.6 ∙ with_count qs m (record f.0 { downs = f.2 })
-      where
-        with_count : (xs : List Queue) (i : ℕ) (x : Queue) → length (with_numbered xs i x) ≡ length xs
-        with_count xs zero x = refl
-        with_count xs (suc i) x = set_count xs i x
-
-    heard : (t : CoreStep) → t.core.server.waiting ≡ k.server.waiting → QueuesHave (LeftSo k qs t.core) mid
-    heard t waiting = subst (QueuesHave (LeftSo k qs t.core)) (sym f.6) (have_with (LeftSo k qs t.core) qs m (record f.0 { downs = f.2 }) (taken_none k qs qs t refl (no_less k t.core waiting)) (λ y at gone. let le = no_less k t.core waiting m in (f.0, f.3, omega (arith, le))))
-
     plain : (t : CoreStep) → t.core ≡ k → t.session ≡ None → Leaves k qs mid t
     plain t core none = record { were = subst (λ (z : Core). SessionsWere k z.sessions) (sym core) (were_same k); count = count_with; taken = heard t (ap (λ (z : Core). z.server.waiting) core); quiet = λ n y is at gone. nothing_there n (sym none ∙ is) }
-
-    full : (x : Session) → numbered k.sessions m ≡ Some x → x.cut ≡ true → ⊥
-    full x at gone = none (sym (sym f.4 ∙ z))
-      where
-        z : f.0.downs ≡ []
-        z = (kept.sessions m x f.0 at f.3).shut gone
-
-        none : [] ≡ f.1 ∷ f.2 → ⊥
-        none e = absurd cc
 
     by_newest : (seat : Seat) (x : Session) → numbered k.sessions m ≡ Some x → (b : Bool) → is_newest seat.session m ≡ b → Leaves k qs mid (hears_if k x.owner now seat bytes b)
     by_newest seat x at false e = plain _ refl refl
@@ -420,14 +408,36 @@ leaves_hears opening all k qs mid m now bytes kept f = by (numbered k.sessions m
     by None at = plain _ refl refl
     by (Some x) at = by_seat x at (numbered k.seats x.owner)
 
+leaves_hears : (opening : List Opening) (all : List Moment) (k : Core) (qs mid : List Queue) (m now : ℕ) (bytes : List ℕ) → IsKept (book_at opening k all) k qs → Finds k qs (Hears m now bytes) mid → Leaves k qs mid (hears k m now bytes (numbered k.sessions m))
+leaves_hears opening all k qs mid m now bytes kept (inr f) = leaves_heard k qs mid m now bytes (ap (λ (l : List Queue). length l) f.mid_is) (λ t waiting. taken_none k qs mid t f.mid_is (no_less k t.core waiting)) (λ x at gone. true_and_false x.cut gone (ap (λ (z : Session). z.cut) (some_is x f.session (sym at ∙ f.at)) ∙ f.uncut))
+leaves_hears opening all k qs mid m now bytes kept (inl f) = leaves_heard k qs mid m now bytes count_with heard full
+  where
+    count_with : length mid ≡ length qs
+    count_with = ap (λ (l : List Queue). length l) f.6 ∙ with_count qs m (record f.0 { downs = f.2 })
+      where
+        with_count : (xs : List Queue) (i : ℕ) (x : Queue) → length (with_numbered xs i x) ≡ length xs
+        with_count xs zero x = refl
+        with_count xs (suc i) x = set_count xs i x
+
+    heard : (t : CoreStep) → t.core.server.waiting ≡ k.server.waiting → QueuesHave (LeftSo k qs t.core) mid
+    heard t waiting = subst (QueuesHave (LeftSo k qs t.core)) (sym f.6) (have_with (LeftSo k qs t.core) qs m (record f.0 { downs = f.2 }) (taken_none k qs qs t refl (no_less k t.core waiting)) (λ y at gone. let le = no_less k t.core waiting m in (f.0, f.3, omega (arith, le))))
+
+    full : (x : Session) → numbered k.sessions m ≡ Some x → x.cut ≡ true → ⊥
+    full x at gone = none (sym (sym f.4 ∙ z))
+      where
+        z : f.0.downs ≡ []
+        z = (kept.sessions m x f.0 at f.3).shut gone
+
+        none : [] ≡ f.1 ∷ f.2 → ⊥
+        none e = absurd cc
+
 -- a COMMITTMP that is taken waits then, if it does
-leaves_serves : FitLaws → (opening : List Opening) (all : List Moment) (k : Core) (qs mid : List Queue) (m now : ℕ) (bytes : List ℕ) → IsKept (book_at opening k all) k qs → Finds k qs (Serves m now bytes) mid → Leaves k qs mid (serves k m now bytes (numbered k.sessions m))
+leaves_serves : FitLaws → (opening : List Opening) (all : List Moment) (k : Core) (qs mid : List Queue) (m now : ℕ) (bytes : List ℕ) → IsKept (book_at opening k all) k qs → FindsAsk qs m bytes mid → Leaves k qs mid (serves k m now bytes (numbered k.sessions m))
 leaves_serves laws opening all k qs mid m now bytes kept f =
     let x = also_numbered qs k.sessions m f.0 (sym kept.made.1) f.3 in
     let s = kept.sessions m x.0 f.0 x.1 f.3 in
     let fits : AllAsks (λ a. CallFits a.xid a.call) (f.1 ∷ f.2) = subst (AllAsks (λ a. CallFits a.xid a.call)) f.4 s.ups_fit in
-    let c = laws.calls f.1.xid f.1.call fits.0 in
-    let parsed : parse_of server_waiting bytes ≡ Ok (ask_message f.1) = ap (parse_of server_waiting) f.5 ∙ laws.again server_waiting (ask_message f.1) c.0.0 c.1 in
+    let parsed : parse_of (server_waits k m) bytes ≡ Ok (ask_message f.1) = ap (parse_of (server_waits k m)) f.5 ∙ parsed_at laws k m f.1 fits.0 in
     let got_as : serves k m now bytes (Some x.0) ≡ serves_if k m now x.0 (Ok (ask_message f.1)) = ap (serves_if k m now x.0) parsed in
     subst (λ (o : Option Session). Leaves k qs mid (serves k m now bytes o)) (sym x.1) (subst (Leaves k qs mid) (sym got_as) (by x.0 x.1 (got_waits k.server m now f.1 (stands k.server m) fits.0)))
   where
@@ -470,7 +480,8 @@ leaves_serves laws opening all k qs mid m now bytes kept f =
 pub leaves : FitLaws → (opening : List Opening) (all : List Moment) (k : Core) (qs mid : List Queue) (e : Event) → IsKept (book_at opening k all) k qs → Finds k qs e mid → Leaves k qs mid (happens k e)
 leaves laws opening all k qs mid (Joins c) kept f = leaves_joins k qs mid c f.5
 leaves laws opening all k qs mid (Does c now d) kept f = leaves_does opening all k qs mid c now d kept f.3
-leaves laws opening all k qs mid (Serves n now bytes) kept f = leaves_serves laws opening all k qs mid n now bytes kept f
+leaves laws opening all k qs mid (Serves n now bytes) kept (inl f) = leaves_serves laws opening all k qs mid n now bytes kept f
+leaves laws opening all k qs mid (Serves n now bytes) kept (inr f) = subst (Leaves k qs mid) (sym (reply_taken laws k qs n now bytes mid f).1) (leaves_plain k qs mid (idles (record k { server = record k.server { leasing = (reply_taken laws k qs n now bytes mid f).0 } })) (were_same k) f.mid_is refl (λ n. omega arith))
 leaves laws opening all k qs mid (Hears n now bytes) kept f = leaves_hears opening all k qs mid n now bytes kept f
 leaves laws opening all k qs mid (Settles now) kept f = leaves_settles (book_at opening k all) k qs mid now kept f
 leaves laws opening all k qs mid (Cuts c) kept f = leaves_cuts k qs mid c f.2

@@ -252,8 +252,8 @@ comes_opened book k qs n x q t ts j g rests version v bytes cache index r gets c
   send_is = ap (λ (z : ClientStep). z.send) is.acts;
   ended_is = ap (λ (z : ClientStep). z.ended) is.acts;
   op_is = ap (λ (z : client.State × ClientStep). ended_op (counting of.op (counted of.op.traffic z.1.counts)) z.0 x.taken (book.steps + 1) (record { outcome = outcome.Opened j.file (length v) (sha1 v); rests_on = rests })) both
-      ∙ ap (λ z. open_op of.op tr (book.steps + 1) (point_if (has_point z (outcome.Opened j.file (length v) (sha1 v))) x.taken rests of.op.point) (told.Opened (length v) (sha1 v)) (client.local_bytes opened j.file)) w
-      ∙ ap (λ p. open_op of.op tr (book.steps + 1) p (told.Opened (length v) (sha1 v)) (client.local_bytes opened j.file)) gets.told_.was
+      ∙ ap (λ z. open_op of.op tr (book.steps + 1) (point_if (has_point z (outcome.Opened j.file (length v) (sha1 v))) x.taken rests (book.steps + 1) of.op.point) (told.Opened (length v) (sha1 v)) (client.local_bytes opened j.file)) w
+      ∙ ap (λ p. open_op of.op tr (book.steps + 1) (Some (Rattle.std.specs.Prelude.unwrap_or p (book.steps + 1))) (told.Opened (length v) (sha1 v)) (client.local_bytes opened j.file)) gets.told_.was
       ∙ ap (λ b. open_op of.op tr (book.steps + 1) (Some m) (told.Opened (length v) (sha1 v)) b) local_is;
 })
   where
@@ -322,7 +322,7 @@ fetch_opened book k qs n x q t ts j g f bytes index fact word quiet reading none
       known = fact.known;
     } in
     comes_opened book k qs n x q t ts j g f.first f.version v bytes (with_content c.cache j.file f.version v) (indexed index j.file f.chunks) _ gets
-    (cached_with book c.cache j.file f.version v (had_content book k qs n x q t ts j g f.first f.version v gets) gets.short (g.kept.seats x.owner (session_at book k qs n x q t ts j g).seat (session_at book k qs n x q t ts j g).owner).kept)
+    (cached_with book c.cache j.file f.version v (had_content book k qs n x q t ts j g f.first f.version v gets) gets.known gets.short (g.kept.seats x.owner (session_at book k qs n x q t ts j g).seat (session_at book k qs n x q t ts j g).owner).kept)
     (record { state = refl; acts = refl })
 
 -- ---- READs go out
@@ -478,6 +478,7 @@ comes_reading book k qs n x q t ts j g f bytes fact may = by (is_here r.fetch) r
       forgotten = c.forgotten;
       cache = c.cache;
       index = found_all c.index (looked_up f r);
+      sent = c.sent;
       asks = ran.asks;
       shows = goes (some_sent e);
       cached = (g.kept.seats x.owner h.seat h.owner).kept;

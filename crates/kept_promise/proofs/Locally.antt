@@ -4,7 +4,7 @@ use Rattle.register_model.specs.declared.op.Outcome.{Outcome}
 use Rattle.register_model.specs.declared.op.Outcome.TheVariants as told
 use Rattle.command_text.specs.declared.command.Command.TheVariants as command
 use Rattle.command_text.specs.declared.path.PathCommand.TheVariants as path
-use Rattle.kept_promise.proofs.Common.{nat_tests, slice_get, slice_set, ◌==◌, ◌&&◌, ◌||◌, nat_lt, if◌then◌else◌, Op, Command, Moment, Deed, step_of, deed_by, deeds_from, deeds_of, joined_by, joined_from, leaves, after_one, local_from, lasts, is_busy, is_untold}
+use Rattle.kept_promise.proofs.Common.{nat_tests, slice_get, slice_set, ◌==◌, ◌&&◌, ◌||◌, nat_lt, if◌then◌else◌, Op, Command, Moment, Deed, deed_by, deeds_from, deeds_of, joined_by, joined_from, leaves, after_one, local_from, lasts, is_busy, is_untold}
 use Rattle.kept_promise.proofs.Lists.{some_is, nothing_there, true_and_false}
 
 -- ---- moments
@@ -21,15 +21,15 @@ no_more : {A : Type 0} (xs : List A) → xs ++ [] ≡ xs
 no_more [] = refl
 no_more (x ∷ xs) = ap (λ l. x ∷ l) (no_more xs)
 
-deeds_last : (past ms : List Moment) (m : Moment) → deeds_from past (ms ++ m ∷ []) ≡ deeds_from past ms ++ deed_by (past ++ ms) (step_of m) m.event
-deeds_last past [] m = no_more (deed_by past (step_of m) m.event) ∙ ap (λ (l : List Moment). deed_by l (step_of m) m.event) (sym (no_more past))
+deeds_last : (past ms : List Moment) (m : Moment) → deeds_from past (ms ++ m ∷ []) ≡ deeds_from past ms ++ deed_by (past ++ ms) m.before m.event
+deeds_last past [] m = no_more (deed_by past m.before m.event) ∙ ap (λ (l : List Moment). deed_by l m.before m.event) (sym (no_more past))
 deeds_last past (z ∷ ms) m =
-    ap (λ l. deed_by past (step_of z) z.event ++ l) (deeds_last (past ++ z ∷ []) ms m)
-    ∙ ap (λ (l : List Moment). deed_by past (step_of z) z.event ++ (deeds_from (past ++ z ∷ []) ms ++ deed_by l (step_of m) m.event)) (with_last past z ms)
-    ∙ sym (joined (deed_by past (step_of z) z.event) (deeds_from (past ++ z ∷ []) ms) (deed_by (past ++ z ∷ ms) (step_of m) m.event))
+    ap (λ l. deed_by past z.before z.event ++ l) (deeds_last (past ++ z ∷ []) ms m)
+    ∙ ap (λ (l : List Moment). deed_by past z.before z.event ++ (deeds_from (past ++ z ∷ []) ms ++ deed_by l m.before m.event)) (with_last past z ms)
+    ∙ sym (joined (deed_by past z.before z.event) (deeds_from (past ++ z ∷ []) ms) (deed_by (past ++ z ∷ ms) m.before m.event))
 
 -- the commands with one moment more
-pub deeds_more : (past : List Moment) (m : Moment) → deeds_of (past ++ m ∷ []) ≡ deeds_of past ++ deed_by past (step_of m) m.event
+pub deeds_more : (past : List Moment) (m : Moment) → deeds_of (past ++ m ∷ []) ≡ deeds_of past ++ deed_by past m.before m.event
 deeds_more past m = deeds_last [] past m
 
 pub joined_more : (c : ℕ) (was : Bool) (past : List Moment) (m : Moment) → joined_from c was (past ++ m ∷ []) ≡ joined_by c (joined_from c was past) m.event

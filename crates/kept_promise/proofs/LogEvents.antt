@@ -1,5 +1,5 @@
 -- Each event of a run keeps what is true of operations by what was said for them, if each step of a client does.
-use Rattle.std.proofs.Common.{◌⊎◌, inl, inr, ◌≡◌, ℕ, ◌+◌, List, [], ◌∷◌, ◌++◌, Option, Some, None, Ok, Bool, true, false, refl, sym, ap, ◌∙◌, subst, arith, append-nil, map}
+use Rattle.std.proofs.Common.{◌⊎◌, inl, inr, ◌≡◌, ℕ, ◌+◌, List, [], length, ◌∷◌, ◌++◌, Option, Some, None, Ok, Bool, true, false, refl, sym, ap, ◌∙◌, subst, arith, append-nil, map}
 use Rattle.wire.specs.declared.message.Body.TheVariants as body
 use Rattle.wire.specs.declared.message.Message.TheVariants as message
 use Rattle.path_calls.specs.Walk.{begun as walk_begun, next_call}
@@ -13,6 +13,7 @@ use Rattle.client_state.specs.Ending.{forgets as forgets_of}
 use Rattle.file_close.specs.Closing.{make_call}
 use Rattle.file_open.specs.Looking.{reading_by, with_file, reading_if, reading}
 use Rattle.client_state.specs.State as client
+use Rattle.client_state.specs.Noting.{at as at_clock}
 use Rattle.client_state.specs.declared.step.BadPeer.TheVariants as bad
 use Rattle.client_state.specs.declared.step.Outcome.TheVariants as outcome
 use Rattle.client_state.specs.declared.task.Stage.TheVariants as stage
@@ -21,7 +22,7 @@ use Rattle.register_model.specs.declared.op.Outcome.TheVariants as told
 use Rattle.register_model.specs.declared.op.Word.TheVariants as words
 use Rattle.trace_ends.specs.Session.{taken_of as session_taken}
 use Rattle.trace_replay.specs.Trail.{given_in, given_by_message}
-use Rattle.kept_promise.proofs.Common.{Deal.Sent, Deal.Took, slice_get, slice_set, Command, Body, Message, Pending, lease_call, hash_call, asks_kept, asks_temp, command_step, got_step, got_message, bad_peer, idle, took, took_if, drops, ClientStep, Ended, Outcome, Fetch, Stage, Task, Op, Opening, Word, TakenCall, word_of, file_of, counted, op_after, told_of, value_of, Core, Seat, Event, numbered, session_of, ops_after, ops_with, acted, does, happens, Moment, wanted_if, wanted_by, Deal, deals_with, deals_of, Book, Queue, reply_body, told_message}
+use Rattle.kept_promise.proofs.Common.{sha1, Deal.Sent, Deal.Took, slice_get, slice_set, Command, Body, Message, Pending, lease_call, hash_call, asks_kept, asks_temp, command_step, got_step, got_message, bad_peer, idle, took, took_if, drops, ClientStep, Ended, Outcome, Fetch, Stage, Task, Op, Opening, Word, TakenCall, word_of, file_of, counted, op_after, told_of, value_of, Core, Seat, Event, numbered, session_of, ops_after, ops_with, acted, does, happens, Moment, wanted_if, wanted_by, Deal, deals_with, deals_of, Book, Queue, reply_body, told_message}
 use Rattle.kept_promise.proofs.Lists.{some_is, nothing_there, at_replaced}
 use Rattle.kept_promise.proofs.Keys.{times}
 use Rattle.kept_promise.proofs.Messages.{Job, job, goal_word, stage_word, AllTolds, AnswerOf, IsAnswer, CloseOf, FetchOf, IsTrying}
@@ -38,6 +39,7 @@ use Rattle.kept_promise.proofs.Commands.{begun_word}
 use Rattle.kept_promise.proofs.NamesLog.{IsNameDeal, NamesOnly, names_join, call_named, answer_named, finds_open}
 use Rattle.kept_promise.proofs.FindsOpen.{finds_rewrite}
 use Rattle.file_open.specs.Rewriting.{asks_version}
+use Rattle.file_open.specs.Fetching.{opens_fresh}
 use Rattle.kept_promise.proofs.Shapes.{busy_command}
 use Rattle.kept_promise.proofs.EventCases.{IsChange}
 use Rattle.kept_promise.proofs.VersionRuns.{of_file_unnamed}
@@ -59,6 +61,30 @@ IsUnopened u = (len : ℕ) (digest : List ℕ) → u ≡ told.Opened len digest 
 -- and none ended by versions that differ
 abbrev pub IsUnchanged : History → Type 0
 IsUnchanged u = (first last : ℕ) → u ≡ told.Changed first last → ⊥
+
+abbrev IsOther : History → Type 0
+IsOther (told.Opened len digest) = ⊥
+IsOther u = Unit {0}
+
+not_opened : (u : History) → IsOther u → IsUnopened u
+not_opened (told.Opened l d) other len digest e = absurd other
+not_opened u other len digest e = absurd cc
+
+pub opened_or : (u : History) → ((len : ℕ) × (digest : List ℕ) × (u ≡ told.Opened len digest)) ⊎ IsUnopened u
+opened_or (told.Opened len digest) = inl (len, digest, refl)
+opened_or u = inr (not_opened u tt)
+
+unopened_running : (u : History) → u ≡ told.Running → IsUnopened u
+unopened_running u is len digest e = apart (sym is ∙ e)
+  where
+    apart : told.Running ≡ told.Opened len digest → ⊥
+    apart e = cc
+
+unchanged_running : (u : History) → u ≡ told.Running → IsUnchanged u
+unchanged_running u is first last e = apart (sym is ∙ e)
+  where
+    apart : told.Running ≡ told.Changed first last → ⊥
+    apart e = cc
 
 -- an operation keeps its file, and its value unless it is an open that got its content
 pub file_stays : (o : Op) (c : client.State) (taken : List TakenCall) (step : ℕ) (acts : ClientStep) → acts.found ≡ None → (op_after o c taken step acts).file ≡ o.file
@@ -107,6 +133,8 @@ pub record LogLaws (all : List Moment) (P : Going) (E : Ending) : Type 0 where
   pub walked : (log : List Deal) (file : ℕ) (v : List ℕ) (x : ℕ) (w : Walk) → P log file v (stage.Walking x w) → NamesOnly log
   -- nothing was said for it but what a walk says
   pub none : (w : Word) (file : ℕ) (v : List ℕ) (u : History) → IsUnopened u → IsUnchanged u → (log : List Deal) → NamesOnly log → E log w file v u
+  -- it is an open that got its content at once
+  pub now : (log : List Deal) (file : ℕ) (v : List ℕ) (len : ℕ) (digest : List ℕ) → NamesOnly log → E log words.Open file v (told.Opened len digest)
   -- its first call was sent, maybe behind a walk
   pub asks : (log : List Deal) → NamesOnly log → (x file : ℕ) (v : List ℕ) → P (log ++ Sent (lease_call x file) ∷ []) file v (stage.Asking x)
   pub opens : (log : List Deal) → NamesOnly log → (x file : ℕ) (v : List ℕ) → P (log ++ Sent (hash_call x file 0) ∷ []) file v (stage.Hashing 1 x)
@@ -175,6 +203,8 @@ begins_free s d now small free = command_cases (λ r. Answers r ⊎ Asks d r) s 
   fetches = λ file is un may. subst (λ (c : Command). let r = asks_kept (fronts s file) file None in Answers r ⊎ Asks c r) (sym is) (inr (hash_call s.next_xid file 0, stage.Hashing 1 s.next_xid, refl, refl, refl, refl, (refl, refl)));
   asks = λ file kept is un may at. subst (λ (c : Command). let r = asks_kept (fronts s file) file (Some kept) in Answers r ⊎ Asks c r) (sym is) (inr (lease_call s.next_xid file, stage.Asking s.next_xid, refl, refl, refl, refl, refl));
   renews = λ file is un may. subst (λ (c : Command). let r = asks_version (fronts s file) file in Answers r ⊎ Asks c r) (sym is) (inr (lease_call s.next_xid file, stage.Rewriting s.next_xid, refl, refl, refl, refl, refl));
+  opens_now = λ file c is un shut now. inl (refl, (_, refl));
+  empties_now = λ file c is un shut now. inl (refl, (_, refl));
   walks = λ c is un may. subst (λ (z : Command). let r = asks_next s (walk_begun c) in Answers r ⊎ Asks z r) (sym is) (inr (message.Call s.next_xid (body.Nfs (next_call (walk_begun c))), stage.Walking s.next_xid (walk_begun c), refl, refl, refl, sym (begun_word c), call_named s.next_xid (walk_begun c).dir (walk_begun c).left (walk_begun c).goal));
   closes = λ file l is un may at. subst (λ (c : Command). let r = asks_temp s file true in Answers r ⊎ Asks c r) (sym is) (inr (make_call s.next_xid s.next_temp file, stage.Making s.next_xid s.next_temp, refl, refl, refl, refl, refl));
 })
@@ -205,10 +235,7 @@ logs_begun P E all laws more k c now d seat small matched is right = by matched
     new : Op
     new = made_by k c now d seat (command_step seat.client d now).0 (command_step seat.client d now).1
 
-    never : (len : ℕ) (digest : List ℕ) → new.outcome ≡ told.Opened len digest → ⊥
-    never len digest e = let w = subst (Caused more new) e right.cause in nothing_there w.1.point (sym is.point ∙ w.1.within.0)
-
-    -- nor was there time to try
+    -- there was no time to try
     unchanged : (first last : ℕ) → new.outcome ≡ told.Changed first last → ⊥
     unchanged first last e =
         let w = (subst (Caused more new) e right.cause).1 in
@@ -220,7 +247,10 @@ logs_begun P E all laws more k c now d seat small matched is right = by matched
         absurd (omega (arith, le, lt, past, end, begin))
 
     nothing : (command_step seat.client d now).1.send ≡ [] → E (map Sent (command_step seat.client d now).1.send) new.word new.file new.value new.outcome
-    nothing none = subst (λ (l : List Message). E (map Sent l) new.word new.file new.value new.outcome) (sym none) (laws.none new.word new.file new.value new.outcome never unchanged [] tt)
+    nothing none = subst (λ (l : List Message). E (map Sent l) new.word new.file new.value new.outcome) (sym none) (elim (opened_or new.outcome) [
+      | inl (len, digest, e) ↦ subst (λ (u : History). E [] new.word new.file new.value u) (sym e) (subst (λ (z : Word). E [] z new.file new.value (told.Opened len digest)) (sym (subst (Caused more new) e right.cause).0) (laws.now [] new.file new.value len digest tt))
+      | inr un ↦ laws.none new.word new.file new.value new.outcome un unchanged [] tt
+    ])
 
     by : IsMatched seat → E (map Sent (command_step seat.client d now).1.send) new.word new.file new.value new.outcome
     by (inr m) = nothing (busy_command seat.client d now (record { file = m.0.file; stage = m.0.stage }) (job_task seat.place seat.client.task m.0 m.1)).0
@@ -230,7 +260,7 @@ logs_begun P E all laws more k c now d seat small matched is right = by matched
           subst (λ (z : Word). E (map Sent (command_step seat.client d now).1.send) z new.file new.value new.outcome) (word ∙ sym is.word)
           (over_any P E all laws (map Sent (command_step seat.client d now).1.send) new.file new.value st new.outcome
           (subst (λ (f : ℕ). P (map Sent (command_step seat.client d now).1.send) f new.value st) (sym is.file) (subst (λ (l : List Message). P (map Sent l) (file_of d) new.value st) (sym send) (first_said P E all laws (file_of d) new.value m st first)))
-          never unchanged)
+          (unopened_running new.outcome (is.running goes)) unchanged)
     ]
 
 -- ---- an answer
@@ -238,18 +268,6 @@ logs_begun P E all laws more k c now d seat small matched is right = by matched
 -- what an answer comes to, of which these were taken
 abbrev Comes : (P : Going) (E : Ending) (more : Book) (ops : List Op) (p : ℕ) → Op → List TakenCall → (steps : ℕ) → List Deal → client.State × ClientStep → List Message → (found : List (ℕ × ℕ)) → Type 0
 Comes P E more ops p o taken n log got ms found = more.ops ≡ slice_set ops p (op_after o got.0 taken (n + 1) got.1) → IsRight more (op_after o got.0 taken (n + 1) got.1) → After P E (log ++ deals_with ms found got.1.send) got (op_after o got.0 taken (n + 1) got.1)
-
-unopened_running : (u : History) → u ≡ told.Running → IsUnopened u
-unopened_running u is len digest e = apart (sym is ∙ e)
-  where
-    apart : told.Running ≡ told.Opened len digest → ⊥
-    apart e = cc
-
-unchanged_running : (u : History) → u ≡ told.Running → IsUnchanged u
-unchanged_running u is first last e = apart (sym is ∙ e)
-  where
-    apart : told.Running ≡ told.Changed first last → ⊥
-    apart e = cc
 
 abbrev WalkAfter : (P : Going) (E : Ending) (more : Book) (taken : List TakenCall) (step : ℕ) → Op → (x : ℕ) → Body → List Deal → client.State × ClientStep → Type 0
 WalkAfter P E more taken step o x b log r = IsRight more (op_after o r.0 taken step r.1) → After P E (log ++ deals_with (message.Answer x b ∷ []) [] r.1.send) r (op_after o r.0 taken step r.1)
@@ -269,11 +287,19 @@ walk_after P E all laws more taken step o s calls file y w x b log names word ru
   };
   fetches = λ id k shut none right. (let r = asks_kept (fronts s id) id None in found id (stage.Hashing 1 s.next_xid) (hash_call s.next_xid id 0) r.0 (record r.1 { found = Some id }) tt (sym (stage_word_open id k)) refl) (subst (λ (l : List Deal). P l id o.value (stage.Hashing 1 s.next_xid)) (joined log (Took (message.Answer x b) ∷ []) (Sent (hash_call s.next_xid id 0) ∷ [])) (laws.opens (log ++ Took (message.Answer x b) ∷ []) (one_more (leading.Finds id) k) s.next_xid id o.value));
   leases = λ id v k shut some right. (let r = asks_kept (fronts s id) id (Some v) in found id (stage.Asking s.next_xid) (lease_call s.next_xid id) r.0 (record r.1 { found = Some id }) tt (sym (stage_word_open id k)) refl) (subst (λ (l : List Deal). P l id o.value (stage.Asking s.next_xid)) (joined log (Took (message.Answer x b) ∷ []) (Sent (lease_call s.next_xid id) ∷ [])) (laws.asks (log ++ Took (message.Answer x b) ∷ []) (one_more (leading.Finds id) k) s.next_xid id o.value));
+  opens_now = λ id c k shut now right. (let r = opens_fresh (forgets_of s calls x) id c in record {
+    stage = λ u going. nothing_there _ (sym going);
+    each = subst (λ (z : Word). E (log ++ Took (message.Answer x b) ∷ []) z id (client.local_bytes r.0.opened id) (told.Opened (length c.bytes) (sha1 c.bytes))) (sym (stage_word_open id k)) (laws.now (log ++ Took (message.Answer x b) ∷ []) id (client.local_bytes r.0.opened id) (length c.bytes) (sha1 c.bytes) (one_more (leading.Finds id) k));
+  });
   renew_already = λ id k is right. record {
     stage = λ u going. nothing_there _ (sym going);
     each = laws.none o.word id o.value told.AlreadyOpen (λ len digest e. absurd (already_opened len digest e)) (λ first last e. absurd (already_changed first last e)) (log ++ Took (message.Answer x b) ∷ []) (one_more (leading.Rewrites id) k);
   };
   renews = λ id k shut right. (let r = asks_version (fronts s id) id in found id (stage.Rewriting s.next_xid) (lease_call s.next_xid id) r.0 (record r.1 { found = Some id }) tt (sym (stage_word_rewrite id k)) refl) (subst (λ (l : List Deal). P l id o.value (stage.Rewriting s.next_xid)) (joined log (Took (message.Answer x b) ∷ []) (Sent (lease_call s.next_xid id) ∷ [])) (laws.renews (log ++ Took (message.Answer x b) ∷ []) (one_more (leading.Rewrites id) k) s.next_xid id o.value));
+  empties_now = λ id c k shut now right. record {
+    stage = λ u going. nothing_there _ (sym going);
+    each = laws.none o.word id o.value told.Done (λ len digest e. absurd (done_opened len digest e)) (λ first last e. absurd (done_changed first last e)) (log ++ Took (message.Answer x b) ∷ []) (one_more (leading.Rewrites id) k);
+  };
   ends = λ v e k same right. record {
     stage = λ u going. nothing_there _ (sym going);
     each = laws.none o.word (file_with o.file (seen_in (is_look v.goal) e)) (value_of o.value (forgets_of s calls x) (outcome_of e)) (told_of (outcome_of e)) (ended_unopened e) (ended_unchanged e) (log ++ Took (message.Answer x b) ∷ []) (one_more (leading.Ends e) k);
@@ -301,6 +327,12 @@ walk_after P E all laws more taken step o s calls file y w x b log names word ru
 
     already_changed : (first last : ℕ) → told.AlreadyOpen ≡ told.Changed first last → ⊥
     already_changed first last e = cc
+
+    done_opened : (len : ℕ) (digest : List ℕ) → told.Done ≡ told.Opened len digest → ⊥
+    done_opened len digest e = cc
+
+    done_changed : (first last : ℕ) → told.Done ≡ told.Changed first last → ⊥
+    done_changed first last e = cc
 
     ended_unopened : (e : WalkEnd) → IsUnopened (told_of (outcome_of e))
     ended_unopened walk_end.Done len digest q = absurd cc
@@ -390,7 +422,7 @@ logs_heard P E all laws opening past k qs after n now bytes mid kept h left j o 
     let apart = apart_in h.told.xid j.stage (omega (arith, all_once, split, calls)) in
     let close = subst (λ (z : Seat). CloseOf book h.session.closing s.contents z.client.next_temp j (client.local_bytes z.client.opened j.file) j.stage) same_seat (s.closes h.uncut j job_is) in
     let value = value_by book h.session.closing s.contents h.seat.client.next_temp j o (client.local_bytes h.seat.client.opened j.file) at j.stage close in
-    answered P E all laws book more taken j o j.place h.seat.client h.told.xid (reply_body h.told.reply) (deals_of o past) refl task word (ap (λ (z : Op). z.outcome) (sym same) ∙ of.running) was each (λ of_known got mine ops_got right_got finds. record {
+    answered P E all laws book more taken j o j.place (at_clock h.seat.client now) h.told.xid (reply_body h.told.reply) (deals_of o past) refl task word (ap (λ (z : Op). z.outcome) (sym same) ∙ of.running) was each (λ of_known got mine ops_got right_got finds. record {
       known = of_known;
       finds = finds;
       taking = record { at = at; place = refl; file = ap (λ (z : Op). z.file) (sym same) ∙ of.file (of_file_unnamed j.stage of_known); word = word; running = ap (λ (z : Op). z.outcome) (sym same) ∙ of.running; fetch = fetch; trying = trying; opening = refl };

@@ -6,7 +6,8 @@ use Rattle.wire.specs.declared.message.Body.TheVariants as body
 use Rattle.wire.specs.declared.message.Message.TheVariants as message
 use Rattle.trace_replay.specs.Traffic.{traffic_if, sent_for, taken_for, traffic_of, named_by, named_in, made_in, commit_number, commits_in, bytes_number, bytes_in, attempts_of, deals_if}
 use Rattle.trace_replay.specs.Trail.{sent_of, taken_of}
-use Rattle.kept_promise.proofs.Common.{Deal.Sent, Deal.Took, Deal.Found, nat_tests, nat_lt, Contains-append_right, Contains, Chunk, Message, Op, Traffic, no_traffic, happens, Moment, step_of, client_of, taken_by, given_by, Deal, deals_with, deals_in, deals_of, Said, all_said, is_of, is_commit, SentCommit, number_if, first_number, sent_traffic, taken_traffic, both, sent_in}
+use Rattle.trace_replay.specs.Trail.{asked_in as calls_sent}
+use Rattle.kept_promise.proofs.Common.{Deal.Sent, Deal.Took, Deal.Found, nat_tests, nat_lt, Contains-append_right, Contains, Chunk, Message, Op, Traffic, no_traffic, Moment, step_of, client_of, taken_by, given_by, Deal, deals_with, deals_in, deals_of, Said, all_said, is_of, is_commit, SentCommit, number_if, first_number, sent_traffic, taken_traffic, both, sent_in}
 use Rattle.kept_promise.proofs.Tallies.{sent_sum, taken_sum}
 use Rattle.kept_promise.proofs.Counted.{traffic_is, both_assoc, none_both, both_none, sent_append, taken_append, sent_said, taken_said, of_step, first_or_rest}
 
@@ -122,7 +123,7 @@ pub traffic_log : (o : Op) (past : List Moment) → traffic_of o (sent_of past) 
 traffic_log o [] = refl
 traffic_log o (m ∷ past) =
     let c : ℕ = client_of m.before m.event in
-    let ms : List Message = (happens m.before m.event).up in
+    let ms : List Message = calls_sent m in
     let ts : List Message = taken_by m.before c m.event in
     let b : Bool = of_step o (step_of m) c in
     ap (λ (t : Traffic). both t (taken_for o (taken_of (m ∷ past)))) (sent_append o (sent_in m) (sent_of past) ∙ ap (λ (t : Traffic). both t (sent_for o (sent_of past))) (sent_said o (step_of m) c ms))
@@ -192,7 +193,7 @@ said_log : (f : Message → ℕ) (o : Op) (past : List Moment) → said_sum f o 
 said_log f o [] = refl
 said_log f o (m ∷ past) =
     let c : ℕ = client_of m.before m.event in
-    let ms : List Message = (happens m.before m.event).up in
+    let ms : List Message = calls_sent m in
     let a = said_append f o (sent_in m) (sent_of past) in
     let h = said_log f o past in
     let j = sum_join f (deals_in o m) (deals_of o past) in

@@ -2,7 +2,7 @@
 use Rattle.std.proofs.Common.{◌⊎◌, inl, inr, ◌≡◌, ℕ, ◌<◌, ◌≤◌, List, [], ◌∷◌, ◌++◌, Option, Some, Bool, true, false, refl, sym, ap, ◌∙◌, arith, append-nil}
 use Rattle.register_model.specs.declared.op.Outcome.{Outcome}
 use Rattle.trace_replay.specs.Traffic.{deals_if}
-use Rattle.kept_promise.proofs.Common.{slice_get, Message, Stage, Op, Word, Seat, numbered, happens, Moment, step_of, client_of, taken_by, given_by, is_in, Deal, deals_with, deals_in, deals_of}
+use Rattle.kept_promise.proofs.Common.{slice_get, Message, Stage, Op, Word, Seat, numbered, Moment, asked_in, step_of, client_of, taken_by, given_by, is_in, Deal, deals_with, deals_in, deals_of}
 use Rattle.kept_promise.proofs.Messages.{Job, job}
 use Rattle.kept_promise.proofs.Adjusts.{SameSeats}
 use Rattle.kept_promise.proofs.Counted.{AlikeUpTo, early}
@@ -12,7 +12,7 @@ use Rattle.kept_promise.proofs.JobFacts.{jobs_kept}
 
 -- nothing is said at a moment
 abbrev pub IsSilent : Moment → Type 0
-IsSilent m = (taken_by m.before (client_of m.before m.event) m.event ≡ []) × (given_by m.before (client_of m.before m.event) m.event ≡ []) × ((happens m.before m.event).up ≡ [])
+IsSilent m = (taken_by m.before (client_of m.before m.event) m.event ≡ []) × (given_by m.before (client_of m.before m.event) m.event ≡ []) × (asked_in m ≡ [])
 
 -- whatever was said was so by this step
 abbrev pub ArePast : (step : ℕ) → List Moment → Type 0
@@ -32,16 +32,16 @@ silent_if false = refl
 pub deals_silent : (o : Op) (m : Moment) → IsSilent m → deals_in o m ≡ []
 deals_silent o m s =
     let c : ℕ = client_of m.before m.event in
-    ap (λ (l : List Message). deals_if (is_in o (step_of m) c) l (given_by m.before c m.event) (happens m.before m.event).up) s.0
-    ∙ ap (λ (l : List (ℕ × ℕ)). deals_if (is_in o (step_of m) c) [] l (happens m.before m.event).up) s.1
+    ap (λ (l : List Message). deals_if (is_in o (step_of m) c) l (given_by m.before c m.event) (asked_in m)) s.0
+    ∙ ap (λ (l : List (ℕ × ℕ)). deals_if (is_in o (step_of m) c) [] l (asked_in m)) s.1
     ∙ ap (λ (l : List Message). deals_if (is_in o (step_of m) c) [] [] l) s.2
     ∙ silent_if (is_in o (step_of m) c)
 
 pub deals_apart : (o : Op) (m : Moment) → is_in o (step_of m) (client_of m.before m.event) ≡ false → deals_in o m ≡ []
-deals_apart o m e = ap (λ (b : Bool). deals_if b (taken_by m.before (client_of m.before m.event) m.event) (given_by m.before (client_of m.before m.event) m.event) (happens m.before m.event).up) e
+deals_apart o m e = ap (λ (b : Bool). deals_if b (taken_by m.before (client_of m.before m.event) m.event) (given_by m.before (client_of m.before m.event) m.event) (asked_in m)) e
 
-pub deals_own : (o : Op) (m : Moment) → is_in o (step_of m) (client_of m.before m.event) ≡ true → deals_in o m ≡ deals_with (taken_by m.before (client_of m.before m.event) m.event) (given_by m.before (client_of m.before m.event) m.event) (happens m.before m.event).up
-deals_own o m e = ap (λ (b : Bool). deals_if b (taken_by m.before (client_of m.before m.event) m.event) (given_by m.before (client_of m.before m.event) m.event) (happens m.before m.event).up) e
+pub deals_own : (o : Op) (m : Moment) → is_in o (step_of m) (client_of m.before m.event) ≡ true → deals_in o m ≡ deals_with (taken_by m.before (client_of m.before m.event) m.event) (given_by m.before (client_of m.before m.event) m.event) (asked_in m)
+deals_own o m e = ap (λ (b : Bool). deals_if b (taken_by m.before (client_of m.before m.event) m.event) (given_by m.before (client_of m.before m.event) m.event) (asked_in m)) e
 
 appended : {A : Type 0} (xs ys zs : List A) → (xs ++ ys) ++ zs ≡ xs ++ (ys ++ zs)
 appended [] ys zs = refl
@@ -69,7 +69,7 @@ deals_alike n o r (m ∷ past) same h = ap (λ l. l ++ deals_of r past) here ∙
   where
     here : deals_in r m ≡ deals_in o m
     here = elim h.0 [
-      | inl le ↦ ap (λ (b : Bool). deals_if b (taken_by m.before (client_of m.before m.event) m.event) (given_by m.before (client_of m.before m.event) m.event) (happens m.before m.event).up) (same (step_of m) (client_of m.before m.event) le)
+      | inl le ↦ ap (λ (b : Bool). deals_if b (taken_by m.before (client_of m.before m.event) m.event) (given_by m.before (client_of m.before m.event) m.event) (asked_in m)) (same (step_of m) (client_of m.before m.event) le)
       | inr s ↦ deals_silent r m s ∙ sym (deals_silent o m s)
     ]
 

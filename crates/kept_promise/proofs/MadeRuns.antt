@@ -1,6 +1,10 @@
--- A run carries that each change of the journal was made at a moment at which the server was told to make one, that it was the first that waited then,
--- and whose close it is; and that a settling makes the first that waits.
-use Rattle.std.proofs.Common.{inl, inr, ◌≡◌, ℕ, zero, suc, ◌+◌, ◌<◌, List, [], ◌∷◌, ◌++◌, length, drop, Option, Some, None, Bool, true, false, refl, sym, ap, ◌∙◌, subst, arith, replicate, ◌⊎◌}
+-- A run carries that each change of the journal was made at a moment at which the server was told to make one, that it was the one that was ready then,
+-- and whose close it is; and that a settling makes the one that is ready, or nothing.
+use Rattle.std.proofs.Common.{inl, inr, ◌≡◌, ℕ, zero, suc, ◌+◌, ◌<◌, List, [], ◌∷◌, ◌++◌, length, Option, Some, None, Bool, true, false, refl, sym, ap, ◌∙◌, subst, arith, replicate, ◌⊎◌}
+use Rattle.std.specs.Prelude.{remove, max, ◌≤◌}
+use Rattle.lease_rules.specs.Changes.{asker}
+use Rattle.lease_rules.specs.Leases.{is_others}
+use Rattle.lease_rules.specs.declared.lease.Lease.{Lease}
 use Rattle.server_core.specs.Closing.{at as at_reading, ready_by}
 use Rattle.server_core.specs.State as server
 use Rattle.server_core.specs.Step.{hangs_if as server_hangs_if}
@@ -11,7 +15,7 @@ use Rattle.server_core.specs.declared.change.Wanted.TheVariants as wanted
 use Rattle.server_rules.specs.declared.told.Told.TheVariants as announced
 use Rattle.tree_reading.specs.declared.entry.EntryKind.TheVariants as kind
 use Rattle.trace_ends.specs.Core.{newest_entries, changed_file}
-use Rattle.trace_replay.specs.Faithful.{IsSettled, SettlesFirst, IsMadeOrRefused}
+use Rattle.trace_replay.specs.Faithful.{IsSettled, SettlesReady, IsSettling, IsMadeOrRefused}
 use Rattle.kept_promise.proofs.Common.{Contains-push_cases, slice_get, slice_set, Contains, stands, Change, ServerStep, File, Entry, ClientStep, Ended, Op, Opening, TakenCall, has_point, op_after, Core, Session, Event, Event.Serves, Event.Settles, CoreStep, joins, does, cuts, hangs, ops_with, settles, happens, Moment, step_of, Book, Queue}
 use Rattle.kept_promise.proofs.Lists.{some_is, nothing_there, at_end, at_replaced, kept_appended, of_appended, same_or_not, set_else, within, of_more, in_front}
 use Rattle.kept_promise.proofs.Turns.{also_numbered}
@@ -25,6 +29,7 @@ use Rattle.kept_promise.proofs.LogEvents.{value_stays}
 use Rattle.kept_promise.proofs.Growth.{or_map}
 use Rattle.kept_promise.proofs.Messages.{content_wanted, WaitsFor, job}
 use Rattle.kept_promise.proofs.TakenOut.{SettlesOut, settled_to, made_waiting, WhatSettles, settles_one, settles_none, what_settles}
+use Rattle.kept_promise.proofs.ReadyFree.{ready_free}
 use Rattle.kept_promise.proofs.Making.{entry_of, made_change, made_is}
 use Rattle.kept_promise.proofs.ServesQuietly.{MadeHere, Entered, IsQuiet, serves_quiet}
 use Rattle.kept_promise.proofs.SettlesQuietly.{GoesHere, RefusesFor, Settling, makes_commit, makes_else, settling}
@@ -52,7 +57,7 @@ acted_points more ops (Some l) c taken step acts rights = by (slice_get ops l) r
   where
     closed : (o : Op) (p : ℕ) → o.word ≡ words.Close → o.point ≡ Some p → (e : Option Ended) → (let r = op_after o c taken step (record acts { ended = e }) in (r.client ≡ o.client) × (r.word ≡ words.Close) × (r.point ≡ Some p))
     closed o p word point None = (refl, word, point)
-    closed o p word point (Some e) = (refl, word, ap (λ w. Rattle.trace_ends.specs.Ops.point_if (has_point w e.outcome) taken e.rests_on o.point) word ∙ point)
+    closed o p word point (Some e) = (refl, word, ap (λ w. Rattle.trace_ends.specs.Ops.point_if (has_point w e.outcome) taken e.rests_on step o.point) word ∙ point)
 
     by : (q : Option Op) → slice_get ops l ≡ q → ((j : ℕ) (r : Op) → slice_get (Rattle.trace_ends.specs.Ops.ops_after ops l q c taken step acts) j ≡ Some r → IsRight more r) → KeepsPoints ops (Rattle.trace_ends.specs.Ops.ops_after ops l q c taken step acts)
     by None e rights = same_points ops
@@ -104,9 +109,9 @@ quiet_event all past rest opening k qs e mid after s none served = what_happens 
 
 -- ---- what is carried
 
--- where changes wait, a settling makes the one that came first, in its own step, or tells its session why not
-abbrev pub MakesFirst : Book → Type 0
-MakesFirst book = (m : Moment) (now : ℕ) (c : Change) → Contains book.moments m → m.event ≡ Settles now → slice_get m.before.server.waiting 0 ≡ Some c → IsMadeOrRefused book m c
+-- where a change is ready, a settling makes it, in its own step, or tells its session why not
+abbrev pub MakesReady : Book → Type 0
+MakesReady book = (m : Moment) (now : ℕ) (c : Change) → Contains book.moments m → m.event ≡ Settles now → ready_by m.before.server now ≡ Some c → IsMadeOrRefused book m c
 
 first_later : (book more : Book) (m : Moment) (c : Change) → ((i p : ℕ) → slice_get book.entries i ≡ Some p → slice_get more.entries i ≡ Some p) → IsMadeOrRefused book m c → IsMadeOrRefused more m c
 first_later book more m c later (inl made) = inl (later (length m.before.server.journal) (step_of m) made)
@@ -114,7 +119,7 @@ first_later book more m c later (inr refused) = inr refused
 
 pub record AreMade (opening : List Opening) (all past : List Moment) (k : Core) : Type 0 where
   pub settled : (i p : ℕ) (e : Entry) → slice_get k.entries i ≡ Some p → slice_get k.server.journal i ≡ Some e → e.kind ≡ kind.Commit → IsSettled (book_at opening k all) i p
-  pub first : MakesFirst (book_at opening k past)
+  pub makes : MakesReady (book_at opening k past)
 
 -- it stays once a journal has grown
 settled_later : (opening : List Opening) (all : List Moment) (k l : Core) (i p : ℕ) → ((e : Entry) → slice_get k.server.journal i ≡ Some e → slice_get l.server.journal i ≡ Some e) → KeepsPoints k.ops l.ops → IsSettled (book_at opening k all) i p → IsSettled (book_at opening l all) i p
@@ -152,8 +157,8 @@ settled_later opening all k l i p journal points s =
 made_quietly : (opening : List Opening) (all past : List Moment) (k : Core) (e : Event) → ((now : ℕ) → e ≡ Settles now → ⊥) → Quietly k (happens k e) → AreMade opening all past k → AreMade opening all (past ++ moment k e ∷ []) (happens k e).core
 made_quietly opening all past k e none q h = record {
   settled = λ i p d at is commit. settled_later opening all k (happens k e).core i p (λ x was. ap (λ (l : List Entry). slice_get l i) q.1 ∙ was) q.2 (h.settled i p d (ap (λ (l : List ℕ). slice_get l i) (sym q.0) ∙ at) (ap (λ (l : List Entry). slice_get l i) (sym q.1) ∙ is) commit);
-  first = λ m now c there is at. elim (Contains-push_cases past (moment k e) m there) [
-    | inl old ↦ first_later (book_at opening k past) (book_at opening (happens k e).core (past ++ moment k e ∷ [])) m c (λ i p had. ap (λ (l : List ℕ). slice_get l i) q.0 ∙ had) (h.first m now c old is at)
+  makes = λ m now c there is at. elim (Contains-push_cases past (moment k e) m there) [
+    | inl old ↦ first_later (book_at opening k past) (book_at opening (happens k e).core (past ++ moment k e ∷ [])) m c (λ i p had. ap (λ (l : List ℕ). slice_get l i) q.0 ∙ had) (h.makes m now c old is at)
     | inr new ↦ absurd (none now (ap (λ (z : Moment). z.event) new ∙ is))
   ];
 }
@@ -165,7 +170,7 @@ at_more [] zero y lt = absurd (omega (arith, lt))
 at_more [] (suc n) y lt = refl
 at_more (x ∷ xs) n y lt = at_more xs n y lt
 
-made_entered : (opening : List Opening) (all past : List Moment) (k : Core) (e : Event) → length k.entries ≡ length k.server.journal → (q : Entered k (happens k e)) → KeepsPoints k.ops (happens k e).core.ops → ((now : ℕ) (c : Change) → e ≡ Settles now → slice_get k.server.waiting 0 ≡ Some c → (0 < length q.es) ⊎ RefusesFor (happens k e) c)
+made_entered : (opening : List Opening) (all past : List Moment) (k : Core) (e : Event) → length k.entries ≡ length k.server.journal → (q : Entered k (happens k e)) → KeepsPoints k.ops (happens k e).core.ops → ((now : ℕ) (c : Change) → e ≡ Settles now → ready_by k.server now ≡ Some c → (0 < length q.es) ⊎ RefusesFor (happens k e) c)
     → AreMade opening all past k → AreMade opening all (past ++ moment k e ∷ []) (happens k e).core
 made_entered opening all past k e count q points tells h = record {
   settled = λ i p d at is commit. elim (of_more k.entries steps i p (ap (λ (l : List ℕ). slice_get l i) (sym q.entries) ∙ at)) [
@@ -178,9 +183,9 @@ made_entered opening all past k e count q points tells h = record {
       | inr new ↦ absurd (q.plain new.0 d new.2 commit)
     ]
   ];
-  first = λ m t c there is at. elim (Contains-push_cases past (moment k e) m there) [
-    | inl old ↦ first_later (book_at opening k past) (book_at opening later (past ++ moment k e ∷ [])) m c (λ i p had. ap (λ (l : List ℕ). slice_get l i) q.entries ∙ in_front k.entries steps i p had) (h.first m t c old is at)
-    | inr new ↦ subst (λ (z : Moment). IsMadeOrRefused (book_at opening later (past ++ moment k e ∷ [])) z c) new (now_first c (tells t c (ap (λ (z : Moment). z.event) new ∙ is) (ap (λ (z : Moment). slice_get z.before.server.waiting 0) new ∙ at)))
+  makes = λ m t c there is at. elim (Contains-push_cases past (moment k e) m there) [
+    | inl old ↦ first_later (book_at opening k past) (book_at opening later (past ++ moment k e ∷ [])) m c (λ i p had. ap (λ (l : List ℕ). slice_get l i) q.entries ∙ in_front k.entries steps i p had) (h.makes m t c old is at)
+    | inr new ↦ subst (λ (z : Moment). IsMadeOrRefused (book_at opening later (past ++ moment k e ∷ [])) z c) new (now_first c (tells t c (ap (λ (z : Moment). z.event) new ∙ is) (ap (λ (z : Moment). ready_by z.before.server t) new ∙ at)))
   ];
 }
   where
@@ -194,7 +199,7 @@ made_entered opening all past k e count q points tells h = record {
     now_first c (inl some_) = inl (ap (λ (l : List ℕ). slice_get l (length k.server.journal)) q.entries ∙ ap (slice_get (k.entries ++ steps)) (sym count) ∙ at_more k.entries (length q.es) (k.steps + 1) some_)
     now_first c (inr refused) = inr refused
 
--- ---- a change is made, or none waits
+-- ---- a change is made, or none is ready
 
 -- what a settling leaves, by what the server did
 abbrev left_by : Core → server.State × ServerStep → Core
@@ -272,16 +277,19 @@ made_settling all past rest opening k qs now mid after s h = by (settling (book_
               closing = pending.known;
             }
           ];
-          first = λ m n d in_ is at. elim (Contains-push_cases past (moment k (Settles now)) m in_) [
-            | inl was ↦ first_later (book_at opening k past) (book_at opening (left_by k (made_change (at_reading (record k.server { waiting = cs }) now) c (content_wanted c.what) f)) (past ++ moment k (Settles now) ∷ [])) m d (λ i p had. kept_appended k.entries (k.steps + 1) i p had) (h.first m n d was is at)
+          makes = λ m n d in_ is at. elim (Contains-push_cases past (moment k (Settles now)) m in_) [
+            | inl was ↦ first_later (book_at opening k past) (book_at opening (left_by k (made_change (at_reading (record k.server { waiting = cs }) now) c (content_wanted c.what) f)) (past ++ moment k (Settles now) ∷ [])) m d (λ i p had. kept_appended k.entries (k.steps + 1) i p had) (h.makes m n d was is at)
             | inr new ↦ inl (subst (λ (z : Moment). slice_get (k.entries ++ (k.steps + 1) ∷ []) (length z.before.server.journal) ≡ Some (step_of z)) new (ap (slice_get (k.entries ++ (k.steps + 1) ∷ [])) (sym count) ∙ at_end k.entries (k.steps + 1)))
           ];
         }
 
+    settles_at : {n : ℕ} → Settles now ≡ Settles n → now ≡ n
+    settles_at is = cc
+
     by : Settling k now (settles k now) → AreMade opening all (past ++ moment k (Settles now) ∷ []) (settles k now).core
     by (makes_commit c cs f out what there) =
         subst (λ (t : CoreStep). AreMade opening all (past ++ moment k (Settles now) ∷ []) t.core) (sym (out.is ∙ ap (settled_to k) (made_is (book_at opening k all) k.server now c cs f kept.server out.out there what))) (made c cs f out what)
-    by (makes_else ops q tells) = made_entered opening all past k (Settles now) count q (gone_points k (settles k now).core.ops ops) (λ n c is at. tells c at) h
+    by (makes_else ops q tells) = made_entered opening all past k (Settles now) count q (gone_points k (settles k now).core.ops ops) (λ n c is at. tells c (ap (ready_by k.server) (settles_at is) ∙ at)) h
 
 -- ---- a call is taken
 
@@ -306,40 +314,60 @@ settled_event laws all past rest opening k qs (Settles now) mid after s h = made
 settled_event laws all past rest opening k qs (Serves n now bytes) mid after s h = made_serving laws all past rest opening k qs n now bytes mid after s h
 settled_event laws all past rest opening k qs e mid after s h = made_quietly opening all past k e (λ n z. absurd cc) (quiet_event all past rest opening k qs e mid after s (λ n z. absurd cc) (λ n t b z. absurd cc)) h
 
--- where changes wait, the one that came first is ready, and a settling takes it and no other
-abbrev pub DropsFirst : List Moment → Type 0
-DropsFirst past = (m : Moment) (now : ℕ) (c : Change) → Contains past m → m.event ≡ Settles now → slice_get m.before.server.waiting 0 ≡ Some c → (ready_by m.before.server now ≡ Some c) × ((happens m.before m.event).core.server.waiting ≡ drop 1 m.before.server.waiting)
+-- a settling takes the change that is ready out and no other, and no lease holds that up
+pub record LeavesReady (k : Core) (now : ℕ) (c : Change) : Type 0 where
+  pub place : ℕ
+  pub there : slice_get k.server.waiting place ≡ Some c
+  pub left : (settles k now).core.server.waiting ≡ remove k.server.waiting place
+  pub free : (i : ℕ) (l : Lease) → slice_get k.server.leasing.leases i ≡ Some l → l.file ≡ c.file → is_others l (asker c) ≡ true → l.ends ≤ max k.server.leasing.moment now
 
-drops_first : (book : Book) (k : Core) (qs : List Queue) (now : ℕ) (c : Change) → IsKept book k qs → slice_get k.server.waiting 0 ≡ Some c → (ready_by k.server now ≡ Some c) × ((settles k now).core.server.waiting ≡ drop 1 k.server.waiting)
-drops_first book k qs now c kept there = by (what_settles book k qs now kept)
+-- where none is ready nothing of the server changes
+abbrev pub Leaves : Core → (now : ℕ) → Option Change → Type 0
+Leaves k now None = (settles k now).core.server ≡ k.server
+Leaves k now (Some c) = LeavesReady k now c
+
+abbrev pub AllLeave : List Moment → Type 0
+AllLeave past = (m : Moment) (now : ℕ) → Contains past m → m.event ≡ Settles now → Leaves m.before now (ready_by m.before.server now)
+
+leaves_ready : (book : Book) (k : Core) (qs : List Queue) (now : ℕ) → IsKept book k qs → Leaves k now (ready_by k.server now)
+leaves_ready book k qs now kept = by (what_settles book k qs now kept)
   where
-    by : WhatSettles k now → (ready_by k.server now ≡ Some c) × ((settles k now).core.server.waiting ≡ drop 1 k.server.waiting)
-    by (settles_none none is) = nothing_there c (sym none ∙ there)
-    by (settles_one d rest out) = (
-      subst (λ (z : Change). ready_by k.server now ≡ Some z) (some_is d c (sym out.first ∙ there)) out.ready,
-      ap (λ (t : CoreStep). t.core.server.waiting) out.is ∙ made_waiting (at_reading (record k.server { waiting = rest }) now) d d.what ∙ sym out.dropped,
-    )
+    by : WhatSettles k now → Leaves k now (ready_by k.server now)
+    by (settles_none none is) = subst (Leaves k now) (sym none) (ap (λ (t : CoreStep). t.core.server) is)
+    by (settles_one c rest out) = subst (Leaves k now) (sym out.ready) (record {
+      place = out.out.place;
+      there = out.out.there;
+      left = ap (λ (t : CoreStep). t.core.server.waiting) out.is ∙ made_waiting (at_reading (record k.server { waiting = rest }) now) c c.what ∙ out.out.left;
+      free = ready_free k.server now c out.ready;
+    })
 
-dropped_event : (all past rest : List Moment) (opening : List Opening) (k : Core) (qs : List Queue) (e : Event) (mid after : List Queue) → Step all past rest opening k qs e mid after → DropsFirst past → DropsFirst (past ++ moment k e ∷ [])
-dropped_event all past rest opening k qs e mid after s h m now c there is at = elim (Contains-push_cases past (moment k e) m there) [
-  | inl old ↦ h m now c old is at
-  | inr new ↦ subst (λ (z : Moment). (ready_by z.before.server now ≡ Some c) × ((happens z.before z.event).core.server.waiting ≡ drop 1 z.before.server.waiting)) new (settled (ap (λ (z : Moment). z.event) new ∙ is) (ap (λ (z : Moment). slice_get z.before.server.waiting 0) new ∙ at))
+left_event : (all past rest : List Moment) (opening : List Opening) (k : Core) (qs : List Queue) (e : Event) (mid after : List Queue) → Step all past rest opening k qs e mid after → AllLeave past → AllLeave (past ++ moment k e ∷ [])
+left_event all past rest opening k qs e mid after s h m now there is = elim (Contains-push_cases past (moment k e) m there) [
+  | inl old ↦ h m now old is
+  | inr new ↦ subst (λ (z : Moment). Leaves z.before now (ready_by z.before.server now)) new (leaves_ready (book_at opening k all) k qs now s.kept)
 ]
-  where
-    settled : e ≡ Settles now → slice_get k.server.waiting 0 ≡ Some c → (ready_by k.server now ≡ Some c) × ((happens k e).core.server.waiting ≡ drop 1 k.server.waiting)
-    settled same first = subst (λ (z : Event). (ready_by k.server now ≡ Some c) × ((happens k z).core.server.waiting ≡ drop 1 k.server.waiting)) (sym same) (drops_first (book_at opening k all) k qs now c s.kept first)
 
 abbrev pub AllSettled : (all past : List Moment) → List Opening → Core → List Queue → Type 0
-AllSettled all past opening k qs = AreMade opening all past k × DropsFirst past
+AllSettled all past opening k qs = AreMade opening all past k × AllLeave past
 
 pub carried_settled : FitLaws → Carried AllSettled
 carried_settled laws = record {
-  first = λ all opening tree count kept. (record { settled = λ i p d at is commit. nothing_there p at; first = λ m now c there is at. (let lt = there.1 in absurd (omega (arith, lt))) }, λ m now c there is at. (let lt = there.1 in absurd (omega (arith, lt))));
-  steps = λ all past rest opening k qs e mid after s h. (settled_event laws all past rest opening k qs e mid after s h.0, dropped_event all past rest opening k qs e mid after s h.1);
-  adjusts = λ all past opening k qs index seats same h. (record { settled = h.0.settled; first = h.0.first }, h.1);
+  first = λ all opening tree count kept. (record { settled = λ i p d at is commit. nothing_there p at; makes = λ m now c there is at. (let lt = there.1 in absurd (omega (arith, lt))) }, λ m now there is. (let lt = there.1 in absurd (omega (arith, lt))));
+  steps = λ all past rest opening k qs e mid after s h. (settled_event laws all past rest opening k qs e mid after s h.0, left_event all past rest opening k qs e mid after s h.1);
+  adjusts = λ all past opening k qs index seats same h. (record { settled = h.0.settled; makes = h.0.makes }, h.1);
 }
 
 -- ---- what the promise says of settlings
 
-pub settles_first : (book : Book) → MakesFirst book → DropsFirst book.moments → SettlesFirst book
-settles_first book h drops = λ m now c there is at. (let d = drops m now c there is at in (d.0, d.1, h m now c there is at))
+pub settles_ready : (book : Book) → MakesReady book → AllLeave book.moments → SettlesReady book
+settles_ready book makes leaves = λ m now there is. by m now there is (ready_by m.before.server now) refl (leaves m now there is)
+  where
+    by : (m : Moment) (now : ℕ) → Contains book.moments m → m.event ≡ Settles now → (o : Option Change) → ready_by m.before.server now ≡ o → Leaves m.before now o → IsSettling book m now o
+    by m now there is None e same = ap (λ (z : Event). (happens m.before z).core.server) is ∙ same
+    by m now there is (Some c) e l = record {
+      place = l.place;
+      there = l.there;
+      left = ap (λ (z : Event). (happens m.before z).core.server.waiting) is ∙ l.left;
+      free = l.free;
+      done = makes m now c there is e;
+    }

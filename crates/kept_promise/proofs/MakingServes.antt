@@ -36,7 +36,6 @@ use Rattle.trace_ends.specs.Core.{changed_file, is_of_file}
 use Rattle.trace_ends.specs.Ops.{pointed_at, pointed}
 use Rattle.server_law.proofs.Trees.{given, IsBounded}
 use Rattle.kept_promise.proofs.Common.{slice_get, slice_set, cond, option_map, Contains, Contains-push, message_spell, MessageFits, stands, not, at, Entry, File, Op, TakenCall, Change, Stage, Word, Core, Seat, Session, Event.Serves, CoreStep, numbered, with_numbered, happens, serves, serves_if, quiet, Book, value_at, version_at, Call.Walks, Reply.Walked, value_from, unwrap_or, NameReply, name_answer, Ask, Told, Queue, ask_message, told_message, Leasing, later}
-use Rattle.server_law.proofs.Unleased.{unleased_at}
 use Rattle.kept_promise.proofs.Statements.{CallFits}
 use Rattle.trace_replay.specs.Faithful.{IsKind}
 use Rattle.register_model.specs.Register.{IsFit}
@@ -61,7 +60,7 @@ use Rattle.kept_promise.proofs.Taken.{tolds_at, finds_more, answer_found}
 use Rattle.kept_promise.proofs.Takes.{took, file_still, fresh_still}
 use Rattle.kept_promise.proofs.Fits.{FitLaws}
 use Rattle.kept_promise.proofs.Facts.{FileIs, IsServer, IsSession, commits_in}
-use Rattle.kept_promise.proofs.Serves.{answered, parsed}
+use Rattle.kept_promise.proofs.Serves.{answered, parsed, parsed_at}
 use Rattle.kept_promise.proofs.ServesFiles.{making_got, got_making, pointed_none}
 use Rattle.kept_promise.proofs.Calls.{Given, session_in, first_fits, rest_of, leads_by, same_temps, held_still}
 use Rattle.kept_promise.proofs.Tells.{walk_came, taken_now}
@@ -128,7 +127,7 @@ module _ (laws : FitLaws) (book : Book) (k : Core) (qs : List Queue) (n now : �
   step_is : happens k (Serves n now (message_spell (ask_message a))) ≡ making_got k n now x xid made
   step_is =
       let standing : stands k.server n ≡ true = h.stands_is ∙ ap not g.unhung in
-      ap (serves k n now (message_spell (ask_message a))) g.at ∙ ap (serves_if k n now x) (parsed laws a fits) ∙ got_making k n now x xid w fits.1 making standing
+      ap (serves k n now (message_spell (ask_message a))) g.at ∙ ap (serves_if k n now x) (parsed_at laws k n a fits) ∙ got_making k n now x xid w fits.1 making standing
 
   -- the answer goes down
   sent : (r : NameReply) → made.1.answer ≡ name_answer r → Contains (happens k (Serves n now (message_spell (ask_message a)))).down (record { session = n; message = message.Answer xid (body.Nfs (name_answer r)) })
@@ -246,7 +245,7 @@ module _ (laws : FitLaws) (book : Book) (k : Core) (qs : List Queue) (n now : �
         lengths = g.kept.server.lengths;
         targets = λ i c f. there_later book more None None c.file grows (g.kept.server.targets i c f);
         xids = g.kept.server.xids;
-        leases = unleased_at k.server now g.kept.server.leases;
+        leases = g.kept.server.leases;
       }
 
   serve_named : (done : TreeChange) (e : TreeEntry) (r : NameReply) (after : Tree) → is_creating w ≡ false → made ≡ (after, record { answer = name_answer r; first = Some e; second = None }) → step_by t held w.dir w.goal ≡ (after, Ok done) → done.first ≡ Some e → done.second ≡ None → EntryAt t w.goal e → AfterAt t w.dir w.goal after → walk_told w (name_answer r) ≡ leading.Ends walk_end.Done → nfs_proc (name_answer r) ≡ nfs_proc (next_call w)
@@ -345,7 +344,7 @@ module _ (laws : FitLaws) (book : Book) (k : Core) (qs : List Queue) (n now : �
         lengths = g.kept.server.lengths;
         targets = λ i d f. there_later book more (Some c.place) None d.file grows (g.kept.server.targets i d f);
         xids = g.kept.server.xids;
-        leases = unleased_at k.server now g.kept.server.leases;
+        leases = g.kept.server.leases;
       }
     where
       make_not_close : words.Make ≡ words.Close → ⊥

@@ -327,7 +327,7 @@ meets_heard book more taken j o p s x b a log h = record {
     known = a.known
 
     left : Meets log x b j.stage (found_in s j.file j.stage x b) (took (idle s) (client.calls_of s) j.file j.stage x b)
-    left = took_cases (Meets log x b j.stage) (idle s) (client.calls_of s) j.file j.stage x b known (of_opens (Meets log x b j.stage) (idle s) (client.calls_of s) j.file j.stage x b known (meets_cases log (idle s) (client.calls_of s) j.file o.value j.stage x b (subst (λ f. MeetsBy log f o.value j.stage) a.taking.file h)))
+    left = took_cases (Meets log x b j.stage) (idle s) (client.calls_of s) j.file j.stage x b known (λ found r g until lease is z. z) (of_opens (Meets log x b j.stage) (idle s) (client.calls_of s) j.file j.stage x b known (meets_cases log (idle s) (client.calls_of s) j.file o.value j.stage x b (subst (λ f. MeetsBy log f o.value j.stage) a.taking.file h)))
 
     running_not : (first last : ℕ) → told.Running ≡ told.Changed first last → ⊥
     running_not first last z = absurd cc
@@ -349,6 +349,7 @@ meets_laws all = record {
   walks = λ log file v x w h. h;
   walked = λ log file v x w h. h;
   none = λ w file v u un same log names. none w file v u same log names;
+  now = λ log file v len digest names. none words.Open file v (told.Opened len digest) (λ first last e. unchanged len digest first last e) log names;
   asks = λ log names x file v. names_begun log (Sent (lease_call x file)) names;
   opens = λ log names x file v. subst (λ (t : Attempts). Tries t 1 new_attempt) (sym (names_begun log (Sent (hash_call x file 0)) names)) (refl, refl, tt, (let le : 1 ≤ tries_most = omega arith in le));
   renews = λ log names x file v. tt;
@@ -358,6 +359,9 @@ meets_laws all = record {
   heard = λ book more taken j o p s x b all_is a log h. meets_heard book more taken j o p s x b a log h;
 }
   where
+    unchanged : (len : ℕ) (digest : List ℕ) (first last : ℕ) → told.Opened len digest ≡ told.Changed first last → ⊥
+    unchanged len digest first last e = absurd cc
+
     plain : (log : List Deal) (u : History) → Fine (attempts_in log) → IsUnchanged u → Met log u
     plain log (told.Changed first last) h same = absurd (same first last refl)
     plain log u h same = h

@@ -14,7 +14,8 @@ use Rattle.callback_core.specs.Waits.{without}
 use Rattle.chunk_calls.specs.Writing.{cond_most}
 use Rattle.server_core.specs.declared.event.Sent.{Sent}
 use Rattle.trace_replay.specs.Saving.{name_call, name_told, name_answer}
-use Rattle.kept_promise.proofs.Common.{nat_lt, if◌then◌else◌, ◌==◌, ◌||◌, list_any, Contains, Contains-push_cases, Contains-append_cases, Answer, Done, Failed, Status, Body, Message, parse_of, Temp, size_most, temp_at, room_fault, piece_fault, assembled, without_temp, Node, directory, file, node_of, File, Change, called, got_if, stands, at, makes, makes_unless, makes_change, names, names_unless, names_bytes, bytes_known, cond_fault, writes_unless, commits, commits_to, commits_whole, has_waiting, is_full, Core, Event, Event.Serves, CoreStep, server_waiting, does, joins, hears, cuts, hangs, happens, Wanted, Tree, change_of}
+use Rattle.kept_promise.proofs.CallsAlike.{call_read}
+use Rattle.kept_promise.proofs.Common.{nat_lt, if◌then◌else◌, ◌==◌, ◌||◌, list_any, Contains, Contains-push_cases, Contains-append_cases, Answer, Done, Failed, Status, Body, Message, parse_of, Temp, size_most, temp_at, room_fault, piece_fault, assembled, without_temp, Node, directory, file, node_of, File, Change, called, got_if, stands, at, makes, makes_unless, makes_change, names, names_unless, names_bytes, bytes_known, cond_fault, writes_unless, commits, commits_to, commits_whole, has_waiting, is_full, Core, Event, Event.Serves, CoreStep, server_waiting, server_waits, does, joins, hears, cuts, hangs, happens, Wanted, Tree, change_of}
 use Rattle.tree_calls.specs.Waiting.{file_of}
 use Rattle.server_core.specs.Recalling.{comes, recall_sent, recalls_for}
 use Rattle.server_core.specs.Leasing.{asking}
@@ -234,8 +235,8 @@ name_taken k e = what_happens k e (SentBy k e) (record {
           comes = comes;
         })))
 
-    got_by : (m now : ℕ) (bytes : List ℕ) (z : Message) → parse_of server_waiting bytes ≡ Ok z → (b : Bool) → (n y : ℕ) (r : Answer Unit Unit) → Contains (got_if k.server b m z now).1.send (record { session = n; message = name_told y r }) → NameTaken k (Serves m now bytes) n y r
-    got_by m now bytes (message.Call xid b) is true n y r c = called_by m now bytes xid b is (call_answers (at k.server now) m xid b) n y r c
+    got_by : (m now : ℕ) (bytes : List ℕ) (z : Message) → parse_of (server_waits k m) bytes ≡ Ok z → (b : Bool) → (n y : ℕ) (r : Answer Unit Unit) → Contains (got_if k.server b m z now).1.send (record { session = n; message = name_told y r }) → NameTaken k (Serves m now bytes) n y r
+    got_by m now bytes (message.Call xid b) is true n y r c = called_by m now bytes xid b (call_read k m bytes xid b is) (call_answers (at k.server now) m xid b) n y r c
     got_by m now bytes (message.Unfit xid why) is true n y r c = absurd (other_sent (got_if k.server true m (message.Unfit xid why) now).1.send n y r (tt, tt) c)
     got_by m now bytes (message.Answer xid b) is true n y r c = absurd (other_sent [] n y r tt c)
     got_by m now bytes (message.Refuse xid why) is true n y r c = absurd (other_sent [] n y r tt c)

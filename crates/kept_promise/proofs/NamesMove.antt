@@ -32,8 +32,8 @@ use Rattle.server_law.proofs.Trees.{IsBounded}
 use Rattle.trace_ends.specs.Core.{server_got}
 use Rattle.trace_replay.specs.Naming.{refusal_of}
 use Rattle.trace_replay.specs.OwnCalls.{ComesTo, held_at, others_waiting}
-use Rattle.kept_promise.proofs.Common.{cond, if◌then◌else◌, ◌==◌, filter, not, slice_get, Contains, Contains-append_left, Contains-append_right, Contains-push, Contains-push_cases, Status, Message, WireFault, parse_of, Tree, Change, Wanted, server_step, stands, at, has_waiting, Op, Opening, Core, Session, Event, Event.Serves, Event.Settles, CoreStep, numbered, server_waiting, serves_if, serves, does, joins, hears, cuts, hangs_if, hangs, happens, Moment, step_of, client_of, is_in, Book, Queue, Ask, NameReply, name_answer, ask_message, Call, Call.Walks}
-use Rattle.server_law.specs.Unleased.{IsUnleased, makes_so}
+use Rattle.kept_promise.proofs.Common.{cond, if◌then◌else◌, ◌==◌, filter, not, slice_get, Contains, Contains-append_left, Contains-append_right, Contains-push, Contains-push_cases, Status, Message, WireFault, parse_of, Tree, Change, Wanted, server_step, stands, at, has_waiting, Op, Opening, Core, Session, Event, Event.Serves, Event.Settles, CoreStep, numbered, server_waiting, server_waits, serves_if, serves, does, joins, hears, cuts, hangs_if, hangs, happens, Moment, step_of, client_of, is_in, Book, Queue, Ask, NameReply, name_answer, ask_message, Call, Call.Walks}
+use Rattle.server_core.specs.Closing.{makes_change}
 use Rattle.kept_promise.proofs.Lists.{nothing_there, of_appended}
 use Rattle.kept_promise.proofs.Messages.{AllAsks, AsksFor, walk_for, walk_is}
 use Rattle.kept_promise.proofs.Fits.{FitLaws}
@@ -42,8 +42,9 @@ use Rattle.kept_promise.proofs.Facts.{IsWanted, IsSession, IsKept}
 use Rattle.kept_promise.proofs.Gone.{no_directory}
 use Rattle.kept_promise.proofs.Statements.{CallFits}
 use Rattle.kept_promise.proofs.Turns.{also_numbered}
-use Rattle.kept_promise.proofs.RunsCarried.{book_at, moment, Finds, Step, Carried}
-use Rattle.kept_promise.proofs.Actors.{serves_fits, serves_read}
+use Rattle.kept_promise.proofs.RunsCarried.{book_at, moment, Finds, FindsAsk, Step, Carried}
+use Rattle.kept_promise.proofs.Actors.{serves_fits, serves_read, serves_read_plain}
+use Rattle.kept_promise.proofs.Replies.{reply_taken}
 use Rattle.kept_promise.proofs.Hangs.{left_there}
 use Rattle.kept_promise.proofs.CallsKeep.{IsByCommit, is_of_files, Waits, got_keeps, makes_call, walk_made}
 use Rattle.kept_promise.proofs.PathNames.{IsWalkSmall, makes_at, is_making, is_building, is_going, making_is, building_makes, going_makes}
@@ -54,7 +55,7 @@ use Rattle.kept_promise.proofs.GoingSteps.{coming, got_answered, got_waits}
 use Rattle.kept_promise.proofs.TakenOut.{made_waiting, WhatSettles, settles_one, settles_none, what_settles}
 use Rattle.kept_promise.proofs.GoingEnds.{asked_step, asked_settles}
 use Rattle.kept_promise.proofs.WalkRuns.{refused_leads}
-use Rattle.kept_promise.proofs.SentUp.{WasCalled, UpsSent}
+use Rattle.kept_promise.proofs.SentUp.{WasCalled, UpsSent, call_asked}
 use Rattle.kept_promise.proofs.Logs.{IsSilent}
 use Rattle.kept_promise.proofs.Saved.{AllSaved, carried_saved}
 use Rattle.kept_promise.proofs.Happens.{what_happens}
@@ -239,15 +240,15 @@ built_turned k n now x xid w building = (by (made_walk k.server.tree (server.hel
     by (refuses s r is err turned leads procs) = subst (λ (p : Tree × Finished). Turned k n xid (next_call w) (server.held k.server.waiting) (making_got k n now x xid p)) (sym is) (inl (λ dir. refl))
     by (enters done e r after is step first_is second_is entry_is after_is leads procs) = subst (λ (p : Tree × Finished). Turned k n xid (next_call w) (server.held k.server.waiting) (making_got k n now x xid p)) (sym is) (said_done k n xid w (server.held k.server.waiting) r (making_got k n now x xid (after, record { answer = name_answer r; first = Some e; second = None })) done (building_makes w.left w.goal building) step refl leads)
 
-going_turned : (k : Core) (n now : ℕ) (x : Session) (xid : ℕ) (w : Walk) → IsWalkSmall w → is_going w ≡ true → stands k.server n ≡ true → IsUnleased k.server → IsBounded k.server.tree → (let t = server_got k n now x (message.Call xid (body.Nfs (next_call w))) in Turned k n xid (next_call w) (server.held k.server.waiting) t × Leaves k n xid w t)
-going_turned k n now x xid w small going standing leases bounded = by (comes_so k.server.tree (server.held k.server.waiting) (has_waiting k.server.waiting n) w bounded small going)
+going_turned : (k : Core) (n now : ℕ) (x : Session) (xid : ℕ) (w : Walk) → IsWalkSmall w → is_going w ≡ true → stands k.server n ≡ true → IsBounded k.server.tree → (let t = server_got k n now x (message.Call xid (body.Nfs (next_call w))) in Turned k n xid (next_call w) (server.held k.server.waiting) t × Leaves k n xid w t)
+going_turned k n now x xid w small going standing bounded = by (comes_so k.server.tree (server.held k.server.waiting) (has_waiting k.server.waiting n) w bounded small going)
   where
     by : ComesSo k.server.tree (server.held k.server.waiting) (has_waiting k.server.waiting n) w → (let t = server_got k n now x (message.Call xid (body.Nfs (next_call w))) in Turned k n xid (next_call w) (server.held k.server.waiting) t × Leaves k n xid w t)
     by (refused s r is why turned leads procs) = subst (λ (t : CoreStep). Turned k n xid (next_call w) (server.held k.server.waiting) t × Leaves k n xid w t) (sym (got_answered k n now x xid w k.server.tree (said (name_answer r)) small going standing is)) (inl (λ dir. refl), inl refl)
     by (done_now done r after is step first second leads procs files none root next) =
         let d : Finished = record { answer = name_answer r; first = done.first; second = done.second } in
         subst (λ (t : CoreStep). Turned k n xid (next_call w) (server.held k.server.waiting) t × Leaves k n xid w t) (sym (got_answered k n now x xid w after d small going standing is)) (said_done k n xid w (server.held k.server.waiting) r (making_got k n now x xid (after, d)) done (going_makes w.left w.goal going) step refl leads, inl refl)
-    by (waits a g is asks_ there room free two) = subst (λ (t : CoreStep). Turned k n xid (next_call w) (server.held k.server.waiting) t × Leaves k n xid w t) (sym (got_waits k n now x xid w a small going standing leases is)) (inl (λ dir. refl), inr (a, refl, walk_is w a asks_))
+    by (waits a g is asks_ there room free two) = subst (λ (t : CoreStep). Turned k n xid (next_call w) (server.held k.server.waiting) t × Leaves k n xid w t) (sym (got_waits k n now x xid w a small going standing is)) (inl (λ dir. refl), inr (a, refl, walk_is w a asks_))
 
 asked_makes : (a : Asked) → is_making (walk_for a) ≡ true
 asked_makes (asked.Remove r) = refl
@@ -269,7 +270,7 @@ now_by past m n xid takes comes (inr answered) = inr (record { session = n; xid 
 
 -- ---- a call is taken
 
-names_serves : FitLaws → (all past : List Moment) (opening : List Opening) (k : Core) (qs mid : List Queue) (n now : ℕ) (bytes : List ℕ) → IsKept (book_at opening k all) k qs → Finds k qs (Serves n now bytes) mid → UpsSent past k.steps qs → NamesAfter past k (Serves n now bytes)
+names_serves : FitLaws → (all past : List Moment) (opening : List Opening) (k : Core) (qs mid : List Queue) (n now : ℕ) (bytes : List ℕ) → IsKept (book_at opening k all) k qs → FindsAsk qs n bytes mid → UpsSent past k.steps qs → NamesAfter past k (Serves n now bytes)
 names_serves fits all past opening k qs mid n now bytes kept f sent = by (makes_call f.1.call) refl
   where
     past2 : List Moment
@@ -279,10 +280,13 @@ names_serves fits all past opening k qs mid n now bytes kept f sent = by (makes_
     x = also_numbered qs k.sessions n f.0 (sym kept.made.1) f.3
 
     read : parse_of server_waiting bytes ≡ Ok (ask_message f.1)
-    read = serves_read fits (book_at opening k all) k qs n now bytes mid kept f
+    read = serves_read_plain fits (book_at opening k all) k qs n now bytes mid kept f
+
+    read_here : parse_of (server_waits k n) bytes ≡ Ok (ask_message f.1)
+    read_here = serves_read fits (book_at opening k all) k qs n now bytes mid kept f
 
     server_is : (happens k (Serves n now bytes)).core.server ≡ (server_step k.server (event.Got n (ask_message f.1) now)).0
-    server_is = ap (λ (o : Option Session). (serves k n now bytes o).core.server) x.1 ∙ ap (λ (r : Result Message WireFault). (serves_if k n now x.0 r).core.server) read
+    server_is = ap (λ (o : Option Session). (serves k n now bytes o).core.server) x.1 ∙ ap (λ (r : Result Message WireFault). (serves_if k n now x.0 r).core.server) read_here
 
     was : WasCalled past k.steps n f.1
     was = (subst (AllAsks (WasCalled past k.steps n)) f.4 (sent n f.0 f.3)).0
@@ -290,8 +294,8 @@ names_serves fits all past opening k qs mid n now bytes kept f sent = by (makes_
     none : makes_call f.1.call ≡ false → NamesAfter past k (Serves n now bytes)
     none plain =
         let of = is_of_files f.1 (serves_fits (book_at opening k all) k qs n now bytes mid kept f) plain in
-        let tree : (server_step k.server (event.Got n (ask_message f.1) now)).0.tree ≡ k.server.tree = got_keeps (λ (z : server.State). z.tree ≡ k.server.tree) k.server n (ask_message f.1) now of (λ temps waiting index moment w. refl) in
-        let came : Waits k.server.waiting n (IsByCommit (ask_message f.1)) (server_step k.server (event.Got n (ask_message f.1) now)).0.waiting = got_keeps (λ (z : server.State). Waits k.server.waiting n (IsByCommit (ask_message f.1)) z.waiting) k.server n (ask_message f.1) now of (λ temps waiting index moment w. w) in
+        let tree : (server_step k.server (event.Got n (ask_message f.1) now)).0.tree ≡ k.server.tree = got_keeps (λ (z : server.State). z.tree ≡ k.server.tree) k.server n (ask_message f.1) now of (λ temps waiting index leasing w. refl) in
+        let came : Waits k.server.waiting n (IsByCommit (ask_message f.1)) (server_step k.server (event.Got n (ask_message f.1) now)).0.waiting = got_keeps (λ (z : server.State). Waits k.server.waiting n (IsByCommit (ask_message f.1)) z.waiting) k.server n (ask_message f.1) now of (λ temps waiting index leasing w. w) in
         record {
           now = inl (λ dir. ap (λ (s : server.State). names_of s.tree dir) server_is ∙ ap (λ (t : Tree). names_of t dir) tree);
           waiting = λ i c a there asks_. inl (elim came [
@@ -338,7 +342,7 @@ names_serves fits all past opening k qs mid n now bytes kept f sent = by (makes_
         standing = h.stands_is ∙ ap not (unhung x.0.hung refl)
 
         step_is : happens k (Serves n now bytes) ≡ server_got k n now x.0 (message.Call f.1.xid (body.Nfs (next_call w.0)))
-        step_is = ap (λ (o : Option Session). serves k n now bytes o) x.1 ∙ ap (λ (r : Result Message WireFault). serves_if k n now x.0 r) (read ∙ ap (λ (m : Message). Ok m) is)
+        step_is = ap (λ (o : Option Session). serves k n now bytes o) x.1 ∙ ap (λ (r : Result Message WireFault). serves_if k n now x.0 r) (read_here ∙ ap (λ (m : Message). Ok m) is)
 
         changes : ChangesNames (next_call w.0)
         changes = changes_made w.0.dir w.0.left w.0.goal w.2
@@ -365,7 +369,7 @@ names_serves fits all past opening k qs mid n now bytes kept f sent = by (makes_
         both : Turned k n f.1.xid (next_call w.0) (server.held k.server.waiting) (happens k (Serves n now bytes)) × Leaves k n f.1.xid w.0 (happens k (Serves n now bytes))
         both = subst (λ (t : CoreStep). Turned k n f.1.xid (next_call w.0) (server.held k.server.waiting) t × Leaves k n f.1.xid w.0 t) (sym step_is) (elim (making_is w.0.left w.0.goal w.2) [
           | inl built ↦ subst (λ (t : CoreStep). Turned k n f.1.xid (next_call w.0) (server.held k.server.waiting) t × Leaves k n f.1.xid w.0 t) (sym (got_making k n now x.0 f.1.xid w.0 fit.1 built standing)) (built_turned k n now x.0 f.1.xid w.0 built)
-          | inr going ↦ going_turned k n now x.0 f.1.xid w.0 fit.1 going standing kept.server.leases kept.server.bounded
+          | inr going ↦ going_turned k n now x.0 f.1.xid w.0 fit.1 going standing kept.server.bounded
         ])
 
     by : (b : Bool) → makes_call f.1.call ≡ b → NamesAfter past k (Serves n now bytes)
@@ -388,7 +392,7 @@ names_settles past book k qs now kept h = by (what_settles book k qs now kept)
         before : server.State
         before = at (record k.server { waiting = cs }) now
 
-        server_is : (happens k (Settles now)).core.server ≡ (makes_so (at (record k.server { waiting = cs }) now) false c c.what).0
+        server_is : (happens k (Settles now)).core.server ≡ (makes_change (at (record k.server { waiting = cs }) now) c c.what).0
         server_is = ap (λ (t : CoreStep). t.core.server) out.is
 
         left : (happens k (Settles now)).core.server.waiting ≡ cs
@@ -397,7 +401,7 @@ names_settles past book k qs now kept h = by (what_settles book k qs now kept)
         first : (w : Wanted) → c.what ≡ w → KeepsNames (moment k (Settles now)) ⊎ MakesNaming (past ++ moment k (Settles now) ∷ []) (moment k (Settles now))
         first (wanted.Content content) what = inl (λ dir.
             ap (λ (s : server.State). names_of s.tree dir) server_is
-            ∙ ap (λ (w : Wanted). names_of (makes_so (at (record k.server { waiting = cs }) now) false c w).0.tree dir) what
+            ∙ ap (λ (w : Wanted). names_of (makes_change (at (record k.server { waiting = cs }) now) c w).0.tree dir) what
             ∙ commits_names k.server.tree (server.held cs) c.file content dir)
         first (wanted.Asked a) what =
             let wants = subst (IsWanted c.file) what (kept.server.wants out.out.place c out.out.there) in
@@ -414,7 +418,12 @@ names_settles past book k qs now kept h = by (what_settles book k qs now kept)
 -- ---- any event
 
 names_event : FitLaws → (all past rest : List Moment) (opening : List Opening) (k : Core) (qs : List Queue) (e : Event) (mid after : List Queue) → Step all past rest opening k qs e mid after → UpsSent past k.steps qs → AreNamed past k → NamesAfter past k e
-names_event fits all past rest opening k qs (Serves n now bytes) mid after s sent h = names_serves fits all past opening k qs mid n now bytes s.kept s.finds sent
+names_event fits all past rest opening k qs (Serves n now bytes) mid after s sent h = by s.finds
+  where
+    -- by an answer to a RECALL nothing waits, and no name moves
+    by : Finds k qs (Serves n now bytes) mid → NamesAfter past k (Serves n now bytes)
+    by (inl f) = names_serves fits all past opening k qs mid n now bytes s.kept f sent
+    by (inr f) = after_still past k (Serves n now bytes) (subst (λ (t : CoreStep). IsStill k.server t.core.server) (sym (reply_taken fits k qs n now bytes mid f).1) (record { names = λ dir. refl; waiting = those_same k.server.waiting k.server.waiting refl }))
 names_event fits all past rest opening k qs (Settles now) mid after s sent h = names_settles past (book_at opening k all) k qs now s.kept h
 names_event fits all past rest opening k qs e mid after s sent h = after_still past k e (others_still k e (λ n now bytes z. absurd cc) (λ now z. absurd cc))
 
@@ -441,4 +450,4 @@ names_change book m (inr n) owned = (let w = own (owned n.takes.sent.moment n.ta
 
     own : IsSilent n.takes.sent.moment ⊎ ((k : ℕ) × (o : Op) × (slice_get book.ops k ≡ Some o) × (is_in o (step_of n.takes.sent.moment) (client_of n.takes.sent.moment.before n.takes.sent.moment.event) ≡ true)) → (k : ℕ) × (o : Op) × (slice_get book.ops k ≡ Some o) × (is_in o (step_of n.takes.sent.moment) (client_of n.takes.sent.moment.before n.takes.sent.moment.event) ≡ true)
     own (inr has) = has
-    own (inl silent) = absurd (none_sent (message.Call n.xid (body.Nfs n.takes.call)) (subst (λ (l : List Message). Contains l (message.Call n.xid (body.Nfs n.takes.call))) silent.2 n.takes.sent.sent))
+    own (inl silent) = absurd (none_sent (message.Call n.xid (body.Nfs n.takes.call)) (subst (λ (l : List Message). Contains l (message.Call n.xid (body.Nfs n.takes.call))) silent.2 (call_asked (happens n.takes.sent.moment.before n.takes.sent.moment.event).up n.xid (body.Nfs n.takes.call) n.takes.sent.sent)))

@@ -1,13 +1,15 @@
 -- A run carries that the calls of each session are numbered from 1 on, in the order in which they are sent.
 use Rattle.std.proofs.Common.{inl, inr, ◌≡◌, ℕ, zero, suc, ◌+◌, ◌-◌, ◌<◌, List, [], ◌∷◌, ◌++◌, length, Option, Some, None, Result, Ok, Bool, true, false, refl, sym, ap, ◌∙◌, subst, arith, append-nil, length-append, replicate}
 use Rattle.wire.specs.declared.message.Message.TheVariants as message
+use Rattle.client_state.specs.Noting.{at as at_clock}
 use Rattle.client_state.specs.State as client
 use Rattle.trace_replay.specs.Numbered.{numbers_among, numbers_if, numbers_by, numbers_of, CountOn}
 use Rattle.client_state.specs.declared.task.Stage.{Stage}
 use Rattle.client_state.specs.declared.task.Stage.TheVariants as stage
-use Rattle.kept_promise.proofs.Common.{nat_tests, slice_get, Chunk, Command, Body, Message, Pending, WireFault, names_from, names_all, calls_most, reads_from, reads_chunk, command_step, got_step, idle, took, Reads, ClientStep, Fetch, Stage, Store, Opening, Word, word_of, calls_among, Core, Seat, Session, Event, Event.Joins, Event.Does, Event.Hears, Event.Cuts, CoreStep, new_seat, new_session, joined, numbered, with_numbered, session_of, commanded_sessions, cut_session, is_newest, acted, does, joins, cuts_if, happens, Moment, Book, Queue, told_message}
+use Rattle.kept_promise.proofs.Common.{nat_tests, slice_get, Chunk, Command, Body, Message, Pending, WireFault, names_from, names_all, calls_most, reads_from, reads_chunk, command_step, got_step, idle, took, Reads, ClientStep, Fetch, Stage, Store, Opening, Word, word_of, calls_among, asked_in, Core, Seat, Session, Event, Event.Joins, Event.Does, Event.Hears, Event.Cuts, CoreStep, new_seat, new_session, joined, numbered, with_numbered, session_of, commanded_sessions, cut_session, is_newest, acted, does, joins, cuts_if, happens, Moment, Book, Queue, told_message}
 use Rattle.kept_promise.proofs.Lists.{some_is, nothing_there, within as inside}
 use Rattle.kept_promise.proofs.Facts.{IsKept}
+use Rattle.kept_promise.proofs.SendsCalls.{number_calls}
 use Rattle.kept_promise.proofs.RunsCarried.{book_at, moment, Step, Carried}
 use Rattle.kept_promise.proofs.Actors.{newest_is, heard_acts}
 use Rattle.kept_promise.proofs.Versions.{of_numbered}
@@ -82,18 +84,22 @@ answer_numbers s calls file (stage.Walking y w) x b = walk_cases (Numbers s) s c
   open_already = λ id k is. tt;
   fetches = λ id k shut none. (refl, tt);
   leases = λ id c k shut some. (refl, tt);
+  opens_now = λ id c k shut fresh. tt;
   renew_already = λ id k is. tt;
   renews = λ id k shut. (refl, tt);
+  empties_now = λ id c k shut fresh. tt;
   ends = λ w e k is. tt;
 })
-answer_numbers s calls file st x b = took_cases (λ found r. Numbers s r) s calls file st x b tt (took_numbers s calls file st x b)
+answer_numbers s calls file st x b = took_cases (λ found r. Numbers s r) s calls file st x b tt (λ found r g until lease is h. h) (took_numbers s calls file st x b)
 
 got_numbers : (s : client.State) (m : Result Message WireFault) (now : ℕ) → Numbers s (got_step s m now)
 got_numbers s m now = got_cases (Numbers s) s m now (record {
-  took = λ t is x b. answer_numbers (idle s) (client.calls_of s) t.file t.stage x b;
+  took = λ t is x b. answer_numbers (idle (at_clock s now)) (client.calls_of (at_clock s now)) t.file t.stage x b;
   memory = λ t is x. tt;
   bad = λ t is f. tt;
   off = λ none. tt;
+  recalled = λ xid file. tt;
+  greeted = λ xid. tt;
   forgot = λ x. tt;
   unfit = λ x r. tt;
   call = tt;
@@ -106,6 +112,8 @@ command_numbers s d now = command_cases (Numbers s) s d now (record {
   fetches = λ file is un may. (refl, tt);
   asks = λ file kept is un may at. (refl, tt);
   renews = λ file is un may. (refl, tt);
+  opens_now = λ file c is un shut fresh. tt;
+  empties_now = λ file c is un shut fresh. tt;
   walks = λ c is un may. (refl, tt);
   closes = λ file l is un may at. (refl, tt);
 })
@@ -128,16 +136,16 @@ of_more n (z ∷ past) m = ap (λ l. numbers_by n (happens z.before z.event) ++ 
     joined [] ys zs = refl
     joined (x ∷ xs) ys zs = ap (λ l. x ∷ l) (joined xs ys zs)
 
--- ---- nothing is sent
+-- ---- no call is sent
 
-none_by : (b : Bool) → numbers_if b [] ≡ []
-none_by true = refl
-none_by false = refl
+same_of : (n : ℕ) (past : List Moment) (m : Moment) → asked_in m ≡ [] → numbers_of n (past ++ m ∷ []) ≡ numbers_of n past
+same_of n past m silent = of_more n past m ∙ ap (λ l. numbers_of n past ++ l) (by (is_newest (happens m.before m.event).session n)) ∙ append-nil (numbers_of n past)
+  where
+    by : (b : Bool) → numbers_if b (happens m.before m.event).up ≡ []
+    by true = number_calls (happens m.before m.event).up ∙ ap numbers_among silent
+    by false = refl
 
-same_of : (n : ℕ) (past : List Moment) (m : Moment) → (happens m.before m.event).up ≡ [] → numbers_of n (past ++ m ∷ []) ≡ numbers_of n past
-same_of n past m silent = of_more n past m ∙ ap (λ l. numbers_of n past ++ l) (ap (numbers_if (is_newest (happens m.before m.event).session n)) silent ∙ none_by (is_newest (happens m.before m.event).session n)) ∙ append-nil (numbers_of n past)
-
-quiet : (past : List Moment) (m : Moment) (seats after : List Seat) (made more : ℕ) → (happens m.before m.event).up ≡ [] → more ≡ made
+quiet : (past : List Moment) (m : Moment) (seats after : List Seat) (made more : ℕ) → asked_in m ≡ [] → more ≡ made
     → ((i n : ℕ) (seat : Seat) → numbered after i ≡ Some seat → seat.session ≡ Some n → (j : ℕ) × (old : Seat) × (numbered seats j ≡ Some old) × (old.session ≡ Some n) × (seat.client.next_xid ≡ old.client.next_xid))
     → AreNumbered past seats made → AreNumbered (past ++ m ∷ []) after more
 quiet past m seats after made more silent count was h = record {
@@ -145,9 +153,6 @@ quiet past m seats after made more silent count was h = record {
   next = λ i n seat at on. let o = was i n seat at on in o.4 ∙ h.next o.0 n o.1 o.2 o.3 ∙ ap (λ (l : List ℕ). 1 + length l) (sym (same_of n past m silent));
   none = λ n lt. same_of n past m silent ∙ h.none n (omega (arith, lt, count));
 }
-
-same_seat : (seats : List Seat) (i n : ℕ) (seat : Seat) → numbered seats i ≡ Some seat → seat.session ≡ Some n → (j : ℕ) × (old : Seat) × (numbered seats j ≡ Some old) × (old.session ≡ Some n) × (seat.client.next_xid ≡ old.client.next_xid)
-same_seat seats i n seat at on = (i, seat, at, on, refl)
 
 -- ---- a client acts
 
@@ -254,7 +259,7 @@ numbers_lost past k c seat here h = quiet past (moment k (Cuts c)) k.seats _ (le
 
 numbers_event : FitLaws → (all past rest : List Moment) (opening : List Opening) (k : Core) (qs : List Queue) (e : Event) (mid after : List Queue) → Step all past rest opening k qs e mid after → At past k → At (past ++ moment k e ∷ []) (happens k e).core
 numbers_event fits all past rest opening k qs e mid after s h = event_turns fits all past rest opening k qs e mid after s (λ e t. At (past ++ moment k e ∷ []) t.core) (record {
-  idle = λ t i. subst (λ (l : List Seat). AreNumbered (past ++ moment k e ∷ []) l (length t.core.sessions)) (sym i.seats) (quiet past (moment k e) k.seats k.seats (length k.sessions) (length t.core.sessions) i.still.silent.2 i.count (same_seat k.seats) h);
+  idle = λ t i. quiet past (moment k e) k.seats t.core.seats (length k.sessions) (length t.core.sessions) i.still.silent.2 i.count (λ j n seat at on. let w = i.seats.was j seat at in (j, w.0, w.3, ap (λ (y : Seat). y.session) (sym w.4) ∙ on, ap (λ (y : Seat). y.client.next_xid) w.4)) h;
   joins = λ c seat is s here still. numbers_join past k c seat s.kept.made.0 here h;
   begins = λ c now d seat s here small left. acts past (moment k (Does c now d)) k.seats (length k.sessions) (length (does k c now d (Some seat)).core.sessions) c seat (command_step seat.client d now).0 _ (does k c now d (Some seat)) (ap (does k c now d) here) refl here (commanded_count k.sessions seat.session (session_of k.sessions seat.session) seat.place (length k.ops) (word_of d) (command_step seat.client d now).1) (within_at book k qs c seat s.kept here) (alone_at book k qs c seat s.kept here) (command_numbers seat.client d now) (command_number seat.client d now) h;
   hears = λ n now bytes s w left.
@@ -272,7 +277,7 @@ AllNumbered all past opening k qs = At past k
 
 pub carried_numbered : FitLaws → Carried AllNumbered
 carried_numbered fits = record {
-  first = λ all opening tree count kept. record { each = λ n. tt; next = λ i n seat at on. nothing_on i n seat count at on; none = λ n lt. refl };
+  first = λ all opening tree count kept. record { each = λ n. tt; next = λ i n seat at on. nothing_on i n seat count.drift count.count at on; none = λ n lt. refl };
   steps = λ all past rest opening k qs e mid after s h. numbers_event fits all past rest opening k qs e mid after s h;
   adjusts = λ all past opening k qs index seats same h. record {
     each = h.each;
@@ -282,11 +287,11 @@ carried_numbered fits = record {
 }
   where
     -- no client was at a session yet
-    at_none : (count k : ℕ) (seat : Seat) → slice_get (replicate count new_seat) k ≡ Some seat → seat.session ≡ None
-    at_none zero k seat at = nothing_there seat at
-    at_none (suc count) zero seat at = ap (λ (z : Seat). z.session) (sym (some_is new_seat seat at))
-    at_none (suc count) (suc k) seat at = at_none count k seat at
+    at_none : (drift count k : ℕ) (seat : Seat) → slice_get (replicate count (new_seat drift)) k ≡ Some seat → seat.session ≡ None
+    at_none drift zero k seat at = nothing_there seat at
+    at_none drift (suc count) zero seat at = ap (λ (z : Seat). z.session) (sym (some_is (new_seat drift) seat at))
+    at_none drift (suc count) (suc k) seat at = at_none drift count k seat at
 
-    nothing_on : (i n : ℕ) (seat : Seat) (count : ℕ) → numbered (replicate count new_seat) i ≡ Some seat → seat.session ≡ Some n → seat.client.next_xid ≡ 1 + length (numbers_of n [])
-    nothing_on zero n seat count at on = nothing_there seat at
-    nothing_on (suc i) n seat count at on = nothing_there n (sym (at_none count i seat at) ∙ on)
+    nothing_on : (i n : ℕ) (seat : Seat) (drift count : ℕ) → numbered (replicate count (new_seat drift)) i ≡ Some seat → seat.session ≡ Some n → seat.client.next_xid ≡ 1 + length (numbers_of n [])
+    nothing_on zero n seat drift count at on = nothing_there seat at
+    nothing_on (suc i) n seat drift count at on = nothing_there n (sym (at_none drift count i seat at) ∙ on)

@@ -1,28 +1,26 @@
 -- The number of a client's next call is one more than the calls that it sent on its connection.
 use Rattle.std.proofs.Common.{◌≡◌, ℕ, zero, suc, ◌+◌, ◌-◌, List, [], ◌∷◌, ◌++◌, length, Option, Some, None, Result, Bool, true, false, refl, sym, ap, ◌∙◌, arith, eq-eqb, ne_eqb}
-use Rattle.command_text.specs.declared.command.Command.TheVariants as command
 use Rattle.xdr_codec.specs.declared.status.Status.TheVariants as status
 use Rattle.hash_calls.specs.declared.call.Leased.{Leased}
 use Rattle.hash_calls.specs.declared.message.Lb.TheVariants as lb
 use Rattle.nfs3_calls.specs.declared.message.Nfs.TheVariants as nfs
 use Rattle.wire.specs.declared.message.Body.TheVariants as body
 use Rattle.chunk_index.specs.Index.{Indexed}
-use Rattle.client_cache.specs.Cache.{Entries, reserved, content_of}
-use Rattle.client_cache.specs.declared.kept.Content.{Content}
+use Rattle.client_cache.specs.Cache.{Entries, content_of}
 use Rattle.file_open.specs.Caching.{content_in, found_all}
 use Rattle.file_open.specs.Opening.{reads_chunk, looked_up}
+use Rattle.lease_rules.specs.Leases.{note_until}
+use Rattle.client_state.specs.Noting.{at as at_clock, noted, noted_until}
+use Rattle.client_state.specs.declared.noting.Granted.{Granted}
+use Rattle.open_close.specs.Step.{takes, lease_in, recalls}
 use Rattle.client_state.specs.State as client
-use Rattle.client_state.specs.declared.step.Outcome.TheVariants as outcome
 use Rattle.client_state.specs.declared.task.Stage.TheVariants as stage
 use Rattle.client_state.specs.declared.task.Way.TheVariants as way
 use Rattle.trace_replay.specs.Trail.{call_number}
-use Rattle.kept_promise.proofs.Common.{slice_get, ◌==◌, nat_lt, if◌then◌else◌, Chunk, content_length, content_bytes, Command, Answer, Done, Failed, Hashes, Piece, Body, Message, Pending, WireFault, names_from, names_next, names_more, names_all, is_stored, store_of, store_at, answered, local_most, written_size, written, truncated, calls_most, fetch_of, with_hashes, listed, reads_from, reads_more, reads_all, is_here, read_at, fault_in, other_version, with_bytes, Broken, broken_of, is_open, may_ask, asks_file, asks_kept, uses_kept, told_lease, opens_if, opens, on_local, too_big, done_with, edits, writes, truncates, reads, abandons, asks_temp, closes, command_step, idle, reads_if, reads_on, lists_on, told_shape, told_version, told_hashes, told_first, retries, misfits, told_bytes, told_chunk, told_piece, goes_if, goes_on, told_temp, sends_whole, told_named, told_whole, told_way, told_stored, took, got_step, ends, Names, Reads, BadPeer, ClientStep, Fetch, Local, ReadCall, Stage, Store, StoreCall, Task, Way, Moment, calls_among, sent_if, calls_by, calls_from}
-use Rattle.path_calls.specs.Walk.{begun}
+use Rattle.kept_promise.proofs.Common.{slice_get, ◌==◌, nat_lt, if◌then◌else◌, Chunk, Command, Answer, Done, Failed, Hashes, Piece, Body, Message, Pending, WireFault, names_from, names_next, names_more, names_all, is_stored, store_of, store_at, answered, calls_most, fetch_of, with_hashes, listed, reads_from, reads_more, reads_all, is_here, read_at, fault_in, other_version, with_bytes, Broken, broken_of, uses_kept, told_lease, closes, command_step, idle, reads_if, reads_on, lists_on, told_shape, told_version, told_hashes, told_first, retries, misfits, told_bytes, told_chunk, told_piece, goes_if, goes_on, told_temp, sends_whole, told_named, told_whole, told_way, told_stored, took, got_step, ends, Names, Reads, BadPeer, ClientStep, Fetch, ReadCall, Stage, Store, StoreCall, Way, Moment, calls_among, sent_if, calls_by, calls_from}
 use Rattle.path_calls.specs.declared.walk.Walk.{Walk}
-use Rattle.client_state.specs.Ending.{may_walk}
-use Rattle.open_close.specs.Walking.{walks, walks_if}
-use Rattle.kept_promise.proofs.StepCases.{reads_keep, walk_cases, got_cases}
-use Rattle.file_open.specs.Rewriting.{told_anew, asks_anew, rewrites_if, rewrites}
+use Rattle.kept_promise.proofs.StepCases.{reads_keep, IsOfFile, walk_cases, got_cases, command_cases}
+use Rattle.file_open.specs.Rewriting.{told_anew}
 
 -- ---- a client's step
 
@@ -162,32 +160,53 @@ walk_number s calls file asked w xid b = walk_cases (Numbers s) s calls file ask
   open_already = λ id k is. omega arith;
   fetches = λ id k shut none. refl;
   leases = λ id c k shut some. refl;
+  opens_now = λ id c k shut fresh. omega arith;
   renew_already = λ id k is. omega arith;
   renews = λ id k shut. refl;
+  empties_now = λ id c k shut fresh. omega arith;
   ends = λ w e k is. omega arith;
 })
 
+takes_number : (s : client.State) (calls : List Pending) (file : ℕ) (t : Stage) (xid : ℕ) (b : Body) → IsOfFile t → Numbers s (takes s calls file t xid b)
+takes_number s calls file (stage.Asking asked) xid (body.Lb (lb.GetLeaseAnswer a)) of = lease_number s calls file xid a
+takes_number s calls file (stage.Rewriting asked) xid (body.Lb (lb.GetLeaseAnswer a)) of = anew_number s calls file xid a
+takes_number s calls file (stage.Hashing tries asked) xid (body.Lb (lb.GetHashAnswer a)) of = first_numbers s calls file xid tries a
+takes_number s calls file (stage.Listing asked f) xid (body.Lb (lb.GetHashAnswer a)) of = hashes_number s calls file xid f a
+takes_number s calls file (stage.Reading f) xid (body.Nfs (nfs.ReadAnswer (Failed t a))) of = omega arith
+takes_number s calls file (stage.Reading f) xid (body.Nfs (nfs.ReadAnswer (Done piece))) of = piece_number s calls file xid f piece (read_at f.under xid)
+takes_number s calls file (stage.Making asked temp) xid (body.Lb (lb.MkTmpFileAnswer a)) of = temp_number s calls file xid temp (client.local_bytes s.opened file) a
+takes_number s calls file (stage.Storing st) xid b of = stored_number s calls file xid (client.local_bytes s.opened file) st b (store_at st.under xid)
+takes_number s calls file (stage.Committing asked) xid (body.Lb (lb.CommitTmpAnswer (Failed t u))) of = omega arith
+takes_number s calls file (stage.Committing asked) xid (body.Lb (lb.CommitTmpAnswer (Done c))) of = omega arith
+takes_number s calls file (stage.Walking asked w) xid b of = absurd of
+takes_number s calls file p xid b of = omega arith
+
+-- a note takes no number
+noted_number : (s : client.State) (sent file : ℕ) (g : Option Granted) → (noted s sent file g).next_xid ≡ s.next_xid
+noted_number s sent file None = refl
+noted_number s sent file (Some g) = by (note_until sent g.term s.drift)
+  where
+    by : (o : Option ℕ) → (noted_until s file g.version o).next_xid ≡ s.next_xid
+    by None = refl
+    by (Some until) = refl
+
 took_number : (s : client.State) (calls : List Pending) (file : ℕ) (t : Stage) (xid : ℕ) (b : Body) → Numbers s (took s calls file t xid b)
-took_number s calls file (stage.Asking asked) xid (body.Lb (lb.GetLeaseAnswer a)) = lease_number s calls file xid a
-took_number s calls file (stage.Rewriting asked) xid (body.Lb (lb.GetLeaseAnswer a)) = anew_number s calls file xid a
-took_number s calls file (stage.Hashing tries asked) xid (body.Lb (lb.GetHashAnswer a)) = first_numbers s calls file xid tries a
-took_number s calls file (stage.Listing asked f) xid (body.Lb (lb.GetHashAnswer a)) = hashes_number s calls file xid f a
-took_number s calls file (stage.Reading f) xid (body.Nfs (nfs.ReadAnswer (Failed t a))) = omega arith
-took_number s calls file (stage.Reading f) xid (body.Nfs (nfs.ReadAnswer (Done piece))) = piece_number s calls file xid f piece (read_at f.under xid)
-took_number s calls file (stage.Making asked temp) xid (body.Lb (lb.MkTmpFileAnswer a)) = temp_number s calls file xid temp (client.local_bytes s.opened file) a
-took_number s calls file (stage.Storing st) xid b = stored_number s calls file xid (client.local_bytes s.opened file) st b (store_at st.under xid)
-took_number s calls file (stage.Committing asked) xid (body.Lb (lb.CommitTmpAnswer (Failed t u))) = omega arith
-took_number s calls file (stage.Committing asked) xid (body.Lb (lb.CommitTmpAnswer (Done c))) = omega arith
 took_number s calls file (stage.Walking asked w) xid b = walk_number s calls file asked w xid b
-took_number s calls file p xid b = omega arith
+took_number s calls file t xid b = noted_number (takes s calls file t xid b).0 s.sent file (lease_in t b) ∙ takes_number s calls file t xid b tt
+
+recalled_number : (s : client.State) (xid : ℕ) (file : Option ℕ) → (recalls s file).next_xid ≡ s.next_xid
+recalled_number s xid None = refl
+recalled_number s xid (Some file) = refl
 
 -- whatever comes
 pub got_number : (s : client.State) (m : Result Message WireFault) (now : ℕ) → Numbers s (got_step s m now)
 got_number s m now = got_cases (Numbers s) s m now (record {
-  took = λ t is xid b. took_number (idle s) (client.calls_of s) t.file t.stage xid b;
+  took = λ t is xid b. took_number (idle (at_clock s now)) (client.calls_of (at_clock s now)) t.file t.stage xid b;
   memory = λ t is xid. omega arith;
   bad = λ t is f. omega arith;
   off = λ none. omega arith;
+  recalled = λ xid file. (let e = recalled_number (at_clock s now) xid file in omega (arith, e));
+  greeted = λ xid. omega arith;
   forgot = λ xid. omega arith;
   unfit = λ xid r. omega arith;
   call = omega arith;
@@ -195,71 +214,18 @@ got_number s m now = got_cases (Numbers s) s m now (record {
 
 -- ---- a command
 
-local_number : (s : client.State) (t : Option Task) (l : Option Local) (f : Local → client.State × ClientStep) → ((l : Local) → Numbers s (f l)) → Numbers s (on_local s t l f)
-local_number s (Some t) l f h = omega arith
-local_number s None None f h = omega arith
-local_number s None (Some l) f h = h l
-
-edits_number : (s : client.State) (file : ℕ) (l : Local) (size : ℕ) (content : List ℕ) → Numbers s (edits s file l size content)
-edits_number s file l size content = by (nat_lt local_most size)
-  where
-    by : (b : Bool) → Numbers s (if b then too_big s size else done_with s file l content)
-    by true = omega arith
-    by false = omega arith
-
-opens_number : (s : client.State) (file : ℕ) (t : Option Task) → Numbers s (opens s file t)
-opens_number s file (Some t) = omega arith
-opens_number s file None = by (is_open s.opened file)
-  where
-    kept : (o : Option Content) → Numbers s (asks_kept (record s { cache = reserved s.cache file }) file o)
-    kept None = refl
-    kept (Some c) = refl
-
-    asks : (b : Bool) → Numbers s (asks_file s file b)
-    asks true = kept (content_of s.cache file)
-    asks false = omega arith
-
-    by : (b : Bool) → Numbers s (opens_if s file b)
-    by true = omega arith
-    by false = asks (may_ask s)
-
-rewrites_number : (s : client.State) (file : ℕ) (t : Option Task) → Numbers s (rewrites s file t)
-rewrites_number s file (Some t) = omega arith
-rewrites_number s file None = by (is_open s.opened file)
-  where
-    asks : (b : Bool) → Numbers s (asks_anew s file b)
-    asks true = refl
-    asks false = omega arith
-
-    by : (b : Bool) → Numbers s (rewrites_if s file b)
-    by true = omega arith
-    by false = asks (may_ask s)
-
 pub command_number : (s : client.State) (d : Command) (now : ℕ) → Numbers s (command_step s d now)
-command_number s (command.Open file) now = opens_number s file s.task
-command_number s (command.Rewrite file) now = rewrites_number s file s.task
-command_number s (command.Write file offset content) now = local_number s s.task (client.local_at s.opened file) (writes s file offset content) (λ l. by l (content_length content == 0))
-  where
-    by : (l : Local) (b : Bool) → Numbers s (if b then (s, ends outcome.Done 0 0) else edits s file l (written_size (length l.bytes) offset (content_length content)) (written l.bytes offset (content_bytes content)))
-    by l true = omega arith
-    by l false = edits_number s file l (written_size (length l.bytes) offset (content_length content)) (written l.bytes offset (content_bytes content))
-command_number s (command.Trunc file size) now = local_number s s.task (client.local_at s.opened file) (truncates s file size) (λ l. edits_number s file l size (truncated l.bytes size))
-command_number s (command.Read file offset count) now = local_number s s.task (client.local_at s.opened file) (reads s offset count) (λ l. omega arith)
-command_number s (command.Close file) now = local_number s s.task (client.local_at s.opened file) (closes s file) (λ l. by (may_ask s))
-  where
-    by : (b : Bool) → Numbers s (asks_temp s file b)
-    by true = refl
-    by false = omega arith
-command_number s (command.Named c) now = by s.task
-  where
-    asks : (b : Bool) → Numbers s (walks_if s (begun c) b)
-    asks true = refl
-    asks false = omega arith
-
-    by : (t : Option Task) → Numbers s (walks s c t)
-    by (Some t) = omega arith
-    by None = asks (may_walk s (begun c))
-command_number s (command.Abandon file) now = local_number s s.task (client.local_at s.opened file) (abandons s file) (λ l. omega arith)
+command_number s d now = command_cases (Numbers s) s d now (record {
+  busy = λ t is. omega arith;
+  answers = λ free opened o plain. omega arith;
+  fetches = λ file is free may. refl;
+  asks = λ file c is free may at. refl;
+  renews = λ file is free may. refl;
+  opens_now = λ file c is free shut fresh. omega arith;
+  empties_now = λ file c is free shut fresh. omega arith;
+  walks = λ c is free may. refl;
+  closes = λ file l is free may at. refl;
+})
 
 -- ---- calls that were sent
 

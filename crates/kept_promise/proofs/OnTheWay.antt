@@ -7,7 +7,7 @@ use Rattle.server_rules.specs.declared.told.Told.{Told}
 use Rattle.server_rules.specs.declared.told.Told.TheVariants as told
 use Rattle.trace_ends.specs.Session.{new_session}
 use Rattle.trace_replay.specs.Chained.{Side, Up, Down, sent_on, sent_to, sent_by, is_shut, unless_shut, bytes_after, bytes_from, bytes_sent, Came}
-use Rattle.kept_promise.proofs.Common.{nat_tests, ◌==◌, fed, Unread, nothing_read, slice_get, parse_of, Message, WireFault, server_step, word_of, Core, Seat, Session, Event, Event.Joins, Event.Does, Event.Serves, Event.Hears, Event.Settles, Event.Cuts, Event.Hangs, CoreStep, Loss.Down_of, numbered, with_numbered, session_of, is_newest, joins, joins_as, does, serves, serves_if, hears, hears_at, hears_if, cuts, cuts_if, hangs, hangs_if, server_waiting, happens, World, Wire, new_wire, bytes_of, unless, up_put, down_put, down_lost, up_lost, lost_by, happened, Moment}
+use Rattle.kept_promise.proofs.Common.{nat_tests, ◌==◌, fed, Unread, nothing_read, slice_get, parse_of, Message, WireFault, server_step, word_of, Core, Seat, Session, Event, Event.Joins, Event.Does, Event.Serves, Event.Hears, Event.Settles, Event.Cuts, Event.Hangs, CoreStep, Loss.Down_of, numbered, with_numbered, session_of, is_newest, joins, joins_as, does, serves, serves_if, hears, hears_at, hears_if, cuts, cuts_if, hangs, hangs_if, server_waits, happens, World, Wire, new_wire, bytes_of, unless, up_put, down_put, down_lost, up_lost, lost_by, happened, Moment}
 use Rattle.kept_promise.proofs.Lists.{some_is, nothing_there, same_or_not, of_appended, count_more, within}
 use Rattle.kept_promise.proofs.Turns.{Around, around_with, also_numbered}
 use Rattle.kept_promise.proofs.Places.{at_place, becomes, there_is, none_is, own}
@@ -302,7 +302,7 @@ event_turned k ws (Serves n now bytes) count = by (numbered k.sessions n) refl
 
     by : (o : Option Session) → numbered k.sessions n ≡ o → TurnedBy k ws (serves k n now bytes o)
     by None at = turned_still k.sessions k.sessions ws count (stand_same k.sessions)
-    by (Some x) at = got x at (parse_of server_waiting bytes)
+    by (Some x) at = got x at (parse_of (server_waits k n) bytes)
 event_turned k ws (Hears n now bytes) count = by (numbered k.sessions n)
   where
     heard : (owner : ℕ) (seat : Seat) (b : Bool) → TurnedBy k ws (hears_if k owner now seat bytes b)

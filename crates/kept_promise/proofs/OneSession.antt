@@ -1,5 +1,6 @@
 -- A run carries that a client is at one session as long as an operation of it is under way.
 use Rattle.std.proofs.Common.{◌⊎◌, inl, inr, ◌≡◌, ℕ, List, [], ◌∷◌, ◌++◌, length, Option, Some, None, Ok, refl, sym, ap, ◌∙◌, subst, arith}
+use Rattle.client_state.specs.Noting.{at as at_clock}
 use Rattle.client_state.specs.State as client
 use Rattle.kept_promise.proofs.Common.{slice_get, Contains, Contains-push_cases, Command, ClientStep, Ended, command_step, Task, Op, Opening, Core, Seat, Event, numbered, with_numbered, place_with, place_after, does, got_step, told_message, happens, Moment, Queue}
 use Rattle.kept_promise.proofs.Actors.{job_place, job_task}
@@ -13,7 +14,7 @@ use Rattle.kept_promise.proofs.OpsAfter.{ops_after_event, stays_in}
 use Rattle.kept_promise.proofs.RunsCarried.{book_at, moment, Step, Carried}
 use Rattle.kept_promise.proofs.Shapes.{busy_command}
 use Rattle.kept_promise.proofs.Versions.{of_numbered}
-use Rattle.kept_promise.proofs.EventCases.{event_cases}
+use Rattle.kept_promise.proofs.EventCases.{old_job, event_cases}
 
 -- ---- what is said
 
@@ -79,13 +80,13 @@ told_with k c now d seat here matched = were_with k c then_ (λ j is. by j match
 
     by : (j : Job) → IsMatched seat → job then_ ≡ Some j → WasOn k c then_ j
     by j (inr (old, busy)) is =
-        let same : acts.0 ≡ seat.client = (busy_command seat.client d now (record { file = old.file; stage = old.stage }) (job_task seat.place seat.client.task old busy)).1 in
+        let same : acts.0 ≡ at_clock seat.client now = (busy_command seat.client d now (record { file = old.file; stage = old.stage }) (job_task seat.place seat.client.task old busy)).1 in
         inl (seat, j, here, job_stays seat old (length k.ops) busy j acts.1.ended (ap (λ (z : client.State). job_of (place_with seat.place (length k.ops) acts.1.ended) z.task) (sym same) ∙ is), refl, refl)
     by j (inl idle) is = inr (begins j acts.1.ended (ap (λ (l : Option ℕ). job_of (place_with l (length k.ops) acts.1.ended) acts.0.task) (sym idle.0) ∙ is))
 
 were_on : FitLaws → (all past rest : List Moment) (opening : List Opening) (k : Core) (qs : List Queue) (e : Event) (mid after : List Queue) → Step all past rest opening k qs e mid after → WereOn k (happens k e).core.seats
 were_on laws all past rest opening k qs e mid after s = event_cases laws all past rest opening k qs e mid after s (λ e t. WereOn k t.core.seats) (record {
-  still = λ t still. λ i z j at is. inl (z, j, still.jobs i z j at is, is, refl, refl);
+  still = λ t still. λ i z j at is. let w = still.jobs i z j at is in inl (w.0, j, w.3, old_job w.0 z w.1 w.2 j w.4 is, refl, ap (λ (y : Seat). y.session) (sym w.4));
   begins = λ c now d seat w here small left. told_with k c now d seat here (s.kept.seats c seat here).matched;
   hears = λ n now bytes s h left. (let r = got_step h.seat.client (Ok (told_message h.told)) now in acted_with k h.session.owner h.seat r.0 r.1 h.owner (s.kept.seats h.session.owner h.seat h.owner).matched);
   lost = λ c seat w here. idle_with k c _ refl;

@@ -1,10 +1,11 @@
 -- A fact of each operation, and of each that is under way, by what was said for it, in order: what is to be shown of its own turn. Whatever an event leaves alone is carried here, once.
 use Rattle.std.proofs.Common.{◌⊎◌, true, false, inl, inr, ◌≡◌, ℕ, ◌+◌, ◌<◌, List, [], ◌∷◌, ◌++◌, length, Option, Some, None, Ok, refl, sym, ap, ◌∙◌, subst, arith, map, Bool}
+use Rattle.client_state.specs.Noting.{at as at_clock}
 use Rattle.client_state.specs.State as client
 use Rattle.client_state.specs.declared.step.Outcome.TheVariants as outcome
 use Rattle.trace_ends.specs.Session.{taken_of as session_taken}
 use Rattle.trace_replay.specs.Trail.{given_by_message}
-use Rattle.kept_promise.proofs.Common.{slice_get, Command, ClientStep, Ended, ended_by, command_step, got_step, Stage, Task, Op, Opening, TakenCall, op_after, ops_with, place_after, place_with, Core, Seat, CoreStep, Event, Event.Does, Event.Hears, Event.Cuts, numbered, with_numbered, does, cuts_if, acted, session_of, happens, Moment, Book, Queue, told_message, owner_in, is_in, word_of, file_of, value_at_begin, wanted_by, Deal, Deal.Sent, deals_with, deals_in, deals_of, begun, has_point, point_if, taken_by, given_by}
+use Rattle.kept_promise.proofs.Common.{slice_get, Command, ClientStep, Ended, ended_by, command_step, got_step, Stage, Task, Op, Opening, TakenCall, op_after, ops_with, place_after, place_with, Core, Seat, CoreStep, Event, Event.Does, Event.Hears, Event.Cuts, numbered, with_numbered, does, cuts_if, acted, session_of, happens, Moment, calls_in, asked_in, reply_body, Book, Queue, told_message, owner_in, is_in, word_of, file_of, value_at_begin, wanted_by, Deal, Deal.Sent, deals_with, deals_in, deals_of, begun, has_point, point_if, taken_by, given_by}
 use Rattle.kept_promise.proofs.Lists.{some_is, nothing_there, of_appended, of_replaced, at_end, within}
 use Rattle.kept_promise.proofs.Messages.{Job, job, job_of}
 use Rattle.kept_promise.proofs.PathNames.{IsSmall}
@@ -19,7 +20,8 @@ use Rattle.kept_promise.proofs.Shapes.{busy_command}
 use Rattle.kept_promise.proofs.Versions.{of_numbered}
 use Rattle.kept_promise.proofs.Found.{command_finds}
 use Rattle.kept_promise.proofs.Logs.{ArePast, past_more, deals_more, deals_same, deals_silent, deals_alike, deals_apart, deals_own, deals_early, deals_filed}
-use Rattle.kept_promise.proofs.EventCases.{IsChange, Settled, cuts_silent, IsStill, event_cases}
+use Rattle.kept_promise.proofs.EventCases.{IsChange, Settled, cuts_silent, IsStill, old_job, event_cases}
+use Rattle.kept_promise.proofs.SendsCalls.{answer_calls, command_calls}
 use Rattle.kept_promise.proofs.Rights.{IsRight}
 use Rattle.trace_ends.specs.Ops.{file_with}
 use Rattle.register_model.specs.declared.op.Outcome.TheVariants as told
@@ -31,7 +33,8 @@ pub record IsNew (c : ℕ) (d : Command) (step : ℕ) (acts : ClientStep) (new :
   pub word : new.word ≡ word_of d
   pub file : new.file ≡ file_of d
   pub begin : new.begin ≡ step
-  pub point : new.point ≡ None
+  -- its point, if it has one yet, is its begin
+  pub point : (p : ℕ) → new.point ≡ Some p → p ≡ step
   pub here : is_in new step c ≡ true
   pub running : acts.ended ≡ None → new.outcome ≡ told.Running
   pub over : (e : ℕ) → new.end ≡ Some e → e ≡ step
@@ -39,17 +42,17 @@ pub record IsNew (c : ℕ) (d : Command) (step : ℕ) (acts : ClientStep) (new :
 pub is_new : (c : ℕ) (d : Command) (value : List ℕ) (step : ℕ) (s : client.State) (acts : ClientStep) → acts.found ≡ None → IsNew c d step acts (op_after (begun c (word_of d) (file_of d) value step) s [] step acts)
 is_new c d value step s acts none = by acts.ended
   where
-    pointless : (b : Bool) (x : ℕ) → point_if b [] x None ≡ None
-    pointless true x = refl
-    pointless false x = refl
+    pointed : (b : Bool) (x p : ℕ) → point_if b [] x step None ≡ Some p → p ≡ step
+    pointed true x p is = sym (some_is step p is)
+    pointed false x p is = nothing_there p is
 
     here : (e : Option Ended) → is_in (op_after (begun c (word_of d) (file_of d) value step) s [] step (record acts { ended = e })) step c ≡ true
     here None = grind (arith, Rattle.std.proofs.lemmas.Bool.Decides.nat_tests)
     here (Some e) = grind (arith, Rattle.std.proofs.lemmas.Bool.Decides.nat_tests)
 
     by : (e : Option Ended) → IsNew c d step (record acts { ended = e }) (op_after (begun c (word_of d) (file_of d) value step) s [] step (record acts { ended = e }))
-    by None = record { client = refl; word = refl; file = ap (file_with (file_of d)) none; begin = refl; point = refl; here = here None; running = λ z. refl; over = λ x z. nothing_there x z }
-    by (Some e) = record { client = refl; word = refl; file = ap (file_with (file_of d)) none; begin = refl; point = pointless (has_point (word_of d) e.outcome) e.rests_on; here = here (Some e); running = λ z. nothing_there e (sym z); over = λ x z. sym (some_is step x z) }
+    by None = record { client = refl; word = refl; file = ap (file_with (file_of d)) none; begin = refl; point = λ p z. nothing_there p z; here = here None; running = λ z. refl; over = λ x z. nothing_there x z }
+    by (Some e) = record { client = refl; word = refl; file = ap (file_with (file_of d)) none; begin = refl; point = λ p z. pointed (has_point (word_of d) e.outcome) e.rests_on p z; here = here (Some e); running = λ z. nothing_there e (sym z); over = λ x z. sym (some_is step x z) }
 
 -- what its operation took and sent, once an answer is heard
 pub heard_log : FitLaws → (opening : List Opening) (all past : List Moment) (k : Core) (qs : List Queue) (n now : ℕ) (bytes : List ℕ) (mid : List Queue) → IsKept (book_at opening k all) k qs → (h : Heard k qs n now bytes mid) → ArePast k.steps past → (p : ℕ) (o : Op) → h.seat.place ≡ Some p → slice_get k.ops p ≡ Some o
@@ -65,10 +68,11 @@ heard_log fits opening all past k qs n now bytes mid kept h before p o e at =
     ∙ ap (λ l. l ++ deals_in new (moment k (Hears n now bytes))) (deals_alike k.steps o new past (running_past o r.0 taken k.steps r.1 actor.1) before)
     ∙ ap (λ l. deals_of o past ++ l) (
     deals_own new (moment k (Hears n now bytes)) (ap (is_in new (k.steps + 1)) owner ∙ running_now o r.0 taken k.steps h.session.owner r.1 actor.0 actor.1 actor.2)
-    ∙ ap (λ i. deals_with (taken_by k i (Hears n now bytes)) (given_by k i (Hears n now bytes)) (happens k (Hears n now bytes)).up) owner
-    ∙ ap (λ l. deals_with l (given_by k h.session.owner (Hears n now bytes)) (happens k (Hears n now bytes)).up) (heard_takes fits book k qs n now bytes mid kept h)
-    ∙ ap (λ l. deals_with (wanted_by h.seat.client (Ok (told_message h.told))) l (happens k (Hears n now bytes)).up) (heard_gives fits book k qs n now bytes mid kept h)
-    ∙ ap (λ (t : CoreStep). deals_with (wanted_by h.seat.client (Ok (told_message h.told))) (given_by_message h.seat.client (Ok (told_message h.told))) t.up) (heard_acts fits book k qs n now bytes mid kept h)
+    ∙ ap (λ i. deals_with (taken_by k i (Hears n now bytes)) (given_by k i (Hears n now bytes)) (asked_in (moment k (Hears n now bytes)))) owner
+    ∙ ap (λ l. deals_with l (given_by k h.session.owner (Hears n now bytes)) (asked_in (moment k (Hears n now bytes)))) (heard_takes fits book k qs n now bytes mid kept h)
+    ∙ ap (λ l. deals_with (wanted_by h.seat.client (Ok (told_message h.told))) l (asked_in (moment k (Hears n now bytes)))) (heard_gives fits book k qs n now bytes mid kept h)
+    ∙ ap (λ (t : CoreStep). deals_with (wanted_by h.seat.client (Ok (told_message h.told))) (given_by_message h.seat.client (Ok (told_message h.told))) (calls_in t.up)) (heard_acts fits book k qs n now bytes mid kept h)
+    ∙ ap (deals_with (wanted_by h.seat.client (Ok (told_message h.told))) (given_by_message h.seat.client (Ok (told_message h.told)))) (answer_calls h.seat.client h.told.xid (reply_body h.told.reply) now)
     )
 
 -- ---- what is carried
@@ -131,11 +135,11 @@ module _ (P : Going) (E : Ending) (all past rest : List Moment) (opening : List 
 
   facts_still : (e : Event) (t : CoreStep) → IsStill k e t → HaveFacts P E (past ++ moment k e ∷ []) t.core
   facts_still e t s = record {
-    jobs = λ i seat j r now is at. let here = s.jobs i seat j now is in elim (settled_was k t.core.ops s.ops j.place r at) [
-      | inl old ↦ job_stays_so e j.place r j.stage (deals_silent r (moment k e) s.silent) old (h.jobs i seat j r here is old)
+    jobs = λ i seat j r now on at. let w = s.jobs i seat j now on in let here = w.3 in let is = old_job w.0 seat w.1 w.2 j w.4 on in elim (settled_was k t.core.ops s.ops j.place r at) [
+      | inl old ↦ job_stays_so e j.place r j.stage (deals_silent r (moment k e) s.silent) old (h.jobs i w.0 j r here is old)
       | inr (c, same, new) ↦ subst (λ (z : Op). P (past ++ moment k e ∷ []) (deals_of z (past ++ moment k e ∷ [])) j.place z j.stage) (sym new) (subst (λ (n : ℕ). P (past ++ moment k e ∷ []) (deals_of (changed c) (past ++ moment k e ∷ [])) n (changed c) j.stage) (sym same)
           (subst (λ (l : List Deal). P (past ++ moment k e ∷ []) l c.place (changed c) j.stage) (sym (quiet c)) (laws.stays e (deals_of c.op past) c.place (changed c) j.stage (within k.ops c.place c.op c.there)
-          (laws.changes t.core.ops c (deals_of c.op past) i seat j here is same (subst (λ (n : ℕ). P past (deals_of c.op past) n c.op j.stage) same (h.jobs i seat j c.op here is (ap (slice_get k.ops) same ∙ c.there)))))))
+          (laws.changes t.core.ops c (deals_of c.op past) i w.0 j here is same (subst (λ (n : ℕ). P past (deals_of c.op past) n c.op j.stage) same (h.jobs i w.0 j c.op here is (ap (slice_get k.ops) same ∙ c.there)))))))
     ];
     each = λ p r at. elim (settled_was k t.core.ops s.ops p r at) [
       | inl old ↦ op_stays_so e p r (deals_silent r (moment k e) s.silent) old
@@ -198,8 +202,8 @@ module _ (P : Going) (E : Ending) (all past rest : List Moment) (opening : List 
       is : IsNew c d (k.steps + 1) (command_step seat.client d now).1 (made_by k c now d seat (command_step seat.client d now).0 (command_step seat.client d now).1)
       is = is_new c d (value_at_begin seat.client (word_of d) (file_of d) (command_step seat.client d now).1.ended) (k.steps + 1) (command_step seat.client d now).0 (command_step seat.client d now).1 (command_finds seat.client d now small)
 
-      sent : (happens k (Does c now d)).up ≡ (command_step seat.client d now).1.send
-      sent = ap (λ (o : Option Seat). (does k c now d o).up) here
+      sent : asked_in (moment k (Does c now d)) ≡ (command_step seat.client d now).1.send
+      sent = ap (λ (o : Option Seat). calls_in (does k c now d o).up) here ∙ command_calls seat.client d now
 
       log_is : deals_of (made_by k c now d seat (command_step seat.client d now).0 (command_step seat.client d now).1) (past ++ moment k (Does c now d) ∷ []) ≡ map Sent (command_step seat.client d now).1.send
       log_is =
@@ -227,7 +231,7 @@ module _ (P : Going) (E : Ending) (all past rest : List Moment) (opening : List 
 
       own : IsMatched seat → (j : Job) (q : Op) → job (record seat { client = (command_step seat.client d now).0; place = place_with seat.place (length k.ops) (command_step seat.client d now).1.ended }) ≡ Some j → slice_get (k.ops ++ new ∷ []) j.place ≡ Some q → P (past ++ moment k (Does c now d) ∷ []) (deals_of q (past ++ moment k (Does c now d) ∷ [])) j.place q j.stage
       own (inr (old, was)) j q on at =
-          let same : (command_step seat.client d now).0 ≡ seat.client = (busy_command seat.client d now (record { file = old.file; stage = old.stage }) (job_task seat.place seat.client.task old was)).1 in
+          let same : (command_step seat.client d now).0 ≡ at_clock seat.client now = (busy_command seat.client d now (record { file = old.file; stage = old.stage }) (job_task seat.place seat.client.task old was)).1 in
           old_job c seat j q here (job_stays seat old (length k.ops) was j (command_step seat.client d now).1.ended (ap (λ (z : client.State). job_of (place_with seat.place (length k.ops) (command_step seat.client d now).1.ended) z.task) (sym same) ∙ on)) at
       own (inl free) j q on at = begins (command_step seat.client d now).1.ended refl (ap (λ (l : Option ℕ). job_of (place_with l (length k.ops) (command_step seat.client d now).1.ended) (command_step seat.client d now).0.task) (sym free.0) ∙ on)
         where

@@ -129,6 +129,7 @@ lists_come book k qs n x q t ts j g f h may = subst (λ b. Comes book k qs n x q
       forgotten = c.forgotten;
       cache = c.cache;
       index = c.index;
+      sent = c.clock;
       asks = hash_ask c.next_xid j.file (end_of after.chunks) ∷ [];
       shows = goes_hash book k qs n x q t ts j g s (end_of after.chunks) c.forgotten may.quiet (sym may.word) (λ y. refl) (λ y e2. absurd cc) (λ y e2. nothing_there y e2) (λ u e2. absurd cc) refl moves small ends (fetch_on book x.taken j s after next.fetch, may.bare.0, may.bare.1) tt (λ m y e2. absurd cc) (xids (next.more e)) bound may.word;
       cached = (g.kept.seats x.owner is.seat is.owner).kept;
@@ -319,6 +320,7 @@ comes_leased book k qs n x q t ts j g a at e = by a (subst (AnswerOf book x.take
       forgotten = forgotten;
       cache = c.cache;
       index = c.index;
+      sent = c.clock;
       asks = hash_ask c.next_xid j.file 0 ∷ [];
       shows = goes_hash book k qs n x q t ts j g s 0 forgotten quiet (sym word) (λ y. refl) (λ y e. absurd cc) (λ y e. nothing_there y e) (λ f e. absurd cc) refl moves (file_small book k qs j.file g.kept told.known) (omega arith) tt tt (λ m y e. begun m (ap tries_of e)) (3, refl, (let r = room in omega (arith, r))) (let r = room in omega (arith, r)) word;
       cached = (g.kept.seats x.owner h.seat h.owner).kept;

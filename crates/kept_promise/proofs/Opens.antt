@@ -18,13 +18,19 @@ use Rattle.register_model.specs.declared.op.Word.{Word}
 use Rattle.register_model.specs.declared.op.Word.TheVariants as words
 use Rattle.trace_replay.specs.Faithful.{FindsOpen}
 use Rattle.trace_ends.specs.Ops.{file_with}
-use Rattle.kept_promise.proofs.Common.{word_of, slice_get, option_map, is_some, Body, Message, Pending, WireFault, Command, command_step, idle, took, got_step, ClientStep, Ended, Outcome, Local, Stage, Task, TakenCall, Op, Seat, numbered, with_numbered, place_with, place_after, op_after, op_ended, ops_with, counted, told_of, Deed, can_ask, is_busy, after_one, local_from, local_before, own_answer}
+use Rattle.kept_promise.proofs.Common.{word_of, slice_get, option_map, is_some, Body, Message, Pending, WireFault, Command, command_step, idle, took, got_step, ClientStep, Ended, Outcome, Local, Stage, Task, TakenCall, Op, Seat, numbered, with_numbered, place_with, place_after, op_after, op_ended, ops_with, counted, told_of, Deed, can_go, is_busy, after_one, local_from, local_before, own_answer}
 use Rattle.kept_promise.proofs.Lists.{some_is, nothing_there, same_or_not, of_appended, within}
 use Rattle.kept_promise.proofs.Messages.{Job, job, job_of}
 use Rattle.kept_promise.proofs.Turns.{around_with}
 use Rattle.kept_promise.proofs.JobFacts.{ops_shape}
 use Rattle.kept_promise.proofs.Leaving.{EndsWith}
 use Rattle.kept_promise.proofs.StepCases.{IsOfFile, Cases, took_cases, walk_cases, command_cases, got_cases}
+use Rattle.wire.specs.declared.message.Message.TheVariants as message
+use Rattle.wire.specs.declared.message.Body.TheVariants as body
+use Rattle.hash_calls.specs.declared.message.Back.TheVariants as back
+use Rattle.client_state.specs.Noting.{at as clocked}
+use Rattle.client_state.specs.Counting.{sends_one}
+use Rattle.open_close.specs.Step.{recalls}
 use Rattle.kept_promise.proofs.Locally.{Idles, local_idle}
 use Rattle.kept_promise.proofs.Deeds.{also_there, IsOnNames, Came, IsDeed, local_of, HasDeeds, Moved, AllMoved, local_before_same, before_more, busy_behind}
 use Rattle.kept_promise.proofs.Ways.{job_parts, InDeeds}
@@ -130,11 +136,11 @@ opens_moved step ds ops rs seats h moved fresh i d r at is =
     by w.0 w.1 (moved.each i w.0 r w.1 is) (h.each i d w.0 at w.1) (is_busy ops w.0) refl (h.each i d w.0 at w.1).came
   where
     by : (o : Op) → slice_get ops i ≡ Some o → Moved step o r → IsDeed ds ops i d o → (b : Bool) → is_busy ops o ≡ b
-        → Came d o (local_before ds ops i d.client (Rattle.trace_ends.specs.Commands.file_of d.command)) (own_answer (is_busy ops o) (can_ask d.joined d.calls) d.command (local_before ds ops i d.client (Rattle.trace_ends.specs.Commands.file_of d.command)))
+        → Came d o (local_before ds ops i d.client (Rattle.trace_ends.specs.Commands.file_of d.command)) (own_answer (is_busy ops o) (can_go d) d.command (local_before ds ops i d.client (Rattle.trace_ends.specs.Commands.file_of d.command)))
         → FindsBy d.command r.outcome (local_before ds rs i d.client r.file)
     by o there m deed false e came = subst (λ (l : Option (List ℕ)). FindsBy d.command r.outcome l) (sym (local_before_same step ds ops rs i d o r.file h.rising h.each moved at there e)) (fresh i d r at is)
     by o there m deed true e came =
-        let busy : Came d o (local_before ds ops i d.client (Rattle.trace_ends.specs.Commands.file_of d.command)) (Some told.Busy) = subst (λ (b : Bool). Came d o (local_before ds ops i d.client (Rattle.trace_ends.specs.Commands.file_of d.command)) (own_answer b (can_ask d.joined d.calls) d.command (local_before ds ops i d.client (Rattle.trace_ends.specs.Commands.file_of d.command)))) e came in
+        let busy : Came d o (local_before ds ops i d.client (Rattle.trace_ends.specs.Commands.file_of d.command)) (Some told.Busy) = subst (λ (b : Bool). Came d o (local_before ds ops i d.client (Rattle.trace_ends.specs.Commands.file_of d.command)) (own_answer b (can_go d) d.command (local_before ds ops i d.client (Rattle.trace_ends.specs.Commands.file_of d.command)))) e came in
         let same : r.outcome ≡ told.Busy = (m.ended o.begin busy.1).1 ∙ busy.0 in
         subst (λ (u : Told). FindsBy d.command u (local_before ds rs i d.client r.file)) (sym same) (finds_busy d.command (local_before ds rs i d.client r.file))
 
@@ -239,6 +245,12 @@ end_not _ e = absurd cc
 bad_not : (f : Rattle.client_state.specs.declared.step.BadPeer.BadPeer) → outcome.BadPeer f ≡ outcome.AlreadyOpen → ⊥
 bad_not f e = absurd cc
 
+opened_not : (file len : ℕ) (digest : List ℕ) → outcome.Opened file len digest ≡ outcome.AlreadyOpen → ⊥
+opened_not file len digest e = absurd cc
+
+done_not : outcome.Done ≡ outcome.AlreadyOpen → ⊥
+done_not e = absurd cc
+
 memory_not : outcome.PeerMemory ≡ outcome.AlreadyOpen → ⊥
 memory_not e = absurd cc
 
@@ -249,6 +261,8 @@ took_leads s calls file y w xid b = walk_cases (Leads s) s calls file y w xid b 
   open_already = λ id is o. record { shut = λ u at known. nothing_there u at; open_ = λ e at already. (id, refl, o) };
   fetches = λ id is shut e. fetching s _ _ refl shut refl;
   leases = λ id c is shut e. fetching s _ _ refl shut refl;
+  opens_now = λ id c is shut e. over s _ _ refl refl (opened_not id (Rattle.std.proofs.Common.length c.bytes) _);
+  empties_now = λ id c is shut e. over s _ _ refl refl done_not;
   renew_already = λ id is o. record { shut = λ u at known. nothing_there u at; open_ = λ e at already. (id, refl, o) };
   renews = λ id is shut. fetching s _ _ refl shut refl;
   ends = λ v e is same. over s _ _ refl refl (end_not e);
@@ -257,15 +271,21 @@ took_leads s calls file y w xid b = walk_cases (Leads s) s calls file y w xid b 
 pub walk_leads : (s : client.State) (m : Result Message WireFault) (now : ℕ) (t : Task) (y : ℕ) (w : Walk) → s.task ≡ Some t → t.stage ≡ stage.Walking y w → Leads s (got_step s m now)
 walk_leads s m now t y w at is = got_cases (Leads s) s m now (record {
   took = λ u same xid b.
-      let h = took_leads (idle s) (client.calls_of s) t.file y w xid b in
-      subst (λ (z : Task). Leads s (took (idle s) (client.calls_of s) z.file z.stage xid b)) (some_is t u (sym at ∙ same)) (subst (λ (st : Stage). Leads s (took (idle s) (client.calls_of s) t.file st xid b)) (sym is) (record { shut = h.shut; open_ = h.open_ }));
+      let h = took_leads (idle (clocked s now)) (client.calls_of s) t.file y w xid b in
+      subst (λ (z : Task). Leads s (took (idle (clocked s now)) (client.calls_of s) z.file z.stage xid b)) (some_is t u (sym at ∙ same)) (subst (λ (st : Stage). Leads s (took (idle (clocked s now)) (client.calls_of s) t.file st xid b)) (sym is) (record { shut = h.shut; open_ = h.open_ }));
   memory = λ u same xid. over s _ _ refl refl memory_not;
   bad = λ u same f. over s _ _ refl refl (bad_not f);
   off = λ none. nothing_there t (sym none ∙ at);
   forgot = λ xid. on s _ t y w at is refl;
+  recalled = λ xid o. back_by o xid;
+  greeted = λ xid. on s _ t y w at is refl;
   unfit = λ xid r. on s _ t y w at is refl;
   call = on s _ t y w at is refl;
 })
+  where
+    back_by : (o : Option ℕ) (xid : ℕ) → Leads s (recalls (clocked s now) o, sends_one (message.Answer xid (body.Back back.RecallAnswer)) 0)
+    back_by None xid = on s _ t y w at is refl
+    back_by (Some f) xid = on s _ t y w at is refl
 
 -- ---- a fetch goes on as one of its file
 
@@ -292,17 +312,23 @@ file_cases s calls file st x b = record {
 
 pub keeps_file : (s : client.State) (m : Result Message WireFault) (now : ℕ) (t : Task) → s.task ≡ Some t → IsOfFile t.stage → KeepsFile t.file (got_step s m now)
 keeps_file s m now t at known = got_cases (KeepsFile t.file) s m now (record {
-  took = λ u is xid b. subst (λ (z : Task). KeepsFile t.file (took (idle s) (client.calls_of s) z.file z.stage xid b)) (some_is t u (sym at ∙ is)) (took_cases (λ found r. KeepsFile t.file r) (idle s) (client.calls_of s) t.file t.stage xid b known (file_cases (idle s) (client.calls_of s) t.file t.stage xid b));
+  took = λ u is xid b. subst (λ (z : Task). KeepsFile t.file (took (idle (clocked s now)) (client.calls_of s) z.file z.stage xid b)) (some_is t u (sym at ∙ is)) (took_cases (λ found r. KeepsFile t.file r) (idle (clocked s now)) (client.calls_of s) t.file t.stage xid b known (λ found r g until lease is h. h) (file_cases (idle (clocked s now)) (client.calls_of s) t.file t.stage xid b));
   memory = λ u is xid v e. nothing_there v e;
   bad = λ u is f v e. nothing_there v e;
   off = λ none. same;
   forgot = λ xid. same;
+  recalled = λ xid o. back_by o;
+  greeted = λ xid. same;
   unfit = λ xid r. same;
   call = same;
 })
   where
     same : (u : Task) → s.task ≡ Some u → u.file ≡ t.file
     same u e = sym (ap (λ (z : Task). z.file) (some_is t u (sym at ∙ e)))
+
+    back_by : (o : Option ℕ) (u : Task) → (recalls (clocked s now) o).task ≡ Some u → u.file ≡ t.file
+    back_by None = same
+    back_by (Some f) = same
 
 -- ---- jobs
 
@@ -329,16 +355,18 @@ shut_acted ds seats c seat s acts h here goes z x j e at is there names known = 
 
 -- what a command shows
 pub record Begins (s : client.State) (d : Command) (r : client.State × ClientStep) : Type 0 where
-  pub busy : (t : Task) → s.task ≡ Some t → r.0 ≡ s
+  pub busy : (t : Task) → s.task ≡ Some t → (r.0.opened ≡ s.opened) × (r.0.task ≡ s.task)
   pub walks : (u : Task) → s.task ≡ None → r.0.task ≡ Some u → IsOnNames d → IsOfFile u.stage → ⊥
 
 pub command_begins : (s : client.State) (d : Command) (now : ℕ) → Begins s d (command_step s d now)
 command_begins s d now = command_cases (Begins s d) s d now (record {
-  busy = λ t e. record { busy = λ x at. refl; walks = λ u free at names known. nothing_there t (sym free ∙ e) };
+  busy = λ t e. record { busy = λ x at. (refl, refl); walks = λ u free at names known. nothing_there t (sym free ∙ e) };
   answers = λ free opened o plain. record { busy = λ x at. nothing_there x (sym free ∙ at); walks = λ u none at names known. nothing_there u (sym free ∙ at) };
   fetches = λ file is free may. record { busy = λ x at. nothing_there x (sym free ∙ at); walks = λ u none at names known. absurd (subst IsOnNames is names) };
   asks = λ file c is free may has. record { busy = λ x at. nothing_there x (sym free ∙ at); walks = λ u none at names known. absurd (subst IsOnNames is names) };
   renews = λ file is free may. record { busy = λ x at. nothing_there x (sym free ∙ at); walks = λ u none at names known. absurd (subst IsOnNames is names) };
+  opens_now = λ file c is free shut fresh. record { busy = λ x at. nothing_there x (sym free ∙ at); walks = λ u none at names known. absurd (subst IsOnNames is names) };
+  empties_now = λ file c is free shut fresh. record { busy = λ x at. nothing_there x (sym free ∙ at); walks = λ u none at names known. absurd (subst IsOnNames is names) };
   walks = λ c is free may. record { busy = λ x at. nothing_there x (sym free ∙ at); walks = λ u none at names known. subst (λ (z : Task). IsOfFile z.stage → ⊥) (some_is _ u at) (λ h. h) known };
   closes = λ file l is free may has. record { busy = λ x at. nothing_there x (sym free ∙ at); walks = λ u none at names known. absurd (subst IsOnNames is names) };
 })
@@ -368,9 +396,9 @@ shut_added ds seats c n seat d r h inside here count occupied free begins z x j 
     own : (l : Option ℕ) → seat.place ≡ l → job_of (place_with seat.place n r.1.ended) r.0.task ≡ Some j → local_of r.0 j.file ≡ None
     own (Some p) place is =
         let t = occupied p place in
-        let same : r.0 ≡ seat.client = begins.busy t.0 t.1 in
-        ap (λ (s : client.State). local_of s j.file) same
-        ∙ old_shut ds seats d h inside c seat j e here (ap (λ (l : Option ℕ). job_of l seat.client.task) place ∙ ap (λ (s : client.State). job_of (Some p) s.task) (sym same) ∙ ap (λ (l : Option ℕ). job_of l r.0.task) (sym (ap (λ (m : Option ℕ). place_with m n r.1.ended) place)) ∙ is) there names known
+        let same = begins.busy t.0 t.1 in
+        ap (λ (o : List (ℕ × Local)). option_map (λ (l : Local). l.bytes) (client.local_at o j.file)) same.0
+        ∙ old_shut ds seats d h inside c seat j e here (ap (λ (l : Option ℕ). job_of l seat.client.task) place ∙ ap (job_of (Some p)) (sym same.1) ∙ ap (λ (l : Option ℕ). job_of l r.0.task) (sym (ap (λ (m : Option ℕ). place_with m n r.1.ended) place)) ∙ is) there names known
     own None place is =
         let q = job_parts (place_with seat.place n r.1.ended) r.0.task j is in
         let at : j.place ≡ n = by r.1.ended (sym (ap (λ (m : Option ℕ). place_with m n r.1.ended) place) ∙ q.0) in
@@ -386,18 +414,18 @@ shut_added ds seats c n seat d r h inside here count occupied free begins z x j 
 -- ---- a new operation
 
 named_ends : (s : client.State) (k : PathCommand) (now : ℕ) (e : Ended) (l : Option (List ℕ)) → (command_step s (command.Named k) now).1.ended ≡ Some e → FindsFor (path_word k) (told_of e.outcome) l
-named_ends s k now e l is = by s.task (may_walk s (walk_begun k)) is
+named_ends s k now e l is = by s.task (may_walk (clocked s now) (walk_begun k)) is
   where
     found : (x : Ended) → ◌≡◌ {A = Option Ended} (Some x) (Some e) → FindsFor (path_word k) (told_of x.outcome) l → FindsFor (path_word k) (told_of e.outcome) l
     found x at h = subst (λ (z : Ended). FindsFor (path_word k) (told_of z.outcome) l) (some_is x e at) h
 
-    walked : (b : Bool) → (walks_if s (walk_begun k) b).1.ended ≡ Some e → FindsFor (path_word k) (told_of e.outcome) l
+    walked : (b : Bool) → (walks_if (clocked s now) (walk_begun k) b).1.ended ≡ Some e → FindsFor (path_word k) (told_of e.outcome) l
     walked true at = nothing_there e at
     walked false at = found _ at tt
 
-    by : (t : Option Task) (b : Bool) → (walks s k t).1.ended ≡ Some e → FindsFor (path_word k) (told_of e.outcome) l
+    by : (t : Option Task) (b : Bool) → (walks (clocked s now) k t).1.ended ≡ Some e → FindsFor (path_word k) (told_of e.outcome) l
     by (Some t) b at = found _ at tt
-    by None b at = walked (may_walk s (walk_begun k)) at
+    by None b at = walked (may_walk (clocked s now) (walk_begun k)) at
 
 pub new_opens : (s : client.State) (d : Command) (now : ℕ) (o : Op) (taken : List TakenCall) (step : ℕ) → o.outcome ≡ told.Running → (t : client.State) → (l : Option (List ℕ)) → FindsBy d (op_after o t taken step (command_step s d now).1).outcome l
 new_opens s d now o taken step running t l = finds_by d (op_after o t taken step (command_step s d now).1).outcome l (by d)

@@ -12,7 +12,7 @@ use Rattle.register_model.specs.declared.op.Outcome.{Outcome as History}
 use Rattle.register_model.specs.declared.op.Outcome.TheVariants as told
 use Rattle.register_model.specs.declared.op.Word.TheVariants as words
 use Rattle.trace_replay.specs.Fetches.{Fetched, no_fetch, fetch_if, fetch_with, fetch_from, last_fetch, over_from, lengths_of, AllReach, EachReaches, ReachesAll, GotBy, read_traffic}
-use Rattle.kept_promise.proofs.Common.{Deal.Sent, Deal.Found, nat_tests, ◌==◌, slice_get, slice_set, Chunk, Done, Hashes, Body, Message, Pending, lease_call, hash_call, with_hashes, with_pairs, is_none, without_read, fault_in, idle, took, ClientStep, Ended, Fetch, Stage, Task, Op, Word, TakenCall, op_after, told_of, has_point, point_if, taken_at, no_traffic, Moment, hashed_of, Deal, Deal.Took, deals_with, deals_of, IsOpened, Book, Or, Collides, value_at}
+use Rattle.kept_promise.proofs.Common.{unwrap_or, Deal.Sent, Deal.Found, nat_tests, ◌==◌, slice_get, slice_set, Chunk, Done, Hashes, Body, Message, Pending, lease_call, hash_call, with_hashes, with_pairs, is_none, without_read, fault_in, idle, took, ClientStep, Ended, Fetch, Stage, Task, Op, Word, TakenCall, op_after, told_of, has_point, point_if, taken_at, no_traffic, Moment, hashed_of, Deal, Deal.Took, deals_with, deals_of, Book, Collides, value_at}
 use Rattle.kept_promise.proofs.Lists.{some_is, nothing_there, both_true}
 use Rattle.kept_promise.proofs.Messages.{Job, stage_word, IsFetch}
 use Rattle.kept_promise.proofs.Rights.{AreLeased, IsOpenedIf, Caused}
@@ -364,14 +364,14 @@ opens_heard book more taken j o p s x b a log h = record {
     known = a.known
 
     gets : Gets log x b j.stage (found_in s j.file j.stage x b) (took (idle s) (client.calls_of s) j.file j.stage x b)
-    gets = took_cases (Gets log x b j.stage) (idle s) (client.calls_of s) j.file j.stage x b known (of_opens (Gets log x b j.stage) (idle s) (client.calls_of s) j.file j.stage x b known (gets_cases log (idle s) (client.calls_of s) j.file o.value j.stage x b (subst (λ f. OpensBy log f o.value j.stage) a.taking.file h) a.apart))
+    gets = took_cases (Gets log x b j.stage) (idle s) (client.calls_of s) j.file j.stage x b known (λ found r g until lease is z. z) (of_opens (Gets log x b j.stage) (idle s) (client.calls_of s) j.file j.stage x b known (gets_cases log (idle s) (client.calls_of s) j.file o.value j.stage x b (subst (λ f. OpensBy log f o.value j.stage) a.taking.file h) a.apart))
 
-    point_is : (l : Option Ended) (e : Ended) (file len : ℕ) (digest : List ℕ) (q : ℕ) → l ≡ Some e → e.outcome ≡ outcome.Opened file len digest → o.word ≡ words.Open → (op_after o r.0 taken (book.steps + 1) (record r.1 { ended = l })).point ≡ Some q → taken_at taken e.rests_on ≡ Some q
+    point_is : (l : Option Ended) (e : Ended) (file len : ℕ) (digest : List ℕ) (q : ℕ) → l ≡ Some e → e.outcome ≡ outcome.Opened file len digest → o.word ≡ words.Open → (op_after o r.0 taken (book.steps + 1) (record r.1 { ended = l })).point ≡ Some q → Some (unwrap_or (taken_at taken e.rests_on) (book.steps + 1)) ≡ Some q
     point_is None e file len digest q is opened word point = nothing_there e is
     point_is (Some y) e file len digest q is opened word point =
-        ap (λ w. point_if (has_point w (outcome.Opened file len digest)) taken e.rests_on o.point) (sym word)
-        ∙ ap (λ u. point_if (has_point o.word u) taken e.rests_on o.point) (sym opened)
-        ∙ ap (λ (z : Ended). point_if (has_point o.word z.outcome) taken z.rests_on o.point) (sym (some_is y e is))
+        ap (λ w. point_if (has_point w (outcome.Opened file len digest)) taken e.rests_on (book.steps + 1) o.point) (sym word)
+        ∙ ap (λ u. point_if (has_point o.word u) taken e.rests_on (book.steps + 1) o.point) (sym opened)
+        ∙ ap (λ (z : Ended). point_if (has_point o.word z.outcome) taken z.rests_on (book.steps + 1) o.point) (sym (some_is y e is))
         ∙ point
 
     outcome_is : (l : Option Ended) (u : History) → l ≡ None → (op_after o r.0 taken (book.steps + 1) (record r.1 { ended = l })).outcome ≡ u → u ≡ told.Running
@@ -395,7 +395,7 @@ opens_heard book more taken j o p s x b a log h = record {
           | inl bare ↦ inl bare
           | inr (f, bytes, now, one, all, rests) ↦
               let h = a.fetched f bytes now in
-              let c = opened_content book more taken j o new p len digest f a.taking a.ops a.moments cause.0 (file_stays o r.0 taken (book.steps + 1) r.1 a.finds) cause.1 (sym a.taking.word ∙ word) h.0 (λ q at. ap (taken_at taken) (sym rests) ∙ point_is r.1.ended e opened.0 len digest q is opened.1 word at) in
+              let c = opened_content book more taken j o new p len digest f a.taking a.ops a.moments cause.0 (file_stays o r.0 taken (book.steps + 1) r.1 a.finds) cause.1 (sym a.taking.word ∙ word) h.0 (λ q at. h.0.told.was ∙ sym (ap (λ (z : Option ℕ). Some (unwrap_or z (book.steps + 1))) (ap (taken_at taken) rests ∙ h.0.told.was)) ∙ point_is r.1.ended e opened.0 len digest q is opened.1 word at) in
               inr (
                 one,
                 (
@@ -420,6 +420,7 @@ opens_laws all = record {
   walks = λ log file v x w h. h;
   walked = λ log file v x w h. h;
   none = λ w file v u un same log names. (nothing w log names, other log v u un);
+  now = λ log file v len digest names. (nothing words.Open log names, inl (let n = names_count log names in (n.begins, n.asked, n.came)));
   asks = λ log names x file v. asked log names x file;
   opens = λ log names x file v. begun log names x file;
   renews = λ log names x file v. tt;

@@ -8,6 +8,7 @@ use Rattle.register_model.specs.declared.op.Outcome.{Outcome as Told}
 use Rattle.register_model.specs.declared.op.Outcome.TheVariants as told
 use Rattle.trace_ends.specs.Ops.{file_with, begun as op_begun}
 use Rattle.trace_ends.specs.Session.{taken_of as session_taken}
+use Rattle.trace_replay.specs.Trail.{is_fresh_for}
 use Rattle.kept_promise.proofs.Common.{slice_get, Command, ClientStep, Ended, ended_by, cut, joined, command_step, got_step, told_message, Task, Op, Opening, TakenCall, told_of, word_of, file_of, value_at_begin, session_of, Core, Seat, CoreStep, Event, Event.Does, Event.Hears, Event.Cuts, numbered, does, cuts_if, happens, Moment, Deed, deed_by, deeds_of, joined_from, calls_from, Queue, is_untold, acted}
 use Rattle.kept_promise.proofs.Lists.{some_is, nothing_there, of_replaced}
 use Rattle.kept_promise.proofs.Actors.{Heard}
@@ -26,7 +27,7 @@ use Rattle.kept_promise.proofs.WalkLeaves.{walk_left, EndsNeither}
 use Rattle.kept_promise.proofs.Following.{IsFollowed, goes, no_deed, occupied, jobs_inside, carried_deeds}
 use Rattle.kept_promise.proofs.Opens.{FindsFor, HasOpens, HasShut, AreOpen, EndsOpen, open_bytes, shut_bytes, fetched_finds, walked_finds, opens_moved, opens_added, opens_acted, walk_leads, keeps_file, shut_acted, shut_added, command_begins, new_opens, finds_by}
 use Rattle.kept_promise.proofs.MakingGoals.{file_unnamed}
-use Rattle.kept_promise.proofs.EventCases.{Settled, IsChange, IsStill, event_cases}
+use Rattle.kept_promise.proofs.EventCases.{Settled, IsChange, IsStill, event_cases, old_job}
 use Rattle.register_model.specs.declared.op.Word.{Word}
 
 pub record IsOpening (past : List Moment) (k : Core) : Type 0 where
@@ -35,15 +36,15 @@ pub record IsOpening (past : List Moment) (k : Core) : Type 0 where
 
 -- ---- an event that is no command
 
-by_events : (past : List Moment) (k : Core) (e : Event) (after : Core) → deed_by past (k.steps + 1) e ≡ [] → HasOpens (deeds_of past) after.ops → HasShut (deeds_of past) after.seats → IsOpening (past ++ moment k e ∷ []) after
+by_events : (past : List Moment) (k : Core) (e : Event) (after : Core) → deed_by past k e ≡ [] → HasOpens (deeds_of past) after.ops → HasShut (deeds_of past) after.seats → IsOpening (past ++ moment k e ∷ []) after
 by_events past k e after none opens shut = record {
   opens = subst (λ (ds : List Deed). HasOpens ds after.ops) (sym (no_deed past k e none)) opens;
   shut = subst (λ (ds : List Deed). HasShut ds after.seats) (sym (no_deed past k e none)) shut;
 }
 
--- a client with a job is as it was
+-- a client with a job has open what it had
 still_shut : (past : List Moment) (k : Core) (e : Event) (t : CoreStep) → IsStill k e t → IsOpening past k → HasShut (deeds_of past) t.core.seats
-still_shut past k e t still h = λ c seat j d at is there names known. h.shut c seat j d (still.jobs c seat j at is) is there names known
+still_shut past k e t still h = λ c seat j d at is there names known. let w = still.jobs c seat j at is in ap (λ (z : Seat). local_of z.client j.file) w.4 ∙ h.shut c w.0 j d w.3 (old_job w.0 seat w.1 w.2 j w.4 is) there names known
 
 -- ---- a change is made
 
@@ -131,8 +132,11 @@ hears_opening past opening all k qs n now bytes mid kept w f moved h = by_events
         by (inr (y, v, is)) op file d e there ended names =
             let left = walk_left seat.client (Ok (told_message w.told)) now x y v task is in
             let leads = walk_leads seat.client (Ok (told_message w.told)) now x y v task is in
-            walked_finds (word_of d.command) e.outcome (local_of seat.client (file_with op.file r.1.found)) (subst (λ (z : Word). EndsNeither z (Some e)) (sym (goal_at p x y v place task is d there)) (subst (EndsNeither (goal_word v.goal)) ended left.2))
-            (λ already. (let o = leads.open_ e ended already in subst (λ (z : Option ℕ). Rattle.std.proofs.Common.IsSome (local_of seat.client (file_with op.file z))) (sym o.1) (open_bytes seat.client.opened o.0 o.2)))
+            elim left.1 [
+              | inr now ↦ fetched_finds (word_of d.command) (word_of d.command) e.outcome seat.client.opened r.0.opened now.0 (local_of seat.client (file_with op.file r.1.found)) (subst (λ (z : Word). EndsWith z seat.client.opened r.0.opened now.0 e.outcome) (sym (goal_at p x y v place task is d there)) (subst (λ (z : Ended). EndsWith (goal_word v.goal) seat.client.opened r.0.opened now.0 z.outcome) (some_is now.2.0 e (sym now.2.1 ∙ ended)) now.2.2)) (ap (λ (z : Option ℕ). local_of seat.client (file_with op.file z)) now.1 ∙ shut_bytes seat.client.opened now.0 now.2.3)
+              | inl stays ↦ walked_finds (word_of d.command) e.outcome (local_of seat.client (file_with op.file r.1.found)) (subst (λ (z : Word). EndsNeither z (Some e)) (sym (goal_at p x y v place task is d there)) (subst (EndsNeither (goal_word v.goal)) ended stays.1))
+                  (λ already. (let o = leads.open_ e ended already in subst (λ (z : Option ℕ). Rattle.std.proofs.Common.IsSome (local_of seat.client (file_with op.file z))) (sym o.1) (open_bytes seat.client.opened o.0 o.2)))
+            ]
 
     goes_on : (j : Job) (d : Deed) → seat.place ≡ Some j.place → r.1.ended ≡ None → r.0.task ≡ Some (record { file = j.file; stage = j.stage }) → slice_get (deeds_of past) j.place ≡ Some d → IsOnNames d.command → IsOfFile j.stage → (t : Task) × (seat.client.task ≡ Some t) → local_of r.0 j.file ≡ None
     goes_on j d place ended now_task there names now_known (x, task) = by (stage_case x.stage)
@@ -146,7 +150,7 @@ hears_opening past opening all k qs n now bytes mid kept w f moved h = by_events
         by (inr (y, v, is)) =
             let left = walk_left seat.client (Ok (told_message w.told)) now x y v task is in
             let leads = walk_leads seat.client (Ok (told_message w.told)) now x y v task is in
-            ap (λ (l : List (ℕ × Rattle.kept_promise.proofs.Common.Local)). Rattle.kept_promise.proofs.Common.option_map (λ (z : Rattle.kept_promise.proofs.Common.Local). z.bytes) (client.local_at l j.file)) left.1
+            ap (λ (l : List (ℕ × Rattle.kept_promise.proofs.Common.Local)). Rattle.kept_promise.proofs.Common.option_map (λ (z : Rattle.kept_promise.proofs.Common.Local). z.bytes) (client.local_at l j.file)) (elim left.1 [ inl stays ↦ stays.0 | inr now ↦ nothing_there now.2.0 (sym ended ∙ now.2.1) ])
             ∙ shut_bytes seat.client.opened j.file (leads.shut (record { file = j.file; stage = j.stage }) now_task now_known)
 
 -- a connection is lost
@@ -165,7 +169,7 @@ cuts_opening past opening all k qs c seat kept here f moved h =
 does_opening : (past : List Moment) (opening : List Opening) (all : List Moment) (k : Core) (qs : List Queue) (c now : ℕ) (d : Command) (seat : Seat) → IsKept (book_at opening k all) k qs → numbered k.seats c ≡ Some seat → IsFollowed past k → IsOpening past k → IsOpening (past ++ moment k (Does c now d) ∷ []) (does k c now d (Some seat)).core
 does_opening past opening all k qs c now d seat kept here f h =
     let r = command_step seat.client d now in
-    let deed : Deed = record { client = c; command = d; begin = k.steps + 1; joined = joined_from c false past; calls = calls_from c 0 past } in
+    let deed : Deed = record { client = c; command = d; begin = k.steps + 1; joined = joined_from c false past; calls = calls_from c 0 past; fresh = is_fresh_for (numbered k.seats c) now d } in
     let o : Op = op_begun c (word_of d) (file_of d) (value_at_begin seat.client (word_of d) (file_of d) r.1.ended) (k.steps + 1) in
     let matched = (kept.seats c seat here).matched in
     record {
@@ -188,7 +192,7 @@ opening_goes laws all past rest opening k qs e mid after s f h = event_cases law
 }) (goes laws all past rest opening k qs e mid after s f).moved
   where
     Now : Event → CoreStep → Type 0
-    Now e t = (deed_by past (k.steps + 1) e ≡ [] → AllMoved (k.steps + 1) k.ops t.core.ops) → IsOpening (past ++ moment k e ∷ []) t.core
+    Now e t = (deed_by past k e ≡ [] → AllMoved (k.steps + 1) k.ops t.core.ops) → IsOpening (past ++ moment k e ∷ []) t.core
 
 -- beside the commands and their operations
 pub carried_opens : FitLaws → Carried (λ all past opening k qs. IsFollowed past k × IsOpening past k)

@@ -1,21 +1,20 @@
 -- What an event makes of the operations: nothing, or one begins, or a client goes on with its own, or a change gives one its point.
-use Rattle.std.proofs.Common.{◌⊎◌, inl, inr, ◌≡◌, ℕ, ◌+◌, ◌<◌, ◌≤◌, List, [], ◌∷◌, ◌++◌, Option, Some, None, Ok, false, refl, sym, ap, ◌∙◌, subst, arith}
+use Rattle.std.proofs.Common.{◌⊎◌, inl, inr, ◌≡◌, ℕ, ◌+◌, ◌<◌, ◌≤◌, List, [], ◌∷◌, ◌++◌, Option, Some, None, Ok, true, false, refl, sym, ap, ◌∙◌, subst, arith}
 use Rattle.client_state.specs.State as client
 use Rattle.client_state.specs.declared.step.Outcome.TheVariants as outcome
 use Rattle.register_model.specs.declared.op.Outcome.TheVariants as told
 use Rattle.trace_ends.specs.Session.{taken_of as session_taken}
-use Rattle.kept_promise.proofs.Common.{slice_get, slice_set, Book, ops_after, command_step, got_step, ended_by, ClientStep, Task, Op, Opening, TakenCall, op_after, Core, Seat, Event, Event.Does, Event.Hears, CoreStep, numbered, session_of, ops_with, does, happens, Moment, Queue, Command, told_message}
+use Rattle.kept_promise.proofs.Common.{changes, changed_before, until, slice_get, slice_set, Book, ops_after, command_step, got_step, ended_by, ClientStep, Task, Op, Opening, TakenCall, op_after, Core, Seat, Event, Event.Does, Event.Hears, CoreStep, numbered, session_of, ops_with, does, happens, Moment, Queue, Command, told_message}
 use Rattle.kept_promise.proofs.Lists.{some_is, nothing_there, at_replaced, of_appended, of_replaced, kept_appended, same_or_not, set_else}
-use Rattle.kept_promise.proofs.Rights.{Caused}
 use Rattle.kept_promise.proofs.Facts.{IsKept}
 use Rattle.kept_promise.proofs.RunsCarried.{book_at, Step}
 use Rattle.kept_promise.proofs.Actors.{acts_alone, own_op}
-use Rattle.kept_promise.proofs.Marks.{unpointed}
+use Rattle.kept_promise.proofs.Marks.{unpointed, unchanging}
 use Rattle.kept_promise.proofs.Counted.{AlikeUpTo, IsActor, running_past}
 use Rattle.kept_promise.proofs.JobFacts.{ops_shape}
 use Rattle.kept_promise.proofs.Versions.{version_in, count_replaced, count_appended}
 use Rattle.kept_promise.proofs.Taking.{versions_after}
-use Rattle.kept_promise.proofs.CommandOps.{made_by, made_later, made_pointless, last_right}
+use Rattle.kept_promise.proofs.CommandOps.{made_by, made_later, made_point, made_quiet, made_by_now}
 use Rattle.kept_promise.proofs.EventCases.{Settled, event_cases}
 use Rattle.kept_promise.proofs.VersionRuns.{heard_finds, heard_shut, change_not_opened, change_versions}
 use Rattle.kept_promise.proofs.Found.{cut_finds, Quietly}
@@ -25,13 +24,30 @@ abbrev pub IsHears : Event → Type 0
 IsHears (Hears n now bytes) = Unit {0}
 IsHears e = ⊥
 
+-- a client is told to do something
+abbrev pub IsDoes : Event → Type 0
+IsDoes (Does c now d) = Unit {0}
+IsDoes e = ⊥
+
+-- by which an operation may get a content
+abbrev pub MayOpen : Event → Type 0
+MayOpen e = IsDoes e ⊎ IsHears e
+
 -- one begins
-pub record IsBegun (k : Core) (ops : List Op) : Type 0 where
+pub record IsBegun (e : Event) (k : Core) (ops : List Op) : Type 0 where
+  pub told : IsDoes e
   pub new : Op
   pub is : ops ≡ k.ops ++ new ∷ []
   pub late : k.steps < new.begin
-  pub pointless : new.point ≡ None
-  pub unopened : (len : ℕ) (digest : List ℕ) → new.outcome ≡ told.Opened len digest → ⊥
+  -- it has no point yet, or changes nothing, as an open at once
+  pub quiet : (new.point ≡ None) ⊎ (changes new.word ≡ false)
+  pub point : (p : ℕ) → new.point ≡ Some p → p ≡ k.steps + 1
+  -- if it has ended already, then now
+  pub by : (step : ℕ) → step ≤ k.steps + 1 → until new.end step ≡ true
+
+-- so it is no change that was made before
+pub begun_unchanging : {e : Event} {k : Core} {ops : List Op} → (n : IsBegun e k ops) → (f p : ℕ) → changed_before f p n.new ≡ false
+begun_unchanging n f p = elim n.quiet [ inl none ↦ unpointed f p n.new none | inr word ↦ unchanging f p n.new word ]
 
 -- a client goes on with its own: where it heard nothing, none of a running open gets its content
 pub record IsActed (e : Event) (k : Core) (ops : List Op) : Type 0 where
@@ -48,7 +64,7 @@ pub record IsActed (e : Event) (k : Core) (ops : List Op) : Type 0 where
   pub unopened : IsHears e ⊎ ((o : Op) (len : ℕ) (digest : List ℕ) → o.outcome ≡ told.Running → (op_after o after (session_taken (session_of k.sessions seat.session)) (k.steps + 1) acts).outcome ≡ told.Opened len digest → ⊥)
 
 abbrev pub OpsAfter : Event → Core → List Op → Type 0
-OpsAfter e k ops = (ops ≡ k.ops) ⊎ (IsBegun k ops ⊎ (IsActed e k ops ⊎ Settled k ops))
+OpsAfter e k ops = (ops ≡ k.ops) ⊎ (IsBegun e k ops ⊎ (IsActed e k ops ⊎ Settled k ops))
 
 abbrev pub Becomes : Event → Core → CoreStep → Type 0
 Becomes e k t = OpsAfter e k t.core.ops × (k.steps ≤ t.core.steps)
@@ -70,16 +86,15 @@ ops_after_event laws all past rest opening k qs e mid after s = event_cases laws
     begins : (c now : ℕ) (d : Command) (seat : Seat) → IsKept (book_at opening (does k c now d (Some seat)).core all) (does k c now d (Some seat)).core after → Becomes (Does c now d) k (does k c now d (Some seat))
     begins c now d seat left =
         let r = command_step seat.client d now in
-        let new : Op = made_by k c now d seat r.0 r.1 in
-        let point = made_pointless k c now d seat r.0 r.1 r.1.ended in
-        let more = book_at opening (does k c now d (Some seat)).core all in
-        let right = last_right more k.ops new left.ops left.sound in (
+        let new : Op = made_by k c now d seat r.0 r.1 in (
           inr (inl (record {
             new = new;
             is = refl;
+            told = tt;
             late = made_later k c now d seat r.0 r.1 r.1.ended;
-            pointless = point;
-            unopened = λ len digest is. let w = subst (Caused more new) is right.cause in nothing_there w.1.point (sym point ∙ w.1.within.0);
+            quiet = made_quiet k c now d seat r.0 r.1 r.1.ended;
+            point = made_point k c now d seat r.0 r.1 r.1.ended;
+            by = made_by_now k c now d seat r.0 r.1 r.1.ended;
           })),
           omega arith,
         )
@@ -126,25 +141,22 @@ same_versions k e ops by f q le = shown by
   where
     shown : OpsAfter e k ops → version_in ops f q ≡ version_in k.ops f q
     shown (inl same) = ap (λ (l : List Op). version_in l f q) same
-    shown (inr (inl n)) = ap (λ (l : List Op). version_in l f q) n.is ∙ ap (λ z. z + 1) (count_appended f q k.ops n.new (unpointed f q n.new n.pointless))
+    shown (inr (inl n)) = ap (λ (l : List Op). version_in l f q) n.is ∙ ap (λ z. z + 1) (count_appended f q k.ops n.new (begun_unchanging n f q))
     shown (inr (inr (inl a))) = ap (λ (l : List Op). version_in l f q) a.is ∙ versions_after k.ops a.seat.place a.after (session_taken (session_of k.sessions a.seat.session)) (k.steps + 1) a.acts a.finds f q
     shown (inr (inr (inr (inl same)))) = ap (λ (l : List Op). version_in l f q) same
     shown (inr (inr (inr (inr s)))) = ap (λ (l : List Op). version_in l f q) s.is ∙ ap (λ z. z + 1) (count_replaced f q k.ops s.place s.op (record s.op { file = s.file; point = Some (k.steps + 1) }) s.there (change_versions k ops s f q le))
 
--- where none was heard, an open that has its content had it before
-pub opened_before : (book : Book) (k : Core) (qs : List Queue) (e : Event) (ops : List Op) → IsKept book k qs → (IsHears e → ⊥) → OpsAfter e k ops → (p len : ℕ) (digest : List ℕ) (r : Op) → slice_get ops p ≡ Some r → r.outcome ≡ told.Opened len digest → slice_get k.ops p ≡ Some r
+-- where no client was told to do something, nor heard anything, an open that has its content had it before
+pub opened_before : (book : Book) (k : Core) (qs : List Queue) (e : Event) (ops : List Op) → IsKept book k qs → (MayOpen e → ⊥) → OpsAfter e k ops → (p len : ℕ) (digest : List ℕ) (r : Op) → slice_get ops p ≡ Some r → r.outcome ≡ told.Opened len digest → slice_get k.ops p ≡ Some r
 opened_before book k qs e ops kept quiet by p len digest r at is = shown by
   where
     shown : OpsAfter e k ops → slice_get k.ops p ≡ Some r
     shown (inl same) = ap (λ (l : List Op). slice_get l p) (sym same) ∙ at
-    shown (inr (inl n)) = elim (of_appended k.ops n.new p r (ap (λ (l : List Op). slice_get l p) (sym n.is) ∙ at)) [
-      | inl last ↦ absurd (n.unopened len digest (ap (λ (z : Op). z.outcome) (sym last.1) ∙ is))
-      | inr old ↦ old
-    ]
+    shown (inr (inl n)) = absurd (quiet (inl n.told))
     shown (inr (inr (inl a))) = elim (ops_shape k.ops a.seat.place a.after (session_taken (session_of k.sessions a.seat.session)) (k.steps + 1) a.acts p r (ap (λ (l : List Op). slice_get l p) (sym a.is) ∙ at)) [
       | inr old ↦ old.1
       | inl mine ↦ elim a.unopened [
-        | inl hears ↦ absurd (quiet hears)
+        | inl hears ↦ absurd (quiet (inr hears))
         | inr never ↦ absurd (never mine.0 len digest (own_op book k qs a.index a.seat p mine.0 kept a.here mine.1 mine.2).4 (ap (λ (z : Op). z.outcome) (sym mine.3) ∙ is))
       ]
     ]

@@ -203,7 +203,7 @@ own_heard book more taken j o p s x b a log h = record {
     had = own_of log o.file o.value j.stage a.known h
 
     sends : Sends (stage_word j.stage) j.file o.value (took (idle s) (client.calls_of s) j.file j.stage x b)
-    sends = took_cases (λ found r. Sends (stage_word j.stage) j.file o.value r) (idle s) (client.calls_of s) j.file j.stage x b a.known (sends_cases (idle s) (client.calls_of s) j.file o.value j.stage x b had.1.0 a.value)
+    sends = took_cases (λ found r. Sends (stage_word j.stage) j.file o.value r) (idle s) (client.calls_of s) j.file j.stage x b a.known (λ found r g until lease is z. z) (sends_cases (idle s) (client.calls_of s) j.file o.value j.stage x b had.1.0 a.value)
 
     bare : IsBare (stage_word j.stage) log2
     bare = elim (silent_after log (idle s) (client.calls_of s) j.file j.stage x b a.known had.1.1) [
@@ -241,6 +241,7 @@ own_laws all = record {
   walks = λ log file v x w h. h;
   walked = λ log file v x w h. h;
   none = λ w file v u un same log names. (near_names w file v log names, none w log names);
+  now = λ log file v len digest names. (near_names words.Open file v log names, none words.Open log names);
   asks = λ log names x file v. (near_join words.Open file v log (Sent (lease_call x file) ∷ []) (near_names words.Open file v log names) (inl refl, tt), (tt, tt));
   renews = λ log names x file v. (near_join words.Rewrite file v log (Sent (lease_call x file) ∷ []) (near_names words.Rewrite file v log names) (inl refl, tt), (tt, (let j = came_join log (Sent (lease_call x file) ∷ []) in let n = (names_count log names).came in omega (arith, j, n))));
   opens = λ log names x file v. (near_join words.Open file v log (Sent (hash_call x file 0) ∷ []) (near_names words.Open file v log names) (inl refl, tt), (tt, tt));

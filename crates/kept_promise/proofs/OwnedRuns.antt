@@ -1,11 +1,12 @@
 -- A run carries that whatever a client sends or takes is for an operation that it has under way.
 use Rattle.std.proofs.Common.{◌⊎◌, inl, inr, ◌≡◌, ℕ, ◌+◌, ◌≤◌, List, [], ◌∷◌, ◌++◌, length, Option, Some, None, Bool, true, false, Ok, refl, sym, ap, ◌∙◌, subst, arith}
+use Rattle.client_state.specs.Noting.{at as at_clock}
 use Rattle.client_state.specs.State as client
 use Rattle.trace_ends.specs.Session.{taken_of as session_taken}
 use Rattle.trace_replay.specs.Traffic.{IsFor}
 use Rattle.file_open.specs.Looking.{reading}
 use Rattle.trace_replay.specs.Trail.{given_in, given_by_message}
-use Rattle.kept_promise.proofs.Common.{Contains-push_cases, slice_get, slice_set, Contains, command_step, got_step, got_message, drops, ClientStep, Task, Op, Opening, word_of, file_of, value_at_begin, TakenCall, op_after, Core, Event, Event.Hears, CoreStep, numbered, session_of, ops_after, ops_with, acted, happens, Moment, step_of, client_of, owner_in, wanted_if, wanted_by, taken_by, given_by, is_in, deals_with, Book, Queue, told_message}
+use Rattle.kept_promise.proofs.Common.{Contains-push_cases, slice_get, slice_set, Contains, command_step, got_step, got_message, drops, ClientStep, Task, Op, Opening, word_of, file_of, value_at_begin, TakenCall, op_after, Core, Event, Event.Hears, CoreStep, numbered, session_of, ops_after, ops_with, acted, happens, Moment, calls_in, asked_in, step_of, client_of, owner_in, wanted_if, wanted_by, taken_by, given_by, is_in, deals_with, Book, Queue, told_message}
 use Rattle.kept_promise.proofs.Lists.{at_end, at_replaced}
 use Rattle.kept_promise.proofs.Fits.{FitLaws}
 use Rattle.kept_promise.proofs.Facts.{IsKept, IsMatched}
@@ -76,12 +77,12 @@ says_hears fits book k qs n now bytes mid kept h =
     owner = ap owner_in h.at
 
     -- a client with nothing under way waits for nothing
-    dropped : (b : Bool) → (drops h.seat.client None h.told.xid b).1.send ≡ []
+    dropped : (b : Bool) → (drops (at_clock h.seat.client now) None h.told.xid b).1.send ≡ []
     dropped true = refl
     dropped false = refl
 
     idle_sends : h.seat.client.task ≡ None → (got_step h.seat.client (Ok (told_message h.told)) now).1.send ≡ []
-    idle_sends none = ap (λ (t : Option Task). (got_message h.seat.client t (told_message h.told)).1.send) none ∙ dropped (client.has_call h.seat.client.forgotten h.told.xid)
+    idle_sends none = ap (λ (t : Option Task). (got_message (at_clock h.seat.client now) t (told_message h.told)).1.send) none ∙ dropped (client.has_call h.seat.client.forgotten h.told.xid)
 
     idle_takes : h.seat.client.task ≡ None → wanted_by h.seat.client (Ok (told_message h.told)) ≡ []
     idle_takes none = ap (λ (t : Option Task). wanted_if (client.has_call (client.pending t) h.told.xid) (told_message h.told)) none
@@ -94,7 +95,7 @@ says_hears fits book k qs n now bytes mid kept h =
     by (inl m) = inl (
       ap (λ i. taken_by k i (Hears n now bytes)) owner ∙ heard_takes fits book k qs n now bytes mid kept h ∙ idle_takes m.1,
       ap (λ i. given_by k i (Hears n now bytes)) owner ∙ heard_gives fits book k qs n now bytes mid kept h ∙ idle_gives m.1,
-      ap (λ (t : CoreStep). t.up) turned ∙ idle_sends m.1,
+      ap (λ (t : CoreStep). calls_in t.up) turned ∙ ap calls_in (idle_sends m.1),
     )
     by (inr m) =
         let of = (kept.seats h.session.owner h.seat h.owner).task m.0 m.1 in
@@ -135,8 +136,8 @@ carried_owned fits = record {
 
 pub is_for : (ops : List Op) (m : Moment) → IsSilent m ⊎ ((k : ℕ) × (o : Op) × (slice_get ops k ≡ Some o) × (is_in o (step_of m) (client_of m.before m.event) ≡ true)) → IsFor ops m
 is_for ops m (inl silent) = inl (
-    ap (λ l. deals_with l (given_by m.before (client_of m.before m.event) m.event) (happens m.before m.event).up) silent.0
-    ∙ ap (λ l. deals_with [] l (happens m.before m.event).up) silent.1
+    ap (λ l. deals_with l (given_by m.before (client_of m.before m.event) m.event) (asked_in m)) silent.0
+    ∙ ap (λ l. deals_with [] l (asked_in m)) silent.1
     ∙ ap (deals_with [] []) silent.2
     )
 is_for ops m (inr has) = inr has

@@ -1,6 +1,6 @@
--- By which call an open that got its content has its point: by its GETLEASE, where it began no attempt, and else by the first GETHASH of the attempt in
--- which it ended.
-use Rattle.std.proofs.Common.{◌≡◌, ℕ, zero, suc, ◌<◌, List, length, Option, Some, None, Ok, true, refl, sym, ap, ◌∙◌, subst, arith, eqb-true}
+-- By what an open that got its content has its point: by its GETLEASE, where it began no attempt, and else by the first GETHASH of the attempt in which it
+-- ended; or, where its content was fresh, in the step in which it ended.
+use Rattle.std.proofs.Common.{◌⊎◌, inl, inr, ◌≡◌, ℕ, zero, suc, ◌<◌, List, length, Option, Some, None, Ok, true, refl, sym, ap, ◌∙◌, subst, arith, eqb-true}
 use Rattle.client_state.specs.State as client
 use Rattle.client_state.specs.declared.step.Outcome.TheVariants as outcome
 use Rattle.client_state.specs.declared.task.Stage.TheVariants as stage
@@ -8,13 +8,15 @@ use Rattle.register_model.specs.declared.op.Outcome.{Outcome as History}
 use Rattle.register_model.specs.declared.op.Outcome.TheVariants as told
 use Rattle.register_model.specs.declared.op.Word.TheVariants as words
 use Rattle.trace_replay.specs.OwnCalls.{TakesCall}
-use Rattle.trace_replay.specs.Faithful.{IsFirstOf, HasPoint, OpensAt}
+use Rattle.trace_replay.specs.Faithful.{IsFirstOf, PointsAsked, HasPoint, OpensAt}
 use Rattle.trace_replay.specs.Traffic.{attempts_in, no_attempt}
-use Rattle.kept_promise.proofs.Common.{◌==◌, cond, slice_get, Contains, Body, Done, has_call, got_step, ClientStep, Ended, Outcome, Stage, State, Op, TakenCall, has_point, point_if, taken_at, op_after, Moment, deals_of, Deal, Book, Reply, Reply.Versioned, Reply.Hashed, Reply.Bytes, Told, told_message, reply_body, Reply.Walked, NameReply.LookedUp}
-use Rattle.kept_promise.proofs.Lists.{some_is}
+use Rattle.kept_promise.proofs.Common.{unwrap_or, ◌==◌, cond, slice_get, Contains, Body, Done, has_call, got_step, ClientStep, Ended, Outcome, Stage, State, Op, TakenCall, has_point, point_if, taken_at, op_after, Moment, deals_of, Deal, Book, Reply, Reply.Versioned, Reply.Hashed, Reply.Bytes, Told, told_message, reply_body, Reply.Walked, NameReply.LookedUp}
+use Rattle.kept_promise.proofs.Lists.{some_is, nothing_there}
 use Rattle.kept_promise.proofs.Messages.{Job, stage_word, lease_body, hash_body, hash_offset, IsServed, IsLeased, AnswerOf, FetchOf, TriedBy, lease_xid}
 use Rattle.kept_promise.proofs.VersionRuns.{opened_by, or_none}
-use Rattle.kept_promise.proofs.Shapes.{StageGood, TaskGood, OutcomeGood, EndGood, TookIn, TaskTook, good_answer}
+use Rattle.client_state.specs.Noting.{at as at_clock}
+use Rattle.kept_promise.proofs.Shapes.{TookIn}
+use Rattle.kept_promise.proofs.OpenedNow.{Hears, EndsNow, opens_answer}
 use Rattle.kept_promise.proofs.LogSums.{begins_in, attempts_log}
 use Rattle.kept_promise.proofs.MetLog.{MeetsBy, Tries, count_of, begun_count}
 
@@ -42,16 +44,11 @@ served_in book taken closing t j has fetch answer (stage.Reading f) at (Bytes (D
 served_in book taken closing t j has fetch answer (stage.Reading f) at (Walked (LookedUp a)) is = tt
 served_in book taken closing t j has fetch answer _ at _ is = tt
 
-served_still : (book : Book) (taken : List TakenCall) (j : Job) → FetchOf book taken j j.stage → (st : Stage) → j.stage ≡ st → StageGood (λ v x. StageCall book taken j st x) (λ x. Unit {0}) st
-served_still book taken j fetch (stage.Listing y f) at = (subst (FetchOf book taken j) at fetch).0.tried.call
-served_still book taken j fetch (stage.Reading f) at = (subst (FetchOf book taken j) at fetch).0.tried.call
-served_still book taken j fetch st at = tt
-
+-- so what it ends by rests on that call, or nobody was asked
 pub rests_on : (book : Book) (taken : List TakenCall) (closing : Option ℕ) (t : Told) (j : Job) (s : State) (now : ℕ) → s.task ≡ Some (record { file = j.file; stage = j.stage }) → FetchOf book taken j j.stage → AnswerOf book taken closing (Some j) t.xid t.reply
-    → EndGood (λ v x. StageCall book taken j j.stage x) (got_step s (Ok (told_message t)) now).1.ended
-rests_on book taken closing t j s now task fetch answer = (good_answer (λ v x. StageCall book taken j j.stage x) (λ x. Unit {0}) s tt t.xid (reply_body t.reply)
-    (λ free. subst (TaskGood (λ v x. StageCall book taken j j.stage x) (λ x. Unit {0})) (sym task) (served_still book taken j fetch j.stage refl))
-    (λ has. subst (λ z. TaskTook (λ v x. StageCall book taken j j.stage x) z t.xid (reply_body t.reply)) (sym task) (served_in book taken closing t j (ap (λ z. has_call (client.pending z) t.xid) (sym task) ∙ has) fetch answer j.stage refl t.reply refl))).1
+    → Hears (λ v x. StageCall book taken j j.stage x) j.stage s.cache now (got_step s (Ok (told_message t)) now)
+rests_on book taken closing t j s now task fetch answer = opens_answer (λ v x. StageCall book taken j j.stage x) (at_clock s now) (record { file = j.file; stage = j.stage }) t.xid (reply_body t.reply) task
+    (λ has. served_in book taken closing t j (ap (λ z. has_call (client.pending z) t.xid) (sym task) ∙ has) fetch answer j.stage refl t.reply refl)
 
 -- ---- the point
 
@@ -76,6 +73,10 @@ called_as book more past later o r there client_is file_is point begins h = reco
   where
     t : TakesCall book o.client h.point h.xid h.call
     t = h.taken
+
+-- by a call, or at once
+abbrev pub PointedAt : (book : Book) (past : List Moment) → Op → Type 0
+PointedAt book past o = CalledAt book past o ⊎ EndsNow past o
 
 -- the attempts that began, by the stage
 first_of : (log : List Deal) (file : ℕ) (v : List ℕ) (st : Stage) → MeetsBy log file v st → stage_word st ≡ words.Open → (book : Book) (taken : List TakenCall) (j : Job) (x : ℕ) → StageCall book taken j st x → (call : Body) × IsServed book taken j x call × IsFirstOf (begins_in log) j.file call
@@ -107,44 +108,45 @@ first_of log file v st h word book taken j x served = by st h word served
     by (stage.Walking y walk) h w served = absurd served
 
 -- where an open ends so
-pub point_now : (book : Book) (past : List Moment) (o : Op) (j : Job) (c : State) (taken : List TakenCall) (step : ℕ) (acts : ClientStep) (len : ℕ) (digest : List ℕ) → slice_get book.ops j.place ≡ Some o → o.file ≡ j.file → o.outcome ≡ told.Running → o.word ≡ words.Open → stage_word j.stage ≡ words.Open → MeetsBy (deals_of o past) o.file o.value j.stage
-    → (op_after o c taken step acts).outcome ≡ told.Opened len digest → EndGood (λ v x. StageCall book taken j j.stage x) acts.ended → CalledAt book past (record o { point = (op_after o c taken step acts).point })
-point_now book past o j c taken step acts len digest there file running word open_ meets is good = by acts.ended is good
+pub point_now : (book : Book) (past : List Moment) (o : Op) (j : Job) (c : State) (taken : List TakenCall) (step : ℕ) (acts : ClientStep) (e : Ended) (len : ℕ) (digest : List ℕ) → slice_get book.ops j.place ≡ Some o → o.file ≡ j.file → o.word ≡ words.Open → stage_word j.stage ≡ words.Open → MeetsBy (deals_of o past) o.file o.value j.stage
+    → acts.ended ≡ Some e → (op_after o c taken step acts).outcome ≡ told.Opened len digest → (v : ℕ) × StageCall book taken j j.stage e.rests_on → CalledAt book past (record o { point = (op_after o c taken step acts).point })
+point_now book past o j c taken step acts e len digest there file word open_ meets ended is served = by acts.ended ended is
   where
     same_op : (p : Op) → slice_get book.ops j.place ≡ Some p → p ≡ o
     same_op p at = some_is p o (sym at ∙ there)
 
     -- its point is the step in which that call was taken
-    pointed : (x : ℕ) (u : Outcome) (f : ℕ) → u ≡ outcome.Opened f len digest → point_if (has_point o.word u) taken x o.point ≡ taken_at taken x
-    pointed x u f at = ap (λ w. point_if (has_point w u) taken x o.point) word ∙ ap (λ z. point_if (has_point words.Open z) taken x o.point) at
+    pointed : (x : ℕ) (u : Outcome) (f : ℕ) → u ≡ outcome.Opened f len digest → point_if (has_point o.word u) taken x step o.point ≡ Some (unwrap_or (taken_at taken x) step)
+    pointed x u f at = ap (λ w. point_if (has_point w u) taken x step o.point) word ∙ ap (λ z. point_if (has_point words.Open z) taken x step o.point) at
 
-    at_end : (x : ℕ) (t : Option ℕ) → t ≡ taken_at taken x → (v : ℕ) × StageCall book taken j j.stage x → CalledAt book past (record o { point = t })
+    at_end : (x : ℕ) (t : Option ℕ) → t ≡ Some (unwrap_or (taken_at taken x) step) → (v : ℕ) × StageCall book taken j j.stage x → CalledAt book past (record o { point = t })
     at_end x t same (v, served) =
         let f = first_of (deals_of o past) o.file o.value j.stage meets open_ book taken j x served in
         record {
           point = f.1.moment;
-          point_is = same ∙ f.1.was;
+          point_is = same ∙ ap (λ (z : Option ℕ). Some (unwrap_or z step)) f.1.was;
           xid = x;
           call = f.0;
           first = subst (λ n. IsFirstOf n o.file f.0) (sym (ap begins_in (Rattle.kept_promise.proofs.Logs.deals_pointed o t past))) (subst (λ g. IsFirstOf (begins_in (deals_of o past)) g f.0) (sym file) f.2);
           taken = subst (λ (z : Op). TakesCall book z.client f.1.moment x f.0) (same_op f.1.op f.1.there) f.1.takes;
         }
 
-    running_not : told.Running ≡ told.Opened len digest → ⊥
-    running_not z = absurd cc
-
-    by : (l : Option Ended) → (op_after o c taken step (record acts { ended = l })).outcome ≡ told.Opened len digest → EndGood (λ v x. StageCall book taken j j.stage x) l → CalledAt book past (record o { point = (op_after o c taken step (record acts { ended = l })).point })
-    by None z g = absurd (running_not (sym running ∙ z))
-    by (Some e) z g =
-        let u = opened_by e.outcome len digest z in
-        at_end e.rests_on (point_if (has_point o.word e.outcome) taken e.rests_on o.point) (pointed e.rests_on e.outcome u.0 u.1) (subst (λ (q : Outcome). OutcomeGood (λ v x. StageCall book taken j j.stage x) q e.rests_on) u.1 g)
+    by : (l : Option Ended) → l ≡ Some e → (op_after o c taken step (record acts { ended = l })).outcome ≡ told.Opened len digest → CalledAt book past (record o { point = (op_after o c taken step (record acts { ended = l })).point })
+    by None same z = nothing_there e same
+    by (Some d) same z =
+        let u = opened_by d.outcome len digest z in
+        at_end d.rests_on (point_if (has_point o.word d.outcome) taken d.rests_on step o.point) (pointed d.rests_on d.outcome u.0 u.1) (subst (λ (y : Ended). (v : ℕ) × StageCall book taken j j.stage y.rests_on) (sym (some_is d e same)) served)
 
 -- ---- what it makes of the promise
 
-pub has_point_by : (book : Book) (o : Op) → CalledAt book book.moments o → HasPoint book o
-has_point_by book o h = record { point = h.point; point_is = h.point_is; xid = h.xid; call = h.call; first = subst (λ n. IsFirstOf n o.file h.call) (sym (attempts_log o book.moments)) h.first; taken = h.taken }
+asked_by : (book : Book) (o : Op) → CalledAt book book.moments o → PointsAsked book o
+asked_by book o h = record { point = h.point; point_is = h.point_is; xid = h.xid; call = h.call; first = subst (λ n. IsFirstOf n o.file h.call) (sym (attempts_log o book.moments)) h.first; taken = h.taken }
 
-pub opens_at : (book : Book) (o : Op) → ((len : ℕ) (digest : List ℕ) → o.outcome ≡ told.Opened len digest → CalledAt book book.moments o) → OpensAt book o o.outcome
+has_point_by : (book : Book) (o : Op) → PointedAt book book.moments o → HasPoint book o
+has_point_by book o (inl h) = inl (asked_by book o h)
+has_point_by book o (inr now) = inr now
+
+pub opens_at : (book : Book) (o : Op) → ((len : ℕ) (digest : List ℕ) → o.outcome ≡ told.Opened len digest → PointedAt book book.moments o) → OpensAt book o o.outcome
 opens_at book o called = by o.outcome refl
   where
     by : (u : History) → o.outcome ≡ u → OpensAt book o u

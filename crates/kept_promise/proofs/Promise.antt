@@ -1,18 +1,23 @@
 -- The promise, of every trace that is accepted.
-use Rattle.std.proofs.Common.{◌≡◌, ℕ, List, [], ◌∷◌, Some, refl, sym, ◌∙◌, subst, arith, Ok, ap}
+use Rattle.std.proofs.Common.{◌≡◌, ℕ, List, [], ◌∷◌, Some, refl, sym, ◌∙◌, subst, arith, Ok, ap, map}
 use Rattle.register_model.specs.declared.op.Outcome.TheVariants as told
 use Rattle.register_model.specs.declared.op.Word.TheVariants as words
 use Rattle.trace_replay.specs.Traces.{IsKeptPromise}
 use Rattle.command_text.specs.declared.command.Command.TheVariants as command
-use Rattle.kept_promise.proofs.Common.{Command, Contains-append_right, Contains-push, World, Op, slice_get, passes, run, accepted, Moment, deeds_of, moments, local_before, Deed, book_of, rounds, deals_of}
+use Rattle.kept_promise.proofs.Common.{Command, Contains-append_right, Contains-push, World, Op, slice_get, passes, run, accepted, Moment, deeds_of, moments, local_before, Deed, book_of, rounds, deals_of, Mix, Queue, queue_of}
 use Rattle.kept_promise.proofs.Statements.{ClocksKeepTheRule}
 use Rattle.kept_promise.proofs.Rounds.{passes_are_rounds}
 use Rattle.kept_promise.proofs.Laws.{fit_laws, kept_laws}
-use Rattle.kept_promise.proofs.RunsCarried.{moment, Carried, Stands}
-use Rattle.kept_promise.proofs.RunsEvents.{Fact}
-use Rattle.kept_promise.proofs.Runs.{carried_run, kept_run, clocks_kept}
+use Rattle.kept_promise.proofs.RunsCarried.{moment, Carried, CarriedMix, lifted, both_carried, Stands}
+use Rattle.kept_promise.proofs.RunsEvents.{Fact, MixFact, AsMix}
+use Rattle.kept_promise.proofs.Runs.{carried_run, carried_plain, kept_run, clocks_kept, Whatever, has_room}
+use Rattle.kept_promise.proofs.Readings.{run_accepted}
+use Rattle.kept_promise.proofs.ClaimClocks.{accepted_clocked}
+use Rattle.kept_promise.proofs.Claimed.{clock_after, noted_after}
+use Rattle.kept_promise.proofs.ClaimRuns.{ClaimsBy, carried_claims}
+use Rattle.kept_promise.proofs.ClaimNumbers.{claimed_numbers}
 use Rattle.kept_promise.proofs.RunsOpening.{opening_said}
-use Rattle.kept_promise.proofs.RunsMessages.{holds_messages}
+use Rattle.kept_promise.proofs.RunsMessages.{HaveNumbers, holds_messages}
 use Rattle.kept_promise.proofs.ChainedRuns.{run_chained}
 use Rattle.kept_promise.proofs.Commanded.{events_said, commands_said}
 use Rattle.kept_promise.proofs.StepsCount.{steps_counted}
@@ -20,9 +25,10 @@ use Rattle.kept_promise.proofs.Done.{deeds_counted, deeds_done, asked_late, IsKn
 use Rattle.kept_promise.proofs.CutEnds.{AreFollowed, carried_follow, cuts_end}
 use Rattle.kept_promise.proofs.StoredWhole.{Stored, carried_stored, has_stored, have_stored, made_sent}
 use Rattle.kept_promise.proofs.VersionRuns.{Versions, carried_versions, opens_version}
-use Rattle.kept_promise.proofs.MadeRuns.{AllSettled, carried_settled, settles_first}
+use Rattle.kept_promise.proofs.MadeRuns.{AllSettled, carried_settled, settles_ready}
+use Rattle.kept_promise.proofs.ReadySoon.{ready_soon}
 use Rattle.kept_promise.proofs.SmallDeeds.{SmallDeeds, carried_small}
-use Rattle.kept_promise.proofs.Alike.{runs_in_order}
+use Rattle.kept_promise.proofs.Alike.{runs_in_order, run_given, all_given}
 use Rattle.kept_promise.proofs.Following.{IsFollowed}
 use Rattle.kept_promise.proofs.OpensRuns.{IsOpening, carried_opens}
 use Rattle.kept_promise.proofs.NoZero.{HaveNoZero, finds_positive}
@@ -55,15 +61,15 @@ use Rattle.kept_promise.proofs.Saved.{none_unknown}
 use Rattle.kept_promise.proofs.EntriesGrow.{journal_grows}
 use Rattle.kept_promise.proofs.Awaiting.{AllAwaited, carried_awaited, changed_by}
 use Rattle.kept_promise.proofs.NamesMove.{AllNamed, carried_named, names_change}
-use Rattle.kept_promise.proofs.Unnoted.{AllUnnoted, carried_unnoted, none_fresh}
 use Rattle.kept_promise.proofs.Promised.{no_fault, legal_kept, holds_files, holds_contents, holds_values}
 use Rattle.kept_promise.proofs.Saved.{asks_version}
+use Rattle.kept_promise.proofs.AtOnceRuns.{both_at_once}
 
 -- ---- facts that are carried together
 
 pub carried_both : (P Q : Fact) → Carried P → Carried Q → Carried (λ all past opening k qs. P all past opening k qs × Q all past opening k qs)
 carried_both P Q p q = record {
-  first = λ all opening tree count kept. (p.first all opening tree count kept, q.first all opening tree count kept);
+  first = λ all opening tree header kept. (p.first all opening tree header kept, q.first all opening tree header kept);
   steps = λ all past rest opening k qs e mid after s h. (p.steps all past rest opening k qs e mid after s h.0, q.steps all past rest opening k qs e mid after s h.1);
   adjusts = λ all past opening k qs index seats same h. (p.adjusts all past opening k qs index seats same h.0, q.adjusts all past opening k qs index seats same h.1);
 }
@@ -113,12 +119,12 @@ told_carried =
 
 used_carried : Carried Used
 used_carried = record {
-  first = λ all opening tree count kept. (told_carried.first all opening tree count kept, (record { by = λ m there. (let lt = there.1 in absurd (omega (arith, lt))); leased = λ m there. (let lt = there.1 in absurd (omega (arith, lt))); each = λ m there. (let lt = there.1 in absurd (omega (arith, lt))); shut = λ m there. (let lt = there.1 in absurd (omega (arith, lt))) }, record { jobs = λ i seat j o here is at. nothing_there o at; each = λ p o at. nothing_there o at }));
+  first = λ all opening tree header kept. (told_carried.first all opening tree header kept, (record { by = λ m there. (let lt = there.1 in absurd (omega (arith, lt))); leased = λ m there. (let lt = there.1 in absurd (omega (arith, lt))); each = λ m there. (let lt = there.1 in absurd (omega (arith, lt))); shut = λ m there. (let lt = there.1 in absurd (omega (arith, lt))); now = record { told = λ m there. (let lt = there.1 in absurd (omega (arith, lt))); each = λ m there. (let lt = there.1 in absurd (omega (arith, lt))) } }, record { jobs = λ i seat j o here is at. nothing_there o at; each = λ p o at. nothing_there o at }));
   steps = λ all past rest opening k qs e mid after s h.
       let told = told_carried.steps all past rest opening k qs e mid after s h.0 in
       let said = told.1.1.1.0.1.0.by (moment k e) (Contains-append_right past (moment k e ∷ []) (moment k e) (Contains-push [] (moment k e))) in
       (told, (used_event fit_laws all past rest opening k qs e mid after s (record { opens = h.0.1.1.1.1.0; own = h.0.1.1.1.1.1.1; counted = h.0.1.0.counted }) said h.1.0, said_event fit_laws all past rest opening k qs e mid after s h.0.1.1.1.1.0.by h.0.0.followed.deeds.count (λ p d o deed at. (h.0.0.followed.deeds.each p d o deed at).word) h.1.1));
-  adjusts = λ all past opening k qs index seats same h. (told_carried.adjusts all past opening k qs index seats same h.0, (record { by = h.1.0.by; leased = h.1.0.leased; each = h.1.0.each; shut = h.1.0.shut }, record { jobs = λ i seat j o here is at. (let z = same.was i seat here in h.1.1.jobs i z.0 j o z.3 (ap job (sym z.4) ∙ is) at); each = h.1.1.each }));
+  adjusts = λ all past opening k qs index seats same h. (told_carried.adjusts all past opening k qs index seats same h.0, (record { by = h.1.0.by; leased = h.1.0.leased; each = h.1.0.each; shut = h.1.0.shut; now = h.1.0.now }, record { jobs = λ i seat j o here is at. (let z = same.was i seat here in h.1.1.jobs i z.0 j o z.3 (ap job (sym z.4) ∙ is) at); each = h.1.1.each }));
 }
 
 walked_carried : Carried Walked
@@ -139,11 +145,11 @@ whole_carried = carried_both More AllAwaited more_carried (carried_awaited fit_l
 -- ---- the promise of what a run leaves
 
 -- what is known of each command
-is_known : (w : World) (all : List Moment) (soon : (k : ℕ) (o : Op) → slice_get w.core.ops k ≡ Some o → Soon (book_of w all) o o.outcome) (h : Stands More all all w) → Walks all all w.core → (k : ℕ) (d : Deed) (o : Op) → slice_get (deeds_of all) k ≡ Some d → slice_get w.core.ops k ≡ Some o → IsKnown (book_of w all) d o (local_before (deeds_of all) w.core.ops k d.client o.file)
-is_known w all soon h walks k d o was at =
+is_known : (w : World) (all : List Moment) → AreLeased all → (soon : (k : ℕ) (o : Op) → slice_get w.core.ops k ≡ Some o → Soon (book_of w all) o o.outcome) (h : Stands (AsMix More) all all w) → Walks all all w.core → (k : ℕ) (d : Deed) (o : Op) → slice_get (deeds_of all) k ≡ Some d → slice_get w.core.ops k ≡ Some o → IsKnown (book_of w all) d o (local_before (deeds_of all) w.core.ops k d.client o.file)
+is_known w all leased soon h walks k d o was at =
     let deeds = h.more.0.0.0.followed.deeds in
     let cause = (h.kept.sound.rights k o at).cause in
-    known_by (book_of w all) (deeds_of all) k d o (deeds.each k d o was at).word (soon k o at) (rewrite_pointless (book_of w all) o (h.kept.sound.rights k o at)) cause (walks.over k d o was at) h.more.1.1.1.1.0.1.opens was at
+    known_by (book_of w all) (deeds_of all) k d o leased (deeds.each k d o was at).word (soon k o at) (rewrite_pointless (book_of w all) o (h.kept.sound.rights k o at)) cause (walks.over k d o was at) h.more.1.1.1.1.0.1.opens was at
     (λ c is late. record {
       positive = λ s found. finds_positive (bare all) h.more.1.1.1.1.1.0 o s found;
       too_long = λ p list none. begun_pages p (deals_of o all) (subst (λ (x : Command). GaveNow x o.outcome o.end o.begin (deals_of o all)) (is ∙ ap (λ z. command.Named z) list) (h.more.0.1.1.each k o at d was).gave none late);
@@ -151,13 +157,14 @@ is_known w all soon h walks k d o was at =
     (λ f is status refused. open_refused (book_of w all) (deeds_of all) deeds.rising deeds.each deeds.count walks.before k d o was at f is cause status refused)
     (λ f is status refused. rewrite_refused (book_of w all) (deeds_of all) deeds.rising deeds.each deeds.count walks.before k d o was at f is cause status refused)
 
-promise_of : (input : List ℕ) (w : World) → AreLeased (moments input) → ((k : ℕ) (o : Op) → slice_get w.core.ops k ≡ Some o → Soon (book_of w (moments input)) o o.outcome) → run input ≡ Ok w → (h : Stands More (moments input) (moments input) w) → AllAwaited (moments input) (moments input) w.opening w.core h.queues → IsKeptPromise input w
-promise_of input w leased soon ran h awaited =
+promise_of : (input : List ℕ) (w : World) → AreLeased (moments input) → ((k : ℕ) (o : Op) → slice_get w.core.ops k ≡ Some o → Soon (book_of w (moments input)) o o.outcome) → run input ≡ Ok w → (h : Stands (AsMix More) (moments input) (moments input) w) → AllAwaited (moments input) (moments input) w.opening w.core (map queue_of h.mixes) → HaveNumbers w.core h.mixes → IsKeptPromise input w
+promise_of input w leased soon ran h awaited counted =
     let all : List Moment = moments input in
-    let stored : Stored all all w.opening w.core h.queues = h.more.0.0.1.0 in
-    let versions : Versions all all w.opening w.core h.queues = h.more.0.0.1.1.0 in
-    let changes : Changes all all w.opening w.core h.queues = h.more.0.0.1.1.1.0 in
-    let logs : Logs all all w.opening w.core h.queues = h.more.0.0.1.1.1.1 in
+    let qs : List Queue = map queue_of h.mixes in
+    let stored : Stored all all w.opening w.core qs = h.more.0.0.1.0 in
+    let versions : Versions all all w.opening w.core qs = h.more.0.0.1.1.0 in
+    let changes : Changes all all w.opening w.core qs = h.more.0.0.1.1.1.0 in
+    let logs : Logs all all w.opening w.core qs = h.more.0.0.1.1.1.1 in
     let walks : Walks all all w.core = h.more.1.1.1.0 (runs_in_order input) (w.core.steps, steps_counted (kept_laws fit_laws) fit_laws input w ran) h.more.1.1.1.1.1.1.each in
     record {
       chained = run_chained input w ran;
@@ -167,13 +174,14 @@ promise_of input w leased soon ran h awaited =
         commands = commands_said input w ran;
         counted = steps_counted (kept_laws fit_laws) fit_laws input w ran;
         count = deeds_counted w all h.more.0.0.0.followed;
-        done = (λ k d o was at. deeds_done w all soon h.queues h.kept h.more.0.0.0.followed k d o was at (is_known w all soon h walks k d o was at));
+        done = (λ k d o was at. deeds_done w all leased soon qs h.kept h.more.0.0.0.followed k d o was at (is_known w all leased soon h walks k d o was at));
         cuts = cuts_end w all h.more.0.0.0.cuts;
         journal = h.kept.sound.journal;
         settled = λ i p e at is kind. changes.0.0.settled i p e at is kind;
-        settles = settles_first (book_of w all) changes.0.0.first changes.0.1;
+        settles = settles_ready (book_of w all) changes.0.0.makes changes.0.1;
+        waits = λ m now place c there f. ready_soon m.before.server now place c f.there f.first f.ended f.awake;
         points = λ k o at. opens_at (book_of w all) o (λ len digest is. (logs.1.0.once k len digest o at is).called);
-        versions = opens_version (book_of w all) w.core h.queues h.kept versions.1;
+        versions = opens_version (book_of w all) w.core qs h.kept leased versions.1;
         no_fault = no_fault (book_of w all) h.kept.sound;
         traffic = stored.counted.counts;
         own = λ k o at. own_counts all o (logs.1.1.each k o at) (counts_log o all (stored.counted.counts k o at));
@@ -183,7 +191,7 @@ promise_of input w leased soon ran h awaited =
         files = λ k d o was at. (h.more.0.1.1.each k o at d was).filed;
         names = λ m there. names_change (book_of w all) m (h.more.1.0.named.each m there) changes.1.0.each;
         entered = λ m there. journal_grows (book_of w all) m (awaited.entered.each m there) changes.1.0.each;
-        whose = λ k p o at alters point. changed_by all all w.opening w.core h.queues awaited k p o at alters point;
+        whose = λ k p o at alters point. changed_by all all w.opening w.core qs awaited k p o at alters point;
         calls = λ k d o at is. own_calls d.command o (deals_of o all) (h.more.0.1.1.each k o is d at).each (logs.1.1.each k o is).0;
         numbered = λ n. changes.1.1.each n;
         silent = stored.counted.silent;
@@ -193,13 +201,13 @@ promise_of input w leased soon ran h awaited =
         named = λ k o at close. names_chunks all o close (stored.closes.each k o at);
         paid = λ k o at close. pays_all all o close (stored.closes.each k o at);
         stored = λ k o at sent. has_stored all o (stored.counted.counts k o at) (stored.closes.each k o at) (logs.1.1.each k o at) sent;
-        made = λ k p o at close point. made_sent (book_of w all) all w.opening w.core h.queues h.kept stored k p o at close point;
+        made = λ k p o at close point. made_sent (book_of w all) all w.opening w.core qs h.kept stored k p o at close point;
       };
-      legal = legal_kept (book_of w all) w.core h.queues h.kept leased;
+      legal = legal_kept (book_of w all) w.core qs h.kept leased;
       complete = record {
-        ended = completes fit_laws w all h.queues h.kept h.carry h.rested;
+        ended = completes fit_laws w all h.mixes h.kept h.carry h.fit h.rested;
         well = λ k d o was at alone asks free uncut.
-            ends_well (book_of w all) d o _ (λ n is status refused. (is_known w all soon h walks k d o was at).ends n is (asked_late (deeds_of all) w.core.ops k d o n (h.more.0.0.0.followed.deeds.each k d o was at) is asks free) status refused) (deeds_done w all soon h.queues h.kept h.more.0.0.0.followed k d o was at (is_known w all soon h walks k d o was at)) (completes fit_laws w all h.queues h.kept h.carry h.rested k o at alone) asks free uncut;
+            ends_well (book_of w all) d o _ (λ n is status refused. (is_known w all leased soon h walks k d o was at).ends n is (asked_late (deeds_of all) w.core.ops k d o n (h.more.0.0.0.followed.deeds.each k d o was at) is asks free) status refused) (deeds_done w all leased soon qs h.kept h.more.0.0.0.followed k d o was at (is_known w all leased soon h walks k d o was at)) (completes fit_laws w all h.mixes h.kept h.carry h.fit h.rested k o at alone) asks free uncut;
       };
       saving = record {
         known = λ m there. (h.more.1.0.saved.each m there).0;
@@ -211,11 +219,12 @@ promise_of input w leased soon ran h awaited =
         used = λ m k o there at. follows_used m o (h.more.0.1.0.each m there k o at);
         spares = λ m there. asks_version m;
         anew = λ m k o there at. follows_anew m o (h.more.0.1.0.each m there k o at);
+        at_once = λ m k o there at. both_at_once m o (h.more.0.1.0.now.each m there k o at);
       };
-      waiting = holds_values (book_of w all) w h.queues h.kept (have_stored (book_of w all) all all w.opening w.core h.queues h.kept stored (λ p o at. logs.1.1.each p o at));
-      tree = holds_files (book_of w all) w h.queues refl h.kept;
-      contents = holds_contents (book_of w all) w h.queues h.kept;
-      messages = holds_messages More fit_laws all all w h;
+      waiting = holds_values (book_of w all) w qs h.kept (have_stored (book_of w all) all all w.opening w.core qs h.kept stored (λ p o at. logs.1.1.each p o at));
+      tree = holds_files (book_of w all) w qs refl h.kept;
+      contents = holds_contents (book_of w all) w qs h.kept;
+      messages = holds_messages (AsMix More) fit_laws all all w h counted;
     }
   where
     -- it is an open
@@ -230,11 +239,18 @@ accepted_exactly = clocks_kept (kept_laws fit_laws) fit_laws
 pub passes_run : (input : List ℕ) (w : World) → run input ≡ Ok w → (count number server at : ℕ) → passes count w number server at ≡ rounds count w number server at
 passes_run input w ran count number server at = passes_are_rounds count w number server at (kept_run (kept_laws fit_laws) fit_laws input w ran).rested
 
+-- where what is carried of leases, whatever it is, gives that no note is stale and that RECALLs have numbers of their own
+pub promise_by : (C : MixFact) → CarriedMix C → (input : List ℕ) (w : World) → run input ≡ Ok w → ((ms : List Mix) → C (moments input) (moments input) w.opening w.core ms → AreLeased (moments input) × HaveNumbers w.core ms) → IsKeptPromise input w
+promise_by C claims input w ran gives =
+    let h = carried_run (λ all past opening k ms. AsMix Whole all past opening k ms × C all past opening k ms) (kept_laws fit_laws) fit_laws (both_carried (AsMix Whole) C (lifted Whole whole_carried) claims) input w ran in
+    let early = carried_plain AllSoon (kept_laws fit_laws) fit_laws (carried_soon fit_laws) input w ran in
+    let g = gives h.mixes h.more.1 in
+    promise_of input w g.0 (λ k o at. early.more.each g.0 k o at) ran (record { mixes = h.mixes; fit = h.fit; kept = h.kept; early = h.early; carry = h.carry; rested = h.rested; more = h.more.0.0 }) h.more.0.1 g.1
+
 pub promise_accepted : (input : List ℕ) (w : World) → accepted input ≡ Ok w → IsKeptPromise input w
 promise_accepted input w e =
-    let ran = ((accepted_exactly input w).0 e).0 in
-    let unnoted = carried_run (λ all past opening k qs. AllUnnoted past k.seats) (kept_laws fit_laws) fit_laws (carried_unnoted fit_laws) input w ran in
-    let h = carried_run Whole (kept_laws fit_laws) fit_laws whole_carried input w ran in
-    let early = carried_run AllSoon (kept_laws fit_laws) fit_laws (carried_soon fit_laws) input w ran in
-    let leased = none_fresh (moments input) w.core.seats unnoted.more in
-    promise_of input w leased (λ k o at. early.more.each leased k o at) ran (record { queues = h.queues; kept = h.kept; early = h.early; carry = h.carry; rested = h.rested; more = h.more.0 }) h.more.1
+    let ran = run_accepted input w e in
+    let c = accepted_clocked Whatever (has_room (kept_laws fit_laws) fit_laws) input w e in
+    promise_by (ClaimsBy c.0) (carried_claims fit_laws c.0) input w ran (λ ms h.
+    let g = h c.1 (all_given input) in
+    (g.1, claimed_numbers (noted_after [] c.0 (moments input)) (clock_after 0 c.0 (moments input)) w.core ms (g.0 (run_given input w ran))))

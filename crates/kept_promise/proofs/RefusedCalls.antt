@@ -18,11 +18,12 @@ use Rattle.server_core.specs.Step.{asks, asks_tree}
 use Rattle.server_core.specs.declared.change.Wanted.TheVariants as wanted
 use Rattle.server_core.specs.declared.event.Sent.{Sent}
 use Rattle.trace_replay.specs.Naming.{refusal_of, TreeTells}
-use Rattle.kept_promise.proofs.Common.{nat_lt, if◌then◌else◌, Contains, Contains-push_cases, Contains-append_cases, Failed, Status, Body, Message, parse_of, Temp, size_most, temp_at, room_fault, piece_fault, cond_fault, assembled, without_temp, File, Node, file, directory, node_of, called, got_if, at, stands, makes, makes_unless, writes_unless, names_unless, names_bytes, commits, commits_to, commits_whole, has_waiting, is_full, makes_change, Wanted, Change, Core, Event, Event.Serves, Event.Settles, CoreStep, server_waiting, happens, change_of}
+use Rattle.kept_promise.proofs.Common.{nat_lt, if◌then◌else◌, Contains, Contains-push_cases, Contains-append_cases, Failed, Status, Body, Message, parse_of, Temp, size_most, temp_at, room_fault, piece_fault, cond_fault, assembled, without_temp, File, Node, file, directory, node_of, called, got_if, at, stands, makes, makes_unless, writes_unless, names_unless, names_bytes, commits, commits_to, commits_whole, has_waiting, is_full, makes_change, Wanted, Change, Core, Event, Event.Serves, Event.Settles, CoreStep, server_waiting, server_waits, happens, change_of}
 use Rattle.server_core.specs.Recalling.{comes, recall_sent, recalls_for}
 use Rattle.server_core.specs.Leasing.{asking}
 use Rattle.callback_core.specs.declared.back_calls.Asked.{Asked as Recalled}
 use Rattle.kept_promise.proofs.Lists.{nothing_there}
+use Rattle.kept_promise.proofs.CallsAlike.{call_read}
 use Rattle.kept_promise.proofs.RunsCarried.{moment}
 use Rattle.kept_promise.proofs.Happens.{what_happens}
 
@@ -172,8 +173,8 @@ all_told k e = what_happens k e (IsTold k e) (record {
         subst (λ i. TreeTells (moment k (Serves n now bytes)) i y a) (sym h.0) (subst (λ i. TreeTells (moment k (Serves n now bytes)) n i a) (sym h.1) (inl (record { now = now; bytes = bytes; call = call; event_is = refl; parsed = read; told = h.2.0; told_is = h.2.1; answer_is = h.2.2 })))
     called_by n now bytes xid (body.Back z) read m y a s refused c = absurd (other_sent (called (at k.server now) n xid (body.Back z)).1.send m y a (tt, tt) c)
 
-    got_by : (n now : ℕ) (bytes : List ℕ) (z : Message) → parse_of server_waiting bytes ≡ Ok z → (b : Bool) → (m y : ℕ) (a : Nfs) (s : Status) → refusal_of a ≡ Some s → Contains (got_if k.server b n z now).1.send (told_on m y a) → TreeTells (moment k (Serves n now bytes)) m y a
-    got_by n now bytes (message.Call xid b) read true m y a s refused c = called_by n now bytes xid b read m y a s refused c
+    got_by : (n now : ℕ) (bytes : List ℕ) (z : Message) → parse_of (server_waits k n) bytes ≡ Ok z → (b : Bool) → (m y : ℕ) (a : Nfs) (s : Status) → refusal_of a ≡ Some s → Contains (got_if k.server b n z now).1.send (told_on m y a) → TreeTells (moment k (Serves n now bytes)) m y a
+    got_by n now bytes (message.Call xid b) read true m y a s refused c = called_by n now bytes xid b (call_read k n bytes xid b read) m y a s refused c
     got_by n now bytes (message.Unfit xid why) read true m y a s refused c = absurd (other_sent (got_if k.server true n (message.Unfit xid why) now).1.send m y a (tt, tt) c)
     got_by n now bytes (message.Answer xid b) read true m y a s refused c = absurd (other_sent [] m y a tt c)
     got_by n now bytes (message.Refuse xid r) read true m y a s refused c = absurd (other_sent [] m y a tt c)

@@ -1,5 +1,5 @@
 -- What a rewrite comes to by the answer to its GETLEASE: its file is open with nothing in it, or it was refused as an open is.
-use Rattle.std.proofs.Common.{◌⊎◌, inl, inr, ◌≡◌, ℕ, ◌+◌, ◌≤◌, List, [], length, Option, Some, None, false, true, refl, sym, ap, ◌∙◌, subst, arith}
+use Rattle.std.proofs.Common.{◌⊎◌, inl, inr, ◌≡◌, ℕ, ◌+◌, ◌≤◌, List, [], length, Some, None, false, true, refl, sym, ap, ◌∙◌, subst, arith}
 use Rattle.hash_calls.specs.declared.call.Leased.{Leased}
 use Rattle.xdr_codec.specs.declared.status.Status.TheVariants as status
 use Rattle.client_state.specs.State as client
@@ -13,7 +13,7 @@ use Rattle.trace_replay.specs.Causes.{IsDirectory}
 use Rattle.trace_replay.specs.Naming.{tree_at, IsInside}
 use Rattle.trace_replay.specs.OwnCalls.{TakesCall}
 use Rattle.tree_reading.specs.Tree.{directory_of}
-use Rattle.kept_promise.proofs.Common.{slice_get, slice_set, not, has_point, point_if, counted, no_counts, is_running, changes, idle, value_at, Answer, Done, Failed, Status, Stage, Local, Op, Traffic, Word, Core, Session, Book, Reply.Versioned, Told, Queue, local_at_itself, local_at_another}
+use Rattle.kept_promise.proofs.Common.{slice_set, not, has_point, point_if, counted, no_counts, is_running, changes, idle, value_at, Answer, Done, Failed, Status, Local, Op, Traffic, Word, Core, Session, Book, Reply.Versioned, Told, Queue, local_at_itself, local_at_another}
 use Rattle.kept_promise.proofs.Lists.{some_is, nothing_there, same_or_not, false_and_true, true_and_false}
 use Rattle.kept_promise.proofs.Messages.{Job, stage_word, lease_xid, lease_body, AnswerOf, RefusedTold, IsLeased, LeaseTold}
 use Rattle.kept_promise.proofs.Rights.{Caused, RefusedBy, DoneBy, Renewed, WasThere}
@@ -131,12 +131,12 @@ comes_renewed book k qs n x q t ts j g a at e said = by a (said j refl (ap lease
       forgotten = client.without_call (client.calls_of c) t.xid;
       cache = c.cache;
       index = c.index;
-      shows = stops_renewed book k qs n x q t ts j g tr told.Done opened quiet word refl (λ more grows steps. subst (DoneBy more (ended told.Done)) (sym w) (renewed more grows steps)) (λ f v is. ok f v is (same_or_not f j.file));
+      shows = stops_renewed book k qs n x q t ts j g tr told.Done opened quiet word refl (λ more grows steps. subst (DoneBy more (ended told.Done)) (sym w) (inl (renewed more grows steps))) (λ f v is. ok f v is (same_or_not f j.file));
       cached = inl (g.kept.seats x.owner h.seat h.owner).kept;
       state_is = refl;
       send_is = refl;
       ended_is = refl;
-      op_is = ap (λ v. open_op of.op tr (book.steps + 1) (point_if (has_point v outcome.Done) x.taken t.xid of.op.point) told.Done of.op.value) w;
+      op_is = ap (λ v. open_op of.op tr (book.steps + 1) (point_if (has_point v outcome.Done) x.taken t.xid (book.steps + 1) of.op.point) told.Done of.op.value) w;
     })
       where
         opened : List (ℕ × Local)
@@ -186,7 +186,7 @@ comes_renewed book k qs n x q t ts j g a at e said = by a (said j refl (ap lease
       state_is = refl;
       send_is = refl;
       ended_is = refl;
-      op_is = ap (λ v. open_op of.op tr (book.steps + 1) (point_if (has_point v (outcome.Refused status.IsDir)) x.taken t.xid of.op.point) (told.Refused 21) of.op.value) w;
+      op_is = ap (λ v. open_op of.op tr (book.steps + 1) (point_if (has_point v (outcome.Refused status.IsDir)) x.taken t.xid (book.steps + 1) of.op.point) (told.Refused 21) of.op.value) w;
     }))
       where
         after : of.op.begin ≤ dir.1.moment
@@ -216,7 +216,7 @@ comes_renewed book k qs n x q t ts j g a at e said = by a (said j refl (ap lease
       state_is = refl;
       send_is = refl;
       ended_is = refl;
-      op_is = ap (λ v. open_op of.op tr (book.steps + 1) (point_if (has_point v (outcome.Refused status.Stale)) x.taken t.xid of.op.point) (told.Refused 70) of.op.value) w;
+      op_is = ap (λ v. open_op of.op tr (book.steps + 1) (point_if (has_point v (outcome.Refused status.Stale)) x.taken t.xid (book.steps + 1) of.op.point) (told.Refused 70) of.op.value) w;
     }))
       where
         m : ℕ

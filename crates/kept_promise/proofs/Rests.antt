@@ -24,7 +24,7 @@ spares_none closing p e f = nothing_there p f
 pub kept_rest : (book more : Book) (k : Core) (qs : List Queue) (r : server.State) → Goes book more None None → IsServer more r → r.sessions_made ≡ k.server.sessions_made → ((m : ℕ) → SameView m k.server r)
     → ((i : ℕ) (g : Change) → slice_get r.waiting i ≡ Some g → (z : Session) × (numbered k.sessions g.session ≡ Some z) × (z.hung ≡ false))
     → ((p : ℕ) (o : Op) → slice_get more.ops p ≡ Some o → o.outcome ≡ told.Running → (e : Seat) × (j : Job) × (numbered k.seats o.client ≡ Some e) × (job e ≡ Some j) × (j.place ≡ p))
-    → more.journal ≡ r.journal → IsShelf r.temps → IsKept book k qs → IsKept more (turned_core more r k.seats k.sessions) qs
+    → more.journal ≡ r.journal → IsShelf r.temps → IsKept book k qs → IsKept more (turned_core k more r k.seats k.sessions) qs
 kept_rest book more k qs r goes server made view home running journal shelf h = record {
   ops = refl;
   steps = refl;
@@ -59,7 +59,7 @@ session_opened book seats others s n x q c o free was is h =
       stands_is = h.stands_is;
       ups_fit = h.ups_fit;
       downs_fit = h.downs_fit;
-      talk = λ at. let t = subst (IsTalk book n s.waiting x q) e (h.talk at) in record { floor = t.floor; under = t.under; rising = t.rising; asked = t.asked; answers = t.answers; fetch = t.fetch; balanced = t.balanced; busy = t.busy };
+      talk = λ at. let t = subst (IsTalk book n s.waiting x q) e (h.talk at) in record { floor = t.floor; under = t.under; rising = t.rising; numbered = t.numbered; asked = t.asked; answers = t.answers; fetch = t.fetch; balanced = t.balanced; busy = t.busy };
       contents = h.contents;
       lengths = h.lengths;
       commits = subst (λ (z : Option Job). AllAsks (IsCommit book x.closing x.cut z h.contents) q.ups) jobs h.commits;

@@ -14,24 +14,16 @@ use Rattle.wire.specs.declared.message.Body.TheVariants as body
 use Rattle.trace_replay.specs.Causes.{HasNoRoom, IsGone, IsDirectory, Within, OrBy}
 use Rattle.trace_replay.specs.Naming.{IsInside}
 use Rattle.trace_replay.specs.OwnCalls.{TakesCall}
+pub use Rattle.trace_replay.specs.AtOnce.{acts_for, acts_at, EndsFresh}
+use Rattle.trace_replay.specs.Trail.{step_of}
 use Rattle.trace_replay.specs.Faithful.{IsKind, HasJournal}
-use Rattle.std.proofs.Common.{List, Option}
+use Rattle.std.proofs.Common.{List}
 use Rattle.client_cache.specs.Cache.{content_of as kept_of, fresh_of}
 use Rattle.client_cache.specs.declared.kept.Content.{Content}
 use Rattle.kept_promise.proofs.Lists.{some_is}
-use Rattle.kept_promise.proofs.Common.{Entry, Core, Session, Event, Event.Does, Event.Hears, Or, Task, Seat, numbered, slice_get, not, is_some, Contains, sha1, File, Moment, value_at, version_at, is_lost, is_untold, Op, Word, Book, IsOpened, IsClosed, IsChanged, IsLost, IsOpenRefused, IsEntered, is_running, changes, nat_lt}
+use Rattle.kept_promise.proofs.Common.{Entry, Or, Task, Seat, numbered, slice_get, not, is_some, Contains, sha1, File, Moment, value_at, version_at, is_lost, is_untold, Op, Word, Book, IsOpened, IsClosed, IsChanged, IsLost, IsOpenRefused, IsEntered, is_running, changes, nat_lt}
 
 -- ---- what is fresh
-
--- the client that acts at an event, and its reading
-abbrev pub acts_for : Event → Option Session → Option (ℕ × ℕ)
-acts_for (Hears n now bytes) (Some x) = Some (x.owner, now)
-acts_for e x = None
-
-abbrev pub acts_at : Core → Event → Option (ℕ × ℕ)
-acts_at k (Does c now d) = Some (c, now)
-acts_at k (Hears n now bytes) = acts_for (Hears n now bytes) (numbered k.sessions n)
-acts_at k e = None
 
 -- at each moment a content that is fresh to the client that acts is of the version that the server's tree then has
 abbrev pub AreLeased : List Moment → Type 0
@@ -163,6 +155,16 @@ pub record Renewed (book : Book) (o : Op) : Type 0 where
   pub taken : TakesCall book o.client step xid (body.Lb (lb.GetLease (handle_bytes o.file)))
   pub known : WasThere book o.file
 
+-- or it ended at once, and the file was there then, if no note was stale
+pub record RenewedNow (book : Book) (o : Op) : Type 0 where
+  pub ends : EndsFresh book.moments o
+  pub past : step_of ends.moment ≤ book.steps
+  pub value_is : AreLeased book.moments → IsSome (value_at book o.file (step_of ends.moment))
+  pub known : WasThere book o.file
+
+abbrev pub RenewedBy : Book → Op → Type 0
+RenewedBy book o = Renewed book o ⊎ RenewedNow book o
+
 abbrev pub RefusedBy : Book → Op → Word → (status : ℕ) → Type 0
 -- one of a path may be refused before its file is known
 RefusedBy book o words.Open status = IsOpenRefused book o.file o status ⊎ ((o.file ≡ 0) × (status ≡ 70 → (p : ℕ) × Within o p) × WasWalk book o)
@@ -182,7 +184,7 @@ abbrev pub DoneBy : Book → Op → Word → Type 0
 DoneBy book o words.Make = IsSome o.point
 DoneBy book o words.Remove = IsSome o.point
 DoneBy book o words.Rename = nat_lt 0 o.file ≡ true → IsSome o.point
-DoneBy book o words.Rewrite = Renewed book o
+DoneBy book o words.Rewrite = RenewedBy book o
 DoneBy book o w = Unit {0}
 
 -- The cause of an outcome, by the word alone; what a client answers by itself has none here.

@@ -1,10 +1,12 @@
--- The wires carry the queues of messages, through what is lost and what is sent.
+-- The wires carry what is on its way, through what is lost and what is sent.
 use Rattle.std.proofs.Common.{inl, inr, ◌≡◌, ℕ, zero, suc, List, [], ◌∷◌, ◌++◌, length, Option, Some, None, Bool, true, false, refl, sym, ap, ◌∙◌, subst, arith, append_assoc, map}
 use Rattle.server_core.specs.declared.event.Sent.{Sent}
-use Rattle.kept_promise.proofs.Common.{slice_get, marked, stream, message_spell, Message, Session, Loss, Loss.Nothing, Loss.Down_of, Loss.Up_of, numbered, with_numbered, Wire, new_wire, bytes_of, unless, up_put_in, up_put, down_put_in, down_put, down_lost, up_lost, lost_by, Ask, Told, Queue, no_queue, Carries, ask_message, told_message}
+use Rattle.kept_promise.proofs.Common.{slice_get, marked, stream, message_spell, Message, Session, Loss, Loss.Nothing, Loss.Down_of, Loss.Up_of, numbered, with_numbered, Wire, new_wire, bytes_of, unless, up_put_in, up_put, down_put_in, down_put, down_lost, up_lost, lost_by, Ask, Told, Up, Up.Asks, Up.Replies, Down, up_message, down_message, Mix, no_mix, Carries, ask_message, reply_message}
 use Rattle.kept_promise.proofs.Lists.{some_is, nothing_there, same_or_not, of_appended, count_more}
 use Rattle.kept_promise.proofs.Turns.{Around, around_with, also_numbered}
-use Rattle.kept_promise.proofs.Leading.{sent_message, ups_put_in, ups_put, downs_put_in, downs_put, downs_lost, ups_lost, queues_lost, CarryAll, RoutesCarry}
+use Rattle.callback_core.specs.declared.back_calls.Asked.{Asked}
+use Rattle.server_core.specs.Recalling.{recall_sent}
+use Rattle.kept_promise.proofs.Leading.{sent_message, recall_down, told_down, sent_ups, sent_downs, mix_ups_in, mix_ups, mix_downs_in, mix_downs, mix_downs_lost, mix_ups_lost, mixes_lost, CarryAll, RoutesCarry}
 use Rattle.trace_ends.specs.Core.{Loss.Made}
 
 -- ---- messages in a row
@@ -22,33 +24,54 @@ bytes_both xs ys = ap stream (map_both message_spell xs ys) ∙ stream_both (map
 
 -- ---- one wire
 
-more_up : (q : Wire) (m : Queue) (asks : List Ask) → Carries q m → Carries (record q { up = q.up ++ bytes_of (map ask_message asks) }) (record m { ups = m.ups ++ asks })
-more_up q m asks c = record {
+more_up : (q : Wire) (m : Mix) (us : List Up) → Carries q m → Carries (record q { up = q.up ++ bytes_of (map up_message us) }) (record m { ups = m.ups ++ us })
+more_up q m us c = record {
   up_sound = c.up_sound;
-  up = sym (append_assoc q.server_end.rest q.up (bytes_of (map ask_message asks))) ∙ ap (λ (z : List ℕ). z ++ bytes_of (map ask_message asks)) c.up ∙ sym (bytes_both (map ask_message m.ups) (map ask_message asks)) ∙ ap bytes_of (sym (map_both ask_message m.ups asks));
+  up = sym (append_assoc q.server_end.rest q.up (bytes_of (map up_message us))) ∙ ap (λ (z : List ℕ). z ++ bytes_of (map up_message us)) c.up ∙ sym (bytes_both (map up_message m.ups) (map up_message us)) ∙ ap bytes_of (sym (map_both up_message m.ups us));
   down_sound = c.down_sound;
   down = c.down;
 }
 
-sent_up : (lost : Bool) (q : Wire) (m : Queue) (asks : List Ask) → Carries q m → Carries (record q { up = unless lost q.up (bytes_of (map ask_message asks)) }) (record m { ups = unless lost m.ups asks })
-sent_up true q m asks c = c
-sent_up false q m asks c = more_up q m asks c
+sent_up : (lost : Bool) (q : Wire) (m : Mix) (us : List Up) → Carries q m → Carries (record q { up = unless lost q.up (bytes_of (map up_message us)) }) (record m { ups = unless lost m.ups us })
+sent_up true q m us c = c
+sent_up false q m us c = more_up q m us c
 
-more_down : (q : Wire) (m : Queue) (ts : List Told) → Carries q m → Carries (record q { down = q.down ++ bytes_of (map told_message ts) }) (record m { downs = m.downs ++ ts })
-more_down q m ts c = record {
+more_down : (q : Wire) (m : Mix) (ds : List Down) → Carries q m → Carries (record q { down = q.down ++ bytes_of (map down_message ds) }) (record m { downs = m.downs ++ ds })
+more_down q m ds c = record {
   up_sound = c.up_sound;
   up = c.up;
   down_sound = c.down_sound;
-  down = sym (append_assoc q.client_end.rest q.down (bytes_of (map told_message ts))) ∙ ap (λ (z : List ℕ). z ++ bytes_of (map told_message ts)) c.down ∙ sym (bytes_both (map told_message m.downs) (map told_message ts)) ∙ ap bytes_of (sym (map_both told_message m.downs ts));
+  down = sym (append_assoc q.client_end.rest q.down (bytes_of (map down_message ds))) ∙ ap (λ (z : List ℕ). z ++ bytes_of (map down_message ds)) c.down ∙ sym (bytes_both (map down_message m.downs) (map down_message ds)) ∙ ap bytes_of (sym (map_both down_message m.downs ds));
 }
 
-sent_down : (lost : Bool) (q : Wire) (m : Queue) (t : Told) → Carries q m → Carries (record q { down = unless lost q.down (bytes_of (told_message t ∷ [])) }) (record m { downs = unless lost m.downs (t ∷ []) })
-sent_down true q m t c = c
-sent_down false q m t c = more_down q m (t ∷ []) c
+sent_down : (lost : Bool) (q : Wire) (m : Mix) (d : Down) → Carries q m → Carries (record q { down = unless lost q.down (bytes_of (down_message d ∷ [])) }) (record m { downs = unless lost m.downs (d ∷ []) })
+sent_down true q m d c = c
+sent_down false q m d c = more_down q m (d ∷ []) c
+
+-- ---- what is sent, as messages
+
+ups_spelled : (xs : List ℕ) (cs : List Ask) → map up_message (map Replies xs ++ map Asks cs) ≡ map reply_message xs ++ map ask_message cs
+ups_spelled [] cs = by cs
+  where
+    by : (cs : List Ask) → map up_message (map Asks cs) ≡ map ask_message cs
+    by [] = refl
+    by (a ∷ cs) = ap (λ (l : List Message). ask_message a ∷ l) (by cs)
+ups_spelled (x ∷ xs) cs = ap (λ (l : List Message). reply_message x ∷ l) (ups_spelled xs cs)
+
+abbrev down_sent : ℕ × Down → Sent
+down_sent p = record { session = p.0; message = down_message p.1 }
+
+downs_spelled : (cs : List Asked) (ts : List (ℕ × Told)) → map down_sent (map recall_down cs ++ map told_down ts) ≡ map recall_sent cs ++ map sent_message ts
+downs_spelled [] ts = by ts
+  where
+    by : (ts : List (ℕ × Told)) → map down_sent (map told_down ts) ≡ map sent_message ts
+    by [] = refl
+    by (t ∷ ts) = ap (λ (l : List Sent). sent_message t ∷ l) (by ts)
+downs_spelled (a ∷ cs) ts = ap (λ (l : List Sent). recall_sent a ∷ l) (downs_spelled cs ts)
 
 -- ---- all wires
 
-pub carry_with : (ws : List Wire) (qs : List Queue) (n : ℕ) (q r : Wire) (m l : Queue) → CarryAll ws qs → numbered ws n ≡ Some q → numbered qs n ≡ Some m → Carries r l → CarryAll (with_numbered ws n r) (with_numbered qs n l)
+pub carry_with : (ws : List Wire) (qs : List Mix) (n : ℕ) (q r : Wire) (m l : Mix) → CarryAll ws qs → numbered ws n ≡ Some q → numbered qs n ≡ Some m → Carries r l → CarryAll (with_numbered ws n r) (with_numbered qs n l)
 carry_with ws qs n q r m l c at is own =
     let a : Around ws (with_numbered ws n r) n r = around_with ws n q r at in
     let b : Around qs (with_numbered qs n l) n l = around_with qs n m l is in (
@@ -57,20 +80,20 @@ carry_with ws qs n q r m l c at is own =
         | inl e ↦
             let first : p ≡ r = some_is p r (sym g ∙ ap (numbered (with_numbered ws n r)) e ∙ a.there) in
             let second : z ≡ l = some_is z l (sym h ∙ ap (numbered (with_numbered qs n l)) e ∙ b.there) in
-            subst (λ (v : Wire). Carries v z) (sym first) (subst (λ (v : Queue). Carries r v) (sym second) own)
+            subst (λ (v : Wire). Carries v z) (sym first) (subst (λ (v : Mix). Carries r v) (sym second) own)
         | inr apart ↦ c.1 k p z (sym (a.others k apart) ∙ g) (sym (b.others k apart) ∙ h)
       ],
     )
 
 -- both have something at a number, or neither
-data Both (ws : List Wire) (qs : List Queue) (n : ℕ) : Type 0 where
+data Both (ws : List Wire) (qs : List Mix) (n : ℕ) : Type 0 where
   neither : numbered ws n ≡ None → numbered qs n ≡ None → Both ws qs n
-  each : (q : Wire) (m : Queue) → numbered ws n ≡ Some q → numbered qs n ≡ Some m → Both ws qs n
+  each : (q : Wire) (m : Mix) → numbered ws n ≡ Some q → numbered qs n ≡ Some m → Both ws qs n
 
-both : (ws : List Wire) (qs : List Queue) (n : ℕ) → length ws ≡ length qs → Both ws qs n
+both : (ws : List Wire) (qs : List Mix) (n : ℕ) → length ws ≡ length qs → Both ws qs n
 both ws qs n e = by (numbered ws n) refl
   where
-    by_none : numbered ws n ≡ None → (o : Option Queue) → numbered qs n ≡ o → Both ws qs n
+    by_none : numbered ws n ≡ None → (o : Option Mix) → numbered qs n ≡ o → Both ws qs n
     by_none f None g = neither f g
     by_none f (Some m) g = let w = also_numbered qs ws n m e g in nothing_there w.0 (sym f ∙ w.1)
 
@@ -78,36 +101,36 @@ both ws qs n e = by (numbered ws n) refl
     by None f = by_none f (numbered qs n) refl
     by (Some q) f = let w = also_numbered ws qs n q (sym e) f in each q w.0 f w.1
 
-ups_carry_in : (sessions : List Session) (ws : List Wire) (qs : List Queue) (n : ℕ) (asks : List Ask) (x : Option Session) → CarryAll ws qs → CarryAll (up_put_in ws n (map ask_message asks) x (numbered ws n)) (ups_put_in qs n asks x (numbered qs n))
-ups_carry_in sessions ws qs n asks None c = c
-ups_carry_in sessions ws qs n asks (Some x) c = by (both ws qs n c.0)
+ups_carry_in : (sessions : List Session) (ws : List Wire) (qs : List Mix) (n : ℕ) (us : List Up) (x : Option Session) → CarryAll ws qs → CarryAll (up_put_in ws n (map up_message us) x (numbered ws n)) (mix_ups_in qs n us x (numbered qs n))
+ups_carry_in sessions ws qs n us None c = c
+ups_carry_in sessions ws qs n us (Some x) c = by (both ws qs n c.0)
   where
-    by : Both ws qs n → CarryAll (up_put_in ws n (map ask_message asks) (Some x) (numbered ws n)) (ups_put_in qs n asks (Some x) (numbered qs n))
-    by (neither f g) = subst (λ (o : Option Wire). CarryAll (up_put_in ws n (map ask_message asks) (Some x) o) (ups_put_in qs n asks (Some x) (numbered qs n))) (sym f) (subst (λ (o : Option Queue). CarryAll ws (ups_put_in qs n asks (Some x) o)) (sym g) c)
+    by : Both ws qs n → CarryAll (up_put_in ws n (map up_message us) (Some x) (numbered ws n)) (mix_ups_in qs n us (Some x) (numbered qs n))
+    by (neither f g) = subst (λ (o : Option Wire). CarryAll (up_put_in ws n (map up_message us) (Some x) o) (mix_ups_in qs n us (Some x) (numbered qs n))) (sym f) (subst (λ (o : Option Mix). CarryAll ws (mix_ups_in qs n us (Some x) o)) (sym g) c)
     by (each q m f g) =
-        subst (λ (o : Option Wire). CarryAll (up_put_in ws n (map ask_message asks) (Some x) o) (ups_put_in qs n asks (Some x) (numbered qs n))) (sym f)
-        (subst (λ (o : Option Queue). CarryAll (up_put_in ws n (map ask_message asks) (Some x) (Some q)) (ups_put_in qs n asks (Some x) o)) (sym g)
-        (carry_with ws qs n q _ m _ c f g (sent_up x.hung q m asks (c.1 n q m f g))))
+        subst (λ (o : Option Wire). CarryAll (up_put_in ws n (map up_message us) (Some x) o) (mix_ups_in qs n us (Some x) (numbered qs n))) (sym f)
+        (subst (λ (o : Option Mix). CarryAll (up_put_in ws n (map up_message us) (Some x) (Some q)) (mix_ups_in qs n us (Some x) o)) (sym g)
+        (carry_with ws qs n q _ m _ c f g (sent_up x.hung q m us (c.1 n q m f g))))
 
-ups_carry : (sessions : List Session) (ws : List Wire) (qs : List Queue) (o : Option ℕ) (asks : List Ask) → CarryAll ws qs → CarryAll (up_put sessions ws o (map ask_message asks)) (ups_put sessions qs o asks)
-ups_carry sessions ws qs None asks c = c
-ups_carry sessions ws qs (Some n) asks c = ups_carry_in sessions ws qs n asks (numbered sessions n) c
+ups_carry : (sessions : List Session) (ws : List Wire) (qs : List Mix) (o : Option ℕ) (us : List Up) → CarryAll ws qs → CarryAll (up_put sessions ws o (map up_message us)) (mix_ups sessions qs o us)
+ups_carry sessions ws qs None us c = c
+ups_carry sessions ws qs (Some n) us c = ups_carry_in sessions ws qs n us (numbered sessions n) c
 
-downs_carry_in : (ws : List Wire) (qs : List Queue) (p : ℕ × Told) (x : Option Session) → CarryAll ws qs → CarryAll (down_put_in ws (sent_message p) x (numbered ws p.0)) (downs_put_in qs p x (numbered qs p.0))
+downs_carry_in : (ws : List Wire) (qs : List Mix) (p : ℕ × Down) (x : Option Session) → CarryAll ws qs → CarryAll (down_put_in ws (down_sent p) x (numbered ws p.0)) (mix_downs_in qs p x (numbered qs p.0))
 downs_carry_in ws qs p None c = c
 downs_carry_in ws qs p (Some x) c = by (both ws qs p.0 c.0)
   where
-    by : Both ws qs p.0 → CarryAll (down_put_in ws (sent_message p) (Some x) (numbered ws p.0)) (downs_put_in qs p (Some x) (numbered qs p.0))
-    by (neither f g) = subst (λ (o : Option Wire). CarryAll (down_put_in ws (sent_message p) (Some x) o) (downs_put_in qs p (Some x) (numbered qs p.0))) (sym f) (subst (λ (o : Option Queue). CarryAll ws (downs_put_in qs p (Some x) o)) (sym g) c)
+    by : Both ws qs p.0 → CarryAll (down_put_in ws (down_sent p) (Some x) (numbered ws p.0)) (mix_downs_in qs p (Some x) (numbered qs p.0))
+    by (neither f g) = subst (λ (o : Option Wire). CarryAll (down_put_in ws (down_sent p) (Some x) o) (mix_downs_in qs p (Some x) (numbered qs p.0))) (sym f) (subst (λ (o : Option Mix). CarryAll ws (mix_downs_in qs p (Some x) o)) (sym g) c)
     by (each q m f g) =
-        subst (λ (o : Option Wire). CarryAll (down_put_in ws (sent_message p) (Some x) o) (downs_put_in qs p (Some x) (numbered qs p.0))) (sym f)
-        (subst (λ (o : Option Queue). CarryAll (down_put_in ws (sent_message p) (Some x) (Some q)) (downs_put_in qs p (Some x) o)) (sym g)
+        subst (λ (o : Option Wire). CarryAll (down_put_in ws (down_sent p) (Some x) o) (mix_downs_in qs p (Some x) (numbered qs p.0))) (sym f)
+        (subst (λ (o : Option Mix). CarryAll (down_put_in ws (down_sent p) (Some x) (Some q)) (mix_downs_in qs p (Some x) o)) (sym g)
         (carry_with ws qs p.0 q _ m _ c f g (sent_down x.cut q m p.1 (c.1 p.0 q m f g))))
 
-downs_carry : (sessions : List Session) (ws : List Wire) (qs : List Queue) (ps : List (ℕ × Told)) → CarryAll ws qs → CarryAll (down_put sessions ws (map sent_message ps)) (downs_put sessions qs ps)
+downs_carry : (sessions : List Session) (ws : List Wire) (qs : List Mix) (ps : List (ℕ × Down)) → CarryAll ws qs → CarryAll (down_put sessions ws (map down_sent ps)) (mix_downs sessions qs ps)
 downs_carry sessions ws qs [] c = c
 downs_carry sessions ws qs (p ∷ ps) c =
-    downs_carry sessions (down_put_in ws (sent_message p) (numbered sessions p.0) (numbered ws p.0)) (downs_put_in qs p (numbered sessions p.0) (numbered qs p.0)) ps (downs_carry_in ws qs p (numbered sessions p.0) c)
+    downs_carry sessions (down_put_in ws (down_sent p) (numbered sessions p.0) (numbered ws p.0)) (mix_downs_in qs p (numbered sessions p.0) (numbered qs p.0)) ps (downs_carry_in ws qs p (numbered sessions p.0) c)
 
 -- ---- what is lost
 
@@ -116,48 +139,50 @@ past_end [] k x e f = nothing_there x f
 past_end (y ∷ xs) zero x e f = absurd (omega (arith, e))
 past_end (y ∷ xs) (suc k) x e f = past_end xs k x (omega (arith, e)) f
 
-carry_new : (ws : List Wire) (qs : List Queue) → CarryAll ws qs → CarryAll (ws ++ new_wire ∷ []) (qs ++ no_queue ∷ [])
-carry_new ws qs c = (count_more ws new_wire ∙ ap suc c.0 ∙ sym (count_more qs no_queue), at)
+carry_new : (ws : List Wire) (qs : List Mix) → CarryAll ws qs → CarryAll (ws ++ new_wire ∷ []) (qs ++ no_mix ∷ [])
+carry_new ws qs c = (count_more ws new_wire ∙ ap suc c.0 ∙ sym (count_more qs no_mix), at)
   where
-    at : (n : ℕ) (q : Wire) (m : Queue) → numbered (ws ++ new_wire ∷ []) n ≡ Some q → numbered (qs ++ no_queue ∷ []) n ≡ Some m → Carries q m
+    at : (n : ℕ) (q : Wire) (m : Mix) → numbered (ws ++ new_wire ∷ []) n ≡ Some q → numbered (qs ++ no_mix ∷ []) n ≡ Some m → Carries q m
     at zero q m f g = nothing_there q f
     at (suc k) q m f g = elim (of_appended ws new_wire k q f) [
-      | inl a ↦ elim (of_appended qs no_queue k m g) [
-        | inl b ↦ subst (λ (v : Wire). Carries v m) (sym a.1) (subst (λ (v : Queue). Carries new_wire v) (sym b.1) (record { up_sound = refl; up = refl; down_sound = refl; down = refl }))
+      | inl a ↦ elim (of_appended qs no_mix k m g) [
+        | inl b ↦ subst (λ (v : Wire). Carries v m) (sym a.1) (subst (λ (v : Mix). Carries new_wire v) (sym b.1) (record { up_sound = refl; up = refl; down_sound = refl; down = refl }))
         | inr b ↦ let w = also_numbered qs ws (suc k) m c.0 b in absurd (past_end ws k w.0 a.0 w.1)
       ]
-      | inr a ↦ elim (of_appended qs no_queue k m g) [
+      | inr a ↦ elim (of_appended qs no_mix k m g) [
         | inl b ↦ let w = also_numbered ws qs (suc k) q (sym c.0) a in absurd (past_end qs k w.0 b.0 w.1)
         | inr b ↦ c.1 (suc k) q m a b
       ]
     ]
 
-lost_carry : (ws : List Wire) (qs : List Queue) (loss : Loss) → CarryAll ws qs → CarryAll (lost_by ws loss) (queues_lost qs loss)
+lost_carry : (ws : List Wire) (qs : List Mix) (loss : Loss) → CarryAll ws qs → CarryAll (lost_by ws loss) (mixes_lost qs loss)
 lost_carry ws qs Nothing c = c
 lost_carry ws qs Made c = carry_new ws qs c
 lost_carry ws qs (Down_of n) c = by (both ws qs n c.0)
   where
-    by : Both ws qs n → CarryAll (down_lost ws n (numbered ws n)) (downs_lost qs n (numbered qs n))
-    by (neither f g) = subst (λ (o : Option Wire). CarryAll (down_lost ws n o) (downs_lost qs n (numbered qs n))) (sym f) (subst (λ (o : Option Queue). CarryAll ws (downs_lost qs n o)) (sym g) c)
+    by : Both ws qs n → CarryAll (down_lost ws n (numbered ws n)) (mix_downs_lost qs n (numbered qs n))
+    by (neither f g) = subst (λ (o : Option Wire). CarryAll (down_lost ws n o) (mix_downs_lost qs n (numbered qs n))) (sym f) (subst (λ (o : Option Mix). CarryAll ws (mix_downs_lost qs n o)) (sym g) c)
     by (each q m f g) =
         let own = c.1 n q m f g in
-        subst (λ (o : Option Wire). CarryAll (down_lost ws n o) (downs_lost qs n (numbered qs n))) (sym f)
-        (subst (λ (o : Option Queue). CarryAll (down_lost ws n (Some q)) (downs_lost qs n o)) (sym g)
+        subst (λ (o : Option Wire). CarryAll (down_lost ws n o) (mix_downs_lost qs n (numbered qs n))) (sym f)
+        (subst (λ (o : Option Mix). CarryAll (down_lost ws n (Some q)) (mix_downs_lost qs n o)) (sym g)
         (carry_with ws qs n q _ m _ c f g (record { up_sound = own.up_sound; up = own.up; down_sound = refl; down = refl })))
 lost_carry ws qs (Up_of n) c = by (both ws qs n c.0)
   where
-    by : Both ws qs n → CarryAll (up_lost ws n (numbered ws n)) (ups_lost qs n (numbered qs n))
-    by (neither f g) = subst (λ (o : Option Wire). CarryAll (up_lost ws n o) (ups_lost qs n (numbered qs n))) (sym f) (subst (λ (o : Option Queue). CarryAll ws (ups_lost qs n o)) (sym g) c)
+    by : Both ws qs n → CarryAll (up_lost ws n (numbered ws n)) (mix_ups_lost qs n (numbered qs n))
+    by (neither f g) = subst (λ (o : Option Wire). CarryAll (up_lost ws n o) (mix_ups_lost qs n (numbered qs n))) (sym f) (subst (λ (o : Option Mix). CarryAll ws (mix_ups_lost qs n o)) (sym g) c)
     by (each q m f g) =
         let own = c.1 n q m f g in
-        subst (λ (o : Option Wire). CarryAll (up_lost ws n o) (ups_lost qs n (numbered qs n))) (sym f)
-        (subst (λ (o : Option Queue). CarryAll (up_lost ws n (Some q)) (ups_lost qs n o)) (sym g)
+        subst (λ (o : Option Wire). CarryAll (up_lost ws n o) (mix_ups_lost qs n (numbered qs n))) (sym f)
+        (subst (λ (o : Option Mix). CarryAll (up_lost ws n (Some q)) (mix_ups_lost qs n o)) (sym g)
         (carry_with ws qs n q _ m _ c f g (record { up_sound = refl; up = refl; down_sound = own.down_sound; down = own.down })))
 
 pub routes_carry : RoutesCarry
-routes_carry = λ wires qs t s c.
-    let lost : CarryAll (lost_by wires t.loss) (queues_lost qs t.loss) = lost_carry wires qs t.loss c in
-    let up : CarryAll (up_put t.core.sessions (lost_by wires t.loss) t.session t.up) (ups_put t.core.sessions (queues_lost qs t.loss) t.session s.asks) = subst (λ (ms : List Message). CarryAll (up_put t.core.sessions (lost_by wires t.loss) t.session ms) (ups_put t.core.sessions (queues_lost qs t.loss) t.session s.asks)) (sym s.up_is) (ups_carry t.core.sessions (lost_by wires t.loss) (queues_lost qs t.loss) t.session s.asks lost) in
+routes_carry = λ wires ms t s c.
+    let lost : CarryAll (lost_by wires t.loss) (mixes_lost ms t.loss) = lost_carry wires ms t.loss c in
+    let us : List Up = sent_ups t s in
+    let ds : List (ℕ × Down) = sent_downs t s in
+    let up : CarryAll (up_put t.core.sessions (lost_by wires t.loss) t.session t.up) (mix_ups t.core.sessions (mixes_lost ms t.loss) t.session us) = subst (λ (zs : List Message). CarryAll (up_put t.core.sessions (lost_by wires t.loss) t.session zs) (mix_ups t.core.sessions (mixes_lost ms t.loss) t.session us)) (ups_spelled s.replies s.asks ∙ sym s.up_is) (ups_carry t.core.sessions (lost_by wires t.loss) (mixes_lost ms t.loss) t.session us lost) in
     let ws : List Wire = up_put t.core.sessions (lost_by wires t.loss) t.session t.up in
-    let ks : List Queue = ups_put t.core.sessions (queues_lost qs t.loss) t.session s.asks in
-    subst (λ (ss : List Sent). CarryAll (down_put t.core.sessions ws ss) (downs_put t.core.sessions ks s.tolds)) (sym s.down_is) (downs_carry t.core.sessions ws ks s.tolds up)
+    let ks : List Mix = mix_ups t.core.sessions (mixes_lost ms t.loss) t.session us in
+    subst (λ (ss : List Sent). CarryAll (down_put t.core.sessions ws ss) (mix_downs t.core.sessions ks ds)) (downs_spelled s.recalls s.tolds ∙ sym s.down_is) (downs_carry t.core.sessions ws ks ds up)

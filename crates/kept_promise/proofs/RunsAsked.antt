@@ -15,8 +15,8 @@ use Rattle.kept_promise.proofs.RunsResults.{asking, refused_line}
 abbrev pub turn_of : (dir : ℕ) → Line → Turn
 turn_of dir line.Skipped = turn.Skip
 turn_of dir line.Version = turn.At stage.Term
-turn_of dir (line.Term n) = turn.At stage.Drift
-turn_of dir (line.Drift n) = turn.At stage.Clients
+turn_of dir (line.Term n) = turn.Term n
+turn_of dir (line.Drift n) = turn.Drift n
 turn_of dir (line.Clients n) = turn.Clients n
 turn_of dir (line.Dir spot) = turn.Dir dir spot.name
 turn_of dir (line.File spot content) = turn.File dir spot.name content
@@ -78,8 +78,8 @@ file_turn spot size content (Some dir) t e = (dir, sized_turn _ _ (turn.File dir
 
 stage_turn : (w : World) (s : Stage) (l : Line) (t : Turn) → asks_at w s l ≡ asking t → (dir : ℕ) × (t ≡ turn_of dir l)
 stage_turn w stage.Version line.Version t e = (0, turn_is (turn.At stage.Term) t e)
-stage_turn w stage.Term (line.Term n) t e = (0, turn_is (turn.At stage.Drift) t e)
-stage_turn w stage.Drift (line.Drift d) t e = (0, turn_is (turn.At stage.Clients) t e)
+stage_turn w stage.Term (line.Term n) t e = (0, turn_is (turn.Term n) t e)
+stage_turn w stage.Drift (line.Drift d) t e = (0, turn_is (turn.Drift d) t e)
 stage_turn w stage.Clients (line.Clients n) t e = (0, turn_is (turn.Clients n) t e)
 stage_turn w stage.Files (line.Dir spot) t e = directory_turn spot (place_for w.core.server.tree spot) t e
 stage_turn w stage.Files (line.File spot content) t e = file_turn spot w.size content (place_for w.core.server.tree spot) t e

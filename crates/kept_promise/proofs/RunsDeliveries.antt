@@ -1,28 +1,33 @@
--- Bytes that come to an end, in whatever pieces: each record that they complete is that of the first call, or answer, on its way.
+-- Bytes that come to an end, in whatever pieces: each record that they complete is that of the first message on its way.
 use Rattle.std.proofs.Common.{◌≡◌, ℕ, zero, suc, ◌≤◌, List, [], ◌∷◌, ◌++◌, length, take, drop, Option, Some, None, Bool, true, false, refl, sym, ap, ◌∙◌, subst, arith, append-nil, append_assoc, map}
-use Rattle.kept_promise.proofs.Common.{take-append-drop, All-nil, All-cons, All, fed, stream, message_spell, MessageFits, Message, Event, Event.Serves, Event.Hears, CoreStep, numbered, with_numbered, happens, World, Wire, bytes_of, happened, all_happened, up_taken, up_at, up_some, down_taken, down_at, down_some, up_length, down_length, up_all, round, is_still, passes, Moment, moments_of, up_moments_at, up_moments, down_moments_at, down_moments, round_moments, passes_moments, book_of, Ask, Told, Queue, Carries, ask_message, told_message}
+use Rattle.kept_promise.proofs.Common.{take-append-drop, All-nil, All-cons, All, fed, stream, message_spell, MessageFits, Message, Event, Event.Serves, Event.Hears, CoreStep, numbered, with_numbered, happens, World, Wire, bytes_of, happened, all_happened, up_taken, up_at, up_some, down_taken, down_at, down_some, up_length, down_length, up_all, round, is_still, passes, Moment, moments_of, up_moments_at, up_moments, down_moments_at, down_moments, round_moments, passes_moments, book_of, Up, Up.Asks, Up.Replies, Down, Down.Tells, Down.Recalls, up_message, down_message, reply_message, asks_in, tolds_in, Mix, queue_of, Carries, ask_message, told_message}
 use Rattle.kept_promise.proofs.Statements.{CallFits}
 use Rattle.kept_promise.proofs.Messages.{AllAsks, AllTolds}
 use Rattle.kept_promise.proofs.Facts.{IsKept}
 use Rattle.kept_promise.proofs.Fits.{FitLaws}
 use Rattle.kept_promise.proofs.Turns.{also_numbered, around_with}
-use Rattle.kept_promise.proofs.Leading.{queues_after, CarryAll}
+use Rattle.std.specs.List.{AllByRecursion}
+use Rattle.lease_law.specs.Claims.{recall_message}
+use Rattle.kept_promise.proofs.Leading.{mixes_after, CarryAll}
+use Rattle.kept_promise.proofs.Mixes.{UpFits, DownFits, AreMixes, there_plain}
+use Rattle.kept_promise.proofs.MixesFit.{map_count}
+use Rattle.kept_promise.proofs.Replies.{reply_fits, recall_fits}
 use Rattle.kept_promise.proofs.Routes.{routes_carry, carry_with}
 use Rattle.kept_promise.proofs.Bytes.{streams_come}
 use Rattle.kept_promise.proofs.Deliveries.{serves_silent, hears_silent}
 use Rattle.kept_promise.proofs.Rounds.{AreRested, rests_up, rests_down}
-use Rattle.kept_promise.proofs.RunsCarried.{KeptLaws, moment, Carried, Stands}
+use Rattle.kept_promise.proofs.RunsCarried.{KeptLaws, moment, CarriedMix, Stands}
 use Rattle.kept_promise.proofs.Places.{becomes, there_is, become_same}
 use Rattle.kept_promise.proofs.RunsQueues.{off_ups, off_downs, served_off, served_has, heard_off, heard_has, ups_next, downs_next}
-use Rattle.kept_promise.proofs.RunsEvents.{Fact, left_by}
+use Rattle.kept_promise.proofs.RunsEvents.{MixFact, left_by}
 
 -- ---- records and messages
 
-abbrev ask_bytes : Ask → List ℕ
-ask_bytes a = message_spell (ask_message a)
+abbrev up_bytes : Up → List ℕ
+up_bytes u = message_spell (up_message u)
 
-abbrev told_bytes : Told → List ℕ
-told_bytes t = message_spell (told_message t)
+abbrev down_bytes : Down → List ℕ
+down_bytes d = message_spell (down_message d)
 
 spells : {A : Type 0} (f : A → Message) (xs : List A) → map message_spell (map f xs) ≡ map (λ x. message_spell (f x)) xs
 spells f [] = refl
@@ -59,13 +64,15 @@ drop_front (x ∷ xs) ys = drop_front xs ys
 pub fits_short : (m : Message) → MessageFits m → length (message_spell m) ≤ 131072
 fits_short m f = let l = f.1 in omega (arith, l)
 
-pub asks_short : FitLaws → (us : List Ask) → AllAsks (λ a. CallFits a.xid a.call) us → All (λ r. length r ≤ 131072) (map message_spell (map ask_message us))
-asks_short fits [] h = All-nil (λ r. length r ≤ 131072)
-asks_short fits (a ∷ us) h = All-cons (λ r. length r ≤ 131072) (ask_bytes a) (map message_spell (map ask_message us)) (fits_short (ask_message a) (fits.calls a.xid a.call h.0).0) (asks_short fits us h.1)
+pub ups_short : FitLaws → (us : List Up) → AllAsks (λ a. CallFits a.xid a.call) (asks_in us) → AllByRecursion UpFits us → All (λ r. length r ≤ 131072) (map message_spell (map up_message us))
+ups_short fits [] h small = All-nil (λ r. length r ≤ 131072)
+ups_short fits (Asks a ∷ us) h small = All-cons (λ r. length r ≤ 131072) (up_bytes (Asks a)) (map message_spell (map up_message us)) (fits_short (ask_message a) (fits.calls a.xid a.call h.0).0) (ups_short fits us h.1 small.1)
+ups_short fits (Replies xid ∷ us) h small = All-cons (λ r. length r ≤ 131072) (up_bytes (Replies xid)) (map message_spell (map up_message us)) (fits_short (reply_message xid) (reply_fits xid small.0)) (ups_short fits us h small.1)
 
-pub tolds_short : (ts : List Told) → AllTolds (λ t. MessageFits (told_message t)) ts → All (λ r. length r ≤ 131072) (map message_spell (map told_message ts))
-tolds_short [] h = All-nil (λ r. length r ≤ 131072)
-tolds_short (t ∷ ts) h = All-cons (λ r. length r ≤ 131072) (told_bytes t) (map message_spell (map told_message ts)) (fits_short (told_message t) h.0) (tolds_short ts h.1)
+pub downs_short : (ds : List Down) → AllTolds (λ t. MessageFits (told_message t)) (tolds_in ds) → AllByRecursion DownFits ds → All (λ r. length r ≤ 131072) (map message_spell (map down_message ds))
+downs_short [] h small = All-nil (λ r. length r ≤ 131072)
+downs_short (Tells t ∷ ds) h small = All-cons (λ r. length r ≤ 131072) (down_bytes (Tells t)) (map message_spell (map down_message ds)) (fits_short (told_message t) h.0) (downs_short ds h.1 small.1)
+downs_short (Recalls xid file ∷ ds) h small = All-cons (λ r. length r ≤ 131072) (down_bytes (Recalls xid file)) (map message_spell (map down_message ds)) (fits_short (recall_message xid file) (recall_fits xid file small.0.0)) (downs_short ds h small.1)
 
 -- a queue's bytes, cut anywhere, are still behind what its end has
 cut_whole : (rest queue bytes : List ℕ) (count : ℕ) → rest ++ queue ≡ bytes → rest ++ (take count queue ++ drop count queue) ≡ bytes
@@ -78,24 +85,25 @@ came_of f xs came left e = sym (spells f xs) ∙ e
 left_bytes : {A : Type 0} (f : A → Message) (xs : List A) (left : List (List ℕ)) (bytes : List ℕ) → bytes ≡ stream left → map (λ x. message_spell (f x)) xs ≡ left → bytes ≡ bytes_of (map f xs)
 left_bytes f xs left bytes e is = e ∙ ap stream (sym is ∙ sym (spells f xs))
 
--- a queue without its first calls, or answers
-ups_off : (qs : List Queue) (n : ℕ) (m : Queue) (front behind : List Ask) → numbered qs n ≡ Some m → m.ups ≡ front ++ behind → with_numbered qs n (record m { ups = behind }) ≡ becomes (off_ups (length front)) qs n
-ups_off qs n m front behind at is = ap (λ (z : List Ask). with_numbered qs n (record m { ups = z })) (sym (ap (drop (length front)) is ∙ drop_front front behind)) ∙ there_is (off_ups (length front)) qs n m at
+-- what is on its way without its first messages
+ups_off : (qs : List Mix) (n : ℕ) (m : Mix) (front behind : List Up) → numbered qs n ≡ Some m → m.ups ≡ front ++ behind → with_numbered qs n (record m { ups = behind }) ≡ becomes (off_ups (length front)) qs n
+ups_off qs n m front behind at is = ap (λ (z : List Up). with_numbered qs n (record m { ups = z })) (sym (ap (drop (length front)) is ∙ drop_front front behind)) ∙ there_is (off_ups (length front)) qs n m at
 
-downs_off : (qs : List Queue) (n : ℕ) (m : Queue) (front behind : List Told) → numbered qs n ≡ Some m → m.downs ≡ front ++ behind → with_numbered qs n (record m { downs = behind }) ≡ becomes (off_downs (length front)) qs n
-downs_off qs n m front behind at is = ap (λ (z : List Told). with_numbered qs n (record m { downs = z })) (sym (ap (drop (length front)) is ∙ drop_front front behind)) ∙ there_is (off_downs (length front)) qs n m at
+downs_off : (qs : List Mix) (n : ℕ) (m : Mix) (front behind : List Down) → numbered qs n ≡ Some m → m.downs ≡ front ++ behind → with_numbered qs n (record m { downs = behind }) ≡ becomes (off_downs (length front)) qs n
+downs_off qs n m front behind at is = ap (λ (z : List Down). with_numbered qs n (record m { downs = z })) (sym (ap (drop (length front)) is ∙ drop_front front behind)) ∙ there_is (off_downs (length front)) qs n m at
 
 -- ---- what stands while records come
 
-own_there : (qs : List Queue) (n : ℕ) (q r : Queue) → numbered qs n ≡ Some q → numbered (with_numbered qs n r) n ≡ Some r
+own_there : (qs : List Mix) (n : ℕ) (q r : Mix) → numbered qs n ≡ Some q → numbered (with_numbered qs n r) n ≡ Some r
 own_there qs n q r at = (around_with qs n q r at).there
 
-record Midway (P : Fact) (all past : List Moment) (w : World) : Type 0 where
-  queues : List Queue
-  kept : IsKept (book_of w all) w.core queues
-  early : IsKept (book_of w past) w.core queues
-  carry : CarryAll w.wires queues
-  more : P all past w.opening w.core queues
+record Midway (P : MixFact) (all past : List Moment) (w : World) : Type 0 where
+  mixes : List Mix
+  fit : AreMixes w.core.sessions mixes
+  kept : IsKept (book_of w all) w.core (map queue_of mixes)
+  early : IsKept (book_of w past) w.core (map queue_of mixes)
+  carry : CarryAll w.wires mixes
+  more : P all past w.opening w.core mixes
 
 none_more : (all past : List Moment) (P : List Moment → Type 0) → P past → P (past ++ [])
 none_more all past P h = subst P (sym (append-nil past)) h
@@ -113,58 +121,59 @@ abbrev serve_events : (n now : ℕ) → List (List ℕ) → List Event
 serve_events n now rs = map (Serves n now) rs
 
 -- the records of the first calls on their way come, where the wires have them no more
-served_all : (P : Fact) → KeptLaws → Carried P → (all past rest : List Moment) (n now : ℕ) (us behind : List Ask) (w : World) (qs : List Queue) (q : Queue)
-    → all ≡ past ++ (moments_of w (serve_events n now (map ask_bytes us)) ++ rest) → IsKept (book_of w all) w.core qs → IsKept (book_of w past) w.core qs → CarryAll w.wires (becomes (off_ups (length us)) qs n) → P all past w.opening w.core qs → numbered qs n ≡ Some q → q.ups ≡ us ++ behind
-    → Midway P all (past ++ moments_of w (serve_events n now (map ask_bytes us))) (all_happened w (serve_events n now (map ask_bytes us)))
-served_all P l carried all past rest n now [] behind w qs q split kept early carry holds at is =
-    none_more all past (λ (z : List Moment). Midway P all z w) (record { queues = qs; kept = kept; early = early; carry = subst (CarryAll w.wires) (become_same (off_ups 0) (λ z. refl) qs n) carry; more = holds })
-served_all P l carried all past rest n now (a ∷ us) behind w qs q split kept early carry holds at is =
-    let e : Event = Serves n now (ask_bytes a) in
+served_all : (P : MixFact) → KeptLaws → CarriedMix P → (all past rest : List Moment) (n now : ℕ) (us behind : List Up) (w : World) (qs : List Mix) (q : Mix)
+    → all ≡ past ++ (moments_of w (serve_events n now (map up_bytes us)) ++ rest) → AreMixes w.core.sessions qs → IsKept (book_of w all) w.core (map queue_of qs) → IsKept (book_of w past) w.core (map queue_of qs) → CarryAll w.wires (becomes (off_ups (length us)) qs n) → P all past w.opening w.core qs → numbered qs n ≡ Some q → q.ups ≡ us ++ behind
+    → Midway P all (past ++ moments_of w (serve_events n now (map up_bytes us))) (all_happened w (serve_events n now (map up_bytes us)))
+served_all P l carried all past rest n now [] behind w qs q split fit kept early carry holds at is =
+    none_more all past (λ (z : List Moment). Midway P all z w) (record { mixes = qs; fit = fit; kept = kept; early = early; carry = subst (CarryAll w.wires) (become_same (off_ups 0) (λ z. refl) qs n) carry; more = holds })
+served_all P l carried all past rest n now (a ∷ us) behind w qs q split fit kept early carry holds at is =
+    let e : Event = Serves n now (up_bytes a) in
     let t : CoreStep = happens w.core e in
     let m : Moment = moment w.core e in
-    let ms : List Moment = moments_of (happened w e) (serve_events n now (map ask_bytes us)) in
-    let mid : List Queue = with_numbered qs n (record q { ups = us ++ behind }) in
-    let left = left_by P l carried all past (ms ++ rest) w.opening w.core qs e mid split kept early (q, a, us ++ behind, at, is, refl, refl) holds in
-    let quiet = serves_silent w.core n now (ask_bytes a) in
-    let after : List Queue = queues_after mid t left.sends in
+    let ms : List Moment = moments_of (happened w e) (serve_events n now (map up_bytes us)) in
+    let mid : List Mix = with_numbered qs n (record q { ups = us ++ behind }) in
+    let left = left_by P l carried all past (ms ++ rest) w.opening w.core qs e mid split fit kept early (q, a, us ++ behind, at, is, refl, refl) holds in
+    let quiet = serves_silent w.core n now (up_bytes a) in
+    let after : List Mix = mixes_after mid t left.sends in
     let own : numbered mid n ≡ Some (record q { ups = us ++ behind }) = own_there qs n q (record q { ups = us ++ behind }) at in
     let has = served_has mid t left.sends quiet.0 quiet.1 n (record q { ups = us ++ behind }) own in
     let less : CarryAll w.wires (becomes (off_ups (length us)) mid n) = subst (CarryAll w.wires) (ups_next qs (length us) n q a (us ++ behind) at is) carry in
     let sent : CarryAll (happened w e).wires (becomes (off_ups (length us)) after n) = subst (CarryAll (happened w e).wires) (served_off (length us) n mid t left.sends quiet.0 quiet.1) (routes_carry w.wires (becomes (off_ups (length us)) mid n) t left.sends less) in
-    one_more past m ms (λ (z : List Moment). Midway P all z (all_happened (happened w e) (serve_events n now (map ask_bytes us))))
-    (served_all P l carried all (past ++ m ∷ []) rest n now us behind (happened w e) after has.0 (next_split all past m ms rest split) left.kept left.early sent left.more has.1 has.2)
+    one_more past m ms (λ (z : List Moment). Midway P all z (all_happened (happened w e) (serve_events n now (map up_bytes us))))
+    (served_all P l carried all (past ++ m ∷ []) rest n now us behind (happened w e) after has.0 (next_split all past m ms rest split) left.fit left.kept left.early sent left.more has.1 has.2)
 
-pub up_stands : (P : Fact) → KeptLaws → FitLaws → Carried P → (all past rest : List Moment) (w : World) (n count now : ℕ) → all ≡ past ++ (up_moments w n count now ++ rest) → Stands P all past w → Stands P all (past ++ up_moments w n count now) (up_some w n count now)
+pub up_stands : (P : MixFact) → KeptLaws → FitLaws → CarriedMix P → (all past rest : List Moment) (w : World) (n count now : ℕ) → all ≡ past ++ (up_moments w n count now ++ rest) → Stands P all past w → Stands P all (past ++ up_moments w n count now) (up_some w n count now)
 up_stands P l fits carried all past rest w n count now split h = by (numbered w.wires n) refl split
   where
     some : (q : Wire) → numbered w.wires n ≡ Some q → all ≡ past ++ (up_moments_at w n count now (Some q) ++ rest) → Midway P all (past ++ up_moments_at w n count now (Some q)) (up_at w n count now (Some q))
     some q at split =
-        let there = also_numbered w.wires h.queues n q (sym h.carry.0) at in
-        let m : Queue = there.0 in
-        let x = also_numbered h.queues w.core.sessions n m (sym h.kept.made.1) there.1 in
-        let session = h.kept.sessions n x.0 m x.1 there.1 in
+        let there = also_numbered w.wires h.mixes n q (sym h.carry.0) at in
+        let m : Mix = there.0 in
+        let x = also_numbered h.mixes w.core.sessions n m (sym h.kept.made.1 ∙ map_count queue_of h.mixes) there.1 in
+        let session = h.kept.sessions n x.0 (queue_of m) x.1 (there_plain h.mixes n m there.1) in
+        let mix = h.fit n x.0 m x.1 there.1 in
         let c = h.carry.1 n q m at there.1 in
         let r = fed q.server_end (take count q.up) in
-        let whole = cut_whole q.server_end.rest q.up (bytes_of (map ask_message m.ups)) count c.up in
-        let comes = streams_come q.server_end (take count q.up) (drop count q.up) (map message_spell (map ask_message m.ups)) (asks_short fits m.ups session.ups_fit) c.up_sound whole in
-        let p = parted ask_bytes m.ups r.1.records comes.left (came_of ask_message m.ups r.1.records comes.left comes.all) in
+        let whole = cut_whole q.server_end.rest q.up (bytes_of (map up_message m.ups)) count c.up in
+        let comes = streams_come q.server_end (take count q.up) (drop count q.up) (map message_spell (map up_message m.ups)) (ups_short fits m.ups session.ups_fit mix.ups) c.up_sound whole in
+        let p = parted up_bytes m.ups r.1.records comes.left (came_of up_message m.ups r.1.records comes.left comes.all) in
         let carries : Carries (record q { up = drop count q.up; server_end = r.0 }) (record m { ups = p.behind }) = record {
           up_sound = comes.sound;
-          up = left_bytes ask_message p.behind comes.left (r.0.rest ++ drop count q.up) comes.queued p.left_is;
+          up = left_bytes up_message p.behind comes.left (r.0.rest ++ drop count q.up) comes.queued p.left_is;
           down_sound = c.down_sound;
           down = c.down;
         } in
         let wires : List Wire = (up_taken w n count q).wires in
-        let set : CarryAll wires (with_numbered h.queues n (record m { ups = p.behind })) = carry_with w.wires h.queues n q (record q { up = drop count q.up; server_end = r.0 }) m (record m { ups = p.behind }) h.carry at there.1 carries in
-        let off = ups_off h.queues n m p.front p.behind there.1 p.all in
+        let set : CarryAll wires (with_numbered h.mixes n (record m { ups = p.behind })) = carry_with w.wires h.mixes n q (record q { up = drop count q.up; server_end = r.0 }) m (record m { ups = p.behind }) h.carry at there.1 carries in
+        let off = ups_off h.mixes n m p.front p.behind there.1 p.all in
         let same = p.came_is in
         subst (λ (z : List (List ℕ)). Midway P all (past ++ moments_of (up_taken w n count q) (serve_events n now z)) (all_happened (up_taken w n count q) (serve_events n now z))) same
-        (served_all P l carried all past rest n now p.front p.behind (up_taken w n count q) h.queues m
+        (served_all P l carried all past rest n now p.front p.behind (up_taken w n count q) h.mixes m
         (subst (λ (z : List (List ℕ)). all ≡ past ++ (moments_of (up_taken w n count q) (serve_events n now z) ++ rest)) (sym same) split)
-        h.kept h.early (subst (CarryAll wires) off set) h.more there.1 p.all)
+        h.fit h.kept h.early (subst (CarryAll wires) off set) h.more there.1 p.all)
 
     rest_of : (ms : List Moment) (v : World) → up_some w n count now ≡ v → Midway P all ms v → Stands P all ms v
-    rest_of ms v e m = record { queues = m.queues; kept = m.kept; early = m.early; carry = m.carry; rested = subst (λ (z : World). AreRested z.wires) e (rests_up w n count now h.rested); more = m.more }
+    rest_of ms v e m = record { mixes = m.mixes; fit = m.fit; kept = m.kept; early = m.early; carry = m.carry; rested = subst (λ (z : World). AreRested z.wires) e (rests_up w n count now h.rested); more = m.more }
 
     by : (o : Option Wire) → numbered w.wires n ≡ o → all ≡ past ++ (up_moments_at w n count now o ++ rest) → Stands P all (past ++ up_moments_at w n count now o) (up_at w n count now o)
     by None at split = none_more all past (λ (z : List Moment). Stands P all z w) h
@@ -176,58 +185,59 @@ abbrev hear_events : (n now : ℕ) → List (List ℕ) → List Event
 hear_events n now rs = map (Hears n now) rs
 
 -- the records of the first answers on their way come, where the wires have them no more
-heard_all : (P : Fact) → KeptLaws → Carried P → (all past rest : List Moment) (n now : ℕ) (ts behind : List Told) (w : World) (qs : List Queue) (q : Queue)
-    → all ≡ past ++ (moments_of w (hear_events n now (map told_bytes ts)) ++ rest) → IsKept (book_of w all) w.core qs → IsKept (book_of w past) w.core qs → CarryAll w.wires (becomes (off_downs (length ts)) qs n) → P all past w.opening w.core qs → numbered qs n ≡ Some q → q.downs ≡ ts ++ behind
-    → Midway P all (past ++ moments_of w (hear_events n now (map told_bytes ts))) (all_happened w (hear_events n now (map told_bytes ts)))
-heard_all P l carried all past rest n now [] behind w qs q split kept early carry holds at is =
-    none_more all past (λ (z : List Moment). Midway P all z w) (record { queues = qs; kept = kept; early = early; carry = subst (CarryAll w.wires) (become_same (off_downs 0) (λ z. refl) qs n) carry; more = holds })
-heard_all P l carried all past rest n now (t ∷ ts) behind w qs q split kept early carry holds at is =
-    let e : Event = Hears n now (told_bytes t) in
+heard_all : (P : MixFact) → KeptLaws → CarriedMix P → (all past rest : List Moment) (n now : ℕ) (ts behind : List Down) (w : World) (qs : List Mix) (q : Mix)
+    → all ≡ past ++ (moments_of w (hear_events n now (map down_bytes ts)) ++ rest) → AreMixes w.core.sessions qs → IsKept (book_of w all) w.core (map queue_of qs) → IsKept (book_of w past) w.core (map queue_of qs) → CarryAll w.wires (becomes (off_downs (length ts)) qs n) → P all past w.opening w.core qs → numbered qs n ≡ Some q → q.downs ≡ ts ++ behind
+    → Midway P all (past ++ moments_of w (hear_events n now (map down_bytes ts))) (all_happened w (hear_events n now (map down_bytes ts)))
+heard_all P l carried all past rest n now [] behind w qs q split fit kept early carry holds at is =
+    none_more all past (λ (z : List Moment). Midway P all z w) (record { mixes = qs; fit = fit; kept = kept; early = early; carry = subst (CarryAll w.wires) (become_same (off_downs 0) (λ z. refl) qs n) carry; more = holds })
+heard_all P l carried all past rest n now (t ∷ ts) behind w qs q split fit kept early carry holds at is =
+    let e : Event = Hears n now (down_bytes t) in
     let u : CoreStep = happens w.core e in
     let m : Moment = moment w.core e in
-    let ms : List Moment = moments_of (happened w e) (hear_events n now (map told_bytes ts)) in
-    let mid : List Queue = with_numbered qs n (record q { downs = ts ++ behind }) in
-    let left = left_by P l carried all past (ms ++ rest) w.opening w.core qs e mid split kept early (q, t, ts ++ behind, at, is, refl, refl) holds in
-    let quiet = hears_silent w.core n now (told_bytes t) in
-    let after : List Queue = queues_after mid u left.sends in
+    let ms : List Moment = moments_of (happened w e) (hear_events n now (map down_bytes ts)) in
+    let mid : List Mix = with_numbered qs n (record q { downs = ts ++ behind }) in
+    let left = left_by P l carried all past (ms ++ rest) w.opening w.core qs e mid split fit kept early (q, t, ts ++ behind, at, is, refl, refl) holds in
+    let quiet = hears_silent w.core n now (down_bytes t) in
+    let after : List Mix = mixes_after mid u left.sends in
     let own : numbered mid n ≡ Some (record q { downs = ts ++ behind }) = own_there qs n q (record q { downs = ts ++ behind }) at in
     let has = heard_has mid u left.sends quiet.0 quiet.1 n (record q { downs = ts ++ behind }) own in
     let less : CarryAll w.wires (becomes (off_downs (length ts)) mid n) = subst (CarryAll w.wires) (downs_next qs (length ts) n q t (ts ++ behind) at is) carry in
     let sent : CarryAll (happened w e).wires (becomes (off_downs (length ts)) after n) = subst (CarryAll (happened w e).wires) (heard_off (length ts) n mid u left.sends quiet.0 quiet.1) (routes_carry w.wires (becomes (off_downs (length ts)) mid n) u left.sends less) in
-    one_more past m ms (λ (z : List Moment). Midway P all z (all_happened (happened w e) (hear_events n now (map told_bytes ts))))
-    (heard_all P l carried all (past ++ m ∷ []) rest n now ts behind (happened w e) after has.0 (next_split all past m ms rest split) left.kept left.early sent left.more has.1 has.2)
+    one_more past m ms (λ (z : List Moment). Midway P all z (all_happened (happened w e) (hear_events n now (map down_bytes ts))))
+    (heard_all P l carried all (past ++ m ∷ []) rest n now ts behind (happened w e) after has.0 (next_split all past m ms rest split) left.fit left.kept left.early sent left.more has.1 has.2)
 
-pub down_stands : (P : Fact) → KeptLaws → Carried P → (all past rest : List Moment) (w : World) (n count now : ℕ) → all ≡ past ++ (down_moments w n count now ++ rest) → Stands P all past w → Stands P all (past ++ down_moments w n count now) (down_some w n count now)
+pub down_stands : (P : MixFact) → KeptLaws → CarriedMix P → (all past rest : List Moment) (w : World) (n count now : ℕ) → all ≡ past ++ (down_moments w n count now ++ rest) → Stands P all past w → Stands P all (past ++ down_moments w n count now) (down_some w n count now)
 down_stands P l carried all past rest w n count now split h = by (numbered w.wires n) refl split
   where
     some : (q : Wire) → numbered w.wires n ≡ Some q → all ≡ past ++ (down_moments_at w n count now (Some q) ++ rest) → Midway P all (past ++ down_moments_at w n count now (Some q)) (down_at w n count now (Some q))
     some q at split =
-        let there = also_numbered w.wires h.queues n q (sym h.carry.0) at in
-        let m : Queue = there.0 in
-        let x = also_numbered h.queues w.core.sessions n m (sym h.kept.made.1) there.1 in
-        let session = h.kept.sessions n x.0 m x.1 there.1 in
+        let there = also_numbered w.wires h.mixes n q (sym h.carry.0) at in
+        let m : Mix = there.0 in
+        let x = also_numbered h.mixes w.core.sessions n m (sym h.kept.made.1 ∙ map_count queue_of h.mixes) there.1 in
+        let session = h.kept.sessions n x.0 (queue_of m) x.1 (there_plain h.mixes n m there.1) in
+        let mix = h.fit n x.0 m x.1 there.1 in
         let c = h.carry.1 n q m at there.1 in
         let r = fed q.client_end (take count q.down) in
-        let whole = cut_whole q.client_end.rest q.down (bytes_of (map told_message m.downs)) count c.down in
-        let comes = streams_come q.client_end (take count q.down) (drop count q.down) (map message_spell (map told_message m.downs)) (tolds_short m.downs session.downs_fit) c.down_sound whole in
-        let p = parted told_bytes m.downs r.1.records comes.left (came_of told_message m.downs r.1.records comes.left comes.all) in
+        let whole = cut_whole q.client_end.rest q.down (bytes_of (map down_message m.downs)) count c.down in
+        let comes = streams_come q.client_end (take count q.down) (drop count q.down) (map message_spell (map down_message m.downs)) (downs_short m.downs session.downs_fit mix.downs) c.down_sound whole in
+        let p = parted down_bytes m.downs r.1.records comes.left (came_of down_message m.downs r.1.records comes.left comes.all) in
         let carries : Carries (record q { down = drop count q.down; client_end = r.0 }) (record m { downs = p.behind }) = record {
           up_sound = c.up_sound;
           up = c.up;
           down_sound = comes.sound;
-          down = left_bytes told_message p.behind comes.left (r.0.rest ++ drop count q.down) comes.queued p.left_is;
+          down = left_bytes down_message p.behind comes.left (r.0.rest ++ drop count q.down) comes.queued p.left_is;
         } in
         let wires : List Wire = (down_taken w n count q).wires in
-        let set : CarryAll wires (with_numbered h.queues n (record m { downs = p.behind })) = carry_with w.wires h.queues n q (record q { down = drop count q.down; client_end = r.0 }) m (record m { downs = p.behind }) h.carry at there.1 carries in
-        let off = downs_off h.queues n m p.front p.behind there.1 p.all in
+        let set : CarryAll wires (with_numbered h.mixes n (record m { downs = p.behind })) = carry_with w.wires h.mixes n q (record q { down = drop count q.down; client_end = r.0 }) m (record m { downs = p.behind }) h.carry at there.1 carries in
+        let off = downs_off h.mixes n m p.front p.behind there.1 p.all in
         let same = p.came_is in
         subst (λ (z : List (List ℕ)). Midway P all (past ++ moments_of (down_taken w n count q) (hear_events n now z)) (all_happened (down_taken w n count q) (hear_events n now z))) same
-        (heard_all P l carried all past rest n now p.front p.behind (down_taken w n count q) h.queues m
+        (heard_all P l carried all past rest n now p.front p.behind (down_taken w n count q) h.mixes m
         (subst (λ (z : List (List ℕ)). all ≡ past ++ (moments_of (down_taken w n count q) (hear_events n now z) ++ rest)) (sym same) split)
-        h.kept h.early (subst (CarryAll wires) off set) h.more there.1 p.all)
+        h.fit h.kept h.early (subst (CarryAll wires) off set) h.more there.1 p.all)
 
     rest_of : (ms : List Moment) (v : World) → down_some w n count now ≡ v → Midway P all ms v → Stands P all ms v
-    rest_of ms v e m = record { queues = m.queues; kept = m.kept; early = m.early; carry = m.carry; rested = subst (λ (z : World). AreRested z.wires) e (rests_down w n count now h.rested); more = m.more }
+    rest_of ms v e m = record { mixes = m.mixes; fit = m.fit; kept = m.kept; early = m.early; carry = m.carry; rested = subst (λ (z : World). AreRested z.wires) e (rests_down w n count now h.rested); more = m.more }
 
     by : (o : Option Wire) → numbered w.wires n ≡ o → all ≡ past ++ (down_moments_at w n count now o ++ rest) → Stands P all (past ++ down_moments_at w n count now o) (down_at w n count now o)
     by None at split = none_more all past (λ (z : List Moment). Stands P all z w) h
@@ -245,7 +255,7 @@ then_split all past ms ns rest e = both_split all past ms ns rest e ∙ sym (app
 both_past : (P : List Moment → Type 0) (past ms ns : List Moment) → P ((past ++ ms) ++ ns) → P (past ++ (ms ++ ns))
 both_past P past ms ns h = subst P (append_assoc past ms ns) h
 
-round_stands : (P : Fact) → KeptLaws → FitLaws → Carried P → (all past rest : List Moment) (w : World) (n server at : ℕ) → all ≡ past ++ (round_moments w n server at ++ rest) → Stands P all past w → Stands P all (past ++ round_moments w n server at) (round w n server at)
+round_stands : (P : MixFact) → KeptLaws → FitLaws → CarriedMix P → (all past rest : List Moment) (w : World) (n server at : ℕ) → all ≡ past ++ (round_moments w n server at ++ rest) → Stands P all past w → Stands P all (past ++ round_moments w n server at) (round w n server at)
 round_stands P l fits carried all past rest w n server at split h =
     let v : World = up_all w n server in
     let ms : List Moment = up_moments w n (up_length (numbered w.wires n)) server in
@@ -260,7 +270,7 @@ moments_if k w n server at b = elim b as (λ (x : Bool). List Moment) [ true ↦
 abbrev passes_if : (k : ℕ) → World → (n server at : ℕ) → (still : Bool) → World
 passes_if k w n server at b = elim b as (λ (x : Bool). World) [ true ↦ w | false ↦ passes k (round w n server at) n server at ]
 
-pub passes_stand : (P : Fact) → KeptLaws → FitLaws → Carried P → (k : ℕ) (all past rest : List Moment) (w : World) (n server at : ℕ) → all ≡ past ++ (passes_moments k w n server at ++ rest) → Stands P all past w → Stands P all (past ++ passes_moments k w n server at) (passes k w n server at)
+pub passes_stand : (P : MixFact) → KeptLaws → FitLaws → CarriedMix P → (k : ℕ) (all past rest : List Moment) (w : World) (n server at : ℕ) → all ≡ past ++ (passes_moments k w n server at ++ rest) → Stands P all past w → Stands P all (past ++ passes_moments k w n server at) (passes k w n server at)
 passes_stand P l fits carried zero all past rest w n server at split h = none_more all past (λ (z : List Moment). Stands P all z w) h
 passes_stand P l fits carried (suc k) all past rest w n server at split h =
     by (is_still w n) (λ before. passes_stand P l fits carried k all before rest (round w n server at) n server at) split

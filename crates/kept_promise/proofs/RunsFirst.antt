@@ -5,7 +5,7 @@ use Rattle.kept_promise.proofs.Common.{slice_get, find, option_map, cond, ◌==�
 use Rattle.kept_promise.proofs.Lists.{some_is, nothing_there, same_or_not}
 use Rattle.kept_promise.proofs.Rights.{AreAlike}
 use Rattle.kept_promise.proofs.Facts.{FileIs, IsServer, IsSeat, IsKept}
-use Rattle.kept_promise.proofs.RunsCarried.{book_at, first_core}
+use Rattle.kept_promise.proofs.RunsCarried.{book_at, Header, first_core}
 use Rattle.tree_nodes.specs.Nodes.{with_id}
 use Rattle.tree_nodes.specs.declared.node.Body.TheVariants.{Directory, File as Plain}
 use Rattle.file_tree.specs.Opening.{opens}
@@ -143,17 +143,17 @@ no_numbered : {A B : Type 0} (n : ℕ) (x : A) → numbered [] n ≡ Some x → 
 no_numbered zero x e = nothing_there x e
 no_numbered (suc k) x e = nothing_there x e
 
-all_new : (count i : ℕ) (seat : Seat) → numbered (replicate count new_seat) i ≡ Some seat → seat ≡ new_seat
-all_new count zero seat e = nothing_there seat e
-all_new count (suc k) seat e = by count k e
+all_new : (drift count i : ℕ) (seat : Seat) → numbered (replicate count (new_seat drift)) i ≡ Some seat → seat ≡ new_seat drift
+all_new drift count zero seat e = nothing_there seat e
+all_new drift count (suc k) seat e = by count k e
   where
-    by : (count k : ℕ) → slice_get (replicate count new_seat) k ≡ Some seat → seat ≡ new_seat
+    by : (count k : ℕ) → slice_get (replicate count (new_seat drift)) k ≡ Some seat → seat ≡ new_seat drift
     by zero k e = nothing_there seat e
-    by (suc count) zero e = sym (some_is new_seat seat e)
+    by (suc count) zero e = sym (some_is (new_seat drift) seat e)
     by (suc count) (suc k) e = by count k e
 
-seat_first : (book : Book) (i : ℕ) → IsSeat book [] i new_seat
-seat_first book i = record {
+seat_first : (book : Book) (drift i : ℕ) → IsSeat book [] i (new_seat drift)
+seat_first book drift i = record {
   session = λ n e. nothing_there n e;
   linked = λ e. absurd (by e);
   unlinked = λ e. (refl, refl);
@@ -169,7 +169,7 @@ seat_first book i = record {
     by : false ≡ true → ⊥
     by e = cc
 
-server_first : (opening : List Opening) (tree : Tree) (count : ℕ) (all : List Moment) → IsTree opening tree → IsServer (book_at opening (first_core tree count) all) (first_core tree count).server
+server_first : (opening : List Opening) (tree : Tree) (count : Header) (all : List Moment) → IsTree opening tree → IsServer (book_at opening (first_core tree count) all) (first_core tree count).server
 server_first opening tree count all t = record {
   held = λ f. held f (the_files.file_at tree f) (t.held f);
   fresh = λ f u. ap (λ (z : Option (List ℕ)). 0 + first_version z) (elim u [ inl le ↦ t.below f le | inr node ↦ subst (IsOpening opening f) node.1 (t.held f) ]);
@@ -182,14 +182,14 @@ server_first opening tree count all t = record {
   lengths = λ i c e. no_element i c e;
   targets = λ i c e. no_element i c e;
   xids = λ i c e. no_element i c e;
-  leases = refl;
+  leases = count.term_fits;
 }
   where
     held : (f : ℕ) (x : Option File) → IsOpening opening f x → FileIs (book_at opening (first_core tree count) all) f x
     held f None h = h
     held f (Some g) h = (h.0, h.1, h.2, record { value = g.content; is = h.3; size = refl; same = inl refl }, ap (λ (z : Option (List ℕ)). 0 + first_version z) h.3 ∙ sym h.4, h.5)
 
-pub kept_first : (opening : List Opening) (tree : Tree) (count : ℕ) (all : List Moment) → AreAlike all → IsTree opening tree → IsKept (book_at opening (first_core tree count) all) (first_core tree count) []
+pub kept_first : (opening : List Opening) (tree : Tree) (count : Header) (all : List Moment) → AreAlike all → IsTree opening tree → IsKept (book_at opening (first_core tree count) all) (first_core tree count) []
 kept_first opening tree count all alike t = record {
   ops = refl;
   steps = refl;
@@ -205,7 +205,7 @@ kept_first opening tree count all alike t = record {
   server = server_first opening tree count all t;
   made = (refl, refl);
   sessions = λ n x q e f. no_numbered n x e;
-  seats = λ i seat e. subst (IsSeat (book_at opening (first_core tree count) all) [] i) (sym (all_new count i seat e)) (seat_first (book_at opening (first_core tree count) all) i);
+  seats = λ i seat e. subst (IsSeat (book_at opening (first_core tree count) all) [] i) (sym (all_new count.drift count.count i seat e)) (seat_first (book_at opening (first_core tree count) all) count.drift i);
   running = λ p o e f. no_element p o e;
   closings = λ m n p x y e f g h. no_numbered m x e;
   home = λ i c e. no_element i c e;

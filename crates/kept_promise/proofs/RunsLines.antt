@@ -1,5 +1,5 @@
 -- What a line that is taken asks for: it names what is there, within the limits, and its numbers are of 64 bits.
-use Rattle.std.proofs.Common.{◌≡◌, ℕ, ◌+◌, ◌^◌, ◌<◌, ◌≤◌, List, [], ◌∷◌, length, Option, Some, None, Bool, true, false, refl, sym, ap, ◌∙◌, subst, arith, Result, Ok, Err, drop, take}
+use Rattle.std.proofs.Common.{◌≡◌, ℕ, lit<, ◌+◌, ◌^◌, ◌<◌, ◌≤◌, List, [], ◌∷◌, length, Option, Some, None, Bool, true, false, refl, sym, ap, ◌∙◌, subst, arith, Result, Ok, Err, drop, take}
 use Rattle.std.specs.Prelude.{codes}
 use Rattle.command_text.specs.Commands.{command_of, open_of, open_at, rewrite_of, rewrite_at, write_of, trunc_of, read_of, close_of, abandon_of, path_command_of}
 use Rattle.command_text.specs.Fields.{value_from, is_decimal, value_of, number_of, number_within, content_of, id_of}
@@ -15,7 +15,7 @@ use Rattle.trace_replay.specs.declared.stage.Stage.{Stage}
 use Rattle.trace_replay.specs.declared.stage.Stage.TheVariants as stage
 use Rattle.trace_replay.specs.declared.turn.Turn.TheVariants as turn
 use Rattle.trace_replay.specs.Run.{file_most, tree_most, is_there, place_for, free_in, led_to, file_asks, directory_asks}
-use Rattle.kept_promise.proofs.Common.{nat_tests, nat_lt, nat_le, if◌then◌else◌, bytes_eq, content_length, Command, Part, line_of, Line, LineFault, Grammar, Turn, Seat, Session, numbered, World, line_most, sessions_most, asks_if, sized, joins_if, joins_within, event_asks, asks_at, asks, asks_within, asked, can_open}
+use Rattle.kept_promise.proofs.Common.{nat_tests, ◌&&◌, nat_lt, nat_le, if◌then◌else◌, bytes_eq, content_length, Command, Part, line_of, Line, LineFault, Grammar, Turn, Seat, Session, numbered, World, line_most, sessions_most, asks_if, sized, joins_if, joins_within, event_asks, asks_at, asks, asks_within, asked, can_open}
 use Rattle.kept_promise.proofs.Parsed.{Gives, gives_some, gives_none, gives_if, gives_after, gives_then}
 use Rattle.kept_promise.proofs.PathNames.{IsNamed, IsPlain, IsSmall, find_named, renew_named, path_command_named}
 use Rattle.trace_replay.proofs.Warming.{warms_turn, warm_taken}
@@ -97,6 +97,7 @@ command_small word words =
 
 abbrev pub LineFits : Line → Type 0
 LineFits (line.Do c r d) = IsPlain d
+LineFits (line.Term n) = n < 4294967296
 LineFits l = Unit {0}
 
 do_fits : (words : List (List ℕ)) → Gives LineFits (do_of words)
@@ -108,8 +109,20 @@ version_fits : (words : List (List ℕ)) → Gives LineFits (version_of words)
 version_fits (v ∷ []) = gives_if LineFits (bytes_eq v (codes "1")) _ _ (gives_some LineFits line.Version tt) (gives_none LineFits)
 version_fits _ = gives_none LineFits
 
+-- a number up to a limit below 2^32
+low_within : (low high : ℕ) → high < 4294967296 → (word : List ℕ) → Gives (λ n. n < 4294967296) (number_within low high word)
+low_within low high lt word = gives_then (λ n. n < 4294967296) (number_of word) _ (λ n. by n (nat_le low n && nat_le n high) refl)
+  where
+    up_to : (a b : Bool) → (a && b) ≡ true → b ≡ true
+    up_to true b e = e
+    up_to false b e = absurd cc
+
+    by : (n : ℕ) (b : Bool) → (nat_le low n && nat_le n high) ≡ b → Gives (λ m. m < 4294967296) (if b then Some n else None)
+    by n true e = let le = up_to (nat_le low n) (nat_le n high) e in gives_some (λ m. m < 4294967296) n (grind (arith, nat_tests, le, lt))
+    by n false e = gives_none (λ m. m < 4294967296)
+
 term_fits : (words : List (List ℕ)) → Gives LineFits (term_of words)
-term_fits (v ∷ []) = gives_then LineFits (number_within 1 3600000 v) _ (λ n. gives_some LineFits (line.Term n) tt)
+term_fits (v ∷ []) = gives_after (λ n. n < 4294967296) LineFits (number_within 1 3600000 v) _ (low_within 1 3600000 (lit< tt) v) (λ n h. gives_some LineFits (line.Term n) h)
 term_fits _ = gives_none LineFits
 
 drift_fits : (words : List (List ℕ)) → Gives LineFits (drift_of words)
@@ -222,7 +235,9 @@ MayOpen w dir name content = IsFree w dir name × (content_length content ≤ 67
 
 -- what a turn finds
 abbrev pub Allows : World → Turn → Type 0
-Allows w (turn.At s) = is_early w.stage ≡ true
+Allows w (turn.At s) = w.stage ≡ stage.Version
+Allows w (turn.Term n) = (w.stage ≡ stage.Term) × (n < 4294967296)
+Allows w (turn.Drift n) = w.stage ≡ stage.Drift
 Allows w (turn.Clients n) = is_early w.stage ≡ true
 Allows w (turn.Dir dir name) = (is_early w.stage ≡ true) × IsFree w dir name
 Allows w (turn.File dir name content) = (is_early w.stage ≡ true) × MayOpen w dir name content
@@ -300,9 +315,9 @@ file_on w spot content (Some dir) t early at e = by (nat_lt file_most (content_l
     by _ _ is all e = refused_line _ t e
 
 at_stage : (w : World) (s : Stage) (l : Line) (t : Turn) → w.stage ≡ s → LineFits l → asks_at w s l ≡ asking t → Allows w t
-at_stage w stage.Version line.Version t at fits e = goes w (turn.At stage.Term) t e (ap is_early at)
-at_stage w stage.Term (line.Term n) t at fits e = goes w (turn.At stage.Drift) t e (ap is_early at)
-at_stage w stage.Drift (line.Drift n) t at fits e = goes w (turn.At stage.Clients) t e (ap is_early at)
+at_stage w stage.Version line.Version t at fits e = goes w (turn.At stage.Term) t e at
+at_stage w stage.Term (line.Term n) t at fits e = goes w (turn.Term n) t e (at, fits)
+at_stage w stage.Drift (line.Drift n) t at fits e = goes w (turn.Drift n) t e at
 at_stage w stage.Clients (line.Clients n) t at fits e = goes w (turn.Clients n) t e (ap is_early at)
 at_stage w stage.Files (line.Dir spot) t at fits e = directory_on w spot (place_for w.core.server.tree spot) t (ap is_early at) refl e
 at_stage w stage.Files (line.File spot content) t at fits e = file_on w spot content (place_for w.core.server.tree spot) t (ap is_early at) refl e

@@ -3,8 +3,9 @@ use Rattle.std.proofs.Common.{◌≡◌, ℕ, zero, suc, ◌+◌, ◌<◌, ◌�
 use Rattle.trace_replay.specs.declared.stage.Stage.{Stage}
 use Rattle.trace_replay.specs.declared.stage.Stage.TheVariants as stage
 use Rattle.trace_replay.specs.declared.turn.Turn.TheVariants as turn
-use Rattle.trace_replay.specs.Run.{with_file, with_directory, with_clients}
-use Rattle.kept_promise.proofs.Common.{nat_tests, nat_lt, ◌&&◌, content_bytes, Part, content_size, Turn, Core, new_seat, Session, Event.Joins, Event.Does, Event.Settles, Event.Cuts, Event.Hangs, numbered, World, adjusts, Wire, up_length, down_length, at_events, count_of, turned, owners_of, Moment, turn_moments, Tree, can_open}
+use Rattle.trace_replay.specs.Run.{with_file, with_directory, with_clients, with_leases, with_drift, in_header}
+use Rattle.server_core.specs.State.{with_term}
+use Rattle.kept_promise.proofs.Common.{nat_tests, nat_lt, ◌&&◌, content_bytes, Part, content_size, Turn, Queue, queue_of, Core, new_seat, Session, Event.Joins, Event.Does, Event.Settles, Event.Cuts, Event.Hangs, numbered, World, adjusts, Wire, up_length, down_length, at_events, count_of, turned, owners_of, Moment, turn_moments, Tree, can_open}
 use Rattle.kept_promise.proofs.Lists.{nothing_there, count_more}
 use Rattle.trace_ends.specs.declared.adjusting.Adjustment.{Adjustment}
 use Rattle.kept_promise.proofs.Rights.{AreAlike}
@@ -14,9 +15,10 @@ use Rattle.kept_promise.proofs.Fits.{FitLaws}
 use Rattle.kept_promise.proofs.Leading.{CarryAll}
 use Rattle.kept_promise.proofs.Rounds.{AreRested}
 use Rattle.kept_promise.proofs.Owners.{owners_after, MayTurn, turned_to}
-use Rattle.kept_promise.proofs.RunsCarried.{KeptLaws, book_at, first_core, Carried, Stands}
+use Rattle.kept_promise.proofs.RunsCarried.{KeptLaws, book_at, Header, first_core, CarriedMix, Stands}
+use Rattle.kept_promise.proofs.Mixes.{AreMixes}
 use Rattle.kept_promise.proofs.RunsFirst.{IsTree, tree_more, tree_wider, kept_first}
-use Rattle.kept_promise.proofs.RunsEvents.{Fact, event_stands}
+use Rattle.kept_promise.proofs.RunsEvents.{MixFact, event_stands}
 use Rattle.kept_promise.proofs.RunsDeliveries.{up_stands, down_stands, passes_stand}
 use Rattle.kept_promise.proofs.RunsLines.{is_early, Allows}
 use Rattle.tree_nodes.specs.declared.node.Body.TheVariants.{Directory, File as Plain}
@@ -31,8 +33,10 @@ use Rattle.kept_promise.proofs.RunsLines.{IsFree, MayOpen}
 
 pub record IsFirst (n : ℕ) (w : World) (past : List Moment) : Type 0 where
   pub tree : Tree
-  pub count : ℕ
+  pub count : Header
   pub core_is : w.core ≡ first_core tree count
+  -- the term and the drift are told before the clients are counted
+  pub bare : in_header w.stage ≡ true → count.count ≡ 0
   pub wires_is : w.wires ≡ []
   pub is_tree : IsTree w.opening tree
   -- the bytes of the files are counted
@@ -41,7 +45,7 @@ pub record IsFirst (n : ℕ) (w : World) (past : List Moment) : Type 0 where
   pub few : tree.next ≤ n + 1
 
 -- what stands before the line of this number
-pub record Before (P : Fact) (n : ℕ) (all past : List Moment) (w : World) : Type 0 where
+pub record Before (P : MixFact) (n : ℕ) (all past : List Moment) (w : World) : Type 0 where
   pub stands : Stands P all past w
   pub few : length w.core.sessions < n
   pub first : is_early w.stage ≡ true → IsFirst n w past
@@ -56,16 +60,22 @@ carry_none wires e = subst (λ (ws : List Wire). CarryAll ws []) (sym e) (refl, 
 rested_none : (wires : List Wire) → wires ≡ [] → AreRested wires
 rested_none wires e = subst AreRested (sym e) (λ k q f. nothing_there q f)
 
+-- nothing is on its way
+none_fit : (sessions : List Session) → AreMixes sessions []
+none_fit sessions zero x m at on = nothing_there m on
+none_fit sessions (suc n) x m at on = nothing_there m on
+
 -- of no moment
 none_alike : AreAlike []
 none_alike f g h a b e = let lt = a.there.1 in absurd (omega (arith, lt))
 
-pub first_stands : (P : Fact) → Carried P → (n : ℕ) (all past : List Moment) (w : World) → AreAlike all → IsFirst n w past → Stands P all past w
+pub first_stands : (P : MixFact) → CarriedMix P → (n : ℕ) (all past : List Moment) (w : World) → AreAlike all → IsFirst n w past → Stands P all past w
 first_stands P carried n all past w alike f =
     let kept = kept_first w.opening f.tree f.count all alike f.is_tree in
     let early = kept_first w.opening f.tree f.count past (subst AreAlike (sym f.past_is) none_alike) f.is_tree in
     record {
-      queues = [];
+      mixes = [];
+      fit = none_fit w.core.sessions;
       kept = subst (λ (k : Core). IsKept (book_at w.opening k all) k []) (sym f.core_is) kept;
       early = subst (λ (k : Core). IsKept (book_at w.opening k past) k []) (sym f.core_is) early;
       carry = carry_none w.wires f.wires_is;
@@ -91,7 +101,7 @@ few_turned n w t may few =
     let d = owners_count (owners_of w) t in
     omega (arith, a, b, c, d, few)
 
-made_small : (P : Fact) (n : ℕ) (all past : List Moment) (w : World) → Before P n all past w → n ≤ 65536 → w.core.server.sessions_made < 4294967295
+made_small : (P : MixFact) (n : ℕ) (all past : List Moment) (w : World) → Before P n all past w → n ≤ 65536 → w.core.server.sessions_made < 4294967295
 made_small P n all past w h le = let m = h.stands.kept.made.0 in let few = h.few in omega (arith, m, few, le)
 
 both_true : (a b : Bool) → a ≡ true → b ≡ true → (a && b) ≡ true
@@ -99,7 +109,7 @@ both_true true true e f = refl
 both_true true false e f = f
 both_true false b e f = e
 
-pub may_turn : (P : Fact) (n : ℕ) (all past : List Moment) (w : World) (t : Turn) → Before P n all past w → n ≤ 65536 → Allows w t → MayTurn w t
+pub may_turn : (P : MixFact) (n : ℕ) (all past : List Moment) (w : World) (t : Turn) → Before P n all past w → n ≤ 65536 → Allows w t → MayTurn w t
 may_turn P n all past w (turn.Join c) h le f =
     let made = made_small P n all past w h le in
     let room = f.3 in
@@ -114,8 +124,44 @@ no_more past = append-nil past
 clients_first : (n m : ℕ) (w : World) (past : List Moment) → IsFirst n w past → IsFirst (n + 1) (with_clients w m) (past ++ [])
 clients_first n m w past f = record {
   tree = f.tree;
-  count = m;
-  core_is = ap (λ (k : Core). record k { seats = replicate m new_seat }) f.core_is;
+  count = record f.count { count = m };
+  core_is = ap (λ (k : Core). record k { seats = replicate m (new_seat k.drift) }) f.core_is;
+  bare = λ header. absurd (files header);
+  wires_is = f.wires_is;
+  is_tree = f.is_tree;
+  size = f.size;
+  past_is = no_more past ∙ f.past_is;
+  few = let e = f.few in omega (arith, e);
+}
+  where
+    files : false ≡ true → ⊥
+    files e = cc
+
+term_first : (n m : ℕ) (w : World) (past : List Moment) → m < 4294967296 → w.stage ≡ stage.Term → IsFirst n w past → IsFirst (n + 1) (with_leases w m) (past ++ [])
+term_first n m w past small at f = record {
+  tree = f.tree;
+  count = record f.count { term = m; term_fits = small };
+  core_is = ap (λ (k : Core). record k { server = with_term k.server m }) f.core_is;
+  bare = λ header. f.bare (ap in_header at);
+  wires_is = f.wires_is;
+  is_tree = f.is_tree;
+  size = f.size;
+  past_is = no_more past ∙ f.past_is;
+  few = let e = f.few in omega (arith, e);
+}
+
+-- where there are no clients yet the drift is nobody's
+bare_core : (tree : Tree) (h : Header) (m : ℕ) → h.count ≡ 0 → record (first_core tree h) { drift = m } ≡ first_core tree (record h { drift = m })
+bare_core tree h m none =
+    ap (λ (c : ℕ). record (first_core tree h) { drift = m; seats = replicate c (new_seat h.drift) }) none
+    ∙ sym (ap (λ (c : ℕ). record (first_core tree h) { drift = m; seats = replicate c (new_seat m) }) none)
+
+drift_first : (n m : ℕ) (w : World) (past : List Moment) → w.stage ≡ stage.Drift → IsFirst n w past → IsFirst (n + 1) (with_drift w m) (past ++ [])
+drift_first n m w past at f = record {
+  tree = f.tree;
+  count = record f.count { drift = m };
+  core_is = ap (λ (k : Core). record k { drift = m }) f.core_is ∙ bare_core f.tree f.count m (f.bare (ap in_header at));
+  bare = λ header. f.bare (ap in_header at);
   wires_is = f.wires_is;
   is_tree = f.is_tree;
   size = f.size;
@@ -139,6 +185,7 @@ file_first n w dir name content past le may f =
       tree = opens f.tree dir name (Plain bytes);
       count = f.count;
       core_is = ap (λ (k : Core). record k { server = opens_with k.server dir name (Plain bytes) }) f.core_is;
+      bare = f.bare;
       wires_is = f.wires_is;
       is_tree = subst (λ (i : ℕ). IsTree (w.opening ++ record { file = i; content = bytes } ∷ []) (opens f.tree dir name (Plain bytes))) (ap (λ (t : Tree). t.next) (sym server_is)) (tree_more w.opening f.tree dir name bytes can (omega (arith, few, le)) (omega (arith, e, long)) (omega (arith, e, much, size)) f.is_tree);
       size = omega (arith, counted, size);
@@ -156,6 +203,7 @@ directory_first n w dir name past le may f =
       tree = opens f.tree dir name Directory;
       count = f.count;
       core_is = ap (λ (k : Core). record k { server = opens_with k.server dir name Directory }) f.core_is;
+      bare = f.bare;
       wires_is = f.wires_is;
       is_tree = tree_wider w.opening f.tree dir name can (omega (arith, few, le)) f.is_tree;
       size = f.size ∙ sym more.size;
@@ -163,8 +211,8 @@ directory_first n w dir name past le may f =
       few = (let next = more.next in omega (arith, few, next));
     }
 
-stage_first : (n : ℕ) (w : World) (s : Stage) (past : List Moment) → IsFirst n w past → IsFirst (n + 1) (record w { stage = s }) (past ++ [])
-stage_first n w s past f = record { tree = f.tree; count = f.count; core_is = f.core_is; wires_is = f.wires_is; is_tree = f.is_tree; size = f.size; past_is = no_more past ∙ f.past_is; few = let e = f.few in omega (arith, e) }
+stage_first : (n : ℕ) (w : World) (s : Stage) (past : List Moment) → (in_header s ≡ true → in_header w.stage ≡ true) → IsFirst n w past → IsFirst (n + 1) (record w { stage = s }) (past ++ [])
+stage_first n w s past header f = record { tree = f.tree; count = f.count; core_is = f.core_is; bare = λ e. f.bare (header e); wires_is = f.wires_is; is_tree = f.is_tree; size = f.size; past_is = no_more past ∙ f.past_is; few = let e = f.few in omega (arith, e) }
 
 not_early : {A : Type 0} (s : Stage) → s ≡ stage.Events → is_early s ≡ true → A
 not_early s e early = absurd (by (sym (ap is_early e) ∙ early))
@@ -173,8 +221,10 @@ not_early s e early = absurd (by (sym (ap is_early e) ∙ early))
     by h = cc
 
 first_turned : (n : ℕ) (w : World) (t : Turn) (past : List Moment) → MayTurn w t → n ≤ 65536 → Allows w t → (is_early w.stage ≡ true → IsFirst n w past) → is_early (turned w t).stage ≡ true → IsFirst (n + 1) (turned w t) (past ++ turn_moments w t)
-first_turned n w turn.Skip past may le f h early = stage_first n w w.stage past (h early)
-first_turned n w (turn.At s) past may le f h early = stage_first n w s past (h f)
+first_turned n w turn.Skip past may le f h early = stage_first n w w.stage past (λ e. e) (h early)
+first_turned n w (turn.At s) past may le f h early = stage_first n w s past (λ e. ap in_header f) (h (ap is_early f))
+first_turned n w (turn.Term m) past may le f h early = term_first n m w past f.1 f.0 (h (ap is_early f.0))
+first_turned n w (turn.Drift m) past may le f h early = drift_first n m w past f (h (ap is_early f))
 first_turned n w (turn.Clients m) past may le f h early = clients_first n m w past (h f)
 first_turned n w (turn.Dir dir name) past may le f h early = directory_first n w dir name past le f.1 (h f.0)
 first_turned n w (turn.File dir name content) past may le f h early = file_first n w dir name content past le f.1 (h f.0)
@@ -182,47 +232,51 @@ first_turned n w e past may le f h early = not_early (turned w e).stage (turned_
 
 -- ---- any line
 
-same_stands : (P : Fact) (all past : List Moment) (w : World) (s : Stage) → Stands P all past w → Stands P all past (record w { stage = s })
-same_stands P all past w s h = record { queues = h.queues; kept = h.kept; early = h.early; carry = h.carry; rested = h.rested; more = h.more }
+same_stands : (P : MixFact) (all past : List Moment) (w : World) (s : Stage) → Stands P all past w → Stands P all past (record w { stage = s })
+same_stands P all past w s h = record { mixes = h.mixes; fit = h.fit; kept = h.kept; early = h.early; carry = h.carry; rested = h.rested; more = h.more }
 
-idle_stands : (P : Fact) (all past : List Moment) (w : World) → Stands P all past w → Stands P all (past ++ []) w
+idle_stands : (P : MixFact) (all past : List Moment) (w : World) → Stands P all past w → Stands P all (past ++ []) w
 idle_stands P all past w h = subst (λ (z : List Moment). Stands P all z w) (sym (append-nil past)) h
 
 -- an index or a cache is changed: no event, and nothing is sent
-adjusted_stands : (P : Fact) → Carried P → (all past : List Moment) (w : World) (a : Adjustment) → Stands P all past w → Stands P all past (adjusts w a)
+adjusted_stands : (P : MixFact) → CarriedMix P → (all past : List Moment) (w : World) (a : Adjustment) → Stands P all past w → Stands P all past (adjusts w a)
 adjusted_stands P carried all past w a h =
-    let b = adjusts_is (book_at w.opening w.core all) w.core h.queues a h.kept in
+    let qs : List Queue = map queue_of h.mixes in
+    let b = adjusts_is (book_at w.opening w.core all) w.core qs a h.kept in
     let k : Core = adjusted_core w.core b.index b.seats in
-    let kept : IsKept (book_at w.opening k all) k h.queues = kept_adjusted (book_at w.opening w.core all) w.core h.queues b.index b.seats b.same b.cached h.kept in
-    let d = adjusts_is (book_at w.opening w.core past) w.core h.queues a h.early in
-    let early = kept_adjusted (book_at w.opening w.core past) w.core h.queues d.index d.seats d.same d.cached h.early in
+    let kept : IsKept (book_at w.opening k all) k qs = kept_adjusted (book_at w.opening w.core all) w.core qs b.index b.seats b.same b.cached h.kept in
+    let d = adjusts_is (book_at w.opening w.core past) w.core qs a h.early in
+    let early = kept_adjusted (book_at w.opening w.core past) w.core qs d.index d.seats d.same d.cached h.early in
     record {
-      queues = h.queues;
-      kept = subst (λ (c : Core). IsKept (book_at w.opening c all) c h.queues) (sym b.is) kept;
-      early = subst (λ (c : Core). IsKept (book_at w.opening c past) c h.queues) (sym d.is) early;
+      mixes = h.mixes;
+      fit = subst (λ (c : Core). AreMixes c.sessions h.mixes) (sym b.is) h.fit;
+      kept = subst (λ (c : Core). IsKept (book_at w.opening c all) c qs) (sym b.is) kept;
+      early = subst (λ (c : Core). IsKept (book_at w.opening c past) c qs) (sym d.is) early;
       carry = h.carry;
       rested = h.rested;
-      more = subst (λ (c : Core). P all past w.opening c h.queues) (sym b.is) (carried.adjusts all past w.opening w.core h.queues b.index b.seats b.same h.more);
+      more = subst (λ (c : Core). P all past w.opening c h.mixes) (sym b.is) (carried.adjusts all past w.opening w.core h.mixes b.index b.seats b.same h.more);
     }
 
-stands_turned : (P : Fact) → KeptLaws → FitLaws → Carried P → (n : ℕ) (all past rest : List Moment) (w : World) (t : Turn) → n ≤ 65536 → Allows w t → Before P n all past w → all ≡ past ++ (turn_moments w t ++ rest) → Stands P all (past ++ turn_moments w t) (turned w t)
+stands_turned : (P : MixFact) → KeptLaws → FitLaws → CarriedMix P → (n : ℕ) (all past rest : List Moment) (w : World) (t : Turn) → n ≤ 65536 → Allows w t → Before P n all past w → all ≡ past ++ (turn_moments w t ++ rest) → Stands P all (past ++ turn_moments w t) (turned w t)
 stands_turned P l fits carried n all past rest w turn.Skip le f h split = idle_stands P all past w h.stands
 stands_turned P l fits carried n all past rest w (turn.At s) le f h split = idle_stands P all past (record w { stage = s }) (same_stands P all past w s h.stands)
+stands_turned P l fits carried n all past rest w (turn.Term m) le f h split = first_stands P carried (n + 1) all (past ++ []) (with_leases w m) h.stands.kept.sound.alike (term_first n m w past f.1 f.0 (h.first (ap is_early f.0)))
+stands_turned P l fits carried n all past rest w (turn.Drift m) le f h split = first_stands P carried (n + 1) all (past ++ []) (with_drift w m) h.stands.kept.sound.alike (drift_first n m w past f (h.first (ap is_early f)))
 stands_turned P l fits carried n all past rest w (turn.Clients m) le f h split = first_stands P carried (n + 1) all (past ++ []) (with_clients w m) h.stands.kept.sound.alike (clients_first n m w past (h.first f))
 stands_turned P l fits carried n all past rest w (turn.Dir dir name) le f h split = first_stands P carried (n + 1) all (past ++ []) (with_directory w dir name) h.stands.kept.sound.alike (directory_first n w dir name past le f.1 (h.first f.0))
 stands_turned P l fits carried n all past rest w (turn.File dir name content) le f h split = first_stands P carried (n + 1) all (past ++ []) (with_file w dir name (content_bytes content)) h.stands.kept.sound.alike (file_first n w dir name content past le f.1 (h.first f.0))
 stands_turned P l fits carried n all past rest w (turn.Join c) le f h split =
-    event_stands P l carried all past rest (at_events w) (Joins c) (same_stands P all past w stage.Events h.stands) split (f.0, f.1, f.2, made_small P n all past w h le, f.3, refl)
-stands_turned P l fits carried n all past rest w (turn.Do c now d) le f h split = event_stands P l carried all past rest (at_events w) (Does c now d) (same_stands P all past w stage.Events h.stands) split (f.0, f.1, f.2, refl)
-stands_turned P l fits carried n all past rest w (turn.Settle now) le f h split = event_stands P l carried all past rest (at_events w) (Settles now) (same_stands P all past w stage.Events h.stands) split refl
-stands_turned P l fits carried n all past rest w (turn.Cut c) le f h split = event_stands P l carried all past rest (at_events w) (Cuts c) (same_stands P all past w stage.Events h.stands) split (f.0, f.1, refl)
-stands_turned P l fits carried n all past rest w (turn.Hang m) le f h split = event_stands P l carried all past rest (at_events w) (Hangs m) (same_stands P all past w stage.Events h.stands) split (f.0, f.1, refl)
+    event_stands P l carried all past rest (at_events w) (Joins c) (same_stands P all past w stage.Events h.stands) split ((f.0, f.1, f.2, made_small P n all past w h le, f.3, refl), refl)
+stands_turned P l fits carried n all past rest w (turn.Do c now d) le f h split = event_stands P l carried all past rest (at_events w) (Does c now d) (same_stands P all past w stage.Events h.stands) split ((f.0, f.1, f.2, refl), refl)
+stands_turned P l fits carried n all past rest w (turn.Settle now) le f h split = event_stands P l carried all past rest (at_events w) (Settles now) (same_stands P all past w stage.Events h.stands) split (refl, refl)
+stands_turned P l fits carried n all past rest w (turn.Cut c) le f h split = event_stands P l carried all past rest (at_events w) (Cuts c) (same_stands P all past w stage.Events h.stands) split ((f.0, f.1, refl), refl)
+stands_turned P l fits carried n all past rest w (turn.Hang m) le f h split = event_stands P l carried all past rest (at_events w) (Hangs m) (same_stands P all past w stage.Events h.stands) split ((f.0, f.1, refl), refl)
 stands_turned P l fits carried n all past rest w (turn.Up m a now) le f h split = up_stands P l fits carried all past rest (at_events w) m (count_of a (up_length (numbered w.wires m))) now split (same_stands P all past w stage.Events h.stands)
 stands_turned P l fits carried n all past rest w (turn.Down m a now) le f h split = down_stands P l carried all past rest (at_events w) m (count_of a (down_length (numbered w.wires m))) now split (same_stands P all past w stage.Events h.stands)
 stands_turned P l fits carried n all past rest w (turn.Pass m k server at) le f h split = passes_stand P l fits carried k all past rest (at_events w) m server at split (same_stands P all past w stage.Events h.stands)
 stands_turned P l fits carried n all past rest w (turn.Adjust a) le f h split = idle_stands P all past (adjusts (at_events w) a) (adjusted_stands P carried all past (at_events w) a (same_stands P all past w stage.Events h.stands))
 
-pub before_next : (P : Fact) → KeptLaws → FitLaws → Carried P → (n : ℕ) (all past rest : List Moment) (w : World) (t : Turn) → n ≤ 65536 → Allows w t → Before P n all past w → all ≡ past ++ (turn_moments w t ++ rest) → Before P (n + 1) all (past ++ turn_moments w t) (turned w t)
+pub before_next : (P : MixFact) → KeptLaws → FitLaws → CarriedMix P → (n : ℕ) (all past rest : List Moment) (w : World) (t : Turn) → n ≤ 65536 → Allows w t → Before P n all past w → all ≡ past ++ (turn_moments w t ++ rest) → Before P (n + 1) all (past ++ turn_moments w t) (turned w t)
 before_next P l fits carried n all past rest w t le f h split =
     let may = may_turn P n all past w t h le f in
     record {

@@ -10,29 +10,34 @@ use Rattle.command_text.specs.declared.command.Command.TheVariants as command
 use Rattle.client_cache.specs.Cache.{content_of, reserved}
 use Rattle.client_state.specs.State as client
 use Rattle.trace_replay.specs.Saving.{name_call, name_told, name_answer, known_at, AnswersName, TakesName, SentBefore, TakesTold, ToldOf, AreTold, AllKnown, found_told, first_call, AsksFirst, AsksFound, AsksVersion}
-use Rattle.file_open.specs.Rewriting.{asks_anew as asks_if, rewrites_if, rewrites}
+use Rattle.file_open.specs.Rewriting.{asks_anew as asks_if, renews_kept, rewrites_if, rewrites}
+use Rattle.file_open.specs.Caching.{fresh_content}
+use Rattle.file_open.specs.Fetching.{opens_kept}
+use Rattle.client_state.specs.Noting.{at as at_clock}
 use Rattle.file_open.specs.Opening.{lease_call}
 use Rattle.trace_replay.specs.Traffic.{unknown_in, unknown_number, deals_if}
-use Rattle.kept_promise.proofs.Common.{Contains, Contains-append_left, Contains-append_right, Contains-push, Contains-push_cases, not, Answer, Done, Failed, Status, Command, Body, Message, WireFault, parse_of, temp_at, cond_fault, at, got_if, stands, opens, opens_if, asks_file, asks_kept, may_ask, is_open, command_step, Content, Task, Op, Opening, Core, Seat, Session, Event, Event.Does, Event.Serves, Event.Hears, numbered, server_waiting, serves_if, serves, does, happens, Moment, step_of, client_of, owner_in, wanted_if, wanted_by, taken_by, given_by, is_in, Deal, Deal.Took, Deal.Found, Deal.Sent, deals_with, deals_in, deals_of, Book, Queue, Ask, Reply, Reply.Named, ask_message, told_message, reply_body}
+use Rattle.kept_promise.proofs.Common.{asked_in, Contains, Contains-append_left, Contains-append_right, Contains-push, Contains-push_cases, not, Answer, Done, Failed, Status, Command, Body, Message, WireFault, parse_of, temp_at, cond_fault, at, got_if, stands, opens, opens_if, asks_file, asks_kept, may_ask, is_open, command_step, Content, Task, Op, Opening, Core, Seat, Session, Event, Event.Does, Event.Serves, Event.Hears, numbered, server_waiting, server_waits, serves_if, serves, does, happens, Moment, step_of, client_of, owner_in, wanted_if, wanted_by, taken_by, given_by, is_in, Deal, Deal.Took, Deal.Found, Deal.Sent, deals_with, deals_in, deals_of, Book, Queue, Ask, Reply, Reply.Named, ask_message, told_message, reply_body}
 use Rattle.kept_promise.proofs.Lists.{nothing_there}
 use Rattle.kept_promise.proofs.Messages.{Job, job, AllAsks, AllTolds}
 use Rattle.kept_promise.proofs.Orderly.{Wanted, IsWanted}
 use Rattle.kept_promise.proofs.Fits.{FitLaws}
 use Rattle.kept_promise.proofs.Facts.{IsKept, IsSession}
 use Rattle.kept_promise.proofs.Turns.{also_numbered}
-use Rattle.kept_promise.proofs.RunsCarried.{book_at, moment, Finds, Step, Carried}
+use Rattle.kept_promise.proofs.RunsCarried.{book_at, moment, Finds, FindsAsk, Step, Carried}
 use Rattle.kept_promise.proofs.Actors.{Heard, heard_at, heard_takes}
+use Rattle.kept_promise.proofs.Replies.{recall_heard, recall_takes}
+use Rattle.kept_promise.proofs.CallsAlike.{call_reads}
 use Rattle.kept_promise.proofs.OpsAfter.{ops_after_event}
 use Rattle.kept_promise.proofs.Statements.{CallFits}
 use Rattle.kept_promise.proofs.Serves.{parsed}
 use Rattle.kept_promise.proofs.SentDown.{WasSent, DownsSent, sent_after}
-use Rattle.kept_promise.proofs.SentUp.{WasCalled, UpsSent, called_after}
+use Rattle.kept_promise.proofs.SentUp.{WasCalled, UpsSent, called_after, asked_only}
 use Rattle.kept_promise.proofs.FoundAsked.{found_asked}
 use Rattle.kept_promise.proofs.NameAnswers.{ComesTo, known_in, names_free, fault_apart, NameTaken, name_taken}
 
 -- ---- the server answers a CONDWRITE
 
-answers_by : (k : Core) (n now : ℕ) (bytes : List ℕ) (x : Session) (xid : ℕ) (a : CondPiece) → numbered k.sessions n ≡ Some x → stands k.server n ≡ true → parse_of server_waiting bytes ≡ Ok (name_call xid a) → cond_fault a (temp_at k.server.temps n a.fd) ≡ None
+answers_by : (k : Core) (n now : ℕ) (bytes : List ℕ) (x : Session) (xid : ℕ) (a : CondPiece) → numbered k.sessions n ≡ Some x → stands k.server n ≡ true → parse_of (server_waits k n) bytes ≡ Ok (name_call xid a) → cond_fault a (temp_at k.server.temps n a.fd) ≡ None
     → (happens k (Serves n now bytes)).down ≡ record { session = n; message = name_told xid (name_answer (known_in k.server a)) } ∷ []
 answers_by k n now bytes x xid a there standing read free =
     ap (λ (o : Option Session). (serves k n now bytes o).down) there
@@ -40,15 +45,14 @@ answers_by k n now bytes x xid a there standing read free =
     ∙ ap (λ b. (got_if k.server b n (name_call xid a) now).1.send) standing
     ∙ names_free (at k.server now) n xid a (temp_at k.server.temps n a.fd) free
 
-answers_name : (all : List Moment) (opening : List Opening) (k : Core) (qs mid : List Queue) (e : Event) → IsKept (book_at opening k all) k qs → Finds k qs e mid → AnswersName (moment k e)
-answers_name all opening k qs mid (Serves n now bytes) kept f session xid a w =
-    let x = also_numbered qs k.sessions n f.0 (sym kept.made.1) f.3 in
-    let h = kept.sessions n x.0 f.0 x.1 f.3 in
+answers_name : FitLaws → (all : List Moment) (opening : List Opening) (k : Core) (qs mid : List Queue) (e : Event) → IsKept (book_at opening k all) k qs → Finds k qs e mid → AnswersName (moment k e)
+answers_name fits all opening k qs mid (Serves n now bytes) kept finds session xid a w =
+    let x = also_numbered qs k.sessions n came.0 (sym kept.made.1) came.3 in
+    let h = kept.sessions n x.0 came.0 x.1 came.3 in
     let standing : stands k.server n ≡ true = h.stands_is ∙ ap not (unhung x.0 h x.0.hung refl) in
     let same : n ≡ session = session_is n session now w.now bytes w.bytes w.event_is in
-    let read : parse_of server_waiting bytes ≡ Ok (name_call xid a) = ap (parse_of server_waiting) (bytes_are n session now w.now bytes w.bytes w.event_is) ∙ w.call_is in
     let free : cond_fault a (temp_at k.server.temps n a.fd) ≡ None = ap (λ z. cond_fault a (temp_at k.server.temps z a.fd)) same ∙ w.free in
-    answers_by k n now bytes x.0 xid a x.1 standing read free ∙ ap (λ z. record { session = z; message = name_told xid (name_answer (known_in k.server a)) } ∷ []) same
+    answers_by k n now bytes x.0 xid a x.1 standing (call_reads k n bytes xid (body.Lb (lb.CondWrite a)) reads) free ∙ ap (λ z. record { session = z; message = name_told xid (name_answer (known_in k.server a)) } ∷ []) same
   where
     session_is : (n m i j : ℕ) (a b : List ℕ) → Serves n i a ≡ Serves m j b → n ≡ m
     session_is n m i j a b e = cc
@@ -56,13 +60,19 @@ answers_name all opening k qs mid (Serves n now bytes) kept f session xid a w =
     bytes_are : (n m i j : ℕ) (a b : List ℕ) → Serves n i a ≡ Serves m j b → a ≡ b
     bytes_are n m i j a b e = cc
 
-    unhung : (x : Session) → IsSession (book_at opening k all) k.seats k.server n x f.0 → (b : Bool) → x.hung ≡ b → x.hung ≡ false
+    reads : parse_of server_waiting bytes ≡ Ok (name_call xid a)
+    reads = ap (parse_of server_waiting) (bytes_are n session now w.now bytes w.bytes w.event_is) ∙ w.call_is
+
+    came : FindsAsk qs n bytes mid
+    came = asked_only fits k qs n now bytes mid finds xid (body.Lb (lb.CondWrite a)) reads
+
+    unhung : (x : Session) → IsSession (book_at opening k all) k.seats k.server n x came.0 → (b : Bool) → x.hung ≡ b → x.hung ≡ false
     unhung x h false e = e
-    unhung x h true e = absurd (none_is f.1 f.2 (sym f.4 ∙ h.lost e))
+    unhung x h true e = absurd (none_is came.1 came.2 (sym came.4 ∙ h.lost e))
       where
         none_is : (a : Ask) (us : List Ask) → a ∷ us ≡ [] → ⊥
         none_is a us z = absurd cc
-answers_name all opening k qs mid e kept f session xid a w = unserved e w.event_is (λ n now bytes z. absurd cc)
+answers_name fits all opening k qs mid e kept f session xid a w = unserved e w.event_is (λ n now bytes z. absurd cc)
   where
     unserved : {A : Type 0} (e : Event) {n now : ℕ} {bytes : List ℕ} → e ≡ Serves n now bytes → ((n now : ℕ) (bytes : List ℕ) → e ≡ Serves n now bytes → A) → A
     unserved e is other = other _ _ _ is
@@ -73,7 +83,7 @@ abbrev AreSent : List Moment → Moment → Type 0
 AreSent all m = (session xid : ℕ) (a : CondPiece) → TakesName m session xid a → SentBefore all m session (name_call xid a)
 
 was_sent : FitLaws → (all past rest : List Moment) (opening : List Opening) (k : Core) (qs mid : List Queue) (n now : ℕ) (bytes : List ℕ) → all ≡ past ++ rest → IsKept (book_at opening k all) k qs → Finds k qs (Serves n now bytes) mid → UpsSent past k.steps qs → AreSent all (moment k (Serves n now bytes))
-was_sent fits all past rest opening k qs mid n now bytes split kept f sent session xid a w = record {
+was_sent fits all past rest opening k qs mid n now bytes split kept finds sent session xid a w = record {
   moment = was.moment;
   there = subst (λ (l : List Moment). Contains l was.moment) (sym split) (Contains-append_left past rest was.moment was.there);
   before = (let le = was.by in omega (arith, le));
@@ -81,14 +91,20 @@ was_sent fits all past rest opening k qs mid n now bytes split kept f sent sessi
   sent = subst (λ (m : Message). Contains (happens was.moment.before was.moment.event).up m) call was.sent;
 }
   where
-    was : WasCalled past k.steps n f.1
-    was = (subst (AllAsks (WasCalled past k.steps n)) f.4 (sent n f.0 f.3)).0
-
     session_is : (n m i j : ℕ) (a b : List ℕ) → Serves n i a ≡ Serves m j b → n ≡ m
     session_is n m i j a b e = cc
 
     bytes_are : (n m i j : ℕ) (a b : List ℕ) → Serves n i a ≡ Serves m j b → a ≡ b
     bytes_are n m i j a b e = cc
+
+    reads : parse_of server_waiting bytes ≡ Ok (name_call xid a)
+    reads = ap (parse_of server_waiting) (bytes_are n session now w.now bytes w.bytes w.event_is) ∙ w.call_is
+
+    f : FindsAsk qs n bytes mid
+    f = asked_only fits k qs n now bytes mid finds xid (body.Lb (lb.CondWrite a)) reads
+
+    was : WasCalled past k.steps n f.1
+    was = (subst (AllAsks (WasCalled past k.steps n)) f.4 (sent n f.0 f.3)).0
 
     same_read : (r : Result Message WireFault) (p q : Message) → r ≡ Ok p → r ≡ Ok q → p ≡ q
     same_read r p q a b = cc
@@ -169,8 +185,8 @@ are_told fits all past rest opening k qs mid n now bytes split kept h sent asked
 
 -- ---- a client is told to open a file
 
-asks_first : (s : client.State) (file now : ℕ) → ((command_step s (command.Open file) now).1.send ≡ []) ⊎ ((xid : ℕ) × ((command_step s (command.Open file) now).1.send ≡ first_call xid file (content_of s.cache file) ∷ []))
-asks_first s file now = by s.task
+opens_first : (s : client.State) (file : ℕ) → ((opens s file s.task).1.send ≡ []) ⊎ ((xid : ℕ) × ((opens s file s.task).1.send ≡ first_call xid file (content_of s.cache file) ∷ []))
+opens_first s file = by s.task
   where
     kept : (o : Option Content) → ((xid : ℕ) × ((asks_kept (record s { cache = reserved s.cache file }) file o).1.send ≡ first_call xid file o ∷ []))
     kept None = (s.next_xid, refl)
@@ -180,13 +196,20 @@ asks_first s file now = by s.task
     asks false = inl refl
     asks true = inr (kept (content_of s.cache file))
 
+    fresh : (o : Option Content) → ((opens_kept s file o).1.send ≡ []) ⊎ ((xid : ℕ) × ((opens_kept s file o).1.send ≡ first_call xid file (content_of s.cache file) ∷ []))
+    fresh None = asks (may_ask s)
+    fresh (Some c) = inl refl
+
     shut : (b : Bool) → ((opens_if s file b).1.send ≡ []) ⊎ ((xid : ℕ) × ((opens_if s file b).1.send ≡ first_call xid file (content_of s.cache file) ∷ []))
     shut true = inl refl
-    shut false = asks (may_ask s)
+    shut false = fresh (fresh_content s.cache file s.clock)
 
     by : (t : Option Task) → ((opens s file t).1.send ≡ []) ⊎ ((xid : ℕ) × ((opens s file t).1.send ≡ first_call xid file (content_of s.cache file) ∷ []))
     by (Some t) = inl refl
     by None = shut (is_open s.opened file)
+
+asks_first : (s : client.State) (file now : ℕ) → ((command_step s (command.Open file) now).1.send ≡ []) ⊎ ((xid : ℕ) × ((command_step s (command.Open file) now).1.send ≡ first_call xid file (content_of s.cache file) ∷ []))
+asks_first s file now = opens_first (at_clock s now) file
 
 first_asked : (k : Core) (c now : ℕ) (d : Command) → AsksFirst (moment k (Does c now d))
 first_asked k c now d client then file seat event here =
@@ -203,20 +226,27 @@ first_asked k c now d client then file seat event here =
 
 -- ---- a client is told to write a file anew
 
-asks_anew : (s : client.State) (file now : ℕ) → ((command_step s (command.Rewrite file) now).1.send ≡ []) ⊎ ((xid : ℕ) × ((command_step s (command.Rewrite file) now).1.send ≡ lease_call xid file ∷ []))
-asks_anew s file now = by s.task
+rewrites_first : (s : client.State) (file : ℕ) → ((rewrites s file s.task).1.send ≡ []) ⊎ ((xid : ℕ) × ((rewrites s file s.task).1.send ≡ lease_call xid file ∷ []))
+rewrites_first s file = by s.task
   where
     asks : (b : Bool) → ((asks_if s file b).1.send ≡ []) ⊎ ((xid : ℕ) × ((asks_if s file b).1.send ≡ lease_call xid file ∷ []))
     asks false = inl refl
     asks true = inr (s.next_xid, refl)
 
+    fresh : (o : Option Content) → ((renews_kept s file o).1.send ≡ []) ⊎ ((xid : ℕ) × ((renews_kept s file o).1.send ≡ lease_call xid file ∷ []))
+    fresh None = asks (may_ask s)
+    fresh (Some c) = inl refl
+
     shut : (b : Bool) → ((rewrites_if s file b).1.send ≡ []) ⊎ ((xid : ℕ) × ((rewrites_if s file b).1.send ≡ lease_call xid file ∷ []))
     shut true = inl refl
-    shut false = asks (may_ask s)
+    shut false = fresh (fresh_content s.cache file s.clock)
 
     by : (t : Option Task) → ((rewrites s file t).1.send ≡ []) ⊎ ((xid : ℕ) × ((rewrites s file t).1.send ≡ lease_call xid file ∷ []))
     by (Some t) = inl refl
     by None = shut (is_open s.opened file)
+
+asks_anew : (s : client.State) (file now : ℕ) → ((command_step s (command.Rewrite file) now).1.send ≡ []) ⊎ ((xid : ℕ) × ((command_step s (command.Rewrite file) now).1.send ≡ lease_call xid file ∷ []))
+asks_anew s file now = rewrites_first (at_clock s now) file
 
 pub asks_version : (m : Moment) → AsksVersion m
 asks_version m client now file seat event here =
@@ -232,6 +262,10 @@ Saves all m = AnswersName m × AreTold all m × AsksFirst m × AsksFound m × Ar
 not_heard : (all : List Moment) (k : Core) (e : Event) → ((n i : ℕ) (b : List ℕ) → e ≡ Hears n i b → ⊥) → AreTold all (moment k e)
 not_heard all k e other session xid r (i, b, is, there) = absurd (other session i b is)
 
+-- by a RECALL nothing is told
+recall_untold : (all : List Moment) (k : Core) (n now : ℕ) (bytes : List ℕ) → taken_by k (client_of k (Hears n now bytes)) (Hears n now bytes) ≡ [] → AreTold all (moment k (Hears n now bytes))
+recall_untold all k n now bytes none session xid r (i, b, is, there) = (let lt = (subst (λ (ms : List Message). Contains ms (name_told xid r)) none there).1 in absurd (omega (arith, lt)))
+
 not_done : (k : Core) (e : Event) → ((c i : ℕ) (d : Command) → e ≡ Does c i d → ⊥) → AsksFirst (moment k e)
 not_done k e other client now file seat event here = absurd (other client now (command.Open file) event)
 
@@ -240,10 +274,14 @@ not_found : (k : Core) (e : Event) → taken_by k (client_of k e) e ≡ [] → A
 not_found k e none xid f seat here there = (let lt = (subst (λ (ms : List Message). Contains ms (found_told xid f)) none there).1 in absurd (omega (arith, lt)))
 
 saves : FitLaws → (all past rest : List Moment) (opening : List Opening) (k : Core) (qs : List Queue) (e : Event) (mid after : List Queue) → Step all past rest opening k qs e mid after → DownsSent past k.steps qs → UpsSent past k.steps qs → ((m : Moment) → Contains past m → AreSent all m) → Saves all (moment k e)
-saves fits all past rest opening k qs e mid after s sent ups before = (answers_name all opening k qs mid e s.kept s.finds, told e s, asked e, found e s, called e s)
+saves fits all past rest opening k qs e mid after s sent ups before = (answers_name fits all opening k qs mid e s.kept s.finds, told e s, asked e, found e s, called e s)
   where
     told : (e : Event) → Step all past rest opening k qs e mid after → AreTold all (moment k e)
-    told (Hears n now bytes) s = are_told fits all past (moment k (Hears n now bytes) ∷ rest) opening k qs mid n now bytes s.split s.kept (heard_at (book_at opening k all) k qs n now bytes mid s.kept s.finds) sent before
+    told (Hears n now bytes) s = by s.finds
+      where
+        by : Finds k qs (Hears n now bytes) mid → AreTold all (moment k (Hears n now bytes))
+        by (inl f) = are_told fits all past (moment k (Hears n now bytes) ∷ rest) opening k qs mid n now bytes s.split s.kept (heard_at (book_at opening k all) k qs n now bytes mid s.kept f) sent before
+        by (inr f) = recall_untold all k n now bytes (recall_takes k n now bytes (recall_heard fits (book_at opening k all) k qs n now bytes mid s.kept f))
     told e s = not_heard all k e (λ i j x is. absurd cc)
 
     asked : (e : Event) → AsksFirst (moment k e)
@@ -251,7 +289,11 @@ saves fits all past rest opening k qs e mid after s sent ups before = (answers_n
     asked e = not_done k e (λ i j x is. absurd cc)
 
     found : (e : Event) → Step all past rest opening k qs e mid after → AsksFound (moment k e)
-    found (Hears n now bytes) s = found_asked fits (book_at opening k all) k qs n now bytes mid s.kept (heard_at (book_at opening k all) k qs n now bytes mid s.kept s.finds)
+    found (Hears n now bytes) s = by s.finds
+      where
+        by : Finds k qs (Hears n now bytes) mid → AsksFound (moment k (Hears n now bytes))
+        by (inl f) = found_asked fits (book_at opening k all) k qs n now bytes mid s.kept (heard_at (book_at opening k all) k qs n now bytes mid s.kept f)
+        by (inr f) = not_found k (Hears n now bytes) (recall_takes k n now bytes (recall_heard fits (book_at opening k all) k qs n now bytes mid s.kept f))
     found e s = not_found k e refl
 
     called : (e : Event) → Step all past rest opening k qs e mid after → AreSent all (moment k e)
@@ -328,9 +370,9 @@ unknown_at o m = by (is_in o (step_of m) (client_of m.before m.event)) refl
     c : ℕ
     c = client_of m.before m.event
 
-    by : (b : Bool) → is_in o (step_of m) (client_of m.before m.event) ≡ b → (unknown_in (deals_if b (taken_by m.before (client_of m.before m.event) m.event) (given_by m.before (client_of m.before m.event) m.event) (happens m.before m.event).up) ≡ 0) ⊎ Unknown o m
+    by : (b : Bool) → is_in o (step_of m) (client_of m.before m.event) ≡ b → (unknown_in (deals_if b (taken_by m.before (client_of m.before m.event) m.event) (given_by m.before (client_of m.before m.event) m.event) (asked_in m)) ≡ 0) ⊎ Unknown o m
     by false is = inl refl
-    by true is = elim (unknown_taken (taken_by m.before (client_of m.before m.event) m.event) (given_by m.before (client_of m.before m.event) m.event) (happens m.before m.event).up) [
+    by true is = elim (unknown_taken (taken_by m.before (client_of m.before m.event) m.event) (given_by m.before (client_of m.before m.event) m.event) (asked_in m)) [
       | inl none ↦ inl none
       | inr some ↦ inr (is, some)
     ]

@@ -1,5 +1,6 @@
 -- Each answer on its way to a client was sent by the server, in a step before.
 use Rattle.std.proofs.Common.{◌⊎◌, inl, inr, ◌≡◌, ℕ, ◌+◌, ◌≤◌, List, [], ◌∷◌, ◌++◌, Bool, true, false, refl, sym, subst, arith, map}
+use Rattle.server_core.specs.Recalling.{recall_sent}
 use Rattle.kept_promise.proofs.Common.{Contains, Contains-append_left, Contains-append_right, Contains-push, Core, Event, CoreStep, does, joins, hears, cuts, hangs, happens, Moment, step_of, unless, Queue, Told}
 use Rattle.kept_promise.proofs.Lists.{all_append, AllOf, all_map}
 use Rattle.kept_promise.proofs.Messages.{AllTolds}
@@ -51,7 +52,7 @@ put_on : (R : Any) (mid : List Queue) (t : CoreStep) (s : Sends t) → ((p : ℕ
 put_on R mid t s new h =
     let lost = have_lost (On R) mid t.loss h tt (λ n q g. tt) (λ n q g. g) in
     let ups = have_ups (On R) t.core.sessions (queues_lost mid t.loss) t.session s.asks lost (λ n x q is at there g. g) in
-    have_downs (On R) (λ p. R p.0 p.1) t.core.sessions s.tolds (ups_put t.core.sessions (queues_lost mid t.loss) t.session s.asks) (all_sent sent_message (λ p. R p.0 p.1) s.tolds (λ p c. new p (subst (λ l. Contains l (sent_message p)) (sym s.down_is) c))) ups put
+    have_downs (On R) (λ p. R p.0 p.1) t.core.sessions s.tolds (ups_put t.core.sessions (queues_lost mid t.loss) t.session s.asks) (all_sent sent_message (λ p. R p.0 p.1) s.tolds (λ p c. new p (subst (λ l. Contains l (sent_message p)) (sym s.down_is) (Contains-append_right (map recall_sent s.recalls) (map sent_message s.tolds) (sent_message p) c)))) ups put
   where
     put : (n : ℕ) (u : Told) (q : Queue) (lost : Bool) → R n u → On R n q → AllTolds (R n) (unless lost q.downs (u ∷ []))
     put n u q true r g = g

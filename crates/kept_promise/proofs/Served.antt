@@ -1,12 +1,10 @@
 -- The server takes the first call on its way: all calls together.
 use Rattle.std.proofs.Common.{inl, inr, ◌≡◌, ℕ, ◌+◌, List, [], ◌∷◌, Some, Bool, true, false, refl, sym, ap, ◌∙◌, subst, ◌++◌}
-use Rattle.kept_promise.proofs.Common.{not, message_spell, Message, stands, got_if, Core, Session, Event.Serves, CoreStep, numbered, with_numbered, serves_if, serves, taken_with, quiet, happens, Book, Call, Call.Lease, Call.Hash, Call.Read, Call.Make, Call.Name, Call.Send, Call.Commit, Ask, Queue, ask_message, Call.Walks, at, ServerStep, node_of, handle_bytes}
-use Rattle.kept_promise.proofs.Tells.{hash_range}
-use Rattle.server_law.proofs.Unleased.{unleased_at, tells_lease_so, tells_hashes_so}
+use Rattle.kept_promise.proofs.Common.{not, message_spell, Message, stands, got_if, Core, Session, Event.Serves, CoreStep, numbered, with_numbered, serves_if, serves, taken_with, quiet, happens, Book, Call, Call.Lease, Call.Hash, Call.Read, Call.Make, Call.Name, Call.Send, Call.Commit, Ask, Queue, ask_message, Call.Walks, at, ServerStep}
 use Rattle.server_core.specs.State as server
 use Rattle.kept_promise.proofs.Turns.{also_numbered}
 use Rattle.kept_promise.proofs.Fits.{FitLaws}
-use Rattle.kept_promise.proofs.Serves.{parsed}
+use Rattle.kept_promise.proofs.Serves.{parsed_at}
 use Rattle.kept_promise.proofs.Calls.{Given, session_in, first_fits, rest_of, serve_lease, serve_hash, serve_read, serve_make, serve_send, serve_walk}
 use Rattle.kept_promise.proofs.Knowing.{serve_name}
 use Rattle.kept_promise.proofs.Commits.{serve_commit}
@@ -29,10 +27,8 @@ abbrev did_by : Core → (n : ℕ) → Session → (xid : ℕ) → server.State 
 did_by k n x xid r = record (quiet (record k { steps = k.steps + 1; server = r.0; sessions = with_numbered k.sessions n (record x { taken = x.taken ++ record { xid = xid; step = k.steps + 1 } ∷ [] }) })) { down = r.1.send }
 
 serve_call : FitLaws → (book : Book) (k : Core) (qs : List Queue) (n now : ℕ) (x : Session) (q : Queue) (xid : ℕ) (c : Call) (us : List Ask) → Given book k qs n now x q (record { xid = xid; call = c }) us → makes_call c ≡ false → Leads book (rest_of qs n q us) (got_by k n now x (ask_message (record { xid = xid; call = c })) true)
-serve_call laws book k qs n now x q xid (Lease f) us g none =
-    subst (λ (r : server.State × ServerStep). Leads book (rest_of qs n q us) (did_by k n x xid r)) (sym (tells_lease_so (at k.server now) (unleased_at k.server now g.kept.server.leases) n xid (node_of k.server.tree (handle_bytes f)))) (serve_lease laws book k qs n now x q xid f us g)
-serve_call laws book k qs n now x q xid (Hash f o) us g none =
-    subst (λ (r : server.State × ServerStep). Leads book (rest_of qs n q us) (did_by k n x xid r)) (sym (tells_hashes_so (at k.server now) (unleased_at k.server now g.kept.server.leases) n xid (hash_range f o) (node_of k.server.tree (handle_bytes f)))) (serve_hash laws book k qs n now x q xid f o us g)
+serve_call laws book k qs n now x q xid (Lease f) us g none = serve_lease laws book k qs n now x q xid f us g
+serve_call laws book k qs n now x q xid (Hash f o) us g none = serve_hash laws book k qs n now x q xid f o us g
 serve_call laws book k qs n now x q xid (Read f d) us g none = serve_read laws book k qs n now x q xid f d us g
 serve_call laws book k qs n now x q xid (Make m f) us g none = serve_make laws book k qs n now x q xid m f us g
 serve_call laws book k qs n now x q xid (Name m d) us g none = serve_name laws book k qs n now x q xid m d us g
@@ -62,7 +58,7 @@ kept_serves laws book k qs n now q a us kept is e noted = by (also_numbered qs k
         let bytes = message_spell (ask_message a) in
         let standing : stands k.server n ≡ true = h.stands_is ∙ ap not g.unhung in
         let is_turned : happens k (Serves n now bytes) ≡ got_by k n now x (ask_message a) true =
-        ap (serves k n now bytes) g.at ∙ ap (serves_if k n now x) (parsed laws a (first_fits book k qs n now x q a us g)) ∙ got_quiet k n now x (ask_message a) (is_of_files a (first_fits book k qs n now x q a us g) none) ∙ ap (got_by k n now x (ask_message a)) standing in
+        ap (serves k n now bytes) g.at ∙ ap (serves_if k n now x) (parsed_at laws k n a (first_fits book k qs n now x q a us g)) ∙ got_quiet k n now x (ask_message a) (is_of_files a (first_fits book k qs n now x q a us g) none) ∙ ap (got_by k n now x (ask_message a)) standing in
         subst (Leads book (rest_of qs n q us)) (sym is_turned) (serve_call laws book k qs n now x q a.xid a.call us g none)
 
     by : (x : Session) × (numbered k.sessions n ≡ Some x) → Leads book (rest_of qs n q us) (happens k (Serves n now (message_spell (ask_message a))))

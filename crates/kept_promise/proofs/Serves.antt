@@ -2,14 +2,14 @@
 use Rattle.std.proofs.Common.{◌≡◌, ℕ, zero, suc, ◌+◌, ◌<◌, List, [], ◌∷◌, Some, None, false, refl, sym, ap, ◌∙◌, subst, map, Ok}
 use Rattle.std.proofs.lemmas.Nat.{from_be_bytes-to_be_bytes_8}
 use Rattle.chunk_calls.specs.Answers.{node_named}
-use Rattle.kept_promise.proofs.Common.{slice_get, Contains, Contains-append_left, Contains-append_right, Contains-push, handle_bytes, message_spell, parse_of, node_of, Indexed, Temp, Core, Session, CoreStep, Loss.Nothing, numbered, with_numbered, server_waiting, Book, Reply, Ask, Told, Queue, ask_message, Tree, Leasing}
+use Rattle.kept_promise.proofs.Common.{slice_get, Contains, Contains-append_left, Contains-append_right, Contains-push, handle_bytes, message_spell, parse_of, node_of, Indexed, Temp, Core, Session, CoreStep, Loss.Nothing, numbered, with_numbered, server_waiting, server_waits, Book, Reply, Ask, Told, Queue, ask_message, Tree, Leasing}
 use Rattle.kept_promise.proofs.Statements.{CallFits}
 use Rattle.kept_promise.proofs.Lists.{some_is, nothing_there}
 use Rattle.kept_promise.proofs.History.{onward}
 use Rattle.kept_promise.proofs.Turns.{Around, around_with, turned_core}
 use Rattle.kept_promise.proofs.Fits.{FitLaws}
 use Rattle.kept_promise.proofs.Takes.{took, put_down, Answers, kept_reply}
-use Rattle.kept_promise.proofs.Facts.{GrantsNone, IsKept}
+use Rattle.kept_promise.proofs.Facts.{HasTerm, IsKept}
 use Rattle.kept_promise.proofs.Leading.{Leads, sent_message, downs_put_in}
 
 -- ---- what is found under this file system's own handles
@@ -21,6 +21,10 @@ own_node t f small = ap (node_named t) (ap (λ (n : ℕ). Some n) (from_be_bytes
 
 pub parsed : FitLaws → (a : Ask) → CallFits a.xid a.call → parse_of server_waiting (message_spell (ask_message a)) ≡ Ok (ask_message a)
 parsed laws a fits = let f = laws.calls a.xid a.call fits in laws.again server_waiting (ask_message a) f.0.0 f.1
+
+-- whatever the server waits for
+pub parsed_at : FitLaws → (k : Core) (n : ℕ) (a : Ask) → CallFits a.xid a.call → parse_of (server_waits k n) (message_spell (ask_message a)) ≡ Ok (ask_message a)
+parsed_at laws k n a fits = laws.again (server_waits k n) (ask_message a) (laws.calls a.xid a.call fits).0.0 (laws.expected (server_waits k n).calls a.xid a.call)
 
 -- ---- the queues
 
@@ -47,7 +51,7 @@ answered k n leasing x a temps index r = record {
   down = sent_message (n, record { xid = a.xid; reply = r }) ∷ [];
 }
 
-pub leads_answer : (book : Book) (k : Core) (qs : List Queue) (n : ℕ) (leasing : Leasing) (x : Session) (q : Queue) (a : Ask) (us : List Ask) (temps : List (ℕ × Temp)) (index : Indexed) (r : Reply) → GrantsNone leasing → (kept : IsKept book k qs) → (at : numbered k.sessions n ≡ Some x) → (is : numbered qs n ≡ Some q) → q.ups ≡ a ∷ us → x.hung ≡ false
+pub leads_answer : (book : Book) (k : Core) (qs : List Queue) (n : ℕ) (leasing : Leasing) (x : Session) (q : Queue) (a : Ask) (us : List Ask) (temps : List (ℕ × Temp)) (index : Indexed) (r : Reply) → HasTerm leasing → (kept : IsKept book k qs) → (at : numbered k.sessions n ≡ Some x) → (is : numbered qs n ≡ Some q) → q.ups ≡ a ∷ us → x.hung ≡ false
     → Answers book k n x q a temps r (kept.sessions n x q at is) → Leads book (with_numbered qs n (record q { ups = us })) (answered k n leasing x a temps index r)
 leads_answer book k qs n leasing x q a us temps index r leases kept at is e unhung shows =
     let t : Told = record { xid = a.xid; reply = r } in
@@ -58,14 +62,14 @@ leads_answer book k qs n leasing x q a us temps index r leases kept at is e unhu
     let around = around_with k.sessions n x z at in
     let more = onward book 1 book.ops in
     let after = with_numbered (with_numbered qs n (record q { ups = us })) n (put_down q us x.cut t) in
-    let done : IsKept more (turned_core more (record k.server { leasing = leasing; temps = temps; index = index }) k.seats sessions) after = kept_reply book k qs n leasing x q a us temps index r sessions after leases kept at is e unhung (record { there = around.there ∙ ap (λ v. Some v) (sym same); others = around.others; count = around.count }) (again qs n q (put_down q us x.cut t) us is) shows in
+    let done : IsKept more (turned_core k more (record k.server { leasing = leasing; temps = temps; index = index }) k.seats sessions) after = kept_reply book k qs n leasing x q a us temps index r sessions after leases kept at is e unhung (record { there = around.there ∙ ap (λ v. Some v) (sym same); others = around.others; count = around.count }) (again qs n q (put_down q us x.cut t) us is) shows in
     record {
-      sends = record { asks = []; up_is = refl; tolds = (n, t) ∷ []; down_is = refl };
+      sends = record { replies = []; replies_fit = tt; asks = []; up_is = refl; recalls = []; recalls_fit = tt; tolds = (n, t) ∷ []; down_is = refl };
       more = more;
       moments = refl;
       opening = refl;
       kept = subst (λ (l : List Queue). IsKept more (answered k n leasing x a temps index r).core l) (sym (put_is qs sessions n q us z t is around.there))
-          (subst (λ (c : Core). IsKept more c after) (ap (λ s. record { server = record k.server { leasing = leasing; temps = temps; index = index }; seats = k.seats; sessions = sessions; steps = s + 1; ops = book.ops; entries = book.entries }) kept.steps ∙ ap (λ o. record { server = record k.server { leasing = leasing; temps = temps; index = index }; seats = k.seats; sessions = sessions; steps = k.steps + 1; ops = o; entries = book.entries }) kept.ops ∙ ap (λ o. record { server = record k.server { leasing = leasing; temps = temps; index = index }; seats = k.seats; sessions = sessions; steps = k.steps + 1; ops = k.ops; entries = o }) kept.entries) done);
+          (subst (λ (c : Core). IsKept more c after) (ap (λ s. record k { server = record k.server { leasing = leasing; temps = temps; index = index }; seats = k.seats; sessions = sessions; steps = s + 1; ops = book.ops; entries = book.entries }) kept.steps ∙ ap (λ o. record k { server = record k.server { leasing = leasing; temps = temps; index = index }; seats = k.seats; sessions = sessions; steps = k.steps + 1; ops = o; entries = book.entries }) kept.ops ∙ ap (λ o. record k { server = record k.server { leasing = leasing; temps = temps; index = index }; seats = k.seats; sessions = sessions; steps = k.steps + 1; ops = k.ops; entries = o }) kept.entries) done);
     }
 
 -- ---- what is told

@@ -15,17 +15,16 @@ use Rattle.path_calls.specs.Walk.{next_call}
 use Rattle.wire.specs.declared.message.Body.TheVariants as body
 use Rattle.wire.specs.declared.message.Message.TheVariants as message
 use Rattle.server_law.proofs.Trees.{IsBounded}
-use Rattle.trace_ends.specs.Core.{server_got, changed_file, is_of_file}
+use Rattle.trace_ends.specs.Core.{idles, server_got, changed_file, is_of_file}
 use Rattle.trace_ends.specs.Ops.{pointed_at, pointed}
 use Rattle.kept_promise.proofs.Common.{slice_get, slice_set, cond, option_map, not, stands, has_waiting, name_answer, Call, Call.Walks, Entry, Op, Message, WireFault, Core, Session, Event.Serves, CoreStep, numbered, serves_if, serves, happens, Book, Queue, Ask, ask_message}
-use Rattle.server_law.specs.Unleased.{IsUnleased}
 use Rattle.kept_promise.proofs.Lists.{some_is, nothing_there, true_and_false}
 use Rattle.kept_promise.proofs.Fits.{FitLaws}
 use Rattle.kept_promise.proofs.Messages.{job, goal_word, AllAsks, IsCommit, IsCreating}
 use Rattle.kept_promise.proofs.Rights.{IsUnmade}
 use Rattle.kept_promise.proofs.Facts.{IsSession, IsKept, change_number}
 use Rattle.kept_promise.proofs.Statements.{CallFits}
-use Rattle.kept_promise.proofs.RunsCarried.{Finds}
+use Rattle.kept_promise.proofs.RunsCarried.{Finds, FindsAsk}
 use Rattle.kept_promise.proofs.CallsKeep.{got_keeps, is_of_files, makes_call, walk_made}
 use Rattle.kept_promise.proofs.PathNames.{IsWalkSmall, builds_at, creates_at, is_making, is_building, is_going, is_creating, making_is, going_creates}
 use Rattle.kept_promise.proofs.Makings.{made_by, MadeSo, refuses, enters, made_walk, EntryAt}
@@ -36,6 +35,7 @@ use Rattle.kept_promise.proofs.Departures.{ComesSo, refused, done_now, waits, co
 use Rattle.kept_promise.proofs.GoingSteps.{waits_got, got_answered, got_waits}
 use Rattle.kept_promise.proofs.GoingServes.{names_none, names_unchanged}
 use Rattle.kept_promise.proofs.Actors.{serves_read, serves_fits}
+use Rattle.kept_promise.proofs.Replies.{reply_taken}
 
 -- an operation made a file in this step, which is its point
 pub record MadeHere (k : Core) (after : List Op) : Type 0 where
@@ -117,8 +117,8 @@ making_ops book k qs n now x q xid w us kept h first making = by (made_walk k.se
             })
 
 -- what a call that removes or renames leaves
-going_quiet : (k : Core) (n now : ℕ) (x : Session) (xid : ℕ) (w : Walk) → IsWalkSmall w → is_going w ≡ true → stands k.server n ≡ true → IsUnleased k.server → IsBounded k.server.tree → IsQuiet k (server_got k n now x (message.Call xid (body.Nfs (next_call w))))
-going_quiet k n now x xid w small goes standing leases bounded = by (comes_so k.server.tree (server.held k.server.waiting) (has_waiting k.server.waiting n) w bounded small goes)
+going_quiet : (k : Core) (n now : ℕ) (x : Session) (xid : ℕ) (w : Walk) → IsWalkSmall w → is_going w ≡ true → stands k.server n ≡ true → IsBounded k.server.tree → IsQuiet k (server_got k n now x (message.Call xid (body.Nfs (next_call w))))
+going_quiet k n now x xid w small goes standing bounded = by (comes_so k.server.tree (server.held k.server.waiting) (has_waiting k.server.waiting n) w bounded small goes)
   where
     no_entries : (after : Tree) (d : Finished) → IsName d.first → IsName d.second → IsQuiet k (making_got k n now x xid (after, d))
     no_entries after d first second = record {
@@ -132,10 +132,10 @@ going_quiet k n now x xid w small goes standing leases bounded = by (comes_so k.
     by : ComesSo k.server.tree (server.held k.server.waiting) (has_waiting k.server.waiting n) w → IsQuiet k (server_got k n now x (message.Call xid (body.Nfs (next_call w))))
     by (refused s r is why turned leads procs) = subst (IsQuiet k) (sym (got_answered k n now x xid w k.server.tree (said (name_answer r)) small goes standing is)) (no_entries k.server.tree (said (name_answer r)) (λ e f. nothing_there e f) (λ e f. nothing_there e f))
     by (done_now done r after is step first second leads procs files none root next) = subst (IsQuiet k) (sym (got_answered k n now x xid w after (record { answer = name_answer r; first = done.first; second = done.second }) small goes standing is)) (no_entries after (record { answer = name_answer r; first = done.first; second = done.second }) first second)
-    by (waits a g is asks there room free two) = subst (IsQuiet k) (sym (got_waits k n now x xid w a small goes standing leases is)) (record { ops = inl refl; seats = refl; passes = omega arith; up = refl; entered = none_entered k (waits_got k n now x xid a) refl refl })
+    by (waits a g is asks there room free two) = subst (IsQuiet k) (sym (got_waits k n now x xid w a small goes standing is)) (record { ops = inl refl; seats = refl; passes = omega arith; up = refl; entered = none_entered k (waits_got k n now x xid a) refl refl })
 
-pub serves_quiet : FitLaws → (book : Book) (k : Core) (qs : List Queue) (n now : ℕ) (bytes : List ℕ) (mid : List Queue) → IsKept book k qs → Finds k qs (Serves n now bytes) mid → IsQuiet k (happens k (Serves n now bytes))
-serves_quiet laws book k qs n now bytes mid kept f = by (numbered k.sessions n) refl
+ask_quiet : FitLaws → (book : Book) (k : Core) (qs : List Queue) (n now : ℕ) (bytes : List ℕ) (mid : List Queue) → IsKept book k qs → FindsAsk qs n bytes mid → IsQuiet k (happens k (Serves n now bytes))
+ask_quiet laws book k qs n now bytes mid kept f = by (numbered k.sessions n) refl
   where
     fits : CallFits f.1.xid f.1.call
     fits = serves_fits book k qs n now bytes mid kept f
@@ -143,7 +143,7 @@ serves_quiet laws book k qs n now bytes mid kept f = by (numbered k.sessions n) 
     quietly : (x : Session) → makes_call f.1.call ≡ false → IsQuiet k (serves_if k n now x (Ok (ask_message f.1)))
     quietly x none =
         subst (IsQuiet k) (sym (got_quiet k n now x (ask_message f.1) (is_of_files f.1 fits none)))
-        (record { ops = inl refl; seats = refl; passes = omega arith; up = refl; entered = none_entered k (quiet_got k n now x (ask_message f.1)) refl (got_keeps (λ (z : server.State). z.journal ≡ k.server.journal) k.server n (ask_message f.1) now (is_of_files f.1 fits none) (λ temps waiting index moment w. refl)) })
+        (record { ops = inl refl; seats = refl; passes = omega arith; up = refl; entered = none_entered k (quiet_got k n now x (ask_message f.1)) refl (got_keeps (λ (z : server.State). z.journal ≡ k.server.journal) k.server n (ask_message f.1) now (is_of_files f.1 fits none) (λ temps waiting index leasing w. refl)) })
 
     no_ups : {a : Ask} {us : List Ask} → ◌≡◌ {A = List Ask} [] (a ∷ us) → ⊥
     no_ups e = absurd cc
@@ -165,7 +165,7 @@ serves_quiet laws book k qs n now bytes mid kept f = by (numbered k.sessions n) 
         let h = kept.sessions n x f.0 at f.3 in
         let first : f.0.ups ≡ record { xid = f.1.xid; call = Walks w } ∷ f.2 = f.4 ∙ ap (λ (c : Call). record { xid = f.1.xid; call = c } ∷ f.2) is in
         let fit = subst (CallFits f.1.xid) is fits in
-        going_quiet k n now x f.1.xid w fit.1 goes (h.stands_is ∙ ap not (unhung x (record { xid = f.1.xid; call = Walks w }) x.hung refl h first)) kept.server.leases kept.server.bounded
+        going_quiet k n now x f.1.xid w fit.1 goes (h.stands_is ∙ ap not (unhung x (record { xid = f.1.xid; call = Walks w }) x.hung refl h first)) kept.server.bounded
 
     making : (x : Session) → numbered k.sessions n ≡ Some x → (w : Walk) → is_making w ≡ true → f.1.call ≡ Walks w → IsQuiet k (serves_if k n now x (Ok (ask_message (record { xid = f.1.xid; call = Walks w }))))
     making x at w makes is = elim (making_is w.left w.goal makes) [ inl builds ↦ building x at w builds is | inr goes ↦ going x at w goes is ]
@@ -180,6 +180,14 @@ serves_quiet laws book k qs n now bytes mid kept f = by (numbered k.sessions n) 
     by None at = record { ops = inl refl; seats = refl; passes = omega arith; up = refl; entered = none_entered k (serves k n now bytes None) refl refl }
     by (Some x) at = subst (λ (r : Result Message WireFault). IsQuiet k (serves_if k n now x r)) (sym (serves_read laws book k qs n now bytes mid kept f)) (any x at (makes_call f.1.call) refl)
 
+-- so is an answer to a RECALL
+pub serves_quiet : FitLaws → (book : Book) (k : Core) (qs : List Queue) (n now : ℕ) (bytes : List ℕ) (mid : List Queue) → IsKept book k qs → Finds k qs (Serves n now bytes) mid → IsQuiet k (happens k (Serves n now bytes))
+serves_quiet laws book k qs n now bytes mid kept (inl f) = ask_quiet laws book k qs n now bytes mid kept f
+serves_quiet laws book k qs n now bytes mid kept (inr f) =
+    let taken = reply_taken laws k qs n now bytes mid f in
+    let t : CoreStep = idles (record k { server = record k.server { leasing = taken.0 } }) in
+    subst (IsQuiet k) (sym taken.1) (record { ops = inl refl; seats = refl; passes = omega arith; up = refl; entered = none_entered k t refl refl })
+
 -- ---- a call that may change no file
 
 making_still : (k : Core) (n now : ℕ) (x : Session) (xid : ℕ) (w : Walk) → is_building w ≡ true → is_creating w ≡ false → (making_got k n now x xid (made_by k.server.tree (server.held k.server.waiting) w.dir w.goal)).core.ops ≡ k.ops
@@ -191,7 +199,7 @@ making_still k n now x xid w making none = by (made_walk k.server.tree (server.h
         (ap (λ (b : Bool). pointed_at k.ops x.closing (k.steps + 1) (option_map (λ (d : Entry). d.file) (cond b (Some (written_by n e)) None))) (ap is_of_file (entry_name k.server.tree w.goal e (name_goal w.left w.goal making none) entry_is)) ∙ pointed_none k.ops x.closing (k.steps + 1))
 
 -- no operation gets a point by it
-pub serves_still : FitLaws → (book : Book) (k : Core) (qs : List Queue) (n now : ℕ) (bytes : List ℕ) (mid : List Queue) → IsKept book k qs → (f : Finds k qs (Serves n now bytes) mid) → change_number f.1.call ≡ 0 → (happens k (Serves n now bytes)).core.ops ≡ k.ops
+pub serves_still : FitLaws → (book : Book) (k : Core) (qs : List Queue) (n now : ℕ) (bytes : List ℕ) (mid : List Queue) → IsKept book k qs → (f : FindsAsk qs n bytes mid) → change_number f.1.call ≡ 0 → (happens k (Serves n now bytes)).core.ops ≡ k.ops
 serves_still laws book k qs n now bytes mid kept f zero_ = by (numbered k.sessions n) refl
   where
     fits : CallFits f.1.xid f.1.call

@@ -17,7 +17,8 @@ use Rattle.register_model.specs.declared.op.Word.TheVariants as words
 use Rattle.register_model.specs.Register.{IsFit}
 use Rattle.trace_replay.specs.Faithful.{IsKind, left_by as left_of}
 use Rattle.kept_promise.proofs.Common.{slice_get, slice_set, cond, ◌==◌, sha1, Done, Failed, at, Change, File, Entry, Fetch, Stage, Op, Core, Seat, Session, numbered, with_numbered, settled_ops, settled_by, pointed, pointed_at, unless, Book, Or, value_at, Reply, Reply.Versioned, Reply.Hashed, Reply.Bytes, Reply.Made, Reply.Named, Reply.Stored, Reply.Changed, Told, Queue, reply_program, Tree, Reply.Walked, Word, Value, value_from, unwrap_or, changes, Wanted, Event.Settles, happens}
-use Rattle.server_law.proofs.Unleased.{unleased_at}
+use Rattle.server_core.specs.Recalling.{term_at}
+use Rattle.kept_promise.proofs.Recallings.{term_small}
 use Rattle.kept_promise.proofs.Lists.{some_is, nothing_there, same_or_not, at_end, at_replaced, of_replaced}
 use Rattle.kept_promise.proofs.Keys.{times, times_append, times_head, own, key, change_key, ask_key, told_key, wanted_program}
 use Rattle.kept_promise.proofs.Messages.{Job, job, hash_offset, CommitTold, AllTolds, IsAnswer, AnswerOf, IsPending, CloseOf, content_wanted, WaitsFor, AsksFor, walk_for, lease_xid}
@@ -71,12 +72,16 @@ held_made book e j o t id g x there_ unmade word sound mine size same short held
 
 -- ---- what is told
 
-abbrev answer : Change → (version : ℕ) → Told
-answer c version = record { xid = c.xid; reply = Changed (Done (record { version = version; term = 0 })) }
+abbrev answer : Change → (version term : ℕ) → Told
+answer c version term = record { xid = c.xid; reply = Changed (Done (record { version = version; term = term })) }
+
+-- the term of the lease that it gets
+abbrev told_term : server.State → Change → List Change → ℕ
+told_term s c cs = term_at (record s { waiting = cs }) c.file
 
 -- it is to the call that waited
-answer_key : (c : Change) (x : List ℕ) (version : ℕ) → c.what ≡ wanted.Content x → told_key (answer c version) ≡ change_key c
-answer_key c x version what = sym (ap (λ (w : Wanted). change_key (record c { what = w })) what)
+answer_key : (c : Change) (x : List ℕ) (version term : ℕ) → c.what ≡ wanted.Content x → told_key (answer c version term) ≡ change_key c
+answer_key c x version term what = sym (ap (λ (w : Wanted). change_key (record c { what = w })) what)
 
 -- answers of which none has this key
 all_but : (P Q : Told → Type 0) (k : ℕ) (ts : List Told) → times k (map told_key ts) ≡ 0 → ((t : Told) → (told_key t ≡ k → ⊥) → P t → Q t) → AllTolds P ts → AllTolds Q ts
@@ -132,7 +137,7 @@ settled_answers book e j o c waits cs x q seat what g out committing t = all_but
     old_reply y (Changed (Failed s u)) apart h = λ i f w.
         let same : here ≡ i = some_is here i (sym committing ∙ f) in
         let x_is : c.xid ≡ y = same_xid c.xid y (ap (λ (z : Job). z.stage) same ∙ w) in
-        absurd (apart (ap (λ (z : ℕ). key z (program.Lb lb_proc.CommitTmp)) (sym x_is) ∙ answer_key c (content_wanted c.what) 0 what))
+        absurd (apart (ap (λ (z : ℕ). key z (program.Lb lb_proc.CommitTmp)) (sym x_is) ∙ answer_key c (content_wanted c.what) 0 0 what))
     old_reply y (Made a) apart h = tt
     old_reply y (Walked r) apart h = λ i w f s. let same : here ≡ i = some_is here i (sym committing ∙ f) in absurd (not_walking c.xid y w (ap (λ (z : Job). z.stage) same ∙ s))
     old_reply y (Named a) apart h = tt
@@ -146,7 +151,7 @@ settled_server s now c cs f = (made_change (at (record s { waiting = cs }) now) 
 
 settled_now : FitLaws → (book : Book) (k : Core) (qs : List Queue) (now : ℕ) (c : Change) (cs : List Change) (f : File) (x : Session) (q : Queue) (j : ℕ) (o : Op) → (kept : IsKept book k qs) → IsOut k.server.waiting c cs → c.what ≡ wanted.Content (content_wanted c.what) → the_files.file_at k.server.tree c.file ≡ Some f → (here : numbered k.sessions c.session ≡ Some x) → x.hung ≡ false → (is : numbered qs c.session ≡ Some q)
     → (pending : IsPending book x.closing x.cut (job (kept.sessions c.session x q here is).seat) c.xid c.file (content_wanted c.what)) → pending.place ≡ j → pending.op ≡ o
-    → IsKept (made_book book (entry_of c (content_wanted c.what) f ∷ []) j c.file o) (turned_core (made_book book (entry_of c (content_wanted c.what) f ∷ []) j c.file o) (settled_server k.server now c cs f) k.seats k.sessions) (with_numbered qs c.session (record q { downs = unless x.cut q.downs (answer c (f.version + 1) ∷ []) }))
+    → IsKept (made_book book (entry_of c (content_wanted c.what) f ∷ []) j c.file o) (turned_core k (made_book book (entry_of c (content_wanted c.what) f ∷ []) j c.file o) (settled_server k.server now c cs f) k.seats k.sessions) (with_numbered qs c.session (record q { downs = unless x.cut q.downs (answer c (f.version + 1) (told_term k.server c cs) ∷ []) }))
 settled_now laws book k qs now c cs f x q j o kept out what there here unhung is pending place_is op_is =
     let n : ℕ = c.session in
     let h = kept.sessions n x q here is in
@@ -200,7 +205,7 @@ settled_now laws book k qs now c cs f x q j o kept out what there here unhung is
       },
       (book.steps + 2, omega arith, version_now book (e ∷ []) c.file j o at_ unmade kept.sound ∙ ap (λ (z : ℕ). z + 1) own_file.4, value_now book (e ∷ []) c.file j o at_ unmade kept.sound ∙ ap (λ (w : Word). value_from w o.value) word),
     ) in
-    kept_told book more k qs now c cs x q r.tree r.journal r.index (Changed (Done (record { version = version; term = 0 }))) (Some j) kept out here is (record {
+    kept_told book more k qs now c cs x q r.leasing r.tree r.journal r.index (Changed (Done (record { version = version; term = told_term k.server c cs }))) (Some j) kept out here is (record {
       goes = goes;
       server = record {
         held = held;
@@ -214,14 +219,14 @@ settled_now laws book k qs now c cs f x q j o kept out what there here unhung is
         lengths = λ i d z. let y = out.others i d z in kept.server.lengths y.0 d y.1;
         targets = λ i d z. let y = out.others i d z in there_later book more (Some j) None d.file g (kept.server.targets y.0 d y.1);
         xids = λ i d z. let y = out.others i d z in kept.server.xids y.0 d y.1;
-        leases = unleased_at k.server now kept.server.leases;
+        leases = kept.server.leases;
       };
       journal_is = ap (λ (l : List Entry). l ++ e ∷ []) kept.journal;
       made_here = λ z w. known ∙ w;
-      key_is = answer_key c (content_wanted c.what) version what;
-      fits = laws.plain c.xid (Changed (Done (record { version = version; term = 0 }))) (kept.server.xids out.place c out.there) (let a = (file_bounded k.server.tree c.file f kept.server.bounded there).0 in omega (arith, a, entries), refl);
+      key_is = answer_key c (content_wanted c.what) version (told_term k.server c cs) what;
+      fits = laws.plain c.xid (Changed (Done (record { version = version; term = told_term k.server c cs }))) (kept.server.xids out.place c out.there) (let a = (file_bounded k.server.tree c.file f kept.server.bounded there).0 in omega (arith, a, entries), term_small k.server.leasing.term cs (Some c.file) kept.server.leases);
       answers = λ uncut. settled_answers book e j o c k.server.waiting cs x q h.seat what g out (committing uncut) (h.talk uncut);
-      answer = λ uncut i z w. subst (λ (u : Job). CommitTold more x.closing u (Done (record { version = version; term = 0 }))) (some_is (record { place = j; file = c.file; stage = stage.Committing c.xid }) i (sym (committing uncut) ∙ z)) made;
+      answer = λ uncut i z w. subst (λ (u : Job). CommitTold more x.closing u (Done (record { version = version; term = told_term k.server c cs }))) (some_is (record { place = j; file = c.file; stage = stage.Committing c.xid }) i (sym (committing uncut) ∙ z)) made;
       closes = λ uncut i w. close_made more uncut i w (h.closes uncut i w);
       plain = tt;
       wanted = λ uncut. tt;
@@ -268,11 +273,11 @@ settled_now laws book k qs now c cs f x q j o kept out what there here unhung is
           (r.0, r.1, ap (λ (v : Op). numbered k.seats v.client) new.1 ∙ r.2, r.3, r.4 ∙ sym new.0)
     ]
 
-settled_core : (book more : Book) (k : Core) (r : server.State) (ops : List Op) (entries : List ℕ) → more.steps ≡ k.steps + 1 → more.ops ≡ ops → more.entries ≡ entries → turned_core more r k.seats k.sessions ≡ record { server = r; seats = k.seats; sessions = k.sessions; steps = k.steps + 1; ops = ops; entries = entries }
+settled_core : (book more : Book) (k : Core) (r : server.State) (ops : List Op) (entries : List ℕ) → more.steps ≡ k.steps + 1 → more.ops ≡ ops → more.entries ≡ entries → turned_core k more r k.seats k.sessions ≡ record k { server = r; seats = k.seats; sessions = k.sessions; steps = k.steps + 1; ops = ops; entries = entries }
 settled_core book more k r ops entries a b c =
-    ap (λ (s : ℕ). record { server = r; seats = k.seats; sessions = k.sessions; steps = s; ops = more.ops; entries = more.entries }) a
-    ∙ ap (λ (o : List Op). record { server = r; seats = k.seats; sessions = k.sessions; steps = k.steps + 1; ops = o; entries = more.entries }) b
-    ∙ ap (λ (e : List ℕ). record { server = r; seats = k.seats; sessions = k.sessions; steps = k.steps + 1; ops = ops; entries = e }) c
+    ap (λ (s : ℕ). record k { server = r; seats = k.seats; sessions = k.sessions; steps = s; ops = more.ops; entries = more.entries }) a
+    ∙ ap (λ (o : List Op). record k { server = r; seats = k.seats; sessions = k.sessions; steps = k.steps + 1; ops = o; entries = more.entries }) b
+    ∙ ap (λ (e : List ℕ). record k { server = r; seats = k.seats; sessions = k.sessions; steps = k.steps + 1; ops = ops; entries = e }) c
 
 queue_told : (sessions : List Session) (qs : List Queue) (n : ℕ) (x : Session) (q : Queue) (t : Told) → numbered sessions n ≡ Some x → numbered qs n ≡ Some q → downs_put sessions qs ((n, t) ∷ []) ≡ with_numbered qs n (record q { downs = unless x.cut q.downs (t ∷ []) })
 queue_told sessions qs n x q t at is = ap (λ (o : Option Session). downs_put_in qs (n, t) o (numbered qs n)) at ∙ ap (λ (o : Option Queue). downs_put_in qs (n, t) (Some x) o) is
@@ -287,7 +292,7 @@ settled_leads laws book k qs now c cs f kept out what there =
     let pending = subst (λ (w : Wanted). WaitsFor book c.session x.closing x.cut (job h.seat) c.xid c.file w) what (h.pending 0 c (ap (λ (l : List Change). slice_get l 0) out.mine)) in
     let j : ℕ = pending.place in
     let o : Op = pending.op in
-    let t : Told = answer c (f.version + 1) in
+    let t : Told = answer c (f.version + 1) (told_term k.server c cs) in
     let more = made_book book (entry_of c (content_wanted c.what) f ∷ []) j c.file o in
     let now_kept = settled_now laws book k qs now c cs f x q.0 j o kept out what there home.1 home.2 q.1 pending refl refl in
     let changed : Option ℕ = changed_file (newest_entries (settled_server k.server now c cs f).journal 1) in
@@ -301,7 +306,7 @@ settled_leads laws book k qs now c cs f kept out what there =
     let entries_is : more.entries ≡ k.entries ++ (k.steps + 1) ∷ [] = ap (λ (es : List ℕ). es ++ (book.steps + 1) ∷ []) kept.entries ∙ ap (λ (s : ℕ). k.entries ++ (s + 1) ∷ []) kept.steps in
     let core = settled_core book more k (settled_server k.server now c cs f) (settled_by k changed (told_.Settled n c.xid)) (k.entries ++ (k.steps + 1) ∷ []) (ap (λ s. s + 1) kept.steps) (sym ops_is) entries_is in
     record {
-      sends = record { asks = []; up_is = refl; tolds = (n, t) ∷ []; down_is = refl };
+      sends = record { replies = []; replies_fit = tt; asks = []; up_is = refl; recalls = []; recalls_fit = tt; tolds = (n, t) ∷ []; down_is = refl };
       more = more;
       moments = refl;
       opening = refl;

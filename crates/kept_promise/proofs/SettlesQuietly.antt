@@ -14,7 +14,7 @@ use Rattle.tree_calls.specs.declared.asked.Asked.TheVariants as asked
 use Rattle.tree_calls.specs.declared.asked.Done.{Done as Finished}
 use Rattle.server_core.specs.State as server
 use Rattle.chunk_calls.specs.Files as the_files
-use Rattle.server_core.specs.Closing.{entries_by, entered_by, entry_by}
+use Rattle.server_core.specs.Closing.{ready_by, entries_by, entered_by, entry_by}
 use Rattle.server_core.specs.declared.change.Wanted.TheVariants as wanted
 use Rattle.trace_replay.specs.Faithful.{change_refusal}
 use Rattle.trace_ends.specs.Core.{changed_file, is_of_file}
@@ -49,13 +49,13 @@ pub record GoesHere (k : Core) (after : List Op) : Type 0 where
 abbrev pub RefusesFor : CoreStep → Change → Type 0
 RefusesFor t c = (answer : Message) × (s : Status) × Contains t.down (record { session = c.session; message = answer }) × (change_refusal answer ≡ Some s)
 
--- the first that waited was made, or was refused
-abbrev pub TellsFirst : (k : Core) (t : CoreStep) → List Entry → Type 0
-TellsFirst k t es = (c : Change) → slice_get k.server.waiting 0 ≡ Some c → (0 < length es) ⊎ RefusesFor t c
+-- the change that was ready was made, or was refused
+abbrev pub TellsReady : (k : Core) (now : ℕ) (t : CoreStep) → List Entry → Type 0
+TellsReady k now t es = (c : Change) → ready_by k.server now ≡ Some c → (0 < length es) ⊎ RefusesFor t c
 
 pub data Settling (k : Core) (now : ℕ) (t : CoreStep) : Type 0 where
   makes_commit : (c : Change) (cs : List Change) (f : File) → SettlesOut k now c cs → c.what ≡ wanted.Content (content_wanted c.what) → the_files.file_at k.server.tree c.file ≡ Some f → Settling k now t
-  makes_else : (t.core.ops ≡ k.ops) ⊎ GoesHere k t.core.ops → (q : Entered k t) → TellsFirst k t q.es → Settling k now t
+  makes_else : (t.core.ops ≡ k.ops) ⊎ GoesHere k t.core.ops → (q : Entered k t) → TellsReady k now t q.es → Settling k now t
 
 -- ---- the entries of what goes
 
@@ -87,8 +87,8 @@ some_entered n first second e is = subst (λ (o : Option TreeEntry). 0 < length 
     by None = omega arith
     by (Some y) = omega arith
 
-tells_first : (k : Core) (c : Change) (t : CoreStep) (es : List Entry) → slice_get k.server.waiting 0 ≡ Some c → (0 < length es) ⊎ RefusesFor t c → TellsFirst k t es
-tells_first k c t es first h d at = subst (λ (z : Change). (0 < length es) ⊎ RefusesFor t z) (some_is c d (sym first ∙ at)) h
+tells_ready : (k : Core) (now : ℕ) (c : Change) (t : CoreStep) (es : List Entry) → ready_by k.server now ≡ Some c → (0 < length es) ⊎ RefusesFor t c → TellsReady k now t es
+tells_ready k now c t es ready h d at = subst (λ (z : Change). (0 < length es) ⊎ RefusesFor t z) (some_is c d (sym ready ∙ at)) h
 
 gets_asked : (a : Asked) → gets_file (asked_word a) ≡ true
 gets_asked (asked.Remove r) = refl
@@ -108,7 +108,7 @@ settling book k qs now kept = by (what_settles book k qs now kept)
     asked_so c cs a x out here p (refused_late s r is why refuses leads procs) = subst (λ (z : Tree × Finished). Settling k now (asked_step k now c cs z)) (sym is) (makes_else
         (inl (ap (settled_ops k.ops (k.steps + 1) None) here ∙ pointed_none k.ops x.closing (k.steps + 1)))
         (record { es = []; entries = refl; journal = refl; plain = λ i e at. nothing_there e at })
-        (tells_first k c (asked_step k now c cs (k.server.tree, said (name_answer r))) [] out.first (inr (message.Answer c.xid (body.Nfs (name_answer r)), s, Contains-push [] (record { session = c.session; message = message.Answer c.xid (body.Nfs (name_answer r)) }), refuses))))
+        (tells_ready k now c (asked_step k now c cs (k.server.tree, said (name_answer r))) [] out.ready (inr (message.Answer c.xid (body.Nfs (name_answer r)), s, Contains-push [] (record { session = c.session; message = message.Answer c.xid (body.Nfs (name_answer r)) }), refuses))))
     asked_so c cs a x out here (place, op, known, there, unmade, word, file_is) (goes done r after is step gone names leads procs files none off root next) = subst (λ (z : Tree × Finished). Settling k now (asked_step k now c cs z)) (sym is) (makes_else
         (inr (record {
           place = place;
@@ -129,7 +129,7 @@ settling book k qs now kept = by (what_settles book k qs now kept)
           journal = refl;
           plain = no_commit c.session done.first done.second gone.entry gone.is gone.kind_is names;
         })
-        (tells_first k c (asked_step k now c cs (after, record { answer = name_answer r; first = done.first; second = done.second })) (entries_by c.session done.first done.second) out.first (inl (some_entered c.session done.first done.second gone.entry gone.is))))
+        (tells_ready k now c (asked_step k now c cs (after, record { answer = name_answer r; first = done.first; second = done.second })) (entries_by c.session done.first done.second) out.ready (inl (some_entered c.session done.first done.second gone.entry gone.is))))
 
     by : WhatSettles k now → Settling k now (settles k now)
     by (settles_none none is) = subst (Settling k now) (sym is) (makes_else (inl refl) (record { es = []; entries = sym (append-nil k.entries); journal = sym (append-nil k.server.journal); plain = λ i d at. nothing_there d at }) (λ c at. nothing_there c (sym none ∙ at)))
@@ -154,7 +154,7 @@ settling book k qs now kept = by (what_settles book k qs now kept)
         commit content what (Some f) there = makes_commit c cs f out (what ∙ ap (λ (x : List ℕ). wanted.Content x) (sym (ap content_wanted what))) there
         commit content what None none =
             let is = unmade_settles k now c cs content out what (node_gone book k.server c.file kept.server (kept.server.targets out.out.place c at_place) none) in
-            subst (Settling k now) (sym is) (makes_else (inl refl) (record { es = []; entries = sym (append-nil k.entries); journal = sym (append-nil k.server.journal); plain = λ i d at. nothing_there d at }) (tells_first k c (unmade_step k now c cs) [] out.first (inr (told_message (unmade_told c), status.Stale, Contains-push [] (record { session = c.session; message = told_message (unmade_told c) }), refl))))
+            subst (Settling k now) (sym is) (makes_else (inl refl) (record { es = []; entries = sym (append-nil k.entries); journal = sym (append-nil k.server.journal); plain = λ i d at. nothing_there d at }) (tells_ready k now c (unmade_step k now c cs) [] out.ready (inr (told_message (unmade_told c), status.Stale, Contains-push [] (record { session = c.session; message = told_message (unmade_told c) }), refl))))
 
         is_wanted : (w : Wanted) → c.what ≡ w → Settling k now (settles k now)
         is_wanted (wanted.Content content) what = commit content what (the_files.file_at k.server.tree c.file) refl

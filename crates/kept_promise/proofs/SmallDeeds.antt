@@ -1,6 +1,7 @@
 -- A run carries that each command is on a file by its id, of 64 bits: a line with another one is refused.
 use Rattle.std.proofs.Common.{false, inl, inr, ◌≡◌, ℕ, ◌+◌, List, ◌++◌, Some, append-nil, sym, subst, [], ap, ◌∙◌, refl}
-use Rattle.kept_promise.proofs.Common.{slice_get, Opening, Core, Event, Moment, Deed, deeds_of, deed_by, joined_from, calls_from, Queue, Event.Hears, Event.Cuts}
+use Rattle.trace_replay.specs.Trail.{is_fresh_for}
+use Rattle.kept_promise.proofs.Common.{slice_get, Opening, Core, Event, numbered, Moment, Deed, deeds_of, deed_by, joined_from, calls_from, Queue, Event.Hears, Event.Cuts}
 use Rattle.kept_promise.proofs.Lists.{nothing_there, of_appended}
 use Rattle.kept_promise.proofs.Locally.{deeds_more}
 use Rattle.kept_promise.proofs.PathNames.{IsSmall}
@@ -12,10 +13,10 @@ abbrev AreSmall : List Deed → Type 0
 AreSmall ds = (i : ℕ) (d : Deed) → slice_get ds i ≡ Some d → IsSmall d.command
 
 -- those of an event more
-small_more : FitLaws → (all past rest : List Moment) (opening : List Opening) (k : Core) (qs : List Queue) (e : Event) (mid after : List Queue) → Step all past rest opening k qs e mid after → AreSmall (deeds_of past) → AreSmall (deeds_of past ++ deed_by past (k.steps + 1) e)
-small_more fits all past rest opening k qs e mid after s h = event_cases fits all past rest opening k qs e mid after s (λ e t. AreSmall (deeds_of past ++ deed_by past (k.steps + 1) e)) (record {
+small_more : FitLaws → (all past rest : List Moment) (opening : List Opening) (k : Core) (qs : List Queue) (e : Event) (mid after : List Queue) → Step all past rest opening k qs e mid after → AreSmall (deeds_of past) → AreSmall (deeds_of past ++ deed_by past k e)
+small_more fits all past rest opening k qs e mid after s h = event_cases fits all past rest opening k qs e mid after s (λ e t. AreSmall (deeds_of past ++ deed_by past k e)) (record {
   still = λ t still. none e (still.deedless past);
-  begins = λ c now d seat s here small left. λ i x at. elim (of_appended (deeds_of past) (record { client = c; command = d; begin = k.steps + 1; joined = joined_from c false past; calls = calls_from c 0 past }) i x at) [
+  begins = λ c now d seat s here small left. λ i x at. elim (of_appended (deeds_of past) (record { client = c; command = d; begin = k.steps + 1; joined = joined_from c false past; calls = calls_from c 0 past; fresh = is_fresh_for (numbered k.seats c) now d }) i x at) [
     | inl last ↦ subst (λ (z : Deed). IsSmall z.command) (sym last.1) small
     | inr old ↦ h i x old
   ];
@@ -23,7 +24,7 @@ small_more fits all past rest opening k qs e mid after s h = event_cases fits al
   lost = λ c seat s here. none (Cuts c) refl;
 })
   where
-    none : (e : Event) → deed_by past (k.steps + 1) e ≡ [] → AreSmall (deeds_of past ++ deed_by past (k.steps + 1) e)
+    none : (e : Event) → deed_by past k e ≡ [] → AreSmall (deeds_of past ++ deed_by past k e)
     none e is = subst AreSmall (sym (ap (λ l. deeds_of past ++ l) is ∙ append-nil (deeds_of past))) h
 
 abbrev pub SmallDeeds : (all past : List Moment) → List Opening → Core → List Queue → Type 0

@@ -21,7 +21,7 @@ use Rattle.kept_promise.proofs.RunsCarried.{book_at, moment, Carried, Step}
 use Rattle.kept_promise.proofs.Actors.{acts_alone}
 use Rattle.kept_promise.proofs.Counted.{first_or_rest, IsActor}
 use Rattle.kept_promise.proofs.EntriesGrow.{event_grows}
-use Rattle.kept_promise.proofs.OpsAfter.{IsActed, OpsAfter, ops_after_event}
+use Rattle.kept_promise.proofs.OpsAfter.{begun_unchanging, IsActed, OpsAfter, ops_after_event}
 use Rattle.kept_promise.proofs.Found.{Quietly}
 use Rattle.kept_promise.proofs.Fits.{FitLaws}
 
@@ -84,12 +84,7 @@ soon_now book o (told.Closed version len digest) all_by leased h =
     (h.1.point, h.1.within.0, record { place = e.place; entry = e.entry; step_is = e.step_is; entry_is = e.entry_is; file_is = e.file_is; version_is = e.version_is; len_is = e.len_is; digest_is = or_now book o (e.entry.sha1 ≡ digest) all_by e.digest_is })
 soon_now book o _ all_by leased h = tt
 
--- one without a point has no success of this kind, nor has one whose change may yet be made
-soon_pointless : (book : Book) (o : Op) (u : Outcome) → o.point ≡ None → Caused book o u → Soon book o u
-soon_pointless book o (told.Opened len digest) none h = nothing_there h.1.point (sym none ∙ h.1.within.0)
-soon_pointless book o (told.Closed version len digest) none h = nothing_there h.1.point (sym none ∙ h.1.within.0)
-soon_pointless book o _ none h = tt
-
+-- one whose change may yet be made has no success of this kind
 soon_untold : (book : Book) (o : Op) (u : Outcome) → is_untold u ≡ true → Soon book o u
 soon_untold book o (told.Opened len digest) e = absurd cc
 soon_untold book o (told.Closed version len digest) e = absurd cc
@@ -139,7 +134,7 @@ after_same o c taken n acts change (inl none) unopened = by acts.found none acts
         → ((op_ended (moved o acts g) c taken n e).file ≡ o.file) × ((op_ended (moved o acts g) c taken n e).point ≡ o.point) × ((op_ended (moved o acts g) c taken n e).value ≡ o.value)
     by (Some i) is e apart = nothing_there i (sym is)
     by None is None apart = (refl, refl, refl)
-    by None is (Some e) apart = (refl, ap (λ b. point_if b taken e.rests_on o.point) (no_point o.word e.outcome change), value e.outcome apart)
+    by None is (Some e) apart = (refl, ap (λ b. point_if b taken e.rests_on n o.point) (no_point o.word e.outcome change), value e.outcome apart)
 
 -- an operation that is told to be open is an open
 open_unchanging : (book : Book) (o : Op) (len : ℕ) (digest : List ℕ) → o.outcome ≡ told.Opened len digest → Caused book o o.outcome → changes o.word ≡ true → ⊥
@@ -159,7 +154,7 @@ ends_now o c taken n acts step running le = by acts.ended
 
 marks_event : (book more : Book) (k : Core) (qs : List Queue) (e : Event) (after : List Op) → IsKept book k qs → more.ops ≡ after → ((p : ℕ) (o : Op) → slice_get after p ≡ Some o → IsRight more o) → OpsAfter e k after → MarksStay k.steps k.ops after
 marks_event book more k qs e after kept ops rights (inl same) f p le = ap (marks f p) same
-marks_event book more k qs e after kept ops rights (inr (inl n)) f p le = ap (marks f p) n.is ∙ marks_appended f p k.ops n.new (unpointed f p n.new n.pointless)
+marks_event book more k qs e after kept ops rights (inr (inl n)) f p le = ap (marks f p) n.is ∙ marks_appended f p k.ops n.new (begun_unchanging n f p)
 marks_event book more k qs e after kept ops rights (inr (inr (inr (inl same)))) f p le = ap (marks f p) same
 marks_event book more k qs e after kept ops rights (inr (inr (inr (inr m)))) f p le = ap (marks f p) m.is ∙ marks_before f p (k.steps + 1) k.ops m.place m.op (record m.op { file = m.file; point = Some (k.steps + 1) }) m.there m.unmade.1 refl le
 marks_event book more k qs e after kept ops rights (inr (inr (inl a))) f p le = ap (marks f p) a.is ∙ placed a.seat.place refl
@@ -184,7 +179,7 @@ now_soon : (book more : Book) (k : Core) (qs : List Queue) (e : Event) (after : 
     → (p : ℕ) (o : Op) → slice_get after p ≡ Some o → (slice_get k.ops p ≡ Some o) ⊎ Soon more o o.outcome
 now_soon book more k qs e after kept rights leased steps (inl same) p o at = inl (ap (λ (l : List Op). slice_get l p) (sym same) ∙ at)
 now_soon book more k qs e after kept rights leased steps (inr (inl n)) p o at = elim (of_appended k.ops n.new p o (ap (λ (l : List Op). slice_get l p) (sym n.is) ∙ at)) [
-  | inl last ↦ inr (soon_pointless more o o.outcome (ap (λ (z : Op). z.point) last.1 ∙ n.pointless) (rights p o at).cause)
+  | inl last ↦ inr (soon_now more o o.outcome (λ m there. ap (λ (z : Op). until z.end (step_of m)) last.1 ∙ n.by (step_of m) (steps m there)) leased (rights p o at).cause)
   | inr old ↦ inl old
 ]
 now_soon book more k qs e after kept rights leased steps (inr (inr (inr (inl same)))) p o at = inl (ap (λ (l : List Op). slice_get l p) (sym same) ∙ at)

@@ -11,7 +11,7 @@ use Rattle.nfs3_calls.specs.Choices.{set_attr_form, set_time_form, how_made_form
 use Rattle.wire.proofs.Sizes.{small_fits}
 use Rattle.chunk_calls.specs.Answers.{time_of}
 use Rattle.kept_promise.proofs.Common.{All, slice_get, filter, All-nil, All-cons, All-map, chunks_of, chunk_bytes, Chunk, handle_bytes, Done, Failed, HashRange, Range, MessageFits, IsExpected, meets, told_chunks, pair_of, is_end, hashes_of, leased_of, piece_of, attr_of, File, server_waiting, Call, Call.Lease, Call.Hash, Call.Read, Call.Make, Call.Name, Call.Send, Call.Commit, Reply, Reply.Versioned, Reply.Hashed, Reply.Bytes, Reply.Made, Reply.Named, Reply.Stored, Reply.Changed, call_message, told_message, Call.Walks}
-use Rattle.kept_promise.proofs.Statements.{CallFits, CallsFit, FileFits, HashAnswersFit, LeaseAnswersFit, ReadAnswersFit, IsPlain, PlainAnswersFit, AreInRow}
+use Rattle.kept_promise.proofs.Statements.{CallFits, CallsFit, CallsExpected, FileFits, HashAnswersFit, LeaseAnswersFit, ReadAnswersFit, IsPlain, PlainAnswersFit, AreInRow}
 use Rattle.kept_promise.proofs.Chunks.{chunks_in_row, chunks_are_named, len_map}
 use Rattle.path_calls.specs.Walk.{place, call_at, page_call, keeps_all, create_call, make_dir_call, rename_call}
 use Rattle.path_calls.specs.declared.walk.Goal.{Goal}
@@ -92,6 +92,10 @@ call_expected : (xid : ℕ) (c : Call) → IsExpected server_waiting (call_messa
 call_expected xid (Lease file) = refl
 call_expected xid _ = refl
 
+pub calls_expected : CallsExpected
+calls_expected calls xid (Lease file) = refl
+calls_expected calls xid _ = refl
+
 pub calls_fit : CallsFit
 calls_fit = λ xid c f. (call_fits xid c f, call_expected xid c)
 
@@ -118,16 +122,16 @@ pairs_fit x r = (
     told : AllNamed (told_chunks x r)
     told = All-take (λ (c : Chunk). (length c.digest ≡ 20) × (c.len ≤ 65536)) 1024 (filter (meets r.offset r.count) (chunks_of x)) (All-filter (meets r.offset r.count) (λ (c : Chunk). (length c.digest ≡ 20) × (c.len ≤ 65536)) (chunks_of x) (chunks_named x))
 
-hashes_are : (f : File) (r : HashRange) → FileFits f → hashes_form.Fits (hashes_of 0 f r)
+hashes_are : (term : ℕ) (f : File) (r : HashRange) → term < 2 ^ 32 → FileFits f → hashes_form.Fits (hashes_of term f r)
 unfolding hashes_form u64_form u32_form count_form
-hashes_are f r fit =
+hashes_are term f r leased fit =
     let pairs = pairs_fit f.content r in
     let v = fit.1 in
     let l = fit.2 in
-    (omega (arith, v), (lit< tt, (omega (arith, l), (((let le = pairs.0 in omega (arith, le), pairs.0), (refl, pairs.1)), bool_fits (is_end (length f.content) r.offset (told_chunks f.content r))))))
+    (omega (arith, v), (omega (arith, leased), (omega (arith, l), (((let le = pairs.0 in omega (arith, le), pairs.0), (refl, pairs.1)), bool_fits (is_end (length f.content) r.offset (told_chunks f.content r))))))
 
 pub hash_answers_fit : HashAnswersFit
-hash_answers_fit = λ xid g handle offset x fit. small_fits (told_message (record { xid = xid; reply = Hashed (Done (hashes_of 0 g (record { handle = handle; offset = offset; count = 4294967295 }))) })) (x, (refl, hashes_are g (record { handle = handle; offset = offset; count = 4294967295 }) fit)) tt
+hash_answers_fit = λ xid term g handle offset x leased fit. small_fits (told_message (record { xid = xid; reply = Hashed (Done (hashes_of term g (record { handle = handle; offset = offset; count = 4294967295 }))) })) (x, (refl, hashes_are term g (record { handle = handle; offset = offset; count = 4294967295 }) leased fit)) tt
 
 -- ---- READ
 
@@ -144,12 +148,12 @@ attr_fits f fit =
 
 -- ---- GETLEASE
 
-leased_is : (f : File) → FileFits f → leased_form.Fits (leased_of 0 f)
+leased_is : (term : ℕ) (f : File) → term < 2 ^ 32 → FileFits f → leased_form.Fits (leased_of term f)
 unfolding leased_form u64_form u32_form
-leased_is f fit = let v = fit.1 in (attr_fits f fit, (omega (arith, v), lit< tt))
+leased_is term f leased fit = let v = fit.1 in (attr_fits f fit, (omega (arith, v), omega (arith, leased)))
 
 pub lease_answers_fit : LeaseAnswersFit
-lease_answers_fit = λ xid g x fit. small_fits (told_message (record { xid = xid; reply = Versioned (Done (leased_of 0 g)) })) (x, (refl, leased_is g fit)) tt
+lease_answers_fit = λ xid term g x leased fit. small_fits (told_message (record { xid = xid; reply = Versioned (Done (leased_of term g)) })) (x, (refl, leased_is term g leased fit)) tt
 
 -- ---- bytes of a file
 

@@ -7,6 +7,8 @@ use Rattle.path_calls.specs.declared.walk.Walk.{Walk}
 use Rattle.server_law.proofs.Trees.{IsBounded}
 use Rattle.wire.specs.declared.message.Body.TheVariants as body
 use Rattle.wire.specs.declared.message.Message.TheVariants as message
+use Rattle.wire.specs.declared.message.Pending.{Pending}
+use Rattle.wire.specs.declared.message.Side.TheVariants as side
 use Rattle.tree_reading.specs.declared.call.Held.{Held}
 use Rattle.kept_promise.proofs.PathNames.{IsWalkSmall, is_building, is_going}
 use Rattle.tree_calls.specs.Waiting.{settles}
@@ -95,20 +97,24 @@ CallFits xid (Walks w) = (xid < 2 ^ 32) × IsWalkSmall w
 abbrev pub CallsFit : Type 0
 CallsFit = (xid : ℕ) (c : Call) → CallFits xid c → MessageFits (call_message xid c) × IsExpected server_waiting (call_message xid c)
 
+-- it is one that the server does, whatever it waits for
+abbrev pub CallsExpected : Type 0
+CallsExpected = (calls : List Pending) (xid : ℕ) (c : Call) → IsExpected (record { side = side.Server; calls = calls }) (call_message xid c)
+
 -- an answer is of a file within its bounds
 abbrev pub FileFits : File → Type 0
 FileFits g = (g.id < 2 ^ 64) × (g.version < 2 ^ 32) × (length g.content ≤ 67108864)
 
 abbrev pub HashAnswersFit : Type 0
-HashAnswersFit = (xid : ℕ) (g : File) (handle : List ℕ) (offset : ℕ) → xid < 2 ^ 32 → FileFits g → MessageFits (told_message (record { xid = xid; reply = Hashed (Done (hashes_of 0 g (record { handle = handle; offset = offset; count = 4294967295 }))) }))
+HashAnswersFit = (xid term : ℕ) (g : File) (handle : List ℕ) (offset : ℕ) → xid < 2 ^ 32 → term < 2 ^ 32 → FileFits g → MessageFits (told_message (record { xid = xid; reply = Hashed (Done (hashes_of term g (record { handle = handle; offset = offset; count = 4294967295 }))) }))
 
 abbrev pub LeaseAnswersFit : Type 0
-LeaseAnswersFit = (xid : ℕ) (g : File) → xid < 2 ^ 32 → FileFits g → MessageFits (told_message (record { xid = xid; reply = Versioned (Done (leased_of 0 g)) }))
+LeaseAnswersFit = (xid term : ℕ) (g : File) → xid < 2 ^ 32 → term < 2 ^ 32 → FileFits g → MessageFits (told_message (record { xid = xid; reply = Versioned (Done (leased_of term g)) }))
 
 abbrev pub ReadAnswersFit : Type 0
 ReadAnswersFit = (xid : ℕ) (g : File) (handle : List ℕ) (offset count : ℕ) → xid < 2 ^ 32 → FileFits g → MessageFits (told_message (record { xid = xid; reply = Bytes (Done (piece_of g (record { handle = handle; offset = offset; count = count }))) }))
 
--- all other answers: refusals, and those that have nothing to tell but a version
+-- all other answers: refusals, and those that have nothing to tell but a version and a term
 abbrev pub IsPlain : Reply → Type 0
 IsPlain (Versioned (Failed s u)) = Unit {0}
 IsPlain (Hashed (Failed s u)) = Unit {0}
@@ -117,7 +123,7 @@ IsPlain (Made a) = Unit {0}
 IsPlain (Named a) = Unit {0}
 IsPlain (Stored a) = Unit {0}
 IsPlain (Changed (Failed s u)) = Unit {0}
-IsPlain (Changed (Done c)) = (c.version < 2 ^ 32) × (c.term ≡ 0)
+IsPlain (Changed (Done c)) = (c.version < 2 ^ 32) × (c.term < 2 ^ 32)
 IsPlain r = ⊥
 
 -- what a tree within the limits tells a walk

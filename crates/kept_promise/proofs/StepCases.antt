@@ -5,6 +5,8 @@ use Rattle.command_text.specs.declared.command.Command.TheVariants as command
 use Rattle.command_text.specs.declared.path.PathCommand.{PathCommand}
 use Rattle.xdr_codec.specs.declared.status.Status.TheVariants as status
 use Rattle.hash_calls.specs.declared.call.Leased.{Leased}
+use Rattle.hash_calls.specs.declared.message.Back.TheVariants as back
+use Rattle.hash_calls.specs.declared.message.Back.{Back}
 use Rattle.hash_calls.specs.declared.message.Lb.TheVariants as lb
 use Rattle.nfs3_calls.specs.declared.message.Nfs.TheVariants as nfs
 use Rattle.nfs3_calls.specs.declared.message.Nfs.{Nfs}
@@ -19,18 +21,23 @@ use Rattle.client_state.specs.Ending.{may_walk, cut_off, refusal_code}
 use Rattle.wire.specs.declared.message.Body.TheVariants as body
 use Rattle.wire.specs.declared.message.Message.TheVariants as message
 use Rattle.wire.specs.declared.message.RpcRefusal.TheVariants as refusal
-use Rattle.open_close.specs.Step.{fault_of}
+use Rattle.lease_rules.specs.Leases.{note_until}
+use Rattle.client_state.specs.Counting.{sends_one}
+use Rattle.client_state.specs.Noting.{at as clocked, noting, noted_until}
+use Rattle.client_state.specs.declared.noting.Granted.{Granted}
+use Rattle.open_close.specs.Step.{fault_of, does, hears, takes, lease_in, recalls, called, called_back}
+use Rattle.xdr_codec.specs.Handle.{file_of}
 use Rattle.chunk_index.specs.Index.{Indexed}
-use Rattle.client_cache.specs.Cache.{Entries, reserved, content_of}
+use Rattle.client_cache.specs.Cache.{Entries, reserved, content_of, with_note}
 use Rattle.client_cache.specs.declared.kept.Content.{Content}
-use Rattle.file_open.specs.Caching.{content_in, from_index, found_all}
+use Rattle.file_open.specs.Caching.{content_in, fresh_content, from_index, found_all}
 use Rattle.file_open.specs.Looking.{listed_if, listed_by, taken_if, taken_at, taken_by, reading_by, with_file}
 use Rattle.transfer_rules.specs.Limits.{calls_most}
 use Rattle.file_open.specs.Opening.{reads_chunk, looked_up}
 use Rattle.file_open.specs.Shape.{or_else, pairs_most}
 use Rattle.transfer_rules.specs.Limits.{file_limit}
-use Rattle.file_open.specs.Fetching.{changes, asks_kept, asks_file, uses_kept, told_lease}
-use Rattle.file_open.specs.Rewriting.{asks_version, asks_anew, rewrites_if, rewrites, opened_empty}
+use Rattle.file_open.specs.Fetching.{changes, asks_kept, asks_file, uses_kept, told_lease, opens_fresh, opens_kept, finds_kept}
+use Rattle.file_open.specs.Rewriting.{asks_version, asks_anew, rewrites_if, rewrites, opened_empty, empties_fresh, renews_kept, empties_kept}
 use Rattle.file_close.specs.Storing.{closed}
 use Rattle.client_state.specs.State.{with_local, without_local}
 use Rattle.client_state.specs.declared.step.BadPeer.TheVariants as bad
@@ -346,35 +353,54 @@ abbrev pub IsOfFile : Stage → Type 0
 IsOfFile (stage.Walking y w) = ⊥
 IsOfFile st = Unit {0}
 
--- whatever holds of each holds of what an answer makes, beside the chunks that the index gives then
-pub took_cases : (Z : List (ℕ × ℕ) → State × ClientStep → Type 0) (s : State) (calls : List Pending) (file : ℕ) (st : Stage) (x : ℕ) (b : Body) → IsOfFile st → Cases Z s calls file st x b → Z (given_in s (with_file file (reading_by st x b))) (took s calls file st x b)
-took_cases Z s calls file (stage.Walking y w) x b known cases = absurd known
-took_cases Z s calls file (stage.Asking y) x (body.Lb (lb.GetLeaseAnswer (Done l))) known cases = leased Z s calls file y x l cases
-took_cases Z s calls file (stage.Asking y) x (body.Lb (lb.GetLeaseAnswer (Failed t u))) known cases = plain Z s calls file (stage.Asking y) x (body.Lb (lb.GetLeaseAnswer (Failed t u))) cases t (λ z. z) refl
-took_cases Z s calls file (stage.Rewriting y) x (body.Lb (lb.GetLeaseAnswer (Done l))) known cases =
+-- whatever holds of each holds of what an answer makes but for the note of a lease, beside the chunks that the index gives then
+pub takes_cases : (Z : List (ℕ × ℕ) → State × ClientStep → Type 0) (s : State) (calls : List Pending) (file : ℕ) (st : Stage) (x : ℕ) (b : Body) → IsOfFile st → Cases Z s calls file st x b → Z (given_in s (with_file file (reading_by st x b))) (takes s calls file st x b)
+takes_cases Z s calls file (stage.Walking y w) x b known cases = absurd known
+takes_cases Z s calls file (stage.Asking y) x (body.Lb (lb.GetLeaseAnswer (Done l))) known cases = leased Z s calls file y x l cases
+takes_cases Z s calls file (stage.Asking y) x (body.Lb (lb.GetLeaseAnswer (Failed t u))) known cases = plain Z s calls file (stage.Asking y) x (body.Lb (lb.GetLeaseAnswer (Failed t u))) cases t (λ z. z) refl
+takes_cases Z s calls file (stage.Rewriting y) x (body.Lb (lb.GetLeaseAnswer (Done l))) known cases =
     let r = opened_empty s calls file x l.version in
     cases.ends r (record { sent = refl; bytes = 0; counts = refl; task = refl; ended = _; ended_is = refl; unopened = λ z. z; known = inr ((λ z. z), refl) }) (not_changed r _ refl done_not) (inr refl)
   where
     done_not : (first last : ℕ) → outcome.Done ≡ outcome.Changed first last → ⊥
     done_not first last z = absurd cc
-took_cases Z s calls file (stage.Rewriting y) x (body.Lb (lb.GetLeaseAnswer (Failed t u))) known cases = plain Z s calls file (stage.Rewriting y) x (body.Lb (lb.GetLeaseAnswer (Failed t u))) cases t (λ z. z) refl
-took_cases Z s calls file (stage.Hashing tries y) x (body.Lb (lb.GetHashAnswer (Done h))) known cases = hashed Z s calls file (stage.Hashing tries y) x h cases refl (fetch_of tries x h) (inl (tries, y, refl, refl))
-took_cases Z s calls file (stage.Hashing tries y) x (body.Lb (lb.GetHashAnswer (Failed t u))) known cases = plain Z s calls file (stage.Hashing tries y) x (body.Lb (lb.GetHashAnswer (Failed t u))) cases t (λ z. z) refl
-took_cases Z s calls file (stage.Listing y f) x (body.Lb (lb.GetHashAnswer (Done h))) known cases = hashed Z s calls file (stage.Listing y f) x h cases refl f (inr (y, refl))
-took_cases Z s calls file (stage.Listing y f) x (body.Lb (lb.GetHashAnswer (Failed t u))) known cases = plain Z s calls file (stage.Listing y f) x (body.Lb (lb.GetHashAnswer (Failed t u))) cases t (λ z. z) refl
-took_cases Z s calls file (stage.Reading f) x (body.Nfs (nfs.ReadAnswer (Failed t a))) known cases = plain Z s calls file (stage.Reading f) x (body.Nfs (nfs.ReadAnswer (Failed t a))) cases t (λ z. z) refl
-took_cases Z s calls file (stage.Reading f) x (body.Nfs (nfs.ReadAnswer (Done p))) known cases = read Z s calls file f x p cases
-took_cases Z s calls file (stage.Making y temp) x (body.Lb (lb.MkTmpFileAnswer (Done u))) known cases = goes Z s calls file (stage.Making y temp) x (body.Lb (lb.MkTmpFileAnswer (Done u))) cases (store_of temp (local_bytes s.opened file)) (inl (y, temp, refl, refl)) (λ z. z) refl
-took_cases Z s calls file (stage.Making y temp) x (body.Lb (lb.MkTmpFileAnswer (Failed t u))) known cases = plain Z s calls file (stage.Making y temp) x (body.Lb (lb.MkTmpFileAnswer (Failed t u))) cases t (λ z. z) refl
-took_cases Z s calls file (stage.Storing old) x b known cases = stored Z s calls file old x b cases
-took_cases Z s calls file (stage.Committing y) x (body.Lb (lb.CommitTmpAnswer (Failed t u))) known cases = plain Z s calls file (stage.Committing y) x (body.Lb (lb.CommitTmpAnswer (Failed t u))) cases t (λ z. z) refl
-took_cases Z s calls file (stage.Committing y) x (body.Lb (lb.CommitTmpAnswer (Done c))) known cases =
+takes_cases Z s calls file (stage.Rewriting y) x (body.Lb (lb.GetLeaseAnswer (Failed t u))) known cases = plain Z s calls file (stage.Rewriting y) x (body.Lb (lb.GetLeaseAnswer (Failed t u))) cases t (λ z. z) refl
+takes_cases Z s calls file (stage.Hashing tries y) x (body.Lb (lb.GetHashAnswer (Done h))) known cases = hashed Z s calls file (stage.Hashing tries y) x h cases refl (fetch_of tries x h) (inl (tries, y, refl, refl))
+takes_cases Z s calls file (stage.Hashing tries y) x (body.Lb (lb.GetHashAnswer (Failed t u))) known cases = plain Z s calls file (stage.Hashing tries y) x (body.Lb (lb.GetHashAnswer (Failed t u))) cases t (λ z. z) refl
+takes_cases Z s calls file (stage.Listing y f) x (body.Lb (lb.GetHashAnswer (Done h))) known cases = hashed Z s calls file (stage.Listing y f) x h cases refl f (inr (y, refl))
+takes_cases Z s calls file (stage.Listing y f) x (body.Lb (lb.GetHashAnswer (Failed t u))) known cases = plain Z s calls file (stage.Listing y f) x (body.Lb (lb.GetHashAnswer (Failed t u))) cases t (λ z. z) refl
+takes_cases Z s calls file (stage.Reading f) x (body.Nfs (nfs.ReadAnswer (Failed t a))) known cases = plain Z s calls file (stage.Reading f) x (body.Nfs (nfs.ReadAnswer (Failed t a))) cases t (λ z. z) refl
+takes_cases Z s calls file (stage.Reading f) x (body.Nfs (nfs.ReadAnswer (Done p))) known cases = read Z s calls file f x p cases
+takes_cases Z s calls file (stage.Making y temp) x (body.Lb (lb.MkTmpFileAnswer (Done u))) known cases = goes Z s calls file (stage.Making y temp) x (body.Lb (lb.MkTmpFileAnswer (Done u))) cases (store_of temp (local_bytes s.opened file)) (inl (y, temp, refl, refl)) (λ z. z) refl
+takes_cases Z s calls file (stage.Making y temp) x (body.Lb (lb.MkTmpFileAnswer (Failed t u))) known cases = plain Z s calls file (stage.Making y temp) x (body.Lb (lb.MkTmpFileAnswer (Failed t u))) cases t (λ z. z) refl
+takes_cases Z s calls file (stage.Storing old) x b known cases = stored Z s calls file old x b cases
+takes_cases Z s calls file (stage.Committing y) x (body.Lb (lb.CommitTmpAnswer (Failed t u))) known cases = plain Z s calls file (stage.Committing y) x (body.Lb (lb.CommitTmpAnswer (Failed t u))) cases t (λ z. z) refl
+takes_cases Z s calls file (stage.Committing y) x (body.Lb (lb.CommitTmpAnswer (Done c))) known cases =
     let r = closed s calls file x c.version (local_bytes s.opened file) in
     cases.ends r (record { sent = refl; bytes = 0; counts = refl; task = refl; ended = _; ended_is = refl; unopened = λ z. z; known = inr ((λ z. z), refl) }) (not_changed r _ refl (closed_not file c.version (length (local_bytes s.opened file)) (sha1 (local_bytes s.opened file)))) (inr refl)
   where
     closed_not : (file version len : ℕ) (digest : List ℕ) (first last : ℕ) → outcome.Closed file version len digest ≡ outcome.Changed first last → ⊥
     closed_not file version len digest first last z = absurd cc
-took_cases Z s calls file st x b known cases = fault Z s calls file st x b cases (bad.UnknownXid x) 0
+takes_cases Z s calls file st x b known cases = fault Z s calls file st x b cases (bad.UnknownXid x) 0
+
+-- what it leaves stays so where the lease that it grants is noted
+abbrev pub Renotes : (Z : List (ℕ × ℕ) → State × ClientStep → Type 0) → State → (file : ℕ) → Stage → Body → Type 0
+Renotes Z s file st b = (found : List (ℕ × ℕ)) (r : State × ClientStep) (g : Granted) (until : ℕ) → lease_in st b ≡ Some g → note_until s.sent g.term r.0.drift ≡ Some until → Z found r → Z found (record r.0 { cache = with_note r.0.cache file g.version until }, r.1)
+
+pub renoted : (Z : List (ℕ × ℕ) → State × ClientStep → Type 0) (s : State) (file : ℕ) (st : Stage) (b : Body) → Renotes Z s file st b → (found : List (ℕ × ℕ)) (r : State × ClientStep) → Z found r → Z found (noting s.sent file (lease_in st b) r)
+renoted Z s file st b renote found r h = by (lease_in st b) refl
+  where
+    until : (g : Granted) → lease_in st b ≡ Some g → (o : Option ℕ) → note_until s.sent g.term r.0.drift ≡ o → Z found (noted_until r.0 file g.version o, r.1)
+    until g lease None is = h
+    until g lease (Some n) is = renote found r g n lease is h
+
+    by : (o : Option Granted) → lease_in st b ≡ o → Z found (noting s.sent file o r)
+    by None is = h
+    by (Some g) is = until g is (note_until s.sent g.term r.0.drift) refl
+
+-- whatever holds of each, and stays where a lease is noted, holds of what an answer makes
+pub took_cases : (Z : List (ℕ × ℕ) → State × ClientStep → Type 0) (s : State) (calls : List Pending) (file : ℕ) (st : Stage) (x : ℕ) (b : Body) → IsOfFile st → Renotes Z s file st b → Cases Z s calls file st x b → Z (given_in s (with_file file (reading_by st x b))) (took s calls file st x b)
+took_cases Z s calls file st x b known renote cases = renoted Z s file st b renote (given_in s (with_file file (reading_by st x b))) (takes s calls file st x b) (takes_cases Z s calls file st x b known cases)
 
 -- ---- where only opens matter, or only closes
 
@@ -443,9 +469,12 @@ pub record WalkCases (Z : State × ClientStep → Type 0) (s : State) (calls : L
   pub open_already : (id : ℕ) → Walks st b (walk_told_as.Finds id) → is_open s.opened id ≡ true → Z (finding id (forgets s calls x, ends outcome.AlreadyOpen 0 0))
   pub fetches : (id : ℕ) → Walks st b (walk_told_as.Finds id) → is_open s.opened id ≡ false → content_of s.cache id ≡ None → Z (finding id (asks_kept (fronts s id) id None))
   pub leases : (id : ℕ) (c : Content) → Walks st b (walk_told_as.Finds id) → is_open s.opened id ≡ false → content_of s.cache id ≡ Some c → Z (finding id (asks_kept (fronts s id) id (Some c)))
+  -- or it is fresh, and open at once
+  pub opens_now : (id : ℕ) (c : Content) → Walks st b (walk_told_as.Finds id) → is_open s.opened id ≡ false → fresh_content s.cache id s.clock ≡ Some c → Z (finding id (opens_fresh (forgets s calls x) id c))
   -- so does a rewrite
   pub renew_already : (id : ℕ) → Walks st b (walk_told_as.Rewrites id) → is_open s.opened id ≡ true → Z (finding id (forgets s calls x, ends outcome.AlreadyOpen 0 0))
   pub renews : (id : ℕ) → Walks st b (walk_told_as.Rewrites id) → is_open s.opened id ≡ false → Z (finding id (asks_version (fronts s id) id))
+  pub empties_now : (id : ℕ) (c : Content) → Walks st b (walk_told_as.Rewrites id) → is_open s.opened id ≡ false → fresh_content s.cache id s.clock ≡ Some c → Z (finding id (empties_fresh (forgets s calls x) id c))
   -- it was the last call
   pub ends : (w : Walk) (e : WalkEnd) (k : Walks st b (walk_told_as.Ends e)) → k.walk ≡ w → Z (forgets s calls x, record (ends (outcome_of e) x 0) { found = seen_in (is_look w.goal) e })
 
@@ -474,11 +503,19 @@ walk_cases Z s calls file y w x (body.Nfs a) h = own (is_its w a) refl
 
     finds : (id : ℕ) → walk_told w a ≡ walk_told_as.Finds id → is_its w a ≡ true → (o : Bool) → is_open s.opened id ≡ o → Z (finds_if s calls x id o)
     finds id is own true e = h.open_already id (record { asked = y; walk = w; answer = a; stage_is = refl; body_is = refl; its = own; told_is = is }) e
-    finds id is own false e = kept id is own e (content_of s.cache id) refl
+    finds id is own false e = fresh (fresh_content s.cache id s.clock) refl
+      where
+        fresh : (o : Option Content) → fresh_content s.cache id s.clock ≡ o → Z (finding id (finds_kept s calls x id o))
+        fresh None f = kept id is own e (content_of s.cache id) refl
+        fresh (Some c) f = h.opens_now id c (record { asked = y; walk = w; answer = a; stage_is = refl; body_is = refl; its = own; told_is = is }) e f
 
     anew : (id : ℕ) → walk_told w a ≡ walk_told_as.Rewrites id → is_its w a ≡ true → (o : Bool) → is_open s.opened id ≡ o → Z (renews_if s calls x id o)
     anew id is own true e = h.renew_already id (record { asked = y; walk = w; answer = a; stage_is = refl; body_is = refl; its = own; told_is = is }) e
-    anew id is own false e = h.renews id (record { asked = y; walk = w; answer = a; stage_is = refl; body_is = refl; its = own; told_is = is }) e
+    anew id is own false e = fresh (fresh_content s.cache id s.clock) refl
+      where
+        fresh : (o : Option Content) → fresh_content s.cache id s.clock ≡ o → Z (finding id (empties_kept s calls x id o))
+        fresh None f = h.renews id (record { asked = y; walk = w; answer = a; stage_is = refl; body_is = refl; its = own; told_is = is }) e
+        fresh (Some c) f = h.empties_now id c (record { asked = y; walk = w; answer = a; stage_is = refl; body_is = refl; its = own; told_is = is }) e f
 
     by : is_its w a ≡ true → (t : WalkTold) → walk_told w a ≡ t → Z (walked s calls x (is_look w.goal) t)
     by own (walk_told_as.Asks v) is = h.asks v (record { asked = y; walk = w; answer = a; stage_is = refl; body_is = refl; its = own; told_is = is })
@@ -584,6 +621,9 @@ pub record Begins (Z : State × ClientStep → Type 0) (s : State) (d : Command)
   pub fetches : (file : ℕ) → d ≡ command.Open file → s.task ≡ None → may_ask s ≡ true → Z (asks_kept (fronts s file) file None)
   pub asks : (file : ℕ) (c : Content) → d ≡ command.Open file → s.task ≡ None → may_ask s ≡ true → content_of s.cache file ≡ Some c → Z (asks_kept (fronts s file) file (Some c))
   pub renews : (file : ℕ) → d ≡ command.Rewrite file → s.task ≡ None → may_ask s ≡ true → Z (asks_version (fronts s file) file)
+  -- a content that is fresh is open at once, and so is a file whose content is fresh, with nothing in it
+  pub opens_now : (file : ℕ) (c : Content) → d ≡ command.Open file → s.task ≡ None → is_open s.opened file ≡ false → fresh_content s.cache file s.clock ≡ Some c → Z (opens_fresh s file c)
+  pub empties_now : (file : ℕ) (c : Content) → d ≡ command.Rewrite file → s.task ≡ None → is_open s.opened file ≡ false → fresh_content s.cache file s.clock ≡ Some c → Z (empties_fresh s file c)
   pub walks : (c : PathCommand) → d ≡ command.Named c → s.task ≡ None → may_walk s (walk_begun c) ≡ true → Z (asks_next s (walk_begun c))
   pub closes : (file : ℕ) (l : Local) → d ≡ command.Close file → s.task ≡ None → may_ask s ≡ true → local_at s.opened file ≡ Some l → Z (asks_temp s file true)
 
@@ -601,7 +641,7 @@ begun Z s d h None is (Some l) f does = does is l refl
 
 opened : (Z : State × ClientStep → Type 0) (s : State) (file : ℕ) → Begins Z s (command.Open file) → (t : Option Task) → s.task ≡ t → Z (opens s file t)
 opened Z s file h (Some t) is = h.busy t is
-opened Z s file h None is = by (is_open s.opened file)
+opened Z s file h None is = by (is_open s.opened file) refl
   where
     kept : may_ask s ≡ true → (o : Option Content) → content_of s.cache file ≡ o → Z (asks_kept (fronts s file) file o)
     kept may None e = h.fetches file refl is may
@@ -611,40 +651,47 @@ opened Z s file h None is = by (is_open s.opened file)
     asks true may = kept may (content_of s.cache file) refl
     asks false may = h.answers is s.opened outcome.NoLink tt
 
-    by : (b : Bool) → Z (opens_if s file b)
-    by true = h.answers is s.opened outcome.AlreadyOpen tt
-    by false = asks (may_ask s) refl
+    fresh : is_open s.opened file ≡ false → (o : Option Content) → fresh_content s.cache file s.clock ≡ o → Z (opens_kept s file o)
+    fresh shut None e = asks (may_ask s) refl
+    fresh shut (Some c) e = h.opens_now file c refl is shut e
+
+    by : (b : Bool) → is_open s.opened file ≡ b → Z (opens_if s file b)
+    by true e = h.answers is s.opened outcome.AlreadyOpen tt
+    by false e = fresh e (fresh_content s.cache file s.clock) refl
 
 renewed : (Z : State × ClientStep → Type 0) (s : State) (file : ℕ) → Begins Z s (command.Rewrite file) → (t : Option Task) → s.task ≡ t → Z (rewrites s file t)
 renewed Z s file h (Some t) is = h.busy t is
-renewed Z s file h None is = by (is_open s.opened file)
+renewed Z s file h None is = by (is_open s.opened file) refl
   where
     asks : (b : Bool) → may_ask s ≡ b → Z (asks_anew s file b)
     asks true may = h.renews file refl is may
     asks false may = h.answers is s.opened outcome.NoLink tt
 
-    by : (b : Bool) → Z (rewrites_if s file b)
-    by true = h.answers is s.opened outcome.AlreadyOpen tt
-    by false = asks (may_ask s) refl
+    fresh : is_open s.opened file ≡ false → (o : Option Content) → fresh_content s.cache file s.clock ≡ o → Z (renews_kept s file o)
+    fresh shut None e = asks (may_ask s) refl
+    fresh shut (Some c) e = h.empties_now file c refl is shut e
 
--- whatever holds of each holds of a command
-pub command_cases : (Z : State × ClientStep → Type 0) (s : State) (d : Command) (now : ℕ) → Begins Z s d → Z (command_step s d now)
-command_cases Z s (command.Open file) now h = opened Z s file h s.task refl
-command_cases Z s (command.Rewrite file) now h = renewed Z s file h s.task refl
-command_cases Z s (command.Write file offset content) now h = begun Z s (command.Write file offset content) h s.task refl (local_at s.opened file) (writes s file offset content) (λ free l at. by free l (content_length content == 0))
+    by : (b : Bool) → is_open s.opened file ≡ b → Z (rewrites_if s file b)
+    by true e = h.answers is s.opened outcome.AlreadyOpen tt
+    by false e = fresh e (fresh_content s.cache file s.clock) refl
+
+does_cases : (Z : State × ClientStep → Type 0) (s : State) (d : Command) → Begins Z s d → Z (does s d)
+does_cases Z s (command.Open file) h = opened Z s file h s.task refl
+does_cases Z s (command.Rewrite file) h = renewed Z s file h s.task refl
+does_cases Z s (command.Write file offset content) h = begun Z s (command.Write file offset content) h s.task refl (local_at s.opened file) (writes s file offset content) (λ free l at. by free l (content_length content == 0))
   where
     by : s.task ≡ None → (l : Local) (b : Bool) → Z (if b then (s, ends outcome.Done 0 0) else edits s file l (written_size (length l.bytes) offset (content_length content)) (written l.bytes offset (content_bytes content)))
     by free l true = h.answers free s.opened outcome.Done tt
     by free l false = edited Z s (command.Write file offset content) h free file l (written_size (length l.bytes) offset (content_length content)) (written l.bytes offset (content_bytes content))
-command_cases Z s (command.Trunc file size) now h = begun Z s (command.Trunc file size) h s.task refl (local_at s.opened file) (truncates s file size) (λ free l at. edited Z s (command.Trunc file size) h free file l size (truncated l.bytes size))
-command_cases Z s (command.Read file offset count) now h = begun Z s (command.Read file offset count) h s.task refl (local_at s.opened file) (Rattle.open_close.specs.Step.reads s offset count) (λ free l at. h.answers free s.opened (outcome.Piece (length (part_of l.bytes offset count)) (sha1 (part_of l.bytes offset count))) tt)
-command_cases Z s (command.Close file) now h = begun Z s (command.Close file) h s.task refl (local_at s.opened file) (closes s file) (λ free l at. by free l at (may_ask s) refl)
+does_cases Z s (command.Trunc file size) h = begun Z s (command.Trunc file size) h s.task refl (local_at s.opened file) (truncates s file size) (λ free l at. edited Z s (command.Trunc file size) h free file l size (truncated l.bytes size))
+does_cases Z s (command.Read file offset count) h = begun Z s (command.Read file offset count) h s.task refl (local_at s.opened file) (Rattle.open_close.specs.Step.reads s offset count) (λ free l at. h.answers free s.opened (outcome.Piece (length (part_of l.bytes offset count)) (sha1 (part_of l.bytes offset count))) tt)
+does_cases Z s (command.Close file) h = begun Z s (command.Close file) h s.task refl (local_at s.opened file) (closes s file) (λ free l at. by free l at (may_ask s) refl)
   where
     by : s.task ≡ None → (l : Local) → local_at s.opened file ≡ Some l → (b : Bool) → may_ask s ≡ b → Z (asks_temp s file b)
     by free l at true may = h.closes file l refl free may at
     by free l at false may = h.answers free s.opened outcome.NoLink tt
-command_cases Z s (command.Abandon file) now h = begun Z s (command.Abandon file) h s.task refl (local_at s.opened file) (abandons s file) (λ free l at. h.answers free (without_local s.opened file) outcome.Done tt)
-command_cases Z s (command.Named c) now h = by s.task refl
+does_cases Z s (command.Abandon file) h = begun Z s (command.Abandon file) h s.task refl (local_at s.opened file) (abandons s file) (λ free l at. h.answers free (without_local s.opened file) outcome.Done tt)
+does_cases Z s (command.Named c) h = by s.task refl
   where
     asks : s.task ≡ None → (b : Bool) → may_walk s (walk_begun c) ≡ b → Z (walks_if s (walk_begun c) b)
     asks free true may = h.walks c refl free may
@@ -653,6 +700,10 @@ command_cases Z s (command.Named c) now h = by s.task refl
     by : (t : Option Task) → s.task ≡ t → Z (walks s c t)
     by (Some t) is = h.busy t is
     by None is = asks is (may_walk s (walk_begun c)) refl
+
+-- whatever holds of each, at this reading of the client's clock, holds of a command
+pub command_cases : (Z : State × ClientStep → Type 0) (s : State) (d : Command) (now : ℕ) → Begins Z (clocked s now) d → Z (command_step s d now)
+command_cases Z s d now h = does_cases Z (clocked s now) d h
 
 -- ---- what comes
 
@@ -664,7 +715,10 @@ pub record Gets (Z : State × ClientStep → Type 0) (s : State) : Type 0 where
   -- what no server sends, where an operation is under way, and where none is
   pub bad : (t : Task) → s.task ≡ Some t → (f : BadPeer) → Z (bad_peer s f 0)
   pub off : s.task ≡ None → Z (cut_off s)
-  -- an answer to a call that was forgotten, and calls
+  -- a RECALL is answered, and what is noted of its file goes; a NULL is answered
+  pub recalled : (xid : ℕ) (file : Option ℕ) → Z (recalls s file, sends_one (message.Answer xid (body.Back back.RecallAnswer)) 0)
+  pub greeted : (xid : ℕ) → Z (s, sends_one (message.Answer xid (body.Back back.NullAnswer)) 0)
+  -- an answer to a call that was forgotten, and other calls
   pub forgot : (xid : ℕ) → Z (drops s None xid true)
   pub unfit : (xid : ℕ) (r : RpcRefusal) → Z (got_message s None (message.Unfit xid r))
   pub call : Z (s, nothing_done)
@@ -674,19 +728,18 @@ unwaited Z s h o is xid true = h.forgot xid
 unwaited Z s h (Some t) is xid false = h.bad t is (bad.UnknownXid xid)
 unwaited Z s h None is xid false = h.off is
 
--- whatever holds of each holds of the step
-pub got_cases : (Z : State × ClientStep → Type 0) (s : State) (m : Result Message WireFault) (now : ℕ) → Gets Z s → Z (got_step s m now)
-got_cases Z s (Err e) now h = by s.task refl
+hears_cases : (Z : State × ClientStep → Type 0) (s : State) (m : Result Message WireFault) → Gets Z s → Z (hears s m)
+hears_cases Z s (Err e) h = by s.task refl
   where
     by : (o : Option Task) → s.task ≡ o → Z (got_fault s o e)
     by (Some t) is = h.bad t is (fault_of e)
     by None is = h.off is
-got_cases Z s (Ok (message.Answer xid b)) now h = by s.task refl (has_call (pending s.task) xid)
+hears_cases Z s (Ok (message.Answer xid b)) h = by s.task refl (has_call (pending s.task) xid)
   where
     by : (o : Option Task) → s.task ≡ o → (own : Bool) → Z (took_if s o xid b own)
     by (Some t) is true = h.took t is xid b
     by o is own = unwaited Z s h o is xid (has_call s.forgotten xid)
-got_cases Z s (Ok (message.Refuse xid r)) now h = by s.task refl (has_call (pending s.task) xid)
+hears_cases Z s (Ok (message.Refuse xid r)) h = by s.task refl (has_call (pending s.task) xid)
   where
     denies : (t : Task) → s.task ≡ Some t → (r : RpcRefusal) → Z (denied (idle s) (calls_of s) xid r)
     denies t is refusal.SystemErr = h.memory t is xid
@@ -695,5 +748,18 @@ got_cases Z s (Ok (message.Refuse xid r)) now h = by s.task refl (has_call (pend
     by : (o : Option Task) → s.task ≡ o → (own : Bool) → Z (denied_if s o xid r own)
     by (Some t) is true = denies t is r
     by o is own = unwaited Z s h o is xid (has_call s.forgotten xid)
-got_cases Z s (Ok (message.Unfit xid r)) now h = h.unfit xid r
-got_cases Z s (Ok (message.Call xid b)) now h = h.call
+hears_cases Z s (Ok (message.Unfit xid r)) h = h.unfit xid r
+hears_cases Z s (Ok (message.Call xid b)) h = by b
+  where
+    back_by : (c : Back) → Z (called_back s xid c)
+    back_by (back.Recall handle) = h.recalled xid (file_of handle)
+    back_by back.Null = h.greeted xid
+    back_by c = h.call
+
+    by : (c : Body) → Z (called s xid c)
+    by (body.Back c) = back_by c
+    by c = h.call
+
+-- whatever holds of each, at this reading of the client's clock, holds of the step
+pub got_cases : (Z : State × ClientStep → Type 0) (s : State) (m : Result Message WireFault) (now : ℕ) → Gets Z (clocked s now) → Z (got_step s m now)
+got_cases Z s m now h = hears_cases Z (clocked s now) m h

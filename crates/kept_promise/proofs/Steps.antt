@@ -171,8 +171,8 @@ pub record Quiet (k : Core) (n : ℕ) (q : Queue) : Type 0 where
   pub ups : commits_in q.ups ≡ 0
   pub waiting : own n k.server.waiting ≡ []
 
-abbrev pub gone_on : client.State → (file next : ℕ) → Stage → List Pending → Entries → Indexed → client.State
-gone_on c file next s forgotten cache index = record c { next_xid = next; task = Some (record { file = file; stage = s }); forgotten = forgotten; cache = cache; index = index }
+abbrev pub gone_on : client.State → (file next sent : ℕ) → Stage → List Pending → Entries → Indexed → client.State
+gone_on c file next sent s forgotten cache index = record c { next_xid = next; task = Some (record { file = file; stage = s }); forgotten = forgotten; cache = cache; index = index; sent = sent }
 
 pub goal_not_close : (g : Goal) → goal_word g ≡ words.Close → ⊥
 goal_not_close (goal.Find n) e = absurd cc
@@ -206,13 +206,13 @@ close_unnamed s e = naming_same (stage.Committing 0) s (sym e) refl
 
 -- what else is on its way of closes is in order then
 abbrev pub GoesInOrder : (book : Book) (k : Core) (qs : List Queue) (n : ℕ) (x : Session) (q : Queue) (t : Told) (ts : List Told) (j : Job) (g : Here book k qs n x q t ts j) (s : Stage) (next : ℕ) (forgotten : List Pending) (asks : List Ask) → Type 0
-GoesInOrder book k qs n x q t ts j g s next forgotten asks = (cache : Entries) (index : Indexed) → Orderly book n k.server.temps x.hung (record { ups = unless x.hung q.ups asks; downs = ts }) (record (session_at book k qs n x q t ts j g).seat { client = gone_on (session_at book k qs n x q t ts j g).seat.client j.file next s forgotten cache index; place = Some j.place })
+GoesInOrder book k qs n x q t ts j g s next forgotten asks = (cache : Entries) (index : Indexed) (sent : ℕ) → Orderly book n k.server.temps x.hung (record { ups = unless x.hung q.ups asks; downs = ts }) (record (session_at book k qs n x q t ts j g).seat { client = gone_on (session_at book k qs n x q t ts j g).seat.client j.file next sent s forgotten cache index; place = Some j.place })
 
 -- what goes on that is no close has nothing of a close on its way
 pub others_in_order : (book : Book) (k : Core) (qs : List Queue) (n : ℕ) (x : Session) (q : Queue) (t : Told) (ts : List Told) (j : Job) (g : Here book k qs n x q t ts j) (s : Stage) (next : ℕ) (forgotten : List Pending) (asks : List Ask) → IsNoClose j.stage → IsNoClose s → AllFetching asks → GoesInOrder book k qs n x q t ts j g s next forgotten asks
-others_in_order book k qs n x q t ts j g s next forgotten asks was is fetch cache index =
+others_in_order book k qs n x q t ts j g s next forgotten asks was is fetch cache index sent =
     let h = session_at book k qs n x q t ts j g in
-    let d : Seat = record h.seat { client = gone_on h.seat.client j.file next s forgotten cache index; place = Some j.place } in
+    let d : Seat = record h.seat { client = gone_on h.seat.client j.file next sent s forgotten cache index; place = Some j.place } in
     orderly_ends book book n k.server.temps k.server.waiting q x.hung h.seat.client.next_xid (client.calls_of h.seat.client) t ts h.seat d j asks (h.talk g.uncut).balanced g.first g.job_is (inl was) (h.orderly g.uncut) (free_on d (on j s) refl is) fetch
 
 pub opens_in_order : (book : Book) (k : Core) (qs : List Queue) (n : ℕ) (x : Session) (q : Queue) (t : Told) (ts : List Told) (j : Job) (g : Here book k qs n x q t ts j) (s : Stage) (next : ℕ) (forgotten : List Pending) (asks : List Ask) → stage_word j.stage ≡ words.Open → stage_word s ≡ words.Open → AllFetching asks → GoesInOrder book k qs n x q t ts j g s next forgotten asks
@@ -239,15 +239,15 @@ pub record GoesOn (book : Book) (k : Core) (qs : List Queue) (n : ℕ) (x : Sess
   pub bounded : next ≤ 4294967296
   pub orderly : GoesInOrder book k qs n x q t ts j g s next forgotten asks
 
-pub kept_goes : (book : Book) (k : Core) (qs : List Queue) (n : ℕ) (x : Session) (q : Queue) (t : Told) (ts : List Told) (j : Job) (g : Here book k qs n x q t ts j) (s : Stage) (next : ℕ) (forgotten : List Pending) (asks : List Ask) (cache : Entries) (index : Indexed) (tr : Traffic) (seats : List Seat) (after : List Queue) → GoesOn book k qs n x q t ts j g s next forgotten asks → Cached book cache
+pub kept_goes : (book : Book) (k : Core) (qs : List Queue) (n : ℕ) (x : Session) (q : Queue) (t : Told) (ts : List Told) (j : Job) (g : Here book k qs n x q t ts j) (s : Stage) (next : ℕ) (forgotten : List Pending) (asks : List Ask) (cache : Entries) (index : Indexed) (sent : ℕ) (tr : Traffic) (seats : List Seat) (after : List Queue) → GoesOn book k qs n x q t ts j g s next forgotten asks → Cached book cache
     → (let h = session_at book k qs n x q t ts j g in
-    let c = gone_on h.seat.client j.file next s forgotten cache index in
+    let c = gone_on h.seat.client j.file next sent s forgotten cache index in
     let of = job_op book k qs x h.seat j g.kept h.owner g.job_is in
     let ops = slice_set book.ops j.place (counting of.op tr) in
-    Around k.seats seats x.owner (record h.seat { client = c; place = Some j.place }) → Around qs after n (put_up q x.hung asks ts) → IsKept (onward book 1 ops) (turned_core (onward book 1 ops) k.server seats k.sessions) after)
-kept_goes book k qs n x q t ts j g s next forgotten asks cache index tr seats after w cached around queues =
+    Around k.seats seats x.owner (record h.seat { client = c; place = Some j.place }) → Around qs after n (put_up q x.hung asks ts) → IsKept (onward book 1 ops) (turned_core k (onward book 1 ops) k.server seats k.sessions) after)
+kept_goes book k qs n x q t ts j g s next forgotten asks cache index sent tr seats after w cached around queues =
     let h = session_at book k qs n x q t ts j g in
-    let c = gone_on h.seat.client j.file next s forgotten cache index in
+    let c = gone_on h.seat.client j.file next sent s forgotten cache index in
     let of = job_op book k qs x h.seat j g.kept h.owner g.job_is in
     let ops = slice_set book.ops j.place (counting of.op tr) in
     let more = onward book 1 ops in
@@ -293,7 +293,7 @@ kept_goes book k qs n x q t ts j g s next forgotten asks cache index tr seats af
         opened = λ f l e. let o = seat_was.opened f l e in (there_later book more None None f goes.grows o.0, o.1);
         kept = cached_later book more None None cache goes.grows cached;
       };
-      orderly = orderly_later book more None None n k.server.temps k.server.temps x.hung (record { ups = unless x.hung q.ups asks; downs = ts }) (record h.seat { client = c; place = Some j.place }) goes.grows (λ m lt. refl) (w.orderly cache index);
+      orderly = orderly_later book more None None n k.server.temps k.server.temps x.hung (record { ups = unless x.hung q.ups asks; downs = ts }) (record h.seat { client = c; place = Some j.place }) goes.grows (λ m lt. refl) (w.orderly cache index sent);
       running = λ others round p o at run. elim (of_replaced book.ops j.place (counting of.op tr) p o at) [
         | inl here ↦ (record h.seat { client = c; place = Some j.place }, on j s, ap (λ (z : Op). numbered others z.client) here.1 ∙ ap (numbered others) of.client ∙ round.there, refl, sym here.0)
         | inr there ↦
@@ -350,7 +350,7 @@ pub record Stops (book : Book) (k : Core) (qs : List Queue) (n : ℕ) (x : Sessi
 pub kept_stops : (book : Book) (k : Core) (qs : List Queue) (n : ℕ) (x : Session) (q : Queue) (t : Told) (ts : List Told) (j : Job) (g : Here book k qs n x q t ts j) (r : Op) (made : Option ℕ) (opened : List (ℕ × Local)) (forgotten : List Pending) (cache : Entries) (index : Indexed) (seats : List Seat) (after : List Queue) → Stops book k qs n x q t ts j g r made opened forgotten → Cached (onward book 1 (slice_set book.ops j.place r)) cache
     → (let h = session_at book k qs n x q t ts j g in
     let ops = slice_set book.ops j.place r in
-    Around k.seats seats x.owner (record h.seat { client = stopped h.seat.client opened forgotten cache index; place = None }) → Around qs after n (put_up q x.hung [] ts) → IsKept (onward book 1 ops) (turned_core (onward book 1 ops) k.server seats k.sessions) after)
+    Around k.seats seats x.owner (record h.seat { client = stopped h.seat.client opened forgotten cache index; place = None }) → Around qs after n (put_up q x.hung [] ts) → IsKept (onward book 1 ops) (turned_core k (onward book 1 ops) k.server seats k.sessions) after)
 kept_stops book k qs n x q t ts j g r made opened forgotten cache index seats after w cached around queues =
     let h = session_at book k qs n x q t ts j g in
     let c = stopped h.seat.client opened forgotten cache index in

@@ -5,11 +5,11 @@ use Rattle.server_core.specs.State as server
 use Rattle.server_core.specs.declared.event.Event.TheVariants as event
 use Rattle.server_rules.specs.declared.told.Told.{Told}
 use Rattle.server_rules.specs.declared.told.Told.TheVariants as told
-use Rattle.kept_promise.proofs.Common.{Opening, Core, Seat, Session, Event, Event.Joins, Event.Does, Event.Serves, Event.Hears, Event.Settles, Event.Cuts, Event.Hangs, numbered, joins, joins_as, does, serves, serves_if, hears, hears_at, hears_if, is_newest, cuts, cuts_if, hangs, hangs_if, server_waiting, happens, Moment, moments, owner_in, Queue, World, run, parse_of, WireFault, Message, not, server_step}
-use Rattle.kept_promise.proofs.Turns.{also_numbered}
+use Rattle.kept_promise.proofs.Common.{Opening, Core, Seat, Session, Event, Event.Joins, Event.Does, Event.Serves, Event.Hears, Event.Settles, Event.Cuts, Event.Hangs, numbered, joins, joins_as, does, serves, serves_if, hears, hears_at, hears_if, is_newest, cuts, cuts_if, hangs, hangs_if, server_waits, happens, Moment, moments, owner_in, Queue, World, run, parse_of, WireFault, Message, not, server_step}
+use Rattle.kept_promise.proofs.Actors.{session_served}
 use Rattle.kept_promise.proofs.Fits.{FitLaws}
 use Rattle.kept_promise.proofs.RunsCarried.{KeptLaws, moment, Step, Carried}
-use Rattle.kept_promise.proofs.Runs.{carried_run}
+use Rattle.kept_promise.proofs.Runs.{carried_plain}
 
 -- ---- one event
 
@@ -56,8 +56,8 @@ happens_count all past rest opening k qs (Joins c) mid after s =
     ap (λ (o : Option Seat). (joins k c o).core.steps) s.finds.1 ∙ joins_count k c s.finds.0 r.0 r.1.told
 happens_count all past rest opening k qs (Does c now d) mid after s = ap (λ (o : Option Seat). (does k c now d o).core.steps) s.finds.1
 happens_count all past rest opening k qs (Serves n now bytes) mid after s =
-    let x = also_numbered qs k.sessions n s.finds.0 (sym s.kept.made.1) s.finds.3 in
-    ap (λ (o : Option Session). (serves k n now bytes o).core.steps) x.1 ∙ serves_count k n now x.0 (parse_of server_waiting bytes)
+    let x = session_served k qs n now bytes mid s.kept.made.1 s.finds in
+    ap (λ (o : Option Session). (serves k n now bytes o).core.steps) x.1 ∙ serves_count k n now x.0 (parse_of (server_waits k n) bytes)
 happens_count all past rest opening k qs (Hears n now bytes) mid after s = hears_count k n now bytes (numbered k.sessions n)
 happens_count all past rest opening k qs (Settles now) mid after s = refl
 happens_count all past rest opening k qs (Cuts c) mid after s = ap (λ (o : Option Seat). (cuts k c o).core.steps) s.finds.1 ∙ cuts_count k c s.finds.0 s.finds.0.client.linked
@@ -77,4 +77,4 @@ carried_count = record {
 }
 
 pub steps_counted : KeptLaws → FitLaws → (input : List ℕ) (w : World) → run input ≡ Ok w → AreCounted 0 (moments input) w.core.steps
-steps_counted laws fits input w e = (carried_run (λ all past opening k qs. AreCounted 0 past k.steps) laws fits carried_count input w e).more
+steps_counted laws fits input w e = (carried_plain (λ all past opening k qs. AreCounted 0 past k.steps) laws fits carried_count input w e).more

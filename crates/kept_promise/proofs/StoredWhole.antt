@@ -17,7 +17,7 @@ use Rattle.register_model.specs.declared.op.Word.TheVariants as words
 use Rattle.trace_ends.specs.Session.{taken_of as session_taken}
 use Rattle.trace_replay.specs.Trail.{taken_of}
 use Rattle.trace_replay.specs.Traffic.{traffic_of, commit_number, commits_in as commits_said, IsFetchCall, IsVersionCall}
-use Rattle.kept_promise.proofs.Common.{slice_get, Change, cut, ClientStep, Ended, Outcome, Op, Opening, Word, TakenCall, has_point, point_if, op_after, Core, Seat, Session, Event, numbered, session_of, ops_with, happens, Moment, sent_in, sent_of, SentCommit, Book, Message, Call, Call.Commit, Ask, Queue, Contains-append_left, Said, Deal, Deal.Took, Deal.Found, Deal.Sent, deals_of, stored_traffic, cond, Call.Walks, Wanted}
+use Rattle.kept_promise.proofs.Common.{changes, slice_get, Change, cut, ClientStep, Ended, Outcome, Op, Opening, Word, TakenCall, has_point, point_if, op_after, Core, Seat, Session, Event, numbered, session_of, ops_with, happens, Moment, sent_in, sent_of, SentCommit, Book, Message, Call, Call.Commit, Ask, Queue, Contains-append_left, Said, Deal, Deal.Took, Deal.Found, Deal.Sent, deals_of, stored_traffic, cond, Call.Walks, Wanted}
 use Rattle.kept_promise.proofs.Lists.{some_is, nothing_there, within, of_replaced, of_appended, true_and_false}
 use Rattle.kept_promise.proofs.Keys.{own}
 use Rattle.kept_promise.proofs.Messages.{job, AllAsks, IsCommit, CommitOf, IsPending, Job, IsCreating, goal_word, IsGoing, WaitsFor, asked_word}
@@ -123,7 +123,7 @@ MadeAt past k = (p q : ℕ) (o : Op) → slice_get k.ops p ≡ Some o → o.word
 
 -- what an operation was before an event that gave a close its point, or none
 abbrev Came : Core → (p : ℕ) → Op → Type 0
-Came k p r = ((o : Op) × (slice_get k.ops p ≡ Some o) × AlikeUpTo k.steps o r × (o.word ≡ r.word) × (r.word ≡ words.Close → r.point ≡ o.point)) ⊎ (((p ≡ length k.ops) × (r.point ≡ None)) ⊎ ((o : Op) × (slice_get k.ops p ≡ Some o) × AlikeUpTo k.steps o r × (o.word ≡ words.Close) × Remembers k p))
+Came k p r = ((o : Op) × (slice_get k.ops p ≡ Some o) × AlikeUpTo k.steps o r × (o.word ≡ r.word) × (r.word ≡ words.Close → r.point ≡ o.point)) ⊎ (((p ≡ length k.ops) × ((r.point ≡ None) ⊎ (changes r.word ≡ false))) ⊎ ((o : Op) × (slice_get k.ops p ≡ Some o) × AlikeUpTo k.steps o r × (o.word ≡ words.Close) × Remembers k p))
 
 abbrev AllCame : Core → List Op → Type 0
 AllCame k ops = (p : ℕ) (r : Op) → slice_get ops p ≡ Some r → Came k p r
@@ -135,7 +135,7 @@ came_same k = λ p r at. inl (r, at, λ step i le. refl, refl, λ w. refl)
 close_point : (o : Op) (c : client.State) (taken : List TakenCall) (step : ℕ) (acts : ClientStep) → (op_after o c taken step acts).word ≡ words.Close → (op_after o c taken step acts).point ≡ o.point
 close_point o c taken step acts = by acts.ended
   where
-    word : (w : Word) (u : Outcome) (x : ℕ) → w ≡ words.Close → point_if (has_point w u) taken x o.point ≡ o.point
+    word : (w : Word) (u : Outcome) (x : ℕ) → w ≡ words.Close → point_if (has_point w u) taken x step o.point ≡ o.point
     word words.Open u x e = absurd (open_not_close e)
     word _ u x e = refl
 
@@ -164,7 +164,7 @@ came_event laws all past rest opening k qs e mid after s = by (ops_after_event l
     by : OpsAfter e k (happens k e).core.ops → AllCame k (happens k e).core.ops
     by (inl same) = subst (AllCame k) (sym same) (came_same k)
     by (inr (inl n)) = subst (AllCame k) (sym n.is) (λ p r at. elim (of_appended k.ops n.new p r at) [
-      | inl new ↦ inr (inl (new.0, ap (λ (z : Op). z.point) new.1 ∙ n.pointless))
+      | inl new ↦ inr (inl (new.0, subst (λ (z : Op). (z.point ≡ None) ⊎ (changes z.word ≡ false)) (sym new.1) n.quiet))
       | inr old ↦ came_same k p r old
     ])
     by (inr (inr (inl a))) = subst (AllCame k) (sym a.is) (came_acts (book_at opening k all) k qs a.index a.seat a.after (session_taken (session_of k.sessions a.seat.session)) a.acts s.kept a.here)
@@ -212,13 +212,16 @@ made_event laws all past rest opening k qs e mid after s h = λ p q r at close p
     subst (λ l. SentCommit r l) (sent_more past (moment k e)) (commit_more r (sent_of past) (sent_in (moment k e)) (elim (came_event laws all past rest opening k qs e mid after s p r at) [
       | inl was ↦ commit_kept k.steps was.0 r (sent_of past) was.2 h.counted.sent_by (h.made p q was.0 was.1 (was.3 ∙ close) (sym (was.4 close) ∙ point))
       | inr rest ↦ elim rest [
-        | inl none ↦ nothing_there q (sym none.1 ∙ point)
+        | inl none ↦ elim none.1 [ inl bare ↦ nothing_there q (sym bare ∙ point) | inr quiet ↦ absurd (true_not (sym (ap changes close) ∙ quiet)) ]
         | inr (o, there, alike, closes, from) ↦
             let w = also_numbered k.sessions qs from.0 from.2 s.kept.made.1 from.4 in
             let lt = within (own from.0 k.server.waiting) from.1 from.3 from.6 in
             commit_kept k.steps o r (sent_of past) alike h.counted.sent_by (waits_before (book_at opening k all) past k qs s.kept h.closes h.waits from.2.cut from.0 p from.2 w.0 o from.4 w.1 refl from.5 (omega (arith, lt)) there closes)
       ]
     ]))
+  where
+    true_not : true ≡ false → ⊥
+    true_not e = cc
 
 closes_carried : FitLaws → Carried (λ all past opening k qs. LogsAt ClosesBy CloseNamed past k)
 closes_carried laws = carried_logs (λ all. ClosesBy) (λ all. CloseNamed) closes_laws laws

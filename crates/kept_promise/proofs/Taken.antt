@@ -1,5 +1,5 @@
 -- Calls that were taken: what was told of them stays so when a further one is taken.
-use Rattle.std.proofs.Common.{inl, inr, ◌≡◌, ℕ, suc, ◌+◌, ◌≤◌, List, [], ◌∷◌, ◌++◌, Option, Some, None, Bool, true, false, refl, ap, ◌∙◌, arith, eq-eqb, ne_eqb, map}
+use Rattle.std.proofs.Common.{◌<◌, inl, inr, ◌≡◌, ℕ, suc, ◌+◌, ◌≤◌, List, [], ◌∷◌, ◌++◌, Option, Some, None, Bool, true, false, refl, ap, ◌∙◌, arith, eq-eqb, ne_eqb, map}
 use Rattle.std.specs.Option.{option_map}
 use Rattle.hash_calls.specs.declared.call.Leased.{Leased}
 use Rattle.client_state.specs.declared.task.Stage.TheVariants as stage
@@ -32,6 +32,15 @@ finds_last (v ∷ taken) floor t u le =
 pub under_more : (floor : ℕ) (taken : List TakenCall) (t : TakenCall) → AllUnder floor taken → floor ≤ t.xid → AllUnder (t.xid + 1) (taken ++ t ∷ [])
 under_more floor [] t u le = (omega arith, tt)
 under_more floor (v ∷ taken) t u le = let lt = u.0 in (omega (arith, lt, le), under_more floor taken t u.1 le)
+
+-- none has the number 0
+pub zero_last : (taken : List TakenCall) (t : TakenCall) → taken_at taken 0 ≡ None → 0 < t.xid → taken_at (taken ++ t ∷ []) 0 ≡ None
+zero_last [] t none some = ap (λ b. option_map (λ z. z.step) (cond b (Some t) None)) (ne_eqb t.xid 0 (λ e. omega (arith, e, some)))
+zero_last (v ∷ taken) t none some = by (v.xid == 0) none (λ e. zero_last taken t e some)
+  where
+    by : (b : Bool) → option_map (λ z. z.step) (cond b (Some v) (find (λ z. z.xid == 0) taken)) ≡ None → (taken_at taken 0 ≡ None → taken_at (taken ++ t ∷ []) 0 ≡ None) → option_map (λ z. z.step) (cond b (Some v) (find (λ z. z.xid == 0) (taken ++ t ∷ []))) ≡ None
+    by true e later = absurd cc
+    by false e later = later e
 
 -- ---- facts
 

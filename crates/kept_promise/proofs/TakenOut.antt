@@ -1,5 +1,5 @@
 -- A change that waits is taken out by a settling, wherever it stands: what is left of the others, and what the settling is.
-use Rattle.std.proofs.Common.{◌≡◌, ℕ, zero, suc, ◌+◌, ◌≤◌, List, [], ◌∷◌, ◌++◌, length, Some, None, Bool, true, false, refl, sym, ap, ◌∙◌, subst, arith, append-nil, eq-eqb, eqb-true, ne_eqb, replicate, drop}
+use Rattle.std.proofs.Common.{◌≡◌, ℕ, zero, suc, ◌+◌, ◌≤◌, List, [], ◌∷◌, ◌++◌, length, Option, Some, None, Bool, true, false, refl, sym, ap, ◌∙◌, subst, arith, append-nil, eq-eqb, eqb-true, ne_eqb, replicate}
 use Rattle.std.specs.Prelude.{remove}
 use Rattle.server_core.specs.State as server
 use Rattle.server_core.specs.Closing as closing
@@ -9,10 +9,9 @@ use Rattle.trace_ends.specs.Core.{newest_entries, changed_file, idles}
 use Rattle.callback_core.specs.Waits.{ready, without, without_made}
 use Rattle.server_core.specs.Closing.{ready_by}
 use Rattle.server_core.proofs.Ready.{ready_there}
-use Rattle.server_law.specs.Unleased.{makes_so, settles_so}
-use Rattle.server_law.proofs.Unleased.{ready_so, settles_is, without_first}
+use Rattle.server_core.specs.Closing.{makes_change}
 use Rattle.trace_replay.specs.OwnCalls.{others_waiting}
-use Rattle.kept_promise.proofs.Common.{slice_get, cond, ◌==◌, at, Change, ServerStep, Core, CoreStep, quiet, settles, settled_by, Book, Queue, later, nat_le, if◌then◌else◌, Event.Settles}
+use Rattle.kept_promise.proofs.Common.{slice_get, cond, not, ◌==◌, at, Change, ServerStep, Core, CoreStep, quiet, settles, settled_by, Book, Queue, later, nat_le, if◌then◌else◌, Event.Settles}
 use Rattle.kept_promise.proofs.Lists.{some_is, nothing_there}
 use Rattle.kept_promise.proofs.Keys.{own}
 use Rattle.kept_promise.proofs.Turns.{also_numbered}
@@ -31,6 +30,8 @@ pub record IsOut (waits : List Change) (c : Change) (rest : List Change) : Type 
   pub none : own c.session rest ≡ []
   pub apart : (n : ℕ) → (n ≡ c.session → ⊥) → own n rest ≡ own n waits
   -- what it needs is left by those that wait
+  -- it is they, in order
+  pub left : rest ≡ remove waits place
   pub entries : server.entries_held waits ≡ server.entries_wanted c.what + server.entries_held rest
   pub bytes : server.waiting_size waits ≡ server.size_wanted c.what + server.waiting_size rest
 
@@ -99,6 +100,7 @@ out_at waits k c at one =
       mine = the_one (own c.session waits) its.0 c its.1 one;
       none = no_more (own c.session (remove waits k)) (omega (arith, less, one));
       apart = λ n far. removed_apart waits k n c at far;
+      left = refl;
       entries = needs.0;
       bytes = needs.1;
     }
@@ -109,24 +111,21 @@ out_at waits k c at one =
 abbrev pub settled_to : Core → server.State × ServerStep → CoreStep
 settled_to k r = record (quiet (record k { steps = k.steps + 1; server = r.0; ops = settled_by k (changed_file (newest_entries r.0.journal r.1.entries)) r.1.told; entries = k.entries ++ replicate r.1.entries (k.steps + 1) })) { down = r.1.send }
 
-pub made_waiting : (s : server.State) (c : Change) (w : Wanted) → (makes_so s false c w).0.waiting ≡ s.waiting
+pub made_waiting : (s : server.State) (c : Change) (w : Wanted) → (makes_change s c w).0.waiting ≡ s.waiting
 made_waiting s c (wanted.Content content) = refl
 made_waiting s c (wanted.Asked a) = refl
 
 pub record SettlesOut (k : Core) (now : ℕ) (c : Change) (rest : List Change) : Type 0 where
   pub out : IsOut k.server.waiting c rest
-  pub is : settles k now ≡ settled_to k (makes_so (at (record k.server { waiting = rest }) now) false c c.what)
+  pub is : settles k now ≡ settled_to k (makes_change (at (record k.server { waiting = rest }) now) c c.what)
   -- it's the one that the promise names, and so are the others
   pub ready : ready_by k.server now ≡ Some c
   pub others : others_waiting (Settles now) k.server ≡ rest
-  -- no lease holds it up, so it came first
-  pub first : slice_get k.server.waiting 0 ≡ Some c
-  pub dropped : drop 1 k.server.waiting ≡ rest
 
--- a change is settled, or none waits
+-- a change is settled, or none is ready
 pub data WhatSettles (k : Core) (now : ℕ) : Type 0 where
   settles_one : (c : Change) (rest : List Change) → SettlesOut k now c rest → WhatSettles k now
-  settles_none : slice_get k.server.waiting 0 ≡ None → settles k now ≡ idles k → WhatSettles k now
+  settles_none : ready_by k.server now ≡ None → settles k now ≡ idles k → WhatSettles k now
 
 -- what is ready waits
 pub ready_waits : (s : server.State) (now : ℕ) (c : Change) → ready_by s now ≡ Some c → (i : ℕ) × (slice_get s.waiting i ≡ Some c)
@@ -136,32 +135,54 @@ ready_waits s now c is = by (nat_le s.leasing.quiet (later s.leasing now).moment
     by true e = ready_there s.leasing.leases (later s.leasing now).moment s.waiting c e
     by false e = nothing_there c e
 
-pub what_settles : (book : Book) (k : Core) (qs : List Queue) (now : ℕ) → IsKept book k qs → WhatSettles k now
-what_settles book k qs now kept = by k.server.waiting refl
+-- where its session has no other, it is that which is taken out
+without_none : (n : ℕ) (ws : List Change) → own n ws ≡ [] → without ws n ≡ ws
+without_none n [] none = refl
+without_none n (w ∷ ws) none = by (w.session == n) none (without_none n ws)
   where
-    single : (c : Change) → slice_get k.server.waiting 0 ≡ Some c → length (own c.session k.server.waiting) ≤ 1
-    single c first =
-        let home = kept.home 0 c first in
+    some_none : {A : Type 0} {x : A} {xs : List A} → x ∷ xs ≡ [] → ⊥
+    some_none e = absurd cc
+
+    by : (b : Bool) → cond b (w ∷ own n ws) (own n ws) ≡ [] → (own n ws ≡ [] → without ws n ≡ ws) → cond (not b) (w ∷ without ws n) (without ws n) ≡ w ∷ ws
+    by true none later = absurd (some_none none)
+    by false none later = ap (λ (l : List Change). w ∷ l) (later none)
+
+without_removed : (waits : List Change) (k : ℕ) (c : Change) → slice_get waits k ≡ Some c → length (own c.session waits) ≤ 1 → without waits c.session ≡ remove waits k
+without_removed [] k c at one = nothing_there c at
+without_removed (w ∷ ws) zero c at one =
+    let its : (w.session == c.session) ≡ true = eq-eqb w.session c.session (ap (λ (z : Change). z.session) (some_is w c at)) in
+    let count = ap (λ (b : Bool). length (cond b (w ∷ own c.session ws) (own c.session ws))) its in
+    ap (λ (b : Bool). cond (not b) (w ∷ without ws c.session) (without ws c.session)) its ∙ without_none c.session ws (no_more (own c.session ws) (omega (arith, one, count)))
+without_removed (w ∷ ws) (suc k) c at one = by (w.session == c.session) one (without_removed ws k c at)
+  where
+    its : length (own c.session ws) ≡ suc (length (own c.session (remove ws k)))
+    its = removed_own ws k c.session c at refl
+
+    by : (b : Bool) → length (cond b (w ∷ own c.session ws) (own c.session ws)) ≤ 1 → (length (own c.session ws) ≤ 1 → without ws c.session ≡ remove ws k) → cond (not b) (w ∷ without ws c.session) (without ws c.session) ≡ w ∷ remove ws k
+    by true one later = let z = its in absurd (omega (arith, one, z))
+    by false one later = ap (λ (l : List Change). w ∷ l) (later one)
+
+pub what_settles : (book : Book) (k : Core) (qs : List Queue) (now : ℕ) → IsKept book k qs → WhatSettles k now
+what_settles book k qs now kept = by (ready_by k.server now) refl
+  where
+    single : (i : ℕ) (c : Change) → slice_get k.server.waiting i ≡ Some c → length (own c.session k.server.waiting) ≤ 1
+    single i c at =
+        let home = kept.home i c at in
         let q = also_numbered k.sessions qs c.session home.0 kept.made.1 home.1 in
         let one = (kept.sessions c.session home.0 q.0 home.1 q.1).single in
         omega (arith, one)
 
-    settles_as : (waits : List Change) → k.server.waiting ≡ waits → closing.settles k.server now ≡ settles_so k.server false now waits
-    settles_as waits e =
-        settles_is k.server false now kept.server.leases (λ c cs at. single c (ap (λ (l : List Change). slice_get l 0) at))
-        ∙ ap (λ (l : List Change). settles_so k.server false now l) e
+    settles_as : (o : Option Change) → ready_by k.server now ≡ o → closing.settles k.server now ≡ closing.settles_by k.server false now o
+    settles_as o e = ap (closing.settles_by k.server false now) e
 
-    by : (waits : List Change) → k.server.waiting ≡ waits → WhatSettles k now
-    by [] e = settles_none (ap (λ (l : List Change). slice_get l 0) e) (ap (settled_to k) (settles_as [] e) ∙ ap (λ (l : List ℕ). quiet (record k { steps = k.steps + 1; entries = l })) (append-nil k.entries))
-    by (c ∷ cs) e =
-        let first : slice_get k.server.waiting 0 ≡ Some c = ap (λ (l : List Change). slice_get l 0) e in
-        let one = single c first in
-        let ready : ready_by k.server now ≡ Some c = ap (λ (l : List Change). ready_by (record k.server { waiting = l }) now) e ∙ ready_so (record k.server { waiting = c ∷ cs }) kept.server.leases now in
-        settles_one c cs (record {
-          out = subst (λ (l : List Change). IsOut k.server.waiting c l) (ap (λ (l : List Change). remove l 0) e) (out_at k.server.waiting 0 c first one);
-          is = ap (settled_to k) (settles_as (c ∷ cs) e);
-          ready = ready;
-          others = ap (without_made k.server.waiting) ready ∙ ap (λ (l : List Change). without l c.session) e ∙ without_first c cs (subst (λ (l : List Change). length (own c.session l) ≤ 1) e one);
-          first = first;
-          dropped = ap (drop 1) e;
+    by : (o : Option Change) → ready_by k.server now ≡ o → WhatSettles k now
+    by None e = settles_none e (ap (settled_to k) (settles_as None e) ∙ ap (λ (l : List ℕ). quiet (record k { steps = k.steps + 1; entries = l })) (append-nil k.entries))
+    by (Some c) e =
+        let there = ready_waits k.server now c e in
+        let one = single there.0 c there.1 in
+        settles_one c (without k.server.waiting c.session) (record {
+          out = subst (λ (l : List Change). IsOut k.server.waiting c l) (sym (without_removed k.server.waiting there.0 c there.1 one)) (out_at k.server.waiting there.0 c there.1 one);
+          is = ap (settled_to k) (settles_as (Some c) e);
+          ready = e;
+          others = ap (without_made k.server.waiting) e;
         })

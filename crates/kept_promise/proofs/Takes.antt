@@ -13,12 +13,12 @@ use Rattle.kept_promise.proofs.Messages.{job, AllAsks, Rising, IsAsked, AnswerOf
 use Rattle.kept_promise.proofs.Growth.{Grows, or_later, value_alike, version_alike, there_later}
 use Rattle.kept_promise.proofs.History.{Still, onward, grows_same, goes_same, still_same, Goes}
 use Rattle.kept_promise.proofs.Later.{answer_later, has_fetch_later, commit_later, close_later, waits_later, seat_later, Stays, Spares, pieces_later, parts_later}
-use Rattle.kept_promise.proofs.Taken.{finds_more, under_more, answer_found, has_fetch_found, times_map_append}
+use Rattle.kept_promise.proofs.Taken.{zero_last, finds_more, under_more, answer_found, has_fetch_found, times_map_append}
 use Rattle.kept_promise.proofs.Turns.{Around, around_same, turned_core, kept_turn}
 use Rattle.kept_promise.proofs.Shelf.{IsShelf}
 use Rattle.kept_promise.proofs.Orderly.{locals_of, Wanted, Held, Orderly}
 use Rattle.kept_promise.proofs.Ordered.{SameFound, orderly_answered}
-use Rattle.kept_promise.proofs.Facts.{IsValue, FileIs, GrantsNone, IsServer, IsTalk, IsSession, IsKept, commits_in}
+use Rattle.kept_promise.proofs.Facts.{IsValue, FileIs, HasTerm, IsServer, IsTalk, IsSession, IsKept, commits_in}
 use Rattle.kept_promise.proofs.Unused.{IsUnused}
 
 -- ---- the tree, where no file changes
@@ -34,7 +34,7 @@ file_still book more made ended f (Some g) grows still h = (h.0, h.1, h.2, value
 pub fresh_still : (book more : Book) (made ended : Option ℕ) (t : Tree) → Grows book more made ended → Still book more → ((f : ℕ) → IsUnused t f → version_at book f (book.steps + 1) ≡ 0) → (f : ℕ) → IsUnused t f → version_at more f (more.steps + 1) ≡ 0
 fresh_still book more made ended t grows still h f le = version_alike book more f (more.steps + 1) (book.steps + 1) grows.opening (still f) ∙ h f le
 
-pub server_still : (book more : Book) (made ended : Option ℕ) (s : server.State) (leasing : Leasing) (temps : List (ℕ × Temp)) (index : Indexed) → GrantsNone leasing → Grows book more made ended → Still book more → IsServer book s → IsServer more (record s { leasing = leasing; temps = temps; index = index })
+pub server_still : (book more : Book) (made ended : Option ℕ) (s : server.State) (leasing : Leasing) (temps : List (ℕ × Temp)) (index : Indexed) → HasTerm leasing → Grows book more made ended → Still book more → IsServer book s → IsServer more (record s { leasing = leasing; temps = temps; index = index })
 server_still book more made ended s leasing temps index leases grows still h = record { held = λ f. file_still book more made ended f (the_files.file_at s.tree f) grows still (h.held f); fresh = fresh_still book more made ended s.tree grows still h.fresh; bounded = h.bounded; zero = h.zero; rooted = h.rooted; wants = h.wants; changes = h.changes; bytes = h.bytes; lengths = h.lengths; targets = λ i c e. there_later book more made ended c.file grows (h.targets i c e); xids = h.xids; leases = leases }
 
 -- ---- a session that took a call
@@ -96,7 +96,7 @@ pub kept_taken : (book more : Book) (k : Core) (qs : List Queue) (n : ℕ) (leas
     → (kept : IsKept book k qs) → (at : numbered k.sessions n ≡ Some x) → (is : numbered qs n ≡ Some q) → q.ups ≡ a ∷ us → x.hung ≡ false
     → Around k.sessions sessions n (took x a.xid (book.steps + 1)) → Around qs after n (put_down q us x.cut (record { xid = a.xid; reply = r }))
     → Shows book more k n x q a us (left_server k.server leasing tree journal temps index) r made (kept.sessions n x q at is) → Leaves book k n x q temps (kept.sessions n x q at is)
-    → IsKept more (turned_core more (left_server k.server leasing tree journal temps index) k.seats sessions) after
+    → IsKept more (turned_core k more (left_server k.server leasing tree journal temps index) k.seats sessions) after
 kept_taken book more k qs n leasing tree journal temps index x q a us r made sessions after kept at is e unhung around queues shows leaves =
     let h = kept.sessions n x q at is in
     let s = left_server k.server leasing tree journal temps index in
@@ -178,6 +178,7 @@ kept_taken book more k qs n leasing tree journal temps index x q a us r made ses
           floor = a.xid + 1;
           under = under_more talk.floor x.taken z talk.under rising.0;
           rising = rising.1;
+          numbered = (omega arith, zero_last x.taken z talk.numbered.1 (let some = talk.numbered.0 in let le = rising.0 in omega (arith, some, le)));
           asked = (subst (AllAsks (IsAsked (job h.seat))) e talk.asked).1;
           answers = all_append (IsAnswer more (x.taken ++ z ∷ []) x.closing (job h.seat)) q.downs (t ∷ []) (shows.answers uncut) (shows.answer uncut, tt);
           fetch = has_fetch_found more x.taken (x.taken ++ z ∷ []) (job h.seat) finds (has_fetch_later book more made None x.taken (job h.seat) g talk.fetch);
@@ -207,10 +208,10 @@ pub record Answers (book : Book) (k : Core) (n : ℕ) (x : Session) (q : Queue) 
   pub others : (o i m : ℕ) (e : ℕ × Temp) → (o ≡ n → ⊥) → m < 4294967296 → slice_get temps i ≡ Some e → e.0 ≡ key_of o m → (j : ℕ) × (slice_get k.server.temps j ≡ Some e)
 
 pub kept_reply : (book : Book) (k : Core) (qs : List Queue) (n : ℕ) (leasing : Leasing) (x : Session) (q : Queue) (a : Ask) (us : List Ask) (temps : List (ℕ × Temp)) (index : Indexed) (r : Reply) (sessions : List Session) (after : List Queue)
-    → GrantsNone leasing → (kept : IsKept book k qs) → (at : numbered k.sessions n ≡ Some x) → (is : numbered qs n ≡ Some q) → q.ups ≡ a ∷ us → x.hung ≡ false
+    → HasTerm leasing → (kept : IsKept book k qs) → (at : numbered k.sessions n ≡ Some x) → (is : numbered qs n ≡ Some q) → q.ups ≡ a ∷ us → x.hung ≡ false
     → Around k.sessions sessions n (took x a.xid (book.steps + 1)) → Around qs after n (put_down q us x.cut (record { xid = a.xid; reply = r }))
     → Answers book k n x q a temps r (kept.sessions n x q at is)
-    → IsKept (onward book 1 book.ops) (turned_core (onward book 1 book.ops) (record k.server { leasing = leasing; temps = temps; index = index }) k.seats sessions) after
+    → IsKept (onward book 1 book.ops) (turned_core k (onward book 1 book.ops) (record k.server { leasing = leasing; temps = temps; index = index }) k.seats sessions) after
 kept_reply book k qs n leasing x q a us temps index r sessions after leases kept at is e unhung around queues shows =
     let h = kept.sessions n x q at is in
     let more = onward book 1 book.ops in

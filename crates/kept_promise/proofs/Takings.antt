@@ -3,7 +3,8 @@ use Rattle.std.proofs.Common.{◌≡◌, ℕ, zero, suc, ◌<◌, ◌≤◌, Lis
 use Rattle.client_state.specs.State as client
 use Rattle.client_state.specs.declared.task.Stage.TheVariants as stage
 use Rattle.client_state.specs.declared.task.Way.TheVariants as way
-use Rattle.kept_promise.proofs.Common.{slice_get, Contains, Chunk, Answer, Done, Failed, Attr, Committed, Piece, Body, Pending, has_call, store_pending, read_pending, store_at, answered, read_at, idle, took, told_way, told_stored, Fetch, ReadCall, Stage, Store, StoreCall, Way, Core, Session, hashed_of, Book, Reply, Reply.Bytes, Reply.Changed, Told, Queue, reply_body, reply_program}
+use Rattle.kept_promise.proofs.Common.{slice_get, Contains, Chunk, Answer, Done, Failed, Attr, Committed, Piece, Body, Pending, has_call, store_pending, read_pending, store_at, answered, read_at, idle, told_way, told_stored, Fetch, ReadCall, Stage, Store, StoreCall, Way, Core, Session, hashed_of, Book, Reply, Reply.Bytes, Reply.Changed, Told, Queue, reply_body, reply_program}
+use Rattle.open_close.specs.Step.{takes}
 use Rattle.kept_promise.proofs.Lists.{some_is, nothing_there, there_at}
 use Rattle.kept_promise.proofs.Keys.{times, code_of}
 use Rattle.kept_promise.proofs.Messages.{Job, AnswerOf, FetchOf, IsFetch, IsReading, CloseOf, read_chunk, chunk_for, stage_word}
@@ -38,7 +39,7 @@ single p zero t e = some_is p (told_pending t) e
 single p (suc i) t e = nothing_there (told_pending t) e
 
 abbrev Took : (book : Book) (k : Core) (qs : List Queue) (n : ℕ) (x : Session) (q : Queue) (t : Told) (ts : List Told) (j : Job) → Here book k qs n x q t ts j → Stage → Body → Type 0
-Took book k qs n x q t ts j g s b = Makes book k qs n x q t ts j g (took (idle (client_at book k qs n x q t ts j g)) (client.calls_of (client_at book k qs n x q t ts j g)) j.file s t.xid b)
+Took book k qs n x q t ts j g s b = Makes book k qs n x q t ts j g (takes (idle (client_at book k qs n x q t ts j g)) (client.calls_of (client_at book k qs n x q t ts j g)) j.file s t.xid b)
 
 -- bytes of a READ that have their chunk's length are noted, where this is the READ of that chunk
 abbrev pub Noted : (book : Book) (t : Told) (f : Fetch) → Type 0

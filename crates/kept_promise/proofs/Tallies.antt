@@ -2,6 +2,10 @@
 use Rattle.std.proofs.Common.{◌⊎◌, inl, inr, ◌≡◌, ℕ, ◌+◌, ◌-◌, List, [], ◌∷◌, ◌++◌, length, Option, Some, None, Result, Ok, Err, Bool, true, false, refl, sym, ap, ◌∙◌, subst, arith}
 use Rattle.nfs3_calls.specs.declared.message.Nfs.TheVariants as nfs
 use Rattle.wire.specs.declared.message.Body.TheVariants as body
+use Rattle.hash_calls.specs.declared.message.Back.{Back}
+use Rattle.hash_calls.specs.declared.message.Back.TheVariants as back
+use Rattle.client_state.specs.Noting.{at as clocked}
+use Rattle.open_close.specs.Step.{called, called_back}
 use Rattle.wire.specs.declared.message.Message.TheVariants as message
 use Rattle.wire.specs.declared.message.RpcRefusal.TheVariants as refusal
 use Rattle.kept_promise.proofs.Common.{Chunk, Done, Body, Message, Pending, RpcRefusal, WireFault, cond_call, commit_call, names_from, names_all, calls_most, read_call, reads_chunk, reads_from, State, local_bytes, pending, calls_of, has_call, idle, denied, took, drops, took_if, denied_if, got_message, got_fault, got_step, Reads, ClientStep, Counts, Fetch, Stage, Store, Task, Traffic, no_traffic, wanted_if, wanted_by, sent_traffic, taken_traffic, both}
@@ -183,7 +187,9 @@ walk_answer s calls file y w x b = walk_cases (Tallies (bytes_came x b)) s calls
   open_already = λ id k is. let z = came (walk_told_as.Finds id) k in inl (record { cond = refl; tmp = refl; read = refl; data_is = omega (arith, z) });
   fetches = λ id k shut none. let z = came (walk_told_as.Finds id) k in inl (record { cond = refl; tmp = refl; read = refl; data_is = omega (arith, z) });
   leases = λ id c k shut some. let z = came (walk_told_as.Finds id) k in inl (record { cond = refl; tmp = refl; read = refl; data_is = omega (arith, z) });
+  opens_now = λ id c k shut fresh. let z = came (walk_told_as.Finds id) k in inl (record { cond = refl; tmp = refl; read = refl; data_is = omega (arith, z) });
   renew_already = λ id k is. let z = came (walk_told_as.Rewrites id) k in inl (record { cond = refl; tmp = refl; read = refl; data_is = omega (arith, z) });
+  empties_now = λ id c k shut fresh. let z = came (walk_told_as.Rewrites id) k in inl (record { cond = refl; tmp = refl; read = refl; data_is = omega (arith, z) });
   renews = λ id k shut. let z = came (walk_told_as.Rewrites id) k in inl (record { cond = refl; tmp = refl; read = refl; data_is = omega (arith, z) });
   ends = λ v e k is. let z = came (walk_told_as.Ends e) k in inl (record { cond = refl; tmp = refl; read = refl; data_is = omega (arith, z) });
 })
@@ -193,7 +199,7 @@ walk_answer s calls file y w x b = walk_cases (Tallies (bytes_came x b)) s calls
 
 tally_took : (s : State) (calls : List Pending) (file : ℕ) (st : Stage) (x : ℕ) (b : Body) → Tallies (bytes_came x b) (took s calls file st x b)
 tally_took s calls file (stage.Walking y w) x b = walk_answer s calls file y w x b
-tally_took s calls file st x b = took_cases (λ found r. Tallies (bytes_came x b) r) s calls file st x b tt (tally_cases s calls file st x b)
+tally_took s calls file st x b = took_cases (λ found r. Tallies (bytes_came x b) r) s calls file st x b tt (λ found r g until lease is h. h) (tally_cases s calls file st x b)
 
 tally_answer : (s : State) (task : Option Task) (xid : ℕ) (b : Body) → Tallies (taken_sum (wanted_if (has_call (pending task) xid) (message.Answer xid b))).«data» (took_if s task xid b (has_call (pending task) xid))
 tally_answer s None xid b = tally_drops s None xid (has_call s.forgotten xid)
@@ -218,13 +224,23 @@ tally_denied s None xid r own = tally_drops s None xid (has_call s.forgotten xid
 tally_message : (s : State) (m : Message) → Tallies (taken_sum (wanted_by s (Ok m))).«data» (got_message s s.task m)
 tally_message s (message.Answer xid b) = tally_answer s s.task xid b
 tally_message s (message.Refuse xid r) = tally_denied s s.task xid r (has_call (pending s.task) xid)
-tally_message s _ = inl (record { cond = refl; tmp = refl; read = refl; data_is = refl })
+tally_message s (message.Unfit xid r) = inl (record { cond = refl; tmp = refl; read = refl; data_is = refl })
+tally_message s (message.Call xid b) = by b
+  where
+    back_by : (c : Back) → Tallies 0 (called_back s xid c)
+    back_by (back.Recall handle) = inl (record { cond = refl; tmp = refl; read = refl; data_is = refl })
+    back_by back.Null = inl (record { cond = refl; tmp = refl; read = refl; data_is = refl })
+    back_by c = inl (record { cond = refl; tmp = refl; read = refl; data_is = refl })
+
+    by : (c : Body) → Tallies 0 (called s xid c)
+    by (body.Back c) = back_by c
+    by c = inl (record { cond = refl; tmp = refl; read = refl; data_is = refl })
 
 -- whatever comes to a client
 pub tally_got : (s : State) (m : Result Message WireFault) (now : ℕ) → Tallies (taken_sum (wanted_by s m)).«data» (got_step s m now)
-tally_got s (Ok m) now = tally_message s m
+tally_got s (Ok m) now = tally_message (clocked s now) m
 tally_got s (Err e) now = by s.task
   where
-    by : (task : Option Task) → Tallies 0 (got_fault s task e)
+    by : (task : Option Task) → Tallies 0 (got_fault (clocked s now) task e)
     by (Some t) = inr (_, refl)
     by None = inl (record { cond = refl; tmp = refl; read = refl; data_is = refl })

@@ -190,22 +190,22 @@ gone_told book k qs n x q a f us c j kept was talk e is same none =
 
 -- ---- a GETLEASE
 
-abbrev pub lease_reply : Tree → (f : ℕ) → Reply
-lease_reply t f = Versioned (lease_answer 0 (node_of t (handle_bytes f)))
+abbrev pub lease_reply : (term : ℕ) → Tree → (f : ℕ) → Reply
+lease_reply term t f = Versioned (lease_answer term (node_of t (handle_bytes f)))
 
-pub lease_reply_fits : FitLaws → (book : Book) (s : server.State) (xid f : ℕ) → IsServer book s → xid < 4294967296 → f < 18446744073709551616 → MessageFits (told_message (record { xid = xid; reply = lease_reply s.tree f }))
-lease_reply_fits laws book s xid f h x lt = by (looked s.tree f lt)
+pub lease_reply_fits : FitLaws → (book : Book) (s : server.State) (xid term f : ℕ) → IsServer book s → xid < 4294967296 → term < 4294967296 → f < 18446744073709551616 → MessageFits (told_message (record { xid = xid; reply = lease_reply term s.tree f }))
+lease_reply_fits laws book s xid term f h x leased lt = by (looked s.tree f lt)
   where
-    by : Found s.tree f → MessageFits (told_message (record { xid = xid; reply = lease_reply s.tree f }))
-    by (is_directory z there none e) = subst (λ (node : Result Node Status). MessageFits (told_message (record { xid = xid; reply = Versioned (lease_answer 0 node) }))) (sym e) (laws.plain xid (Versioned (Failed status.IsDir tt)) x tt)
-    by (is_gone none e) = subst (λ (node : Result Node Status). MessageFits (told_message (record { xid = xid; reply = Versioned (lease_answer 0 node) }))) (sym e) (laws.plain xid (Versioned (Failed status.Stale tt)) x tt)
+    by : Found s.tree f → MessageFits (told_message (record { xid = xid; reply = lease_reply term s.tree f }))
+    by (is_directory z there none e) = subst (λ (node : Result Node Status). MessageFits (told_message (record { xid = xid; reply = Versioned (lease_answer term node) }))) (sym e) (laws.plain xid (Versioned (Failed status.IsDir tt)) x tt)
+    by (is_gone none e) = subst (λ (node : Result Node Status). MessageFits (told_message (record { xid = xid; reply = Versioned (lease_answer term node) }))) (sym e) (laws.plain xid (Versioned (Failed status.Stale tt)) x tt)
     by (is_file g at e) =
         let b = subst (FileIs book f) at (h.held f) in
         let v = (file_bounded s.tree f g h.bounded at).0 in
         let c = h.changes in
         let id = b.0 in
         let small = b.2 in
-        subst (λ (node : Result Node Status). MessageFits (told_message (record { xid = xid; reply = Versioned (lease_answer 0 node) }))) (sym e) (laws.leases xid g x (omega (arith, id, small), omega (arith, v, c), b.5))
+        subst (λ (node : Result Node Status). MessageFits (told_message (record { xid = xid; reply = Versioned (lease_answer term node) }))) (sym e) (laws.leases xid term g x leased (omega (arith, id, small), omega (arith, v, c), b.5))
 
 -- the call that waits where a GETLEASE does
 lease_waits : (st : Stage) (x : ℕ) → lease_xid st ≡ Some x → client.pending_in st ≡ client.lb_pending lb_proc.GetLease x
@@ -213,19 +213,19 @@ lease_waits (stage.Asking y) x e = ap (client.lb_pending lb_proc.GetLease) (some
 lease_waits (stage.Rewriting y) x e = ap (client.lb_pending lb_proc.GetLease) (some_is y x e)
 lease_waits _ x e = nothing_there x e
 
-pub lease_told : FitLaws → (book : Book) (k : Core) (qs : List Queue) (n now : ℕ) (x : Session) (q : Queue) (xid f : ℕ) (us : List Ask) (c : Seat) → IsKept book k qs → numbered k.seats x.owner ≡ Some c → c.session ≡ Some n → IsTalk book n k.server.waiting x q c → q.ups ≡ record { xid = xid; call = Lease f } ∷ us → CallFits xid (Lease f)
-    → IsNoted book k (Serves n now (message_spell (ask_message (record { xid = xid; call = Lease f })))) → AnswerOf (onward book 1 book.ops) (with_taken x xid (book.steps + 1)) x.closing (job c) xid (lease_reply k.server.tree f)
-lease_told laws book k qs n now x q xid f us c kept was here talk e fits noted = λ j is at. by j is at ((subst (AllAsks (IsAsked (job c))) e talk.asked).0 j is at) (looked k.server.tree f fits.1)
+pub lease_told : FitLaws → (book : Book) (k : Core) (qs : List Queue) (n now : ℕ) (x : Session) (q : Queue) (xid term f : ℕ) (us : List Ask) (c : Seat) → IsKept book k qs → numbered k.seats x.owner ≡ Some c → c.session ≡ Some n → IsTalk book n k.server.waiting x q c → q.ups ≡ record { xid = xid; call = Lease f } ∷ us → CallFits xid (Lease f)
+    → IsNoted book k (Serves n now (message_spell (ask_message (record { xid = xid; call = Lease f })))) → AnswerOf (onward book 1 book.ops) (with_taken x xid (book.steps + 1)) x.closing (job c) xid (lease_reply term k.server.tree f)
+lease_told laws book k qs n now x q xid term f us c kept was here talk e fits noted = λ j is at. by j is at ((subst (AllAsks (IsAsked (job c))) e talk.asked).0 j is at) (looked k.server.tree f fits.1)
   where
     a : Ask
     a = record { xid = xid; call = Lease f }
 
-    by : (j : Job) → job c ≡ Some j → lease_xid j.stage ≡ Some xid → j.file ≡ f → Found k.server.tree f → LeaseTold (onward book 1 book.ops) (with_taken x xid (book.steps + 1)) j xid (lease_answer 0 (node_of k.server.tree (handle_bytes f)))
-    by j is asks same (is_directory d there none at) = subst (λ (node : Result Node Status). LeaseTold (onward book 1 book.ops) (with_taken x xid (book.steps + 1)) j xid (lease_answer 0 node)) (sym at) (directory_told book k qs n now x q a f us c j d kept was talk e is noted same there)
-    by j is asks same (is_gone none at) = subst (λ (node : Result Node Status). LeaseTold (onward book 1 book.ops) (with_taken x xid (book.steps + 1)) j xid (lease_answer 0 node)) (sym at) (gone_told book k qs n x q a f us c j kept was talk e is same none)
+    by : (j : Job) → job c ≡ Some j → lease_xid j.stage ≡ Some xid → j.file ≡ f → Found k.server.tree f → LeaseTold (onward book 1 book.ops) (with_taken x xid (book.steps + 1)) j xid (lease_answer term (node_of k.server.tree (handle_bytes f)))
+    by j is asks same (is_directory d there none at) = subst (λ (node : Result Node Status). LeaseTold (onward book 1 book.ops) (with_taken x xid (book.steps + 1)) j xid (lease_answer term node)) (sym at) (directory_told book k qs n now x q a f us c j d kept was talk e is noted same there)
+    by j is asks same (is_gone none at) = subst (λ (node : Result Node Status). LeaseTold (onward book 1 book.ops) (with_taken x xid (book.steps + 1)) j xid (lease_answer term node)) (sym at) (gone_told book k qs n x q a f us c j kept was talk e is same none)
     by j is asks same (is_file g there at) =
         let held = subst (FileIs book f) there (kept.server.held f) in
-        let shown : IsLeased (onward book 1 book.ops) (with_taken x xid (book.steps + 1)) j xid (leased_of 0 g) = record {
+        let shown : IsLeased (onward book 1 book.ops) (with_taken x xid (book.steps + 1)) j xid (leased_of term g) = record {
           value = held.3.value;
           told = told_now book k qs n x q a us c j (Some held.3.value) g.version kept was talk e is (ap (λ (i : ℕ). value_at book i (book.steps + 1)) same ∙ held.3.is) (ap (λ (i : ℕ). version_at book i (book.steps + 1)) same ∙ held.4);
           call = (
@@ -242,7 +242,7 @@ lease_told laws book k qs n now x q xid f us c kept was here talk e fits noted =
               );
           known = there_later book (onward book 1 book.ops) None None j.file (grows_same book 1) (subst (λ (i : ℕ). WasThere book i) (sym same) (is_there book f g held));
         } in
-        subst (λ (node : Result Node Status). LeaseTold (onward book 1 book.ops) (with_taken x xid (book.steps + 1)) j xid (lease_answer 0 node)) (sym at) shown
+        subst (λ (node : Result Node Status). LeaseTold (onward book 1 book.ops) (with_taken x xid (book.steps + 1)) j xid (lease_answer term node)) (sym at) shown
 
 -- ---- a walk's call
 
@@ -326,26 +326,26 @@ walk_told book k qs n now x q xid w us c kept was here talk e fits none noted se
 abbrev pub hash_range : (f offset : ℕ) → HashRange
 hash_range f offset = record { handle = handle_bytes f; offset = offset; count = 4294967295 }
 
-abbrev pub hash_reply : Tree → (f offset : ℕ) → Reply
-hash_reply t f offset = Hashed (hash_answer 0 (node_of t (handle_bytes f)) (hash_range f offset))
+abbrev pub hash_reply : (term : ℕ) → Tree → (f offset : ℕ) → Reply
+hash_reply term t f offset = Hashed (hash_answer term (node_of t (handle_bytes f)) (hash_range f offset))
 
-pub hash_reply_fits : FitLaws → (book : Book) (s : server.State) (xid f offset : ℕ) → IsServer book s → xid < 4294967296 → f < 18446744073709551616 → MessageFits (told_message (record { xid = xid; reply = hash_reply s.tree f offset }))
-hash_reply_fits laws book s xid f offset h x lt = by (looked s.tree f lt)
+pub hash_reply_fits : FitLaws → (book : Book) (s : server.State) (xid term f offset : ℕ) → IsServer book s → xid < 4294967296 → term < 4294967296 → f < 18446744073709551616 → MessageFits (told_message (record { xid = xid; reply = hash_reply term s.tree f offset }))
+hash_reply_fits laws book s xid term f offset h x leased lt = by (looked s.tree f lt)
   where
-    by : Found s.tree f → MessageFits (told_message (record { xid = xid; reply = hash_reply s.tree f offset }))
-    by (is_directory z there none e) = subst (λ (node : Result Node Status). MessageFits (told_message (record { xid = xid; reply = Hashed (hash_answer 0 node (hash_range f offset)) }))) (sym e) (laws.plain xid (Hashed (Failed status.IsDir tt)) x tt)
-    by (is_gone none e) = subst (λ (node : Result Node Status). MessageFits (told_message (record { xid = xid; reply = Hashed (hash_answer 0 node (hash_range f offset)) }))) (sym e) (laws.plain xid (Hashed (Failed status.Stale tt)) x tt)
+    by : Found s.tree f → MessageFits (told_message (record { xid = xid; reply = hash_reply term s.tree f offset }))
+    by (is_directory z there none e) = subst (λ (node : Result Node Status). MessageFits (told_message (record { xid = xid; reply = Hashed (hash_answer term node (hash_range f offset)) }))) (sym e) (laws.plain xid (Hashed (Failed status.IsDir tt)) x tt)
+    by (is_gone none e) = subst (λ (node : Result Node Status). MessageFits (told_message (record { xid = xid; reply = Hashed (hash_answer term node (hash_range f offset)) }))) (sym e) (laws.plain xid (Hashed (Failed status.Stale tt)) x tt)
     by (is_file g at e) =
         let b = subst (FileIs book f) at (h.held f) in
         let v = (file_bounded s.tree f g h.bounded at).0 in
         let c = h.changes in
         let id = b.0 in
         let small = b.2 in
-        subst (λ (node : Result Node Status). MessageFits (told_message (record { xid = xid; reply = Hashed (hash_answer 0 node (hash_range f offset)) }))) (sym e) (laws.hashes xid g (handle_bytes f) offset x (omega (arith, id, small), omega (arith, v, c), b.5))
+        subst (λ (node : Result Node Status). MessageFits (told_message (record { xid = xid; reply = Hashed (hash_answer term node (hash_range f offset)) }))) (sym e) (laws.hashes xid term g (handle_bytes f) offset x leased (omega (arith, id, small), omega (arith, v, c), b.5))
 
-pub hash_told : FitLaws → (book : Book) (k : Core) (qs : List Queue) (n now : ℕ) (x : Session) (q : Queue) (xid f offset : ℕ) (us : List Ask) (c : Seat) → IsKept book k qs → numbered k.seats x.owner ≡ Some c → c.session ≡ Some n → IsTalk book n k.server.waiting x q c → q.ups ≡ record { xid = xid; call = Hash f offset } ∷ us → CallFits xid (Hash f offset)
-    → IsNoted book k (Serves n now (message_spell (ask_message (record { xid = xid; call = Hash f offset })))) → AnswerOf (onward book 1 book.ops) (with_taken x xid (book.steps + 1)) x.closing (job c) xid (hash_reply k.server.tree f offset)
-hash_told laws book k qs n now x q xid f offset us c kept was here talk e fits noted = λ j o is waits. (
+pub hash_told : FitLaws → (book : Book) (k : Core) (qs : List Queue) (n now : ℕ) (x : Session) (q : Queue) (xid term f offset : ℕ) (us : List Ask) (c : Seat) → IsKept book k qs → numbered k.seats x.owner ≡ Some c → c.session ≡ Some n → IsTalk book n k.server.waiting x q c → q.ups ≡ record { xid = xid; call = Hash f offset } ∷ us → CallFits xid (Hash f offset)
+    → IsNoted book k (Serves n now (message_spell (ask_message (record { xid = xid; call = Hash f offset })))) → AnswerOf (onward book 1 book.ops) (with_taken x xid (book.steps + 1)) x.closing (job c) xid (hash_reply term k.server.tree f offset)
+hash_told laws book k qs n now x q xid term f offset us c kept was here talk e fits noted = λ j o is waits. (
   by j o is (asks j o is waits) (looked k.server.tree f fits.1),
   tried_now book k qs n x q (record { xid = xid; call = Hash f offset }) us c j j.stage o waits (calls j o is waits) kept was talk e is refl,
 )
@@ -360,13 +360,13 @@ hash_told laws book k qs n now x q xid f offset us c kept was here talk e fits n
         (subst (λ (y : ℕ). TakesCall (onward book 1 book.ops) z.client (book.steps + 1) xid (hash_body f y)) (sym same.1)
         (takes_now book k qs n now x (record { xid = xid; call = Hash f offset }) c j (hash_body f offset) kept was here is (hash_waits j.stage xid o waits) noted (parsed laws (record { xid = xid; call = Hash f offset }) fits) z at))
 
-    by : (j : Job) (o : ℕ) → job c ≡ Some j → (j.file ≡ f) × (o ≡ offset) → Found k.server.tree f → HashTold (onward book 1 book.ops) (with_taken x xid (book.steps + 1)) j xid o (hash_answer 0 (node_of k.server.tree (handle_bytes f)) (hash_range f offset))
-    by j o is same (is_directory d there none at) = subst (λ (node : Result Node Status). HashTold (onward book 1 book.ops) (with_taken x xid (book.steps + 1)) j xid o (hash_answer 0 node (hash_range f offset))) (sym at) (directory_told book k qs n now x q (record { xid = xid; call = Hash f offset }) f us c j d kept was talk e is noted same.0 there)
-    by j o is same (is_gone none at) = subst (λ (node : Result Node Status). HashTold (onward book 1 book.ops) (with_taken x xid (book.steps + 1)) j xid o (hash_answer 0 node (hash_range f offset))) (sym at) (gone_told book k qs n x q (record { xid = xid; call = Hash f offset }) f us c j kept was talk e is same.0 none)
+    by : (j : Job) (o : ℕ) → job c ≡ Some j → (j.file ≡ f) × (o ≡ offset) → Found k.server.tree f → HashTold (onward book 1 book.ops) (with_taken x xid (book.steps + 1)) j xid o (hash_answer term (node_of k.server.tree (handle_bytes f)) (hash_range f offset))
+    by j o is same (is_directory d there none at) = subst (λ (node : Result Node Status). HashTold (onward book 1 book.ops) (with_taken x xid (book.steps + 1)) j xid o (hash_answer term node (hash_range f offset))) (sym at) (directory_told book k qs n now x q (record { xid = xid; call = Hash f offset }) f us c j d kept was talk e is noted same.0 there)
+    by j o is same (is_gone none at) = subst (λ (node : Result Node Status). HashTold (onward book 1 book.ops) (with_taken x xid (book.steps + 1)) j xid o (hash_answer term node (hash_range f offset))) (sym at) (gone_told book k qs n x q (record { xid = xid; call = Hash f offset }) f us c j kept was talk e is same.0 none)
     by j o is same (is_file g there at) =
         let held = subst (FileIs book f) there (kept.server.held f) in
         let noted_bytes : (i : ℕ) (d : Chunk) → slice_get (told_chunks g.content (range_from offset)) i ≡ Some d → Contains (hashed_of book.moments) (chunk_bytes g.content d) = λ i d w. noted.hashed (chunk_bytes g.content d) (subst (λ (l : List (List ℕ)). Contains l (chunk_bytes g.content d)) (sym (ap (served_hashed k n) (parsed laws (record { xid = xid; call = Hash f offset }) fits) ∙ ap (λ node. bytes_told node (hash_range f offset)) at)) (contains_at (map (chunk_bytes g.content) (told_chunks g.content (hash_range f offset))) i (chunk_bytes g.content d) (map_at (chunk_bytes g.content) (told_chunks g.content (hash_range f offset)) i d w))) in
-        subst (λ (node : Result Node Status). HashTold (onward book 1 book.ops) (with_taken x xid (book.steps + 1)) j xid o (hash_answer 0 node (hash_range f offset))) (sym at) (subst (λ (z : ℕ). IsHashed (onward book 1 book.ops) (with_taken x xid (book.steps + 1)) j xid z (hashes_of 0 g (hash_range f offset))) (sym same.1) (record {
+        subst (λ (node : Result Node Status). HashTold (onward book 1 book.ops) (with_taken x xid (book.steps + 1)) j xid o (hash_answer term node (hash_range f offset))) (sym at) (subst (λ (z : ℕ). IsHashed (onward book 1 book.ops) (with_taken x xid (book.steps + 1)) j xid z (hashes_of term g (hash_range f offset))) (sym same.1) (record {
           file = g;
           is = refl;
           held = held_now book k n now (record { xid = xid; call = Hash f offset }) j.file f g noted same.0 there;

@@ -69,10 +69,10 @@ pub record Turn (book more : Book) (k : Core) (qs : List Queue) (r : server.Stat
   pub home : (i : ℕ) (g : Change) → slice_get r.waiting i ≡ Some g → (z : Session) × (numbered sessions g.session ≡ Some z) × (z.hung ≡ false)
 
 -- the core after it
-abbrev pub turned_core : Book → server.State → List Seat → List Session → Core
-turned_core more r seats sessions = record { server = r; seats = seats; sessions = sessions; steps = more.steps; ops = more.ops; entries = more.entries }
+abbrev pub turned_core : Core → Book → server.State → List Seat → List Session → Core
+turned_core k more r seats sessions = record k { server = r; seats = seats; sessions = sessions; steps = more.steps; ops = more.ops; entries = more.entries }
 
-pub kept_turn : (book more : Book) (k : Core) (qs : List Queue) (r : server.State) (seats : List Seat) (sessions : List Session) (after : List Queue) (n : ℕ) (x y : Session) (q : Queue) (c d : Seat) (made ended : Option ℕ) → Turn book more k qs r seats sessions after n x y q c d made ended → more.journal ≡ r.journal → IsKept book k qs → IsKept more (turned_core more r seats sessions) after
+pub kept_turn : (book more : Book) (k : Core) (qs : List Queue) (r : server.State) (seats : List Seat) (sessions : List Session) (after : List Queue) (n : ℕ) (x y : Session) (q : Queue) (c d : Seat) (made ended : Option ℕ) → Turn book more k qs r seats sessions after n x y q c d made ended → more.journal ≡ r.journal → IsKept book k qs → IsKept more (turned_core k more r seats sessions) after
 kept_turn book more k qs r seats sessions after n x y q c d made ended t journal h = record {
   ops = refl;
   steps = refl;

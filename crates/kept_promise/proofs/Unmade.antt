@@ -19,8 +19,8 @@ use Rattle.server_rules.specs.declared.told.Told.TheVariants as announced
 use Rattle.client_state.specs.State as client
 use Rattle.client_state.specs.declared.task.Stage.TheVariants as stage
 use Rattle.kept_promise.proofs.Common.{slice_get, at, Failed, Change, Wanted, Entry, Op, Core, Session, CoreStep, quiet, numbered, with_numbered, settles, settled_by, unless, Book, Reply.Changed, Told, Queue, told_message, value_at, later}
-use Rattle.server_law.specs.Unleased.{makes_so, commits_so}
-use Rattle.server_law.proofs.Unleased.{unleased_at}
+use Rattle.server_core.specs.Closing.{makes_change, committed_by}
+use Rattle.server_core.specs.Recalling.{term_at}
 use Rattle.kept_promise.proofs.Lists.{some_is, nothing_there, all_map}
 use Rattle.kept_promise.proofs.Keys.{change_key, told_key}
 use Rattle.kept_promise.proofs.Rights.{WasThere}
@@ -50,8 +50,8 @@ node_gone book s f h there none = by (with_id s.tree.nodes f) refl
     by None e = refl
     by (Some n) e = absurd (there_version book f there (h.fresh f (inr (subst (λ (z : Option Node). IsSome z) (sym e) refl, none))))
 
-pub commit_gone : (t : Tree) (held : Held) (id : ℕ) (content : List ℕ) → with_id t.nodes id ≡ None → commits t held id content 0 ≡ (t, record { answer = answer.Failed status.Stale tt; entry = None })
-commit_gone t held id content none = ap (λ (o : Option Node). with_committed 0 (replace_if t id content ((or_stale o >>= file_or status.IsDir >>= λ n. within_file (length content) >>= λ _. spared t.changes held 1 >>= λ _. spared_bytes (contents_size t.nodes) held (length content) >>= λ _. Ok n) >>= λ n. Ok (n.version + 1)))) none
+pub commit_gone : (t : Tree) (held : Held) (id : ℕ) (content : List ℕ) (term : ℕ) → with_id t.nodes id ≡ None → commits t held id content term ≡ (t, record { answer = answer.Failed status.Stale tt; entry = None })
+commit_gone t held id content term none = ap (λ (o : Option Node). with_committed term (replace_if t id content ((or_stale o >>= file_or status.IsDir >>= λ n. within_file (length content) >>= λ _. spared t.changes held 1 >>= λ _. spared_bytes (contents_size t.nodes) held (length content) >>= λ _. Ok n) >>= λ n. Ok (n.version + 1)))) none
 
 -- ---- the step
 
@@ -67,8 +67,8 @@ unmade_step k now c cs = record (quiet (record k { steps = k.steps + 1; server =
 pub unmade_settles : (k : Core) (now : ℕ) (c : Change) (cs : List Change) (content : List ℕ) → SettlesOut k now c cs → c.what ≡ wanted.Content content → with_id k.server.tree.nodes c.file ≡ None → settles k now ≡ unmade_step k now c cs
 unmade_settles k now c cs content out what none =
     out.is
-    ∙ ap (λ (w : Wanted). settled_to k (makes_so before false c w)) what
-    ∙ ap (λ (p : Tree × Committing). settled_to k (commits_so before c content p)) (commit_gone k.server.tree (server.held cs) c.file content none)
+    ∙ ap (λ (w : Wanted). settled_to k (makes_change before c w)) what
+    ∙ ap (λ (p : Tree × Committing). settled_to k (committed_by before c content p)) (commit_gone k.server.tree (server.held cs) c.file content (term_at before c.file) none)
     ∙ ap (λ (o : Option ℕ). with_parts (k.server.journal ++ []) (settled_by k o (announced.Settled c.session c.xid)) (k.entries ++ [])) (none_newest (k.server.journal ++ []) 0 refl)
     ∙ ap (λ (l : List Entry). with_parts l (settled_by k None (announced.Settled c.session c.xid)) (k.entries ++ [])) (append-nil k.server.journal)
     ∙ ap (λ (l : List Op). with_parts k.server.journal l (k.entries ++ [])) (same (numbered k.sessions c.session))
@@ -155,13 +155,13 @@ module _ (laws : FitLaws) (book : Book) (k : Core) (qs : List Queue) (now : ℕ)
         lengths = λ i d w. let y = out.out.others i d w in kept.server.lengths y.0 d y.1;
         targets = λ i d w. let y = out.out.others i d w in there_later book more None None d.file grows (kept.server.targets y.0 d y.1);
         xids = λ i d w. let y = out.out.others i d w in kept.server.xids y.0 d y.1;
-        leases = unleased_at k.server now kept.server.leases;
+        leases = kept.server.leases;
       }
 
-  kept_unmade : IsKept more (turned_core more s k.seats k.sessions) (with_numbered qs n after)
+  kept_unmade : IsKept more (turned_core k more s k.seats k.sessions) (with_numbered qs n after)
   kept_unmade =
       let grows = grows_same book 1 in
-      kept_told book more k qs now c cs x q k.server.tree k.server.journal k.server.index (Changed (Failed status.Stale tt)) None kept out.out here is (record {
+      kept_told book more k qs now c cs x q (later k.server.leasing now) k.server.tree k.server.journal k.server.index (Changed (Failed status.Stale tt)) None kept out.out here is (record {
         goes = goes_same book 1 kept.sound;
         server = server_unmade;
         journal_is = kept.journal;
@@ -181,7 +181,7 @@ module _ (laws : FitLaws) (book : Book) (k : Core) (qs : List Queue) (now : ℕ)
 
   pub leads_unmade : Leads book qs (unmade_step k now c cs)
   leads_unmade = record {
-    sends = record { asks = []; up_is = refl; tolds = (n, t) ∷ []; down_is = refl };
+    sends = record { replies = []; replies_fit = tt; asks = []; up_is = refl; recalls = []; recalls_fit = tt; tolds = (n, t) ∷ []; down_is = refl };
     more = more;
     moments = refl;
     opening = refl;

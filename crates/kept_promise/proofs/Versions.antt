@@ -7,11 +7,12 @@ use Rattle.register_model.specs.declared.op.Word.TheVariants as words
 use Rattle.trace_replay.specs.Book.{first_version}
 use Rattle.trace_ends.specs.Session.{taken_of as session_taken}
 use Rattle.trace_replay.specs.Faithful.{Carries, TellsVersion}
-use Rattle.kept_promise.proofs.Common.{◌==◌, ◌&&◌, nat_lt, slice_get, slice_set, filter, cond, Contains, option_map_or, ClientStep, Ended, Outcome, Stage, changes, changed_before, Op, Word, TakenCall, has_point, point_if, op_after, taken_at, Seat, Session, numbered, with_numbered, session_of, Said, is_of, content_of, Opening}
+use Rattle.kept_promise.proofs.Common.{◌==◌, ◌&&◌, nat_lt, slice_get, slice_set, filter, cond, Contains, option_map_or, ClientStep, Ended, Outcome, Stage, changes, changed_before, Op, Word, TakenCall, has_point, point_if, op_after, taken_at, Seat, Session, numbered, with_numbered, session_of, Said, is_of, content_of, Opening, Moment, step_of}
 use Rattle.kept_promise.proofs.Lists.{some_is, nothing_there, of_replaced}
 use Rattle.kept_promise.proofs.Messages.{Job, job}
 use Rattle.kept_promise.proofs.Counted.{SaidBy, said_by}
 use Rattle.kept_promise.proofs.Shapes.{StageGood}
+use Rattle.kept_promise.proofs.Rights.{AreLeased, EndsFresh}
 
 -- ---- lists
 
@@ -73,7 +74,7 @@ after_alike f p o c taken step acts (inr quiet) = none_changed f p (op_after o c
     by (Some e) = quiet
 after_alike f p o c taken step acts (inl none) = ap (λ (z : Option ℕ). changed_before f p (op_after o c taken step (record acts { found = z }))) none ∙ by acts.ended
   where
-    word : (w : Word) (u : Outcome) (x : ℕ) (t : Option ℕ) → ((changes w && (o.file == f)) && option_map_or (λ q. nat_lt q p) (point_if (has_point w u) taken x t) false) ≡ ((changes w && (o.file == f)) && option_map_or (λ q. nat_lt q p) t false)
+    word : (w : Word) (u : Outcome) (x : ℕ) (t : Option ℕ) → ((changes w && (o.file == f)) && option_map_or (λ q. nat_lt q p) (point_if (has_point w u) taken x step t) false) ≡ ((changes w && (o.file == f)) && option_map_or (λ q. nat_lt q p) t false)
     word words.Open u x t = refl
     word _ u x t = refl
 
@@ -106,11 +107,17 @@ takens sessions seat = session_taken (session_of sessions seat.session)
 abbrev pub JobVersion : (base : ℕ → ℕ) → List Said → List Op → List TakenCall → Op → Stage → Type 0
 JobVersion base said ops taken o s = StageGood (Attempt base said ops taken o) (Untold said taken o) s
 
-pub record HaveVersions (base : ℕ → ℕ) (said : List Said) (sessions : List Session) (seats : List Seat) (ops : List Op) : Type 0 where
+-- an open got its content at once, which was kept in this version, if no note was stale
+pub record IsNow (all : List Moment) (o : Op) (q version : ℕ) : Type 0 where
+  pub ends : EndsFresh all o
+  pub at : q ≡ step_of ends.moment
+  pub version_is : AreLeased all → ends.content.version ≡ version
+
+pub record HaveVersions (all : List Moment) (base : ℕ → ℕ) (said : List Said) (sessions : List Session) (seats : List Seat) (ops : List Op) : Type 0 where
   -- the version of an attempt under way
   pub jobs : (i : ℕ) (seat : Seat) (j : Job) (o : Op) → numbered seats i ≡ Some seat → job seat ≡ Some j → slice_get ops j.place ≡ Some o → JobVersion base said ops (takens sessions seat) o j.stage
   -- and of an open that ended
-  pub opened : (p len q : ℕ) (digest : List ℕ) (o : Op) → slice_get ops p ≡ Some o → o.outcome ≡ told.Opened len digest → o.point ≡ Some q → CameTo said o q (version_by base ops o.file q) × Since said o q (version_by base ops o.file q)
+  pub opened : (p len q : ℕ) (digest : List ℕ) (o : Op) → slice_get ops p ≡ Some o → o.outcome ≡ told.Opened len digest → o.point ≡ Some q → (CameTo said o q (version_by base ops o.file q) × Since said o q (version_by base ops o.file q)) ⊎ IsNow all o q (version_by base ops o.file q)
 
 -- ---- what stays
 
@@ -165,24 +172,25 @@ JobCame base n said more sessions later seats ops after i seat j r =
     ((old : Seat) × (o : Op) × (numbered seats i ≡ Some old) × (job old ≡ Some j) × (slice_get ops j.place ≡ Some o) × Alike said more o r × Extends n (takens sessions old) (takens later seat)) ⊎ JobVersion base more after (takens later seat) r j.stage
 
 -- an open that has ended was there before, or is shown
-abbrev pub OpenCame : (base : ℕ → ℕ) → (said more : List Said) → (ops after : List Op) → (p len q : ℕ) → (digest : List ℕ) → Op → Type 0
-OpenCame base said more ops after p len q digest r =
-    ((o : Op) × (slice_get ops p ≡ Some o) × Alike said more o r × (o.outcome ≡ told.Opened len digest) × (o.point ≡ Some q)) ⊎ (CameTo more r q (version_by base after r.file q) × Since more r q (version_by base after r.file q))
+abbrev pub OpenCame : (all : List Moment) → (base : ℕ → ℕ) → (said more : List Said) → (ops after : List Op) → (p q : ℕ) → Op → Type 0
+OpenCame all base said more ops after p q r = ((slice_get ops p ≡ Some r) × Alike said more r r) ⊎ ((CameTo more r q (version_by base after r.file q) × Since more r q (version_by base after r.file q)) ⊎ IsNow all r q (version_by base after r.file q))
 
-pub versions_onward : (base : ℕ → ℕ) → (n : ℕ) (said more : List Said) (sessions later : List Session) (seats next : List Seat) (ops after : List Op) → SaidBy n said → ((f q : ℕ) → q ≤ n → version_in after f q ≡ version_in ops f q)
+pub versions_onward : (all : List Moment) → (base : ℕ → ℕ) → (n : ℕ) (said more : List Said) (sessions later : List Session) (seats next : List Seat) (ops after : List Op) → SaidBy n said → ((f q : ℕ) → q ≤ n → version_in after f q ≡ version_in ops f q) → ((p q : ℕ) (o : Op) → slice_get ops p ≡ Some o → o.point ≡ Some q → version_in after o.file q ≡ version_in ops o.file q)
     → ((i : ℕ) (seat : Seat) (j : Job) (r : Op) → numbered next i ≡ Some seat → job seat ≡ Some j → slice_get after j.place ≡ Some r → JobCame base n said more sessions later seats ops after i seat j r)
-    → ((p len q : ℕ) (digest : List ℕ) (r : Op) → slice_get after p ≡ Some r → r.outcome ≡ told.Opened len digest → r.point ≡ Some q → OpenCame base said more ops after p len q digest r)
-    → HaveVersions base said sessions seats ops → HaveVersions base more later next after
-versions_onward base n said more sessions later seats next ops after past stays jobs opens h = record {
+    → ((p len q : ℕ) (digest : List ℕ) (r : Op) → slice_get after p ≡ Some r → r.outcome ≡ told.Opened len digest → r.point ≡ Some q → OpenCame all base said more ops after p q r)
+    → HaveVersions all base said sessions seats ops → HaveVersions all base more later next after
+versions_onward all base n said more sessions later seats next ops after past stays keeps jobs opens h = record {
   jobs = λ i seat j r here is at. elim (jobs i seat j r here is at) [
     | inr shown ↦ shown
     | inl (old, o, there, was, old_at, a, e) ↦ job_alike base n said more ops after (takens sessions old) (takens later seat) o r j.stage past a e stays (h.jobs i old j o there was old_at)
   ];
   opened = λ p len q digest r at e point. elim (opens p len q digest r at e point) [
     | inr shown ↦ shown
-    | inl (o, there, a, was, old_point) ↦
-        let w = h.opened p len q digest o there was old_point in
-        let same : version_by base after r.file q ≡ version_by base ops o.file q = ap (λ f. version_by base after f q) a.file ∙ by_counts base after ops o.file q (stays o.file q (came_past n said o q (version_by base ops o.file q) past w.0)) in
-        subst (λ v. CameTo more r q v × Since more r q v) (sym same) (came_alike said more o r q (version_by base ops o.file q) a w.0, since_alike said more o r q (version_by base ops o.file q) a w.1)
+    | inl (there, a) ↦
+        let same : version_by base after r.file q ≡ version_by base ops r.file q = by_counts base after ops r.file q (keeps p q r there point) in
+        elim (h.opened p len q digest r there e point) [
+          | inl w ↦ inl (subst (λ v. CameTo more r q v × Since more r q v) (sym same) (came_alike said more r r q (version_by base ops r.file q) a w.0, since_alike said more r r q (version_by base ops r.file q) a w.1))
+          | inr now ↦ inr (subst (IsNow all r q) (sym same) now)
+        ]
   ];
 }

@@ -3,26 +3,27 @@ use Rattle.std.proofs.Common.{inl, inr, ◌≡◌, ℕ, ◌+◌, ◌<◌, ◌≤
 use Rattle.tree_reading.specs.Tree.{contents_size}
 use Rattle.server_core.specs.State as server
 use Rattle.chunk_calls.specs.Files as the_files
-use Rattle.server_core.specs.Steps.{sends}
+use Rattle.server_core.specs.Leasing.{recalled}
+use Rattle.server_core.specs.Recalling.{recalls_for, comes}
 use Rattle.client_state.specs.State as client
-use Rattle.kept_promise.proofs.Common.{slice_get, cond, ◌==◌, at, Temp, Change, TakenCall, Core, Session, numbered, with_numbered, hashed_of, Book, Call, Call.Lease, Ask, Queue, later}
-use Rattle.server_law.proofs.Unleased.{unleased_at}
+use Rattle.kept_promise.proofs.Common.{slice_get, cond, ◌==◌, at, Temp, Change, TakenCall, Core, Session, numbered, with_numbered, hashed_of, Book, Call, Call.Lease, Ask, Queue, Leasing, later}
 use Rattle.kept_promise.proofs.Lists.{some_is, nothing_there, same_or_not, of_appended, count_more, false_and_true, all_map}
 use Rattle.kept_promise.proofs.Keys.{times, times_append, own, on_way, change_key, ask_key, told_key}
 use Rattle.kept_promise.proofs.Messages.{job, AllAsks, Rising, IsAsked, IsAnswer, IsCommit, IsPiece, WaitsFor, TempUnder, content_wanted}
 use Rattle.kept_promise.proofs.Growth.{there_later}
 use Rattle.kept_promise.proofs.History.{onward, grows_same, goes_same, still_same}
 use Rattle.kept_promise.proofs.Later.{waits_later, answer_later, has_fetch_later, commit_later, close_later, seat_later, Stays, Spares}
-use Rattle.kept_promise.proofs.Taken.{finds_more, under_more, answer_found, has_fetch_found, times_map_append}
+use Rattle.kept_promise.proofs.Taken.{zero_last, finds_more, under_more, answer_found, has_fetch_found, times_map_append}
 use Rattle.kept_promise.proofs.Turns.{Around, around_same, around_with, turned_core, kept_turn}
 use Rattle.kept_promise.proofs.Shelf.{IsShelf}
 use Rattle.kept_promise.proofs.Orderly.{locals_of, Held}
 use Rattle.kept_promise.proofs.Ordered.{SameFound, orderly_taken}
 use Rattle.kept_promise.proofs.Statements.{CallFits}
-use Rattle.kept_promise.proofs.Facts.{IsWanted, change_number, IsSession, IsKept, commits_in}
+use Rattle.kept_promise.proofs.Facts.{HasTerm, IsWanted, change_number, IsSession, IsKept, commits_in}
 use Rattle.kept_promise.proofs.Takes.{took, file_still, fresh_still}
 use Rattle.kept_promise.proofs.Calls.{Given, session_in, first_fits, rest_of, served}
 use Rattle.kept_promise.proofs.Leading.{Leads}
+use Rattle.kept_promise.proofs.Recallings.{recalls_asked, recalls_small, recalls_alone}
 use Rattle.kept_promise.proofs.Rights.{WasThere}
 
 pub own_more : (m : ℕ) (ws : List Change) (c : Change) → own m (ws ++ c ∷ []) ≡ own m ws ++ own m (c ∷ [])
@@ -79,10 +80,10 @@ pub record ComesToWait (book : Book) (k : Core) (n : ℕ) (x : Session) (q : Que
   pub held : x.cut ≡ false → Held temps n us q.downs (locals_of h.seat.client) (job h.seat)
   pub waits : WaitsFor (onward book 1 book.ops) d.session x.closing x.cut (job h.seat) d.xid d.file d.what
 
-kept_coming : (book : Book) (k : Core) (qs : List Queue) (n now : ℕ) (x : Session) (q : Queue) (a : Ask) (us : List Ask) (temps : List (ℕ × Temp)) (d : Change) (sessions : List Session) (after : List Queue) → (g : Given book k qs n now x q a us) → ComesToWait book k n x q a us temps d (session_in book k qs n now x q a us g)
+kept_coming : (book : Book) (k : Core) (qs : List Queue) (n now : ℕ) (leasing : Leasing) (x : Session) (q : Queue) (a : Ask) (us : List Ask) (temps : List (ℕ × Temp)) (d : Change) (sessions : List Session) (after : List Queue) → (g : Given book k qs n now x q a us) → HasTerm leasing → ComesToWait book k n x q a us temps d (session_in book k qs n now x q a us g)
     → Around k.sessions sessions n (took x a.xid (book.steps + 1)) → Around qs after n (record q { ups = us })
-    → IsKept (onward book 1 book.ops) (turned_core (onward book 1 book.ops) (record k.server { leasing = later k.server.leasing now; temps = temps; waiting = k.server.waiting ++ d ∷ [] }) k.seats sessions) after
-kept_coming book k qs n now x q a us temps d sessions after g comes around queues =
+    → IsKept (onward book 1 book.ops) (turned_core k (onward book 1 book.ops) (record k.server { leasing = leasing; temps = temps; waiting = k.server.waiting ++ d ∷ [] }) k.seats sessions) after
+kept_coming book k qs n now leasing x q a us temps d sessions after g leases comes around queues =
     let kept = g.kept in
     let h = session_in book k qs n now x q a us g in
     let more = onward book 1 book.ops in
@@ -90,7 +91,7 @@ kept_coming book k qs n now x q a us temps d sessions after g comes around queue
     let c = h.seat in
     let y = took x a.xid (book.steps + 1) in
     let waiting : List Change = k.server.waiting ++ d ∷ [] in
-    let r : server.State = record k.server { leasing = later k.server.leasing now; temps = temps; waiting = waiting } in
+    let r : server.State = record k.server { leasing = leasing; temps = temps; waiting = waiting } in
     let spares : Spares x.closing None = λ p u v. nothing_there p v in
     kept_turn book more k qs r k.seats sessions after n x y (record q { ups = us }) c c None None (record {
       at = g.at;
@@ -124,7 +125,7 @@ kept_coming book k qs n now x q a us temps d sessions after g comes around queue
           | inl new ↦ subst (λ (z : Change). z.xid < 4294967296) (sym new.1) (subst (λ (z : ℕ). z < 4294967296) (sym comes.xid_is) (call_xid a.xid a.call (first_fits book k qs n now x q a us g)))
           | inr old ↦ kept.server.xids i u old
         ];
-        leases = unleased_at k.server now kept.server.leases;
+        leases = leases;
       };
       sessions_made = refl;
       view = λ o apart. record { stands_is = refl; waiting = own_there o k.server.waiting d (λ e. apart (sym e ∙ comes.session_is)); temps = λ i p u lt at q. comes.were i u at; found = comes.found o apart };
@@ -150,6 +151,7 @@ kept_coming book k qs n now x q a us temps d sessions after g comes around queue
               floor = a.xid + 1;
               under = under_more talk.floor x.taken z talk.under rising.0;
               rising = rising.1;
+              numbered = (omega arith, zero_last x.taken z talk.numbered.1 (let some = talk.numbered.0 in let le = rising.0 in omega (arith, some, le)));
               asked = (subst (AllAsks (IsAsked (job c))) g.first talk.asked).1;
               answers = all_map (IsAnswer book x.taken x.closing (job c)) (IsAnswer more (x.taken ++ z ∷ []) x.closing (job c)) (λ u w. answer_found more x.taken (x.taken ++ z ∷ []) x.closing (job c) u finds (answer_later book more None None x.taken x.closing (job c) u grows spares w)) q.downs talk.answers;
               fetch = has_fetch_found more x.taken (x.taken ++ z ∷ []) (job c) finds (has_fetch_later book more None None x.taken (job c) grows talk.fetch);
@@ -204,20 +206,22 @@ kept_coming book k qs n now x q a us temps d sessions after g comes around queue
     stays o z u = let v = later_session z o u in (v.0, v.1, v.2, λ mine. v.3)
 
 pub leads_coming : (book : Book) (k : Core) (qs : List Queue) (n now : ℕ) (x : Session) (q : Queue) (a : Ask) (us : List Ask) (temps : List (ℕ × Temp)) (d : Change) → (g : Given book k qs n now x q a us) → ComesToWait book k n x q a us temps d (session_in book k qs n now x q a us g)
-    → Leads book (rest_of qs n q us) (served k n x a.xid (record (at k.server now) { temps = temps; waiting = k.server.waiting ++ d ∷ [] }, sends []))
-leads_coming book k qs n now x q a us temps d g comes =
+    → Leads book (rest_of qs n q us) (served k n x a.xid (comes (record (at k.server now) { temps = temps }) d))
+leads_coming book k qs n now x q a us temps d g shows =
+    let s : server.State = record (at k.server now) { temps = temps } in
+    let leasing = recalled (later k.server.leasing now) (recalls_for s d) in
     let y = took x a.xid (book.steps + 1) in
     let z = took x a.xid (k.steps + 1) in
     let same_step : y ≡ z = ap (λ (s : ℕ). took x a.xid (s + 1)) g.kept.steps in
     let sessions = with_numbered k.sessions n z in
     let around = around_with k.sessions n x z g.at in
     let more = onward book 1 book.ops in
-    let r : server.State = record k.server { leasing = later k.server.leasing now; temps = temps; waiting = k.server.waiting ++ d ∷ [] } in
-    let done : IsKept more (turned_core more r k.seats sessions) (rest_of qs n q us) = kept_coming book k qs n now x q a us temps d sessions (rest_of qs n q us) g comes (record { there = around.there ∙ ap (λ v. Some v) (sym same_step); others = around.others; count = around.count }) (around_with qs n q (record q { ups = us }) g.is) in
+    let r : server.State = record k.server { leasing = leasing; temps = temps; waiting = k.server.waiting ++ d ∷ [] } in
+    let done : IsKept more (turned_core k more r k.seats sessions) (rest_of qs n q us) = kept_coming book k qs n now leasing x q a us temps d sessions (rest_of qs n q us) g g.kept.server.leases shows (record { there = around.there ∙ ap (λ v. Some v) (sym same_step); others = around.others; count = around.count }) (around_with qs n q (record q { ups = us }) g.is) in
     record {
-      sends = record { asks = []; up_is = refl; tolds = []; down_is = refl };
+      sends = record { replies = []; replies_fit = tt; asks = []; up_is = refl; recalls = recalls_asked s d; recalls_fit = recalls_small s d shows.known.small; tolds = []; down_is = recalls_alone (recalls_asked s d) };
       more = more;
       moments = refl;
       opening = refl;
-      kept = subst (λ (c : Core). IsKept more c (rest_of qs n q us)) (ap (λ s. record { server = r; seats = k.seats; sessions = sessions; steps = s + 1; ops = book.ops; entries = book.entries }) g.kept.steps ∙ ap (λ o. record { server = r; seats = k.seats; sessions = sessions; steps = k.steps + 1; ops = o; entries = book.entries }) g.kept.ops ∙ ap (λ o. record { server = r; seats = k.seats; sessions = sessions; steps = k.steps + 1; ops = k.ops; entries = o }) g.kept.entries) done;
+      kept = subst (λ (c : Core). IsKept more c (rest_of qs n q us)) (ap (λ s. record k { server = r; seats = k.seats; sessions = sessions; steps = s + 1; ops = book.ops; entries = book.entries }) g.kept.steps ∙ ap (λ o. record k { server = r; seats = k.seats; sessions = sessions; steps = k.steps + 1; ops = o; entries = book.entries }) g.kept.ops ∙ ap (λ o. record k { server = r; seats = k.seats; sessions = sessions; steps = k.steps + 1; ops = k.ops; entries = o }) g.kept.entries) done;
     }

@@ -23,10 +23,13 @@ use Rattle.client_cache.specs.declared.kept.Content.{Content}
 use Rattle.path_calls.specs.Walk.{begun}
 use Rattle.trace_ends.specs.Ops.{begun as op_begun}
 use Rattle.client_state.specs.Ending.{may_walk}
-use Rattle.file_open.specs.Rewriting.{asks_anew, rewrites_if, rewrites}
+use Rattle.client_state.specs.Noting.{at as clocked}
+use Rattle.file_open.specs.Caching.{fresh_content}
+use Rattle.file_open.specs.Fetching.{opens_kept}
+use Rattle.file_open.specs.Rewriting.{asks_anew, renews_kept, rewrites_if, rewrites}
 use Rattle.open_close.specs.Walking.{walks, walks_if, is_its, is_look, told_walk, walked}
 use Rattle.trace_ends.specs.Session.{taken_of as session_taken}
-use Rattle.trace_replay.specs.Trail.{AreCounted, steps_by}
+use Rattle.trace_replay.specs.Trail.{AreCounted, steps_by, is_fresh_for}
 use Rattle.trace_ends.specs.Commands.{path_word}
 use Rattle.kept_promise.proofs.Common.{slice_get, Contains, Contains-push_cases, Command, ClientStep, Ended, ended_by, command_step, Pending, Stage, Task, Op, Opening, TakenCall, op_after, ops_with, place_after, Core, Seat, Event, Event.Does, Event.Hears, Event.Cuts, numbered, does, cuts_if, acted, session_of, happens, Moment, step_of, Deed, deeds_of, Book, Queue, taken_by, got_step, told_message, Body, took, took_if, got_message, has_call, pending, idle, drops, reply_body, ◌==◌, ◌||◌, Contains-append_cases, Reply, Reply.Walked, Reply.Bytes, name_answer, Message, wanted_if, Contains-push, file_of, joined_from, calls_from, place_with, nat_lt, if◌then◌else◌, Local, Part, content_length, content_bytes, on_local, edits, truncates, reads, abandons, too_big, writes, done_with, closes, asks_temp, opens, opens_if, asks_file, asks_kept, is_open, may_ask, local_most, written_size, written, truncated, ends, word_of, value_at_begin, Word, point_if, has_point, told_of, Outcome}
 use Rattle.kept_promise.proofs.Actors.{job_place, job_task, Heard, heard_takes, own_op}
@@ -44,9 +47,10 @@ use Rattle.kept_promise.proofs.CommandOps.{made_by, job_stays}
 use Rattle.kept_promise.proofs.Shapes.{busy_command}
 use Rattle.kept_promise.proofs.Alike.{AreInOrder}
 use Rattle.kept_promise.proofs.Fetched.{IsFetched, ends_fetched}
-use Rattle.kept_promise.proofs.Leaving.{Leaves, took_left}
+use Rattle.kept_promise.proofs.Leaving.{Leaves, IsLeftBy, took_left}
+use Rattle.open_close.specs.Step.{takes}
 use Rattle.kept_promise.proofs.Found.{took_finds, file_after, command_finds}
-use Rattle.kept_promise.proofs.StepCases.{IsOfFile}
+use Rattle.kept_promise.proofs.StepCases.{IsOfFile, renoted}
 use Rattle.kept_promise.proofs.Walked.{HasWalk, leads_past, walk_begins}
 use Rattle.kept_promise.proofs.WalkRuns.{bare, GetsFile, OnWay, IsOn, EndsAs, IsOver, Walks, EarlyBy, is_on, took_file, heard_walk, IsBare}
 use Rattle.kept_promise.proofs.OneSession.{AtOneSession}
@@ -161,6 +165,10 @@ in_past all past rest k e last split counted x there le = elim (Contains-append_
 
 -- ---- an answer comes
 
+-- what it leaves open
+left_taken : (s : client.State) (calls : List Pending) (file : ℕ) (st : Stage) (x : ℕ) (b : Body) → IsOfFile st → IsLeftBy (stage_word st) s file (took s calls file st x b)
+left_taken s calls file st x b known = renoted (λ found r. IsLeftBy (stage_word st) s file r) s file st b (λ found r g until lease is h. h) [] (takes s calls file st x b) (took_left s calls file st x b known)
+
 -- to one on a file
 file_comes : (all : List Moment) (d : Deed) (o : Op) (n : ℕ) (s : client.State) (calls : List Pending) (file : ℕ) (st : Stage) (x : ℕ) (b : Body) (taken : List TakenCall) → IsOfFile st → o.word ≡ stage_word st → IsOn all d.command o st n → StepComes all d o (took s calls file st x b) taken (n + 1)
 file_comes all d o n s calls file st x b taken of word on =
@@ -169,7 +177,7 @@ file_comes all d o n s calls file st x b taken of word on =
     let none = took_finds s calls file st x b of in
     record {
       way = λ runs u at. on_file_on all d.command o new st u.stage n (n + 1) (word_stays o r.0 taken (n + 1) r.1) (ap (λ (l : Option Ended). (op_after o r.0 taken (n + 1) (record r.1 { ended = l })).point) runs) (began r.0 r.1 r.1.ended) (file_after o r.0 taken (n + 1) r.1 none) (omega arith) of (took_file s calls file st x b of u at) on;
-      over = λ e is. on_file_over all d.command o new st n (n + 1) (record { begin = began r.0 r.1 r.1.ended; file = file_after o r.0 taken (n + 1) r.1 none; word = word_stays o r.0 taken (n + 1) r.1; end = ap (λ (l : Option Ended). (op_after o r.0 taken (n + 1) (record r.1 { ended = l })).end) is; already = already r.0 r.1 r.1.ended; fetched = subst (λ (l : Option Ended). IsFetched o.word (op_after o r.0 taken (n + 1) (record r.1 { ended = l })).outcome) (sym is) (subst (λ (w : Word). IsFetched w (told_of e.outcome)) (sym word) (ends_fetched (stage_word st) e.outcome s.opened r.0.opened file (subst (Leaves (stage_word st) s.opened r.0.opened file) is (took_left s calls file st x b of).1))) }) (omega arith) of on;
+      over = λ e is. on_file_over all d.command o new st n (n + 1) (record { begin = began r.0 r.1 r.1.ended; file = file_after o r.0 taken (n + 1) r.1 none; word = word_stays o r.0 taken (n + 1) r.1; end = ap (λ (l : Option Ended). (op_after o r.0 taken (n + 1) (record r.1 { ended = l })).end) is; already = already r.0 r.1 r.1.ended; fetched = subst (λ (l : Option Ended). IsFetched o.word (op_after o r.0 taken (n + 1) (record r.1 { ended = l })).outcome) (sym is) (subst (λ (w : Word). IsFetched w (told_of e.outcome)) (sym word) (ends_fetched (stage_word st) e.outcome s.opened r.0.opened file (subst (Leaves (stage_word st) s.opened r.0.opened file) is (left_taken s calls file st x b of).1))) }) (omega arith) of on;
     }
   where
     began : (c : client.State) (acts : ClientStep) (l : Option Ended) → (op_after o c taken (n + 1) (record acts { ended = l })).begin ≡ o.begin
@@ -178,7 +186,7 @@ file_comes all d o n s calls file st x b taken of word on =
 
     already : (c : client.State) (acts : ClientStep) (l : Option Ended) → (op_after o c taken (n + 1) (record acts { ended = l })).outcome ≡ told.AlreadyOpen → o.point ≡ None → o.word ≡ words.Open → (op_after o c taken (n + 1) (record acts { ended = l })).point ≡ None
     already c acts None is none word = none
-    already c acts (Some e) is none word = ap (λ (w : Word). point_if (has_point w e.outcome) taken e.rests_on o.point) word ∙ ap (λ (b : Bool). point_if b taken e.rests_on o.point) (told_already e.outcome is) ∙ none
+    already c acts (Some e) is none word = ap (λ (w : Word). point_if (has_point w e.outcome) taken e.rests_on (n + 1) o.point) word ∙ ap (λ (b : Bool). point_if b taken e.rests_on (n + 1) o.point) (told_already e.outcome is) ∙ none
 
 -- no outcome is a peer's fault
 abbrev NoFault : Op → (r : client.State × ClientStep) → List TakenCall → (now : ℕ) → Type 0
@@ -203,7 +211,7 @@ heard_comes laws all past opening k qs n now bytes mid kept h order one noted is
     x = h.told.xid
 
     s : client.State
-    s = h.seat.client
+    s = clocked h.seat.client now
 
     mine : Task
     mine = record { file = j.file; stage = j.stage }
@@ -336,9 +344,13 @@ opens_of_file : (s : client.State) (file : ℕ) (u : Task) → s.task ≡ None �
 opens_of_file s file u none (Some t) e at = nothing_there t (sym e)
 opens_of_file s file u none None e at = by (is_open s.opened file) at
   where
+    kept : (o : Option Content) → (opens_kept s file o).0.task ≡ Some u → IsOfFile u.stage
+    kept (Some c) at = nothing_there u (sym none ∙ at)
+    kept None at = asks_of_file s file (may_ask s) u none at
+
     by : (b : Bool) → (opens_if s file b).0.task ≡ Some u → IsOfFile u.stage
     by true at = nothing_there u (sym none ∙ at)
-    by false at = asks_of_file s file (may_ask s) u none at
+    by false at = kept (fresh_content s.cache file s.clock) at
 
 rewrites_of_file : (s : client.State) (file : ℕ) (u : Task) → s.task ≡ None → (t : Option Task) → t ≡ None → (rewrites s file t).0.task ≡ Some u → IsOfFile u.stage
 rewrites_of_file s file u none (Some t) e at = nothing_there t (sym e)
@@ -348,9 +360,13 @@ rewrites_of_file s file u none None e at = by (is_open s.opened file) at
     asks true at = file_of_task _ u at tt
     asks false at = nothing_there u (sym none ∙ at)
 
+    kept : (o : Option Content) → (renews_kept s file o).0.task ≡ Some u → IsOfFile u.stage
+    kept (Some c) at = nothing_there u (sym none ∙ at)
+    kept None at = asks (may_ask s) at
+
     by : (b : Bool) → (rewrites_if s file b).0.task ≡ Some u → IsOfFile u.stage
     by true at = nothing_there u (sym none ∙ at)
-    by false at = asks (may_ask s) at
+    by false at = kept (fresh_content s.cache file s.clock) at
 
 -- what is done on an open file leaves nothing under way, but a close
 local_none : (s : client.State) (t : Option Task) (l : Option Local) (does : Local → client.State × ClientStep) (u : Task) → s.task ≡ None → ((l : Local) → (does l).0.task ≡ Some u → IsOfFile u.stage) → (on_local s t l does).0.task ≡ Some u → IsOfFile u.stage
@@ -394,14 +410,14 @@ walk_begun all s c None e none u at o n begin file pointless word = by (may_walk
     by false at = nothing_there u (sym none ∙ at)
 
 command_begins : (all : List Moment) (s : client.State) (d : Command) (now : ℕ) → s.task ≡ None → (u : Task) → (command_step s d now).0.task ≡ Some u → (o : Op) (n : ℕ) → n ≡ o.begin → o.file ≡ file_of d → o.point ≡ None → o.word ≡ word_of d → IsOn all d o u.stage n
-command_begins all s (command.Named c) now none u at o n begin file pointless word = walk_begun all s c s.task none none u at o n begin file pointless word
-command_begins all s (command.Open f) now none u at o n begin file pointless word = opens_of_file s f u none s.task none at
-command_begins all s (command.Rewrite f) now none u at o n begin file pointless word = rewrites_of_file s f u none s.task none at
-command_begins all s (command.Write f offset content) now none u at o n begin file pointless word = local_none s s.task (client.local_at s.opened f) (writes s f offset content) u none (λ l. writes_none s f offset content l u none) at
-command_begins all s (command.Trunc f size) now none u at o n begin file pointless word = local_none s s.task (client.local_at s.opened f) (truncates s f size) u none (λ l. edits_none s f l size (truncated l.bytes size) u none) at
-command_begins all s (command.Read f offset count) now none u at o n begin file pointless word = local_none s s.task (client.local_at s.opened f) (reads s offset count) u none (λ l e. nothing_there u (sym none ∙ e)) at
-command_begins all s (command.Close f) now none u at o n begin file pointless word = local_none s s.task (client.local_at s.opened f) (closes s f) u none (λ l. closes_none s f l u none) at
-command_begins all s (command.Abandon f) now none u at o n begin file pointless word = local_none s s.task (client.local_at s.opened f) (abandons s f) u none (λ l e. nothing_there u (sym none ∙ e)) at
+command_begins all s (command.Named c) now none u at o n begin file pointless word = walk_begun all (clocked s now) c s.task none none u at o n begin file pointless word
+command_begins all s (command.Open f) now none u at o n begin file pointless word = opens_of_file (clocked s now) f u none s.task none at
+command_begins all s (command.Rewrite f) now none u at o n begin file pointless word = rewrites_of_file (clocked s now) f u none s.task none at
+command_begins all s (command.Write f offset content) now none u at o n begin file pointless word = local_none (clocked s now) s.task (client.local_at s.opened f) (writes (clocked s now) f offset content) u none (λ l. writes_none (clocked s now) f offset content l u none) at
+command_begins all s (command.Trunc f size) now none u at o n begin file pointless word = local_none (clocked s now) s.task (client.local_at s.opened f) (truncates (clocked s now) f size) u none (λ l. edits_none (clocked s now) f l size (truncated l.bytes size) u none) at
+command_begins all s (command.Read f offset count) now none u at o n begin file pointless word = local_none (clocked s now) s.task (client.local_at s.opened f) (reads (clocked s now) offset count) u none (λ l e. nothing_there u (sym none ∙ e)) at
+command_begins all s (command.Close f) now none u at o n begin file pointless word = local_none (clocked s now) s.task (client.local_at s.opened f) (closes (clocked s now) f) u none (λ l. closes_none (clocked s now) f l u none) at
+command_begins all s (command.Abandon f) now none u at o n begin file pointless word = local_none (clocked s now) s.task (client.local_at s.opened f) (abandons (clocked s now) f) u none (λ l e. nothing_there u (sym none ∙ e)) at
 
 -- one that walks runs, or was answered at once
 walk_over : (s : client.State) (c : PathCommand) (o : Op) (step : ℕ) → o.outcome ≡ told.Running → o.begin ≡ step → (t : Option Task) → (let r = walks s c t in let new : Op = op_after o r.0 [] step r.1 in (new.outcome ≡ told.Running) ⊎ (new.end ≡ Some new.begin))
@@ -413,7 +429,7 @@ walk_over s c o step run begin None = by (may_walk s (begun c))
     by false = inr (ap (λ (n : ℕ). Some n) (sym begin))
 
 command_over : (all : List Moment) (s : client.State) (d : Command) (now : ℕ) (o : Op) (step : ℕ) → o.word ≡ word_of d → o.outcome ≡ told.Running → o.begin ≡ step → (let r = command_step s d now in IsOver all d (op_after o r.0 [] step r.1))
-command_over all s (command.Named c) now o step word run begin = (word_stays o (walks s c s.task).0 [] step (walks s c s.task).1 ∙ word, elim (walk_over s c o step run begin s.task) [ inl runs ↦ inl runs | inr once ↦ inr (inl once) ])
+command_over all s (command.Named c) now o step word run begin = (word_stays o (walks (clocked s now) c s.task).0 [] step (walks (clocked s now) c s.task).1 ∙ word, elim (walk_over (clocked s now) c o step run begin s.task) [ inl runs ↦ inl runs | inr once ↦ inr (inl once) ])
 command_over all s _ now o step word run begin = tt
 
 does_onward : (all past : List Moment) (opening : List Opening) (k : Core) (qs : List Queue) (c now : ℕ) (d : Command) (seat : Seat) → IsSmall d → IsKept (book_at opening k all) k qs → numbered k.seats c ≡ Some seat → Walks all past k → Walks all (past ++ moment k (Does c now d) ∷ []) (does k c now d (Some seat)).core
@@ -434,7 +450,7 @@ does_onward all past opening k qs c now d seat small kept here h = onward all pa
     new = made_by k c now d seat acts.0 acts.1
 
     deed : Deed
-    deed = record { client = c; command = d; begin = k.steps + 1; joined = joined_from c false past; calls = calls_from c 0 past }
+    deed = record { client = c; command = d; begin = k.steps + 1; joined = joined_from c false past; calls = calls_from c 0 past; fresh = is_fresh_for (numbered k.seats c) now d }
 
     r : Core
     r = (does k c now d (Some seat)).core
@@ -460,7 +476,7 @@ does_onward all past opening k qs c now d seat small kept here h = onward all pa
     own : (i : ℕ) → i ≡ c → IsMatched seat → (j : Job) → job then_ ≡ Some j → ((old : Seat) × (numbered k.seats i ≡ Some old) × (job old ≡ Some j) × ((o : Op) → slice_get k.ops j.place ≡ Some o → (q : Op) × (slice_get r.ops j.place ≡ Some q) × WayKept o q)) ⊎ ((x : Deed) × (o : Op) × (slice_get (deeds_of past ++ deed ∷ []) j.place ≡ Some x) × (slice_get r.ops j.place ≡ Some o) × (o.begin ≡ x.begin) × (o.word ≡ word_of x.command) × IsOn all x.command o j.stage r.steps)
     own i mine (inr (old, busy)) j is =
         let task = job_task seat.place seat.client.task old busy in
-        let same : acts.0 ≡ seat.client = (busy_command seat.client d now (record { file = old.file; stage = old.stage }) task).1 in
+        let same : acts.0 ≡ clocked seat.client now = (busy_command seat.client d now (record { file = old.file; stage = old.stage }) task).1 in
         inl (seat, ap (numbered k.seats) mine ∙ here, job_stays seat old (length k.ops) busy j acts.1.ended (ap (λ (z : client.State). job_of (place_with seat.place (length k.ops) acts.1.ended) z.task) (sym same) ∙ is), λ o at. (o, kept_appended k.ops new j.place o at, same_kept o))
     own i mine (inl idle) j is = inr (begins acts.1.ended refl (ap (λ (l : Option ℕ). job_of (place_with l (length k.ops) acts.1.ended) acts.0.task) (sym idle.0) ∙ is))
       where

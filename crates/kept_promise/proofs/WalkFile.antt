@@ -12,6 +12,7 @@ use Rattle.path_calls.specs.declared.answers.Told.TheVariants as leading
 use Rattle.path_calls.specs.declared.walk.Walk.{Walk}
 use Rattle.client_state.specs.State as client
 use Rattle.client_state.specs.Ending.{may_walk}
+use Rattle.client_state.specs.Noting.{at as clocked}
 use Rattle.client_state.specs.declared.step.Outcome.TheVariants as outcome
 use Rattle.client_state.specs.declared.task.Stage.TheVariants as stage
 use Rattle.file_open.specs.Fetching.{asks_kept}
@@ -20,10 +21,9 @@ use Rattle.open_close.specs.Walking.{walks, walks_if}
 use Rattle.register_model.specs.Register.{changes}
 use Rattle.register_model.specs.declared.op.Word.TheVariants as words
 use Rattle.trace_ends.specs.Ops.{file_with, has_point, point_if}
-use Rattle.trace_replay.specs.Traffic.{AreOwn}
 use Rattle.trace_replay.specs.Walking.{Part, Part.asks, Part.waits, IsUnfound, HasWalkFile, HasFoundFile}
 use Rattle.kept_promise.proofs.Common.{Body, Pending, Command, command_step, took, Ended, Stage, Task, Word, Op, TakenCall, op_after, Deal, Deal.Sent, Deal.Took, ClientStep, file_of, is_some}
-use Rattle.kept_promise.proofs.Messages.{goal_word, stage_word}
+use Rattle.kept_promise.proofs.Messages.{goal_word}
 use Rattle.kept_promise.proofs.FindsOpen.{finds_open, finds_rewrite, asks_word}
 use Rattle.kept_promise.proofs.StepCases.{IsOfFile, IsFault, Walks, fronts, walk_cases}
 use Rattle.kept_promise.proofs.WalkLog.{GoesAs, IsUnder, IsGetting, walk_more}
@@ -117,6 +117,8 @@ walk_filed n file p log was s calls task y w x b same h = walk_cases (FiledOn n 
   leases = λ id c k shut there no is un. filed_more n p log was y w h (Took (message.Answer x b) ∷ map Sent (asks_kept (fronts s id) id (Some c)).1.send) (takes (λ (m : Deal). HasWalkFile n (waits y w) (m ∷ map Sent (asks_kept (fronts s id) id (Some c)).1.send)) k (told_filed n w k.answer y (map Sent (asks_kept (fronts s id) id (Some c)).1.send) (leading.Finds id) (told_by k) is));
   renew_already = λ id k already no is un. filed_more n p log was y w h (Took (message.Answer x b) ∷ []) (takes (λ (m : Deal). HasWalkFile n (waits y w) (m ∷ [])) k (told_filed n w k.answer y [] (leading.Rewrites id) (told_by k) is));
   renews = λ id k shut no is un. filed_more n p log was y w h (Took (message.Answer x b) ∷ map Sent (asks_version (fronts s id) id).1.send) (takes (λ (m : Deal). HasWalkFile n (waits y w) (m ∷ map Sent (asks_version (fronts s id) id).1.send)) k (told_filed n w k.answer y (map Sent (asks_version (fronts s id) id).1.send) (leading.Rewrites id) (told_by k) is));
+  opens_now = λ id c k shut fresh no is un. filed_more n p log was y w h (Took (message.Answer x b) ∷ []) (takes (λ (m : Deal). HasWalkFile n (waits y w) (m ∷ [])) k (told_filed n w k.answer y [] (leading.Finds id) (told_by k) is));
+  empties_now = λ id c k shut fresh no is un. filed_more n p log was y w h (Took (message.Answer x b) ∷ []) (takes (λ (m : Deal). HasWalkFile n (waits y w) (m ∷ [])) k (told_filed n w k.answer y [] (leading.Rewrites id) (told_by k) is));
   ends = λ v e k last no is un. filed_more n p log was y w h (Took (message.Answer x b) ∷ []) (takes (λ (m : Deal). HasWalkFile n (waits y w) (m ∷ [])) k (told_filed n w k.answer y [] (leading.Ends e) (told_by k) tt));
 })
   where
@@ -140,7 +142,7 @@ walk_begins n none s c None = by (may_walk s (begun c))
     by false = tt
 
 pub command_filed : (n : Op) (s : client.State) (d : Command) (now : ℕ) → n.file ≡ file_of d → HasFoundFile d n (map Sent (command_step s d now).1.send)
-command_filed n s (command.Named c) now none = walk_begins n none s c s.task
+command_filed n s (command.Named c) now none = walk_begins n none (clocked s now) c s.task
 command_filed n s d now none = tt
 
 -- ---- of a command
@@ -160,4 +162,4 @@ lost_point o c taken step acts lost = by acts.ended lost
   where
     by : (l : Option Ended) → ((e : Ended) → l ≡ Some e → e.outcome ≡ outcome.Lost) → (op_after o c taken step (record acts { ended = l })).point ≡ o.point
     by None none = refl
-    by (Some e) is = ap (λ (b : Bool). point_if b taken e.rests_on o.point) (ap (has_point o.word) (is e refl) ∙ lost_pointless o.word)
+    by (Some e) is = ap (λ (b : Bool). point_if b taken e.rests_on step o.point) (ap (has_point o.word) (is e refl) ∙ lost_pointless o.word)

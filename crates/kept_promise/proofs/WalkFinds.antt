@@ -4,17 +4,16 @@ use Rattle.client_state.specs.State as client
 use Rattle.client_state.specs.declared.task.Stage.TheVariants as stage
 use Rattle.register_model.specs.declared.op.Outcome.{Outcome}
 use Rattle.register_model.specs.declared.op.Outcome.TheVariants as told
-use Rattle.register_model.specs.declared.op.Word.TheVariants as words
 use Rattle.kept_promise.proofs.Common.{changes, slice_get, slice_set, Pending, Change, Stage, Op, Traffic, Core, Seat, Session, numbered, hashed_of, Book, Entries, Ask, Told, Queue, Word}
 use Rattle.kept_promise.proofs.Statements.{CallFits}
 use Rattle.kept_promise.proofs.Lists.{some_is, nothing_there, same_or_not, of_replaced, at_replaced, false_and_true, all_map}
 use Rattle.kept_promise.proofs.Messages.{Job, job, stage_word, AllTolds, IsAsked, IsAnswer, Trying, FetchOf, IsPiece, TempUnder, CloseOf}
-use Rattle.kept_promise.proofs.Rights.{Caused, IsRight, open_not_close}
+use Rattle.kept_promise.proofs.Rights.{Caused, IsRight}
 use Rattle.kept_promise.proofs.History.{onward, Becomes, goes_becomes, still_becomes}
 use Rattle.kept_promise.proofs.Later.{cached_later}
 use Rattle.kept_promise.proofs.Turns.{Around, turned_core}
 use Rattle.kept_promise.proofs.Ordered.{AllFetching}
-use Rattle.kept_promise.proofs.OrderSteps.{orderly_ends, free_on, open_no_close}
+use Rattle.kept_promise.proofs.OrderSteps.{orderly_ends, free_on}
 use Rattle.kept_promise.proofs.Facts.{Cached, IsOf, HasXids, IsKept, commits_in}
 use Rattle.kept_promise.proofs.Heard.{Moves, put_up, kept_heard}
 use Rattle.kept_promise.proofs.Begins.{First, call_first, answer_first}
@@ -81,15 +80,15 @@ pub record FindsOn (book : Book) (k : Core) (qs : List Queue) (n : ℕ) (x : Ses
   pub xids : HasXids ((session_at book k qs n x q t ts j g).seat.client.next_xid + 1) s
   pub bounded : (session_at book k qs n x q t ts j g).seat.client.next_xid + 1 ≤ 4294967296
 
-pub kept_finds : (book : Book) (k : Core) (qs : List Queue) (n : ℕ) (x : Session) (q : Queue) (t : Told) (ts : List Told) (j : Job) (g : Here book k qs n x q t ts j) (id : ℕ) (s : Stage) (a : Ask) (cache : Entries) (tr : Traffic) (seats : List Seat) (after : List Queue) → FindsOn book k qs n x q t ts j g id s a → Cached book cache
+pub kept_finds : (book : Book) (k : Core) (qs : List Queue) (n : ℕ) (x : Session) (q : Queue) (t : Told) (ts : List Told) (j : Job) (g : Here book k qs n x q t ts j) (id : ℕ) (s : Stage) (a : Ask) (cache : Entries) (sent : ℕ) (tr : Traffic) (seats : List Seat) (after : List Queue) → FindsOn book k qs n x q t ts j g id s a → Cached book cache
     → (let h = session_at book k qs n x q t ts j g in
-    let c = gone_on h.seat.client id (h.seat.client.next_xid + 1) s h.seat.client.forgotten cache h.seat.client.index in
+    let c = gone_on h.seat.client id (h.seat.client.next_xid + 1) sent s h.seat.client.forgotten cache h.seat.client.index in
     let of = job_op book k qs x h.seat j g.kept h.owner g.job_is in
     let ops = slice_set book.ops j.place (finding_op of.op tr id) in
-    Around k.seats seats x.owner (record h.seat { client = c; place = Some j.place }) → Around qs after n (put_up q x.hung (a ∷ []) ts) → IsKept (onward book 1 ops) (turned_core (onward book 1 ops) k.server seats k.sessions) after)
-kept_finds book k qs n x q t ts j g id s a cache tr seats after w cached around queues =
+    Around k.seats seats x.owner (record h.seat { client = c; place = Some j.place }) → Around qs after n (put_up q x.hung (a ∷ []) ts) → IsKept (onward book 1 ops) (turned_core k (onward book 1 ops) k.server seats k.sessions) after)
+kept_finds book k qs n x q t ts j g id s a cache sent tr seats after w cached around queues =
     let h = session_at book k qs n x q t ts j g in
-    let c = gone_on h.seat.client id (h.seat.client.next_xid + 1) s h.seat.client.forgotten cache h.seat.client.index in
+    let c = gone_on h.seat.client id (h.seat.client.next_xid + 1) sent s h.seat.client.forgotten cache h.seat.client.index in
     let of = job_op book k qs x h.seat j g.kept h.owner g.job_is in
     let r = finding_op of.op tr id in
     let ops = slice_set book.ops j.place r in

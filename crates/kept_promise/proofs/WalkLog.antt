@@ -27,6 +27,7 @@ use Rattle.trace_ends.specs.Ops.{file_with}
 use Rattle.trace_replay.specs.Traffic.{AreOwn, IsOwnCall}
 use Rattle.trace_replay.specs.Walking.{Part, Part.asks, Part.waits, IsWalk}
 use Rattle.kept_promise.proofs.Common.{Body, Message, Pending, Command, command_step, commit_call, names_all, took, ClientStep, Ended, Stage, Task, Word, told_of, Deal, Deal.Sent, Deal.Took, Deal.Found}
+use Rattle.sha1.specs.Sha1.{sha1}
 use Rattle.kept_promise.proofs.Lists.{some_is, nothing_there}
 use Rattle.kept_promise.proofs.Messages.{stage_word}
 use Rattle.kept_promise.proofs.StepCases.{IsOfFile, IsFault, Walks, fronts, walk_cases, took_cases, command_cases, reads_of}
@@ -202,6 +203,12 @@ not_given f e = absurd cc
 not_already : outcome.AlreadyOpen ≡ outcome.NoLink → ⊥
 not_already e = absurd cc
 
+not_opened : (file len : ℕ) (digest : List ℕ) → outcome.Opened file len digest ≡ outcome.NoLink → ⊥
+not_opened file len digest e = absurd cc
+
+not_done : outcome.Done ≡ outcome.NoLink → ⊥
+not_done e = absurd cc
+
 pub walk_gave : (p : Part) (log : List Deal) (file : ℕ) (s : client.State) (calls : List Pending) (task y : ℕ) (w : Walk) (x : ℕ) (b : Body) → x ≡ y → IsUnder p log file (stage.Walking y w) → GaveBy p log x b (took s calls task (stage.Walking y w) x b)
 walk_gave p log file s calls task y w x b same h = walk_cases (GaveBy p log x b) s calls task y w x b (record {
   fault = λ f bad e at link. absurd (not_given f (ap (λ (z : Ended). z.outcome) (some_is _ e at) ∙ link));
@@ -209,6 +216,8 @@ walk_gave p log file s calls task y w x b same h = walk_cases (GaveBy p log x b)
   open_already = λ id k is e at link. absurd (not_already (ap (λ (z : Ended). z.outcome) (some_is _ e at) ∙ link));
   fetches = λ id k shut none e at link. nothing_there e at;
   leases = λ id c k shut there e at link. nothing_there e at;
+  opens_now = λ id c k shut fresh e at link. absurd (not_opened id (length c.bytes) (sha1 c.bytes) (ap (λ (z : Ended). z.outcome) (some_is _ e at) ∙ link));
+  empties_now = λ id c k shut fresh e at link. absurd (not_done (ap (λ (z : Ended). z.outcome) (some_is _ e at) ∙ link));
   renew_already = λ id k is e at link. absurd (not_already (ap (λ (z : Ended). z.outcome) (some_is _ e at) ∙ link));
   renews = λ id k shut e at link. nothing_there e at;
   ends = λ v z k is e at link. gave_more p log file y w h (Took (message.Answer x b) ∷ []) (takes (λ (m : Deal). GaveUp (waits y w) (m ∷ [])) k (told_gave w k.answer y [] (leading.Ends z) (its k) (told_by k) (refl, end_no_link z (ap (λ (q : Ended). q.outcome) (some_is _ e at) ∙ link))));
@@ -254,6 +263,14 @@ walk_said p log file s calls task y w x b same h = walk_cases (SaidBy p log file
     stage = λ u running is. subst (λ (t : Task). IsUnder p (log ++ Took (message.Answer x b) ∷ map Sent (asks_version (fronts s id) id).1.send) id t.stage) (some_is (record { file = id; stage = stage.Rewriting s.next_xid }) u is) (under_more p log file y w h (Took (message.Answer x b) ∷ map Sent (asks_version (fronts s id) id).1.send) id (stage.Rewriting s.next_xid) (takes (λ (m : Deal). IsUnder (waits y w) (m ∷ map Sent (asks_version (fronts s id) id).1.send) id (stage.Rewriting s.next_xid)) k (told_to w k.answer y id (map Sent (asks_version (fronts s id) id).1.send) (stage.Rewriting s.next_xid) (leading.Rewrites id) (its k) (told_by k) (refl, (refl, tt), tt, refl))));
     each = over_more told.Running p log file y w h (Took (message.Answer x b) ∷ map Sent (asks_version (fronts s id) id).1.send) (takes (λ (m : Deal). IsWalk told.Running (waits y w) (m ∷ map Sent (asks_version (fronts s id) id).1.send)) k (told_walk told.Running w k.answer y (map Sent (asks_version (fronts s id) id).1.send) (leading.Rewrites id) (told_by k) (refl, tt)));
   };
+  opens_now = λ id c k shut fresh no. record {
+    stage = λ u running. nothing_there _ (sym running);
+    each = over_more (told.Opened (length c.bytes) (sha1 c.bytes)) p log file y w h (Took (message.Answer x b) ∷ []) (takes (λ (m : Deal). IsWalk (told.Opened (length c.bytes) (sha1 c.bytes)) (waits y w) (m ∷ [])) k (told_walk (told.Opened (length c.bytes) (sha1 c.bytes)) w k.answer y [] (leading.Finds id) (told_by k) tt));
+  };
+  empties_now = λ id c k shut fresh no. record {
+    stage = λ u running. nothing_there _ (sym running);
+    each = over_more told.Done p log file y w h (Took (message.Answer x b) ∷ []) (takes (λ (m : Deal). IsWalk told.Done (waits y w) (m ∷ [])) k (told_walk told.Done w k.answer y [] (leading.Rewrites id) (told_by k) tt));
+  };
   ends = λ v e k is no. record {
     stage = λ u running. nothing_there _ (sym running);
     each = over_more (told_of (outcome_of e)) p log file y w h (Took (message.Answer x b) ∷ []) (takes (λ (m : Deal). IsWalk (told_of (outcome_of e)) (waits y w) (m ∷ [])) k (told_walk (told_of (outcome_of e)) w k.answer y [] (leading.Ends e) (told_by k) (refl, refl)));
@@ -296,7 +313,7 @@ file_said p log file s calls st x b found of gets h = record {
     chunks z e = tt
 
     sends : Sends (stage_word st) file [] (took s calls file st x b)
-    sends = took_cases (λ found r. Sends (stage_word st) file [] r) s calls file st x b of (sends_cases s calls file [] st x b (chunks st gets) (λ close. absurd (apart (stage_word st) gets close)))
+    sends = took_cases (λ found r. Sends (stage_word st) file [] r) s calls file st x b of (λ found r g until lease is z. z) (sends_cases s calls file [] st x b (chunks st gets) (λ close. absurd (apart (stage_word st) gets close)))
       where
         apart : (what : Word) → IsGetting what → what ≡ words.Close → ⊥
         apart words.Close (inl e) close = absurd cc
@@ -357,7 +374,7 @@ own_none w file v (Sent m ∷ ds) h = by w m h.0 (own_none w file v ds h.1)
     by w m own k = absurd own
 
 file_none : (s : client.State) (calls : List Pending) (file : ℕ) (st : Stage) (x : ℕ) (b : Body) → IsOfFile st → SendsNone (map Sent (took s calls file st x b).1.send)
-file_none s calls file st x b of = took_cases (λ found r. SendsNone (map Sent r.1.send)) s calls file st x b of (record {
+file_none s calls file st x b of = took_cases (λ found r. SendsNone (map Sent r.1.send)) s calls file st x b of (λ found r g until lease is z. z) (record {
   ends = λ r e unchanged came. quiet r e.sent;
   changed = λ r f version e open_ gave last is. quiet r e.sent;
   uses = λ y l bytes at is kept. tt;
@@ -396,6 +413,8 @@ command_none s d now not = command_cases (λ r. SendsNone (map Sent r.1.send)) s
   fetches = λ file is un may. tt;
   asks = λ file kept is un may at. tt;
   renews = λ file is un may. tt;
+  opens_now = λ file c is un shut fresh. tt;
+  empties_now = λ file c is un shut fresh. tt;
   walks = λ c is un may. absurd (not c is);
   closes = λ file l is un may at. tt;
 })
@@ -407,6 +426,8 @@ command_plain s d now not free = command_cases (λ r. (u : Task) → r.0.task �
   fetches = λ file is un may u at. of_task _ u at tt;
   asks = λ file kept is un may has u at. of_task _ u at tt;
   renews = λ file is un may u at. of_task _ u at tt;
+  opens_now = λ file c is un shut fresh u at. nothing_there u (sym free ∙ at);
+  empties_now = λ file c is un shut fresh u at. nothing_there u (sym free ∙ at);
   walks = λ c is un may u at. absurd (not c is);
   closes = λ file l is un may has u at. of_task _ u at tt;
 })

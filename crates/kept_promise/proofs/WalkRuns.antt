@@ -23,7 +23,7 @@ use Rattle.client_state.specs.declared.step.Outcome.TheVariants as outcome
 use Rattle.client_state.specs.State as client
 use Rattle.client_cache.specs.Cache.{content_of, reserved}
 use Rattle.client_cache.specs.declared.kept.Content.{Content}
-use Rattle.client_state.specs.Ending.{is_open}
+use Rattle.client_state.specs.Ending.{is_open, forgets}
 use Rattle.file_open.specs.Fetching.{asks_kept}
 use Rattle.open_close.specs.Walking.{finding, finds_if, renews_if, is_look, walked}
 use Rattle.register_model.specs.declared.op.Outcome.{Outcome as History}
@@ -57,6 +57,9 @@ use Rattle.kept_promise.proofs.PathNames.{IsWalkSmall, is_making, is_creating, c
 use Rattle.kept_promise.proofs.StepCases.{IsOfFile, Cases, took_cases}
 use Rattle.tree_reading.specs.Reading.{attr_of}
 use Rattle.kept_promise.proofs.TreeDirs.{names_in}
+use Rattle.file_open.specs.Caching.{fresh_content}
+use Rattle.file_open.specs.Fetching.{finds_kept, opens_fresh}
+use Rattle.file_open.specs.Rewriting.{asks_version, empties_kept, empties_fresh}
 use Rattle.kept_promise.proofs.Walked.{HasWalk, reached_all}
 use Rattle.kept_promise.proofs.WalkComes.{WalkEnds, WalkComes, walk_comes}
 use Rattle.kept_promise.proofs.Goings.{RefusedAs}
@@ -264,9 +267,9 @@ module _ (all : List Moment) (book : Book) (are : book.moments ≡ all) (order :
   same_point : (k : PathCommand) → o.word ≡ path_word k → (is_find k ≡ false) → (e : Ended) → (r : client.State × ClientStep) → r.1.ended ≡ Some e → (become r).point ≡ o.point
   same_point k w other e r is = ap (λ (l : Option Ended). (op_after o r.0 taken now (record r.1 { ended = l })).point) is ∙ by k w other
     where
-      by : (k : PathCommand) → o.word ≡ path_word k → (is_find k ≡ false) → point_if (has_point o.word e.outcome) taken e.rests_on o.point ≡ o.point
+      by : (k : PathCommand) → o.word ≡ path_word k → (is_find k ≡ false) → point_if (has_point o.word e.outcome) taken e.rests_on now o.point ≡ o.point
       by (path.Find s) w other = absurd cc
-      by _ w other = ap (λ (z : Word). point_if (has_point z e.outcome) taken e.rests_on o.point) w
+      by _ w other = ap (λ (z : Word). point_if (has_point z e.outcome) taken e.rests_on now o.point) w
 
   -- one that may change a file has none while its call is still to come, and none if that was refused
   at_last : changes (goal_word w.goal) ≡ true → is_creating w ≡ false → HasNeither o
@@ -311,14 +314,14 @@ module _ (all : List Moment) (book : Book) (are : book.moments ≡ all) (order :
       looks s same = making_none w.left w.goal (ap (λ (g : Goal). is_find_goal g) (subst (λ (k : PathCommand). HasWalk (bare all) o.begin k w step) same old).1)
 
       pointless_find : (k : PathCommand) → c ≡ k → o.word ≡ path_word k → is_find k ≡ true → IsPointless k (become r) (status_number e) (step_of h.at)
-      pointless_find (path.Find s) same own_word found = ap (λ (l : Option Ended). (op_after o r.0 taken now (record r.1 { ended = l })).point) is ∙ ap (λ (z : Word). point_if (has_point z (outcome.Refused e)) taken x o.point) own_word ∙ elim (stale_or_not e) [
+      pointless_find (path.Find s) same own_word found = ap (λ (l : Option Ended). (op_after o r.0 taken now (record r.1 { ended = l })).point) is ∙ ap (λ (z : Word). point_if (has_point z (outcome.Refused e)) taken x now o.point) own_word ∙ elim (stale_or_not e) [
         | inl stale ↦
-            ap (λ (z : Status). point_if (has_point words.Open (outcome.Refused z)) taken x o.point) stale
-            ∙ h.was (looks s same)
+            ap (λ (z : Status). point_if (has_point words.Open (outcome.Refused z)) taken x now o.point) stale
+            ∙ ap (λ (z : Option ℕ). Some (Rattle.std.specs.Prelude.unwrap_or z now)) (h.was (looks s same))
             ∙ ap (λ (n : ℕ). Some n) (sym h.step_is)
             ∙ sym (ap (λ (z : Status). look_up_point (status_number z) (step_of h.at)) stale)
         | inr other ↦
-            ap (λ (b : Bool). point_if b taken x o.point) other.1
+            ap (λ (b : Bool). point_if b taken x now o.point) other.1
             ∙ (subst (λ (k : PathCommand). IsBare k o) same idle).1
             ∙ sym (ap (λ (b : Bool). let p : Option ℕ = if b then Some (step_of h.at) else None in p) other.0)
       ]
@@ -350,16 +353,24 @@ module _ (all : List Moment) (book : Book) (are : book.moments ≡ all) (order :
   asks_on s calls l k v w plain has = record { way = λ none u at. subst (λ (t : Task). OnWay all k (become (walked s calls x l (leading.Asks v))) t.stage now) (some_is (record { file = 0; stage = stage.Walking s.next_xid v }) u at) (step_of h.at, has, at_le, bare_same k o (become (walked s calls x l (leading.Asks v))) refl refl plain, w); ends = λ e at. none_some e at }
 
   finds_of : (s : client.State) (calls : List Pending) (spot : Spot) (id : ℕ) → o.word ≡ words.Open → o.point ≡ None → Leads (bare all) o.begin ROOT (all_names spot) id (step_of h.at) → (is_open : Bool) → (let r = finds_if s calls x id is_open in Onward all (path.Find spot) r (op_after o r.0 taken now r.1) now)
-  finds_of s calls spot id w pointless leads true = record { way = λ none u at. some_none _ none; ends = λ e at. inl (record { step = step_of h.at; found = leads; inside = inside (become (finds_if s calls x id true)) refl o.begin begun }, λ is. ap (λ (z : Word). point_if (has_point z outcome.AlreadyOpen) taken 0 o.point) w ∙ pointless, tt) }
-  finds_of s calls spot id w pointless leads false = by (content_of s.cache id)
+  finds_of s calls spot id w pointless leads true = record { way = λ none u at. some_none _ none; ends = λ e at. inl (record { step = step_of h.at; found = leads; inside = inside (become (finds_if s calls x id true)) refl o.begin begun }, λ is. ap (λ (z : Word). point_if (has_point z outcome.AlreadyOpen) taken 0 now o.point) w ∙ pointless, tt) }
+  finds_of s calls spot id w pointless leads false = fresh (fresh_content s.cache id s.clock)
     where
       by : (kept : Option Content) → (let r = finding id (asks_kept (record s { cache = reserved s.cache id }) id kept) in Onward all (path.Find spot) r (op_after o r.0 taken now r.1) now)
       by None = record { way = λ none u at. subst (λ (t : Task). OnWay all (path.Find spot) (become (finding id (asks_kept (record s { cache = reserved s.cache id }) id None))) t.stage now) (some_is (record { file = id; stage = stage.Hashing 1 s.next_xid }) u at) ((spot, inl refl, (step_of h.at, leads, at_le)), pointless, w); ends = λ e at. none_some e at }
       by (Some kept) = record { way = λ none u at. subst (λ (t : Task). OnWay all (path.Find spot) (become (finding id (asks_kept (record s { cache = reserved s.cache id }) id (Some kept)))) t.stage now) (some_is (record { file = id; stage = stage.Asking s.next_xid }) u at) ((spot, inl refl, (step_of h.at, leads, at_le)), pointless, w); ends = λ e at. none_some e at }
 
+      fresh : (v : Option Content) → (let r = finding id (finds_kept s calls x id v) in Onward all (path.Find spot) r (op_after o r.0 taken now r.1) now)
+      fresh None = by (content_of s.cache id)
+      fresh (Some v) = record { way = λ none u at. some_none _ none; ends = λ e at. inl (record { step = step_of h.at; found = leads; inside = inside (become (finding id (opens_fresh (forgets s calls x) id v))) refl o.begin begun }, (λ is. absurd cc), tt) }
+
   renews_of : (s : client.State) (calls : List Pending) (spot : Spot) (id : ℕ) → o.word ≡ words.Rewrite → o.point ≡ None → Leads (bare all) o.begin ROOT (all_names spot) id (step_of h.at) → (is_open : Bool) → (let r = renews_if s calls x id is_open in Onward all (path.Rewrite spot) r (op_after o r.0 taken now r.1) now)
   renews_of s calls spot id w pointless leads true = record { way = λ none u at. some_none _ none; ends = λ e at. inl (record { step = step_of h.at; found = leads; inside = inside (become (renews_if s calls x id true)) refl o.begin begun }, tt) }
-  renews_of s calls spot id w pointless leads false = record { way = λ none u at. subst (λ (t : Task). OnWay all (path.Rewrite spot) (become (renews_if s calls x id false)) t.stage now) (some_is (record { file = id; stage = stage.Rewriting s.next_xid }) u at) ((spot, inr refl, (step_of h.at, leads, at_le)), pointless, w); ends = λ e at. none_some e at }
+  renews_of s calls spot id w pointless leads false = fresh (fresh_content s.cache id s.clock)
+    where
+      fresh : (v : Option Content) → (let r = finding id (empties_kept s calls x id v) in Onward all (path.Rewrite spot) r (op_after o r.0 taken now r.1) now)
+      fresh (Some v) = record { way = λ none u at. some_none _ none; ends = λ e at. inl (record { step = step_of h.at; found = leads; inside = inside (become (finding id (empties_fresh (forgets s calls x) id v))) refl o.begin begun }, refl) }
+      fresh None = record { way = λ none u at. subst (λ (t : Task). OnWay all (path.Rewrite spot) (become (finding id (asks_version (record s { cache = reserved s.cache id }) id))) t.stage now) (some_is (record { file = id; stage = stage.Rewriting s.next_xid }) u at) ((spot, inr refl, (step_of h.at, leads, at_le)), pointless, w); ends = λ e at. none_some e at }
 
   ends_by : (s : client.State) (calls : List Pending) (k : PathCommand) → o.word ≡ path_word k → IsBare k o → HasWalk (bare all) o.begin k w step → (t : Leading) → WalkEnds (bare all) o.begin step h.at k w t → Comes s calls (is_look w.goal) k t
   ends_by s calls (path.Find spot) wd plain has t (found, is, leads) = subst (Comes s calls (is_look w.goal) (path.Find spot)) (sym is) (finds_of s calls spot found.id wd plain.1 leads (is_open s.opened found.id))
@@ -523,7 +534,7 @@ file_cases s calls file st x b = record {
 }
 
 pub took_file : (s : client.State) (calls : List Pending) (file : ℕ) (st : Stage) (x : ℕ) (b : Body) → IsOfFile st → OnFile (took s calls file st x b)
-took_file s calls file st x b of = took_cases (λ found r. OnFile r) s calls file st x b of (file_cases s calls file st x b)
+took_file s calls file st x b of = took_cases (λ found r. OnFile r) s calls file st x b of (λ found r g until lease is h. h) (file_cases s calls file st x b)
 
 -- ---- all operations
 

@@ -8,6 +8,7 @@ use Rattle.register_model.specs.declared.op.Outcome.{Outcome as History}
 use Rattle.wire.specs.declared.message.Message.TheVariants as message
 use Rattle.path_calls.specs.Walk.{begun}
 use Rattle.path_calls.specs.declared.walk.Walk.{Walk}
+use Rattle.client_state.specs.Noting.{at as at_clock}
 use Rattle.client_state.specs.State as client
 use Rattle.client_state.specs.Ending.{may_walk}
 use Rattle.client_state.specs.declared.step.Outcome.TheVariants as outcome
@@ -18,7 +19,7 @@ use Rattle.register_model.specs.declared.op.Outcome.TheVariants as told
 use Rattle.register_model.specs.declared.op.Word.TheVariants as words
 use Rattle.trace_ends.specs.Session.{taken_of as session_taken}
 use Rattle.trace_ends.specs.Ops.{begun as op_begun, file_with}
-use Rattle.trace_replay.specs.Trail.{given_in, given_by_message}
+use Rattle.trace_replay.specs.Trail.{is_fresh_for, given_in, given_by_message}
 use Rattle.file_open.specs.Looking.{reading_by, with_file}
 use Rattle.trace_replay.specs.Walking.{Part, Part.asks, IsWalk, AreCalls, HasWalkFile, HasFoundFile}
 use Rattle.kept_promise.proofs.Common.{◌==◌, Word, Outcome, told_of, slice_get, slice_set, Command, ClientStep, Ended, ended_by, command_step, Stage, Task, Op, Opening, TakenCall, op_after, ops_with, ops_after, place_after, Core, Seat, Event, Event.Does, Event.Hears, Event.Cuts, numbered, with_numbered, acted, session_of, happens, Moment, Deed, deeds_of, Book, Queue, got_step, got_message, told_message, reply_body, Body, took, idle, drops, Message, joined_from, calls_from, deed_by, word_of, file_of, value_at_begin, wanted_by, Deal, Deal.Sent, deals_with, deals_of}
@@ -212,7 +213,7 @@ walk_first s c None e none u at file = by (may_walk s (begun c)) at
     by false at = nothing_there u (sym none ∙ at)
 
 command_first : (s : client.State) (d : Command) (now : ℕ) → s.task ≡ None → (u : Task) → (command_step s d now).0.task ≡ Some u → (file : ℕ) → IsSaid d (map Sent (command_step s d now).1.send) file u.stage
-command_first s (command.Named c) now none u at file = walk_first s c s.task refl none u at file
+command_first s (command.Named c) now none u at file = walk_first (at_clock s now) c s.task refl none u at file
 command_first s d now none u at file = (command_plain s d now (λ c e. absurd cc) none u at, command_none s d now (λ c e. absurd cc))
 
 -- of an operation that begins in this step
@@ -225,7 +226,7 @@ walk_calls s c None step = by (may_walk s (begun c))
     by false = inl (refl, refl, inr refl)
 
 command_calls : (s : client.State) (d : Command) (now step : ℕ) → (let r = command_step s d now in HasCalls d (outcome_by r.1.ended) (end_by step r.1.ended) step (map Sent r.1.send))
-command_calls s (command.Named c) now step = walk_calls s c s.task step
+command_calls s (command.Named c) now step = walk_calls (at_clock s now) c s.task step
 command_calls s d now step = command_none s d now (λ c e. absurd cc)
 
 begins_said : (k : Core) (c now : ℕ) (d : Command) (seat : Seat) → (let r = command_step seat.client d now in let new = made_by k c now d seat r.0 r.1 in IsNew c d (k.steps + 1) r.1 new → HasSaid d (map Sent r.1.send) new)
@@ -387,13 +388,13 @@ said_hears all past opening k qs after n now bytes mid kept h left j o job_is at
     said_now = deals_of o past ++ deals_with (wanted_by h.seat.client (Ok (told_message h.told))) (given_by_message h.seat.client (Ok (told_message h.told))) (got_step h.seat.client (Ok (told_message h.told)) now).1.send
 
     plain : IsOfFile j.stage × SendsNone (deals_of o past) → PlainOn (deals_of o past ++ deals_with (wanted_by h.seat.client (Ok (told_message h.told))) (given_by_message h.seat.client (Ok (told_message h.told))) (got_step h.seat.client (Ok (told_message h.told)) now).1.send) (got_step h.seat.client (Ok (told_message h.told)) now)
-    plain was = heard_plain (deals_of o past) h.seat.client j h.told.xid (reply_body h.told.reply) task was.0 was.1 faultless
+    plain was = heard_plain (deals_of o past) (at_clock h.seat.client now) j h.told.xid (reply_body h.told.reply) task was.0 was.1 faultless
 
     listed : (c : PathCommand) → IsUnder (asks (begun c)) (deals_of o past) o.file j.stage → GaveNow (command.Named c) new.outcome new.end new.begin said_now
     listed (path.List ns) was = λ link late. ended r.1.ended refl link
       where
         g : AnswerGave (asks (begun (path.List ns))) (deals_of o past) (got_step h.seat.client (Ok (told_message h.told)) now) (wanted_by h.seat.client (Ok (told_message h.told))) (given_by_message h.seat.client (Ok (told_message h.told)))
-        g = heard_gave ns (deals_of o past) h.seat.client j h.told.xid (reply_body h.told.reply) task (under_moves (asks (begun (path.List ns))) (deals_of o past) o.file j.file j.stage named was)
+        g = heard_gave ns (deals_of o past) (at_clock h.seat.client now) j h.told.xid (reply_body h.told.reply) task (under_moves (asks (begun (path.List ns))) (deals_of o past) o.file j.file j.stage named was)
 
         ended : (e : Option Ended) → r.1.ended ≡ e → (op_after o r.0 taken (k.steps + 1) (record r.1 { ended = e })).outcome ≡ told.NoLink → GaveUp (asks (begun (path.List ns))) said_now
         ended None is link = absurd (running_link (sym running_is ∙ link))
@@ -419,12 +420,12 @@ said_hears all past opening k qs after n now bytes mid kept h left j o job_is at
 
     on : (x : Command) → IsSaid x (deals_of o past) o.file j.stage → HasFoundFile x o (deals_of o past) → ((u : Task) → r.1.ended ≡ None → r.0.task ≡ Some u → IsSaid x said_now new.file u.stage) × HasSaid x said_now new
     on (command.Named c) was has =
-        let a = heard_said (asks (begun c)) (deals_of o past) h.seat.client j h.told.xid (reply_body h.told.reply) task (under_moves (asks (begun c)) (deals_of o past) o.file j.file j.stage named was) faultless in (
+        let a = heard_said (asks (begun c)) (deals_of o past) (at_clock h.seat.client now) j h.told.xid (reply_body h.told.reply) task (under_moves (asks (begun c)) (deals_of o past) o.file j.file j.stage named was) faultless in (
           λ u running is. now_under c u running is u.stage refl (a.stage u running is),
           record {
             each = inr (subst (λ (u : History). IsWalk u (asks (begun c)) said_now) (sym (outcome_now o r.0 taken (k.steps + 1) r.1 running_is)) a.each);
             gave = listed c was;
-            filed = heard_filed new o (asks (begun c)) (deals_of o past) h.seat.client j h.told.xid (reply_body h.told.reply) task was has faultless (file_now o r.0 taken (k.steps + 1) r.1) (word_after o r.0 taken (k.steps + 1) r.1) (point_now o r.0 taken (k.steps + 1) r.1);
+            filed = heard_filed new o (asks (begun c)) (deals_of o past) (at_clock h.seat.client now) j h.told.xid (reply_body h.told.reply) task was has faultless (file_now o r.0 taken (k.steps + 1) r.1) (word_after o r.0 taken (k.steps + 1) r.1) (point_now o r.0 taken (k.steps + 1) r.1);
           },
         )
     on _ was has = (λ u running is. ((plain was).stage u running is, (plain was).each), record { each = (plain was).each; gave = tt; filed = tt })
@@ -457,11 +458,11 @@ said_laws all past rest opening k qs mid after kept count worded = record {
 }
   where
     deed_was : (e : Event) (p : ℕ) (d : Deed) → slice_get (deeds_of (past ++ moment k e ∷ [])) p ≡ Some d → p < length k.ops → slice_get (deeds_of past) p ≡ Some d
-    deed_was e p d deed lt = front (deeds_of past) (deed_by past (k.steps + 1) e) p d (omega (arith, lt, count)) (ap (λ (l : List Deed). slice_get l p) (sym (deeds_more past (moment k e))) ∙ deed)
+    deed_was e p d deed lt = front (deeds_of past) (deed_by past k e) p d (omega (arith, lt, count)) (ap (λ (l : List Deed). slice_get l p) (sym (deeds_more past (moment k e))) ∙ deed)
 
     deed_new : (c now : ℕ) (d : Command) (x : Deed) → slice_get (deeds_of (past ++ moment k (Does c now d) ∷ [])) (length k.ops) ≡ Some x → x.command ≡ d
     deed_new c now d x deed =
-        let told_ : Deed = record { client = c; command = d; begin = k.steps + 1; joined = joined_from c false past; calls = calls_from c 0 past } in
+        let told_ : Deed = record { client = c; command = d; begin = k.steps + 1; joined = joined_from c false past; calls = calls_from c 0 past; fresh = is_fresh_for (numbered k.seats c) now d } in
         ap (λ (z : Deed). z.command) (some_is x told_ (sym (ap (λ (l : List Deed). slice_get l (length k.ops)) (sym (deeds_more past (moment k (Does c now d)))) ∙ deed) ∙ ap (slice_get (deeds_of past ++ told_ ∷ [])) count ∙ at_end (deeds_of past) told_))
 
 pub said_event : FitLaws → (all past rest : List Moment) (opening : List Opening) (k : Core) (qs : List Queue) (e : Event) (mid after : List Queue) → Step all past rest opening k qs e mid after → ArePast k.steps past → length k.ops ≡ length (deeds_of past) → AreWorded past k.ops → AreSaid past k → AreSaid (past ++ moment k e ∷ []) (happens k e).core

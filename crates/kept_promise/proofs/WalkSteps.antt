@@ -10,7 +10,6 @@ use Rattle.path_calls.specs.declared.answers.Ended.{Ended as WalkEnd}
 use Rattle.path_calls.specs.declared.answers.Ended.TheVariants as walk_end
 use Rattle.path_calls.specs.declared.answers.Told.{Told as Leading}
 use Rattle.path_calls.specs.declared.answers.Told.TheVariants as leading
-use Rattle.path_calls.specs.declared.walk.Goal.{Goal}
 use Rattle.path_calls.specs.declared.walk.Goal.TheVariants as goal
 use Rattle.path_calls.specs.declared.walk.Walk.{Walk}
 use Rattle.open_close.specs.Walking.{asks_next, finding, outcome_of, is_look, is_its, seen_in}
@@ -29,28 +28,27 @@ use Rattle.register_model.specs.declared.op.Word.TheVariants as words
 use Rattle.trace_replay.specs.Causes.{Within}
 use Rattle.trace_replay.specs.Naming.{tree_at, entry_file}
 use Rattle.trace_replay.specs.OwnCalls.{held_at}
-use Rattle.trace_ends.specs.Ops.{op_ended, file_with, told_of, taken_at, value_of}
-use Rattle.kept_promise.proofs.Common.{cond, ask_message, place_after, TakenCall, Contains, Moment, numbered, slice_get, slice_set, changes, is_running, has_point, point_if, counted, no_counts, op_after, ClientStep, Stage, Op, Word, Traffic, Core, Session, Book, Call.Walks, Call.Hash, Call.Lease, Reply.Walked, NameReply, name_answer, Ask, Told, Queue, idle, took, acted, not, Pending, Program, reply_program, is_untold, nat_lt, nat_tests}
+use Rattle.trace_ends.specs.Ops.{op_ended, file_with, told_of, value_of}
+use Rattle.kept_promise.proofs.Common.{cond, ask_message, place_after, Contains, Moment, numbered, slice_set, changes, is_running, has_point, point_if, counted, no_counts, op_after, ClientStep, Stage, Op, Word, Core, Session, Book, Call.Walks, Call.Hash, Call.Lease, Reply.Walked, NameReply, name_answer, Ask, Told, Queue, idle, took, not, Pending, Program, reply_program, nat_lt, nat_tests}
 use Rattle.kept_promise.proofs.Keys.{times}
 use Rattle.kept_promise.proofs.Lists.{some_is, nothing_there, false_and_true}
 use Rattle.kept_promise.proofs.Messages.{hash_offset, Job, goal_word, stage_word, FetchOf, AnswerOf, WalkTold, IsNameOwed, CloseOf, UnmadeBy, PointedBy}
-use Rattle.kept_promise.proofs.PathNames.{IsAsking, IsAhead, IsWalkSmall, walk_calls, is_making, is_creating, creates_at, makes_later}
-use Rattle.kept_promise.proofs.Rights.{is_remote, may_point, WasWalk, Caused, RefusedBy, IsUnmade, DoneBy}
-use Rattle.kept_promise.proofs.History.{onward, Becomes, grows_becomes}
-use Rattle.kept_promise.proofs.Later.{cached_later}
+use Rattle.kept_promise.proofs.PathNames.{IsAhead, IsWalkSmall, walk_calls, is_making, is_creating, creates_at, makes_later}
+use Rattle.kept_promise.proofs.Rights.{WasWalk, Caused, RefusedBy, IsUnmade, DoneBy}
 use Rattle.kept_promise.proofs.Caches.{cached_reserved}
 use Rattle.kept_promise.proofs.Facts.{IsSession, IsOf, HasXids, is_naming}
 use Rattle.kept_promise.proofs.Heard.{Moves, told_pending, ask_pending, change_once}
 use Rattle.kept_promise.proofs.Moves.{moves_single}
-use Rattle.kept_promise.proofs.Leading.{Leads}
-use Rattle.kept_promise.proofs.Steps.{goal_not_close, Here, session_at, job_op, on, Quiet, others_in_order, Stops, kept_stops}
-use Rattle.kept_promise.proofs.Comes.{client_at, op_at}
-use Rattle.kept_promise.proofs.CloseEnds.{forgets, quiet_walked}
+use Rattle.kept_promise.proofs.Steps.{goal_not_close, Here, session_at, job_op, on, Quiet, others_in_order}
+use Rattle.kept_promise.proofs.Comes.{client_at}
+use Rattle.kept_promise.proofs.CloseEnds.{quiet_walked}
 use Rattle.kept_promise.proofs.CloseSteps.{calls_are, task_is}
 use Rattle.kept_promise.proofs.OpenSteps.{said}
 use Rattle.kept_promise.proofs.Commands.{walk_is, hash_first, lease_first, renew_first}
-use Rattle.kept_promise.proofs.Acted.{rest_down, leads_acted, leads_goes, ops_now, place_of}
+use Rattle.kept_promise.proofs.Acted.{leads_acted, leads_goes, ops_now, place_of}
 use Rattle.kept_promise.proofs.StepCases.{IsBad, IsUntold, walk_cases}
+use Rattle.kept_promise.proofs.Fresh.{ActsAt}
+use Rattle.kept_promise.proofs.WalkEnds.{Leads_to, IsWalkWord, walk_word, walk_op, PointOf, IsAsBefore, leads_over, IsUnseen, unpointed, pointed_open, point_by, leads_opened, leads_emptied}
 use Rattle.kept_promise.proofs.WalkFinds.{finding_op, of_file, FindsOn, kept_finds}
 use Rattle.kept_promise.proofs.WalkSound.{WalkStep, WalkStep.over, WalkStep.asks, WalkStep.file, WalkStep.anew, EndsFor, untold_making, came_sound}
 use Rattle.register_model.specs.Register.{success}
@@ -58,144 +56,6 @@ use Rattle.kept_promise.proofs.MakingGoals.{creates_changes, later_changes, chan
 use Rattle.kept_promise.proofs.MakingFiles.{fileless_rename}
 use Rattle.tree_calls.specs.Telling.{told as told_by}
 use Rattle.path_calls.specs.Walk.{next_call}
-
--- the step leads to the facts again
-abbrev pub Leads_to : (book : Book) (k : Core) (qs : List Queue) (n : ℕ) (x : Session) (q : Queue) (t : Told) (ts : List Told) (j : Job) → Here book k qs n x q t ts j → client.State × ClientStep → Type 0
-Leads_to book k qs n x q t ts j g r = Leads book (rest_down qs n q ts) (acted k x.owner (session_at book k qs n x q t ts j g).seat r.0 r.1)
-
--- ---- what a walk is for
-
-abbrev IsWalkWord : Word → Type 0
-IsWalkWord w = (w ≡ words.Close → ⊥) × (is_remote w ≡ true)
-
-walk_word : (g : Goal) → IsAsking g → IsWalkWord (goal_word g)
-walk_word g h = (goal_not_close g, by g h)
-  where
-    by : (g : Goal) → IsAsking g → is_remote (goal_word g) ≡ true
-    by (goal.Find n) h = refl
-    by _ h = refl
-
--- ---- it ends
-
--- the operation that ended
-abbrev walk_op : Op → Traffic → (step named : ℕ) → Option ℕ → Outcome → List ℕ → Op
-walk_op o tr step named p u v = record o { file = named; end = Some step; point = p; outcome = u; value = v; traffic = tr }
-
--- its point is one that it had, or that of an open: a moment within it in which no change was made
-abbrev PointOf : Book → Op → Option ℕ → Type 0
-PointOf book o p = (m : ℕ) → p ≡ Some m → (o.point ≡ Some m) ⊎ ((o.word ≡ words.Open) × (o.begin ≤ m) × (m ≤ book.steps) × ((i : ℕ) → slice_get book.entries i ≡ Some m → ⊥))
-
--- one that may change a file is as it was, but for how it ended; where that is no success, it has no point, and none that is to come
-record IsAsBefore (closing : Option ℕ) (place : ℕ) (o : Op) (made : Option ℕ) (named : ℕ) (p : Option ℕ) (u : Outcome) (v : List ℕ) : Type 0 where
-  point : changes o.word ≡ true → p ≡ o.point
-  file : changes o.word ≡ true → named ≡ o.file
-  value : changes o.word ≡ true → v ≡ o.value
-  unmade : (made ≡ Some place → ⊥) → IsUnmade o → is_untold u ≡ true
-  fails : changes o.word ≡ true → success o.word named u ≡ false → is_untold u ≡ false → p ≡ None
-  made_here : (m : ℕ) → made ≡ Some m → closing ≡ Some m
-
-becomes_over : (book : Book) (o : Op) (place : ℕ) (tr : Traffic) (closing made : Option ℕ) (named : ℕ) (p : Option ℕ) (u : Outcome) (v : List ℕ) → IsWalkWord o.word → PointOf book o p → IsAsBefore closing place o made named p u v → Becomes book made (Some place) place o (walk_op o tr (book.steps + 1) named p u v)
-becomes_over book o place tr closing made named p u v w point same = record {
-  follows = record {
-    client = refl;
-    word = refl;
-    file = λ n g. absurd (n refl);
-    close_file = λ c. absurd (w.0 c);
-    own_file = λ c n. same.file c;
-    begin = refl;
-    point = λ c q e. (same.point c ∙ e, same.file c);
-    value = λ c. same.value c;
-    unmade = λ n z. (z.0, same.point z.0 ∙ z.1, same.unmade n z);
-    end = λ e s. let is = some_is (book.steps + 1) e s in inr (omega (arith, is));
-    running = λ n e. absurd (n refl);
-  };
-  change_point = λ c. same.point c;
-  change_file = λ c. same.file c;
-  point = λ m e. elim (point m e) [ inl was ↦ inl was | inr new ↦ inr (new.0, new.3) ];
-}
-
-running_not : (u : Outcome) → is_running u ≡ false → u ≡ told.Running → ⊥
-running_not u s e = false_and_true (is_running u) s (ap is_running e)
-
-stops_over : (book : Book) (k : Core) (qs : List Queue) (n : ℕ) (x : Session) (q : Queue) (t : Told) (ts : List Told) (j : Job) (g : Here book k qs n x q t ts j) (tr : Traffic) (made : Option ℕ) (named : ℕ) (p : Option ℕ) (u : Outcome) (v : List ℕ) → Quiet k n q → IsWalkWord (stage_word j.stage) → is_running u ≡ false → PointOf book (op_at book k qs n x q t ts j g) p
-    → IsAsBefore x.closing j.place (op_at book k qs n x q t ts j g) made named p u v
-    → ((more : Book) → more.moments ≡ book.moments → Caused more (walk_op (op_at book k qs n x q t ts j g) tr (book.steps + 1) named p u v) u)
-    → Stops book k qs n x q t ts j g (walk_op (op_at book k qs n x q t ts j g) tr (book.steps + 1) named p u v) made (client_at book k qs n x q t ts j g).opened (client.without_call (client.calls_of (client_at book k qs n x q t ts j g)) t.xid)
-stops_over book k qs n x q t ts j g tr made named p u v quiet word stopped_ point same cause =
-    let h = session_at book k qs n x q t ts j g in
-    let of = job_op book k qs x h.seat j g.kept h.owner g.job_is in
-    let r = walk_op of.op tr (book.steps + 1) named p u v in
-    let more = onward book 1 (slice_set book.ops j.place r) in
-    let w : IsWalkWord of.op.word = subst IsWalkWord (sym of.word) word in
-    let right = g.kept.sound.rights j.place of.op of.there in
-    record {
-      quiet = quiet;
-      moves = forgets book k qs n x q t ts j g;
-      becomes = becomes_over book of.op j.place tr x.closing made named p u v w point same;
-      right = record {
-        cause = cause more refl;
-        begun = let b = right.begun in omega (arith, b);
-        pointed = λ m e. elim (point m e) [
-          | inl was ↦ let old = right.pointed m was in let le = old.1 in (old.0, omega (arith, le), old.2)
-          | inr new ↦ let le = new.2 in (new.1, omega (arith, le), ap may_point new.0)
-        ];
-        past = λ e s. let is = some_is (book.steps + 1) e s in let b = right.begun in (omega (arith, b, is), omega (arith, is));
-        ends = sym (ap not stopped_);
-        within = λ l m e f s. let is = some_is (book.steps + 1) e s in elim (point m f) [
-          | inl was ↦ let old = right.pointed m was in let le = old.1 in omega (arith, le, is)
-          | inr new ↦ let le = new.2 in omega (arith, le, is)
-        ];
-        failed = λ c s n. same.fails c s n;
-      };
-      stops = λ e. running_not u stopped_ e;
-      over = inl (word.0);
-      made_here = same.made_here;
-      opened_ok = (g.kept.seats x.owner h.seat h.owner).opened;
-    }
-
-leads_over : (book : Book) (k : Core) (qs : List Queue) (n : ℕ) (x : Session) (q : Queue) (t : Told) (ts : List Told) (j : Job) (g : Here book k qs n x q t ts j) (made : Option ℕ) (o : Told_as) (rests : ℕ) (found : Option ℕ) → Quiet k n q → IsWalkWord (stage_word j.stage) → is_running (told_of o) ≡ false
-    → (let op = op_at book k qs n x q t ts j g in
-    let named = file_with op.file found in
-    let p = point_if (has_point op.word o) x.taken rests op.point in
-    let v = value_of op.value (forgets_of (idle (client_at book k qs n x q t ts j g)) (client.calls_of (client_at book k qs n x q t ts j g)) t.xid) o in
-    PointOf book op p → IsAsBefore x.closing j.place op made named p (told_of o) v → ((more : Book) → more.moments ≡ book.moments → Caused more (walk_op op (counted op.traffic no_counts) (book.steps + 1) named p (told_of o) v) (told_of o))
-    → Leads_to book k qs n x q t ts j g (forgets_of (idle (client_at book k qs n x q t ts j g)) (client.calls_of (client_at book k qs n x q t ts j g)) t.xid, record (ends o rests 0) { found = found }))
-leads_over book k qs n x q t ts j g made o rests found quiet word stops point same cause =
-    let h = session_at book k qs n x q t ts j g in
-    let of = job_op book k qs x h.seat j g.kept h.owner g.job_is in
-    let c = forgets_of (idle h.seat.client) (client.calls_of h.seat.client) t.xid in
-    let acts : ClientStep = record (ends o rests 0) { found = found } in
-    let r = walk_op of.op (counted of.op.traffic no_counts) (book.steps + 1) (file_with of.op.file found) (point_if (has_point of.op.word o) x.taken rests of.op.point) (told_of o) (value_of of.op.value c o) in
-    let shows = stops_over book k qs n x q t ts j g (counted of.op.traffic no_counts) made (file_with of.op.file found) (point_if (has_point of.op.word o) x.taken rests of.op.point) (told_of o) (value_of of.op.value c o) quiet word stops point same cause in
-    leads_acted book k qs n x q ts h.seat c acts None (slice_set book.ops j.place r) [] g.kept g.at g.is h.owner (h.here g.uncut).0 refl (ops_now book x.owner h.seat j of c x.taken acts g.job_is) refl
-    (λ seats after around queues. kept_stops book k qs n x q t ts j g r made h.seat.client.opened (client.without_call (client.calls_of h.seat.client) t.xid) h.seat.client.cache h.seat.client.index seats after shows (cached_later book (onward book 1 (slice_set book.ops j.place r)) made (Some j.place) h.seat.client.cache (grows_becomes book 1 made (Some j.place) j.place of.op r of.there shows.becomes) (g.kept.seats x.owner h.seat h.owner).kept) around queues)
-
--- what is seen has a file, and nothing else
-abbrev IsUnseen : WalkEnd → Type 0
-IsUnseen (walk_end.Seen id kind version len) = ⊥
-IsUnseen e = Unit {0}
-
--- what may change a file has no point by how it ends
-unpointed : (w : Word) (o : Told_as) → changes w ≡ true → has_point w o ≡ false
-unpointed words.Close o e = refl
-unpointed words.Make o e = refl
-unpointed words.Remove o e = refl
-unpointed words.Rename o e = refl
-unpointed w o e = absurd cc
-
--- where an outcome has a point, it is that of an open
-pointed_open : (w : Word) (o : Told_as) → has_point w o ≡ true → w ≡ words.Open
-pointed_open words.Open o e = refl
-pointed_open w o e = absurd cc
-
-point_by : (book : Book) (op : Op) (taken : List TakenCall) (xid moment : ℕ) (o : Told_as) → taken_at taken xid ≡ Some moment → op.begin ≤ moment → moment ≤ book.steps → ((i : ℕ) → slice_get book.entries i ≡ Some moment → ⊥) → PointOf book op (point_if (has_point op.word o) taken xid op.point)
-point_by book op taken xid moment o was after past apart = by (has_point op.word o) refl
-  where
-    by : (b : Bool) → has_point op.word o ≡ b → PointOf book op (point_if b taken xid op.point)
-    by false e = λ m p. inl p
-    by true e = λ m p.
-        let same = some_is moment m (sym was ∙ p) in
-        inr (pointed_open op.word o e, omega (arith, after, same), omega (arith, past, same), λ i at. apart i (at ∙ ap (λ z. Some z) (sym same)))
 
 -- ---- the step
 
@@ -258,17 +118,17 @@ module _ (book : Book) (k : Core) (qs : List Queue) (n : ℕ) (x : Session) (q :
       by true e = absurd (making_unopened w.left w.goal e (sym word_is ∙ sym of.word ∙ opens))
       by false e = e
 
-  point : (o : Told_as) → PointOf book of.op (point_if (has_point of.op.word o) x.taken t.xid of.op.point)
+  point : (o : Told_as) → PointOf book of.op (point_if (has_point of.op.word o) x.taken t.xid (book.steps + 1) of.op.point)
   point o = elim heard.came [
     | inl tells ↦ point_by book of.op x.taken t.xid heard.moment o (heard.was (made_not tells.0)) began heard.past tells.1
     | inr (inl refuses) ↦ unopened refuses.making
     | inr (inr makes) ↦ unopened makes.making
   ]
     where
-      unopened : is_making w ≡ true → PointOf book of.op (point_if (has_point of.op.word o) x.taken t.xid of.op.point)
+      unopened : is_making w ≡ true → PointOf book of.op (point_if (has_point of.op.word o) x.taken t.xid (book.steps + 1) of.op.point)
       unopened making = by (has_point of.op.word o) refl
         where
-          by : (b : Bool) → has_point of.op.word o ≡ b → PointOf book of.op (point_if b x.taken t.xid of.op.point)
+          by : (b : Bool) → has_point of.op.word o ≡ b → PointOf book of.op (point_if b x.taken t.xid (book.steps + 1) of.op.point)
           by false e = λ m p. inl p
           by true e = absurd (making_unopened w.left w.goal making (sym word_is ∙ sym of.word ∙ pointed_open of.op.word o e))
 
@@ -311,6 +171,7 @@ module _ (book : Book) (k : Core) (qs : List Queue) (n : ℕ) (x : Session) (q :
         forgotten = c.forgotten;
         cache = c.cache;
         index = c.index;
+        sent = c.sent;
         asks = a ∷ [];
         shows = record {
           quiet = quiet;
@@ -396,8 +257,8 @@ module _ (book : Book) (k : Core) (qs : List Queue) (n : ℕ) (x : Session) (q :
       never s e = absurd cc
 
   -- its point, its file and its value are as they were, where it may change a file
-  same_point : (o : Told_as) (xid : ℕ) → changes of.op.word ≡ true → point_if (has_point of.op.word o) x.taken xid of.op.point ≡ of.op.point
-  same_point o xid e = ap (λ (b : Bool). point_if b x.taken xid of.op.point) (unpointed of.op.word o e)
+  same_point : (o : Told_as) (xid : ℕ) → changes of.op.word ≡ true → point_if (has_point of.op.word o) x.taken xid (book.steps + 1) of.op.point ≡ of.op.point
+  same_point o xid e = ap (λ (b : Bool). point_if b x.taken xid (book.steps + 1) of.op.point) (unpointed of.op.word o e)
 
   unseen : (b : Bool) (e : WalkEnd) → IsUnseen e → file_with of.op.file (seen_in b e) ≡ of.op.file
   unseen true (walk_end.Seen id kind version len) u = absurd u
@@ -417,14 +278,14 @@ module _ (book : Book) (k : Core) (qs : List Queue) (n : ℕ) (x : Session) (q :
   word_of_goal : (z : Word) → goal_word w.goal ≡ z → changes z ≡ false → changes of.op.word ≡ false
   word_of_goal z e unlike = ap changes (of.word ∙ word_is ∙ e) ∙ unlike
 
-  refused_cause : (s : Status) (named : ℕ) (v : List ℕ) (more : Book) → more.moments ≡ book.moments → (changes of.op.word ≡ false → named ≡ 0) → RefusedBy more (walk_op of.op (counted of.op.traffic no_counts) (book.steps + 1) named (point_if (has_point of.op.word (outcome.Refused s)) x.taken t.xid of.op.point) (told.Refused (status_number s)) v) of.op.word (status_number s)
+  refused_cause : (s : Status) (named : ℕ) (v : List ℕ) (more : Book) → more.moments ≡ book.moments → (changes of.op.word ≡ false → named ≡ 0) → RefusedBy more (walk_op of.op (counted of.op.traffic no_counts) (book.steps + 1) named (point_if (has_point of.op.word (outcome.Refused s)) x.taken t.xid (book.steps + 1) of.op.point) (told.Refused (status_number s)) v) of.op.word (status_number s)
   refused_cause s named v more noted zero_is = by of.op.word refl (subst IsWalkWord (sym of.word) word)
     where
-      stale : (s : Status) → of.op.word ≡ words.Open → status_number s ≡ 70 → (p : ℕ) × Within (walk_op of.op (counted of.op.traffic no_counts) (book.steps + 1) named (point_if (has_point of.op.word (outcome.Refused s)) x.taken t.xid of.op.point) (told.Refused (status_number s)) v) p
-      stale status.Stale e m = let past = heard.past in (heard.moment, (ap (λ z. point_if (has_point z (outcome.Refused status.Stale)) x.taken t.xid of.op.point) e ∙ heard.was (open_not e), began, (book.steps + 1, refl, omega (arith, past))))
+      stale : (s : Status) → of.op.word ≡ words.Open → status_number s ≡ 70 → (p : ℕ) × Within (walk_op of.op (counted of.op.traffic no_counts) (book.steps + 1) named (point_if (has_point of.op.word (outcome.Refused s)) x.taken t.xid (book.steps + 1) of.op.point) (told.Refused (status_number s)) v) p
+      stale status.Stale e m = let past = heard.past in (heard.moment, (ap (λ z. point_if (has_point z (outcome.Refused status.Stale)) x.taken t.xid (book.steps + 1) of.op.point) e ∙ ap (λ (z : Option ℕ). Some (Rattle.std.specs.Prelude.unwrap_or z (book.steps + 1))) (heard.was (open_not e)), began, (book.steps + 1, refl, omega (arith, past))))
       stale s e m = absurd (omega (arith, m))
 
-      walk_was : WasWalk more (walk_op of.op (counted of.op.traffic no_counts) (book.steps + 1) named (point_if (has_point of.op.word (outcome.Refused s)) x.taken t.xid of.op.point) (told.Refused (status_number s)) v)
+      walk_was : WasWalk more (walk_op of.op (counted of.op.traffic no_counts) (book.steps + 1) named (point_if (has_point of.op.word (outcome.Refused s)) x.taken t.xid (book.steps + 1) of.op.point) (told.Refused (status_number s)) v)
       walk_was = record {
         at = heard.at;
         noted = subst (λ (l : List Moment). Contains l heard.at) (sym noted) heard.noted;
@@ -442,7 +303,7 @@ module _ (book : Book) (k : Core) (qs : List Queue) (n : ℕ) (x : Session) (q :
         then_began = heard.then_began ∙ ap (λ (z : Op). z.begin) mine;
       }
 
-      by : (z : Word) → of.op.word ≡ z → IsWalkWord z → RefusedBy more (walk_op of.op (counted of.op.traffic no_counts) (book.steps + 1) named (point_if (has_point of.op.word (outcome.Refused s)) x.taken t.xid of.op.point) (told.Refused (status_number s)) v) z (status_number s)
+      by : (z : Word) → of.op.word ≡ z → IsWalkWord z → RefusedBy more (walk_op of.op (counted of.op.traffic no_counts) (book.steps + 1) named (point_if (has_point of.op.word (outcome.Refused s)) x.taken t.xid (book.steps + 1) of.op.point) (told.Refused (status_number s)) v) z (status_number s)
       by words.Open e a = inr (zero_is (ap changes e), stale s e, walk_was)
       by words.Rewrite e a = inr (zero_is (ap changes e), walk_was)
       by words.Look e a = tt
@@ -458,13 +319,13 @@ module _ (book : Book) (k : Core) (qs : List Queue) (n : ℕ) (x : Session) (q :
           remote_not : false ≡ true → ⊥
           remote_not e = absurd cc
 
-  done_cause : (more : Book) (named : ℕ) (v : List ℕ) → named ≡ of.op.file → walk_told w (name_answer r) ≡ leading.Ends walk_end.Done → is_making w ≡ true → DoneBy more (walk_op of.op (counted of.op.traffic no_counts) (book.steps + 1) named (point_if (has_point of.op.word outcome.Done) x.taken t.xid of.op.point) told.Done v) of.op.word
+  done_cause : (more : Book) (named : ℕ) (v : List ℕ) → named ≡ of.op.file → walk_told w (name_answer r) ≡ leading.Ends walk_end.Done → is_making w ≡ true → DoneBy more (walk_op of.op (counted of.op.traffic no_counts) (book.steps + 1) named (point_if (has_point of.op.word outcome.Done) x.taken t.xid (book.steps + 1) of.op.point) told.Done v) of.op.word
   done_cause more named v same led making = by of.op.word refl
     where
-      pointed : changes of.op.word ≡ true → of.op.point ≡ Some heard.moment → IsSome (point_if (has_point of.op.word outcome.Done) x.taken t.xid of.op.point)
+      pointed : changes of.op.word ≡ true → of.op.point ≡ Some heard.moment → IsSome (point_if (has_point of.op.word outcome.Done) x.taken t.xid (book.steps + 1) of.op.point)
       pointed change is = subst (λ (p : Option ℕ). IsSome p) (sym (same_point outcome.Done t.xid change ∙ is)) refl
 
-      by : (z : Word) → of.op.word ≡ z → DoneBy more (walk_op of.op (counted of.op.traffic no_counts) (book.steps + 1) named (point_if (has_point of.op.word outcome.Done) x.taken t.xid of.op.point) told.Done v) z
+      by : (z : Word) → of.op.word ≡ z → DoneBy more (walk_op of.op (counted of.op.traffic no_counts) (book.steps + 1) named (point_if (has_point of.op.word outcome.Done) x.taken t.xid (book.steps + 1) of.op.point) told.Done v) z
       by words.Rewrite e = absurd (making_unrenewed w.left w.goal making (sym word_is ∙ sym of.word ∙ e))
       by words.Make e = elim (done_so led making (may_change (ap changes e))) [ inl none ↦ absurd (apart (sym e ∙ none.3)) | inr is ↦ pointed (ap changes e) is ]
         where
@@ -480,7 +341,7 @@ module _ (book : Book) (k : Core) (qs : List Queue) (n : ℕ) (x : Session) (q :
           never e = absurd cc
       by z e = tt
 
-  ended_cause : (e : WalkEnd) → walk_told w (name_answer r) ≡ leading.Ends e → EndsFor w e → (v : List ℕ) (more : Book) → more.moments ≡ book.moments → Caused more (walk_op of.op (counted of.op.traffic no_counts) (book.steps + 1) (file_with of.op.file (seen_in (is_look w.goal) e)) (point_if (has_point of.op.word (outcome_of e)) x.taken t.xid of.op.point) (told_of (outcome_of e)) v) (told_of (outcome_of e))
+  ended_cause : (e : WalkEnd) → walk_told w (name_answer r) ≡ leading.Ends e → EndsFor w e → (v : List ℕ) (more : Book) → more.moments ≡ book.moments → Caused more (walk_op of.op (counted of.op.traffic no_counts) (book.steps + 1) (file_with of.op.file (seen_in (is_look w.goal) e)) (point_if (has_point of.op.word (outcome_of e)) x.taken t.xid (book.steps + 1) of.op.point) (told_of (outcome_of e)) v) (told_of (outcome_of e))
   ended_cause walk_end.Done led f v more noted = done_cause more (file_with of.op.file (seen_in (is_look w.goal) walk_end.Done)) v (unseen (is_look w.goal) walk_end.Done tt) led f
   ended_cause (walk_end.Names ns) led f v more noted = of.word ∙ word_is ∙ f
   ended_cause (walk_end.Seen id kind version len) led f v more noted = of.word ∙ word_is ∙ f
@@ -493,7 +354,7 @@ module _ (book : Book) (k : Core) (qs : List Queue) (n : ℕ) (x : Session) (q :
 
   -- what was refused is to change nothing any more
   abbrev Before : Option ℕ → WalkEnd → Type 0
-  Before made e = IsAsBefore x.closing j.place of.op made (file_with of.op.file (seen_in (is_look w.goal) e)) (point_if (has_point of.op.word (outcome_of e)) x.taken t.xid of.op.point) (told_of (outcome_of e)) (value_of of.op.value (forgets_of (idle c) (client.calls_of c) t.xid) (outcome_of e))
+  Before made e = IsAsBefore x.closing j.place of.op made (file_with of.op.file (seen_in (is_look w.goal) e)) (point_if (has_point of.op.word (outcome_of e)) x.taken t.xid (book.steps + 1) of.op.point) (told_of (outcome_of e)) (value_of of.op.value (forgets_of (idle c) (client.calls_of c) t.xid) (outcome_of e))
 
   refused_before : (s : Status) → walk_told w (name_answer r) ≡ leading.Ends (walk_end.Refused s) → changes of.op.word ≡ true → Before (Some j.place) (walk_end.Refused s)
   refused_before s led change =
@@ -530,7 +391,7 @@ module _ (book : Book) (k : Core) (qs : List Queue) (n : ℕ) (x : Session) (q :
   Over e = Leads_to book k qs n x q t ts j g (forgets_of (idle c) (client.calls_of c) t.xid, record (ends (outcome_of e) t.xid 0) { found = seen_in (is_look w.goal) e })
 
   over_so : (e : WalkEnd) (made : Option ℕ) → walk_told w (name_answer r) ≡ leading.Ends e → EndsFor w e → Before made e → Over e
-  over_so e made led f same = leads_over book k qs n x q t ts j g made (outcome_of e) t.xid (seen_in (is_look w.goal) e) quiet word (not_running e) (point (outcome_of e)) same (λ more noted. ended_cause e led f _ more noted)
+  over_so e made led f same = leads_over book k qs n x q t ts j g made (outcome_of e) t.xid (seen_in (is_look w.goal) e) c.opened quiet word (not_running e) (point (outcome_of e)) same (λ more noted grows steps. ended_cause e led f _ more noted) (g.kept.seats x.owner h.seat h.owner).opened
 
   ends_in : (e : WalkEnd) → walk_told w (name_answer r) ≡ leading.Ends e → EndsFor w e → Over e
   ends_in e led f = by e led f (changes of.op.word) refl
@@ -553,17 +414,17 @@ module _ (book : Book) (k : Core) (qs : List Queue) (n : ℕ) (x : Session) (q :
       by e led f false unlike = over_so e None led f (unchanged _ _ _ _ unlike)
 
   already : (id : ℕ) → changes of.op.word ≡ false → Leads_to book k qs n x q t ts j g (finding id (forgets_of (idle c) (client.calls_of c) t.xid, ends outcome.AlreadyOpen 0 0))
-  already id fixed = leads_over book k qs n x q t ts j g None outcome.AlreadyOpen 0 (Some id) quiet word refl (λ m e. inl (open_unpointed of.op.word m e)) (unchanged _ _ _ _ fixed) (λ more noted. tt)
+  already id fixed = leads_over book k qs n x q t ts j g None outcome.AlreadyOpen 0 (Some id) c.opened quiet word refl (λ m e. inl (open_unpointed of.op.word m e)) (unchanged _ _ _ _ fixed) (λ more noted grows steps. tt) (g.kept.seats x.owner h.seat h.owner).opened
     where
-      open_unpointed : (v : Word) (m : ℕ) → point_if (has_point v outcome.AlreadyOpen) x.taken 0 of.op.point ≡ Some m → of.op.point ≡ Some m
+      open_unpointed : (v : Word) (m : ℕ) → point_if (has_point v outcome.AlreadyOpen) x.taken 0 (book.steps + 1) of.op.point ≡ Some m → of.op.point ≡ Some m
       open_unpointed words.Open m e = e
       open_unpointed v m e = e
 
   -- ---- a file was found
 
-  finds_on : (id : ℕ) (s : Stage) (a : Ask) (acts : ClientStep) → FindsOn book k qs n x q t ts j g id s a → acts.found ≡ Some id → acts.ended ≡ None → acts.send ≡ map ask_message (a ∷ []) → Leads_to book k qs n x q t ts j g (record c { cache = reserved c.cache id; next_xid = c.next_xid + 1; task = Some (record { file = id; stage = s }) }, acts)
+  finds_on : (id : ℕ) (s : Stage) (a : Ask) (acts : ClientStep) → FindsOn book k qs n x q t ts j g id s a → acts.found ≡ Some id → acts.ended ≡ None → acts.send ≡ map ask_message (a ∷ []) → Leads_to book k qs n x q t ts j g (record c { cache = reserved c.cache id; next_xid = c.next_xid + 1; task = Some (record { file = id; stage = s }); sent = c.clock }, acts)
   finds_on id s a acts shows found ended send =
-      let state = record c { cache = reserved c.cache id; next_xid = c.next_xid + 1; task = Some (record { file = id; stage = s }) } in
+      let state = record c { cache = reserved c.cache id; next_xid = c.next_xid + 1; task = Some (record { file = id; stage = s }); sent = c.clock } in
       let tr = counted of.op.traffic acts.counts in
       let op_is : op_after of.op state x.taken (book.steps + 1) acts ≡ finding_op of.op tr id =
       ap (λ (z : Option ℕ). op_ended (record of.op { file = file_with of.op.file z; traffic = tr }) state x.taken (book.steps + 1) acts.ended) found
@@ -571,7 +432,7 @@ module _ (book : Book) (k : Core) (qs : List Queue) (n : ℕ) (x : Session) (q :
       leads_acted book k qs n x q ts h.seat state acts (Some j.place) (slice_set book.ops j.place (finding_op of.op tr id)) (a ∷ []) g.kept g.at g.is h.owner (h.here g.uncut).0
       (ap (place_after h.seat.place) ended ∙ place_of h.seat j g.job_is)
       (ops_now book x.owner h.seat j of state x.taken acts g.job_is ∙ ap (slice_set book.ops j.place) op_is) send
-      (λ seats after around queues. kept_finds book k qs n x q t ts j g id s a (reserved c.cache id) tr seats after shows (cached_reserved book c.cache id (g.kept.seats x.owner h.seat h.owner).kept) around queues)
+      (λ seats after around queues. kept_finds book k qs n x q t ts j g id s a (reserved c.cache id) c.clock tr seats after shows (cached_reserved book c.cache id (g.kept.seats x.owner h.seat h.owner).kept) around queues)
 
   fetches_on : (id : ℕ) → id < 18446744073709551616 → goal_word w.goal ≡ words.Open → 380002 ≤ walk_calls w → FindsOn book k qs n x q t ts j g id (stage.Hashing 1 c.next_xid) (record { xid = c.next_xid; call = Hash id 0 })
   fetches_on id small opens room =
@@ -723,14 +584,16 @@ module _ (book : Book) (k : Core) (qs : List Queue) (n : ℕ) (x : Session) (q :
       apart : (u v : ℕ) → leading.Finds u ≡ leading.Rewrites v → ⊥
       apart u v e = cc
 
-  pub leads_walked : Leads_to book k qs n x q t ts j g (took (idle c) (client.calls_of c) j.file (stage.Walking t.xid w) t.xid (body.Nfs (name_answer r)))
-  leads_walked = walk_cases (Leads_to book k qs n x q t ts j g) (idle c) (client.calls_of c) j.file t.xid w t.xid (body.Nfs (name_answer r)) (record {
-    fault = λ f bad. absurd (sound bad);
-    asks = λ v k. asks_as v (its_told k.asked k.walk k.answer (leading.Asks v) k.stage_is k.body_is k.told_is) step;
-    open_already = λ id k is. already id (word_of_goal words.Open (finds_as id (its_told k.asked k.walk k.answer (leading.Finds id) k.stage_is k.body_is k.told_is) step).1 refl);
-    renew_already = λ id k is. already id (word_of_goal words.Rewrite (anew_as id (its_told k.asked k.walk k.answer (leading.Rewrites id) k.stage_is k.body_is k.told_is) step).1 refl);
-    renews = λ id k shut. (let f = anew_as id (its_told k.asked k.walk k.answer (leading.Rewrites id) k.stage_is k.body_is k.told_is) step in finds_on id (stage.Rewriting c.next_xid) (record { xid = c.next_xid; call = Lease id }) (finding id (asks_version (record (idle c) { cache = reserved c.cache id }) id)).1 (renews_on id f.0 f.1 f.2) refl refl refl);
-    fetches = λ id k shut none. (let f = finds_as id (its_told k.asked k.walk k.answer (leading.Finds id) k.stage_is k.body_is k.told_is) step in finds_on id (stage.Hashing 1 c.next_xid) (record { xid = c.next_xid; call = Hash id 0 }) (finding id (asks_kept (record (idle c) { cache = reserved c.cache id }) id None)).1 (fetches_on id f.0 f.1 f.2) refl refl refl);
-    leases = λ id v k shut some. (let f = finds_as id (its_told k.asked k.walk k.answer (leading.Finds id) k.stage_is k.body_is k.told_is) step in finds_on id (stage.Asking c.next_xid) (record { xid = c.next_xid; call = Lease id }) (finding id (asks_kept (record (idle c) { cache = reserved c.cache id }) id (Some v))).1 (leases_on id f.0 f.1 f.2) refl refl refl);
-    ends = λ v e b same. subst (λ (z : Walk). Leads_to book k qs n x q t ts j g (forgets_of (idle c) (client.calls_of c) t.xid, record (ends (outcome_of e) t.xid 0) { found = seen_in (is_look z.goal) e })) (walk_is t.xid b.asked w b.walk b.stage_is ∙ same) (let told = its_told b.asked b.walk b.answer (leading.Ends e) b.stage_is b.body_is b.told_is in ends_in e told (ends_as e told step));
+  pub leads_walked : ((took (idle c) (client.calls_of c) j.file (stage.Walking t.xid w) t.xid (body.Nfs (name_answer r))).1.send ≡ [] → ActsAt book k x.owner h.seat []) → Leads_to book k qs n x q t ts j g (took (idle c) (client.calls_of c) j.file (stage.Walking t.xid w) t.xid (body.Nfs (name_answer r)))
+  leads_walked = walk_cases (λ r. (r.1.send ≡ [] → ActsAt book k x.owner h.seat []) → Leads_to book k qs n x q t ts j g r) (idle c) (client.calls_of c) j.file t.xid w t.xid (body.Nfs (name_answer r)) (record {
+    fault = λ f bad acts. absurd (sound bad);
+    asks = λ v k acts. asks_as v (its_told k.asked k.walk k.answer (leading.Asks v) k.stage_is k.body_is k.told_is) step;
+    open_already = λ id k is acts. already id (word_of_goal words.Open (finds_as id (its_told k.asked k.walk k.answer (leading.Finds id) k.stage_is k.body_is k.told_is) step).1 refl);
+    renew_already = λ id k is acts. already id (word_of_goal words.Rewrite (anew_as id (its_told k.asked k.walk k.answer (leading.Rewrites id) k.stage_is k.body_is k.told_is) step).1 refl);
+    renews = λ id k shut acts. (let f = anew_as id (its_told k.asked k.walk k.answer (leading.Rewrites id) k.stage_is k.body_is k.told_is) step in finds_on id (stage.Rewriting c.next_xid) (record { xid = c.next_xid; call = Lease id }) (finding id (asks_version (record (idle c) { cache = reserved c.cache id }) id)).1 (renews_on id f.0 f.1 f.2) refl refl refl);
+    fetches = λ id k shut none acts. (let f = finds_as id (its_told k.asked k.walk k.answer (leading.Finds id) k.stage_is k.body_is k.told_is) step in finds_on id (stage.Hashing 1 c.next_xid) (record { xid = c.next_xid; call = Hash id 0 }) (finding id (asks_kept (record (idle c) { cache = reserved c.cache id }) id None)).1 (fetches_on id f.0 f.1 f.2) refl refl refl);
+    leases = λ id v k shut some acts. (let f = finds_as id (its_told k.asked k.walk k.answer (leading.Finds id) k.stage_is k.body_is k.told_is) step in finds_on id (stage.Asking c.next_xid) (record { xid = c.next_xid; call = Lease id }) (finding id (asks_kept (record (idle c) { cache = reserved c.cache id }) id (Some v))).1 (leases_on id f.0 f.1 f.2) refl refl refl);
+    opens_now = λ id v z shut fresh acts. leads_opened book k qs n x q t ts j g quiet word id v fresh (acts refl) (of.word ∙ word_is ∙ (finds_as id (its_told z.asked z.walk z.answer (leading.Finds id) z.stage_is z.body_is z.told_is) step).1);
+    empties_now = λ id v z shut fresh acts. leads_emptied book k qs n x q t ts j g quiet word id v fresh (acts refl) (of.word ∙ word_is ∙ (anew_as id (its_told z.asked z.walk z.answer (leading.Rewrites id) z.stage_is z.body_is z.told_is) step).1);
+    ends = λ v e b same acts. subst (λ (z : Walk). Leads_to book k qs n x q t ts j g (forgets_of (idle c) (client.calls_of c) t.xid, record (ends (outcome_of e) t.xid 0) { found = seen_in (is_look z.goal) e })) (walk_is t.xid b.asked w b.walk b.stage_is ∙ same) (let told = its_told b.asked b.walk b.answer (leading.Ends e) b.stage_is b.body_is b.told_is in ends_in e told (ends_as e told step));
   })

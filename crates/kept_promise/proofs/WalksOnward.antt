@@ -19,7 +19,7 @@ use Rattle.kept_promise.proofs.Locally.{deeds_more}
 use Rattle.kept_promise.proofs.JobFacts.{ops_shape}
 use Rattle.kept_promise.proofs.RunsCarried.{book_at, moment}
 use Rattle.kept_promise.proofs.Versions.{of_numbered}
-use Rattle.kept_promise.proofs.EventCases.{IsChange, Remembers, Settled, IsStill}
+use Rattle.kept_promise.proofs.EventCases.{IsChange, Remembers, Settled, IsStill, old_job}
 use Rattle.kept_promise.proofs.Rights.{gets_file}
 use Rattle.kept_promise.proofs.Walked.{HasWalk}
 use Rattle.kept_promise.proofs.WalkRuns.{bare, GetsFile, OnWay, IsOn, EndsAs, JobsOn, IsOver, Walks, SameWay, same_way, is_on, is_over, IsBare}
@@ -100,7 +100,7 @@ over_kept all _ o r (inr s) h = tt
 
 -- what is told of the commands of these moments, where one more came
 abbrev pub More : (past : List Moment) → (k : Core) → Event → List Deed
-More past k e = deeds_of past ++ deed_by past (k.steps + 1) e
+More past k e = deeds_of past ++ deed_by past k e
 
 -- an operation is as it was, as far as its way goes
 abbrev Still : List Op → List Op → Type 0
@@ -164,7 +164,7 @@ still_onward all past k r e le none count seats still back h = onward all past k
 
 -- an operation's change was made
 change_onward : (all past : List Moment) (k : Core) (e : Event) (t : CoreStep) → IsStill k e t → IsNoDeed past k e → IsChange k t.core.ops → Walks all past k → Walks all (past ++ moment k e ∷ []) t.core
-change_onward all past k e t s none c h = still_onward all past k t.core e s.passes none (ap (λ (l : List Op). length l) c.is ∙ set_count k.ops c.place new) (λ i seat j here w. (seat, s.jobs i seat j here w, w))
+change_onward all past k e t s none c h = still_onward all past k t.core e s.passes none (ap (λ (l : List Op). length l) c.is ∙ set_count k.ops c.place new) (λ i seat j here on. let w = s.jobs i seat j here on in (w.0, w.3, old_job w.0 seat w.1 w.2 j w.4 on))
     (λ p q there. elim (same_or_not p c.place) [
       | inr apart ↦ (q, ap (λ (l : List Op). slice_get l p) c.is ∙ set_else k.ops c.place p new apart ∙ there, same_kept q)
       | inl mine ↦ (let e : c.op ≡ q = some_is c.op q (sym c.there ∙ ap (slice_get k.ops) (sym mine) ∙ there) in (new, ap (λ (l : List Op). slice_get l p) c.is ∙ ap (slice_get (slice_set k.ops c.place new)) mine ∙ at_replaced k.ops c.place new c.op c.there, subst (λ (z : Op). WayKept z new) e (way c.kind)))
@@ -189,7 +189,7 @@ walks_still all past k e t s h = by s.ops
     none = ap (λ (l : List Deed). deeds_of past ++ l) (s.deedless past) ∙ append-nil (deeds_of past)
 
     by : Settled k t.core.ops → Walks all (past ++ moment k e ∷ []) t.core
-    by (inl same) = still_onward all past k t.core e s.passes none (ap (λ (l : List Op). length l) same) (λ i seat j here is. (seat, s.jobs i seat j here is, is)) (λ p o at. (o, ap (λ (l : List Op). slice_get l p) same ∙ at, same_kept o)) (λ p q at. (q, ap (λ (l : List Op). slice_get l p) (sym same) ∙ at, same_kept q)) h
+    by (inl same) = still_onward all past k t.core e s.passes none (ap (λ (l : List Op). length l) same) (λ i seat j here on. let w = s.jobs i seat j here on in (w.0, w.3, old_job w.0 seat w.1 w.2 j w.4 on)) (λ p o at. (o, ap (λ (l : List Op). slice_get l p) same ∙ at, same_kept o)) (λ p q at. (q, ap (λ (l : List Op). slice_get l p) (sym same) ∙ at, same_kept q)) h
     by (inr c) = change_onward all past k e t s none c h
 
 -- ---- a client goes on

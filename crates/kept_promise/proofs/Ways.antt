@@ -42,6 +42,8 @@ command_goes s d now = command_cases (GoesBy s d) s d now (record {
   fetches = λ file is free may. record { leaves = λ x e. nothing_there x e; begins = λ u none at. inl (of_task _ u at tt); busy = λ x at none. nothing_there x (sym free ∙ at) };
   asks = λ file c is free may has. record { leaves = λ x e. nothing_there x e; begins = λ u none at. inl (of_task _ u at tt); busy = λ x at none. nothing_there x (sym free ∙ at) };
   renews = λ file is free may. record { leaves = λ x e. nothing_there x e; begins = λ u none at. inl (of_task _ u at tt); busy = λ x at none. nothing_there x (sym free ∙ at) };
+  opens_now = λ file c is free shut fresh. record { leaves = λ x is. refl; begins = λ u none at. nothing_there _ (sym none); busy = λ x at none. nothing_there _ (sym none) };
+  empties_now = λ file c is free shut fresh. record { leaves = λ x is. refl; begins = λ u none at. nothing_there _ (sym none); busy = λ x at none. nothing_there _ (sym none) };
   walks = λ c is free may. record { leaves = λ x e. nothing_there x e; begins = λ u none at. inr (subst IsOnNames (sym is) tt); busy = λ x at none. nothing_there x (sym free ∙ at) };
   closes = λ file l is free may has. record { leaves = λ x e. nothing_there x e; begins = λ u none at. inl (of_task _ u at tt); busy = λ x at none. nothing_there x (sym free ∙ at) };
 })

@@ -66,11 +66,11 @@ goes_wider book ms wider alike sound =
 
 -- ---- all of it
 
-same_core : (book : Book) (ms : List Moment) (k : Core) (qs : List Queue) → IsKept book k qs → turned_core (noting book ms) k.server k.seats k.sessions ≡ k
+same_core : (book : Book) (ms : List Moment) (k : Core) (qs : List Queue) → IsKept book k qs → turned_core k (noting book ms) k.server k.seats k.sessions ≡ k
 same_core book ms k qs h =
-    ap (λ (s : ℕ). record { server = k.server; seats = k.seats; sessions = k.sessions; steps = s; ops = book.ops; entries = book.entries }) h.steps
-    ∙ ap (λ (o : List Op). record { server = k.server; seats = k.seats; sessions = k.sessions; steps = k.steps; ops = o; entries = book.entries }) h.ops
-    ∙ ap (λ (e : List ℕ). record { server = k.server; seats = k.seats; sessions = k.sessions; steps = k.steps; ops = k.ops; entries = e }) h.entries
+    ap (λ (s : ℕ). record k { server = k.server; seats = k.seats; sessions = k.sessions; steps = s; ops = book.ops; entries = book.entries }) h.steps
+    ∙ ap (λ (o : List Op). record k { server = k.server; seats = k.seats; sessions = k.sessions; steps = k.steps; ops = o; entries = book.entries }) h.ops
+    ∙ ap (λ (e : List ℕ). record k { server = k.server; seats = k.seats; sessions = k.sessions; steps = k.steps; ops = k.ops; entries = e }) h.entries
 
 pub kept_wider : (book : Book) (ms : List Moment) (k : Core) (qs : List Queue) → Wider book.moments ms → AreAlike ms → IsKept book k qs → IsKept (noting book ms) k qs
 kept_wider book ms k qs wider alike kept =

@@ -1,11 +1,12 @@
 -- What clients of this project ask, and what the server answers: the messages that are on their way in a run.
-use Rattle.std.specs.Prelude.{◌≡◌, ℕ, List, [], ◌++◌, map, Option, None}
+use Rattle.std.specs.Prelude.{◌≡◌, ℕ, List, [], ◌∷◌, ◌++◌, map, Option, None}
 use Rattle.chunk_cut.specs.declared.chunk.Chunk.{Chunk}
 use Rattle.xdr_codec.specs.declared.answer.Answer.{Answer}
 use Rattle.xdr_codec.specs.declared.attr.Attr.{Attr}
 use Rattle.hash_calls.specs.declared.call.Committed.{Committed}
 use Rattle.hash_calls.specs.declared.call.Hashes.{Hashes}
 use Rattle.hash_calls.specs.declared.call.Leased.{Leased}
+use Rattle.hash_calls.specs.declared.message.Back.TheVariants as back
 use Rattle.hash_calls.specs.declared.message.Lb.TheVariants as lb
 use Rattle.hash_calls.specs.declared.message.LbProc.TheVariants as lb_proc
 use Rattle.nfs3_calls.specs.declared.call.Piece.{Piece}
@@ -28,6 +29,7 @@ use Rattle.path_calls.specs.Walk.{next_call}
 use Rattle.path_calls.specs.declared.walk.Walk.{Walk}
 use Rattle.file_open.specs.Opening.{lease_call, hash_call, read_call}
 use Rattle.file_close.specs.Closing.{make_call, cond_call, commit_call}
+use Rattle.lease_law.specs.Claims.{recall_message}
 use Rattle.trace_ends.specs.Wires.{Wire, bytes_of}
 
 -- ---- calls and answers
@@ -130,8 +132,39 @@ reply_program (Stored a) = program.Lb lb_proc.TmpWrite
 reply_program (Changed a) = program.Lb lb_proc.CommitTmp
 reply_program (Walked r) = program.Nfs (nfs_proc (name_answer r))
 
+-- ---- RECALLs
+
+-- what is on its way to the server: a call, or an answer to the RECALL of this number
+pub data Up : Type 0 where
+  Asks : Ask → Up
+  Replies : (xid : ℕ) → Up
+
+-- what is on its way to a client: an answer, or the RECALL of a file
+pub data Down : Type 0 where
+  Tells : Told → Down
+  Recalls : (xid file : ℕ) → Down
+
+abbrev pub reply_message : (xid : ℕ) → Message
+reply_message xid = message.Answer xid (body.Back back.RecallAnswer)
+
+abbrev pub up_message : Up → Message
+up_message (Asks a) = ask_message a
+up_message (Replies xid) = reply_message xid
+
+abbrev pub down_message : Down → Message
+down_message (Tells t) = told_message t
+down_message (Recalls xid file) = recall_message xid file
+
 -- ---- what is on its way on a session
 
+pub record Mix : Type 0 where
+  pub ups : List Up
+  pub downs : List Down
+
+abbrev pub no_mix : Mix
+no_mix = record { ups = []; downs = [] }
+
+-- the calls and answers alone
 pub record Queue : Type 0 where
   pub ups : List Ask
   pub downs : List Told
@@ -139,9 +172,22 @@ pub record Queue : Type 0 where
 abbrev pub no_queue : Queue
 no_queue = record { ups = []; downs = [] }
 
+abbrev pub asks_in : List Up → List Ask
+asks_in [] = []
+asks_in (Asks a ∷ us) = a ∷ asks_in us
+asks_in (Replies xid ∷ us) = asks_in us
+
+abbrev pub tolds_in : List Down → List Told
+tolds_in [] = []
+tolds_in (Tells t ∷ ds) = t ∷ tolds_in ds
+tolds_in (Recalls xid file ∷ ds) = tolds_in ds
+
+abbrev pub queue_of : Mix → Queue
+queue_of m = record { ups = asks_in m.ups; downs = tolds_in m.downs }
+
 -- a wire carries just these
-pub record Carries (q : Wire) (m : Queue) : Type 0 where
+pub record Carries (q : Wire) (m : Mix) : Type 0 where
   pub up_sound : q.server_end.spoilt ≡ None
-  pub up : q.server_end.rest ++ q.up ≡ bytes_of (map ask_message m.ups)
+  pub up : q.server_end.rest ++ q.up ≡ bytes_of (map up_message m.ups)
   pub down_sound : q.client_end.spoilt ≡ None
-  pub down : q.client_end.rest ++ q.down ≡ bytes_of (map told_message m.downs)
+  pub down : q.client_end.rest ++ q.down ≡ bytes_of (map down_message m.downs)

@@ -6,7 +6,7 @@ use Rattle.wire.specs.Parse.{IsExpected}
 use Rattle.wire.specs.declared.message.Message.{Message}
 use Rattle.client_state.specs.State.{waiting_of}
 use Rattle.open_close.specs.Step.{got_step}
-use Rattle.trace_ends.specs.Core.{Core, CoreStep, server_waiting, server_got, acted}
+use Rattle.trace_ends.specs.Core.{Core, CoreStep, server_waits, server_got, acted}
 use Rattle.trace_ends.specs.Session.{Seat, Session}
 use Rattle.trace_ends.specs.Numbers.{numbered, with_numbered}
 use Rattle.trace_replay.specs.World.{World, routed}
@@ -45,7 +45,7 @@ IsDownTo w number q owner seat m count now =
 -- so it is in every world, of a message that fits a record and that its end expects
 abbrev pub UpsComeWhole : Type 0
 UpsComeWhole = (w : World) (number : ℕ) (q : Wire) (x : Session) (m : Message) (count now : ℕ) → numbered w.wires number ≡ Some q → numbered w.core.sessions number ≡ Some x
-    → MessageFits m → IsExpected server_waiting m → Comes q.server_end q.up m → IsUpTo w number q x m count now
+    → MessageFits m → IsExpected (server_waits w.core number) m → Comes q.server_end q.up m → IsUpTo w number q x m count now
 
 -- and of one that its session's owner expects, whose newest session that is
 abbrev pub DownsComeWhole : Type 0
