@@ -1,5 +1,6 @@
 -- What looking over a store comes to, as text.
-use Rattle.std.specs.Prelude.{ℕ, List, [], ◌++◌, length, Option, Some, None, Bool, true, false, ◌&&◌, ◌==◌, slice_get, codes, decimal, flat_map}
+use Rattle.std.specs.Prelude.{ℕ, List, [], ◌∷◌, ◌++◌, String, string_bytes, length, Option, Some, None, Bool, true, false, ◌&&◌, ◌==◌, slice_get, codes, decimal, flat_map}
+use Rattle.std.specs.declared.alloc.Global.{Global}
 use Rattle.store.specs.declared.record.Kept.{Kept}
 use Rattle.store.specs.declared.record.Kept.TheVariants as kept
 use Rattle.tree_load.specs.Counts.{counts_of}
@@ -121,3 +122,18 @@ report_if false findings all bs = (false, flat_map finding_line findings ++ flat
 -- it is where nothing was found, and no record breaks a rule
 abbrev pub report : (findings : List (List ℕ)) → List Kept → Bool × List ℕ
 report findings all = report_if ((length findings == 0) && (length (broken all) == 0)) findings all (broken all)
+
+-- ---- the first alone
+
+abbrev pub text_in : Option (String Global) → Option (List ℕ)
+text_in None = None
+text_in (Some line) = Some (string_bytes line)
+
+abbrev pub first_of : List Kept → List Broken → Option (List ℕ)
+first_of all [] = None
+first_of all (b ∷ bs) = Some (broken_line all b)
+
+-- the line of the first record that breaks a rule, where nothing else was found
+abbrev pub first_broken : (findings : List (List ℕ)) → List Kept → Option (List ℕ)
+first_broken [] all = first_of all (broken all)
+first_broken (f ∷ fs) all = None

@@ -1,7 +1,7 @@
 -- Worked reports.
-use Rattle.std.specs.Prelude.{◌≡◌, ℕ, List, [], ◌∷◌, ◌++◌, true, false, codes, decimal, refl}
+use Rattle.std.specs.Prelude.{◌≡◌, ℕ, List, [], Some, None, ◌∷◌, ◌++◌, true, false, codes, decimal, refl}
 use Rattle.tree_load.specs.Rows.{head, kept_file, kept_directory, kept_content}
-use Rattle.store_report.specs.Report.{bytes_text, directories_text, files_text, report}
+use Rattle.store_report.specs.Report.{bytes_text, directories_text, files_text, first_broken, report}
 
 row_whole : report [] (head 4 2 ∷ kept_file 2 1 (codes "a") ∷ kept_directory 3 1 (codes "d") ∷ kept_content 2 1 (codes "xyz") ∷ []) ≡ (true, files_text 1 ++ directories_text 1 ++ bytes_text 3)
 row_whole = refl
@@ -20,3 +20,13 @@ row_broken = refl
 -- what was found stands first
 row_found : report (codes "n7: not a node" ∷ codes "c2: permission denied" ∷ []) (kept_file 2 1 (codes "a") ∷ []) ≡ (false, codes "n7: not a node\n" ++ codes "c2: permission denied\n" ++ codes "head: isn't there\n" ++ (line (codes "c") 2 (codes "isn't there, and its file is") ++ []))
 row_found = refl
+
+-- the first alone; where a file isn't read as its record that is told by itself
+row_first : first_broken [] (head 5 1 ∷ kept_file 2 1 (codes "a") ∷ kept_file 3 1 (codes "b") ∷ kept_content 2 7 [] ∷ []) ≡ Some (line (codes "c") 3 (codes "isn't there, and its file is"))
+row_first = refl
+
+row_first_found : first_broken (codes "n7: not a node" ∷ []) (kept_file 2 1 (codes "a") ∷ []) ≡ None
+row_first_found = refl
+
+row_none : first_broken [] (head 4 2 ∷ kept_file 2 1 (codes "a") ∷ kept_content 2 1 [] ∷ []) ≡ None
+row_none = refl

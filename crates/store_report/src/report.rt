@@ -1,7 +1,7 @@
 //! The report on a store: `report` of `specs/Report.antt`.
 
 ghost use Rattle.std.specs.Prelude.{◌≡◌, ◌++◌, Some, IfOk, OnOk, flat_map, map, string_bytes};
-ghost use Rattle.store_report.specs.Report.{broken_line, bytes_text, directories_text, files_text, finding_line, id_of, line_of, name_of, other_text, parent_of, report, report_if, subject_name, whole_text};
+ghost use Rattle.store_report.specs.Report.{broken_line, bytes_text, directories_text, files_text, finding_line, first_broken, first_of, id_of, line_of, name_of, other_text, parent_of, report, report_if, subject_name, text_in, whole_text};
 
 use crate::subject::{Subject, rule_text, subject_of};
 use lb_base::items::{Bytes, Items};
@@ -203,17 +203,31 @@ pub fn report_of(alloc: Global, found: &CheckedStore) -> Result<Report, AllocErr
     report_if(alloc, is_whole, findings, records, faults)
 }
 
-/// The line of the first record that breaks a rule, where every file is read as its record; else nothing.
-pub fn first_broken(alloc: Global, found: &CheckedStore) -> Result<Option<String>, AllocError> {
-    let records = found.records.as_slice();
-    let faults = broken(alloc, records)?;
+/// The line of the first of the records that break a rule, if there is one.
+fn line_of_first(
+    alloc: Global,
+    records: &[Kept],
+    faults: &[Broken],
+) -> Result<Option<String>, AllocError>
+    ensures { IfOk result (λ line. text_in line ≡ first_of records.now faults.now) }
+{
     let Some(first) = faults.first() else {
         return Ok(None);
     };
-    if !found.findings.is_empty() {
-        return Ok(None);
-    }
     let mut line = String::new(alloc);
     put_broken(&mut line, records, first)?;
     Ok(Some(line))
+}
+
+/// The line of the first record that breaks a rule, where every file is read as its record; else nothing. The
+/// one error is want of memory.
+pub fn first_broken(alloc: Global, found: &CheckedStore) -> Result<Option<String>, AllocError>
+    ensures { IfOk result (λ line. text_in line ≡ first_broken (map (λ w. string_bytes w) found.now.findings.items) found.now.records.items) }
+{
+    if !found.findings.is_empty() {
+        return Ok(None);
+    }
+    let records = found.records.as_slice();
+    let faults = broken(alloc, records)?;
+    line_of_first(alloc, records, faults.as_slice())
 }
