@@ -31,6 +31,13 @@ def listens(port):
     return any(row[1].endswith(f":{port:04X}") and row[3] == "0A" for row in rows[1:])
 
 
+def heed_signals():
+    """What a program is started with: it ends by the signals of a terminal, though they be ignored here, as they are in
+    the background of a shell."""
+    for number in (signal.SIGINT, signal.SIGQUIT):
+        signal.signal(number, signal.SIG_DFL)
+
+
 class Run:
     """A run of the program, which is killed at the end where it hasn't ended."""
 
@@ -42,6 +49,7 @@ class Run:
             stdout=subprocess.PIPE,
             stderr=self.errors,
             start_new_session=True,
+            preexec_fn=heed_signals,
             **how,
         )
 

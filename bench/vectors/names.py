@@ -148,7 +148,7 @@ class Served:
     def serve_remove(self, number, xid, node, dir, name):
         if node is None or node in self.tree.directories:
             return self.fail(number, xid, "remove", NO_ENTRY if node is None else DIRECTORY)
-        self.waiting.append((number, xid, "remove", (node, dir, name)))
+        self.comes(number, xid, "remove", (node, dir, name))
 
     def serve_rmdir(self, number, xid, node, dir, name):
         tree = self.tree
@@ -165,7 +165,7 @@ class Served:
             return self.fail(number, xid, "rename", fault)
         if node != over:
             if over in tree.files:
-                return self.waiting.append((number, xid, "rename", (over, dir, name, to, to_name, node)))
+                return self.comes(number, xid, "rename", (over, dir, name, to, to_name, node))
             tree.moves(node, dir, to, to_name, over)
         self.say(number, xid, 4 + 2 * WCC, "done")
 

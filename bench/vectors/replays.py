@@ -9,7 +9,8 @@ FILE is NAME.trace (with NAME.out) or NAME.rows. Each history is compared with t
 here and by the program, from the seed on, 1 where not said otherwise, for so many seconds; with --names
 they have directories and commands on names too (name_traces.py). What is
 refused, and words other than 'replay', are left alone. Messages have their sizes but not their bytes;
-nothing of the clocks is looked at. The status is 1 where a history differs.
+of the clocks what leases need is looked at, and
+the clock rule isn't. The status is 1 where a history differs.
 """
 import hashlib
 import importlib.machinery
@@ -147,6 +148,12 @@ class Client:
         self.number, self.session, self.linked = number, None, False
         self.opened, self.op, self.kept, self.index = {}, None, {}, Index()
         self.xid, self.calls = 0, {}
+        # its reading, that at which the call went out that may bring a lease, and its notes: (version, until)
+        self.now, self.sent, self.notes = 0, 0, {}
+
+    def is_fresh(self, file):
+        version, until = self.notes.get(file, (0, 0))
+        return version > 0 and file in self.kept and self.kept[file][0] == version and self.now < until
 
 
 class World(Served, Walks):
@@ -155,12 +162,18 @@ class World(Served, Walks):
         self.files, self.versions = self.tree.files, self.tree.versions
         self.sessions, self.clients, self.waiting, self.temps = [], [], [], {}
         self.index, self.journal = Index(), 0
+        # the last moment used, the leases by session and file, each [ends, xid of its RECALL], the last xid of a session
+        self.term, self.drift, self.moment, self.leases, self.drawn, self.asked = 0, 0, 0, {}, {}, {}
 
     # ---- the wire
 
     def ask(self, client, kind, size, *rest):
         client.xid += 1
         client.calls[client.xid] = (kind, client.op, client.stage) + rest
+        if kind in ("lease", "hash", "commit"):
+            client.sent = client.now
+        if kind == "commit":
+            client.notes.pop(rest[0], None)
         session = self.sessions[client.session - 1]
         if not session.hung:
             session.up.append((44 + size, client.xid, kind, rest))
@@ -170,7 +183,7 @@ class World(Served, Walks):
         if not session.cut:
             session.down.append((28 + size, xid, rest))
 
-    def take(self, number, way, amount):
+    def take(self, number, way, amount, now):
         session = self.sessions[number - 1]
         queue, came = getattr(session, way), session.came
         left = sum(m[0] for m in queue) - came[way] if amount is None else amount
@@ -183,15 +196,69 @@ class World(Served, Walks):
         for message in messages:
             if way == "up":
                 self.step += 1
-                self.serve(number, *message[1:])
+                self.serve(number, now, *message[1:])
             elif self.clients[session.owner - 1].session == number and not session.cut:
                 self.step += 1
-                self.hear(self.clients[session.owner - 1], message[1], *message[2])
+                client = self.clients[session.owner - 1]
+                client.now = now
+                if message[2][0] == "recall":
+                    self.recalled(client, message[1], message[2][1])
+                else:
+                    self.hear(client, message[1], *message[2])
+
+    # ---- leases
+
+    def term_for(self, file):
+        return 0 if any(w[3][0] == file for w in self.waiting) else self.term
+
+    def grant(self, number, file):
+        term = self.term_for(file)
+        if term:
+            self.leases = {k: v for k, v in self.leases.items() if v[0] > self.moment}
+            self.leases[number, file] = [self.moment + term, None]
+        return term
+
+    def comes(self, number, xid, kind, change):
+        """A change waits, and the leases that hold it up are asked for, on sessions that stand."""
+        self.waiting.append((number, xid, kind, change))
+        own = number if kind == "commit" else 0
+        for (holder, file), lease in self.leases.items():
+            if file == change[0] and holder != own and lease[0] > self.moment and lease[1] is None and not self.sessions[holder - 1].hung:
+                self.drawn[holder] = lease[1] = self.drawn.get(holder, 0) + 1
+                self.asked.setdefault(holder, set()).add(lease[1])
+                if not self.sessions[holder - 1].cut:
+                    self.sessions[holder - 1].down.append((64, lease[1], ("recall", file)))
+
+    def given_up(self, number, xid):
+        if xid in self.asked.get(number, set()):
+            self.asked[number].discard(xid)
+            self.leases = {k: v for k, v in self.leases.items() if k[0] != number or v[1] != xid}
+
+    def ready(self, moment):
+        heads = set()
+        for at, (number, _, kind, change) in enumerate(self.waiting):
+            if change[0] not in heads:
+                heads.add(change[0])
+                own = number if kind == "commit" else 0
+                if not any(file == change[0] and holder != own and lease[0] > moment for (holder, file), lease in self.leases.items()):
+                    return at
+        return None
+
+    def recalled(self, client, xid, file):
+        client.notes.pop(file, None)
+        session = self.sessions[client.session - 1]
+        if not session.hung:
+            session.up.append((28, xid, "reply", ()))
 
     # ---- the server
 
-    def serve(self, number, xid, kind, rest):
+    def serve(self, number, now, xid, kind, rest):
         session = self.sessions[number - 1]
+        if kind == "reply":
+            if xid in self.asked.get(number, set()):
+                self.moment = max(self.moment, now)
+            return self.given_up(number, xid)
+        self.moment = max(self.moment, now)
         session.taken[xid] = self.step
         if kind in FAILURE:
             return self.serve_name(number, xid, kind, rest)
@@ -204,13 +271,14 @@ class World(Served, Walks):
             if file not in self.files:
                 return self.say(number, xid, 8 if kind == "read" else 4, "failed", 70)
         if kind == "lease":
-            self.say(number, xid, 100, "done", self.versions[file])
+            self.say(number, xid, 100, "done", self.versions[file], self.grant(number, file))
         elif kind == "hash":
             listed = chunks(self.files[file])
             told = [c for c in listed if c[0] >= rest[1]][:PAIRS]
             self.index.enter(file, told)
+            term = self.grant(number, file)
             eof = not told or told[-1] == listed[-1]
-            self.say(number, xid, 32 + 24 * len(told), "done", self.versions[file], len(self.files[file]), told, eof)
+            self.say(number, xid, 32 + 24 * len(told), "done", self.versions[file], len(self.files[file]), told, eof, term)
         elif kind == "read":
             bytes_ = self.files[file][rest[1] : rest[1] + rest[2]]
             self.say(number, xid, 104 + whole_words(len(bytes_)), "done", bytes_, self.versions[file])
@@ -229,13 +297,15 @@ class World(Served, Walks):
         else:
             pieces = self.temps.pop((number, rest[1]))
             whole = b"".join(pieces[k] for k in sorted(pieces))
-            self.waiting.append((number, xid, "commit", (rest[0], whole)))
+            self.comes(number, xid, "commit", (rest[0], whole))
 
-    def settle(self):
+    def settle(self, now):
         self.step += 1
-        if not self.waiting:
+        at = self.ready(max(self.moment, now))
+        if at is None:
             return
-        number, xid, kind, change = self.waiting.pop(0)
+        self.moment = max(self.moment, now)
+        number, xid, kind, change = self.waiting.pop(at)
         if kind != "commit":
             return self.settle_name(number, xid, kind, *change)
         file, whole = change
@@ -246,7 +316,7 @@ class World(Served, Walks):
         self.index.enter(file, chunks(whole))
         self.journal += 1
         self.changed(number, file)
-        self.say(number, xid, 16, "done", self.versions[file], len(whole))
+        self.say(number, xid, 16, "done", self.versions[file], len(whole), self.grant(number, file))
 
     def hang(self, number):
         session = self.sessions[number - 1]
@@ -257,6 +327,8 @@ class World(Served, Walks):
         session.up.clear()
         self.temps = {k: v for k, v in self.temps.items() if k[0] != number}
         self.waiting = [w for w in self.waiting if w[0] != number]
+        self.asked.pop(number, None)
+        self.drawn.pop(number, None)
 
     # ---- a client
 
@@ -278,7 +350,12 @@ class World(Served, Walks):
             return
         if said[0] == "failed":
             return self.end(client, f"Refused {said[1]}", xid if said[1] == 70 and op.word == "open" else None)
+        sent, file = client.sent, op.file
         getattr(self, "took_" + kind)(client, xid, rest, said)
+        if kind in ("lease", "hash", "commit"):
+            term = said[-1]
+            if term > self.drift:
+                client.notes[file] = (said[1], sent + term - self.drift)
 
     def took_lease(self, client, xid, rest, said):
         if client.op.word == "rewrite":
@@ -299,7 +376,7 @@ class World(Served, Walks):
         self.ask_hashes(client)
 
     def took_hash(self, client, xid, rest, said):
-        _, version, size, told, eof = said
+        _, version, size, told, eof, _ = said
         if rest[1] and version != client.version:
             return self.retry(client, version)
         client.version, client.listed = version, client.listed + told
@@ -404,6 +481,9 @@ class World(Served, Walks):
         elif word in ("open", "rewrite"):
             if mine is not None:
                 op.out = "AlreadyOpen"
+            elif client.is_fresh(file):
+                client.op, client.stage = op, len(self.ops) * 8
+                return self.open_file(client)
             elif not client.linked:
                 op.out = "NoLink"
             else:
@@ -431,10 +511,19 @@ class World(Served, Walks):
 
     def open_file(self, client):
         client.tries = 1
+        if client.is_fresh(client.op.file):
+            return self.at_once(client)
         if client.op.word == "rewrite" or client.op.file in client.kept:
             self.ask(client, "lease", 20, client.op.file)
         else:
             self.ask_hashes(client)
+
+    def at_once(self, client):
+        op, bytes_ = client.op, client.kept[client.op.file][1]
+        client.opened[op.file] = bytes_ if op.word == "open" else b""
+        if op.word == "open":
+            op.point = self.step
+        self.end(client, f"Opened {len(bytes_)} {digest(bytes_)}" if op.word == "open" else "Done")
 
     def change(self, client, file, mine, word, args):
         at = int(args[1])
@@ -460,7 +549,9 @@ class World(Served, Walks):
 
     def line(self, words):
         kind = words[0]
-        if kind == "clients":
+        if kind in ("term", "drift"):
+            setattr(self, kind, int(words[1]))
+        elif kind == "clients":
             self.clients = [Client(n + 1) for n in range(int(words[1]))]
         elif kind in ("dir", "file"):
             self.tree.opens(words[1], content(words[2]) if kind == "file" else None)
@@ -469,18 +560,20 @@ class World(Served, Walks):
             self.step += 2
             self.sessions.append(Session(client.number))
             client.session, client.linked, client.calls, client.xid = len(self.sessions), True, {}, 0
+            client.now = int(words[2])
         elif kind == "do":
+            self.clients[int(words[1]) - 1].now = int(words[2])
             self.command(self.clients[int(words[1]) - 1], words[3], words[4:])
         elif kind in ("up", "down"):
-            self.take(int(words[1]), kind, None if words[2] == "all" else int(words[2]))
+            self.take(int(words[1]), kind, None if words[2] == "all" else int(words[2]), int(words[3]))
         elif kind == "pass":
             for _ in range(int(words[2])):
                 if self.is_still(int(words[1])):
                     break
-                self.take(int(words[1]), "up", None)
-                self.take(int(words[1]), "down", None)
+                self.take(int(words[1]), "up", None, int(words[3]))
+                self.take(int(words[1]), "down", None, int(words[4]))
         elif kind == "settle":
-            self.settle()
+            self.settle(int(words[1]))
         elif kind == "cut":
             self.cut(self.clients[int(words[1]) - 1])
         elif kind == "hang":
