@@ -2,7 +2,7 @@
 //! contracts.
 
 ghost use Rattle.std.specs.Prelude.{◌≡◌, ◌+◌, ◌<◌, ◌≤◌, ◌^◌, ◌∷◌, ◌++◌, [], OnOk, OnErr, IfOk, IsOk, IsSome, IsTrue, ◌↔◌, is_some, ◌⊎◌, option_copied, false, length};
-ghost use Rattle.lease_table.specs.Leases.{grant, without_lease, marked, without_recalled, without_ended, is_blocked, others, lease_at};
+ghost use Rattle.lease_table.specs.Leases.{grant, without_lease, marked, without_recalled, without_ended, without_session, is_blocked, others, lease_at};
 ghost use Rattle.callback_core.specs.BackCalls.{all_marked};
 ghost use Rattle.callback_core.specs.Waits.{recalls_due, recalls_of, ready, change_of, has_wait, waits_on, without, without_made, places_of, entries_of, bytes_of, IsAnswered};
 
@@ -222,6 +222,16 @@ impl<P: Drop> Waits<P> {
         ensures waits { self.new.waits ≡ self.old.waits }
     {
         self.leases.answered(session, xid);
+    }
+
+    /// The session has no lease any more. It takes no memory.
+    pub fn give_up_all(&mut self, session: u32)
+        ensures leases { self.new.leases ≡ without_session self.old.leases session }
+        ensures spare { self.old.spare ≤ self.new.spare }
+        ensures room { self.old.room ≤ self.new.room }
+        ensures waits { self.new.waits ≡ self.old.waits }
+    {
+        self.leases.give_up_all(session);
     }
 
     /// Forgets the leases that have ended at this reading of the server's clock. It takes no

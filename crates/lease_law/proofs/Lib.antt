@@ -8,3 +8,4 @@ pub mod Granted
 pub mod Events
 pub mod Ways
 pub mod Fresh
+pub mod Farewells

@@ -2,6 +2,7 @@ pub mod Beside
 pub mod Between
 pub mod Claiming
 pub mod Entries
+pub mod GivenUp
 pub mod Held
 pub mod Keeping
 pub mod Leased

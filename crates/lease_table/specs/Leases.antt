@@ -43,6 +43,10 @@ marked leases session file xid = mark leases xid (lease_at leases session file)
 abbrev pub without_recalled : List Lease → (session xid : ℕ) → List Lease
 without_recalled leases session xid = filter (λ l. not (remembers l session xid)) leases
 
+-- a session gives all of its leases up
+abbrev pub without_session : List Lease → (session : ℕ) → List Lease
+without_session leases session = filter (λ l. not (l.session == session)) leases
+
 -- a lease blocks a change of the file that the session asked for
 abbrev pub is_blocked : List Lease → (session file now : ℕ) → Bool
 is_blocked leases session file now = list_any (λ l. blocks l session file now) leases

@@ -1,7 +1,7 @@
 -- What the calls do, at worked lists of leases.
 use Rattle.std.specs.Prelude.{◌≡◌, ℕ, List, [], ◌∷◌, Option, Some, None, true, false, refl}
 use Rattle.lease_rules.specs.declared.lease.Lease.{Lease}
-use Rattle.lease_table.specs.Leases.{lease_at, grant, without_lease, marked, without_recalled, without_ended, is_blocked, others}
+use Rattle.lease_table.specs.Leases.{lease_at, grant, without_lease, marked, without_recalled, without_ended, without_session, is_blocked, others}
 
 abbrev at : (session file ends : ℕ) → Option ℕ → Lease
 at session file ends recall = record { session = session; file = file; ends = ends; recall = recall }
@@ -128,3 +128,15 @@ none_forgotten = refl
 
 ends_just_now : without_ended some 900 ≡ at 1 2 1000 None ∷ at 3 2 1500 (Some 7) ∷ []
 ends_just_now = refl
+
+-- ---- a session gives all of its leases up
+
+-- on each file, those of others stay, and it doesn't matter what was asked for
+all_given_up : without_session some 1 ≡ at 3 2 1500 (Some 7) ∷ []
+all_given_up = refl
+
+asked_for_given_up : without_session some 3 ≡ at 1 2 1000 None ∷ at 1 3 900 None ∷ []
+asked_for_given_up = refl
+
+none_given_up : without_session some 2 ≡ some
+none_given_up = refl

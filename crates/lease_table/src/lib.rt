@@ -7,6 +7,7 @@
 
 mod blocking;
 mod changes;
+mod farewell;
 mod keyed;
 pub mod laws;
 pub mod map;

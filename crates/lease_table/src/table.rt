@@ -1,11 +1,11 @@
 //! The table of leases. `specs/Leases.antt` has the words of its contracts.
 
 ghost use Rattle.std.specs.Prelude.{◌≡◌, ◌+◌, ◌<◌, ◌≤◌, ◌^◌, [], OnOk, OnErr, IfOk, IsOk, IsSome, is_some, ◌⊎◌, length, vec_len, vec_capacity};
-ghost use Rattle.lease_table.specs.Leases.{grant, without_lease, marked, without_recalled, without_ended, is_blocked, others, lease_at};
+ghost use Rattle.lease_table.specs.Leases.{grant, without_lease, marked, without_recalled, without_ended, without_session, is_blocked, others, lease_at};
 
 use crate::keyed::{Ends, Keyed, Recalls};
 use crate::map::ReservedMap;
-use crate::{blocking, changes};
+use crate::{blocking, changes, farewell};
 use lb_base::items::Items;
 use lease_rules::lease::end_of;
 use lease_rules::leaving::KeepsLeases;
@@ -140,6 +140,15 @@ impl Leases {
             session,
             xid,
         );
+    }
+
+    /// The session has no lease any more. It takes no memory, and its time is some passes over the
+    /// leases, and a look-up for each that goes.
+    pub fn give_up_all(&mut self, session: u32)
+        ensures leases { self.new.leases ≡ without_session self.old.leases session }
+        ensures room { self.old.room ≤ self.new.room }
+    {
+        farewell::give_up_all(&mut self.leases, &mut self.recalls, &mut self.ends, session);
     }
 
     /// The sessions, in their order, whose leases on the file are to be asked for back where this

@@ -22,7 +22,7 @@ use Rattle.server_core.specs.declared.event.ServerStep.{ServerStep}
 use Rattle.server_core.specs.Leasing.{unleased}
 use Rattle.server_core.specs.Steps.{sends, to}
 use Rattle.server_core.specs.State.{State, empty, with_term}
-use Rattle.server_core.specs.Step.{server_step, server_step_under, opens_with}
+use Rattle.server_core.specs.Step.{server_step, server_step_under, opens_with, gives_up}
 
 abbrev after : State → List Event → State
 after s [] = s
@@ -206,3 +206,24 @@ hung = refl
 -- what it was asked for is waited for no longer
 hung_calls : (after asked (event.Hang 1 ∷ [])).leasing ≡ record { term = 1000; moment = 5; quiet = 0; leases = lease 1 2 1000 (Some 1) ∷ []; calls = [] }
 hung_calls = refl
+
+-- ---- a session gives all of its leases up
+
+-- on each file; those of others stay
+all_given_up : (gives_up (after tree (leases_at 1 2 0 ∷ leases_at 1 3 0 ∷ leases_at 2 2 3 ∷ [])) 1).leasing.leases ≡ lease 2 2 1003 None ∷ []
+all_given_up = refl
+
+-- what it was asked for stays, and so does what waits, which none of its leases holds up any more
+farewell : (gives_up asked 1).leasing ≡ record { term = 1000; moment = 5; quiet = 0; leases = []; calls = record { session = 1; last = 1; waits = recall_pending 1 ∷ []; spent = false } ∷ [] }
+farewell = refl
+
+farewell_then : steps (gives_up asked 1) (event.Settle 6 ∷ []) ≡ (settled 2 2 1000 ∷ [])
+farewell_then = refl
+
+-- it need not stand any more
+hung_farewell : steps (gives_up (after asked (event.Hang 1 ∷ [])) 1) (event.Settle 6 ∷ []) ≡ (settled 2 2 1000 ∷ [])
+hung_farewell = refl
+
+-- an answer to what it was asked for finds no lease
+answered_behind : (after (gives_up asked 1) (event.Settle 6 ∷ recalls_done 1 1 7 ∷ [])).leasing.leases ≡ lease 2 2 1006 None ∷ []
+answered_behind = refl

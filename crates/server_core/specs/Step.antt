@@ -1,6 +1,7 @@
 -- One event of the server.
 use Rattle.std.specs.Prelude.{◌≡◌, ◌⊎◌, ℕ, ◌+◌, ◌<◌, ◌^◌, [], ◌∷◌, ◌++◌, List, length, Option, Some, None, IsSome, Result, Bool, true, false, ◌==◌, filter, not}
 use Rattle.server_rules.specs.Sessions.{has_place}
+use Rattle.lease_table.specs.Leases.{without_session as without_leases}
 use Rattle.callback_core.specs.Waits.{without}
 use Rattle.xdr_codec.specs.declared.status.Status.{Status}
 use Rattle.xdr_codec.specs.declared.answer.Answer.{Answer}
@@ -178,6 +179,12 @@ forges s key p = with_index s (put s.index key p)
 -- all pairs are dropped
 abbrev pub clears_index : State → State
 clears_index s = with_index s (cleared s.index)
+
+-- ---- the leases of a session alone
+
+-- A session gives all of its leases up. What it was asked for stays: an answer to it finds no lease.
+abbrev pub gives_up : State → (session : ℕ) → State
+gives_up s session = record s { leasing = record s.leasing { leases = without_leases s.leasing.leases session } }
 
 -- ---- what is wanted of an event, and want of memory
 

@@ -5,7 +5,7 @@ ghost use Rattle.callback_core.specs.BackCalls.{spent, waiting_at};
 ghost use Rattle.server_core.specs.Closing.{has_waiting};
 ghost use Rattle.server_core.specs.Served.{IsServed};
 ghost use Rattle.server_core.specs.State.{empty, with_term, entries_held};
-ghost use Rattle.server_core.specs.Step.{server_step, server_step_under, with_tree, opens_with, forges, learns, LearnsSome, clears_index, IsTimed, Misses};
+ghost use Rattle.server_core.specs.Step.{server_step, server_step_under, with_tree, opens_with, forges, learns, LearnsSome, clears_index, gives_up, IsTimed, Misses};
 ghost use Rattle.file_tree.specs.Stores.{Keeps};
 ghost use Rattle.file_tree.specs.Opening.{can_open};
 ghost use Rattle.temp_files.specs.Temps.{temp_at, whole_of};
@@ -155,6 +155,14 @@ impl Server {
         ensures { self.new ≡ clears_index self.old }
     {
         self.state.index.clear();
+    }
+
+    /// The session gives all of its leases up, whether it stands or not: its client goes by none of
+    /// them any more. Nothing else changes. It takes no memory.
+    pub fn gives_up(&mut self, session: u32)
+        ensures { self.new ≡ gives_up self.old session }
+    {
+        self.state.waits.give_up_all(session);
     }
 
     /// The changes that were made, the oldest first.
