@@ -5,6 +5,7 @@ ghost use Rattle.std.specs.Prelude.{◌≡◌, ◌≤◌, ◌⊎◌, IfOk};
 ghost use Rattle.lb_base.specs.Causes.{Rose};
 ghost use Rattle.exit_status.specs.declared.status.Status.TheVariants as status;
 ghost use Rattle.lbfs_run.specs.Ends.{StoreFails};
+ghost use Rattle.limits.specs.declared.TheConstants.{TERM_MOST};
 ghost use Rattle.lbfs_run.specs.Serving.{ServeEnds, record_text, serve_output, served_text};
 ghost use Rattle.lbfs_run.specs.Telling.{Tells};
 
@@ -16,6 +17,7 @@ use lb_base::items::{Bytes, Items};
 use lb_base::sink::Sink;
 use lbfs_server::gate::OpenGate;
 use lbfs_server::serve::{ServeError, Served, serve};
+use limits::TERM_MOST;
 use links::clock::Clock;
 use links::network::Network;
 use links::rest::Rest;
@@ -71,6 +73,13 @@ fn tell_served<K: Sink>(alloc: Global, ended: Result<Served, ServeError>, sink: 
     }
 }
 
+/// For how long leases are granted, in milliseconds; words allow no longer term than `TERM_MOST`.
+fn term_of(options: &ServeOptions) -> u32
+    ensures { options.now.term ≤ TERM_MOST → result ≡ options.now.term }
+{
+    options.term.min(TERM_MOST) as u32
+}
+
 /// Serves the store's tree, tells how that ended, and answers the status. No link is left over.
 pub(crate) fn run_serve<
     H: Threads + Wait + Sync,
@@ -117,6 +126,7 @@ where
         &rest,
         OpenGate,
         options.port,
+        term_of(options),
         options.sessions,
     );
     let status = tell_served(alloc, ended, &mut sink);

@@ -1,11 +1,17 @@
 -- Passes that follow on one another.
-use Rattle.std.proofs.Common.{◌≡◌, ℕ, ◌≤◌, List, ◌++◌, length, sym, subst, arith, ap, ◌∙◌}
+use Rattle.std.proofs.Common.{◌≡◌, ◌≤◌, List, [], length, sym, subst, arith}
+use Rattle.std.proofs.lemmas.List.{append-nil}
 use mathlib.Core.List.{IsPrefix}
-use Rattle.turn_post.proofs.Fronts.{prefix_self, prefix_trans, prefix_length}
+use Rattle.turn_post.proofs.Fronts.{prefix_self, prefix_trans}
 use Rattle.turn_post.specs.declared.journaled.Journaled.{Ghosts}
 use Rattle.turn_post.specs.declared.post.Post.{Post}
 use Rattle.turn_post.specs.declared.post.Pass.{Pass}
-use Rattle.turn_post.specs.Passes.{Follows, IsPassOf, pass_id, post_id, seen, known}
+use Rattle.turn_post.specs.Passes.{Follows, IsPassOf, seen, known}
+use Rattle.server_law.specs.Growth.{MayAdd}
+
+-- nothing is added
+pub adds_none : {E : Type 0} (es : List E) → MayAdd es es
+adds_none es = ([], append-nil es, omega arith)
 
 module _ {V E : Type 0} {g : Ghosts V E} where
   -- a pass follows on itself

@@ -2,10 +2,12 @@
 use Rattle.std.specs.Prelude.{◌≡◌, ℕ, List, [], ◌∷◌, ◌++◌, Option, Some, None}
 use Rattle.std.proofs.Common.{refl, sym, ap, ◌∙◌, append_assoc}
 use Rattle.std.proofs.lemmas.List.{append-nil}
-use Rattle.std.specs.Io.KnownBytes.{Consumes}
+use Rattle.std.specs.Io.KnownBytes.{Consumes, Appends}
 use Rattle.record_ends.specs.Ends.{Kept, coming, nothing_kept, Gives, Takes}
 use Rattle.rpc_record.specs.declared.refusal.Refusal.{Refusal}
 use Rattle.record_ends.proofs.Coming.{consumes_more}
+use Rattle.lb_base.specs.Known.{AppendsPrefix}
+use Rattle.lb_base.proofs.KnownLemmas.{appends_none}
 use Rattle.lbfs_server.specs.Ends.{IsSpoilt}
 
 -- these bytes were taken and these records were given, which stand before all that is to come
@@ -55,3 +57,12 @@ taken_spoilt before between after kept new bytes w consumed takes spoilt =
     let ended : (coming nothing_kept (w.bytes ++ (bytes ++ []))).spoilt ≡ (coming new []).spoilt = ap (λ p. p.spoilt) whole ∙ ap (λ p. p.spoilt) (takes []) in
     let same : (coming nothing_kept (w.bytes ++ bytes)).spoilt ≡ (coming new []).spoilt = ap (λ z. (coming nothing_kept (w.bytes ++ z)).spoilt) (sym (append-nil bytes)) ∙ ended in
     (all, consumes_more before between after w.bytes bytes w.consumed consumed, λ none. spoilt_stays new spoilt (sym same ∙ none))
+
+-- ---- what was given
+
+-- all is a front, and so is nothing
+pub whole_front : (before after : Option (List ℕ)) (bytes : List ℕ) → Appends before after bytes → AppendsPrefix before after bytes
+whole_front before after bytes all = (bytes, [], append-nil bytes, all)
+
+pub none_front : (known : Option (List ℕ)) (bytes : List ℕ) → AppendsPrefix known known bytes
+none_front known bytes = ([], bytes, refl, appends_none known)

@@ -1,6 +1,6 @@
 //! What wakes the threads that put out what further events have to say: a bell for each place that a
-//! session's box can have, so that each thread hears its own. A bell is a number that is raised and then
-//! woken on. No clause speaks of it.
+//! session's box can have, so that each thread hears its own. And what wakes the ticker. A bell is a
+//! number that is raised and then woken on. No clause speaks of it.
 
 use std::array;
 use std::sync::Wait;
@@ -10,10 +10,11 @@ use std::sync::atomic::{AtomicU64, Ordering};
 /// new one is made.
 pub(crate) const PLACES: usize = 64;
 
-/// A bell for each place.
+/// A bell for each place, and the ticker's.
 #[derive(Drop)]
 pub(crate) struct Bells {
     bells: [AtomicU64; PLACES],
+    ticker: AtomicU64,
 }
 
 /// The bit of a place.
@@ -26,6 +27,7 @@ impl Bells {
     pub(crate) fn new() -> Bells {
         Bells {
             bells: array::from_fn(|_| AtomicU64::new(0)),
+            ticker: AtomicU64::new(0),
         }
     }
 
@@ -42,6 +44,22 @@ impl Bells {
     /// Sleeps until the bell of a place is rung, where it has been rung so often alone.
     pub(crate) fn wait<W: Wait>(&self, rt: &W, place: usize, count: u64) {
         self.at(place).park(rt, (count & 0xffff_ffff) as u32);
+    }
+
+    /// How often the ticker's bell was rung.
+    pub(crate) fn ticks(&self) -> u64 {
+        self.ticker.load(Ordering::SeqCst)
+    }
+
+    /// Sleeps until the ticker's bell is rung, where it has been rung so often alone.
+    pub(crate) fn wait_tick<W: Wait>(&self, rt: &W, count: u64) {
+        self.ticker.park(rt, (count & 0xffff_ffff) as u32);
+    }
+
+    /// Rings the ticker's bell.
+    pub(crate) fn ring_ticker(&self) {
+        self.ticker.fetch_add(1, Ordering::SeqCst);
+        self.ticker.wake_all();
     }
 
     /// Rings the bells of the places whose bits are set.

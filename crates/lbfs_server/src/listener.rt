@@ -112,30 +112,35 @@ fn serve_session<
 /// How many changes that wait are made between two rests, at most.
 const CHANGES_MOST: u32 = 64;
 
-/// Lets changes be made that wait, as long as one can be.
+/// Lets changes be made that wait, as long as one can be, once the quiet is over; the answer is whether one
+/// may wait still.
 fn settle_all<R: Wait, H: Turns + Drop, Y: Syncs, G: Gate + Drop, L: Link + Drop>(
     rt: &R,
     shared: &Shared<H, Y, G, L>,
     pass: Pass<H>,
     now: u64,
-) -> Pass<H>
+) -> (Pass<H>, bool)
     requires pass { IsPassOf shared.now.post pass }
     requires timed { now < 2 ^ 63 }
-    ensures { Follows shared.now.post pass result }
+    ensures { Follows shared.now.post pass result.0 }
 {
+    if !shared.settles(now) {
+        return shared.waits(rt, pass);
+    }
     let mut pass = pass;
     for _at in 0..CHANGES_MOST {
         let (next, went) = shared.event(rt, pass, Event::Settle { now });
         pass = next;
         if matches!(went, Went::NotReady) {
-            return pass;
+            return shared.waits(rt, pass);
         }
     }
-    pass
+    (pass, true)
 }
 
-/// Lets changes be made that wait for a moment, until nothing is served any more. Where the store is in
-/// doubt it ends what is served: it shuts all links, and has the listener look.
+/// Lets changes be made that wait for a moment, until nothing is served any more: it looks again and again
+/// as long as one waits, and else sleeps. Where the store is in doubt it ends what is served: it shuts all
+/// links, and has the listener look.
 fn tick<
     R: Wait,
     H: Turns + Drop,
@@ -150,6 +155,8 @@ fn tick<
 {
     let mut pass = pass;
     for _turn in rt.forever() {
+        // Counted before all looks: what comes behind them rings once more.
+        let ticks = shared.ticks();
         if work.is_done() {
             return;
         }
@@ -157,8 +164,13 @@ fn tick<
             shared.shut_all(rt);
             work.ring(bell);
         }
-        pass = settle_all(rt, shared, pass, clock.now());
-        rest.rest();
+        let (next, waits) = settle_all(rt, shared, pass, clock.now());
+        pass = next;
+        if waits || shared.is_in_doubt() {
+            rest.rest();
+        } else {
+            shared.await_tick(rt, ticks);
+        }
     }
 }
 
@@ -196,6 +208,7 @@ fn begin<
             {
                 serve_session(rt, shared, theirs, session, link, clock);
                 work.end();
+                shared.tell_ticker(true);
             };
             // Without a thread the listener serves this session itself, and accepts nothing meanwhile.
             if let Err(refused) = scope.spawn(serve) {
@@ -366,6 +379,7 @@ where
                 scope, rt, shared, pass, &mut net, clock, rest, work, sessions,
             );
             work.end_accepting();
+            shared.tell_ticker(true);
             (served, net, pass)
         },
     )

@@ -1,13 +1,13 @@
 //! Serving a store's tree on a port. `specs/Serve.antt` states which tree that is, and which record
 //! is told that breaks a rule.
 
-ghost use Rattle.std.specs.Prelude.{◌≡◌, ◌⊎◌, ℕ, IfOk, IsErrOf};
+ghost use Rattle.std.specs.Prelude.{◌≡◌, ◌<◌, ◌^◌, ◌-◌, ◌⊎◌, ℕ, IfOk, IsErrOf};
 ghost use Rattle.lb_base.specs.Causes.{Rose};
 ghost use Rattle.lbfs_server.specs.Ends.{CountsMore};
-ghost use Rattle.lbfs_server.specs.Serve.{IsServerOf, IsBad, IsFront};
+ghost use Rattle.lbfs_server.specs.Serve.{IsServerOf, IsBad, IsFront, quiet_from};
 ghost use Rattle.lbfs_server.specs.declared.serve.ServeError.TheVariants as errors;
 ghost use Rattle.server_held.specs.Kept.{KeepsTree};
-ghost use Rattle.server_law.specs.Facts.{IsAccounted};
+ghost use Rattle.server_law.specs.Facts.{Holds};
 
 use crate::gate::Gate;
 use crate::hints::{content_ids, learn_all};
@@ -60,9 +60,10 @@ fn opened<R: Threads + Sync, S: Store>(
     alloc: Global,
     store: &mut S,
     place: &str,
+    term: u32,
 ) -> Result<Server, ServeError>
-    ensures tree { IfOk result (IsServerOf (S.records store.old)) }
-    ensures accounted { IfOk result IsAccounted }
+    ensures tree { IfOk result (IsServerOf (S.records store.old) term) }
+    ensures opened { IfOk result (λ server. Holds server.tree server) }
     ensures kept { IfOk result (λ server. KeepsTree (S.records store.new) server.tree) }
     ensures store { IsErrOf result errors.Store → Rose (S.faults store.old) (S.faults store.new) }
     ensures record { (which : ℕ) → IsErrOf result (errors.BadRecord which) → IsBad (S.records store.old) which }
@@ -82,7 +83,7 @@ fn opened<R: Threads + Sync, S: Store>(
         Err(LoadError::BadRecord { which }) => return Err(ServeError::BadRecord { which }),
         Err(LoadError::Memory) => return Err(ServeError::Memory),
     };
-    match Server::with_tree(alloc, tree, 0) {
+    match Server::with_tree(alloc, tree, term) {
         Ok(mut server) => {
             server.bound_temps(TEMPS_HELD_MOST);
             learn_all(&mut server, files.as_slice());
@@ -90,6 +91,26 @@ fn opened<R: Threads + Sync, S: Store>(
         }
         Err(_) => Err(ServeError::Memory),
     }
+}
+
+/// The reading before which no change is made: leases of the run before may stand until then, if it granted
+/// none for a longer term. Nothing has to wait where nothing was ever changed.
+fn quiet_from(changes: u64, now: u64, term: u32) -> u64
+    requires { now < 2 ^ 63 }
+    ensures { result ≡ quiet_from changes now term }
+{
+    if changes == 0 {
+        0
+    } else {
+        now + u64::from(term)
+    }
+}
+
+/// How many changes a journal tells of that begins with what the server was opened with.
+fn changes_in(long: u64) -> u64
+    ensures { result ≡ long - 1 }
+{
+    long.saturating_sub(1)
 }
 
 /// Why nothing more is served once a store could not be closed: `Store`, where its count of faults is
@@ -107,8 +128,9 @@ fn store_error(before: u64, after: u64) -> ServeError
 
 /// Loads the tree of a store, listens at a port, and serves as many sessions as are asked for, each
 /// in threads of its own; it returns once they have ended, and gives the store and the network back.
-/// What the store then keeps is the tree of a server that holds what its journal says, and how long that
-/// is, is told.
+/// What the store then keeps is the tree of a server that holds what its journal says, over the tree that
+/// it was opened with, and how long that journal is, is told. Leases are granted for `term` milliseconds; and
+/// where anything was ever changed, no change that waits is made in so long a time from the beginning on.
 ///
 /// An empty store has the root alone. `Store` comes only where the store's count of faults rose: as it
 /// gave its records, or as it was to be made sure of what it was given. Then nothing more goes out on
@@ -132,22 +154,24 @@ pub fn serve<
     rest: &T,
     gate: G,
     port: u16,
+    term: u32,
     sessions: u32,
 ) -> (Result<Served, ServeError>, S, N)
 where
     N::L: Drop + Send,
     ensures sessions { IfOk result.0 (λ s. (s.sessions ≡ sessions) × CountsMore (N.accepted net) sessions (N.accepted result.2)) }
-    ensures front { IfOk result.0 (λ s. IsFront (S.records result.1) s.front) }
+    ensures front { IfOk result.0 (λ s. IsFront (S.records store) (S.records result.1) s.front) }
     ensures network { IsErrOf result.0 errors.Network → Rose (N.faults net) (N.faults result.2) }
     ensures store { IsErrOf result.0 errors.Store → Rose (S.faults store) (S.faults result.1) }
     ensures record { (which : ℕ) → IsErrOf result.0 (errors.BadRecord which) → IsBad (S.records store) which }
 {
     let mut store = store;
     let before = store.fault_count();
-    let server = match opened(rt, alloc, &mut store, place) {
+    let server = match opened(rt, alloc, &mut store, place, term) {
         Ok(server) => server,
         Err(error) => return (Err(error), store, net),
     };
+    let quiet = quiet_from(server.changes(), clock.now(), term);
     let Ok(syncs) = store.syncs() else {
         return (Err(ServeError::Memory), store, net);
     };
@@ -155,9 +179,10 @@ where
         Ok(made) => made,
         Err(held) => return (Err(ServeError::Memory), held.into_store(), net),
     };
-    let shared = Shared::new(alloc, post, syncs, gate);
+    let shared = Shared::new(alloc, post, syncs, gate, quiet);
     let (ended, net, pass) = serve_links(rt, &shared, pass, net, clock, rest, port, sessions);
-    let (front, held) = shared.finish(rt, pass);
+    let (long, held) = shared.finish(rt, pass);
+    let front = changes_in(long);
     let mut store = held.into_store();
     if store.close().is_err() {
         let error = store_error(before, store.fault_count());

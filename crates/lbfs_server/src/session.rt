@@ -1,9 +1,11 @@
 //! What the threads of a session do: one takes records off its link, another puts out what there is
 //! to say. Where there is one thread alone, it does both in turn.
 
-ghost use Rattle.std.specs.Prelude.{◌≡◌, ◌≤◌};
-ghost use Rattle.std.specs.Io.KnownBytes.{IsAtEnd};
+ghost use Rattle.std.specs.Prelude.{◌≡◌, ◌≤◌, IsTrue};
+ghost use Rattle.std.specs.Io.KnownBytes.{Appends, IsAtEnd};
 ghost use Rattle.lb_base.specs.Causes.{Rose};
+ghost use Rattle.lb_base.specs.Known.{AppendsPrefix};
+ghost use Rattle.record_ends.specs.Ends.{out_bytes};
 ghost use Rattle.record_ends.specs.declared.end.End.TheVariants as ends;
 ghost use Rattle.lbfs_server.specs.Ends.{IsSpoilt};
 ghost use Rattle.turn_post.specs.Passes.{IsPassOf, Follows};
@@ -24,34 +26,49 @@ use std::sync::{Mutex, Wait};
 use synced_store::syncs::Syncs;
 use turn_post::post::Pass;
 
-/// Gives a link what may go out to a session, and answers whether more may follow.
+/// Gives a link what may go out to a session, and answers whether more may follow: then the link was given
+/// the bytes of all messages, in order, and else a front of them.
+#[tactic(auto, using(crate::proofs::Giving::whole_front))]
 fn give<L: Link>(alloc: Global, link: &mut L, sure: &Sure) -> bool
+    ensures all { IsTrue result → Appends (L.held link.old) (L.held link.new) (out_bytes sure.now.messages.items) × IsTrue sure.now.stands }
+    ensures front { AppendsPrefix (L.held link.old) (L.held link.new) (out_bytes sure.now.messages.items) }
     ensures come { L.left link.new ≡ L.left link.old }
     ensures later { L.faults link.old ≤ L.faults link.new }
 {
-    let said = put_out(alloc, link, sure.messages());
-    said.is_ok() && sure.stands()
+    match put_out(alloc, link, sure.messages()) {
+        Ok(()) => sure.stands(),
+        Err(_) => false,
+    }
 }
 
 /// Gives a link what was taken for a session, once the store is sure of what was made before, and
-/// answers whether more may follow; where none may it shuts the link.
+/// answers whether more may follow: then the link was given the bytes of all messages, in order, and
+/// else a front of them. Where none may follow it shuts the link.
+#[tactic(auto, using(crate::proofs::Giving::none_front))]
 fn give_out<W: Wait, H: Turns + Drop, Y: Syncs, G: Gate + Drop, L: Link + Drop>(
     rt: &W,
     shared: &Shared<H, Y, G, L>,
     link: &mut L,
     taken: Taken,
 ) -> bool
+    ensures all { IsTrue result → Appends (L.held link.old) (L.held link.new) (out_bytes taken.messages.items) × IsTrue taken.stands }
+    ensures front { AppendsPrefix (L.held link.old) (L.held link.new) (out_bytes taken.messages.items) }
     ensures come { L.left link.new ≡ L.left link.old }
     ensures later { L.faults link.old ≤ L.faults link.new }
 {
-    let follows = match shared.settle_taken(rt, taken) {
-        Ok(sure) => give(shared.alloc(), link, &sure),
-        Err(Failed) => false,
-    };
-    if !follows {
-        link.shut();
+    match shared.settle_taken(rt, taken) {
+        Ok(sure) => {
+            let follows = give(shared.alloc(), link, &sure);
+            if !follows {
+                link.shut();
+            }
+            follows
+        }
+        Err(Failed) => {
+            link.shut();
+            false
+        }
     }
-    follows
 }
 
 /// Takes a session's records off its link, each in a turn of its own, and puts out what there is to
@@ -82,9 +99,10 @@ fn read_on<W: Wait, H: Turns + Drop, Y: Syncs, G: Gate + Drop, L: Link + Drop, C
     for _turn in rt.forever() {
         match inbox.next(shared.alloc(), link) {
             Ok(record) => {
-                let (read, prepared) = shared.read(rt, pass, session, record.as_slice());
+                let bytes = record.as_slice();
+                let (read, prepared) = shared.read(rt, pass, session, bytes);
                 let mut gives = gives.lock(rt);
-                let (next, out) = shared.got(rt, read, session, prepared, clock.now());
+                let (next, out) = shared.got(rt, read, session, bytes, prepared, clock.now());
                 pass = next;
                 give_out(rt, shared, &mut *gives, out);
             }
@@ -173,8 +191,9 @@ fn both_on<W: Wait, H: Turns + Drop, Y: Syncs, G: Gate + Drop, L: Link + Drop, C
     for _turn in rt.forever() {
         match inbox.next(shared.alloc(), link) {
             Ok(record) => {
-                let (read, prepared) = shared.read(rt, pass, session, record.as_slice());
-                let (next, out) = shared.got(rt, read, session, prepared, clock.now());
+                let bytes = record.as_slice();
+                let (read, prepared) = shared.read(rt, pass, session, bytes);
+                let (next, out) = shared.got(rt, read, session, bytes, prepared, clock.now());
                 pass = next;
                 give_out(rt, shared, link, out);
             }

@@ -2,10 +2,11 @@
 //! a call is what its contract says is proved of `Held`; of a turn no clause speaks, since another
 //! thread's may stand before and behind it.
 
-ghost use Rattle.std.specs.Prelude.{◌≡◌, ◌<◌, ◌^◌, ◌∷◌, length, All, Contains};
+ghost use Rattle.std.specs.Prelude.{◌≡◌, nat_le, ◌<◌, ◌^◌, [], ◌∷◌, length, All, Contains, OnOk, IfOk};
 ghost use Rattle.std.specs.List.Sorted.{IsPermutation};
 ghost use Rattle.lbfs_server.specs.declared.shared.SessionLink.{SessionLink};
 ghost use Rattle.server_core.specs.Step.{IsTimed};
+ghost use Rattle.server_law.specs.Growth.{MayAdd};
 ghost use Rattle.turn_post.specs.Passes.{IsPassOf, Follows, seen};
 ghost use mathlib.Core.List.{IsPrefix};
 
@@ -25,7 +26,7 @@ use std::sync::{Mutex, Wait};
 use synced_store::syncs::Syncs;
 use tree_nodes::content::Content;
 use turn_post::post::{Pass, Post};
-use wire::fault::WireError;
+use wire::fault::{WireError, WireFault};
 use wire::message::{Body, Message};
 
 /// What the threads of a server share, and by what those are woken that have nothing to say.
@@ -35,6 +36,8 @@ pub struct Shared<H: Turns, Y, G, L> {
     syncs: Y,
     /// Whether it couldn't once.
     in_doubt: AtomicBool,
+    /// The reading before which no change that waits is made.
+    quiet: u64,
     /// Rung where something was put into a box that another thread has to take out, or its session went.
     bells: Bells,
     /// A link of each session that has threads, by which whoever hangs it shuts it.
@@ -50,6 +53,7 @@ impl<H: Turns + Drop, Y: Drop, G: Drop, L: Drop> Drop for Shared<H, Y, G, L> {
             post,
             syncs,
             in_doubt: _,
+            quiet: _,
             bells,
             links,
             gate,
@@ -139,6 +143,44 @@ fn said_in<H: Turns>(held: &H) -> u64 {
     places
 }
 
+/// Whether a change waits of a session that stands.
+fn any_waits<H: Turns>(held: &H) -> bool {
+    for place in 0..PLACES {
+        if held.waits_at(place) {
+            return true;
+        }
+    }
+    false
+}
+
+/// Whether a change of a session waits, if there is one.
+fn its_waits<H: Turns>(held: &H, session: Option<u32>) -> bool {
+    match session {
+        Some(session) => held.waits(session),
+        None => false,
+    }
+}
+
+/// Whether changes that wait are made at a reading: from this one on.
+fn settles_from(quiet: u64, now: u64) -> bool
+    ensures { result ≡ nat_le quiet now }
+{
+    quiet <= now
+}
+
+/// A change that waits is made, if it may be, and if the quiet is over.
+#[tactic(auto, using(crate::proofs::Following::adds_none))]
+fn settle_in<H: Turns>(held: &mut H, alloc: Global, quiet: u64, now: u64) -> Went
+    requires { now < 2 ^ 63 }
+    ensures { MayAdd (H.journal held.old) (H.journal held.new) }
+{
+    if settles_from(quiet, now) {
+        held.event(alloc, Event::Settle { now })
+    } else {
+        Went::NotReady
+    }
+}
+
 /// The bits of those whose session an event may have ended: that of its own session, where it went, and
 /// all where memory was wanting.
 fn gone(went: Went, own: u64) -> u64 {
@@ -171,15 +213,26 @@ fn commit_in(read: &Result<Message, WireError>) -> Option<&Commit> {
     }
 }
 
+/// Whether a record is an answer: it was read as if nothing had been asked for.
+fn is_answer(read: &Result<Message, WireError>) -> bool {
+    match read {
+        Ok(_) => false,
+        Err(error) => matches!(error, WireError::Fault(WireFault::UnknownXid { .. })),
+    }
+}
+
 impl<H: Turns + Drop, Y: Syncs, G: Gate + Drop, L: Link + Drop> Shared<H, Y, G, L> {
-    /// What a server's threads share. It takes no memory.
-    pub fn new(alloc: Global, post: Post<H>, syncs: Y, gate: G) -> Shared<H, Y, G, L>
-        ensures { result.post ≡ post }
+    /// What a server's threads share; before the reading `quiet` no change that waits is made. It takes no
+    /// memory.
+    pub fn new(alloc: Global, post: Post<H>, syncs: Y, gate: G, quiet: u64) -> Shared<H, Y, G, L>
+        ensures post { result.post ≡ post }
+        ensures quiet { result.quiet ≡ quiet }
     {
         Shared {
             post,
             syncs,
             in_doubt: AtomicBool::new(false),
+            quiet,
             bells: Bells::new(),
             links: Mutex::new(Vec::new(alloc)),
             gate,
@@ -230,9 +283,11 @@ impl<H: Turns + Drop, Y: Syncs, G: Gate + Drop, L: Link + Drop> Shared<H, Y, G, 
             Went::NotReady => 0,
             _ => said_in(&*turn.value()),
         };
+        let waits = its_waits(&*turn.value(), its);
         let pass = turn.leave();
         let pass = self.wake(rt, pass, went, gone(went, own) | said);
         self.gate.after();
+        self.tell_ticker(waits);
         (pass, went)
     }
 
@@ -281,13 +336,15 @@ impl<H: Turns + Drop, Y: Syncs, G: Gate + Drop, L: Link + Drop> Shared<H, Y, G, 
         (pass, Prepared { read, ahead })
     }
 
-    /// The turn of a record of a session. Where a change of the session waits then, one that waits is made
-    /// in a turn behind it, if it may be; and what there is to say to the session is taken.
+    /// The turn of a record of a session that was read before. Where a change of the session waits then, or
+    /// the record was an answer, which may have given a lease up, one that waits is made in a turn behind
+    /// it, if it may be; and what there is to say to the session is taken.
     pub fn got<W: Wait>(
         &self,
         rt: &W,
         pass: Pass<H>,
         session: u32,
+        bytes: &[u8],
         record: Prepared,
         now: u64,
     ) -> (Pass<H>, Taken)
@@ -296,13 +353,14 @@ impl<H: Turns + Drop, Y: Syncs, G: Gate + Drop, L: Link + Drop> Shared<H, Y, G, 
         ensures { Follows self.now.post pass result.0 }
     {
         let (read, ahead) = record.into_parts();
+        let answers = is_answer(&read);
         self.gate.before();
         let mut turn = self.post.enter(rt, pass);
         let own = bit_of(&*turn.value(), session);
         turn.value().prepare(ahead);
-        let heard = turn.value().heard(self.alloc, session, read, now);
+        let heard = turn.value().heard(self.alloc, session, bytes, read, now);
         turn.value().prepare(None);
-        if turn.value().waits(session) {
+        if answers || turn.value().waits(session) {
             let pass = turn.leave();
             self.gate.after();
             let pass = self.wake(rt, pass, heard, gone(heard, own));
@@ -326,14 +384,83 @@ impl<H: Turns + Drop, Y: Syncs, G: Gate + Drop, L: Link + Drop> Shared<H, Y, G, 
     {
         self.gate.before();
         let mut turn = self.post.enter(rt, pass);
-        let settled = turn.value().event(self.alloc, Event::Settle { now });
+        let settled = settle_in(turn.value(), self.alloc, self.quiet, now);
         let messages = turn.value().take_out(session);
         let stands = turn.value().stands(session);
         let said = said_in(&*turn.value());
+        let waits = turn.value().waits(session);
+        let spent = turn.value().spent();
         let pass = turn.leave();
         let pass = self.wake(rt, pass, settled, gone(settled, 0) | said);
         self.gate.after();
+        self.tell_ticker(waits);
+        let pass = self.close_spent(rt, pass, spent);
         (pass, Taken::new(messages, stands))
+    }
+
+    /// Ends the sessions that were to be asked for something and have no xid left, from this one on. Their
+    /// leases stay until they end.
+    fn close_spent<W: Wait>(&self, rt: &W, pass: Pass<H>, spent: Option<u32>) -> Pass<H>
+        requires { IsPassOf self.now.post pass }
+        ensures { Follows self.now.post pass result }
+    {
+        let mut pass = pass;
+        let mut spent = spent;
+        for _at in 0..PLACES {
+            let Some(session) = spent else {
+                return pass;
+            };
+            let (next, _went) = self.event(rt, pass, Event::Hang { session });
+            let (next, later) = self.spent_now(rt, next);
+            pass = next;
+            spent = later;
+        }
+        pass
+    }
+
+    /// Shuts the links of the sessions that are gone, and looks for one that has no xid left.
+    fn spent_now<W: Wait>(&self, rt: &W, pass: Pass<H>) -> (Pass<H>, Option<u32>)
+        requires { IsPassOf self.now.post pass }
+        ensures { Follows self.now.post pass result.0 }
+    {
+        let pass = self.shut_links(rt, pass);
+        let mut turn = self.post.enter(rt, pass);
+        let spent = turn.value().spent();
+        (turn.leave(), spent)
+    }
+
+    /// Whether changes that wait are made at this reading.
+    pub fn settles(&self, now: u64) -> bool
+        ensures { result ≡ nat_le self.now.quiet now }
+    {
+        settles_from(self.quiet, now)
+    }
+
+    /// A turn that looks whether a change waits.
+    pub fn waits<W: Wait>(&self, rt: &W, pass: Pass<H>) -> (Pass<H>, bool)
+        requires { IsPassOf self.now.post pass }
+        ensures { Follows self.now.post pass result.0 }
+    {
+        let mut turn = self.post.enter(rt, pass);
+        let waits = any_waits(&*turn.value());
+        (turn.leave(), waits)
+    }
+
+    /// Rings the ticker's bell, where it has to look.
+    pub fn tell_ticker(&self, looks: bool) {
+        if looks {
+            self.bells.ring_ticker();
+        }
+    }
+
+    /// How often the ticker's bell was rung.
+    pub fn ticks(&self) -> u64 {
+        self.bells.ticks()
+    }
+
+    /// Sleeps until the ticker's bell is rung, where it has been rung so often alone.
+    pub fn await_tick<W: Wait>(&self, rt: &W, ticks: u64) {
+        self.bells.wait_tick(rt, ticks);
     }
 
     /// A turn that takes what there is to say to a session.
@@ -352,10 +479,14 @@ impl<H: Turns + Drop, Y: Syncs, G: Gate + Drop, L: Link + Drop> Shared<H, Y, G, 
 
     /// What was taken may go out, once the store is sure of what was made before. Where it can't be,
     /// nothing is to go out on any link any more (`is_in_doubt`).
-    pub fn settle_taken<W: Wait>(&self, rt: &W, taken: Taken) -> Result<Sure, Failed> {
+    pub fn settle_taken<W: Wait>(&self, rt: &W, taken: Taken) -> Result<Sure, Failed>
+        ensures settled { OnOk result (¬ (taken.messages.items ≡ []) → Y.settled self.now.syncs) }
+        ensures same { IfOk result (λ sure. (sure.messages ≡ taken.messages) × (sure.stands ≡ taken.stands)) }
+    {
         let settled = taken.settle(rt, &self.syncs);
         if settled.is_err() {
             self.in_doubt.store(true, Ordering::SeqCst);
+            self.tell_ticker(true);
         }
         settled
     }

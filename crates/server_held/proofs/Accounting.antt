@@ -1,7 +1,6 @@
 -- What a step makes of a server whose tree holds what its journal says, and of a store that keeps the tree.
 use Rattle.std.specs.Prelude.{List, Option, Some, None}
 use Rattle.std.proofs.Common.{◌≡◌, refl, sym, ◌∙◌, ℕ, Bool, true, false, subst}
-use mathlib.Core.Logic.{∥∥₁_map}
 use Rattle.store.specs.declared.record.Kept.{Kept}
 use Rattle.tree_reading.specs.Tree.{Tree}
 use Rattle.file_tree.specs.Storing.{IsStored}
@@ -10,18 +9,15 @@ use Rattle.server_core.specs.declared.event.Event.{Event}
 use Rattle.server_core.specs.declared.event.ServerStep.{ServerStep}
 use Rattle.server_core.specs.State.{State}
 use Rattle.server_held.specs.Kept.{KeepsTree, Steps}
-use Rattle.server_law.specs.Facts.{Holds, IsAccounted}
+use Rattle.server_law.specs.Facts.{Holds}
 use Rattle.server_law.proofs.Steps.{step_told, misses_told}
 
-steps_hold : (opening : Tree) (before after : ℕ) (s : State) (e : Event) (n : State) (step : ServerStep) → Steps before after s e n step → Holds opening s → Holds opening n
+pub steps_hold : (opening : Tree) (before after : ℕ) (s : State) (e : Event) (n : State) (step : ServerStep) → Steps before after s e n step → Holds opening s → Holds opening n
 steps_hold opening before after s e n step h held = by step.missed refl
   where
     by : (b : Bool) → step.missed ≡ b → Holds opening n
     by true is = misses_told opening s e n step (h.1 is) held
     by false is = let d = h.0 is in subst (λ (p : State × ServerStep). Holds opening p.0) d.is (step_told opening s d.fault e held)
-
-pub steps_account : (before after : ℕ) (s : State) (e : Event) (n : State) (step : ServerStep) → Steps before after s e n step → IsAccounted s → IsAccounted n
-steps_account before after s e n step h a = ∥∥₁_map a (λ (p : (opening : Tree) × Holds opening s). (p.0, steps_hold p.0 before after s e n step h p.1))
 
 -- a store that kept the tree keeps the one behind it
 pub keeps_later : (told : Option (List Kept)) (tree : Tree) (later : Option (List Kept)) (after : Tree) → Keeps told tree later after → KeepsTree told tree → KeepsTree later after

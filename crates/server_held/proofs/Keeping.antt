@@ -36,10 +36,11 @@ steps_later a b c old e new step le steps = (λ all. let s = steps.0 all in reco
 
 module _ {S : Type 0} (records : S → Option (List Kept)) (faults : S → ℕ) where
   pub store_same : (k : KeptState S) → StoreKeeps records faults k k
-  store_same k = record { keeps = keeps_none (records k.store) k.server.tree; later = omega arith }
+  store_same k = record { keeps = keeps_none (records k.store) k.server.tree; later = omega arith; opening = refl }
 
   pub store_more : (a b c : KeptState S) → StoreKeeps records faults a b → StoreKeeps records faults b c → StoreKeeps records faults a c
   store_more a b c first second = record {
     keeps = keeps_more (records a.store) (records b.store) (records c.store) a.server.tree b.server.tree c.server.tree first.keeps second.keeps;
     later = let p = first.later in let q = second.later in omega (arith, p, q);
+    opening = second.opening ∙ first.opening;
   }

@@ -1,4 +1,5 @@
 pub mod Accounting
+pub mod Alike
 pub mod Delivering
 pub mod Growing
 pub mod Hanging

@@ -1,5 +1,5 @@
 -- What the threads of a server share, and what an event makes of it.
-use Rattle.std.specs.Prelude.{◌≡◌, ◌⊎◌, ℕ, List, [], ◌∷◌, ◌++◌, Bool, true, ◌==◌, if◌then◌else◌, Result, Ok, Err, Option}
+use Rattle.std.specs.Prelude.{◌≡◌, ◌⊎◌, ℕ, List, [], ◌∷◌, ◌++◌, Bool, true, false, ◌==◌, if◌then◌else◌, Result, Ok, Err, Option}
 use Rattle.slab.specs.Slab.{Slab}
 use Rattle.server_held.specs.declared.boxes.Outbox.{Outbox}
 use Rattle.server_held.specs.Boxes.{Holds, Lacks, KeepsOthers}
@@ -17,16 +17,29 @@ use Rattle.server_core.specs.declared.event.ServerStep.{ServerStep}
 use Rattle.server_rules.specs.declared.told.Told.{Told}
 use Rattle.server_rules.specs.declared.told.Told.TheVariants as told
 use Rattle.server_core.specs.State.{State}
-use Rattle.server_core.specs.Step.{hangs_if, stands}
+use Rattle.callback_core.specs.BackCalls.{waiting_at}
+use Rattle.server_core.specs.Step.{gives_up, hangs_if, stands}
 use Rattle.store.specs.declared.record.Kept.{Kept}
 use Rattle.server_held.specs.Kept.{Steps, StoreKeeps}
 use Rattle.server_held.specs.declared.held.Held.{Held}
 use Rattle.server_held.specs.declared.held.Went.{Went}
 use Rattle.server_held.specs.declared.held.Went.TheVariants as went
 
--- the server has asked its clients for nothing, so no answer may come
+-- by what a record is read before its turn: as if the server had asked its clients for nothing
 abbrev pub server_waits : Waiting
 server_waits = record { side = side.Server; calls = [] }
+
+-- whether an error is that of an answer that nobody waits for
+abbrev pub is_unknown : WireError → Bool
+is_unknown errors.Memory = false
+is_unknown (errors.Fault (UnknownXid xid)) = true
+is_unknown (errors.Fault (NotRpc at)) = false
+is_unknown (errors.Fault (Garbage at)) = false
+
+-- Whether an answer that nobody waits for is a farewell, by which its session gives up all the leases that it has: under the xid 0, which no RECALL has, where the session stands.
+abbrev pub is_farewell : (xid : ℕ) → Went → Bool
+is_farewell xid (went.Open session) = xid == 0
+is_farewell xid said = false
 
 -- ---- boxes
 
@@ -78,6 +91,19 @@ joined_as told.Full lost = went.Full
 joined_as t lost = went.Memory
 
 module _ {S : Type 0} where
+  -- what may come on a session's connection: calls, and answers to what was asked for there
+  abbrev pub waits_for : Held S → (session : ℕ) → Waiting
+  waits_for h session = waiting_at h.kept.server.leasing.calls session
+
+  -- a session gave up all the leases that it has
+  abbrev pub given_up : Held S → (session : ℕ) → Held S
+  given_up h session = record h { kept = record h.kept { server = gives_up h.kept.server session } }
+
+  -- the same, if it said so
+  abbrev pub given_up_if : Bool → Held S → (session : ℕ) → Held S
+  given_up_if true h session = given_up h session
+  given_up_if false h session = h
+
   -- what is said of a session that an event was of: whether it stands then
   abbrev pub Stands : Held S → (session : ℕ) → Went → Type 0
   Stands new session (went.Open k) = (k ≡ session) × (messages : List Message) × Holds new.boxes session messages
@@ -144,9 +170,9 @@ module _ {S : Type 0} (records : S → Option (List Kept)) (faults : S → ℕ) 
   After old (event.Settle now) said new = Took old (event.Settle now) said new
   After old (event.Hang session) said new = Left old session new × (said ≡ went.Closed)
 
-  -- What a record makes that is no message: it hangs its session. An answer for which nobody waits is no event.
+  -- What a record makes that is no message: it hangs its session. An answer for which nobody waits is no event, but for a farewell.
   abbrev pub Unheard : Held S → (session : ℕ) → WireFault → Went → Held S → Type 0
-  Unheard old session (UnknownXid xid) said new = (new ≡ old) × Stands new session said
+  Unheard old session (UnknownXid xid) said new = (new ≡ given_up_if (is_farewell xid said) old session) × Stands new session said
   Unheard old session (NotRpc at) said new = Left old session new × (said ≡ went.Closed)
   Unheard old session (Garbage at) said new = Left old session new × (said ≡ went.Closed)
 

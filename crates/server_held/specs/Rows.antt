@@ -1,5 +1,5 @@
 -- Worked rows of what a server's threads share.
-use Rattle.std.specs.Prelude.{◌≡◌, ℕ, [], ◌∷◌}
+use Rattle.std.specs.Prelude.{◌≡◌, ℕ, [], ◌∷◌, true, false}
 use Rattle.std.proofs.Common.{refl}
 use Rattle.wire.specs.declared.message.Message.{Message}
 use Rattle.wire.specs.declared.message.Message.TheVariants as message
@@ -7,7 +7,7 @@ use Rattle.wire.specs.declared.message.RpcRefusal.TheVariants as refusal
 use Rattle.server_core.specs.declared.event.Sent.{Sent}
 use Rattle.server_rules.specs.declared.told.Told.TheVariants as told
 use Rattle.server_held.specs.declared.held.Went.TheVariants as went
-use Rattle.server_held.specs.Held.{messages_to, settled_as, joined_as}
+use Rattle.server_held.specs.Held.{is_farewell, messages_to, settled_as, joined_as}
 
 abbrev refused : ℕ → Message
 refused xid = message.Refuse xid refusal.SystemErr
@@ -30,6 +30,16 @@ waits_row = refl
 
 made_row : joined_as (told.Session 3) [] ≡ went.Open 3
 made_row = refl
+
+farewell_row : is_farewell 0 (went.Open 3) ≡ true
+farewell_row = refl
+
+-- under another xid it is none, nor of a session that is gone
+other_row : is_farewell 5 (went.Open 3) ≡ false
+other_row = refl
+
+late_row : is_farewell 0 went.Closed ≡ false
+late_row = refl
 
 lost_row : joined_as (told.Session 3) (3 ∷ []) ≡ went.Memory
 lost_row = refl

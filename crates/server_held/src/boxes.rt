@@ -42,6 +42,17 @@ pub fn key_of<T>(boxes: &Slab<Outbox<T>>, session: u32) -> Option<usize>
     None
 }
 
+/// Whose box is under a key, where there is one.
+pub fn owner_in<T>(boxes: &Slab<Outbox<T>>, key: usize) -> Option<u32>
+    ensures some { (one : Outbox T) → get boxes.now key ≡ Some one → result ≡ Some one.session }
+    ensures none { get boxes.now key ≡ None → result ≡ None }
+{
+    match boxes.get(key) {
+        Some(one) => Some(one.session),
+        None => None,
+    }
+}
+
 /// Whether something is in the box under a key, where there is one.
 pub fn is_full_in<T>(boxes: &Slab<Outbox<T>>, key: usize) -> bool
     ensures some { (one : Outbox T) → get boxes.now key ≡ Some one → IsTrue result ↔ ¬ (one.messages ≡ []) }

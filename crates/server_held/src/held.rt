@@ -1,23 +1,24 @@
 //! What the threads of a server share: the server, and what it has to say to each session.
 //! `specs/Held.antt` states what an event makes of it.
 
-ghost use Rattle.std.specs.Prelude.{◌≡◌, ℕ, ◌<◌, ◌≤◌, ◌^◌, ◌↔◌, List, [], ◌∷◌, length, IsTrue, IfSome, IfNone, Some, None, Result, false};
+ghost use Rattle.std.specs.Prelude.{◌≡◌, ℕ, ◌<◌, ◌≤◌, ◌^◌, ◌↔◌, List, [], ◌∷◌, IsTrue, IfSome, IfNone, Some, None, Err, false};
 ghost use Rattle.server_held.specs.Boxes.{AllEmpty, Holds, Lacks, KeepsOthers};
 ghost use Rattle.server_core.specs.Closing.{has_waiting};
 ghost use Rattle.server_core.specs.State.{entries_held};
 ghost use Rattle.server_core.specs.Step.{IsTimed};
 ghost use Rattle.server_core.specs.declared.event.Event.TheVariants as event;
 ghost use Rattle.wire.specs.Parse.{parse_of, IsParsed};
-ghost use Rattle.wire.specs.declared.fault.WireFault.{WireFault};
 ghost use Rattle.wire.specs.declared.message.Message.{Message};
-ghost use Rattle.server_law.specs.Facts.{IsAccounted};
+ghost use Rattle.server_law.specs.Facts.{Holds as HoldsSince};
+ghost use Rattle.callback_core.specs.BackCalls.{spent};
 ghost use Rattle.server_law.specs.Growth.{MayAdd};
-ghost use Rattle.server_held.specs.Kept.{KeepsTree};
+ghost use Rattle.server_held.specs.Kept.{KeepsTree, journal_of};
 ghost use Rattle.server_held.specs.declared.boxes.Outbox.{Outbox};
 ghost use Rattle.slab.specs.Slab.{get};
-ghost use Rattle.server_held.specs.Held.{After, Delivered, HeardOrLeft, Joined, Left, Stands, Took, Unread, server_waits, settled_as};
+ghost use Rattle.server_held.specs.Held.{After, Delivered, HeardOrLeft, Joined, Left, Stands, Took, Unread, server_waits, given_up_if, is_farewell, is_unknown, settled_as, waits_for};
 ghost use Rattle.server_held.specs.declared.held.Went.TheVariants as went;
 
+use crate::entries::Entered;
 use crate::kept::KeptServer;
 use crate::outboxes::Outboxes;
 use crate::turns::Turns;
@@ -25,7 +26,6 @@ use hash_calls::call::Commit;
 use lb_base::items::Items;
 use send_list::SendList;
 use server_core::event::{Event, Sent, ServerStep};
-use server_core::journal::Entry;
 use server_core::server::Server;
 use server_rules::told::Told;
 use shared_bytes::SharedBytes;
@@ -79,8 +79,9 @@ fn both(one: bool, other: bool) -> bool
     one && other
 }
 
-/// The message that a record to a server is, or why it is none. The server has asked its clients for
-/// nothing, so no answer may come.
+/// The message that a record to a server is, or why it is none, as it is read before its turn: as if the
+/// server had asked its clients for nothing. An answer is of an unknown xid then, and is read again in
+/// its turn (`Turns::heard`).
 pub fn read_record(alloc: Global, bytes: &[u8]) -> Result<Message, WireError>
     ensures { IsParsed result (parse_of server_waits bytes.now) }
 {
@@ -89,6 +90,26 @@ pub fn read_record(alloc: Global, bytes: &[u8]) -> Result<Message, WireError>
         calls: Items::new(alloc),
     };
     parse(alloc, bytes, &waiting)
+}
+
+/// Whether a record is an answer that nobody waits for.
+fn is_unknown(error: WireError) -> bool
+    ensures { result ≡ is_unknown error }
+{
+    match error {
+        WireError::Fault(fault) => matches!(fault, WireFault::UnknownXid { .. }),
+        WireError::Memory => false,
+    }
+}
+
+/// Whether an answer that nobody waits for is a farewell of its session.
+fn is_farewell(xid: u32, went: Went) -> bool
+    ensures { result ≡ is_farewell xid went }
+{
+    match went {
+        Went::Open { .. } => xid == 0,
+        Went::NotReady | Went::Closed | Went::Full | Went::Memory => false,
+    }
 }
 
 /// What came of a change that was to be made.
@@ -104,26 +125,19 @@ fn settled_as(told: Told) -> Went
 }
 
 impl<S: Store + Drop> Held<S> {
-    /// A server, whose tree holds what its journal says, and its store, which keeps that tree and has room
-    /// for what waits; there is nothing to say to any session. It takes no memory.
+    /// A server that was opened with its tree, and its store, which keeps that tree and has room for what
+    /// waits; there is nothing to say to any session. It takes no memory.
     pub fn new(alloc: Global, server: Server, store: S) -> Held<S>
         requires room { entries_held server.waiting ≤ S.spare store }
-        requires accounted { IsAccounted server }
+        requires opened { HoldsSince server.tree server }
         requires kept { KeepsTree (S.records store) server.tree }
-        ensures kept { result.kept ≡ record { server = server; store = store } }
+        ensures kept { result.kept ≡ record { server = server; store = store; opened = server } }
         ensures boxes { (session : ℕ) → Lacks result.boxes session }
     {
         Held {
             kept: KeptServer::new(server, store),
             boxes: Outboxes::new(alloc),
         }
-    }
-
-    /// How many changes were made.
-    pub fn changes_made(&self) -> usize
-        ensures { result ≡ length self.now.kept.server.journal }
-    {
-        self.kept.changes_made()
     }
 
     /// A session's connection is lost.
@@ -240,13 +254,47 @@ impl<S: Store + Drop> Held<S> {
         }
     }
 
+    /// A record came of which no message was read before its turn. An answer is read again, by what was
+    /// asked for on the session's connection.
+    fn hear_again(
+        &mut self,
+        alloc: Global,
+        session: u32,
+        bytes: &[u8],
+        error: WireError,
+        now: u64,
+    ) -> Went
+        requires { now < 2 ^ 63 }
+        ensures heard { IsParsed (Err error) (parse_of server_waits bytes.now) → HeardOrLeft S.records S.faults self.old session now (parse_of (waits_for self.old session) bytes.now) result self.new }
+        ensures grows { MayAdd (journal_of self.old.kept) (journal_of self.new.kept) }
+    {
+        if !is_unknown(error) {
+            return self.unread(alloc, session, error);
+        }
+        match self.kept.read(alloc, session, bytes) {
+            Ok(message) => self.take_message(alloc, session, message, now),
+            Err(error) => self.unread(alloc, session, error),
+        }
+    }
+
+    /// An answer came that nobody waits for: it changes nothing, but for a farewell.
+    fn unawaited(&mut self, session: u32, xid: u32) -> Went
+        ensures { (self.new ≡ given_up_if (is_farewell xid result) self.old session) × Stands self.new session result }
+    {
+        let went = self.standing(session);
+        if is_farewell(xid, went) {
+            self.kept.give_up(session);
+        }
+        went
+    }
+
     /// A record came of which no message was read.
     fn unread(&mut self, alloc: Global, session: u32, error: WireError) -> Went
         ensures { Unread S.records S.faults self.old session error result self.new }
     {
         match error {
             WireError::Fault(fault) => match fault {
-                WireFault::UnknownXid { .. } => self.standing(session),
+                WireFault::UnknownXid { xid } => self.unawaited(session, xid),
                 WireFault::NotRpc { .. } | WireFault::Garbage { .. } => {
                     self.hang(alloc, session);
                     Went::Closed
@@ -262,7 +310,7 @@ impl<S: Store + Drop> Held<S> {
     /// The store, once nobody is told anything any more.
     pub fn into_store(self) -> S
         ensures store { result ≡ self.kept.store }
-        ensures accounted { IsAccounted self.kept.server }
+        ensures accounted { HoldsSince self.kept.opened.tree self.kept.server }
         ensures kept { KeepsTree (S.records result) self.kept.server.tree }
     {
         let Held { kept, boxes } = self;
@@ -272,12 +320,12 @@ impl<S: Store + Drop> Held<S> {
 }
 
 impl<S: Store + Drop> Journaled for Held<S> {
-    type Entry = Entry;
+    type Entry = Entered;
 
-    ghost journal = { λ h. h.kept.server.journal };
+    ghost journal = { λ h. journal_of h.kept };
 
     fn count(&self) -> u64 {
-        self.changes_made() as u64
+        self.kept.count()
     }
 }
 
@@ -320,12 +368,30 @@ impl<S: Store + Drop> Turns for Held<S> {
         self.kept.waits(session)
     }
 
+    /// Whether a change waits of the session whose box is at a place.
+    fn waits_at(&self, place: usize) -> bool
+        ensures some { (one : Outbox Message) → get self.now.boxes place ≡ Some one → result ≡ has_waiting self.now.kept.server.waiting one.session }
+        ensures none { get self.now.boxes place ≡ None → result ≡ false }
+    {
+        match self.boxes.owner_at(place) {
+            Some(session) => self.kept.waits(session),
+            None => false,
+        }
+    }
+
+    /// A session that was to be asked for a lease and has no xid left, if there is one.
+    fn spent(&self) -> Option<u32>
+        ensures { result ≡ spent self.now.kept.server.leasing.calls }
+    {
+        self.kept.spent()
+    }
+
     /// One event of the server. What it sends goes into the boxes of its sessions; where memory is
     /// wanting for that the session is hung.
     fn event(&mut self, alloc: Global, event: Event) -> Went
         requires { IsTimed event }
         ensures after { After S.records S.faults self.old event result self.new }
-        ensures grows { MayAdd self.old.kept.server.journal self.new.kept.server.journal }
+        ensures grows { MayAdd (journal_of self.old.kept) (journal_of self.new.kept) }
     {
         match event {
             Event::Connect => self.connect(alloc),
@@ -342,22 +408,25 @@ impl<S: Store + Drop> Turns for Held<S> {
         }
     }
 
-    /// A record of a session was read: the event of its message. A record that is no message hangs the
-    /// session, and an answer that nobody waits for is no event; want of memory hangs it too.
+    /// A record of a session came, and was read before (`read_record`): the event of its message, where an
+    /// answer is to what was asked for on the session's connection. A record that is no message hangs the
+    /// session, and an answer that nobody waits for is no event, but by a farewell the session gives up all
+    /// its leases; want of memory hangs it too.
     fn heard(
         &mut self,
         alloc: Global,
         session: u32,
+        bytes: &[u8],
         read: Result<Message, WireError>,
         now: u64,
     ) -> Went
         requires { now < 2 ^ 63 }
-        ensures heard { (message : Result Message WireFault) → IsParsed read message → HeardOrLeft S.records S.faults self.old session now message result self.new }
-        ensures grows { MayAdd self.old.kept.server.journal self.new.kept.server.journal }
+        ensures heard { IsParsed read (parse_of server_waits bytes.now) → HeardOrLeft S.records S.faults self.old session now (parse_of (waits_for self.old session) bytes.now) result self.new }
+        ensures grows { MayAdd (journal_of self.old.kept) (journal_of self.new.kept) }
     {
         match read {
             Ok(message) => self.take_message(alloc, session, message, now),
-            Err(error) => self.unread(alloc, session, error),
+            Err(error) => self.hear_again(alloc, session, bytes, error, now),
         }
     }
 

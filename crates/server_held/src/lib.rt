@@ -4,6 +4,7 @@
 #![tactic(auto)]
 
 pub mod boxes;
+pub mod entries;
 pub mod held;
 mod kept;
 pub mod outboxes;

@@ -5,7 +5,9 @@ ghost use Rattle.slab.specs.Slab.{get};
 ghost use Rattle.server_held.specs.Boxes.{AllEmpty, Holds, Lacks, KeepsOthers};
 ghost use Rattle.server_held.specs.declared.boxes.Outbox.{Outbox};
 
-use crate::boxes::{Outbox, close_in, is_full_in, is_still_in, key_of, open_in, put_in, take_in};
+use crate::boxes::{
+    Outbox, close_in, is_full_in, is_still_in, key_of, open_in, owner_in, put_in, take_in,
+};
 use lb_base::items::Items;
 use slab::Slab;
 use std::alloc::{AllocError, Global};
@@ -62,6 +64,14 @@ impl<T: Drop> Outboxes<T> {
         ensures none { IfNone result (Lacks self.now session) }
     {
         key_of(&self.boxes, session)
+    }
+
+    /// Whose box is at a place, where there is one.
+    pub fn owner_at(&self, place: usize) -> Option<u32>
+        ensures some { (one : Outbox T) → get self.now place ≡ Some one → result ≡ Some one.session }
+        ensures none { get self.now place ≡ None → result ≡ None }
+    {
+        owner_in(&self.boxes, place)
     }
 
     /// Whether there is something in the box at a place, where there is one.

@@ -32,16 +32,23 @@ pub trait Turns: Journaled {
     /// Whether a change of the session waits.
     fn waits(&self, session: u32) -> bool;
 
+    /// Whether a change waits of the session whose box is at a place.
+    fn waits_at(&self, place: usize) -> bool;
+
+    /// A session that is to be asked for something and has no xid left, if there is one.
+    fn spent(&self) -> Option<u32>;
+
     /// One event of the server.
     fn event(&mut self, alloc: Global, event: Event) -> Went
         requires { IsTimed event }
         ensures { MayAdd (Self.journal self.old) (Self.journal self.new) };
 
-    /// A record of a session was read.
+    /// A record of a session came, and was read before.
     fn heard(
         &mut self,
         alloc: Global,
         session: u32,
+        bytes: &[u8],
         read: Result<Message, WireError>,
         now: u64,
     ) -> Went

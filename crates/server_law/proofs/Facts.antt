@@ -1,5 +1,5 @@
 -- What each change of a tree leaves of its files is what its entries say.
-use Rattle.std.proofs.Common.{◌≡◌, refl, sym, ap, ◌∙◌, subst, ℕ, ◌+◌, List, [], Option, Some, None, Bool, true, false, ◌==◌, arith, if◌then◌else◌}
+use Rattle.std.proofs.Common.{◌≡◌, refl, sym, ap, ◌∙◌, subst, ℕ, ◌+◌, List, [], length, Option, Some, None, Bool, true, false, ◌==◌, arith, if◌then◌else◌}
 use Rattle.std.specs.Option.{option_map}
 use Rattle.std.proofs.lemmas.Bool.Decides.{nat_tests}
 use Rattle.tree_nodes.specs.declared.node.Node.{Node}
@@ -21,9 +21,10 @@ use Rattle.server_law.proofs.Trees.{IsGiven, next_free, NoFile, made_files, remo
 pub record IsTelling (t : Tree) (session : ℕ) (first second : Option TreeEntry) (u : Tree) : Type 0 where
   pub facts : (id : ℕ) → fact_at u id ≡ facts_after id (fact_at t id) (entries_by session first second)
   pub versions : AreNext (fact_at t) (entries_by session first second)
+  pub counted : u.changes ≡ t.changes + length (entries_by session first second)
 
 pub tells_none : (t : Tree) (session : ℕ) → IsTelling t session None None t
-tells_none t session = record { facts = λ id. refl; versions = tt }
+tells_none t session = record { facts = λ id. refl; versions = tt; counted = omega arith }
 
 is_id : (a b : ℕ) → (a == b) ≡ true → a ≡ b
 is_id a b same = grind (arith, nat_tests, same)
@@ -39,6 +40,7 @@ pub tells_file : (t : Tree) (session dir : ℕ) (name : List ℕ) (d : Node) →
 tells_file t session dir name d h there is = record {
   facts = λ id. ap (option_map fact_of) (made_files t (new_file t dir name) d id h refl there is) ∙ by id (t.next == id);
   versions = ((ap (λ o. option_map fact_of (file_of_node o)) (next_free t h), refl), tt);
+  counted = omega arith;
 }
   where
     file : File
@@ -52,6 +54,7 @@ pub tells_directory : (t : Tree) (session dir : ℕ) (name : List ℕ) (d : Node
 tells_directory t session dir name d h there is = record {
   facts = λ id. ap (option_map fact_of) (made_files t (new_directory t dir name) d id h refl there is) ∙ by id (t.next == id) refl ∙ either (t.next == id) (fact_at t id);
   versions = (refl, tt);
+  counted = omega arith;
 }
   where
     none : (id : ℕ) → t.next ≡ id → fact_at t id ≡ None
@@ -93,6 +96,7 @@ pub tells_removed : (t : Tree) (session dir : ℕ) (n : Node) → with_id t.node
 tells_removed t session dir n at none = record {
   facts = λ id. without_facts t n.id id (file_at (removed t dir n.id) id) (removed_files t dir n.id id none) ∙ gone_facts t session n n.body at refl id;
   versions = (gone_next t session n n.body at refl, tt);
+  counted = omega arith;
 }
 
 -- ---- another content
@@ -101,6 +105,7 @@ pub tells_replaced : (t : Tree) (session id version : ℕ) (content : List ℕ) 
 tells_replaced t session id version content g at next = record {
   facts = λ f. by f (id == f) refl;
   versions = ((fact_of g, ap (option_map fact_of) at, next), tt);
+  counted = omega arith;
 }
   where
     apart : (f : ℕ) → (id == f) ≡ false → f ≡ id → ⊥
@@ -124,6 +129,7 @@ tells_moved t session dir n (Some m) to name at from into e = absurd cc
 tells_moved t session dir n None to name at from into e = record {
   facts = λ id. ap (option_map fact_of) (moved_at_files t t.nodes n dir to (t.changes + 1) name id at from into) ∙ name_after session id n.id (fact_at t id);
   versions = (refl, tt);
+  counted = omega arith;
 }
 
 pub tells_over : (t : Tree) (session dir : ℕ) (n m : Node) (to : ℕ) (name : List ℕ) → with_id t.nodes n.id ≡ Some n → with_id t.nodes m.id ≡ Some m → (m.id == n.id) ≡ false → NoFile t.nodes dir → NoFile t.nodes to
@@ -134,6 +140,7 @@ tells_over t session dir n m to name at gone apart from into = record {
       ∙ gone_facts t session m m.body gone refl id
       ∙ name_after session id n.id (fact_after id (fact_at t id) (entry_by session (gone_entry m m.body)));
   versions = (gone_next t session m m.body gone refl, (refl, tt));
+  counted = omega arith;
 }
   where
     still : with_id (without t.nodes m.id) n.id ≡ Some n

@@ -6,4 +6,3 @@ pub mod Growth
 pub mod Steps
 pub mod TreeCalls
 pub mod Trees
-pub mod Unleased

@@ -1,7 +1,7 @@
 -- At each step of the server its tree holds what its journal says, whatever the store does.
-use Rattle.std.proofs.Common.{◌≡◌, refl, sym, ap, ◌∙◌, subst, ℕ, List, [], ◌∷◌, ◌++◌, length, Option, Some, None, Result, Ok, Err, Bool, true, false, if◌then◌else◌}
+use Rattle.std.proofs.Common.{◌≡◌, refl, sym, ap, ◌∙◌, subst, ℕ, ◌+◌, List, [], ◌∷◌, ◌++◌, length, Option, Some, None, Result, Ok, Err, Bool, true, false, arith, if◌then◌else◌}
 use Rattle.std.specs.Prelude.{nat_lt}
-use Rattle.std.proofs.lemmas.List.{append-nil}
+use Rattle.std.proofs.lemmas.List.{append-nil, length-append}
 use Rattle.xdr_codec.specs.declared.status.Status.{Status}
 use Rattle.xdr_codec.specs.declared.status.Status.TheVariants as status
 use Rattle.xdr_codec.specs.declared.answer.Answer.TheVariants.{Failed}
@@ -34,7 +34,7 @@ use Rattle.callback_core.specs.Waits.{without}
 use Rattle.server_core.specs.declared.event.ServerStep.{ServerStep}
 use Rattle.server_core.specs.Recalling.{comes, term_at}
 use Rattle.server_core.specs.State.{State, Change, change_of, held}
-use Rattle.server_core.specs.Step.{connect, has_room, called_under, asks, asks_tree, is_recalled, hears, got_under, got_if_under, stands, hangs_if, server_step_under, server_step, Misses, nothing, lacks, missed_at, with_index}
+use Rattle.server_core.specs.Step.{connect, has_room, called_under, asks, asks_tree, is_recalled, hears, got_under, got_if_under, stands, hangs_if, server_step_under, server_step, Misses, nothing, lacks, missed_at, with_index, gives_up}
 use Rattle.server_law.specs.Facts.{Fact, fact_at, fact_after, facts_after, AreNext, Holds}
 use Rattle.server_law.proofs.Calls.{TellsOutcome, tells_calls, tells_settles, tells_commits}
 use Rattle.server_law.proofs.Facts.{IsTelling}
@@ -58,6 +58,7 @@ same opening s n a b h = record {
   told = record {
     facts = λ id. ap (λ (t : Tree). fact_at t id) a ∙ h.told.facts id ∙ ap (λ (es : List Entry). facts_after id (fact_at opening id) es) (sym b);
     versions = subst (λ (es : List Entry). AreNext (fact_at opening) es) (sym b) h.told.versions;
+    counted = ap (λ (t : Tree). t.changes) a ∙ h.told.counted ∙ ap (λ (es : List Entry). opening.changes + length es) (sym b);
   };
   given = subst IsGiven (sym a) h.given;
 }
@@ -73,6 +74,11 @@ more opening s n session first second t b given h = record {
     versions = subst (λ (es : List Entry). AreNext (fact_at opening) es) (sym b)
         (next_more (fact_at opening) s.journal (entries_by session first second) h.told.versions
         (subst (λ (f : ℕ → Option Fact). AreNext f (entries_by session first second)) (λ i id. h.told.facts id i) t.versions));
+    counted =
+        let p = t.counted in
+        let q = h.told.counted in
+        let long : length n.journal ≡ length s.journal + length (entries_by session first second) = ap length b ∙ length-append s.journal (entries_by session first second) in
+        omega (arith, p, q, long);
   };
   given = given;
 }
@@ -211,12 +217,17 @@ step_told opening s fault (event.Hang session) h = by (stands s session)
     by true = same opening s (hangs_if s true session).0 refl refl h
     by false = h
 
+-- the leases of a session are no part of it either
+pub gives_up_told : (opening : Tree) (s : State) (session : ℕ) → Holds opening s → Holds opening (gives_up s session)
+gives_up_told opening s session h = same opening s (gives_up s session) refl refl h
+
 -- before any entry a tree holds what it opened with
 pub opening_told : (s : State) → s.journal ≡ [] → IsGiven s.tree → Holds s.tree s
 opening_told s none given = record {
   told = record {
     facts = λ id. ap (λ (es : List Entry). facts_after id (fact_at s.tree id) es) (sym none);
     versions = subst (λ (es : List Entry). AreNext (fact_at s.tree) es) (sym none) tt;
+    counted = let long : length s.journal ≡ 0 = ap length none in omega (arith, long);
   };
   given = given;
 }

@@ -60,10 +60,12 @@ AreNext before (e ∷ es) = IsNext e.kind e (before e.file) × AreNext (λ id. f
 
 -- ---- a server whose tree opened so
 
--- Of each id the tree holds what the journal says, or the opening tree where no entry does; and along the journal each file's versions rise by one.
+-- Of each id the tree holds what the journal says, or the opening tree where no entry does; along the journal each file's versions rise by one; and each entry
+-- is one change of the tree.
 pub record IsTold (opening : Tree) (s : State) : Type 0 where
   pub facts : (id : ℕ) → fact_at s.tree id ≡ facts_after id (fact_at opening id) s.journal
   pub versions : AreNext (fact_at opening) s.journal
+  pub counted : s.tree.changes ≡ opening.changes + length s.journal
 
 -- each id was given once, and is below the next
 pub record IsGiven (t : Tree) : Type 0 where
@@ -74,7 +76,3 @@ pub record IsGiven (t : Tree) : Type 0 where
 pub record Holds (opening : Tree) (s : State) : Type 0 where
   pub told : IsTold opening s
   pub given : IsGiven s.tree
-
--- a server whose tree holds what its journal says, over some tree that it opened with
-abbrev pub IsAccounted : State → Type 0
-IsAccounted s = ∥ ((opening : Tree) × Holds opening s) ∥₁

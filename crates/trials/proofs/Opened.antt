@@ -4,14 +4,14 @@ use Rattle.std.proofs.Common.{ap, sym, subst, arith}
 use Rattle.store.specs.declared.record.Kept.{Kept}
 use Rattle.server_core.specs.State.{State, empty, entries_held}
 use Rattle.server_held.specs.Kept.{KeepsTree}
-use Rattle.server_law.specs.Facts.{IsGiven, IsAccounted}
+use Rattle.server_law.specs.Facts.{IsGiven, Holds}
 use Rattle.server_law.proofs.Steps.{opening_told}
 
 pub nothing_held : (server : State) (spare : ℕ) → server ≡ empty → entries_held server.waiting ≤ spare
 nothing_held server spare is = subst (λ s. entries_held s.waiting ≤ spare) (sym is) (omega arith)
 
-pub is_accounted : (server : State) → server ≡ empty → IsAccounted server
-is_accounted server is = ∣ (server.tree, opening_told server (ap (λ (s : State). s.journal) is) (subst IsGiven (sym (ap (λ (s : State). s.tree) is)) given)) ∣₁
+pub is_opened : (server : State) → server ≡ empty → Holds server.tree server
+is_opened server is = opening_told server (ap (λ (s : State). s.journal) is) (subst IsGiven (sym (ap (λ (s : State). s.tree) is)) given)
   where
     given : IsGiven empty.tree
     given = record { below = (omega arith, tt); apart = (tt, tt) }

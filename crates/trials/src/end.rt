@@ -4,7 +4,7 @@
 ghost use Rattle.program_words.specs.Words.{IsFew, command_in};
 
 use crate::outside::{files, store};
-use crate::port::{Port, PortLink, PortNet};
+use crate::port::{Port, PortClock, PortLink, PortNet, PortRest};
 use crate::screen::{Screen, Typist};
 use crate::trial::Trial;
 use crate::tried_store::TriedStore;
@@ -12,9 +12,7 @@ use crate::words::asked_of;
 use exit_status::status::Status;
 use lbfs_run::outside::Outside;
 use lbfs_run::run::run_asked;
-use links::clock::FixedClock;
 use links::mem_files::MemFiles;
-use links::rest::NoRest;
 use program_words::asked::Asked;
 use row_text::out::Out;
 use std::alloc::Global;
@@ -29,8 +27,8 @@ type Whole<'a, R> = Outside<
     TriedStore,
     MemFiles,
     PortNet<R>,
-    FixedClock,
-    NoRest,
+    PortClock,
+    PortRest<R>,
 >;
 
 /// The program's run. It stands alone because its contract is large.
@@ -104,12 +102,13 @@ fn put_end<R: Wait + Copy>(
 fn put_run<'a, R: Threads + Wait + Sync + Send + Copy + Drop>(
     rt: &R,
     alloc: Global,
-    port: Arc<Port>,
+    ports: (Arc<Port>, Arc<Port>, Arc<Port>),
     trial: &Trial<'_>,
     input: &'a [u8],
     answers: &'a AtomicU64,
     out: &mut Out,
 ) {
+    let (lines, clocks, rests) = ports;
     let Ok(store) = store(alloc, trial, out) else {
         return out.lack();
     };
@@ -119,9 +118,12 @@ fn put_run<'a, R: Threads + Wait + Sync + Send + Copy + Drop>(
         sink: Screen::new(alloc, trial, answers),
         store,
         files: files(alloc, trial, out),
-        network: PortNet::new(*rt, port, trial),
-        clock: FixedClock::at(0),
-        rest: NoRest,
+        network: PortNet::new(*rt, lines, trial),
+        clock: PortClock { port: clocks },
+        rest: PortRest {
+            rt: *rt,
+            port: rests,
+        },
     };
     let (status, whole, unpaired) = run_whole(rt, alloc, asked, whole);
     put_end(trial, status, &whole, &unpaired, out);
@@ -139,9 +141,23 @@ pub fn run_end<R: Threads + Wait + Sync + Send + Copy + Drop>(
     let mut out = Out::new(alloc);
     let input = trial.input(alloc, &mut out);
     let answers = AtomicU64::new(0);
-    match port.clone() {
-        Ok(its) => put_run(rt, alloc, its, trial, input.as_slice(), &answers, &mut out),
-        Err(_) => out.lack(),
+    let lines: Result<Arc<Port>, _> = port.clone();
+    let clocks: Result<Arc<Port>, _> = port.clone();
+    let rests: Result<Arc<Port>, _> = port.clone();
+    match (lines, clocks, rests) {
+        (Ok(lines), Ok(clocks), Ok(rests)) => {
+            let ports = (lines, clocks, rests);
+            put_run(
+                rt,
+                alloc,
+                ports,
+                trial,
+                input.as_slice(),
+                &answers,
+                &mut out,
+            )
+        }
+        _ => out.lack(),
     }
     port.shut(rt);
     out

@@ -4,6 +4,8 @@
 #![tactic(auto)]
 
 mod end;
+mod hashing;
+mod leases;
 mod line;
 mod lists;
 mod outside;
@@ -18,6 +20,7 @@ mod tally;
 mod trial;
 mod tried_store;
 mod turns;
+mod wanted;
 mod words;
 
 use row_text::out::Out;

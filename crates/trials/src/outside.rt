@@ -40,31 +40,45 @@ fn zeros(alloc: Global) -> Result<SharedBytes, AllocError> {
     Ok(SharedBytes::new(alloc, Items::from_vec(bytes))?)
 }
 
+/// The records of a file of the root in its first version.
+fn put_file(alloc: Global, records: &mut Vec<Kept>, at: u8, bytes: &SharedBytes, out: &mut Out) {
+    let id = u64::from(at) + 2;
+    let node = node(alloc, id, 1, b'a'.saturating_add(at), out);
+    out.push(records, node);
+    match bytes.share() {
+        Ok(bytes) => {
+            let content = ContentRecord {
+                id,
+                version: 1,
+                bytes,
+            };
+            out.push(records, Kept::Content(content))
+        }
+        Err(_) => out.lack(),
+    }
+}
+
 /// The records of 16 files of the root, each of which has as many zeros as a file may.
 fn put_files(alloc: Global, records: &mut Vec<Kept>, out: &mut Out) {
     let Ok(zeros) = zeros(alloc) else {
         return out.lack();
     };
     for at in 0..16u8 {
-        let id = u64::from(at) + 2;
-        let node = node(alloc, id, 1, b'a' + at, out);
-        out.push(records, node);
-        match zeros.share() {
-            Ok(bytes) => {
-                let content = ContentRecord {
-                    id,
-                    version: 1,
-                    bytes,
-                };
-                out.push(records, Kept::Content(content))
-            }
-            Err(_) => out.lack(),
-        }
+        put_file(alloc, records, at, &zeros, out);
+    }
+}
+
+/// Those of the file `a` with one byte.
+fn put_kept(alloc: Global, records: &mut Vec<Kept>, out: &mut Out) {
+    let bytes = copied(alloc, b"a", out);
+    match SharedBytes::new(alloc, bytes) {
+        Ok(bytes) => put_file(alloc, records, 0, &bytes, out),
+        Err(_) => out.lack(),
     }
 }
 
 /// The records of the store: a head, if it has one; the file `a` of the directory that is told, whose
-/// content is missing; or as many files as a tree may have bytes.
+/// content is missing; the file `a` with one byte; or as many files as a tree may have bytes.
 fn records(alloc: Global, trial: &Trial<'_>, out: &mut Out) -> Vec<Kept> {
     let mut records = Vec::new(alloc);
     if let Some(next) = trial.setting("head") {
@@ -73,6 +87,9 @@ fn records(alloc: Global, trial: &Trial<'_>, out: &mut Out) -> Vec<Kept> {
     if let Some(parent) = trial.setting("parent") {
         let node = node(alloc, 2, parent, b'a', out);
         out.push(&mut records, node);
+    }
+    if trial.setting("kept").is_some() {
+        put_kept(alloc, &mut records, out);
     }
     if trial.setting("full").is_some() {
         put_files(alloc, &mut records, out);

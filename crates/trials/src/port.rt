@@ -5,17 +5,22 @@ ghost use Rattle.std.specs.Prelude.{◌≡◌, ◌≤◌, None, Err, OnErr};
 ghost use Rattle.lb_base.specs.Causes.{Rose};
 
 use crate::line::{
-    Given, Line, Side, Until, give_at, is_early, lines_of, pairs_at, put_lines, shut_all, shut_at,
-    take_at,
+    Given, Line, Side, Until, calls_at, forget_calls_at, give_at, is_early, lines_of, pairs_at,
+    put_farewells, put_lines, shut_all, shut_at, take_at,
 };
 use crate::trial::Trial;
+use crate::wanted::{Wanted, is_wanted, wanted_of};
 use lb_base::faults::one_more;
 use lb_base::sink::GiveError;
 use lb_base::source::Failed;
+use limits::READING_MOST;
+use links::clock::Clock;
 use links::link::Link;
 use links::network::{AcceptError, Network, NoBell};
+use links::rest::Rest;
 use row_text::out::Out;
 use std::alloc::{AllocError, Global};
+use std::sync::atomic::{AtomicU64, Ordering};
 use std::sync::{Arc, Condvar, Mutex, MutexGuard, Wait};
 
 /// A port with its lines, which are there from the beginning, under a lock.
@@ -26,6 +31,23 @@ pub struct Port {
     news: Condvar,
     /// Whether one end alone is tried: it waits for nothing behind what is on its way.
     is_silent: bool,
+    /// What is waited for in rests: of the first in the first, and of all others in each later one.
+    wanted: Vec<Wanted>,
+    /// How many rests there were.
+    rests: AtomicU64,
+    /// Whether the clock stands at 0.
+    is_stopped: bool,
+}
+
+/// What the rests of a trial wait for, `rests=LINE@RECORDS,LINE@RECORDS`.
+fn wanted_in(alloc: Global, trial: &Trial<'_>, out: &mut Out) -> Vec<Wanted> {
+    let mut all = Vec::new(alloc);
+    for word in trial.word("rests").split(',') {
+        if is_wanted(word) {
+            out.push(&mut all, wanted_of(word));
+        }
+    }
+    all
 }
 
 impl Port {
@@ -40,6 +62,9 @@ impl Port {
             lines: Mutex::new(lines_of(alloc, trial, out)),
             news: Condvar::new(),
             is_silent,
+            wanted: wanted_in(alloc, trial, out),
+            rests: AtomicU64::new(0),
+            is_stopped: trial.setting("stopped").is_some(),
         };
         Ok(Arc::new(alloc, port)?)
     }
@@ -60,9 +85,65 @@ impl Port {
             .wait_while(rt, lines, |lines| is_early(lines, at, until))
     }
 
+    /// Waits until the first line's listener gave so many records.
+    pub fn await_records<R: Wait>(&self, rt: &R, records: u64) {
+        self.await_given(rt, Wanted { line: 0, records })
+    }
+
+    /// Waits until all that is to come on the first line was taken.
+    pub fn await_taken<R: Wait>(&self, rt: &R) {
+        drop(self.held(rt, 0, Until::Taken))
+    }
+
+    /// In how many calls the first line's listener gave something.
+    pub fn calls<R: Wait>(&self, rt: &R) -> u64 {
+        let lines = self.lines.lock(rt);
+        let calls = calls_at(&lines, 0);
+        drop(lines);
+        calls
+    }
+
+    /// Calls are counted from now on.
+    pub fn forget_calls<R: Wait>(&self, rt: &R) {
+        let mut lines = self.lines.lock(rt);
+        forget_calls_at(&mut lines, 0);
+        drop(lines);
+    }
+
     /// Waits until somebody has something to say on the first line, to a dialler that takes nothing.
     pub fn await_speaker<R: Wait>(&self, rt: &R) {
         drop(self.held(rt, 0, Until::Speaker))
+    }
+
+    /// Waits until the listener of a line gave so many records.
+    fn await_given<R: Wait>(&self, rt: &R, wanted: Wanted) {
+        let until = Until::Given {
+            records: wanted.records,
+        };
+        drop(self.held(rt, wanted.line, until))
+    }
+
+    /// Waits for what a rest is to wait for.
+    fn rest<R: Wait>(&self, rt: &R) {
+        let is_first = self.rests.load(Ordering::SeqCst) == 0;
+        for (at, wanted) in self.wanted.iter().enumerate() {
+            if (at == 0) == is_first {
+                self.await_given(rt, *wanted);
+            }
+        }
+        self.rests.fetch_add(1, Ordering::SeqCst);
+    }
+
+    /// How many rests there were.
+    pub fn rests(&self) -> u64 {
+        self.rests.load(Ordering::SeqCst)
+    }
+
+    /// How many farewells each line's dialler gave, and whether one was the last record.
+    pub fn put_farewells<R: Wait>(&self, rt: &R, out: &mut Out) {
+        let lines = self.lines.lock(rt);
+        put_farewells(&lines, out);
+        drop(lines);
     }
 
     /// Whether each line is shut, and what its listener gave.
@@ -70,6 +151,39 @@ impl Port {
         let lines = self.lines.lock(rt);
         put_lines(&lines, out);
         drop(lines);
+    }
+}
+
+/// Rests at a port.
+#[derive(Drop)]
+pub struct PortRest<R> {
+    pub rt: R,
+    pub port: Arc<Port>,
+}
+
+impl<R: Wait> Rest for PortRest<R> {
+    fn rest(&self) {
+        self.port.rest(&self.rt)
+    }
+}
+
+/// A clock that goes on by rests: 100 milliseconds in each, a million where the first waits for something,
+/// or not at all.
+#[derive(Drop)]
+pub struct PortClock {
+    pub port: Arc<Port>,
+}
+
+impl Clock for PortClock {
+    fn now(&self) -> u64 {
+        let step = if self.port.is_stopped {
+            0
+        } else if self.port.wanted.is_empty() {
+            100
+        } else {
+            1_000_000
+        };
+        self.port.rests().saturating_mul(step).min(READING_MOST)
     }
 }
 
@@ -116,6 +230,8 @@ impl<R: Wait + Copy> Link for PortLink<R> {
         };
         let mut lines = self.port.held(&self.rt, self.at, until);
         let count = take_at(&mut lines, self.at, self.side, into);
+        drop(lines);
+        self.port.news.notify_all();
         Ok(count.min(into.len()))
     }
 
@@ -193,6 +309,11 @@ impl<R: Wait + Copy> PortNet<R> {
     /// How many faults there were.
     pub fn faults(&self) -> u64 {
         self.faults
+    }
+
+    /// How many lines there are.
+    pub fn lines(&self) -> u32 {
+        self.lines.min(64) as u32
     }
 
     /// Counts a fault, and tells it.

@@ -2,8 +2,8 @@
 
 use crate::end::run_end;
 use crate::port::Port;
-use crate::sessions;
 use crate::trial::{Trial, split};
+use crate::{leases, sessions};
 use row_text::out::Out;
 use row_text::text::is_remark;
 use std::alloc::Global;
@@ -27,7 +27,8 @@ fn put_alone<R: Threads + Wait + Sync + Send + Copy + Drop>(
     }
 }
 
-/// Runs a mount and its server beside each other.
+/// Runs a mount and its server beside each other, and tells, where it is asked for, which farewells the mount
+/// gave.
 fn put_both<R: Threads + Wait + Sync + Send + Copy + Drop>(
     rt: &R,
     alloc: Global,
@@ -43,7 +44,10 @@ fn put_both<R: Threads + Wait + Sync + Send + Copy + Drop>(
     );
     out.join(&mounted);
     out.text("its server");
-    out.join(&served)
+    out.join(&served);
+    if mount.setting("said").is_some() {
+        port.put_farewells(rt, out);
+    }
 }
 
 /// `TITLE | WORDS | SETTINGS | LINES | INPUT`, with the words and the settings of a server behind a
@@ -85,7 +89,7 @@ fn put_run<R: Threads + Wait + Sync + Send + Copy + Drop>(
     }
 }
 
-/// `TITLE | KIND | LINE`: what comes of a session.
+/// `TITLE | KIND | LINES | SETTINGS`: what comes of a session, or of several.
 fn put_session<R: Threads + Wait + Clock + Sync + Send + Copy + Drop>(
     rt: &R,
     alloc: Global,
@@ -94,10 +98,11 @@ fn put_session<R: Threads + Wait + Clock + Sync + Send + Copy + Drop>(
     out: &mut Out,
 ) {
     let (title, rest) = split(row, '|');
-    let (kind, links) = split(rest, '|');
+    let (kind, rest) = split(rest, '|');
+    let (links, settings) = split(rest, '|');
     let trial = Trial {
         words: "",
-        settings: "",
+        settings,
         links,
         input: "",
         records,
@@ -105,6 +110,7 @@ fn put_session<R: Threads + Wait + Clock + Sync + Send + Copy + Drop>(
     out.text(title);
     out.text(":");
     match Port::new(alloc, &trial, true, out) {
+        Ok(port) if kind == "leases" => leases::put(rt, alloc, &port, &trial, out),
         Ok(port) => sessions::put(rt, alloc, &port, kind, out),
         Err(_) => out.lack(),
     }

@@ -3,6 +3,7 @@
 
 ghost use Rattle.turn_post.specs.Passes.{IsPassOf};
 
+use crate::hashing::{store_pieces, tell_meanwhile};
 use crate::line::Side;
 use crate::port::{Port, PortLink};
 use crate::tried_store::{TriedStore, TriedSyncs};
@@ -28,10 +29,10 @@ use turn_post::post::{Pass, Post};
 use wire::message::{Message, RpcRefusal};
 
 /// What is handed from turn to turn.
-type MemHeld = Held<TriedStore>;
+pub(crate) type MemHeld = Held<TriedStore>;
 
 /// What the threads of a server share.
-type PortShared<R> = Shared<MemHeld, TriedSyncs, OpenGate, PortLink<R>>;
+pub(crate) type PortShared<R> = Shared<MemHeld, TriedSyncs, OpenGate, PortLink<R>>;
 
 /// Why a session ended.
 fn name_of(end: End) -> &'static str {
@@ -59,6 +60,19 @@ struct Others {
     says: bool,
     /// Whether it is hung.
     hangs: bool,
+    /// Whether it is told something while a content of it is hashed.
+    hashes: bool,
+}
+
+impl Others {
+    /// What a row of this kind wants.
+    fn of(kind: &str) -> Others {
+        Others {
+            says: kind == "ends" || kind == "hung",
+            hangs: kind == "hung" || kind == "gone",
+            hashes: kind == "hashes",
+        }
+    }
 }
 
 /// Once the session's threads sleep, something is said to it, where it should be, and a thread of it waits
@@ -75,6 +89,10 @@ fn speak_to<R: Wait + Clock + Copy + Drop>(
 {
     thread::sleep(rt, Duration::from_millis(20));
     let mut pass = pass;
+    if others.hashes {
+        pass = store_pieces(rt, shared, pass, session, port);
+        pass = tell_meanwhile(rt, shared, pass, session, port);
+    }
     if others.says {
         let message = Message::Unfit(7, RpcRefusal::ProcUnavail);
         let now = 0;
@@ -135,8 +153,30 @@ fn run_threads<'x, R: Threads + Wait + Clock + Sync + Send + Copy + Drop>(
     )
 }
 
-/// Runs a session whose client takes nothing.
-fn run_deaf<R: Threads + Wait + Clock + Sync + Send + Copy + Drop>(
+/// How many further connections can be made.
+fn put_free<R: Wait + Copy + Drop>(
+    rt: &R,
+    shared: &PortShared<R>,
+    pass: Pass<MemHeld>,
+    out: &mut Out,
+)
+    requires { IsPassOf shared.now.post pass }
+{
+    let mut pass = pass;
+    let mut free = 0u64;
+    for _at in 0..66u32 {
+        let (later, went) = shared.event(rt, pass, Event::Connect);
+        pass = later;
+        if matches!(went, Went::Open { .. }) {
+            free = free.wrapping_add(1);
+        }
+    }
+    out.text(" free");
+    out.number(free)
+}
+
+/// Runs a session in its two threads, beside another that has to do with it.
+fn run_beside<R: Threads + Wait + Clock + Sync + Send + Copy + Drop>(
     rt: &R,
     shared: &PortShared<R>,
     pass: Pass<MemHeld>,
@@ -181,45 +221,21 @@ fn put_session<R: Threads + Wait + Clock + Sync + Send + Copy + Drop>(
 )
     requires { IsPassOf shared.now.post pass }
 {
-    let end = match kind {
-        "ends" => run_deaf(
-            rt,
-            shared,
-            pass,
-            session,
-            port,
-            Others {
-                says: true,
-                hangs: false,
-            },
-        ),
-        "hung" => run_deaf(
-            rt,
-            shared,
-            pass,
-            session,
-            port,
-            Others {
-                says: true,
-                hangs: true,
-            },
-        ),
-        "gone" => run_deaf(
-            rt,
-            shared,
-            pass,
-            session,
-            port,
-            Others {
-                says: false,
-                hangs: true,
-            },
-        ),
-        _ => run_alone(rt, shared, pass, session, port),
+    let (pass, later) = shared.split(pass);
+    let end = if kind == "alone" {
+        run_alone(rt, shared, pass, session, port)
+    } else {
+        run_beside(rt, shared, pass, session, port, Others::of(kind))
     };
     match end {
         Ok(end) => out.text(name_of(end)),
         Err(_) => out.lack(),
+    }
+    put_free(rt, shared, later, out);
+    if kind == "hashes" {
+        out.text(" calls");
+        out.number(port.calls(rt));
+        return out.text("\n");
     }
     port.put_lines(rt, out)
 }
@@ -285,7 +301,7 @@ fn put_held<R: Threads + Wait + Clock + Sync + Send + Copy + Drop>(
 ) {
     match Post::new(alloc, held) {
         Ok((post, pass)) => {
-            let shared = Shared::new(alloc, post, syncs, OpenGate);
+            let shared = Shared::new(alloc, post, syncs, OpenGate, 0);
             let (pass, last) = shared.split(pass);
             put_shared(rt, &shared, pass, port, kind, out);
             let (_front, held) = shared.finish(rt, last);
@@ -308,7 +324,7 @@ fn empty_store(alloc: Global) -> Result<(TriedStore, TriedSyncs), AllocError> {
 
 /// What comes of a row: a session of a server of an empty store over the port's first line, or one
 /// connection after the other.
-#[tactic(auto, using(crate::proofs::Opened::nothing_held, crate::proofs::Opened::is_accounted, crate::proofs::Opened::keeps_tree))]
+#[tactic(auto, using(crate::proofs::Opened::nothing_held, crate::proofs::Opened::is_opened, crate::proofs::Opened::keeps_tree))]
 pub fn put<R: Threads + Wait + Clock + Sync + Send + Copy + Drop>(
     rt: &R,
     alloc: Global,

@@ -42,6 +42,17 @@ impl<'x> Trial<'x> {
         self.setting(key).unwrap_or(other) as usize
     }
 
+    /// The word of the setting `KEY=WORD`; an empty one where it isn't there.
+    pub fn word(&self, key: &str) -> &'x str {
+        for word in self.settings.split_whitespace() {
+            let (name, word) = split(word, '=');
+            if name == key {
+                return word;
+            }
+        }
+        ""
+    }
+
     /// The input: the records that are named behind a `+`, or a text in which `;` ends a line.
     pub fn input(&self, alloc: Global, out: &mut Out) -> Vec<u8> {
         match self.input.strip_prefix('+') {

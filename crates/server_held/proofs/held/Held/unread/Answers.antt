@@ -5,7 +5,7 @@ use Rattle.server_held.proofs.Hearing.{unheard_hung}
 use Rattle.server_held.proofs.held.Held.unread.Goals as goal
 
 pub returns-in-UnknownXid : goal.returns-in-UnknownXid
-returns-in-UnknownXid g c = subst (λ e. Unread g.S.Store.records g.S.Store.faults c.args.self.now c.args.session e c.standing.result c.args.self.now) (sym c.in-Fault.is) (subst (λ f. Unheard g.S.Store.records g.S.Store.faults c.args.self.now c.args.session f c.standing.result c.args.self.now) (sym c.in-UnknownXid.is) (refl, c.standing.ensures.0))
+returns-in-UnknownXid g c = subst (λ e. Unread g.S.Store.records g.S.Store.faults c.args.self.now c.args.session e c.unawaited.result c.unawaited.new.self) (sym c.in-Fault.is) (subst (λ f. Unheard g.S.Store.records g.S.Store.faults c.args.self.now c.args.session f c.unawaited.result c.unawaited.new.self) (sym c.in-UnknownXid.is) c.unawaited.ensures)
 
 pub returns-in-NotRpc : goal.returns-in-NotRpc
 returns-in-NotRpc g c = subst (λ e. Unread g.S.Store.records g.S.Store.faults c.args.self.now c.args.session e went.Closed c.hang.new.self) (sym c.in-Fault.is) (unheard_hung g.S.Store.records g.S.Store.faults c.args.self.now c.args.session c.in-Fault.fault c.hang.new.self c.in-NotRpc.is c.hang.ensures)

@@ -1,0 +1,85 @@
+//! A session is told something while its content is cut and hashed: what is said goes out meanwhile, in a
+//! call of its own, since no thread of the session holds its link then.
+
+ghost use Rattle.turn_post.specs.Passes.{IsPassOf};
+
+use crate::port::Port;
+use crate::sessions::{MemHeld, PortShared};
+use hash_calls::call::TempPiece;
+use hash_calls::message::Lb;
+use lb_base::items::{Bytes, Items};
+use server_core::event::Event;
+use std::alloc::{AllocError, Global};
+use std::rt::Clock;
+use std::sync::Wait;
+use std::thread;
+use std::time::Duration;
+use turn_post::post::Pass;
+use wire::message::{Body, Message, RpcRefusal};
+
+/// How many bytes a piece has, and how many there are.
+const PIECE: usize = 65_536;
+
+const PIECES: u32 = 256;
+
+/// The zeros of a piece.
+fn zeros(alloc: Global) -> Result<Bytes, AllocError> {
+    Ok(Items::from_vec(vec![in alloc; 0u8; PIECE]?))
+}
+
+/// The client's temporary file 1 gets all pieces, once the calls before are answered; none of it comes on
+/// the line.
+pub fn store_pieces<R: Wait + Clock + Copy + Drop>(
+    rt: &R,
+    shared: &PortShared<R>,
+    pass: Pass<MemHeld>,
+    session: u32,
+    port: &Port,
+) -> Pass<MemHeld>
+    requires { IsPassOf shared.now.post pass }
+    ensures { IsPassOf shared.now.post result }
+{
+    port.await_records(rt, 2);
+    let mut pass = pass;
+    for at in 0..PIECES {
+        let Ok(bytes) = zeros(shared.alloc()) else {
+            return pass;
+        };
+        let piece = TempPiece {
+            fd: 1,
+            offset: u64::from(at).saturating_mul(PIECE as u64),
+            bytes,
+        };
+        let event = Event::Got {
+            session,
+            message: Message::Call(at, Body::Lb(Lb::TmpWrite(piece))),
+            now: 0,
+        };
+        let (next, _went) = shared.event(rt, pass, event);
+        pass = next;
+    }
+    pass
+}
+
+/// Once the COMMITTMP was taken something is said to the session.
+pub fn tell_meanwhile<R: Wait + Clock + Copy + Drop>(
+    rt: &R,
+    shared: &PortShared<R>,
+    pass: Pass<MemHeld>,
+    session: u32,
+    port: &Port,
+) -> Pass<MemHeld>
+    requires { IsPassOf shared.now.post pass }
+    ensures { IsPassOf shared.now.post result }
+{
+    port.await_taken(rt);
+    port.forget_calls(rt);
+    thread::sleep(rt, Duration::from_millis(10));
+    let event = Event::Got {
+        session,
+        message: Message::Unfit(7, RpcRefusal::ProcUnavail),
+        now: 0,
+    };
+    let (pass, _went) = shared.event(rt, pass, event);
+    pass
+}
