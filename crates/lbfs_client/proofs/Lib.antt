@@ -1,3 +1,4 @@
+pub mod Bounds
 pub mod Leadings
 pub mod Letters
 pub mod Runnings

@@ -1,4 +1,5 @@
 pub mod Answers
+pub mod Bounded
 pub mod Client
 pub mod Host
 pub mod Lines
@@ -9,3 +10,5 @@ pub mod Caching
 pub mod Hinting
 pub mod Paging
 pub mod PagingRows
+pub mod Farewell
+pub mod FarewellRows

@@ -91,10 +91,10 @@ impl<F: Files> Mounted<F> {
         &mut self,
         alloc: Global,
         listed: u64,
-        record: &[u8],
+        bytes: &[u8],
         now: u64,
     ) -> Result<Said, AllocError>
-        ensures { IfOk result (λ said. Receives self.old listed record.now now self.new said) }
+        ensures { IfOk result (λ said. Receives self.old listed bytes.now now self.new said) }
     {
         receive(
             alloc,
@@ -102,7 +102,7 @@ impl<F: Files> Mounted<F> {
             &mut self.client,
             &mut self.walk,
             listed,
-            record,
+            bytes,
             now,
         )
     }

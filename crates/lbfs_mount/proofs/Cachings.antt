@@ -1,9 +1,9 @@
 -- How a mount ends that has a cache file, from how its parts end.
-use Rattle.std.proofs.Common.{◌≡◌, ◌⊎◌, inl, inr, ℕ, ◌≤◌, List, [], Option, Result, Ok, Err, Bool, true, false, refl, sym, subst, arith}
+use Rattle.std.proofs.Common.{◌≡◌, inl, inr, ℕ, ◌≤◌, List, [], Option, Result, Ok, Err, Bool, true, false, refl, sym, subst, arith}
 use Rattle.std.specs.Prelude.{OnOk, IsErrOf}
 use Rattle.std.proofs.lemmas.List.{append-nil}
-use Rattle.lbfs_mount.specs.Cached.{IsNotice, Notes, NotesPart, NoticeEnds, IsDoneAll, IsBadLineAll, WritesAll, FailsAll, EndsAll, SavesAfter}
-use Rattle.lbfs_mount.specs.Mounts.{Outside, Fails, Ends, Unwritten, WriteEnds, Writes, Tells}
+use Rattle.lbfs_mount.specs.Cached.{Notes, NoticeEnds, IsDoneAll, WritesAll, FailsAll, EndsAll, SavesAfter}
+use Rattle.lbfs_mount.specs.Mounts.{Outside, Fails, Ends, Unwritten, WriteEnds}
 use Rattle.lbfs_mount.specs.declared.mount_error.MountError.{MountError}
 use Rattle.lbfs_mount.specs.declared.mount_error.MountError.TheVariants as errors
 use Rattle.lbfs_mount.proofs.Progress.{ends_writes, rose_more, appends_none, writes_nothing}

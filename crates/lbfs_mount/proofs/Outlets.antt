@@ -1,5 +1,5 @@
 -- What a turn gives to its link.
-use Rattle.std.proofs.Common.{◌≡◌, ◌⊎◌, inl, inr, ℕ, List, [], ◌++◌, Bool, true, false, refl, sym, ◌∙◌, ap, subst}
+use Rattle.std.proofs.Common.{◌≡◌, ◌⊎◌, inl, inr, ℕ, List, [], ◌∷◌, ◌++◌, Bool, false, refl, sym, ◌∙◌, ap, subst}
 use Rattle.std.specs.Prelude.{Option, Some, None, Result, Ok, Err, OnOk, OnErr, IfOk, IsErrOf}
 use Rattle.std.specs.Option.{option_or}
 use Rattle.std.specs.Io.KnownBytes.{Appends}
@@ -10,9 +10,10 @@ use Rattle.record_ends.specs.Ends.{out_bytes}
 use Rattle.record_ends.specs.declared.end.End.{End}
 use Rattle.record_ends.specs.declared.end.End.TheVariants as ends
 use Rattle.wire.specs.declared.message.Message.{Message}
+use Rattle.lbfs_client.specs.Farewell.{farewell}
 use Rattle.lbfs_client.specs.Mounting.{Mount}
 use Rattle.lbfs_client.specs.declared.said.Said.{Said}
-use Rattle.lbfs_mount.specs.Outlet.{Outlet, Fails, Gives, LosesOut, SaysOut, SaysOutOf, SendsOut, SendsOut.gone, SendsOut.waiting, SendsOut.lost, TurnsOut}
+use Rattle.lbfs_mount.specs.Outlet.{Outlet, Fails, FarewellEnds, Gives, GivesPart, LosesOut, SaysOut, SaysOutOf, SendsOut, TurnsOut}
 use Rattle.lbfs_mount.specs.Turns.{bounded_by}
 
 -- where nothing is said a link is given nothing
@@ -25,6 +26,9 @@ given_none {L} held link send none = subst (λ (o : Option L). Gives held o o se
 
 pub given_so : {L E : Type 0} (held : L → Option (List ℕ)) (link : Option L) (l k : L) (send : List Message) (r : Result Unit E) → link ≡ Some l → OnOk r (Appends (held l) (held k) (out_bytes send)) → OnOk r (Gives held link (Some k) send)
 given_so {L} held link l k send r is h = subst (λ (o : Option L). OnOk r (Gives held o (Some k) send)) (sym is) h
+
+pub part_so : {L E : Type 0} (held : L → Option (List ℕ)) (link : Option L) (l k : L) (send : List Message) (r : Result Unit E) → link ≡ Some l → OnErr r (AppendsPrefix (held l) (held k) (out_bytes send)) → OnErr r (GivesPart held link (Some k) send)
+part_so {L} held link l k send r is h = subst (λ (o : Option L). OnErr r (GivesPart held o (Some k) send)) (sym is) h
 
 pub fails_so : {L : Type 0} (held : L → Option (List ℕ)) (faults : L → ℕ) (link : Option L) (l k : L) (send : List Message) (r : Result Unit End) → link ≡ Some l → OnErr r (AppendsPrefix (held l) (held k) (out_bytes send)) → (IsErrOf r ends.Failed → Rose (faults l) (faults k)) → IsErrOf r ends.Failed → Fails held faults link (Some k) send
 fails_so {L} held faults link l k send r is part rose failed = subst (λ (o : Option L). Fails held faults o (Some k) send) (sym is) (subst (λ (q : Result Unit End). OnErr q (AppendsPrefix (held l) (held k) (out_bytes send))) failed part, rose failed)
@@ -70,3 +74,25 @@ hinted_out {L} held faults r most kept called m now m' o hinted o' same is p q =
     subst (λ (k : ℕ). TurnsOut held faults k called now m' o o' (λ n. false)) same
     (subst (λ (x : Outlet L). TurnsOut held faults kept called now m' x o' (λ n. false)) is
     (turn_out held faults r kept called m now m' hinted o' false (λ n. false) refl p q))
+
+-- ---- the end of a mount
+
+-- a link that was given nothing was given a front
+pub part_none : {L : Type 0} (held : L → Option (List ℕ)) (link : Option L) (send : List Message) → GivesPart held link link send
+part_none held None send = tt
+part_none held (Some l) send = ([], out_bytes send, refl, appends_none (held l))
+
+-- what came of giving all that waits, with a farewell behind
+pub farewell_ends : {L : Type 0} (held : L → Option (List ℕ)) (faults : L → ℕ) (old last : Option L) (waits all : List Message) (r : Result Unit End) → all ≡ waits ++ farewell ∷ []
+    → OnOk r (Gives held old last all) → OnErr r (GivesPart held old last all) → OnErr r (IsErrOf r ends.Failed ⊎ IsErrOf r ends.Memory) → (IsErrOf r ends.Failed → Fails held faults old last all) → FarewellEnds held faults old last waits r
+farewell_ends {L} held faults old last waits all r is gives part only fails = by r (subst (λ (ms : List Message). OnOk r (Gives held old last ms)) is gives) (subst (λ (ms : List Message). OnErr r (GivesPart held old last ms)) is part) only (λ failed. subst (λ (ms : List Message). Fails held faults old last ms) is (fails failed))
+  where
+    by : (q : Result Unit End) → OnOk q (Gives held old last (waits ++ farewell ∷ [])) → OnErr q (GivesPart held old last (waits ++ farewell ∷ [])) → OnErr q (IsErrOf q ends.Failed ⊎ IsErrOf q ends.Memory)
+        → (IsErrOf q ends.Failed → Fails held faults old last (waits ++ farewell ∷ [])) → FarewellEnds held faults old last waits q
+    by (Ok u) g p o f = g
+    by (Err ends.Failed) g p o f = f refl
+    by (Err ends.Memory) g p o f = p
+    by (Err ends.InputEnd) g p (inl failed) f = cc
+    by (Err ends.InputEnd) g p (inr memory) f = cc
+    by (Err ends.Spoilt) g p (inl failed) f = cc
+    by (Err ends.Spoilt) g p (inr memory) f = cc

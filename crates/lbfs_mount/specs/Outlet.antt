@@ -1,5 +1,5 @@
 -- What a turn of a mount gives to its link, and which line it keeps.
-use Rattle.std.specs.Prelude.{◌≡◌, ℕ, List, [], ◌++◌, Option, Some, None, Result, Ok, Err, Bool, true, false, is_some, not, ◌&&◌, ◌==◌}
+use Rattle.std.specs.Prelude.{◌≡◌, ℕ, List, [], ◌∷◌, ◌++◌, Option, Some, None, Result, Ok, Err, Bool, true, false, is_some, not, ◌&&◌, ◌==◌}
 use Rattle.std.specs.Option.{option_map, option_or}
 use Rattle.std.specs.Io.KnownBytes.{Appends}
 use Rattle.lb_base.specs.Causes.{Rose}
@@ -8,6 +8,7 @@ use Rattle.record_ends.specs.Ends.{out_bytes}
 use Rattle.record_ends.specs.declared.end.End.{End}
 use Rattle.record_ends.specs.declared.end.End.TheVariants as ends
 use Rattle.wire.specs.declared.message.Message.{Message}
+use Rattle.lbfs_client.specs.Farewell.{farewell}
 use Rattle.lbfs_client.specs.Mounting.{Mount, Receives}
 use Rattle.lbfs_client.specs.declared.said.Said.{Said}
 use Rattle.lbfs_mount.specs.Turns.{Loses, bounded_by, counted}
@@ -37,6 +38,13 @@ Gives held None None send = Unit {0}
 Gives held None (Some k) send = ⊥
 Gives held (Some l) None send = ⊥
 Gives held (Some l) (Some k) send = Appends (held l) (held k) (out_bytes send)
+
+-- it was given a front of them, and nothing else
+abbrev pub GivesPart : {L : Type 0} → (held : L → Option (List ℕ)) → (old new : Option L) → List Message → Type 0
+GivesPart held None None send = Unit {0}
+GivesPart held None (Some k) send = ⊥
+GivesPart held (Some l) None send = ⊥
+GivesPart held (Some l) (Some k) send = AppendsPrefix (held l) (held k) (out_bytes send)
 
 -- it failed, and a fault was counted on it; a front of them was given
 abbrev pub Fails : {L : Type 0} → (held : L → Option (List ℕ)) → (faults : L → ℕ) → (old new : Option L) → List Message → Type 0
@@ -78,3 +86,16 @@ pub record HearsOut {L : Type 0} (held : L → Option (List ℕ)) (faults : L �
   pub link : Option L
   pub turn : TurnsOut held faults most (λ n said. Receives m (counted listed bytes) bytes now n said) now m' o (record o' { link = link }) (λ n. more && n.client.linked)
   pub kept : o'.link ≡ kept_if m'.client.linked link
+
+-- ---- the end of a mount
+
+-- what waits goes out, and a farewell behind it; where the link fails, or memory runs out, a front of that does
+abbrev pub FarewellEnds : {L : Type 0} → (held : L → Option (List ℕ)) → (faults : L → ℕ) → (old last : Option L) → (waits : List Message) → Result Unit End → Type 0
+FarewellEnds held faults old last waits (Ok u) = Gives held old last (waits ++ farewell ∷ [])
+FarewellEnds held faults old last waits (Err ends.Failed) = Fails held faults old last (waits ++ farewell ∷ [])
+FarewellEnds held faults old last waits (Err ends.Memory) = GivesPart held old last (waits ++ farewell ∷ [])
+FarewellEnds held faults old last waits (Err e) = ⊥
+
+-- then the link is shut, and let go
+abbrev pub LeavesOut : {L : Type 0} → (held : L → Option (List ℕ)) → (faults : L → ℕ) → (old : Option L) → (waits : List Message) → Result Unit End → Type 0
+LeavesOut {L} held faults old waits r = (last : Option L) × FarewellEnds held faults old last waits r

@@ -5,7 +5,7 @@ ghost use Rattle.lbfs_mount.specs.Mounts.{IsFaulty, Unjoined};
 
 use crate::hearing::hear_all;
 use crate::mount_error::MountError;
-use crate::shared::Shared;
+use crate::shared::ScriptTurns;
 use crate::turns::Turns;
 use lb_base::source::Failed;
 use links::clock::Clock;
@@ -90,7 +90,7 @@ pub(crate) fn connect<
 >(
     scope: &'s Scope<'s, &'e ()>,
     rt: &'e R,
-    shared: &'e Shared<D>,
+    turns: &ScriptTurns<'e, D>,
     dialler: &mut Dialler<N, N::L>,
     clock: &'e C,
 ) -> Result<(), MountError>
@@ -100,10 +100,11 @@ where
     ensures later { N.faults dialler.old.net ≤ N.faults dialler.new.net }
 {
     // Errors are handed on by a `match`, which is proved more cheaply than `?` (docs/PROVING.md, Code).
-    match dial(shared.alloc(), dialler) {
+    match dial(turns.alloc(), dialler) {
         Ok(dialled) => {
             let Dialled { link, twin, inbox } = dialled;
-            let connection = shared.join(rt, link, clock.now());
+            let connection = turns.join(rt, link, clock.now());
+            let shared = turns.shared();
             let hear = move || hear_all(rt, shared, connection, twin, inbox, clock);
             match scope.spawn(hear) {
                 Ok(_thread) => Ok(()),

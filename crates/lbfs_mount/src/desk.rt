@@ -4,11 +4,11 @@
 ghost use Rattle.std.specs.Prelude.{◌≡◌, ◌⊎◌, ◌+◌, ◌-◌, ◌^◌, ◌++◌, ◌||◌, [], min, Some, None, is_some, IfOk, OnErr, true, false};
 ghost use Rattle.std.specs.Option.{option_or};
 ghost use Rattle.lbfs_client.specs.Mounting.{joined_step};
-ghost use Rattle.lbfs_mount.specs.Outlet.{HearsOut, LosesOut, SaysOut, SaysOutOf, SendsOut, TurnsOut, outlet, stands, text_of};
+ghost use Rattle.lbfs_mount.specs.Outlet.{HearsOut, LeavesOut, LosesOut, SaysOut, SaysOutOf, SendsOut, TurnsOut, outlet, stands, text_of};
 ghost use Rattle.lbfs_mount.specs.Turns.{GoesOut, Hears, Hints, MayLearn, MayOffer, IsTold, Loses, RunsHinted, Sends, SendsOf, Turns, bounded_if, counted, wants_link};
 
 use crate::answer_line::AnswerLine;
-use crate::giving::{add, close, close_unless, give_waits, may_wait};
+use crate::giving::{add, close, close_unless, give_farewell, give_waits, may_wait};
 use command_text::command::Command;
 use lb_base::items::{Bytes, Items};
 use lbfs_client::line::MountLine;
@@ -41,6 +41,12 @@ pub(crate) struct Desk<F: Files, L> {
     listed: u64,
     /// How many bytes the client may keep.
     most: u64,
+}
+
+/// What came of a mount's farewell. `Desk::leave` alone makes one, so whoever has one has had it given.
+#[derive(Clone, Copy)]
+pub(crate) struct Left {
+    given: Result<(), End>,
 }
 
 /// The file that a line closes by itself.
@@ -115,9 +121,9 @@ impl<F: Files + Drop, L: Link + Drop> Desk<F, L> {
         }
     }
 
-    /// The client and the files of the host, and whether memory ran out.
-    pub(crate) fn into_parts(self) -> (Mounted<F>, bool)
-        ensures { result ≡ (self.mounted, self.starved) }
+    /// The client and the files of the host, whether memory ran out, and how many bytes may be kept.
+    pub(crate) fn into_parts(self) -> (Mounted<F>, bool, u64)
+        ensures { result ≡ (self.mounted, self.starved, self.most) }
     {
         let Desk {
             mounted,
@@ -125,12 +131,13 @@ impl<F: Files + Drop, L: Link + Drop> Desk<F, L> {
             waits,
             line,
             starved,
+            most,
             ..
         } = self;
         drop(link);
         drop(waits);
         drop(line);
-        (mounted, starved)
+        (mounted, starved, most)
     }
 
     /// Whether this is the connection that is joined.
@@ -296,14 +303,14 @@ impl<F: Files + Drop, L: Link + Drop> Desk<F, L> {
         &mut self,
         alloc: Global,
         connection: u64,
-        record: &[u8],
+        bytes: &[u8],
         more: bool,
         now: u64,
     ) -> bool
         ensures other { stands self.old.connection connection self.old.link self.old.starved ≡ false → self.new ≡ self.old }
-        ensures turn { ((self.new.mounted ≡ self.old.mounted) × (self.new.starved ≡ self.old.starved) × (self.new.listed ≡ self.old.listed)) ⊎ ((self.new.listed ≡ counted self.old.listed record.now) × (self.new.starved ≡ false → Hears self.old.most self.old.listed self.old.mounted record.now now self.new.mounted)) }
-        ensures count { stands self.old.connection connection self.old.link self.old.starved ≡ true → self.new.listed ≡ counted self.old.listed record.now }
-        ensures out { stands self.old.connection connection self.old.link self.old.starved ≡ true → self.new.starved ≡ false → HearsOut L.held L.faults self.old.most self.old.listed self.old.mounted record.now now self.new.mounted (outlet self.old.link self.old.waits self.old.line) (outlet self.new.link self.new.waits self.new.line) more }
+        ensures turn { ((self.new.mounted ≡ self.old.mounted) × (self.new.starved ≡ self.old.starved) × (self.new.listed ≡ self.old.listed)) ⊎ ((self.new.listed ≡ counted self.old.listed bytes.now) × (self.new.starved ≡ false → Hears self.old.most self.old.listed self.old.mounted bytes.now now self.new.mounted)) }
+        ensures count { stands self.old.connection connection self.old.link self.old.starved ≡ true → self.new.listed ≡ counted self.old.listed bytes.now }
+        ensures out { stands self.old.connection connection self.old.link self.old.starved ≡ true → self.new.starved ≡ false → HearsOut L.held L.faults self.old.most self.old.listed self.old.mounted bytes.now now self.new.mounted (outlet self.old.link self.old.waits self.old.line) (outlet self.new.link self.new.waits self.new.line) more }
         ensures goes_on { result ≡ stands self.new.connection connection self.new.link self.new.starved }
         ensures fed { self.new.starved ≡ false → self.old.starved ≡ false }
         ensures number { (self.new.connection ≡ self.old.connection) × (self.new.most ≡ self.old.most) }
@@ -311,8 +318,8 @@ impl<F: Files + Drop, L: Link + Drop> Desk<F, L> {
         if !self.is_open(connection) {
             return false;
         }
-        self.listed = self.listed.saturating_add(record.len() as u64);
-        let said = self.mounted.got(alloc, self.listed, record, now);
+        self.listed = self.listed.saturating_add(bytes.len() as u64);
+        let said = self.mounted.got(alloc, self.listed, bytes, now);
         self.stored = self.mounted.closing().or(self.stored);
         // A client that is done with its link says what it had to say, and no more.
         let linked = self.mounted.linked();
@@ -337,10 +344,15 @@ impl<F: Files + Drop, L: Link + Drop> Desk<F, L> {
         }
     }
 
-    /// The link is shut, where there is one.
-    pub(crate) fn close(&mut self)
-        ensures { (self.new.mounted ≡ self.old.mounted) × (self.new.starved ≡ self.old.starved) × (self.new.connection ≡ self.old.connection) × (self.new.most ≡ self.old.most) × (self.new.listed ≡ self.old.listed) }
+    /// The mount ends: what waits goes out and a farewell behind it, where there is a link, which is then shut.
+    /// It answers what came of that; the client is told nothing, since it takes no turn behind it.
+    pub(crate) fn leave(&mut self, alloc: Global) -> Left
+        ensures out { LeavesOut L.held L.faults self.old.link self.old.waits result.given }
+        ensures link { self.new.link ≡ None }
+        ensures rest { (self.new.mounted ≡ self.old.mounted) × (self.new.starved ≡ self.old.starved) × (self.new.connection ≡ self.old.connection) × (self.new.most ≡ self.old.most) × (self.new.listed ≡ self.old.listed) }
     {
+        let given = give_farewell(alloc, &mut self.link, &mut self.waits);
         close(&mut self.link);
+        Left { given }
     }
 }

@@ -6,12 +6,14 @@ ghost use Rattle.lb_base.specs.Causes.{Rose};
 ghost use Rattle.lb_base.specs.Known.{AppendsPrefix};
 ghost use Rattle.record_ends.specs.Ends.{out_bytes};
 ghost use Rattle.record_ends.specs.declared.end.End.TheVariants as ends;
-ghost use Rattle.lbfs_mount.specs.Outlet.{Fails, Gives, kept_if};
+ghost use Rattle.lbfs_mount.specs.Outlet.{Fails, FarewellEnds, Gives, GivesPart, kept_if};
 
 use lb_base::items::Items;
+use lbfs_client::farewell::farewell;
 use links::link::Link;
 use record_ends::end::End;
 use record_ends::outgoing::put_out;
+use send_list::{SendList, append};
 use std::alloc::{AllocError, Global};
 use std::mem;
 use wire::message::Message;
@@ -76,9 +78,10 @@ fn give_all<L: Link>(alloc: Global, link: &mut L, send: &Items<Message>) -> Resu
 }
 
 /// Messages go out, where a connection is joined.
-#[tactic(auto, using(crate::proofs::Outlets::given_so, crate::proofs::Outlets::given_none, crate::proofs::Outlets::fails_so))]
+#[tactic(auto, using(crate::proofs::Outlets::given_so, crate::proofs::Outlets::given_none, crate::proofs::Outlets::part_so, crate::proofs::Outlets::fails_so))]
 fn give_on<L: Link>(alloc: Global, link: &mut Option<L>, send: &Items<Message>) -> Result<(), End>
     ensures ok { OnOk result (Gives L.held link.old link.new send.now) }
+    ensures part { OnErr result (GivesPart L.held link.old link.new send.now) }
     ensures only { OnErr result (IsErrOf result ends.Failed ⊎ IsErrOf result ends.Memory) }
     ensures fault { IsErrOf result ends.Failed → Fails L.held L.faults link.old link.new send.now }
 {
@@ -95,6 +98,7 @@ pub(crate) fn give_waits<L: Link>(
     waits: &mut Items<Message>,
 ) -> Result<(), End>
     ensures ok { OnOk result (Gives L.held link.old link.new waits.old) }
+    ensures part { OnErr result (GivesPart L.held link.old link.new waits.old) }
     ensures only { OnErr result (IsErrOf result ends.Failed ⊎ IsErrOf result ends.Memory) }
     ensures fault { IsErrOf result ends.Failed → Fails L.held L.faults link.old link.new waits.old }
     ensures none { waits.new ≡ [] }
@@ -103,4 +107,18 @@ pub(crate) fn give_waits<L: Link>(
     let given = give_on(alloc, link, &all);
     drop(all);
     given
+}
+
+/// What waits goes out and a farewell behind it, where a connection is joined.
+pub(crate) fn give_farewell<L: Link>(
+    alloc: Global,
+    link: &mut Option<L>,
+    waits: &mut Items<Message>,
+) -> Result<(), End>
+    ensures { FarewellEnds L.held L.faults link.old link.new waits.old result }
+{
+    match append(alloc, waits, SendList::one(alloc, farewell())) {
+        Ok(()) => give_waits(alloc, link, waits),
+        Err(_want) => Err(End::Memory),
+    }
 }

@@ -1,12 +1,12 @@
 //! What stands under the lock of a mount: its desk, and that the desk's client took no turns but those of
 //! `specs/Course.antt`. The lock tells nothing of what it lends, but for what its type says; so this is what
-//! is known of the client once no thread shares it any more.
+//! is known of the client once no thread shares it any more. Whose desk it is, is asked of it then.
 
-ghost use Rattle.std.specs.Prelude.{◌≡◌, ℕ, false};
+ghost use Rattle.std.specs.Prelude.{◌≡◌, ℕ, ◌==◌, ◌&&◌, not, true, false};
 ghost use Rattle.lbfs_mount.specs.Course.{Begun, Course};
 
 use crate::answer_line::AnswerLine;
-use crate::desk::Desk;
+use crate::desk::{Desk, Left};
 use crate::turns::Turns;
 use lbfs_client::line::MountLine;
 use lbfs_client::mounted::Mounted;
@@ -19,25 +19,43 @@ use std::alloc::{AllocError, Global};
 #[derive(Drop)]
 pub(crate) struct KeptDesk<F: Files, L> {
     desk: Desk<F, L>,
-    ghost course: { ∥ (desk.starved ≡ false → Course desk.most desk.listed desk.mounted) ∥₁ },
+    /// How far the client takes its clock and the server's to drift apart while a lease lasts.
+    drift: u64,
+    ghost course: { ∥ (desk.starved ≡ false → Course drift desk.most desk.listed desk.mounted) ∥₁ },
+}
+
+/// Whether all is known of a client that has this drift and this bound: those that are asked for, and memory
+/// didn't run out.
+fn is_known(has_drift: u64, drift: u64, has_most: u64, most: u64, starved: bool) -> bool
+    ensures { result ≡ (((has_drift == drift) && (has_most == most)) && not starved) }
+{
+    has_drift == drift && has_most == most && !starved
 }
 
 impl<F: Files + Drop, L: Link + Drop> KeptDesk<F, L> {
-    /// A client of which no connection is joined, and which is to keep no more than so many bytes.
-    pub(crate) fn new(alloc: Global, mounted: Mounted<F>, most: u64) -> KeptDesk<F, L>
-        requires { Begun mounted }
+    /// A client of which no connection is joined, with this drift, and which is to keep no more than so many
+    /// bytes.
+    pub(crate) fn new(alloc: Global, mounted: Mounted<F>, drift: u64, most: u64) -> KeptDesk<F, L>
+        requires { Begun drift mounted }
     {
         KeptDesk {
             desk: Desk::new(alloc, mounted, most),
+            drift,
         }
     }
 
-    /// The client and the files of the host, and whether memory ran out.
-    pub(crate) fn into_parts(self) -> (Mounted<F>, bool)
-        ensures { ∥ ((most : ℕ) × (listed : ℕ) × (result.1 ≡ false → Course most listed result.0)) ∥₁ }
+    /// The client and the files of the host, and whether all is known of the client: what its turns were, with
+    /// this drift and this bound. It isn't where memory ran out.
+    pub(crate) fn into_parts(self, drift: u64, most: u64) -> (Mounted<F>, bool)
+        ensures { ∥ ((listed : ℕ) × (result.1 ≡ true → Course drift most listed result.0)) ∥₁ }
     {
-        let KeptDesk { desk } = self;
-        desk.into_parts()
+        let KeptDesk {
+            desk,
+            drift: has_drift,
+        } = self;
+        let (mounted, starved, has_most) = desk.into_parts();
+        let known = is_known(has_drift, drift, has_most, most, starved);
+        (mounted, known)
     }
 }
 
@@ -75,7 +93,7 @@ impl<F: Files + Drop, L: Link + Drop> Turns for KeptDesk<F, L> {
         self.desk.stop(alloc, connection, end, now);
     }
 
-    fn close(&mut self) {
-        self.desk.close();
+    fn leave(&mut self, alloc: Global) -> Left {
+        self.desk.leave(alloc)
     }
 }

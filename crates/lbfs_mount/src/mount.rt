@@ -6,7 +6,7 @@ ghost use Rattle.lbfs_client.specs.Caching.{Saves, within};
 ghost use Rattle.lbfs_client.specs.Host.{Host};
 ghost use Rattle.lbfs_client.specs.declared.answer.Answer.{Answer};
 ghost use Rattle.lbfs_mount.specs.Cached.{EndsAll, IsBadLineAll, IsDoneAll, SavesAfter, WritesAll};
-ghost use Rattle.lbfs_mount.specs.Course.{IsSaved, fed, nothing_done};
+ghost use Rattle.lbfs_mount.specs.Course.{IsSaved, known_end, nothing_done};
 ghost use Rattle.lbfs_mount.specs.Mounts.{Ends, IsFaulty, IsTooLong};
 ghost use Rattle.lbfs_mount.specs.declared.mount_error.MountError.TheVariants as errors;
 
@@ -15,7 +15,7 @@ use crate::kept_desk::KeptDesk;
 use crate::mount_error::MountError;
 use crate::noticing::{load, save};
 use crate::running::run_lines;
-use crate::shared::Shared;
+use crate::shared::{ScriptTurns, Shared};
 use crate::turns::Turns;
 use lb_base::sink::Sink;
 use lb_base::source::Source;
@@ -28,7 +28,8 @@ use std::sync::Wait;
 use std::thread;
 use std::thread::Threads;
 
-/// Runs the lines of the script in a scope of threads, and shuts the link behind them.
+/// Runs the lines of the script in a scope of threads, and gives the mount's farewell behind them, however
+/// they ended.
 fn run_shared<
     'x,
     R: Threads + Wait + Sync,
@@ -60,31 +61,32 @@ where
             let mut script = script;
             let mut sink = sink;
             let mut dialler = dialler;
+            let turns = ScriptTurns::new(shared);
             let ended = run_lines(
                 scope,
                 rt,
-                shared,
+                &turns,
                 &mut dialler,
                 clock,
                 &mut script,
                 &mut sink,
             );
-            shared.close(rt);
+            let _left = turns.leave(rt);
             (ended, script, sink, dialler)
         },
     )
 }
 
-/// How a mount ends whose memory ran out in a turn, or didn't.
-fn fed(ended: Result<(), MountError>, starved: bool) -> Result<(), MountError>
-    ensures { result ≡ fed ended starved }
+/// How a mount ends of whose client all is known, or isn't, since memory ran out in a turn.
+fn known_end(ended: Result<(), MountError>, known: bool) -> Result<(), MountError>
+    ensures { result ≡ known_end ended known }
 {
     match ended {
         Ok(()) => {
-            if starved {
-                Err(MountError::Memory)
-            } else {
+            if known {
                 Ok(())
+            } else {
+                Err(MountError::Memory)
             }
         }
         Err(why) => Err(why),
@@ -127,13 +129,14 @@ fn run_cached<
     sink: K,
     dialler: Dialler<N, N::L>,
     clock: &C,
+    drift: u64,
     cache: Option<&str>,
     keep: u64,
 ) -> (Result<(), MountError>, S, K, F, Dialler<N, N::L>)
 where
     N::L: Drop + Send,
-    requires { (drift : ℕ) × (host : Host) × (mounted ≡ nothing_done drift host) }
-    ensures saved { OnOk result.0 (IfSome cache.entry (λ name. ∥ IsSaved keep name.now (record { files = F.files result.3; faults = F.faults result.3 }) ∥₁)) }
+    requires { (host : Host) × (mounted ≡ nothing_done drift host) }
+    ensures saved { OnOk result.0 (IfSome cache.entry (λ name. ∥ IsSaved drift keep name.now (record { files = F.files result.3; faults = F.faults result.3 }) ∥₁)) }
     ensures ends { EndsAll (is_some cache.entry) (IsFaulty N.L.faults result.4.unpaired) (record { left = S.left script; reads = S.faults script; held = K.held sink; writes = K.faults sink; dials = N.faults dialler.net }) (record { left = S.left result.1; reads = S.faults result.1; held = K.held result.2; writes = K.faults result.2; dials = N.faults result.4.net }) result.0 }
     ensures later { (S.faults script ≤ S.faults result.1) × (K.faults sink ≤ K.faults result.2) }
 {
@@ -143,12 +146,12 @@ where
         Ok(()) => {}
         Err(why) => return (Err(why), script, sink, mounted.into_files(), dialler),
     }
-    let shared = Shared::new(alloc, KeptDesk::new(alloc, mounted, keep));
+    let shared = Shared::new(alloc, KeptDesk::new(alloc, mounted, drift, keep));
     let (ended, script, sink, dialler) = run_shared(rt, &shared, script, sink, dialler, clock);
-    let (mounted, starved) = shared.into_desk().into_parts();
+    let (mounted, known) = shared.into_desk().into_parts(drift, keep);
     let mut mounted = mounted;
     let mut sink = sink;
-    let behind = fed(ended, starved);
+    let behind = known_end(ended, known);
     let saved = save_after(alloc, behind, &mut mounted, cache, keep, &mut sink);
     (saved, script, sink, mounted.into_files(), dialler)
 }
@@ -196,7 +199,7 @@ pub fn mount<
 where
     N::L: Drop + Send,
     ensures done { OnOk result.0 (IsDoneAll (is_some cache.entry) (S.left script) (S.left result.1) (K.held sink) (K.held result.2)) }
-    ensures saved { OnOk result.0 (IfSome cache.entry (λ name. ∥ IsSaved keep name.now (record { files = F.files result.3; faults = F.faults result.3 }) ∥₁)) }
+    ensures saved { OnOk result.0 (IfSome cache.entry (λ name. ∥ IsSaved drift keep name.now (record { files = F.files result.3; faults = F.faults result.3 }) ∥₁)) }
     ensures written { WritesAll (is_some cache.entry) (K.held sink) (K.held result.2) }
     ensures read { IsErrOf result.0 errors.ReadFault → Rose (S.faults script) (S.faults result.1) }
     ensures write { IsErrOf result.0 errors.WriteFault → Rose (K.faults sink) (K.faults result.2) }
@@ -216,7 +219,7 @@ where
         unpaired: None,
     };
     let (ended, script, sink, files, dialler) = run_cached(
-        rt, alloc, mounted, script, sink, dialler, clock, cache, keep,
+        rt, alloc, mounted, script, sink, dialler, clock, drift, cache, keep,
     );
     let Dialler { net, unpaired, .. } = dialler;
     (ended, script, sink, files, net, unpaired)

@@ -50,8 +50,7 @@ pub(crate) fn load<F: Files, K: Sink>(
     cache: Option<&str>,
     sink: &mut K,
 ) -> Result<(), MountError>
-    requires { (drift : ℕ) × (host : Host) × (mounted.old ≡ nothing_done drift host) }
-    ensures begun { Begun mounted.new }
+    ensures begun { (drift : ℕ) → (host : Host) → mounted.old ≡ nothing_done drift host → Begun drift mounted.new }
     ensures ends { NoticeEnds (is_some cache.entry) (K.held sink.old) (K.held sink.new) (K.faults sink.old) (K.faults sink.new) result }
     ensures later { K.faults sink.old ≤ K.faults sink.new }
 {

@@ -9,7 +9,7 @@ use crate::answer_line::AnswerLine;
 use crate::connecting::{Dialler, connect};
 use crate::mount_error::MountError;
 use crate::script::Script;
-use crate::shared::Shared;
+use crate::shared::ScriptTurns;
 use crate::turns::Turns;
 use command_text::line_error::LineError;
 use lb_base::sink::{GiveError, Sink, give_all};
@@ -62,7 +62,7 @@ fn run_line<
 >(
     scope: &'s Scope<'s, &'e ()>,
     rt: &'e R,
-    shared: &'e Shared<D>,
+    turns: &ScriptTurns<'e, D>,
     dialler: &mut Dialler<N, N::L>,
     clock: &'e C,
     line: MountLine,
@@ -72,10 +72,10 @@ where
     ensures why { IfErr result (λ e. Unjoined (IsFaulty N.L.faults dialler.new.unpaired) (N.faults dialler.old.net) (N.faults dialler.new.net) e) }
     ensures later { N.faults dialler.old.net ≤ N.faults dialler.new.net }
 {
-    if shared.run(rt, line, clock.now()) {
-        connect(scope, rt, shared, dialler, clock)?;
+    if turns.run(rt, line, clock.now()) {
+        connect(scope, rt, turns, dialler, clock)?;
     }
-    match shared.await_line(rt) {
+    match turns.await_line(rt) {
         Ok(answer) => Ok(answer),
         Err(_want) => Err(MountError::Memory),
     }
@@ -93,7 +93,7 @@ fn tell_line<
 >(
     scope: &'s Scope<'s, &'e ()>,
     rt: &'e R,
-    shared: &'e Shared<D>,
+    turns: &ScriptTurns<'e, D>,
     dialler: &mut Dialler<N, N::L>,
     clock: &'e C,
     sink: &mut K,
@@ -105,7 +105,7 @@ where
     ensures later { (N.faults dialler.old.net ≤ N.faults dialler.new.net) × (K.faults sink.old ≤ K.faults sink.new) }
 {
     // Errors are handed on by a `match`, which is proved more cheaply than `?` (docs/PROVING.md, Code).
-    match run_line(scope, rt, shared, dialler, clock, line) {
+    match run_line(scope, rt, turns, dialler, clock, line) {
         Ok(answer) => write_answer(sink, &answer),
         Err(why) => Err(why),
     }
@@ -123,7 +123,7 @@ fn run_text<
 >(
     scope: &'s Scope<'s, &'e ()>,
     rt: &'e R,
-    shared: &'e Shared<D>,
+    turns: &ScriptTurns<'e, D>,
     dialler: &mut Dialler<N, N::L>,
     clock: &'e C,
     sink: &mut K,
@@ -139,8 +139,8 @@ where
     if is_skipped(text) {
         return Ok(());
     }
-    match MountLine::read(shared.alloc(), text) {
-        Ok(line) => tell_line(scope, rt, shared, dialler, clock, sink, line),
+    match MountLine::read(turns.alloc(), text) {
+        Ok(line) => tell_line(scope, rt, turns, dialler, clock, sink, line),
         Err(LineError::BadLine) => Err(MountError::BadLine { number }),
         Err(LineError::Memory) => Err(MountError::Memory),
     }
@@ -159,7 +159,7 @@ fn run_on<
 >(
     scope: &'s Scope<'s, &'e ()>,
     rt: &'e R,
-    shared: &'e Shared<D>,
+    turns: &ScriptTurns<'e, D>,
     dialler: &mut Dialler<N, N::L>,
     clock: &'e C,
     script: &mut S,
@@ -170,18 +170,18 @@ where
     ensures ends { Ends (IsFaulty N.L.faults dialler.new.unpaired) (record { left = S.left script.old; reads = S.faults script.old; held = K.held sink.old; writes = K.faults sink.old; dials = N.faults dialler.old.net }) (record { left = S.left script.new; reads = S.faults script.new; held = K.held sink.new; writes = K.faults sink.new; dials = N.faults dialler.new.net }) result }
     ensures later { (S.faults script.old ≤ S.faults script.new) × (K.faults sink.old ≤ K.faults sink.new) }
 {
-    let mut lines = match Script::new(shared.alloc()) {
+    let mut lines = match Script::new(turns.alloc()) {
         Ok(lines) => lines,
         Err(_want) => return Err(MountError::Memory),
     };
     for at in 0..u64::MAX {
-        match lines.next(shared.alloc(), script) {
+        match lines.next(turns.alloc(), script) {
             Ok(came) => match came {
                 Some(text) => {
                     let told = run_text(
                         scope,
                         rt,
-                        shared,
+                        turns,
                         dialler,
                         clock,
                         sink,
@@ -215,7 +215,7 @@ pub(crate) fn run_lines<
 >(
     scope: &'s Scope<'s, &'e ()>,
     rt: &'e R,
-    shared: &'e Shared<D>,
+    turns: &ScriptTurns<'e, D>,
     dialler: &mut Dialler<N, N::L>,
     clock: &'e C,
     script: &mut S,
@@ -226,8 +226,8 @@ where
     ensures ends { Ends (IsFaulty N.L.faults dialler.new.unpaired) (record { left = S.left script.old; reads = S.faults script.old; held = K.held sink.old; writes = K.faults sink.old; dials = N.faults dialler.old.net }) (record { left = S.left script.new; reads = S.faults script.new; held = K.held sink.new; writes = K.faults sink.new; dials = N.faults dialler.new.net }) result }
     ensures later { (S.faults script.old ≤ S.faults script.new) × (K.faults sink.old ≤ K.faults sink.new) }
 {
-    match connect(scope, rt, shared, dialler, clock) {
-        Ok(()) => run_on(scope, rt, shared, dialler, clock, script, sink),
+    match connect(scope, rt, turns, dialler, clock) {
+        Ok(()) => run_on(scope, rt, turns, dialler, clock, script, sink),
         Err(why) => Err(why),
     }
 }

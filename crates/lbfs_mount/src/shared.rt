@@ -1,8 +1,12 @@
 //! The turns of a mount: each locks what its threads share, and is one call of `Turns`. That a call is
 //! what its contract says is proved of `Desk`; of a turn no clause speaks, since another thread's may
 //! stand before and behind it. That no others are taken is a fact of `KeptDesk`, which no lock hides.
+//!
+//! A connection's thread takes the turns of `Shared`. Lines run and connections are joined by `ScriptTurns`
+//! alone, which the mount's farewell takes away: so the client takes no line behind that.
 
 use crate::answer_line::AnswerLine;
+use crate::desk::Left;
 use crate::turns::Turns;
 use lbfs_client::line::MountLine;
 use record_ends::end::End;
@@ -43,29 +47,6 @@ impl<D: Turns + Drop> Shared<D> {
         desk.into_inner()
     }
 
-    /// A turn in which a line begins. It answers whether a connection is to be joined for it.
-    pub(crate) fn run<W: Wait>(&self, rt: &W, line: MountLine, now: u64) -> bool {
-        self.desk.lock(rt).run(self.alloc, line, now)
-    }
-
-    /// A turn that takes the line of what ended, once there is one. The error says that memory ran
-    /// out.
-    pub(crate) fn await_line<W: Wait>(&self, rt: &W) -> Result<AnswerLine, AllocError> {
-        let mut desk = self.desk.lock(rt);
-        for _turn in rt.forever() {
-            if desk.has_news() {
-                return desk.take_line();
-            }
-            desk = self.news.wait(rt, desk);
-        }
-        unreachable!()
-    }
-
-    /// A turn in which a connection is joined, on this link. It answers the connection's number.
-    pub(crate) fn join<W: Wait>(&self, rt: &W, link: D::L, now: u64) -> u64 {
-        self.desk.lock(rt).join(self.alloc, link, now)
-    }
-
     /// A turn of a record that came on a connection, behind which more are there or not. It answers whether
     /// more may come there.
     pub(crate) fn hear<W: Wait>(
@@ -92,9 +73,57 @@ impl<D: Turns + Drop> Shared<D> {
         self.desk.lock(rt).stop(self.alloc, connection, end, now);
         self.news.notify_all();
     }
+}
 
-    /// A turn that shuts the link, so that no more records come.
-    pub(crate) fn close<W: Wait>(&self, rt: &W) {
-        self.desk.lock(rt).close();
+/// The turns of the thread that runs the script. It can't be let go, but by the last of them: so each mount
+/// gives a farewell.
+pub(crate) struct ScriptTurns<'e, D> {
+    shared: &'e Shared<D>,
+}
+
+impl<'e, D: Turns + Drop> ScriptTurns<'e, D> {
+    /// The turns of a mount's script. A mount makes them once.
+    pub(crate) fn new(shared: &'e Shared<D>) -> ScriptTurns<'e, D> {
+        ScriptTurns { shared }
+    }
+
+    /// What the thread of a connection shares.
+    pub(crate) fn shared(&self) -> &'e Shared<D> {
+        self.shared
+    }
+
+    /// The allocator.
+    pub(crate) fn alloc(&self) -> Global {
+        self.shared.alloc
+    }
+
+    /// A turn in which a line begins. It answers whether a connection is to be joined for it.
+    pub(crate) fn run<W: Wait>(&self, rt: &W, line: MountLine, now: u64) -> bool {
+        self.shared.desk.lock(rt).run(self.shared.alloc, line, now)
+    }
+
+    /// A turn that takes the line of what ended, once there is one. The error says that memory ran
+    /// out.
+    pub(crate) fn await_line<W: Wait>(&self, rt: &W) -> Result<AnswerLine, AllocError> {
+        let mut desk = self.shared.desk.lock(rt);
+        for _turn in rt.forever() {
+            if desk.has_news() {
+                return desk.take_line();
+            }
+            desk = self.shared.news.wait(rt, desk);
+        }
+        unreachable!()
+    }
+
+    /// A turn in which a connection is joined, on this link. It answers the connection's number.
+    pub(crate) fn join<W: Wait>(&self, rt: &W, link: D::L, now: u64) -> u64 {
+        self.shared.desk.lock(rt).join(self.shared.alloc, link, now)
+    }
+
+    /// The last turn of a mount: its farewell goes out where a link stands, and the link is shut, so that no
+    /// more records come. No line runs behind it, and so none opens by the note of a lease that was given up.
+    pub(crate) fn leave<W: Wait>(self, rt: &W) -> Left {
+        let ScriptTurns { shared } = self;
+        shared.desk.lock(rt).leave(shared.alloc)
     }
 }

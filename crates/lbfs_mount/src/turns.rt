@@ -3,6 +3,7 @@
 //! client consists of.
 
 use crate::answer_line::AnswerLine;
+use crate::desk::Left;
 use lbfs_client::line::MountLine;
 use record_ends::end::End;
 use std::alloc::{AllocError, Global};
@@ -31,6 +32,6 @@ pub(crate) trait Turns {
     /// No more records come on a connection.
     fn stop(&mut self, alloc: Global, connection: u64, end: End, now: u64);
 
-    /// The link is shut, where there is one.
-    fn close(&mut self);
+    /// The mount ends: its farewell is given, and the link shut.
+    fn leave(&mut self, alloc: Global) -> Left;
 }

@@ -1,8 +1,7 @@
 use Rattle.std.specs.Prelude.{is_some}
 use Rattle.lbfs_mount.specs.declared.mount_error.MountError.TheVariants as errors
-use Rattle.lbfs_mount.specs.Cached.{WritesAll}
 use Rattle.lbfs_mount.specs.Mounts.{IsFaulty}
-use Rattle.lbfs_mount.proofs.Cachings.{all_done, all_fails, all_writes, none_noted, none_written}
+use Rattle.lbfs_mount.proofs.Cachings.{all_done, all_fails, all_writes, none_written}
 use Rattle.lbfs_mount.proofs.Progress.{outside}
 use Rattle.lbfs_mount.proofs.mount.mount.Goals as goal
 

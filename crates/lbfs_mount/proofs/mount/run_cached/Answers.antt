@@ -4,9 +4,12 @@ use Rattle.std.specs.Prelude.{Result, is_some}
 use Rattle.lbfs_mount.specs.Mounts.{Ends, IsFaulty}
 use Rattle.lbfs_mount.specs.declared.mount_error.MountError.{MountError}
 use Rattle.lbfs_mount.proofs.Cachings.{saved}
-use Rattle.lbfs_mount.proofs.Courses.{fed_ends, saved_all}
+use Rattle.lbfs_mount.proofs.Courses.{known_ends, saved_all}
 use Rattle.lbfs_mount.proofs.Progress.{outside}
 use Rattle.lbfs_mount.proofs.mount.run_cached.Goals as goal
+
+pub new-requires : goal.new-requires
+new-requires g c = c.in-Ok.ensures.begun c.args.drift c.requires.0 c.requires.1
 
 pub returns-clause-ends : goal.returns-clause-ends
 returns-clause-ends g c =
@@ -16,11 +19,11 @@ returns-clause-ends g c =
     saved (is_some c.args.cache) lf
     (outside (g.S.Source.left c.args.script) (g.S.Source.faults c.args.script) (g.K.Sink.held c.args.sink) (g.K.Sink.faults c.args.sink) (g.N.Network.faults c.args.dialler.net)) s
     (g.K.Sink.held c.load.new.sink) (g.K.Sink.held c.save_after-saved.new.sink) (g.K.Sink.faults c.load.new.sink) (g.K.Sink.faults c.save_after-saved.new.sink)
-    c.fed-behind.result c.save_after-saved.result c.in-Ok.ensures.ends c.in-Ok.ensures.later
-    (subst (λ (r : Result Unit MountError). Ends lf o s r) (sym c.fed-behind.ensures) (fed_ends lf o s c.run_shared-ended.result.0 c.into_parts-mounted.result.1 c.run_shared-ended.ensures.ends))
+    c.known_end-behind.result c.save_after-saved.result c.in-Ok.ensures.ends c.in-Ok.ensures.later
+    (subst (λ (r : Result Unit MountError). Ends lf o s r) (sym c.known_end-behind.ensures) (known_ends lf o s c.run_shared-ended.result.0 c.into_parts-mounted.result.1 c.run_shared-ended.ensures.ends))
     c.run_shared-ended.ensures.later.1 c.save_after-saved.ensures.saves
 
 pub returns-clause-saved : goal.returns-clause-saved
-returns-clause-saved g c = saved_all (λ (b : Bor (List ℕ)). b.now) (is_some c.args.cache) c.args.keep c.into_parts-mounted.result.1 c.args.cache c.into_parts-mounted.result.0 c.save_after-saved.new.mounted _ c.run_shared-ended.result.0 c.save_after-saved.result c.fed-behind.result
+returns-clause-saved g c = saved_all (λ (b : Bor (List ℕ)). b.now) (is_some c.args.cache) c.args.drift c.args.keep c.into_parts-mounted.result.1 c.args.cache c.into_parts-mounted.result.0 c.save_after-saved.new.mounted _ c.run_shared-ended.result.0 c.save_after-saved.result c.known_end-behind.result
     (g.K.Sink.held c.run_shared-ended.result.2) (g.K.Sink.held c.save_after-saved.new.sink) (g.K.Sink.faults c.run_shared-ended.result.2) (g.K.Sink.faults c.save_after-saved.new.sink)
-    c.fed-behind.ensures c.into_files-2.ensures c.save_after-saved.ensures.saves c.save_after-saved.ensures.wrote c.into_parts-mounted.ensures
+    c.known_end-behind.ensures c.into_files-2.ensures c.save_after-saved.ensures.saves c.save_after-saved.ensures.wrote c.into_parts-mounted.ensures

@@ -1,4 +1,4 @@
-use Rattle.std.proofs.Common.{◌≡◌, List, ℕ, [], ◌∷◌, ◌++◌, refl, sym, ap, ◌∙◌, ◌==◌}
+use Rattle.std.proofs.Common.{◌≡◌, List, ℕ, ◌∷◌, ◌++◌, refl, sym, ap, ◌∙◌, ◌==◌}
 use Rattle.std.specs.List.{after_first}
 use Rattle.command_text.specs.Parts.{lines_of}
 use Rattle.lbfs_mount.proofs.Lines.{first_line, split_line, none_found, kept_either}

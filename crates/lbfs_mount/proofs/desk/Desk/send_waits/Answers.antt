@@ -1,6 +1,6 @@
 use Rattle.std.proofs.Common.{◌≡◌, ◌∙◌, true, false, refl, rules}
 use Rattle.std.specs.Prelude.{Err}
-use Rattle.lbfs_mount.specs.Outlet.{SendsOut, SendsOut.gone, SendsOut.waiting, outlet}
+use Rattle.lbfs_mount.specs.Outlet.{SendsOut, outlet}
 use Rattle.lbfs_mount.proofs.Outlets.{broke}
 use Rattle.lbfs_mount.proofs.desk.Desk.send_waits.Goals as goal
 

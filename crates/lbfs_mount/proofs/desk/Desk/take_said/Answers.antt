@@ -1,4 +1,4 @@
-use Rattle.std.proofs.Common.{subst, sym}
+use Rattle.std.proofs.Common.{subst}
 use Rattle.lbfs_client.specs.Mounting.{Mount}
 use Rattle.lbfs_mount.specs.Outlet.{outlet, text_of}
 use Rattle.lbfs_mount.specs.Turns.{GoesOut}

@@ -1,4 +1,4 @@
-use Rattle.std.proofs.Common.{◌≡◌, ℕ, Bool, false, subst, sym}
+use Rattle.std.proofs.Common.{◌≡◌, ◌∙◌, ℕ, Bool, true, not, ◌==◌, ◌&&◌, ap, subst, sym}
 use Rattle.lbfs_client.specs.Mounting.{Mount}
 use Rattle.lbfs_mount.specs.Course.{Course}
 use Rattle.lbfs_mount.proofs.Courses.{known_last}
@@ -7,4 +7,8 @@ use Rattle.lbfs_mount.proofs.kept_desk.KeptDesk.into_parts.Goals as goal
 pub returns : goal.returns
 returns g c =
     let d = c.args.self.desk in
-    subst (λ (p : Mount × Bool). ∥ ((k : ℕ) × (n : ℕ) × (p.1 ≡ false → Course k n p.0)) ∥₁) (sym c.into_parts.ensures) (known_last d.starved d.most d.listed d.mounted c.args.self.course)
+    let parts = c.into_parts-mounted.ensures in
+    let is : c.is_known-known.result ≡ (((c.args.self.drift == c.args.drift) && (d.most == c.args.most)) && not d.starved) =
+    c.is_known-known.ensures ∙ ap (λ (p : Mount × Bool × ℕ). ((c.args.self.drift == c.args.drift) && (p.2 == c.args.most)) && not p.1) parts in
+    subst (λ (m : Mount). ∥ ((n : ℕ) × (c.is_known-known.result ≡ true → Course c.args.drift c.args.most n m)) ∥₁) (sym (ap (λ (p : Mount × Bool × ℕ). p.0) parts))
+    (known_last c.is_known-known.result d.starved c.args.self.drift c.args.drift d.most c.args.most d.listed d.mounted is c.args.self.course)

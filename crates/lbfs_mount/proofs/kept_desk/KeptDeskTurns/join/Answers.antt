@@ -5,4 +5,4 @@ pub invariant_of-self : goal.invariant_of-self
 invariant_of-self g c =
     let d = c.args.self.now.desk in
     let e = c.join.new.self in
-    record { course = known_joins d.starved e.starved d.most e.most d.listed e.listed d.mounted e.mounted c.args.now c.join.ensures.fed c.join.ensures.number.2 c.join.ensures.listed c.join.ensures.turn c.args.self.now.course }
+    record { course = known_joins d.starved e.starved c.args.self.now.drift d.most e.most d.listed e.listed d.mounted e.mounted c.args.now c.join.ensures.fed c.join.ensures.number.2 c.join.ensures.listed c.join.ensures.turn c.args.self.now.course }

@@ -5,4 +5,4 @@ pub invariant_of-self : goal.invariant_of-self
 invariant_of-self g c =
     let d = c.args.self.now.desk in
     let e = c.run.new.self in
-    record { course = known_runs d.starved e.starved d.most e.most d.listed e.listed d.mounted e.mounted c.args.line c.args.now c.run.ensures.fed c.run.ensures.number.1 c.run.ensures.listed c.run.ensures.turn c.args.self.now.course }
+    record { course = known_runs d.starved e.starved c.args.self.now.drift d.most e.most d.listed e.listed d.mounted e.mounted c.args.line c.args.now c.run.ensures.fed c.run.ensures.number.1 c.run.ensures.listed c.run.ensures.turn c.args.self.now.course }

@@ -5,4 +5,4 @@ pub invariant_of-self : goal.invariant_of-self
 invariant_of-self g c =
     let d = c.args.self.now.desk in
     let e = c.take_line.new.self in
-    record { course = known_same d.starved e.starved d.most e.most d.listed e.listed d.mounted e.mounted c.take_line.ensures.rest.1 c.take_line.ensures.rest.3 c.take_line.ensures.rest.4 c.take_line.ensures.rest.0 c.args.self.now.course }
+    record { course = known_same d.starved e.starved c.args.self.now.drift d.most e.most d.listed e.listed d.mounted e.mounted c.take_line.ensures.rest.1 c.take_line.ensures.rest.3 c.take_line.ensures.rest.4 c.take_line.ensures.rest.0 c.args.self.now.course }

@@ -1,8 +1,0 @@
-use Rattle.lbfs_mount.proofs.Courses.{known_same}
-use Rattle.lbfs_mount.proofs.kept_desk.KeptDeskTurns.close.Goals as goal
-
-pub invariant_of-self : goal.invariant_of-self
-invariant_of-self g c =
-    let d = c.args.self.now.desk in
-    let e = c.close.new.self in
-    record { course = known_same d.starved e.starved d.most e.most d.listed e.listed d.mounted e.mounted c.close.ensures.1 c.close.ensures.3 c.close.ensures.4 c.close.ensures.0 c.args.self.now.course }

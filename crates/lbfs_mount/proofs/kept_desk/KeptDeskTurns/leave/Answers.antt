@@ -1,0 +1,8 @@
+use Rattle.lbfs_mount.proofs.Courses.{known_same}
+use Rattle.lbfs_mount.proofs.kept_desk.KeptDeskTurns.leave.Goals as goal
+
+pub invariant_of-self : goal.invariant_of-self
+invariant_of-self g c =
+    let d = c.args.self.now.desk in
+    let e = c.leave.new.self in
+    record { course = known_same d.starved e.starved c.args.self.now.drift d.most e.most d.listed e.listed d.mounted e.mounted c.leave.ensures.rest.1 c.leave.ensures.rest.3 c.leave.ensures.rest.4 c.leave.ensures.rest.0 c.args.self.now.course }
