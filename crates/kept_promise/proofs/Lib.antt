@@ -4,6 +4,10 @@ pub mod Statements
 pub mod Recallings
 pub mod ReadyFree
 pub mod ReadySoon
+pub mod LeaseTurns
+pub mod LeasesStand
+pub mod ChangesWait
+pub mod InTurn
 pub mod Lists
 pub mod Taking
 pub mod LogSums

@@ -2,7 +2,7 @@
 -- and whose close it is; and that a settling makes the one that is ready, or nothing.
 use Rattle.std.proofs.Common.{inl, inr, ◌≡◌, ℕ, zero, suc, ◌+◌, ◌<◌, List, [], ◌∷◌, ◌++◌, length, Option, Some, None, Bool, true, false, refl, sym, ap, ◌∙◌, subst, arith, replicate, ◌⊎◌}
 use Rattle.std.specs.Prelude.{remove, max, ◌≤◌}
-use Rattle.lease_rules.specs.Changes.{asker}
+use Rattle.lease_rules.specs.Changes.{asker, meets}
 use Rattle.lease_rules.specs.Leases.{is_others}
 use Rattle.lease_rules.specs.declared.lease.Lease.{Lease}
 use Rattle.server_core.specs.Closing.{at as at_reading, ready_by}
@@ -29,7 +29,8 @@ use Rattle.kept_promise.proofs.LogEvents.{value_stays}
 use Rattle.kept_promise.proofs.Growth.{or_map}
 use Rattle.kept_promise.proofs.Messages.{content_wanted, WaitsFor, job}
 use Rattle.kept_promise.proofs.TakenOut.{SettlesOut, settled_to, made_waiting, WhatSettles, settles_one, settles_none, what_settles}
-use Rattle.kept_promise.proofs.ReadyFree.{ready_free}
+use Rattle.kept_promise.proofs.ReadyFree.{ready_free, ready_first}
+use Rattle.kept_promise.proofs.Promised.{two_own}
 use Rattle.kept_promise.proofs.Making.{entry_of, made_change, made_is}
 use Rattle.kept_promise.proofs.ServesQuietly.{MadeHere, Entered, IsQuiet, serves_quiet}
 use Rattle.kept_promise.proofs.SettlesQuietly.{GoesHere, RefusesFor, Settling, makes_commit, makes_else, settling}
@@ -314,10 +315,13 @@ settled_event laws all past rest opening k qs (Settles now) mid after s h = made
 settled_event laws all past rest opening k qs (Serves n now bytes) mid after s h = made_serving laws all past rest opening k qs n now bytes mid after s h
 settled_event laws all past rest opening k qs e mid after s h = made_quietly opening all past k e (λ n z. absurd cc) (quiet_event all past rest opening k qs e mid after s (λ n z. absurd cc) (λ n t b z. absurd cc)) h
 
--- a settling takes the change that is ready out and no other, and no lease holds that up
+-- a settling takes the change that is ready out and no other, which nothing holds up
 pub record LeavesReady (k : Core) (now : ℕ) (c : Change) : Type 0 where
   pub place : ℕ
   pub there : slice_get k.server.waiting place ≡ Some c
+  pub alone : (i : ℕ) → slice_get k.server.waiting i ≡ Some c → i ≡ place
+  pub first : (i : ℕ) (d : Change) → i < place → slice_get k.server.waiting i ≡ Some d → meets d c ≡ false
+  pub awake : k.server.leasing.quiet ≤ max k.server.leasing.moment now
   pub left : (settles k now).core.server.waiting ≡ remove k.server.waiting place
   pub free : (i : ℕ) (l : Lease) → slice_get k.server.leasing.leases i ≡ Some l → l.file ≡ c.file → is_others l (asker c) ≡ true → l.ends ≤ max k.server.leasing.moment now
 
@@ -329,17 +333,30 @@ Leaves k now (Some c) = LeavesReady k now c
 abbrev pub AllLeave : List Moment → Type 0
 AllLeave past = (m : Moment) (now : ℕ) → Contains past m → m.event ≡ Settles now → Leaves m.before now (ready_by m.before.server now)
 
-leaves_ready : (book : Book) (k : Core) (qs : List Queue) (now : ℕ) → IsKept book k qs → Leaves k now (ready_by k.server now)
+pub leaves_ready : (book : Book) (k : Core) (qs : List Queue) (now : ℕ) → IsKept book k qs → Leaves k now (ready_by k.server now)
 leaves_ready book k qs now kept = by (what_settles book k qs now kept)
   where
+    once : (c : Change) (i j : ℕ) → slice_get k.server.waiting i ≡ Some c → slice_get k.server.waiting j ≡ Some c → i ≡ j
+    once c i j a b =
+        let home = kept.home i c a in
+        let q = also_numbered k.sessions qs c.session home.0 kept.made.1 home.1 in
+        let le = (kept.sessions c.session home.0 q.0 home.1 q.1).single in
+        two_own c.session k.server.waiting i j c c a b refl refl (omega (arith, le))
+
     by : WhatSettles k now → Leaves k now (ready_by k.server now)
     by (settles_none none is) = subst (Leaves k now) (sym none) (ap (λ (t : CoreStep). t.core.server) is)
-    by (settles_one c rest out) = subst (Leaves k now) (sym out.ready) (record {
-      place = out.out.place;
-      there = out.out.there;
-      left = ap (λ (t : CoreStep). t.core.server.waiting) out.is ∙ made_waiting (at_reading (record k.server { waiting = rest }) now) c c.what ∙ out.out.left;
-      free = ready_free k.server now c out.ready;
-    })
+    by (settles_one c rest out) =
+        let head = ready_first k.server now c out.ready in
+        let same : head.0.place ≡ out.out.place = once c head.0.place out.out.place head.0.there out.out.there in
+        subst (Leaves k now) (sym out.ready) (record {
+          place = out.out.place;
+          there = out.out.there;
+          alone = λ i at. once c i out.out.place at out.out.there;
+          first = λ i d lt at. head.0.first i d (omega (arith, lt, same)) at;
+          awake = head.1;
+          left = ap (λ (t : CoreStep). t.core.server.waiting) out.is ∙ made_waiting (at_reading (record k.server { waiting = rest }) now) c c.what ∙ out.out.left;
+          free = ready_free k.server now c out.ready;
+        })
 
 left_event : (all past rest : List Moment) (opening : List Opening) (k : Core) (qs : List Queue) (e : Event) (mid after : List Queue) → Step all past rest opening k qs e mid after → AllLeave past → AllLeave (past ++ moment k e ∷ [])
 left_event all past rest opening k qs e mid after s h m now there is = elim (Contains-push_cases past (moment k e) m there) [
@@ -368,6 +385,8 @@ settles_ready book makes leaves = λ m now there is. by m now there is (ready_by
       place = l.place;
       there = l.there;
       left = ap (λ (z : Event). (happens m.before z).core.server.waiting) is ∙ l.left;
+      first = l.first;
+      awake = l.awake;
       free = l.free;
       done = makes m now c there is e;
     }

@@ -26,7 +26,7 @@ use Rattle.kept_promise.proofs.CutEnds.{AreFollowed, carried_follow, cuts_end}
 use Rattle.kept_promise.proofs.StoredWhole.{Stored, carried_stored, has_stored, have_stored, made_sent}
 use Rattle.kept_promise.proofs.VersionRuns.{Versions, carried_versions, opens_version}
 use Rattle.kept_promise.proofs.MadeRuns.{AllSettled, carried_settled, settles_ready}
-use Rattle.kept_promise.proofs.ReadySoon.{ready_soon}
+use Rattle.kept_promise.proofs.InTurn.{AllTurns, carried_turns, waits_in_turn}
 use Rattle.kept_promise.proofs.SmallDeeds.{SmallDeeds, carried_small}
 use Rattle.kept_promise.proofs.Alike.{runs_in_order, run_given, all_given}
 use Rattle.kept_promise.proofs.Following.{IsFollowed}
@@ -106,9 +106,9 @@ Walked all past opening k qs = WalksAt all past opening k qs × ((IsFollowed pas
 abbrev More : Fact
 More all past opening k qs = Used all past opening k qs × (AllNamed all past opening k qs × (SmallDeeds all past opening k qs × Walked all past opening k qs))
 
--- and by which calls the journal grew, and which operations waited for those, which needs none of it
+-- and by which calls the journal grew, and which operations waited for those, and how pending changes go on, which needs none of it
 abbrev Whole : Fact
-Whole all past opening k qs = More all past opening k qs × AllAwaited all past opening k qs
+Whole all past opening k qs = More all past opening k qs × (AllAwaited all past opening k qs × AllTurns all past opening k qs)
 
 told_carried : Carried Told
 told_carried =
@@ -140,7 +140,7 @@ more_carried =
     (carried_both SmallDeeds Walked (carried_small fit_laws) walked_carried))
 
 whole_carried : Carried Whole
-whole_carried = carried_both More AllAwaited more_carried (carried_awaited fit_laws)
+whole_carried = carried_both More (λ all past opening k qs. AllAwaited all past opening k qs × AllTurns all past opening k qs) more_carried (carried_both AllAwaited AllTurns (carried_awaited fit_laws) carried_turns)
 
 -- ---- the promise of what a run leaves
 
@@ -157,8 +157,8 @@ is_known w all leased soon h walks k d o was at =
     (λ f is status refused. open_refused (book_of w all) (deeds_of all) deeds.rising deeds.each deeds.count walks.before k d o was at f is cause status refused)
     (λ f is status refused. rewrite_refused (book_of w all) (deeds_of all) deeds.rising deeds.each deeds.count walks.before k d o was at f is cause status refused)
 
-promise_of : (input : List ℕ) (w : World) → AreLeased (moments input) → ((k : ℕ) (o : Op) → slice_get w.core.ops k ≡ Some o → Soon (book_of w (moments input)) o o.outcome) → run input ≡ Ok w → (h : Stands (AsMix More) (moments input) (moments input) w) → AllAwaited (moments input) (moments input) w.opening w.core (map queue_of h.mixes) → HaveNumbers w.core h.mixes → IsKeptPromise input w
-promise_of input w leased soon ran h awaited counted =
+promise_of : (input : List ℕ) (w : World) → AreLeased (moments input) → ((k : ℕ) (o : Op) → slice_get w.core.ops k ≡ Some o → Soon (book_of w (moments input)) o o.outcome) → run input ≡ Ok w → (h : Stands (AsMix More) (moments input) (moments input) w) → AllAwaited (moments input) (moments input) w.opening w.core (map queue_of h.mixes) → AllTurns (moments input) (moments input) w.opening w.core (map queue_of h.mixes) → HaveNumbers w.core h.mixes → IsKeptPromise input w
+promise_of input w leased soon ran h awaited turns counted =
     let all : List Moment = moments input in
     let qs : List Queue = map queue_of h.mixes in
     let stored : Stored all all w.opening w.core qs = h.more.0.0.1.0 in
@@ -179,7 +179,7 @@ promise_of input w leased soon ran h awaited counted =
         journal = h.kept.sound.journal;
         settled = λ i p e at is kind. changes.0.0.settled i p e at is kind;
         settles = settles_ready (book_of w all) changes.0.0.makes changes.0.1;
-        waits = λ m now place c there f. ready_soon m.before.server now place c f.there f.first f.ended f.awake;
+        waits = waits_in_turn (book_of w all) w.core turns;
         points = λ k o at. opens_at (book_of w all) o (λ len digest is. (logs.1.0.once k len digest o at is).called);
         versions = opens_version (book_of w all) w.core qs h.kept leased versions.1;
         no_fault = no_fault (book_of w all) h.kept.sound;
@@ -245,7 +245,7 @@ promise_by C claims input w ran gives =
     let h = carried_run (λ all past opening k ms. AsMix Whole all past opening k ms × C all past opening k ms) (kept_laws fit_laws) fit_laws (both_carried (AsMix Whole) C (lifted Whole whole_carried) claims) input w ran in
     let early = carried_plain AllSoon (kept_laws fit_laws) fit_laws (carried_soon fit_laws) input w ran in
     let g = gives h.mixes h.more.1 in
-    promise_of input w g.0 (λ k o at. early.more.each g.0 k o at) ran (record { mixes = h.mixes; fit = h.fit; kept = h.kept; early = h.early; carry = h.carry; rested = h.rested; more = h.more.0.0 }) h.more.0.1 g.1
+    promise_of input w g.0 (λ k o at. early.more.each g.0 k o at) ran (record { mixes = h.mixes; fit = h.fit; kept = h.kept; early = h.early; carry = h.carry; rested = h.rested; more = h.more.0.0 }) h.more.0.1.0 h.more.0.1.1 g.1
 
 pub promise_accepted : (input : List ℕ) (w : World) → accepted input ≡ Ok w → IsKeptPromise input w
 promise_accepted input w e =

@@ -164,7 +164,7 @@ untold_is u e = absurd cc
 abbrev pub HaveStored : List Moment → Core → Type 0
 HaveStored all k = (n p i : ℕ) (x : Session) (o : Op) (c : Change) → numbered k.sessions n ≡ Some x → x.closing ≡ Some p → slice_get k.ops p ≡ Some o → slice_get (own n k.server.waiting) i ≡ Some c → o.word ≡ words.Close → o.traffic ≡ stored_traffic o.value (deals_of o all)
 
-two_own : (n : ℕ) (ws : List Change) (i j : ℕ) (c d : Change) → slice_get ws i ≡ Some c → slice_get ws j ≡ Some d → c.session ≡ n → d.session ≡ n → length (own n ws) ≤ 1 → i ≡ j
+pub two_own : (n : ℕ) (ws : List Change) (i j : ℕ) (c d : Change) → slice_get ws i ≡ Some c → slice_get ws j ≡ Some d → c.session ≡ n → d.session ≡ n → length (own n ws) ≤ 1 → i ≡ j
 two_own n [] i j c d a b e f le = nothing_there c a
 two_own n (w ∷ ws) zero zero c d a b e f le = refl
 two_own n (w ∷ ws) zero (suc j) c d a b e f le =

@@ -1,13 +1,13 @@
--- The change that is ready is held up by no lease: each on its file that is another's has ended.
-use Rattle.std.proofs.Common.{◌≡◌, ℕ, zero, suc, ◌≤◌, List, [], ◌∷◌, Some, None, Bool, true, false, refl, subst, arith}
+-- The change that is ready is held up by nothing: no lease of another's lasts on its file, none that waits before it is of that, and the quiet is over.
+use Rattle.std.proofs.Common.{◌≡◌, ℕ, zero, suc, ◌<◌, ◌≤◌, List, [], ◌∷◌, ◌++◌, Option, Some, None, Bool, true, false, refl, subst, arith}
 use Rattle.std.specs.Prelude.{cond, find, not, max, slice_get, nat_le, nat_lt, ◌==◌, ◌&&◌, ◌||◌, if◌then◌else◌}
 use Rattle.std.specs.List.{list_any}
 use Rattle.std.proofs.lemmas.Bool.Decides.{nat_tests}
-use Rattle.lease_rules.specs.Changes.{asker}
+use Rattle.lease_rules.specs.Changes.{asker, meets}
 use Rattle.lease_rules.specs.Leases.{is_others, blocks}
 use Rattle.lease_rules.specs.declared.lease.Lease.{Lease}
 use Rattle.lease_table.specs.Leases.{is_blocked}
-use Rattle.callback_core.specs.Waits.{is_free, heads, ready}
+use Rattle.callback_core.specs.Waits.{is_free, heads_after, heads, ready}
 use Rattle.server_core.specs.Closing.{ready_by}
 use Rattle.server_core.specs.Leasing.{later}
 use Rattle.server_core.specs.State as server
@@ -62,3 +62,51 @@ ready_free s now c is i l at file other = by (nat_le s.leasing.quiet (later s.le
     by : (b : Bool) → (if b then ready s.leasing.leases (later s.leasing now).moment s.waiting else None) ≡ Some c → l.ends ≤ max s.leasing.moment now
     by true e = ended_by_then s.leasing.leases (max s.leasing.moment now) i l c (found_has (is_free s.leasing.leases (max s.leasing.moment now)) (heads s.waiting) c e) at file other
     by false e = nothing_there c e
+
+-- ---- where it stands
+
+-- the first of its file, in a list behind these
+pub record IsFirst (earlier ws : List Change) (c : Change) : Type 0 where
+  pub place : ℕ
+  pub there : slice_get ws place ≡ Some c
+  pub alone : list_any (λ e. meets e c) earlier ≡ false
+  pub first : (i : ℕ) (d : Change) → i < place → slice_get ws i ≡ Some d → meets d c ≡ false
+
+any_front : {X : Type 0} (p : X → Bool) (xs : List X) (y : X) → list_any p (xs ++ y ∷ []) ≡ false → (list_any p xs ≡ false) × (p y ≡ false)
+any_front p [] y h = (refl, any_first (p y) false h)
+any_front p (x ∷ xs) y h = by (p x) h (any_front p xs y)
+  where
+    by : (b : Bool) → (b || list_any p (xs ++ y ∷ [])) ≡ false → (list_any p (xs ++ y ∷ []) ≡ false → (list_any p xs ≡ false) × (p y ≡ false)) → ((b || list_any p xs) ≡ false) × (p y ≡ false)
+    by true h later = absurd cc
+    by false h later = later h
+
+head_first : (free : Change → Bool) (earlier ws : List Change) (c : Change) → find free (heads_after earlier ws) ≡ Some c → IsFirst earlier ws c
+head_first free earlier [] c e = nothing_there c e
+head_first free earlier (w ∷ ws) c e = by (list_any (λ e. meets e w) earlier) refl e (λ e. head_first free (earlier ++ w ∷ []) ws c e)
+  where
+    rest : List Change
+    rest = heads_after (earlier ++ w ∷ []) ws
+
+    later : IsFirst (earlier ++ w ∷ []) ws c → IsFirst earlier (w ∷ ws) c
+    later h =
+        let a = any_front (λ e. meets e c) earlier w h.alone in
+        record { place = suc h.place; there = h.there; alone = a.0; first = λ i d lt at. front h.place h.first a.1 i d lt at }
+      where
+        front : (place : ℕ) → ((i : ℕ) (d : Change) → i < place → slice_get ws i ≡ Some d → meets d c ≡ false) → meets w c ≡ false → (i : ℕ) (d : Change) → i < suc place → slice_get (w ∷ ws) i ≡ Some d → meets d c ≡ false
+        front place first apart zero d lt at = subst (λ (z : Change). meets z c ≡ false) (some_is w d at) apart
+        front place first apart (suc i) d lt at = first i d (omega (arith, lt)) at
+
+    here : (b : Bool) → list_any (λ e. meets e w) earlier ≡ false → cond b (Some w) (find free rest) ≡ Some c → (find free rest ≡ Some c → IsFirst (earlier ++ w ∷ []) ws c) → IsFirst earlier (w ∷ ws) c
+    here true none e rests = record { place = 0; there = e; alone = subst (λ (z : Change). list_any (λ e. meets e z) earlier ≡ false) (some_is w c e) none; first = λ i d lt at. absurd (omega (arith, lt)) }
+    here false none e rests = later (rests e)
+
+    by : (b : Bool) → list_any (λ e. meets e w) earlier ≡ b → find free (cond b rest (w ∷ rest)) ≡ Some c → (find free rest ≡ Some c → IsFirst (earlier ++ w ∷ []) ws c) → IsFirst earlier (w ∷ ws) c
+    by true met e rests = later (rests e)
+    by false met e rests = here (free w) met e rests
+
+pub ready_first : (s : server.State) (now : ℕ) (c : Change) → ready_by s now ≡ Some c → IsFirst [] s.waiting c × (s.leasing.quiet ≤ max s.leasing.moment now)
+ready_first s now c is = by (nat_le s.leasing.quiet (later s.leasing now).moment) refl is
+  where
+    by : (b : Bool) → nat_le s.leasing.quiet (max s.leasing.moment now) ≡ b → (let o : Option Change = if b then ready s.leasing.leases (later s.leasing now).moment s.waiting else None in o ≡ Some c) → IsFirst [] s.waiting c × (s.leasing.quiet ≤ max s.leasing.moment now)
+    by true past e = (head_first (is_free s.leasing.leases (max s.leasing.moment now)) [] s.waiting c e, grind (arith, nat_tests, past))
+    by false past e = nothing_there c e

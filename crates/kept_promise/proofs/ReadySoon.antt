@@ -1,5 +1,5 @@
--- A change waits no longer than others' leases: where it is the first of its file, and none of those lasts on that, one is ready that came no later.
-use Rattle.std.proofs.Common.{◌≡◌, ℕ, zero, suc, ◌<◌, ◌≤◌, List, [], ◌∷◌, ◌++◌, Option, Some, None, Bool, true, false, refl, sym, ap, ◌∙◌, subst, arith}
+-- Where no lease holds up a change, or one of its file that came before it, and the quiet is over, one of those is ready, or one that came before.
+use Rattle.std.proofs.Common.{◌≡◌, ℕ, zero, suc, ◌<◌, ◌≤◌, List, [], ◌∷◌, ◌++◌, Some, None, Bool, true, false, refl, sym, ap, ◌∙◌, subst, arith}
 use Rattle.std.specs.Prelude.{cond, find, not, max, slice_get, nat_le, nat_lt, ◌==◌, ◌&&◌, ◌||◌, if◌then◌else◌}
 use Rattle.std.specs.List.{list_any}
 use Rattle.std.proofs.lemmas.Bool.Decides.{nat_tests}
@@ -8,8 +8,8 @@ use Rattle.lease_rules.specs.Leases.{is_others, blocks}
 use Rattle.lease_rules.specs.declared.lease.Lease.{Lease}
 use Rattle.callback_core.specs.Waits.{is_free, heads_after, heads, ready}
 use Rattle.server_core.specs.Closing.{ready_by}
-use Rattle.server_core.specs.Leasing.{later}
 use Rattle.server_core.specs.State as server
+use Rattle.trace_replay.specs.PendingChanges.{IsFreeBy}
 use Rattle.kept_promise.proofs.Common.{Change}
 use Rattle.kept_promise.proofs.Lists.{some_is, nothing_there}
 
@@ -73,10 +73,34 @@ freed leases now c ended = ap not (none_of_all (λ l. blocks l (asker c) c.file 
         let le = h same b in
         grind (arith, nat_tests, le)
 
-pub ready_soon : (s : server.State) (now place : ℕ) (c : Change) → slice_get s.waiting place ≡ Some c → ((i : ℕ) (d : Change) → i < place → slice_get s.waiting i ≡ Some d → meets d c ≡ false)
-    → ((i : ℕ) (l : Lease) → slice_get s.leasing.leases i ≡ Some l → l.file ≡ c.file → is_others l (asker c) ≡ true → l.ends ≤ max s.leasing.moment now) → s.leasing.quiet ≤ max s.leasing.moment now
-    → (d : Change) × (i : ℕ) × (i ≤ place) × (slice_get s.waiting i ≡ Some d) × (ready_by s now ≡ Some d)
-ready_soon s now place c at first ended awake =
-    let found = found_soon (is_free s.leasing.leases (max s.leasing.moment now)) [] s.waiting place c at refl first (freed s.leasing.leases (max s.leasing.moment now) c ended) in
+-- the first of a change's file, which is no later
+record FirstOf (ws : List Change) (place : ℕ) (c : Change) : Type 0 where
+  pub at : ℕ
+  pub change : Change
+  pub no_later : at ≤ place
+  pub there : slice_get ws at ≡ Some change
+  pub file : change.file ≡ c.file
+  pub first : (i : ℕ) (d : Change) → i < at → slice_get ws i ≡ Some d → meets d change ≡ false
+
+first_of : (ws : List Change) (place : ℕ) (c : Change) → slice_get ws place ≡ Some c → FirstOf ws place c
+first_of [] place c e = nothing_there c e
+first_of (w ∷ ws) zero c e = record { at = 0; change = w; no_later = omega arith; there = refl; file = ap (λ (z : Change). z.file) (some_is w c e); first = λ i d lt at. absurd (omega (arith, lt)) }
+first_of (w ∷ ws) (suc place) c e = by (w.file == c.file) refl (first_of ws place c e)
+  where
+    front : (h : FirstOf ws place c) → (w.file == c.file) ≡ false → (i : ℕ) (d : Change) → i < suc h.at → slice_get (w ∷ ws) i ≡ Some d → meets d h.change ≡ false
+    front h apart zero d lt at = let same = h.file in let first = ap (λ (z : Change). z.file) (some_is w d at) in grind (arith, nat_tests, apart, same, first)
+    front h apart (suc i) d lt at = h.first i d (omega (arith, lt)) at
+
+    by : (b : Bool) → (w.file == c.file) ≡ b → FirstOf ws place c → FirstOf (w ∷ ws) (suc place) c
+    by true is h = record { at = 0; change = w; no_later = omega arith; there = refl; file = grind (arith, nat_tests, is); first = λ i d lt at. absurd (omega (arith, lt)) }
+    by false is h = let le = h.no_later in record { at = suc h.at; change = h.change; no_later = omega (arith, le); there = h.there; file = h.file; first = λ i d lt at. front h is i d lt at }
+
+pub ready_soon : (s : server.State) (now place : ℕ) (c : Change) → IsFreeBy s (max s.leasing.moment now) place c → (d : Change) × (i : ℕ) × (i ≤ place) × (slice_get s.waiting i ≡ Some d) × (ready_by s now ≡ Some d)
+ready_soon s now place c free =
+    let h = first_of s.waiting place c free.there in
+    let le = h.no_later in
+    let awake = free.awake in
+    let found = found_soon (is_free s.leasing.leases (max s.leasing.moment now)) [] s.waiting h.at h.change h.there refl h.first (freed s.leasing.leases (max s.leasing.moment now) h.change (λ j l at on other. free.ended h.at j h.change l le h.there h.file at (on ∙ h.file) other)) in
     let past : nat_le s.leasing.quiet (max s.leasing.moment now) ≡ true = grind (arith, nat_tests, awake) in
-    (found.0, found.1, found.2, found.3, ap (λ (b : Bool). if b then ready s.leasing.leases (max s.leasing.moment now) s.waiting else None) past ∙ found.4)
+    let first = found.2 in
+    (found.0, found.1, omega (arith, le, first), found.3, ap (λ (b : Bool). if b then ready s.leasing.leases (max s.leasing.moment now) s.waiting else None) past ∙ found.4)

@@ -201,14 +201,14 @@ kept_beside n s apart d is = by (is_at n d) refl
     by false e = refl
     by true e = let a : d.session ≡ n = grind (arith, nat_tests, e) in let b : d.session ≡ s = grind (arith, nat_tests, is) in absurd (apart (sym a ∙ b))
 
-at_with : (calls : List BackCall) (n : ℕ) (c : BackCall) → c.session ≡ n → call_at (with_call calls n c) n ≡ c
+pub at_with : (calls : List BackCall) (n : ℕ) (c : BackCall) → c.session ≡ n → call_at (with_call calls n c) n ≡ c
 at_with calls n c own =
     ap (λ (o : Option BackCall). unwrap_or o (unasked n))
     (find_append (is_at n) (hung calls n) (c ∷ [])
     ∙ ap (λ (o : Option BackCall). or_else o (find (is_at n) (c ∷ []))) (find_none_kept (is_at n) (λ d. not (is_at n d)) (λ d e. ap not e) calls)
     ∙ ap (λ (b : Bool). cond b (Some c) None) (at_own c n own))
 
-at_beside : (calls : List BackCall) (n s : ℕ) (c : BackCall) → c.session ≡ n → (n ≡ s → ⊥) → call_at (with_call calls n c) s ≡ call_at calls s
+pub at_beside : (calls : List BackCall) (n s : ℕ) (c : BackCall) → c.session ≡ n → (n ≡ s → ⊥) → call_at (with_call calls n c) s ≡ call_at calls s
 at_beside calls n s c own apart =
     ap (λ (o : Option BackCall). unwrap_or o (unasked s))
     (find_append (is_at s) (hung calls n) (c ∷ [])
@@ -257,7 +257,7 @@ recalled_own : (c : BackCall) (o : Option ℕ) → (recalled_if c o).session ≡
 recalled_own c None = refl
 recalled_own c (Some x) = refl
 
-asked_own : (calls : List BackCall) (n : ℕ) (o : Option ℕ) → (recalled_if (call_at calls n) o).session ≡ n
+pub asked_own : (calls : List BackCall) (n : ℕ) (o : Option ℕ) → (recalled_if (call_at calls n) o).session ≡ n
 asked_own calls n o = recalled_own (call_at calls n) o ∙ call_own calls n
 
 asked_recalls : (calls : List BackCall) (n : ℕ) (o : Option ℕ) → AreRecalls calls → AreRecalls (asks_if calls n o)

@@ -47,6 +47,7 @@ use Rattle.trace_replay.specs.Numbered.{numbers_of, CountOn}
 use Rattle.trace_replay.specs.Book.{Book, Or, version_at}
 use Rattle.trace_replay.specs.OwnCalls.{TakesCall}
 use Rattle.trace_replay.specs.AtOnce.{EndsFresh}
+use Rattle.trace_replay.specs.PendingChanges.{WaitInTurn}
 use Rattle.trace_replay.specs.Causes.{HasCause, can_go, is_busy, local_before, own_answer}
 
 -- ---- an operation
@@ -240,12 +241,14 @@ change_refusal m = None
 abbrev pub IsMadeOrRefused : Book → Moment → Change → Type 0
 IsMadeOrRefused book m c = (slice_get book.entries (length m.before.server.journal) ≡ Some (step_of m)) ⊎ ((answer : Message) × (s : Status) × Contains (happens m.before m.event).down (record { session = c.session; message = answer }) × (change_refusal answer ≡ Some s))
 
--- A settling takes the change that is ready out, wherever it stands, and no other; it is made, or its session told why not. By then each lease on its file
--- has ended, but for the session's own under its COMMITTMP.
+-- A settling takes the change that is ready out, wherever it stands, and no other; it is made, or its session told why not. It is the first of its file, by then
+-- each lease on that has ended, but for the session's own under its COMMITTMP, and the quiet after the server's start is over.
 pub record TakesReady (book : Book) (m : Moment) (now : ℕ) (c : Change) : Type 0 where
   pub place : ℕ
   pub there : slice_get m.before.server.waiting place ≡ Some c
   pub left : (happens m.before m.event).core.server.waiting ≡ remove m.before.server.waiting place
+  pub first : (i : ℕ) (d : Change) → i < place → slice_get m.before.server.waiting i ≡ Some d → meets d c ≡ false
+  pub awake : m.before.server.leasing.quiet ≤ max m.before.server.leasing.moment now
   pub free : (i : ℕ) (l : Lease) → slice_get m.before.server.leasing.leases i ≡ Some l → l.file ≡ c.file → is_others l (asker c) ≡ true → l.ends ≤ max m.before.server.leasing.moment now
   pub done : IsMadeOrRefused book m c
 
@@ -256,19 +259,6 @@ IsSettling book m now (Some c) = TakesReady book m now c
 
 abbrev pub SettlesReady : Book → Type 0
 SettlesReady book = (m : Moment) (now : ℕ) → Contains book.moments m → m.event ≡ Settles now → IsSettling book m now (ready_by m.before.server now)
-
--- Nothing holds the change at this place up: none that waits before it is of its file, each lease on that has ended, but for the session's own under its
--- COMMITTMP, and the quiet after the server's start is over.
-pub record IsFreed (m : Moment) (now place : ℕ) (c : Change) : Type 0 where
-  pub there : slice_get m.before.server.waiting place ≡ Some c
-  pub first : (i : ℕ) (d : Change) → i < place → slice_get m.before.server.waiting i ≡ Some d → meets d c ≡ false
-  pub ended : (i : ℕ) (l : Lease) → slice_get m.before.server.leasing.leases i ≡ Some l → l.file ≡ c.file → is_others l (asker c) ≡ true → l.ends ≤ max m.before.server.leasing.moment now
-  pub awake : m.before.server.leasing.quiet ≤ max m.before.server.leasing.moment now
-
--- A change waits for no more than that: where nothing holds it up, one that came no later is ready.
-abbrev pub WaitNoLonger : Book → Type 0
-WaitNoLonger book = (m : Moment) (now place : ℕ) (c : Change) → Contains book.moments m → IsFreed m now place c
-    → (d : Change) × (i : ℕ) × (i ≤ place) × (slice_get m.before.server.waiting i ≡ Some d) × (ready_by m.before.server now ≡ Some d)
 
 -- ---- all of it
 
@@ -288,7 +278,8 @@ pub record IsFaithful (input : List ℕ) (book : Book) : Type 0 where
   pub journal : HasJournal book
   pub settled : (i p : ℕ) (e : Entry) → slice_get book.entries i ≡ Some p → slice_get book.journal i ≡ Some e → e.kind ≡ kind.Commit → IsSettled book i p
   pub settles : SettlesReady book
-  pub waits : WaitNoLonger book
+  -- a change waits no longer than the leases on its file last, and than those that stand before it
+  pub waits : WaitInTurn book
   -- an open that got its content has its point by its GETLEASE, if it began no attempt, or else by the first GETHASH of one, or in its own step, by a content that was fresh then
   pub points : (k : ℕ) (o : Op) → slice_get book.ops k ≡ Some o → OpensAt book o o.outcome
   pub versions : (k : ℕ) (o : Op) → slice_get book.ops k ≡ Some o → OpensVersion book o o.outcome

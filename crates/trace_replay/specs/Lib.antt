@@ -21,6 +21,8 @@ pub mod Naming
 pub mod NameChanges
 pub mod Entries
 pub mod WarmRows
+pub mod PendingChanges
+pub mod PendingRows
 pub mod Walking
 pub mod WalkingRows
 pub mod Fetches

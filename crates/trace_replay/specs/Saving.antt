@@ -34,7 +34,7 @@ use Rattle.register_model.specs.declared.op.Outcome.TheVariants as told
 use Rattle.register_model.specs.declared.op.Word.TheVariants as word
 use Rattle.trace_ends.specs.Ops.{no_traffic}
 use Rattle.trace_ends.specs.Session.{Seat}
-use Rattle.trace_ends.specs.Core.{Event.Does, Event.Serves, Event.Hears, server_waiting, happens}
+use Rattle.trace_ends.specs.Core.{Event, Event.Does, Event.Serves, Event.Hears, server_waiting, happens}
 use Rattle.trace_ends.specs.Numbers.{numbered}
 use Rattle.trace_replay.specs.Trail.{Moment, step_of, client_of, taken_by}
 use Rattle.trace_replay.specs.Traffic.{is_in}
@@ -152,13 +152,19 @@ abbrev pub found_call : (anew : Bool) → (xid file : ℕ) → (kept : Option Co
 found_call true xid file kept = lease_call xid file
 found_call false xid file kept = first_call xid file kept
 
--- What a client sends as it takes such an answer: nothing, the next call of its walk, or just what one that is told to open the file of the id that was
--- found sends first, or, where its walk is a rewrite's, what one that is told to write it anew sends.
+-- the reading of its client's clock at an event of a client
+abbrev pub reading_at : Event → ℕ
+reading_at (Does c now d) = now
+reading_at (Hears n now bytes) = now
+reading_at e = 0
+
+-- What a client sends as it takes such an answer: nothing; the next call of its walk; or, where no content of the file of the id that was found is fresh to it, just
+-- what one that is told to open that file sends first, or, where its walk is a rewrite's, what one that is told to write it anew sends.
 abbrev pub AsksFound : Moment → Type 0
 AsksFound m = (xid : ℕ) (f : Found) (seat : Seat) → numbered m.before.seats (client_of m.before m.event) ≡ Some seat → Contains (taken_by m.before (client_of m.before m.event) m.event) (found_told xid f)
     → ((happens m.before m.event).up ≡ [])
     ⊎ (((x : ℕ) × (call : Nfs) × ((happens m.before m.event).up ≡ message.Call x (body.Nfs call) ∷ []))
-    ⊎ ((x file : ℕ) × (file_of f.handle ≡ Some file) × ((happens m.before m.event).up ≡ found_call (anew_in seat.client.task) x file (content_of seat.client.cache file) ∷ [])))
+    ⊎ ((x file : ℕ) × (file_of f.handle ≡ Some file) × (fresh_content seat.client.cache file (reading_at m.event) ≡ None) × ((happens m.before m.event).up ≡ found_call (anew_in seat.client.task) x file (content_of seat.client.cache file) ∷ [])))
 
 -- An open that is told a version ends in that step by the content that is kept in it, if there is one: nothing is sent for its bytes, and it counts
 -- nothing. Else it asks for the file's chunks.
@@ -215,7 +221,7 @@ pub record IsSaving (book : Book) : Type 0 where
   pub saved : (k : ℕ) (o : Op) → slice_get book.ops k ≡ Some o → o.word ≡ word.Close → AllKnown book.moments o → (o.traffic.tmp ≡ 0) × (o.traffic.«data» ≡ 0)
   -- an open of a file of which a content is kept asks for its version
   pub asked : (m : Moment) → Contains book.moments m → AsksFirst m
-  -- and so does one of a path, as it has found what that stands for
+  -- and so does one of a path, as it has found what that stands for, unless that is fresh to it: then it asks nobody
   pub found : (m : Moment) → Contains book.moments m → AsksFound m
   -- is told the one that the file has when the server takes that call
   pub leased : (m : Moment) (k : ℕ) (o : Op) → Contains book.moments m → slice_get book.ops k ≡ Some o → TellsLease book m o

@@ -1,0 +1,153 @@
+-- What becomes of the changes that are pending at the server in each step of a run, and of the leases that hold them up (Gray and Cheriton, SOSP 1989): a change
+-- waits no longer than these last, and than those that stand before it.
+use Rattle.std.specs.Prelude.{◌≡◌, ◌⊎◌, ℕ, ◌+◌, ◌<◌, ◌≤◌, List, [], ◌∷◌, ◌++◌, true, false, nat_le, max, remove, Option, Some, None, Ok, Contains, slice_get}
+use Rattle.std.specs.Option.{option_map}
+use Rattle.xdr_codec.specs.Handle.{file_of, handle_bytes}
+use Rattle.hash_calls.specs.declared.message.Back.TheVariants as back
+use Rattle.hash_calls.specs.declared.message.Lb.TheVariants as lb
+use Rattle.nfs3_calls.specs.declared.message.Nfs.TheVariants as nfs
+use Rattle.wire.specs.Parse.{parse_of}
+use Rattle.wire.specs.declared.message.Body.{Body}
+use Rattle.wire.specs.declared.message.Body.TheVariants as body
+use Rattle.wire.specs.declared.message.Message.TheVariants as message
+use Rattle.tree_nodes.specs.declared.node.Node.{Node}
+use Rattle.tree_nodes.specs.Nodes.{named}
+use Rattle.tree_reading.specs.Tree.{Tree}
+use Rattle.lease_rules.specs.Changes.{asker}
+use Rattle.lease_rules.specs.Leases.{is_others}
+use Rattle.lease_rules.specs.declared.change.Kind.{Kind}
+use Rattle.lease_rules.specs.declared.change.Kind.TheVariants as kind
+use Rattle.lease_rules.specs.declared.lease.Lease.{Lease}
+use Rattle.callback_core.specs.BackCalls.{call_at, waiting_at}
+use Rattle.callback_core.specs.Waits.{without}
+use Rattle.server_core.specs.Closing.{ready_by}
+use Rattle.server_core.specs.State.{State, Change, stands}
+use Rattle.server_core.specs.declared.event.Sent.{Sent}
+use Rattle.trace_ends.specs.Core.{Event, Event.Serves, Event.Settles, Event.Hangs, server_waiting, happens}
+use Rattle.trace_replay.specs.Trail.{Moment, step_if}
+use Rattle.trace_replay.specs.Book.{Book}
+
+-- a step of the run, at the server: what it was before and after, and what it sent
+pub record Move : Type 0 where
+  pub event : Event
+  pub before : State
+  pub after : State
+  pub sent : List Sent
+
+abbrev pub move_of : Moment → Move
+move_of m = let t = happens m.before m.event in record { event = m.event; before = m.before.server; after = t.core.server; sent = t.down }
+
+-- ---- leases
+
+-- the same lease, which was asked for by the same RECALL, or by none
+pub record StoodIn (leases : List Lease) (l : Lease) : Type 0 where
+  pub place : ℕ
+  pub lease : Lease
+  pub there : slice_get leases place ≡ Some lease
+  pub session : lease.session ≡ l.session
+  pub file : lease.file ≡ l.file
+  pub ends : lease.ends ≡ l.ends
+  pub recall : (lease.recall ≡ l.recall) ⊎ (lease.recall ≡ None)
+
+-- No lease is granted on a file while a change of it is pending: each that there is stood before, and ended then, and one that a RECALL asked for remembers it.
+abbrev pub GrantsNone : Move → Type 0
+GrantsNone v = (i j : ℕ) (c : Change) (l : Lease) → slice_get v.after.waiting i ≡ Some c → slice_get v.after.leasing.leases j ≡ Some l → l.file ≡ c.file → StoodIn v.before.leasing.leases l
+
+-- An answer to a RECALL gives up the leases of its session that remember it, and no others.
+pub record GivesUp (v : Move) (session xid : ℕ) : Type 0 where
+  pub gone : (i : ℕ) (l : Lease) → slice_get v.after.leasing.leases i ≡ Some l → l.session ≡ session → l.recall ≡ Some xid → ⊥
+  pub others : (i : ℕ) (l : Lease) → slice_get v.before.leasing.leases i ≡ Some l → (l.session ≡ session → l.recall ≡ Some xid → ⊥) → (j : ℕ) × (slice_get v.after.leasing.leases j ≡ Some l)
+
+-- So does each that says that the RECALL was done, on a session that stands.
+abbrev pub FreesAnswered : Move → Type 0
+FreesAnswered v = (session now xid : ℕ) (bytes : List ℕ) → v.event ≡ Serves session now bytes → stands v.before session ≡ true → parse_of (waiting_at v.before.leasing.calls session) bytes ≡ Ok (message.Answer xid (body.Back back.RecallAnswer)) → GivesUp v session xid
+
+-- The session of a lease is asked for it by a RECALL of its file, under a number that the lease remembers; or it was to be asked for more than it has numbers.
+abbrev pub AsksFor : Move → Lease → Type 0
+AsksFor v l =
+    ((xid : ℕ) × Contains v.sent (record { session = l.session; message = message.Call xid (body.Back (back.Recall (handle_bytes l.file))) }) × (i : ℕ) × (slice_get v.after.leasing.leases i ≡ Some (record l { recall = Some xid })))
+    ⊎ ((call_at v.after.leasing.calls l.session).spent ≡ true)
+
+-- So it is with each lease that holds a change up, hasn't ended at this reading, and was asked for by no RECALL, as far as its session stands.
+abbrev pub AsksForAll : Move → (now : ℕ) → Change → Type 0
+AsksForAll v now c = (i : ℕ) (l : Lease) → slice_get v.before.leasing.leases i ≡ Some l → l.file ≡ c.file → is_others l (asker c) ≡ true → max v.before.leasing.moment now < l.ends → l.recall ≡ None → stands v.before l.session ≡ true → AsksFor v l
+
+-- ---- a change comes
+
+abbrev pub name_in : Tree → (dir : Option ℕ) → List ℕ → Option ℕ
+name_in t None name = None
+name_in t (Some dir) name = option_map (λ (n : Node). n.id) (named t.nodes dir name)
+
+-- The file that a call asks to change: that of a COMMITTMP's handle, what a REMOVE's name stands for, and what the new name of a RENAME stands for, which goes.
+abbrev pub file_asked : Tree → Body → Option ℕ
+file_asked t (body.Lb (lb.CommitTmp a)) = file_of a.handle
+file_asked t (body.Nfs (nfs.Remove a)) = name_in t (file_of a.dir) a.name
+file_asked t (body.Nfs (nfs.Rename a)) = name_in t (file_of a.to.dir) a.to.name
+file_asked t b = None
+
+-- what it is to do to it
+abbrev pub kind_asked : Body → Option Kind
+kind_asked (body.Lb (lb.CommitTmp a)) = Some kind.Commit
+kind_asked (body.Nfs (nfs.Remove a)) = Some kind.Remove
+kind_asked (body.Nfs (nfs.Rename a)) = Some kind.Rename
+kind_asked b = None
+
+-- The server takes a call of a session, which is a change from now on: of the file that it asks to change, behind all others. And the leases that hold it up are
+-- asked for.
+pub record Comes (v : Move) (session now : ℕ) (bytes : List ℕ) (c : Change) : Type 0 where
+  pub call : Body
+  pub read : parse_of server_waiting bytes ≡ Ok (message.Call c.xid call)
+  pub session_is : c.session ≡ session
+  pub file_is : file_asked v.before.tree call ≡ Some c.file
+  pub kind_is : kind_asked call ≡ Some c.kind
+  pub behind : v.after.waiting ≡ v.before.waiting ++ c ∷ []
+  pub asks : AsksForAll v now c
+
+-- How the list of pending changes goes on: one comes, one is taken out by a settling, or the change of a session goes with it; and the others stay, in order.
+abbrev pub GoesOn : Event → Move → Type 0
+GoesOn (Serves session now bytes) v = (v.after.waiting ≡ v.before.waiting) ⊎ ((c : Change) × Comes v session now bytes c)
+GoesOn (Settles now) v = (v.after.waiting ≡ v.before.waiting) ⊎ ((place : ℕ) × (c : Change) × (ready_by v.before now ≡ Some c) × (slice_get v.before.waiting place ≡ Some c) × (v.after.waiting ≡ remove v.before.waiting place))
+GoesOn (Hangs session) v = v.after.waiting ≡ without v.before.waiting session
+GoesOn e v = v.after.waiting ≡ v.before.waiting
+
+-- ---- it waits no longer than leases
+
+-- From this reading on nothing holds the change at this place up but others before it: neither it nor one of its file that stands before it is held up by a lease,
+-- since each on that ends by then, but for the session's own under its COMMITTMP; and so does the quiet after the server's start.
+pub record IsFreeBy (s : State) (reading place : ℕ) (c : Change) : Type 0 where
+  pub there : slice_get s.waiting place ≡ Some c
+  pub ended : (i j : ℕ) (d : Change) (l : Lease) → i ≤ place → slice_get s.waiting i ≡ Some d → d.file ≡ c.file → slice_get s.leasing.leases j ≡ Some l → l.file ≡ c.file → is_others l (asker d) ≡ true → l.ends ≤ reading
+  pub awake : s.leasing.quiet ≤ reading
+
+-- At each moment at which nothing holds it up, it is ready, or one that stands before it: that a settling makes (`TakesReady`).
+abbrev pub AreReady : Book → Type 0
+AreReady book = (m : Moment) (now place : ℕ) (c : Change) → Contains book.moments m → IsFreeBy m.before.server (max m.before.server.leasing.moment now) place c
+    → (d : Change) × (i : ℕ) × (i ≤ place) × (slice_get m.before.server.waiting i ≡ Some d) × (ready_by m.before.server now ≡ Some d)
+
+-- how many settlings there are at this reading or a later one
+abbrev pub settling_at : (reading : ℕ) → Event → ℕ
+settling_at reading (Settles now) = step_if (nat_le reading now)
+settling_at reading e = 0
+
+abbrev pub settlings : (reading : ℕ) → List Moment → ℕ
+settlings reading [] = 0
+settlings reading (m ∷ ms) = settling_at reading m.event + settlings reading ms
+
+-- the change is taken out in this step: by a settling, or its session is lost
+abbrev pub TakesOut : Moment → Change → Type 0
+TakesOut m c = ((now : ℕ) × (m.event ≡ Settles now) × (ready_by m.before.server now ≡ Some c)) ⊎ (m.event ≡ Hangs c.session)
+
+-- Where from a moment and a reading on nothing holds it up but others before it, it is taken out by as many settlings as its place, counted from 1: whatever else
+-- happens among them, and whatever comes.
+abbrev pub AreSettledSoon : Book → Type 0
+AreSettledSoon book = (early span late : List Moment) (m : Moment) (reading place : ℕ) (c : Change) → book.moments ≡ early ++ m ∷ (span ++ late) → IsFreeBy m.before.server reading place c → place < settlings reading (m ∷ span)
+    → (n : Moment) × Contains (m ∷ span) n × TakesOut n c
+
+-- ---- all of it
+
+pub record WaitInTurn (book : Book) : Type 0 where
+  pub goes_on : (m : Moment) → Contains book.moments m → GoesOn m.event (move_of m)
+  pub grants_none : (m : Moment) → Contains book.moments m → GrantsNone (move_of m)
+  pub frees : (m : Moment) → Contains book.moments m → FreesAnswered (move_of m)
+  pub ready : AreReady book
+  pub soon : AreSettledSoon book

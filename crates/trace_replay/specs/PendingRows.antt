@@ -1,0 +1,147 @@
+-- Worked steps of wrong servers, each of which a clause on pending changes refuses; and which file a call asks to change.
+use Rattle.std.specs.Prelude.{◌≡◌, ◌⊎◌, ℕ, ◌<◌, zero, suc, slice_get, List, [], ◌∷◌, Option, Some, None, true, false, codes, map, refl}
+use Rattle.std.proofs.Common.{ap, sym, ◌∙◌, inl, inr, arith}
+use Rattle.xdr_codec.specs.Handle.{handle_bytes}
+use Rattle.hash_calls.specs.declared.message.Lb.TheVariants as lb
+use Rattle.nfs3_calls.specs.declared.message.Nfs.TheVariants as nfs
+use Rattle.wire.specs.declared.message.Body.TheVariants as body
+use Rattle.lease_rules.specs.Changes.{meets}
+use Rattle.lease_rules.specs.declared.lease.Lease.{Lease}
+use Rattle.tree_nodes.specs.declared.node.Body.TheVariants.{File}
+use Rattle.xdr_codec.specs.declared.handle.TheConstants.{ROOT}
+use Rattle.server_core.specs.declared.change.Wanted.TheVariants as wanted
+use Rattle.server_core.specs.declared.event.Sent.{Sent}
+use Rattle.server_core.specs.State as server
+use Rattle.server_core.specs.State.{State, Change, change_of}
+use Rattle.server_core.specs.Step.{opens_with}
+use Rattle.trace_ends.specs.Core.{Event.Serves, Event.Settles, Event.Hangs}
+use Rattle.trace_replay.specs.Book.{Book}
+use Rattle.trace_replay.specs.Trail.{Moment}
+use Rattle.trace_replay.specs.Faithful.{TakesReady}
+use Rattle.trace_replay.specs.PendingChanges.{Move, GrantsNone, GivesUp, AsksFor, AsksForAll, GoesOn, file_asked, settlings}
+
+-- ---- states
+
+-- files 2 and 3, under the names a and b
+abbrev two_files : State
+two_files = opens_with (opens_with server.empty ROOT (codes "a") (File (codes "abc"))) ROOT (codes "b") (File [])
+
+abbrev lease : (session file ends : ℕ) → Option ℕ → Lease
+lease session file ends recall = record { session = session; file = file; ends = ends; recall = recall }
+
+-- a close of a file
+abbrev close : (session file : ℕ) → Change
+close session file = change_of session 5 file (wanted.Content [])
+
+-- sessions 1 to 4 stand, these changes are pending, and these leases stand
+abbrev state : List Change → List Lease → State
+state waiting leases = record two_files { waiting = waiting; sessions = 1 ∷ 2 ∷ 3 ∷ 4 ∷ []; sessions_made = 4; leasing = record two_files.leasing { term = 1000; leases = leases } }
+
+abbrev served : (before after : State) → List Sent → Move
+served before after sent = record { event = Serves 4 0 []; before = before; after = after; sent = sent }
+
+no : {A B : Type 0} (x : A) → ◌≡◌ {A = Option A} None (Some x) → B
+no x e = absurd cc
+
+-- ---- wrong servers
+
+-- a lease is granted to session 3 on a file while a change of it is pending
+granted_while_pending : GrantsNone (served (state (close 2 2 ∷ []) []) (state (close 2 2 ∷ []) (lease 3 2 1000 None ∷ [])) []) → ⊥
+granted_while_pending h = let w = h 0 0 (close 2 2) (lease 3 2 1000 None) refl refl refl in no w.lease w.there
+
+-- one that stood is made to last longer
+lengthened : GrantsNone (served (state (close 2 2 ∷ []) (lease 3 2 1000 None ∷ [])) (state (close 2 2 ∷ []) (lease 3 2 2000 None ∷ [])) []) → ⊥
+lengthened h = let w = h 0 0 (close 2 2) (lease 3 2 2000 None) refl refl refl in by w.place w.lease w.there w.ends
+  where
+    by : (i : ℕ) (k : Lease) → slice_get (lease 3 2 1000 None ∷ []) i ≡ Some k → k.ends ≡ 2000 → ⊥
+    by zero k e ends = let same = some_ends (lease 3 2 1000 None) k e in absurd (omega (arith, same, ends))
+      where
+        some_ends : (a b : Lease) → Some a ≡ Some b → a.ends ≡ b.ends
+        some_ends a b e = cc
+    by (suc i) k e ends = no k e
+
+-- the RECALL that asked for it is forgotten
+forgotten : GrantsNone (served (state (close 2 2 ∷ []) (lease 3 2 1000 (Some 1) ∷ [])) (state (close 2 2 ∷ []) (lease 3 2 1000 None ∷ [])) []) → ⊥
+forgotten h = let w = h 0 0 (close 2 2) (lease 3 2 1000 None) refl refl refl in by w.place w.lease w.there w.recall
+  where
+    same : (a b : Lease) → Some a ≡ Some b → a.recall ≡ b.recall
+    same a b e = cc
+
+    by : (i : ℕ) (k : Lease) → slice_get (lease 3 2 1000 (Some 1) ∷ []) i ≡ Some k → (k.recall ≡ None) ⊎ (k.recall ≡ None) → ⊥
+    by zero k e (inl none) = let r = same (lease 3 2 1000 (Some 1)) k e ∙ none in no 1 (sym r)
+    by zero k e (inr none) = let r = same (lease 3 2 1000 (Some 1)) k e ∙ none in no 1 (sym r)
+    by (suc i) k e r = no k e
+
+-- a change that comes is put in front of one that is pending
+in_front : GoesOn (Serves 4 0 []) (served (state (close 2 2 ∷ []) []) (state (close 4 2 ∷ close 2 2 ∷ []) []) []) → ⊥
+in_front (inl same) = absurd (cons_nil (tail same))
+  where
+    tail : {x y : Change} {xs ys : List Change} → x ∷ xs ≡ y ∷ ys → xs ≡ ys
+    tail e = cc
+
+    cons_nil : {x : Change} {xs : List Change} → x ∷ xs ≡ [] → ⊥
+    cons_nil e = absurd cc
+in_front (inr (c, comes)) = let e = ap session_of (head comes.behind) in absurd (omega (arith, e))
+  where
+    session_of : Change → ℕ
+    session_of c = c.session
+
+    head : {x y : Change} {xs ys : List Change} → x ∷ xs ≡ y ∷ ys → x ≡ y
+    head e = cc
+
+-- a change is lost as another session's connection is
+lost_with_another : GoesOn (Hangs 3) (record { event = Hangs 3; before = state (close 2 2 ∷ []) []; after = state [] []; sent = [] }) → ⊥
+lost_with_another e = absurd cc
+
+-- an answer to a RECALL gives nothing up, or another's lease too
+gives_nothing_up : GivesUp (served (state [] (lease 4 2 1000 (Some 1) ∷ [])) (state [] (lease 4 2 1000 (Some 1) ∷ [])) []) 4 1 → ⊥
+gives_nothing_up h = h.gone 0 (lease 4 2 1000 (Some 1)) refl refl refl
+
+gives_another_up : GivesUp (served (state [] (lease 4 2 1000 (Some 2) ∷ [])) (state [] []) []) 4 1 → ⊥
+gives_another_up h = let w = h.others 0 (lease 4 2 1000 (Some 2)) refl (λ s r. other r) in no (lease 4 2 1000 (Some 2)) w.1
+  where
+    other : ◌≡◌ {A = Option ℕ} (Some 2) (Some 1) → ⊥
+    other e = absurd cc
+
+-- no RECALL goes out as a change comes
+asks_nobody : AsksForAll (served (state [] (lease 3 2 1000 None ∷ [])) (state (close 4 2 ∷ []) (lease 3 2 1000 None ∷ [])) []) 0 (close 4 2) → ⊥
+asks_nobody h = by (h 0 (lease 3 2 1000 None) refl refl refl (omega arith) refl refl)
+  where
+    by : AsksFor (served (state [] (lease 3 2 1000 None ∷ [])) (state (close 4 2 ∷ []) (lease 3 2 1000 None ∷ [])) []) (lease 3 2 1000 None) → ⊥
+    by (inl w) = let lt = w.1.1 in absurd (omega (arith, lt))
+    by (inr spent) = absurd cc
+
+-- a settling takes the second change of a file, or one within the quiet after the start
+abbrev settled : State → Moment
+settled s = record { before = record { server = s; seats = []; sessions = []; steps = 0; drift = 0; ops = []; entries = [] }; event = Settles 100 }
+
+second_made : (book : Book) → TakesReady book (settled (state (close 2 2 ∷ close 3 2 ∷ []) [])) 100 (close 3 2) → ⊥
+second_made book t = by t.place t.there t.first
+  where
+    apart : Some (close 2 2) ≡ Some (close 3 2) → ⊥
+    apart e = absurd cc
+
+    by : (place : ℕ) → slice_get (close 2 2 ∷ close 3 2 ∷ []) place ≡ Some (close 3 2) → ((i : ℕ) (d : Change) → i < place → slice_get (close 2 2 ∷ close 3 2 ∷ []) i ≡ Some d → meets d (close 3 2) ≡ false) → ⊥
+    by zero at first = apart at
+    by (suc place) at first = absurd (no_true (first 0 (close 2 2) (omega arith) refl))
+      where
+        no_true : true ≡ false → ⊥
+        no_true e = absurd cc
+
+in_the_quiet : (book : Book) (s : State) → TakesReady book (settled (record s { leasing = record s.leasing { moment = 0; quiet = 500 } })) 100 (close 2 2) → ⊥
+in_the_quiet book s t = let le = t.awake in absurd (omega (arith, le))
+
+-- ---- which file
+
+-- a REMOVE's is what its name stands for, a RENAME's what it replaces
+pub files_asked : map (file_asked two_files.tree) (body.Lb (lb.CommitTmp (record { handle = handle_bytes 3; fd = 1; size = 0 })) ∷ body.Nfs (nfs.Remove (record { dir = handle_bytes ROOT; name = codes "a" })) ∷ body.Nfs (nfs.Rename (record { from = record { dir = handle_bytes ROOT; name = codes "a" }; to = record { dir = handle_bytes ROOT; name = codes "b" } })) ∷ body.Nfs (nfs.Rename (record { from = record { dir = handle_bytes ROOT; name = codes "a" }; to = record { dir = handle_bytes ROOT; name = codes "c" } })) ∷ [])
+    ≡ Some 3 ∷ Some 2 ∷ Some 3 ∷ None ∷ []
+files_asked = refl
+
+-- ---- how many settlings
+
+pub late_ones : settlings 100 (settled two_files ∷ settled two_files ∷ []) ≡ 2
+late_ones = refl
+
+pub too_early : settlings 101 (settled two_files ∷ []) ≡ 0
+too_early = refl
