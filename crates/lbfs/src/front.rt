@@ -40,7 +40,6 @@ fn run_over<H: Threads + Wait + Sync>(
 ) -> ShellEnd {
     let ShellOptions {
         port,
-        drift,
         links,
         quiet,
         command,
@@ -54,7 +53,6 @@ fn run_over<H: Threads + Wait + Sync>(
     };
     let asked = ShellAsked {
         links,
-        drift,
         quiet,
         command,
     };

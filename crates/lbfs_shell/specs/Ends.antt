@@ -35,3 +35,9 @@ read_end read.Memory = end.Memory
 abbrev pub end_of : Bool → ShellEnd
 end_of true = end.Done
 end_of false = end.Undone
+
+-- ---- leases
+
+-- a farewell was the last that was said on a connection
+abbrev pub HasLeft : {R : Type 0} → (farewells : R → R → Type 0) → R → Type 0
+HasLeft {R = R} farewells new = (old : R) × farewells old new

@@ -1,7 +1,9 @@
 //! The threads of a command: each has a client with a connection of its own, and they share the tasks. One
 //! begins alone, and the others come once there are several to do.
 
+ghost use Rattle.std.specs.Prelude.{◌≡◌, None};
 ghost use Rattle.std.specs.Thread.{IsSend};
+ghost use Rattle.lbfs_shell.specs.Ends.{HasLeft};
 
 use crate::outside::Outside;
 use crate::pool::Pool;
@@ -26,8 +28,6 @@ use std::thread::{Scope, Threads};
 pub(crate) struct Manner {
     /// How many connections there may be.
     pub(crate) links: u32,
-    /// How far clocks may drift apart while a lease lasts, in milliseconds.
-    pub(crate) drift: u64,
     /// Whether how far it is is shown.
     pub(crate) shows: bool,
     /// Whether what was stored and removed isn't said.
@@ -67,6 +67,20 @@ fn begin<W: Wait, P: Screen, R: Remote, F: Folder>(
     }
 }
 
+/// The next task; none once all are done. Where there is none yet the connection gives up its leases before it
+/// waits, since nobody answers a RECALL meanwhile.
+fn next_task<W: Wait, R: Remote>(rt: &W, alloc: Global, pool: &Pool, remote: &mut R) -> Option<Task>
+    ensures { result ≡ None → HasLeft R.farewells remote.new }
+{
+    match pool.take_now(rt) {
+        Some(task) => Some(task),
+        None => {
+            remote.farewell(alloc);
+            pool.take(rt)
+        }
+    }
+}
+
 /// Does tasks until all are done.
 fn work<W: Wait, P: Screen, R: Remote, F: Folder>(
     rt: &W,
@@ -75,9 +89,11 @@ fn work<W: Wait, P: Screen, R: Remote, F: Folder>(
     screen: &P,
     remote: &mut R,
     folder: &mut F,
-) {
+)
+    ensures { HasLeft R.farewells remote.new }
+{
     for _turn in rt.forever() {
-        match pool.take(rt) {
+        match next_task(rt, alloc, pool, remote) {
             Some(task) => do_one(rt, alloc, pool, screen, remote, folder, task),
             None => return,
         }
@@ -90,14 +106,13 @@ fn help_out<W: Wait, P: Screen, H: Folders, D: Dials, C: Clock, T>(
     alloc: Global,
     pool: &Pool,
     out: &Outside<P, H, D, C, T>,
-    drift: u64,
     number: u32,
 )
 where
     D::L: Drop + Send,
     H::F: Drop + Send,
 {
-    if let Ok(mut session) = Session::new(alloc, drift, &out.dialler, &out.clock) {
+    if let Ok(mut session) = Session::new(alloc, &out.dialler, &out.clock) {
         let mut folder = out.folders.folder(number);
         work(rt, alloc, pool, &out.screen, &mut session, &mut folder);
     }
@@ -125,9 +140,8 @@ where
     D::L: Drop + Send,
     H::F: Drop + Send,
 {
-    let drift = manner.drift;
     for number in 1..manner.links {
-        let help = move || help_out(rt, alloc, pool, out, drift, number);
+        let help = move || help_out(rt, alloc, pool, out, number);
         if scope.spawn(help).is_err() {
             return;
         }

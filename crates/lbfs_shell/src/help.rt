@@ -49,7 +49,8 @@ permissions, and of what it has nothing is fetched. Nothing is where LOCAL can't
 const PUT: &str = "put [-r] LOCAL [PATH]
 Stores a file under PATH: in it where PATH is a directory; without PATH where the shell stands. The
 directories above it are made, where they aren't there. With -r a folder, with all that is in it, but for
-symbolic links, which are said. Storing over a certain version alone (--if-version) isn't there yet.
+symbolic links, which are said. Of a file that is replaced nothing is fetched. Storing over a certain version
+alone (--if-version) isn't there yet.
 ";
 
 const SYNC: &str = "sync [--delete] LOCAL PATH

@@ -136,6 +136,14 @@ impl Pool {
         unreachable!()
     }
 
+    /// The next task, where there is one now.
+    pub(crate) fn take_now<W: Wait>(&self, rt: &W) -> Option<Task> {
+        let mut jobs = self.jobs.lock(rt);
+        let task = jobs.tasks.pop()?;
+        jobs.busy = jobs.busy.saturating_add(1);
+        Some(task)
+    }
+
     /// The next task, where it is the only one.
     pub(crate) fn take_alone<W: Wait>(&self, rt: &W) -> Option<Task> {
         let mut jobs = self.jobs.lock(rt);

@@ -2,7 +2,7 @@
 
 ghost use Rattle.std.specs.Prelude.{◌≡◌, ◌≢◌, ◌≤◌, ◌⊎◌, [], IfErr, None, Ok};
 ghost use Rattle.exit_status.specs.declared.shell_end.ShellEnd.TheVariants as ends;
-ghost use Rattle.lbfs_shell.specs.Ends.{SinkCause, HasCause, end_of};
+ghost use Rattle.lbfs_shell.specs.Ends.{SinkCause, HasCause, HasLeft, end_of};
 
 use crate::crew::{Manner, run_task};
 use crate::help;
@@ -38,8 +38,6 @@ use std::thread::Threads;
 pub struct ShellAsked {
     /// How many connections there may be at once.
     pub links: u32,
-    /// How far clocks may drift apart while a lease lasts, in milliseconds.
-    pub drift: u64,
     /// Whether neither how far a command is nor what it came to is said.
     pub quiet: bool,
     /// The words of the one command; none where lines are read.
@@ -79,7 +77,6 @@ where
 {
     let manner = Manner {
         links: asked.links,
-        drift: asked.drift,
         shows: !asked.quiet && out.screen.is_watched(),
         quiet: asked.quiet,
     };
@@ -143,7 +140,7 @@ fn run_help<P: Screen, K: Sink>(
 }
 
 /// A command.
-fn run_command<
+fn do_line<
     W: Threads + Wait + Sync,
     P: Screen + Sync,
     H: Folders + Sync,
@@ -182,6 +179,38 @@ where
         Ok(Went::Bye) => Ok(Flow::Bye),
         Err(AllocError) => Err(ShellEnd::Memory),
     }
+}
+
+/// A command. Behind it the connection gives up its leases: nobody answers a RECALL before the next.
+fn run_command<
+    W: Threads + Wait + Sync,
+    P: Screen + Sync,
+    H: Folders + Sync,
+    D: Dials + Sync,
+    C: Clock + Sync,
+    T: Rest + Sync,
+    R: Remote,
+    F: Folder,
+    K: Sink,
+>(
+    rt: &W,
+    alloc: Global,
+    out: &Outside<P, H, D, C, T>,
+    asked: &ShellAsked,
+    seat: &mut Seat<R, F>,
+    sink: &mut K,
+    line: &Line,
+) -> Result<Flow, ShellEnd>
+where
+    D::L: Drop + Send,
+    H::F: Drop + Send,
+    ensures cause { IfErr result (λ e. SinkCause (K.faults sink.old) (K.faults sink.new) e) }
+    ensures later { K.faults sink.old ≤ K.faults sink.new }
+    ensures left { HasLeft R.farewells seat.new.remote }
+{
+    let flow = do_line(rt, alloc, out, asked, seat, sink, line);
+    seat.remote.farewell(alloc);
+    flow
 }
 
 /// What a line says; none where it says nothing.
@@ -393,7 +422,6 @@ fn command_of(alloc: Global, words: &[Name]) -> Result<Option<Line>, ReadError>
 /// A client that has a connection; or how the shell ends.
 fn joined<'e, D: Dials, C: Clock>(
     alloc: Global,
-    drift: u64,
     dialler: &'e D,
     clock: &'e C,
 ) -> Result<Session<'e, D, C>, ShellEnd>
@@ -401,7 +429,7 @@ where
     D::L: Drop,
     ensures { IfErr result (λ e. (e ≡ ends.Network) ⊎ (e ≡ ends.Memory)) }
 {
-    match Session::new(alloc, drift, dialler, clock) {
+    match Session::new(alloc, dialler, clock) {
         Ok(mut session) => {
             if session.join(alloc) {
                 Ok(session)
@@ -416,7 +444,6 @@ where
 /// A shell in the folder of the host that the program runs in, with a connection; or how it ends.
 fn seated<'e, P, H: Folders, D: Dials, C: Clock, T>(
     alloc: Global,
-    drift: u64,
     out: &'e Outside<P, H, D, C, T>,
 ) -> Result<Seat<Session<'e, D, C>, H::F>, ShellEnd>
 where
@@ -427,7 +454,7 @@ where
     let Ok(here) = LocalPath::copy_of(alloc, ".") else {
         return Err(ShellEnd::Memory);
     };
-    match joined(alloc, drift, &out.dialler, &out.clock) {
+    match joined(alloc, &out.dialler, &out.clock) {
         Ok(remote) => Ok(Seat {
             shell: Shell::new(alloc, here),
             remote,
@@ -467,7 +494,7 @@ where
             Err(end) => end,
         };
     }
-    match seated(alloc, asked.drift, out) {
+    match seated(alloc, out) {
         Ok(mut seat) => run_once(rt, alloc, out, asked, &mut seat, sink, line),
         Err(end) => end,
     }
@@ -497,7 +524,7 @@ where
     ensures cause { HasCause (S.faults source.old) (S.faults source.new) (K.faults sink.old) (K.faults sink.new) result }
     ensures later { (S.faults source.old ≤ S.faults source.new) × (K.faults sink.old ≤ K.faults sink.new) }
 {
-    match seated(alloc, asked.drift, out) {
+    match seated(alloc, out) {
         Ok(mut seat) => run_lines(rt, alloc, out, asked, &mut seat, source, sink),
         Err(end) => end,
     }

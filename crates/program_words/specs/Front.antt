@@ -1,10 +1,10 @@
 -- What the words `shell` and `share` ask for. They are refused where `clap` finds a fault in them, and where a number isn't in its range.
-use Rattle.std.specs.Prelude.{ℕ, List, [], ◌∷◌, ◌++◌, Option, Some, None, codes, decimal, bytes_eq, if◌then◌else◌}
+use Rattle.std.specs.Prelude.{ℕ, Bool, true, false, List, [], ◌∷◌, ◌++◌, Option, Some, None, codes, decimal, bytes_eq, if◌then◌else◌}
 use Rattle.clap.specs.Words.{Kinds, Row, Text, fault_of, subcommand_of, all_of, first_of}
 use Rattle.command_text.specs.Fields.{◌>>=◌, number_within}
-use Rattle.limits.specs.declared.TheConstants.{TERM_MOST, DRIFT_MOST, SESSIONS_EVER_MOST}
+use Rattle.limits.specs.declared.TheConstants.{TERM_MOST, SESSIONS_EVER_MOST}
 use Rattle.program_words.specs.declared.asked.TheConstants.{PORT_MOST}
-use Rattle.program_words.specs.declared.front.TheConstants.{PORT, TERM, DRIFT, LINKS, LINKS_MOST}
+use Rattle.program_words.specs.declared.front.TheConstants.{PORT, TERM, LINKS, LINKS_MOST}
 use Rattle.program_words.specs.declared.front.Front.{Front}
 use Rattle.program_words.specs.declared.front.Front.TheVariants as front
 use Rattle.program_words.specs.declared.front.ShareOptions.{ShareOptions}
@@ -34,16 +34,15 @@ values_of name rows = values_in (all_of name rows)
 abbrev pub shell_of : List Row → Option Front
 shell_of rows =
     given 1 PORT_MOST (codes "port") rows >>= λ p.
-    given_or 0 DRIFT_MOST DRIFT (codes "drift") rows >>= λ e.
     given_or 1 LINKS_MOST LINKS (codes "links") rows >>= λ n.
-    Some (front.Shell (record { port = p; drift = e; links = n; quiet = is_set (first_of (codes "quiet") rows); command = values_of (codes "command") rows }))
+    Some (front.Shell (record { port = p; links = n; quiet = is_set (first_of (codes "quiet") rows); command = values_of (codes "command") rows }))
 
 abbrev pub share_of : List Row → Option Front
 share_of rows =
     first_of (codes "dir") rows >>= λ place.
     given_or 1 PORT_MOST PORT (codes "port") rows >>= λ p.
     given_or 1 TERM_MOST TERM (codes "term") rows >>= λ t.
-    Some (front.Share (record { store = place; port = p; term = t }))
+    Some (front.Share (record { store = place; port = p; term = t; unsynced = is_set (first_of (codes "unsynced") rows) }))
 
 abbrev pub front_named_of : Text → List Row → Option Front
 front_named_of name rows =
@@ -65,7 +64,11 @@ front_of words = front_unless (fault_of line words) (front_entered_of (subcomman
 
 -- ---- `share` is `serve` under other words, with as many sessions as there may ever be
 
+abbrev pub unsynced_words : Bool → List Text
+unsynced_words true = codes "--unsynced" ∷ []
+unsynced_words false = []
+
 abbrev pub share_words : ShareOptions → List Text
 share_words o =
     codes "serve" ∷ (codes "--port=" ++ decimal o.port) ∷ (codes "--term=" ++ decimal o.term)
-    ∷ (codes "--sessions=" ++ decimal SESSIONS_EVER_MOST) ∷ (codes "--store=" ++ o.store) ∷ []
+    ∷ (codes "--sessions=" ++ decimal SESSIONS_EVER_MOST) ∷ (codes "--store=" ++ o.store) ∷ unsynced_words o.unsynced

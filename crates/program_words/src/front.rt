@@ -14,7 +14,7 @@ use clap::ArgMatches;
 use clap::error::ErrorKind;
 use command_text::fields::number_within;
 use lb_base::items::{Items, Name};
-use limits::{DRIFT_MOST, SESSIONS_EVER_MOST, TERM_MOST};
+use limits::{SESSIONS_EVER_MOST, TERM_MOST};
 use std::alloc::{AllocError, Global};
 
 /// The port of `share` where none is given.
@@ -22,9 +22,6 @@ pub const PORT: u64 = 7_000;
 
 /// The term of leases of `share` where none is given, in milliseconds.
 pub const TERM: u64 = 30_000;
-
-/// The drift of clocks of `shell` where none is given, in milliseconds.
-pub const DRIFT: u64 = 100;
 
 /// How many connections `shell` uses at once where it isn't said.
 pub const LINKS: u64 = 8;
@@ -37,8 +34,6 @@ pub const LINKS_MOST: u64 = 32;
 pub struct ShellOptions {
     /// The port at which the server listens.
     pub port: u16,
-    /// `--drift`: how far clocks may drift apart while a lease lasts, in milliseconds.
-    pub drift: u64,
     /// `--links`: how many connections it uses at once.
     pub links: u32,
     /// `--quiet`: it doesn't say how far a command is, nor what it came to.
@@ -56,6 +51,8 @@ pub struct ShareOptions {
     pub port: u16,
     /// `--term`: how long a lease is to last, in milliseconds.
     pub term: u64,
+    /// `--unsynced`: nothing is flushed to the disk before it is answered.
+    pub unsynced: bool,
 }
 
 /// What people ask for.
@@ -106,12 +103,10 @@ fn shell_of(alloc: Global, matches: &ArgMatches) -> Result<Option<Front>, AllocE
     let command = values_of(alloc, "command", matches)?;
     match (
         given(1, PORT_MOST, "port", matches),
-        given_or(0, DRIFT_MOST, DRIFT, "drift", matches),
         given_or(1, LINKS_MOST, LINKS, "links", matches),
     ) {
-        (Some(port), Some(drift), Some(links)) => Ok(Some(Front::Shell(ShellOptions {
+        (Some(port), Some(links)) => Ok(Some(Front::Shell(ShellOptions {
             port: port as u16,
-            drift,
             links: links as u32,
             quiet: is_set("quiet", matches),
             command,
@@ -133,6 +128,7 @@ fn share_of(alloc: Global, matches: &ArgMatches) -> Result<Option<Front>, AllocE
             store: StorePath::copy_of(alloc, dir)?,
             port: port as u16,
             term,
+            unsynced: is_set("unsynced", matches),
         }))),
         _ => Ok(None),
     }
@@ -192,5 +188,8 @@ pub fn share_words(alloc: Global, options: &ShareOptions) -> Result<Vec<String>,
     words.push(format!(in alloc; "--term={term}")?)?;
     words.push(format!(in alloc; "--sessions={SESSIONS_EVER_MOST}")?)?;
     words.push(format!(in alloc; "--store={place}")?)?;
+    if options.unsynced {
+        words.push(String::from_str(alloc, "--unsynced")?)?;
+    }
     Ok(words)
 }

@@ -24,7 +24,6 @@ fn shell_line<'a>(alloc: Global) -> Result<Command<'a>, AllocError>
     ensures { IfOk result (λ c. app_of c ≡ shell) }
 {
     let command = with(Ok(Command::new(alloc, "shell")), required(alloc, "port"));
-    let command = with(command, optional(alloc, "drift"));
     let command = with(command, optional(alloc, "links"));
     let command = with(command, flag(alloc, "quiet"));
     with(command, rest(alloc, "command"))
@@ -36,7 +35,8 @@ fn share_line<'a>(alloc: Global) -> Result<Command<'a>, AllocError>
 {
     let command = with(Ok(Command::new(alloc, "share")), placed(alloc, "dir"));
     let command = with(command, optional(alloc, "port"));
-    with(command, optional(alloc, "term"))
+    let command = with(command, optional(alloc, "term"));
+    with(command, flag(alloc, "unsynced"))
 }
 
 /// The program with these commands.

@@ -27,8 +27,9 @@ const USAGE: &str = "usage: lbfs COMMAND
   mount --port P --drift MS [--cache NAME] [--keep BYTES]
                                         runs the commands on standard input on a served folder
   check --store DIR                     looks over a folder that isn't served
-  share DIR [--port P] [--term MS]      serves a folder until it is ended, at port 7000 if none is given
-  shell --port P [--drift MS] [--links N] [--quiet] [COMMAND ..]
+  share DIR [--port P] [--term MS] [--unsynced]
+                                        serves a folder until it is ended, at port 7000 if none is given
+  shell --port P [--links N] [--quiet] [COMMAND ..]
                                         runs the command, or those that are typed, on a served folder
 docs/COMMANDS.md says what each reads, writes and ends with.
 ";

@@ -1,3 +1,4 @@
 pub mod Again
-pub mod Running
 pub mod Hints
+pub mod Noting
+pub mod Running

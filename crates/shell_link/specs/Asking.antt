@@ -1,5 +1,5 @@
 -- What a command that a shell asks for comes to, by the client's own steps.
-use Rattle.std.specs.Prelude.{◌≡◌, ◌⊎◌, ◌&&◌, ℕ, List, Option, Some, None, Result, Bool, true, false}
+use Rattle.std.specs.Prelude.{◌≡◌, ◌⊎◌, ◌&&◌, ◌≤◌, ℕ, List, Option, Some, None, Result, Bool, true, false}
 use Rattle.command_text.specs.declared.command.Command.{Command}
 use Rattle.command_text.specs.declared.command.Command.TheVariants as command
 use Rattle.command_text.specs.declared.path.PathCommand.{PathCommand}
@@ -11,7 +11,9 @@ use Rattle.xdr_codec.specs.declared.attr.Kind.{Kind}
 use Rattle.xdr_codec.specs.declared.attr.Kind.TheVariants as kind
 use Rattle.client_state.specs.Ending.{cut, joined}
 use Rattle.client_state.specs.Hints.{Learns, Offers}
+use Rattle.client_state.specs.Noting.{noted}
 use Rattle.client_state.specs.State.{State}
+use Rattle.client_state.specs.declared.noting.Granted.{Granted}
 use Rattle.client_state.specs.declared.step.BadPeer.{BadPeer}
 use Rattle.client_state.specs.declared.step.BadPeer.TheVariants as bad
 use Rattle.client_state.specs.declared.step.ClientStep.{ClientStep}
@@ -88,7 +90,7 @@ Sends old ended new then = ((new ≡ old) × (then ≡ ended)) ⊎ ((new ≡ (cu
 
 -- ---- and again
 
--- a command on names that changes nothing
+-- a command on names that changes nothing at the server
 abbrev pub reads : PathCommand → Bool
 reads (path.Find spot) = true
 reads (path.Rewrite spot) = true
@@ -99,6 +101,7 @@ reads p = false
 
 abbrev pub rereads : Command → Bool
 rereads (command.Named p) = reads p
+rereads (command.Rewrite file) = true
 rereads c = false
 
 -- A connection may be joined first. Where it was lost meanwhile, what changes nothing is asked once more.
@@ -134,3 +137,13 @@ pub record AsksHinted (old : State) (c : Command) (a : Answer) (new : State) : T
   pub heard : Answer
   pub asks : Asks hinted c heard new
   pub told : a ≡ said_of (rereads c) heard
+
+-- ---- leases, of which a shell wants none
+
+-- with this drift a client notes no lease, whatever its term: none is above 2^32 - 1
+abbrev pub NotesNothing : (drift : ℕ) → Type 0
+NotesNothing drift = (s : State) (sent file : ℕ) (g : Granted) → s.drift ≡ drift → g.term ≤ 4294967295 → noted s sent file (Some g) ≡ s
+
+-- a farewell goes out, or the connection is lost
+abbrev pub Leaves : State → State → Type 0
+Leaves old new = (new ≡ old) ⊎ (new ≡ (cut old).0)

@@ -91,6 +91,7 @@ pub(crate) fn rereads(command: &Command) -> bool
 {
     match command {
         Command::Named(command) => reads(command),
+        Command::Rewrite(_) => true,
         _ => false,
     }
 }
@@ -137,6 +138,7 @@ pub(crate) fn again_of(alloc: Global, command: &Command) -> Option<Command>
             Ok(Some(command)) => Some(Command::Named(command)),
             _ => None,
         },
+        Command::Rewrite(file) => Some(Command::Rewrite(*file)),
         _ => None,
     }
 }

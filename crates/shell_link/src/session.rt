@@ -5,12 +5,14 @@ ghost use Rattle.limits.specs.declared.TheConstants.{FILE_MOST};
 ghost use Rattle.client_state.specs.State.{State, start_with, local_bytes};
 ghost use Rattle.client_state.specs.Ending.{cut, joined};
 ghost use Rattle.command_text.specs.declared.command.Command.{Command};
-ghost use Rattle.shell_link.specs.Asking.{answer_of, told_of, kept, Sends, Runs, Once, Asks, AsksHinted, MayLearn, MayOffer, rereads};
+ghost use Rattle.shell_link.specs.Asking.{answer_of, told_of, kept, Sends, Runs, Once, Asks, AsksHinted, MayLearn, MayOffer, rereads, NotesNothing, Leaves};
+ghost use Rattle.shell_link.specs.declared.session.TheConstants.{DRIFT};
 
 use crate::outcomes::{again_of, answer_of, is_lost, rereads, said_of};
 use client_state::step::{ClientStep, Ended, Outcome};
 use command_text::command::Command;
 use lb_base::items::{Bytes, Items};
+use lbfs_client::farewell::farewell;
 use links::clock::Clock;
 use links::link::Link;
 use open_close::client::Client;
@@ -27,6 +29,10 @@ use wire::fault::WireFault;
 use wire::message::Message;
 use wire::parse::message_of;
 
+/// The drift of a shell's client, in milliseconds. Behind each command it gives up its leases, since nobody would
+/// answer a RECALL then; so it is to note none, and no term is above this one.
+const DRIFT: u64 = 4_294_967_295;
+
 /// Where the bytes of a connection come and go.
 #[derive(Drop)]
 struct Line<L> {
@@ -41,6 +47,8 @@ pub struct Session<'e, D: Dials, C> {
     line: Option<Line<D::L>>,
     /// The file that was closed last, whose places the client's index gets before the next command.
     stored: Option<u64>,
+    /// Whether a command was asked for since the last farewell.
+    is_used: bool,
     dialler: &'e D,
     clock: &'e C,
 }
@@ -215,6 +223,16 @@ fn learn(alloc: Global, client: &mut Client, stored: Option<u64>)
     }
 }
 
+/// The server is told that all leases of this connection are given up. Where that doesn't go out the connection is
+/// lost, and the next command joins another.
+fn say_farewell<L: Link>(alloc: Global, client: &mut Client, line: &mut Option<Line<L>>)
+    ensures { Leaves client.old client.new }
+{
+    if !give(alloc, line, SendList::one(alloc, farewell())) {
+        drop(lose(alloc, client, None));
+    }
+}
+
 /// Bytes of the host's are offered to the client.
 fn offer(alloc: Global, client: &mut Client, bytes: Bytes)
     requires { length bytes ≤ FILE_MOST }
@@ -237,20 +255,17 @@ impl<'e, D: Dials, C: Clock> Session<'e, D, C>
 where
     D::L: Drop,
 {
-    /// A client that isn't connected yet, whose clock and the server's may drift apart so far, in
-    /// milliseconds, while a lease lasts. The one error is want of memory.
-    pub fn new(
-        alloc: Global,
-        drift: u64,
-        dialler: &'e D,
-        clock: &'e C,
-    ) -> Result<Session<'e, D, C>, AllocError>
-        ensures { IfOk result (λ s. s.client ≡ start_with drift) }
+    /// A client that isn't connected yet, and notes no lease. The one error is want of memory.
+    #[tactic(auto, using(crate::proofs::Noting::notes_nothing))]
+    pub fn new(alloc: Global, dialler: &'e D, clock: &'e C) -> Result<Session<'e, D, C>, AllocError>
+        ensures start { IfOk result (λ s. s.client ≡ start_with DRIFT) }
+        ensures notes { NotesNothing DRIFT }
     {
         Ok(Session {
-            client: Client::new(alloc, drift)?,
+            client: Client::new(alloc, DRIFT)?,
             line: None,
             stored: None,
+            is_used: false,
             dialler,
             clock,
         })
@@ -336,9 +351,12 @@ where
 
     ghost offers = { λ s bytes t. MayOffer s.client bytes t.client };
 
+    ghost farewells = { λ s t. Leaves s.client t.client };
+
     ghost content = { λ s file. local_bytes s.client.opened file };
 
     fn ask(&mut self, alloc: Global, command: Command) -> Answer {
+        self.is_used = true;
         learn(alloc, &mut self.client, self.stored);
         self.stored = closed_by(&command);
         let changes_nothing = rereads(&command);
@@ -355,5 +373,15 @@ where
 
     fn offer(&mut self, alloc: Global, bytes: Bytes) {
         offer(alloc, &mut self.client, bytes);
+    }
+
+    fn farewell(&mut self, alloc: Global) {
+        if self.is_used && self.client.linked() {
+            say_farewell(alloc, &mut self.client, &mut self.line);
+        }
+        self.is_used = false;
+        if !self.client.linked() {
+            shut(&mut self.line);
+        }
     }
 }

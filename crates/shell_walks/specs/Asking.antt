@@ -10,10 +10,6 @@ use Rattle.shell_walks.specs.declared.remote.Answer.{Answer}
 use Rattle.shell_walks.specs.declared.remote.Answer.TheVariants as answer
 use Rattle.shell_walks.specs.declared.remote.Why.TheVariants as why
 
--- how a file is opened whose content is to be replaced
-abbrev pub replacing : Deed
-replacing = deed.Find
-
 abbrev pub command_at : Deed → List (List ℕ) → Command
 command_at deed.Find path = Named (paths.Find (spot_at path))
 command_at deed.Look path = Named (paths.Look (spot_at path))

@@ -76,6 +76,7 @@ mistake_text mistake.BadEscape = codes "a backslash stands before what it gives 
 mistake_text mistake.OpenQuote = codes "a quote isn't closed"
 mistake_text mistake.Unknown = codes "there is no such command (help lists them)"
 mistake_text mistake.BadOption = codes "there is no such option"
+mistake_text mistake.NoVersions = codes "storing over one version alone isn't there yet: servers have no call for it"
 mistake_text mistake.TooFew = codes "a word is wanting"
 mistake_text mistake.TooMany = codes "there is a word too many"
 mistake_text mistake.LongName = codes "a name is too long"

@@ -2,7 +2,7 @@
 
 ghost use Rattle.std.specs.Prelude.{◌≡◌, ◌<◌, length, IfOk};
 ghost use Rattle.command_text.specs.Paths.{spot_at};
-ghost use Rattle.shell_walks.specs.Asking.{replacing, command_at, command_on, AsksOn, rename_of};
+ghost use Rattle.shell_walks.specs.Asking.{command_at, command_on, AsksOn, rename_of};
 
 use crate::remote::{Answer, Remote, Why};
 use command_text::command::Command;
@@ -28,13 +28,6 @@ pub enum Deed {
     RemoveDir,
     /// The names in a directory are told.
     List,
-}
-
-/// How a file is opened whose content is to be replaced. All walks that replace one ask here.
-pub fn replacing() -> Deed
-    ensures { result ≡ replacing }
-{
-    Deed::Find
 }
 
 /// The status of what can't be done with the root: NFS3ERR_INVAL.

@@ -75,6 +75,9 @@ pub trait Remote {
     /// What an offer of bytes may leave.
     ghost offers: { Self → List ℕ → Self → Type 0 };
 
+    /// What the giving up of its leases may leave.
+    ghost farewells: { Self → Self → Type 0 };
+
     /// Asks for a command, and waits until it has ended.
     fn ask(&mut self, alloc: Global, command: Command) -> Answer
         ensures { asks self.old command result self.new };
@@ -88,4 +91,9 @@ pub trait Remote {
     fn offer(&mut self, alloc: Global, bytes: Bytes)
         requires { length bytes ≤ FILE_MOST }
         ensures { offers self.old bytes self.new };
+
+    /// Gives up all leases that the server may think it has, since nobody answers a RECALL until the next command.
+    /// Where it can't be told so, nothing comes of it.
+    fn farewell(&mut self, alloc: Global)
+        ensures { farewells self.old self.new };
 }

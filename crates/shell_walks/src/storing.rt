@@ -2,10 +2,11 @@
 
 ghost use Rattle.std.specs.Prelude.{◌≡◌, ◌∷◌, [], IfOk, bytes_eq};
 ghost use Rattle.command_text.specs.declared.content.Part.TheVariants as part;
-ghost use Rattle.shell_walks.specs.Storing.{is_done, is_closed, opened_file, Replaces, Settles, Stores, StoresAt, is_missing, may_store, Makes, StoresChanged, PutsOpen, MakesUnless, opening, Puts};
+ghost use Rattle.shell_walks.specs.Storing.{is_done, is_closed, opened_file, failed_as, closed_as, left_as, renewed_as, Replaces, Settles, Stores, RenewsIf, RenewsSeen, Renews, StoresAt, is_missing, may_store, Makes, StoresChanged, PutsOpen, MakesUnless, Opens, Puts};
 
-use crate::asking::{Deed, ask_on, replacing};
-use crate::remote::{Answer, Remote, Why};
+use crate::asking::{Deed, ask_on};
+use crate::remote::{Answer, Remote, Seen, Why};
+use crate::telling::why_of;
 use command_text::command::Command;
 use command_text::content::{Content, Part};
 use lb_base::items::{Bytes, Items, Name};
@@ -35,6 +36,46 @@ pub fn opened_file(answer: &Answer) -> Option<u64>
     }
 }
 
+/// The status of a directory in the place of a file: NFS3ERR_ISDIR.
+const ISDIR: u32 = 21;
+
+/// It wasn't done, whatever was told.
+fn failed_as(answer: &Answer) -> Answer
+    ensures { result ≡ failed_as answer.now }
+{
+    Answer::Failed(why_of(answer))
+}
+
+/// What is told of a close.
+fn closed_as(answer: Answer) -> Answer
+    ensures { result ≡ closed_as answer }
+{
+    match answer {
+        Answer::Closed(version) => Answer::Closed(version),
+        answer => failed_as(&answer),
+    }
+}
+
+/// What is told of the abandoning of a file that has these bytes already.
+fn left_as(answer: Answer) -> Answer
+    ensures { result ≡ left_as answer }
+{
+    match answer {
+        Answer::Done => Answer::Done,
+        answer => failed_as(&answer),
+    }
+}
+
+/// What is told of a command to write a file anew: it doesn't tell which one is open then.
+fn renewed_as(file: u64, answer: Answer) -> Answer
+    ensures { result ≡ renewed_as file answer }
+{
+    match answer {
+        Answer::Done => Answer::Opened(file),
+        answer => failed_as(&answer),
+    }
+}
+
 /// A content of these bytes.
 fn content_of(alloc: Global, bytes: Bytes) -> Result<Content, AllocError>
     ensures { IfOk result (λ content. content ≡ part.Bytes bytes ∷ []) }
@@ -51,7 +92,7 @@ fn replace<R: Remote>(alloc: Global, remote: &mut R, file: u64, content: Content
     let emptied = remote.ask(alloc, Command::Trunc { file, size: 0 });
     if !is_done(&emptied) {
         drop(content);
-        return emptied;
+        return failed_as(&emptied);
     }
     drop(emptied);
     let write = Command::Write {
@@ -61,10 +102,10 @@ fn replace<R: Remote>(alloc: Global, remote: &mut R, file: u64, content: Content
     };
     let written = remote.ask(alloc, write);
     if !is_done(&written) {
-        return written;
+        return failed_as(&written);
     }
     drop(written);
-    remote.ask(alloc, Command::Close(file))
+    closed_as(remote.ask(alloc, Command::Close(file)))
 }
 
 /// A file that wasn't stored is abandoned.
@@ -91,6 +132,35 @@ fn store<R: Remote>(
     Ok(answer)
 }
 
+/// What was told of a path to be a file is opened to be written anew.
+fn renew_seen<R: Remote>(alloc: Global, remote: &mut R, seen: Seen) -> Answer
+    ensures { RenewsIf R.asks remote.old seen.is_dir seen.id result remote.new }
+{
+    if seen.is_dir {
+        return Answer::Failed(Why::Refused(ISDIR));
+    }
+    renewed_as(seen.id, remote.ask(alloc, Command::Rewrite(seen.id)))
+}
+
+/// What a path was told to stand for is opened to be written anew.
+fn renew_looked<R: Remote>(alloc: Global, remote: &mut R, looked: Answer) -> Answer
+    ensures { RenewsSeen R.asks remote.old looked result remote.new }
+{
+    match looked {
+        Answer::Seen(seen) => renew_seen(alloc, remote, seen),
+        looked => failed_as(&looked),
+    }
+}
+
+/// A file that is there is opened to be written anew: nothing of what it has is fetched. Its id has to be known
+/// behind that, so it is looked at, which costs what the look-ups of its path would.
+fn renew<R: Remote>(alloc: Global, remote: &mut R, path: &[Name]) -> Result<Answer, AllocError>
+    ensures { IfOk result (λ answer. Renews R.asks remote.old path.now answer remote.new) }
+{
+    let looked = ask_on(alloc, remote, Deed::Look, path)?;
+    Ok(renew_looked(alloc, remote, looked))
+}
+
 /// These bytes become the content of a file that is there.
 fn store_at<R: Remote>(
     alloc: Global,
@@ -100,10 +170,10 @@ fn store_at<R: Remote>(
 ) -> Result<Answer, AllocError>
     ensures { IfOk result (λ answer. StoresAt R.asks remote.old path.now bytes answer remote.new) }
 {
-    let opened = ask_on(alloc, remote, replacing(), path)?;
+    let opened = renew(alloc, remote, path)?;
     match opened_file(&opened) {
         Some(file) => store(alloc, remote, file, bytes),
-        None => Ok(opened),
+        None => Ok(failed_as(&opened)),
     }
 }
 
@@ -134,7 +204,7 @@ pub fn make<R: Remote>(
     if may_store(&made) {
         store_at(alloc, remote, path, bytes)
     } else {
-        Ok(made)
+        Ok(failed_as(&made))
     }
 }
 
@@ -148,7 +218,7 @@ fn store_changed<R: Remote>(
     ensures { IfOk result (λ answer. StoresChanged R.asks R.content remote.old file bytes answer remote.new) }
 {
     if remote.content(file) == bytes.as_slice() {
-        return Ok(remote.ask(alloc, Command::Abandon(file)));
+        return Ok(left_as(remote.ask(alloc, Command::Abandon(file))));
     }
     store(alloc, remote, file, bytes)
 }
@@ -183,18 +253,23 @@ fn make_unless<R: Remote>(
     if is_missing(&opened) {
         make(alloc, remote, path, bytes)
     } else {
-        Ok(opened)
+        Ok(failed_as(&opened))
     }
 }
 
-/// How a file is opened that gets bytes, or only where it hasn't them.
-fn opening(changed_only: bool) -> Deed
-    ensures { result ≡ opening changed_only }
+/// A file that gets bytes is opened: with its content, where that is to be compared, and else without.
+fn open_for<R: Remote>(
+    alloc: Global,
+    remote: &mut R,
+    path: &[Name],
+    changed_only: bool,
+) -> Result<Answer, AllocError>
+    ensures { IfOk result (λ opened. Opens R.asks remote.old path.now changed_only opened remote.new) }
 {
     if changed_only {
-        Deed::Find
+        ask_on(alloc, remote, Deed::Find, path)
     } else {
-        replacing()
+        renew(alloc, remote, path)
     }
 }
 
@@ -208,7 +283,7 @@ pub fn put<R: Remote>(
 ) -> Result<Answer, AllocError>
     ensures { IfOk result (λ answer. Puts R.asks R.content remote.old path.now changed_only bytes answer remote.new) }
 {
-    let opened = ask_on(alloc, remote, opening(changed_only), path)?;
+    let opened = open_for(alloc, remote, path, changed_only)?;
     match opened_file(&opened) {
         Some(file) => put_open(alloc, remote, file, changed_only, bytes),
         None => make_unless(alloc, remote, path, bytes, opened),

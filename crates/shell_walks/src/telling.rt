@@ -142,6 +142,9 @@ pub fn mistake_words(mistake: Mistake) -> &'static [u8]
         Mistake::OpenQuote => b"a quote isn't closed",
         Mistake::Unknown => b"there is no such command (help lists them)",
         Mistake::BadOption => b"there is no such option",
+        Mistake::NoVersions => {
+            b"storing over one version alone isn't there yet: servers have no call for it"
+        }
         Mistake::TooFew => b"a word is wanting",
         Mistake::TooMany => b"there is a word too many",
         Mistake::LongName => b"a name is too long",

@@ -3,6 +3,7 @@
 
 ghost use Rattle.std.specs.Prelude.{◌≡◌, ℕ, ◌≤◌, List, [], Bool, length, IfOk, OnOk};
 ghost use Rattle.limits.specs.declared.TheConstants.{FILE_MOST};
+ghost use Rattle.shell_walks.specs.Storing.{Counts, CountsRead, Offers, PutsBytes, is_compared, is_kept};
 ghost use Rattle.shell_walks.specs.Visiting.{AllCome, Touches, TouchesFor};
 ghost use Rattle.shell_walks.specs.declared.tasks.Storing.{Storing as StoringOf};
 ghost use Rattle.shell_walks.specs.declared.tasks.Task.TheVariants as tasks;
@@ -47,7 +48,8 @@ const ISDIR: u32 = 21;
 
 /// A file of so many bytes was dealt with.
 fn one_file(alloc: Global, bytes: u64) -> Visited
-    ensures { result.more ≡ [] }
+    ensures more { result.more ≡ [] }
+    ensures files { result.files ≡ 1 }
 {
     Visited {
         more: Items::new(alloc),
@@ -61,7 +63,8 @@ fn one_file(alloc: Global, bytes: u64) -> Visited
 
 /// These tasks come, and this is said.
 fn leads(alloc: Global, more: Items<Task>, note: Bytes) -> Visited
-    ensures { result.more ≡ more }
+    ensures more { result.more ≡ more }
+    ensures files { result.files ≡ 0 }
 {
     Visited {
         more,
@@ -75,7 +78,8 @@ fn leads(alloc: Global, more: Items<Task>, note: Bytes) -> Visited
 
 /// This is said of a path of the server's.
 fn refused(alloc: Global, path: &[Name], why: Why) -> Result<Visited, AllocError>
-    ensures { IfOk result (λ v. v.more ≡ []) }
+    ensures more { IfOk result (λ v. v.more ≡ []) }
+    ensures files { IfOk result (λ v. v.files ≡ 0) }
 {
     let mut words = Items::new(alloc);
     put_why(alloc, &mut words, why)?;
@@ -87,7 +91,8 @@ fn refused(alloc: Global, path: &[Name], why: Why) -> Result<Visited, AllocError
 
 /// This is said of a path of the host's.
 fn faulty(alloc: Global, local: &str, fault: LocalFault) -> Result<Visited, AllocError>
-    ensures { IfOk result (λ v. v.more ≡ []) }
+    ensures more { IfOk result (λ v. v.more ≡ []) }
+    ensures files { IfOk result (λ v. v.files ≡ 0) }
 {
     let about = quoted(alloc, local.as_bytes())?;
     let note = note_line(alloc, about.as_slice(), fault_words(fault))?;
@@ -133,12 +138,16 @@ fn is_status(answer: &Answer, status: u32) -> bool {
     }
 }
 
-/// A copy of bytes of the host's is offered, where there is memory for one.
-fn offer_copy<R: Remote>(alloc: Global, remote: &mut R, bytes: &[u8])
+/// A copy of bytes that are to be compared is offered, where there is memory for one: what is written anew isn't
+/// fetched.
+fn offer_copy<R: Remote>(alloc: Global, remote: &mut R, compared: bool, bytes: &[u8])
     requires { length bytes.now ≤ FILE_MOST }
+    ensures { Offers R.offers remote.old compared bytes.now remote.new }
 {
-    if let Ok(copy) = Items::copy_of(alloc, bytes) {
-        remote.offer(alloc, copy);
+    if compared {
+        if let Ok(copy) = Items::copy_of(alloc, bytes) {
+            remote.offer(alloc, copy);
+        }
     }
 }
 
@@ -151,6 +160,13 @@ fn offer_local<R: Remote, F: Folder>(alloc: Global, remote: &mut R, folder: &mut
     }
 }
 
+/// Whether what is stored is to be compared with what may be there.
+fn is_compared(storing: Storing) -> bool
+    ensures { result ≡ is_compared storing }
+{
+    storing.changed_only && !storing.fresh
+}
+
 /// Bytes go to a path.
 fn put_bytes<R: Remote>(
     alloc: Global,
@@ -160,12 +176,21 @@ fn put_bytes<R: Remote>(
     bytes: Bytes,
 ) -> Result<Answer, AllocError>
     requires { length bytes ≤ FILE_MOST }
+    ensures { IfOk result (λ a. PutsBytes R.asks R.content R.offers remote.old path.now storing bytes a remote.new) }
 {
+    offer_copy(alloc, remote, is_compared(storing), bytes.as_slice());
     if storing.fresh {
-        return make(alloc, remote, path, bytes);
+        make(alloc, remote, path, bytes)
+    } else {
+        put(alloc, remote, path, storing.changed_only, bytes)
     }
-    offer_copy(alloc, remote, bytes.as_slice());
-    put(alloc, remote, path, storing.changed_only, bytes)
+}
+
+/// Whether a file was stored, or was compared and is the same.
+fn is_kept(storing: Storing, answer: &Answer) -> bool
+    ensures { result ≡ is_kept storing answer.now }
+{
+    is_closed(answer) || (is_compared(storing) && is_done(answer))
 }
 
 /// Where a directory stands and may go, it goes, and the task comes again.
@@ -176,7 +201,8 @@ fn put_over<R: Remote>(
     path: &[Name],
     storing: Storing,
 ) -> Result<Visited, AllocError>
-    ensures { IfOk result (λ v. AllCome (tasks.Put local.now path.now storing) v.more) }
+    ensures come { IfOk result (λ v. AllCome (tasks.Put local.now path.now storing) v.more) }
+    ensures files { IfOk result (λ v. v.files ≡ 0) }
 {
     let removal = remove_all(alloc, remote, path)?;
     let mut more = Items::new(alloc);
@@ -203,7 +229,8 @@ fn stored(
     is_new: bool,
     len: u64,
 ) -> Result<Visited, AllocError>
-    ensures { IfOk result (λ v. v.more ≡ []) }
+    ensures more { IfOk result (λ v. v.more ≡ []) }
+    ensures files { IfOk result (λ v. v.files ≡ 1) }
 {
     let visit = one_file(alloc, len);
     if is_new && storing.changed_only {
@@ -213,7 +240,7 @@ fn stored(
     Ok(visit)
 }
 
-/// What was read of a file of the host is stored.
+/// What was read of a file of the host is stored. It is counted only where it then is at the server.
 fn put_read<R: Remote>(
     alloc: Global,
     remote: &mut R,
@@ -223,13 +250,13 @@ fn put_read<R: Remote>(
     bytes: Bytes,
 ) -> Result<Visited, AllocError>
     requires { length bytes ≤ FILE_MOST }
-    ensures { IfOk result (λ v. AllCome (tasks.Put local.now path.now storing) v.more) }
+    ensures come { IfOk result (λ v. AllCome (tasks.Put local.now path.now storing) v.more) }
+    ensures counts { IfOk result (λ v. Counts R.asks R.content R.offers remote.old path.now storing bytes v.files remote.new) }
 {
     let len = bytes.len() as u64;
     let answer = put_bytes(alloc, remote, path, storing, bytes)?;
-    let is_new = is_closed(&answer);
-    if is_new || is_done(&answer) {
-        stored(alloc, path, storing, is_new, len)
+    if is_kept(storing, &answer) {
+        stored(alloc, path, storing, is_closed(&answer), len)
     } else if storing.deletes && is_status(&answer, ISDIR) {
         put_over(alloc, remote, local, path, storing)
     } else {
@@ -247,6 +274,7 @@ fn put_file<R: Remote, F: Folder>(
     storing: Storing,
 ) -> Result<Visited, AllocError>
     ensures come { IfOk result (λ v. AllCome (tasks.Put local.now path.now storing) v.more) }
+    ensures counts { IfOk result (λ v. CountsRead R.asks R.content R.offers F.reads remote.old folder.old local.now path.now storing v.files remote.new folder.new) }
     ensures touches { Touches F.finds F.reads F.writes F.lists F.makes F.tries local.now folder.old folder.new }
 {
     match folder.read(alloc, local) {
@@ -405,7 +433,8 @@ fn place_news(
 
 /// This is said of what was done.
 fn with_news(visit: Visited, news: Bytes) -> Visited
-    ensures { result.more ≡ visit.more }
+    ensures more { result.more ≡ visit.more }
+    ensures files { result.files ≡ visit.files }
 {
     let mut visit = visit;
     visit.news = news;

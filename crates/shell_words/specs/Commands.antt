@@ -38,6 +38,11 @@ is_option_of verb.Mkdir word = bytes_eq word (codes "-p")
 is_option_of verb.Sync word = bytes_eq word (codes "--delete")
 is_option_of v word = false
 
+-- whether it is one that the command is to have
+abbrev pub is_later_of : Verb → List ℕ → Bool
+is_later_of verb.Put word = bytes_eq word (codes "--if-version")
+is_later_of v word = false
+
 -- how many operands a command has at least
 abbrev pub least_of : Verb → ℕ
 least_of verb.Get = 1
@@ -70,13 +75,17 @@ kind_of word =
 
 abbrev pub start_of : Verb → List (List ℕ) → Start
 start_of v [] = start.Nothing
-start_of v (word ∷ words) = if is_option_of v word then start.Known else kind_of word
+start_of v (word ∷ words) =
+    if is_option_of v word then start.Known
+    else if is_later_of v word then start.Later
+    else kind_of word
 
 -- the operands, behind the option if it was met
 abbrev pub operands_at : Start → List (List ℕ) → Result (List (List ℕ)) Mistake
 operands_at start.Nothing words = Ok words
 operands_at start.Operand words = Ok words
 operands_at start.Mark words = Ok (remove words 0)
+operands_at start.Later words = Err mistake.NoVersions
 operands_at start.Option words = Err mistake.BadOption
 operands_at start.Known words = Err mistake.BadOption
 

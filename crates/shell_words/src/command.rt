@@ -1,7 +1,7 @@
 //! The commands of a shell: `command_of` of `specs/Commands.antt`.
 
 ghost use Rattle.std.specs.Prelude.{◌≡◌, ◌<◌, length};
-ghost use Rattle.shell_words.specs.Commands.{verb_of, is_option_of, least_of, most_of, kind_of, start_of, operands_at, counted, line_at, line_of, some_line, first_verb, command_of};
+ghost use Rattle.shell_words.specs.Commands.{verb_of, is_option_of, is_later_of, least_of, most_of, kind_of, start_of, operands_at, counted, line_at, line_of, some_line, first_verb, command_of};
 
 use crate::mistake::Mistake;
 use command_text::words::is;
@@ -61,6 +61,8 @@ pub enum Start {
     Known,
     /// `--`, behind which no option stands.
     Mark,
+    /// An option that the command is to have.
+    Later,
     /// An option that the command hasn't.
     Option,
     /// An operand.
@@ -122,6 +124,16 @@ impl Verb {
         }
     }
 
+    /// Whether a word is an option that the command is to have, once servers have a call for it.
+    fn awaits(self, word: &[u8]) -> bool
+        ensures { result ≡ is_later_of self word.now }
+    {
+        match self {
+            Verb::Put => is(word, b"--if-version"),
+            _ => false,
+        }
+    }
+
     /// How many operands it has at least.
     fn least(self) -> usize
         ensures { result ≡ least_of self }
@@ -168,6 +180,8 @@ fn start_of(verb: Verb, words: &[Name]) -> Start
         Some(word) => {
             if verb.has(word.as_slice()) {
                 Start::Known
+            } else if verb.awaits(word.as_slice()) {
+                Start::Later
             } else {
                 kind_of(word.as_slice())
             }
@@ -187,6 +201,7 @@ fn operands_at(start: Start, mut words: Items<Name>) -> Result<Items<Name>, Mist
             }
             Ok(words)
         }
+        Start::Later => Err(Mistake::NoVersions),
         Start::Option | Start::Known => Err(Mistake::BadOption),
     }
 }

@@ -16,6 +16,8 @@ pub enum Mistake {
     Unknown,
     /// The command has no such option.
     BadOption,
+    /// `put --if-version`: no server has a call for it yet.
+    NoVersions,
     /// A word is wanting.
     TooFew,
     /// There is a word too many.
