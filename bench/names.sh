@@ -50,7 +50,7 @@ used() {
     ended
     port=$((20000 + RANDOM % 10000))
     rm -rf "$folder/store" && mkdir "$folder/store"
-    "$program" serve --port "$port" --term 1000 --sessions 1000 --store "$folder/store" >"$work/log" 2>&1 &
+    "$program" serve --port "$port" --term 1 --sessions 1000 --store "$folder/store" >"$work/log" 2>&1 &
     server=$!
     disown "$server"
     listened "$port"

@@ -21,7 +21,7 @@ server=
 trap '[[ -z $server ]] || kill -9 "$server" 2>/dev/null || true; rm -rf "$work"' EXIT
 mkdir "$work/store"
 cc -O2 -o "$work/served" bench/served.c
-"$program" serve --port "$port" --term 1000 --sessions 1000 --store "$work/store" >"$work/log" 2>&1 &
+"$program" serve --port "$port" --term 1 --sessions 1000 --store "$work/store" >"$work/log" 2>&1 &
 server=$!
 disown "$server"
 for _ in {1..200}; do

@@ -109,7 +109,8 @@ class Holding:
     def pass_answers(self, server, mount):
         try:
             for answer in records(server):
-                is_of_commit = self.commit is not None and word(answer, 0) == self.commit
+                # (a call of the server, a RECALL, has xids of its own)
+                is_of_commit = self.commit is not None and word(answer, 0) == self.commit and word(answer, 1) == 1
                 if is_of_commit:
                     self.answered.set()
                     if self.held_at == ANSWER:

@@ -6,10 +6,13 @@ import socket
 import struct
 import time
 
-NFS, LBFS = (100003, 3), (0x20004C42, 1)
+NFS, LBFS, BACK = (100003, 3), (0x20004C42, 1), (0x20004C43, 1)
 GETATTR, LOOKUP, READ, CREATE, MKDIR, REMOVE, RMDIR, RENAME, READDIR = 1, 3, 6, 8, 9, 12, 13, 14, 16
 GETLEASE, MKTMPFILE, TMPWRITE, CONDWRITE, COMMITTMP = 1, 3, 4, 5, 6
+RECALL = 1
 OK, GARBAGE_ARGS = 0, 4
+# the xid of a farewell, which no RECALL has
+FAREWELL = 0
 ROOT = 1
 PIECE = 65536
 PATIENCE = 60
@@ -91,9 +94,12 @@ class Reader:
 class Peer:
     """A client's end of a connection."""
 
-    def __init__(self, port, patience=PATIENCE):
+    def __init__(self, port, patience=PATIENCE, gives_up=True):
+        """With `gives_up` it answers each RECALL, as soon as it takes it while it waits for an answer."""
         self.xid = 0
         self.fd = 0
+        # what it was asked for: the xids of RECALLs, each with its file
+        self.recalled, self.gives_up = [], gives_up
         self.socket = connected(port, patience)
         self.socket.setsockopt(socket.IPPROTO_TCP, socket.TCP_NODELAY, 1)
         self.socket.settimeout(patience)
@@ -130,12 +136,34 @@ class Peer:
         return self.bytes(head & 0x7FFFFFFF)
 
     def answer(self):
-        """The xid, the stat and the result of the next answer."""
+        """The xid, the stat and the result of the next answer. RECALLs that come before it are heard."""
+        while True:
+            got = Reader(self.record())
+            xid, kind = got.u32(), got.u32()
+            if kind == 0:
+                self.hear(xid, got)
+                continue
+            if [kind] + [got.u32() for _ in range(3)] != [1, 0, 0, 0]:
+                raise ValueError("no answer to a call that was accepted")
+            return xid, got.u32(), got.given[got.at :]
+
+    def hear(self, xid, got):
+        """The server called: it asks for a lease."""
+        if [got.u32() for _ in range(4)] != [2, *BACK, RECALL]:
+            raise ValueError("a call that no server makes")
+        got.take(16)
+        self.recalled.append((xid, node_of(got.opaque())))
+        if self.gives_up:
+            self.send(answer(xid))
+
+    def await_recall(self):
+        """Waits for a RECALL, where nothing else is to come; its xid and the file whose lease is asked for."""
         got = Reader(self.record())
         xid = got.u32()
-        if [got.u32() for _ in range(4)] != [1, 0, 0, 0]:
-            raise ValueError("no answer to a call that was accepted")
-        return xid, got.u32(), got.given[got.at :]
+        if got.u32() != 0:
+            raise ValueError("an answer, where a RECALL is to come")
+        self.hear(xid, got)
+        return self.recalled[-1]
 
     def begin(self, program, procedure, arguments=b""):
         """Makes a call, and awaits no answer."""

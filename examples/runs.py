@@ -75,18 +75,19 @@ class Run:
 
 
 class Server(Run):
-    """A server of a folder, for so many sessions, which listens or has ended."""
+    """A server of a folder, for so many sessions, which listens or has ended. A lease lasts one millisecond where nothing
+    else is said, so that no test waits for one that ended with its session."""
 
-    def __init__(self, folder, sessions=1_000_000, port=None, under=(), more=()):
+    def __init__(self, folder, sessions=1_000_000, port=None, under=(), more=(), term=1):
         self.port = port or free_port()
-        words = ["serve", "--port", self.port, "--term", 1000, "--sessions", sessions, "--store", folder, *more]
+        words = ["serve", "--port", self.port, "--term", term, "--sessions", sessions, "--store", folder, *more]
         super().__init__(words, under, stdin=subprocess.DEVNULL)
         until = time.monotonic() + PATIENCE
         while not listens(self.port) and self.process.poll() is None and time.monotonic() < until:
             time.sleep(0.005)
 
-    def session(self):
-        return Peer(self.port)
+    def session(self, **how):
+        return Peer(self.port, **how)
 
     def memory(self):
         """How many bytes of memory it holds."""
