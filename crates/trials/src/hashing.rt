@@ -4,11 +4,12 @@
 ghost use Rattle.turn_post.specs.Passes.{IsPassOf};
 
 use crate::port::Port;
-use crate::sessions::{MemHeld, PortShared};
+use crate::sessions::SharedOf;
 use hash_calls::call::TempPiece;
 use hash_calls::message::Lb;
 use lb_base::items::{Bytes, Items};
 use server_core::event::Event;
+use server_held::turns::Turns;
 use std::alloc::{AllocError, Global};
 use std::rt::Clock;
 use std::sync::Wait;
@@ -29,13 +30,13 @@ fn zeros(alloc: Global) -> Result<Bytes, AllocError> {
 
 /// The client's temporary file 1 gets all pieces, once the calls before are answered; none of it comes on
 /// the line.
-pub fn store_pieces<R: Wait + Clock + Copy + Drop>(
+pub fn store_pieces<R: Wait + Clock + Copy + Drop, H: Turns + Drop>(
     rt: &R,
-    shared: &PortShared<R>,
-    pass: Pass<MemHeld>,
+    shared: &SharedOf<H, R>,
+    pass: Pass<H>,
     session: u32,
     port: &Port,
-) -> Pass<MemHeld>
+) -> Pass<H>
     requires { IsPassOf shared.now.post pass }
     ensures { IsPassOf shared.now.post result }
 {
@@ -62,13 +63,13 @@ pub fn store_pieces<R: Wait + Clock + Copy + Drop>(
 }
 
 /// Once the COMMITTMP was taken something is said to the session.
-pub fn tell_meanwhile<R: Wait + Clock + Copy + Drop>(
+pub fn tell_meanwhile<R: Wait + Clock + Copy + Drop, H: Turns + Drop>(
     rt: &R,
-    shared: &PortShared<R>,
-    pass: Pass<MemHeld>,
+    shared: &SharedOf<H, R>,
+    pass: Pass<H>,
     session: u32,
     port: &Port,
-) -> Pass<MemHeld>
+) -> Pass<H>
     requires { IsPassOf shared.now.post pass }
     ensures { IsPassOf shared.now.post result }
 {

@@ -17,6 +17,7 @@ use row_text::out::Out;
 use server_core::event::Event;
 use server_core::server::Server;
 use server_held::held::{Held, Went};
+use server_held::turns::Turns;
 use std::alloc::{AllocError, Global};
 use std::rt::Clock;
 use std::sync::{Arc, Mutex, Wait};
@@ -29,10 +30,13 @@ use turn_post::post::{Pass, Post};
 use wire::message::{Message, RpcRefusal};
 
 /// What is handed from turn to turn.
-pub(crate) type MemHeld = Held<TriedStore>;
+type MemHeld = Held<TriedStore>;
 
-/// What the threads of a server share.
-pub(crate) type PortShared<R> = Shared<MemHeld, TriedSyncs, OpenGate, PortLink<R>>;
+/// What the threads of a server share. What its turns are of is a parameter: that a thread may be given
+/// `Held` is then shown once, where the threads are run (`run_beside`).
+pub(crate) type SharedOf<H, R> = Shared<H, TriedSyncs, OpenGate, PortLink<R>>;
+
+type PortShared<R> = SharedOf<MemHeld, R>;
 
 /// Why a session ended.
 fn name_of(end: End) -> &'static str {
@@ -77,10 +81,10 @@ impl Others {
 
 /// Once the session's threads sleep, something is said to it, where it should be, and a thread of it waits
 /// for its client then. Behind that the session is hung, where it should be.
-fn speak_to<R: Wait + Clock + Copy + Drop>(
+fn speak_to<R: Wait + Clock + Copy + Drop, H: Turns + Drop>(
     rt: &R,
-    shared: &PortShared<R>,
-    pass: Pass<MemHeld>,
+    shared: &SharedOf<H, R>,
+    pass: Pass<H>,
     session: u32,
     port: &Port,
     others: Others,
@@ -113,10 +117,10 @@ fn speak_to<R: Wait + Clock + Copy + Drop>(
 
 /// Runs a session in its two threads, and beside them one that has something to say to it. It returns
 /// once all three have ended.
-fn run_threads<'x, R: Threads + Wait + Clock + Sync + Send + Copy + Drop>(
+fn run_threads<'x, R: Threads + Wait + Clock + Sync + Send + Copy + Drop, H: Turns + Drop + Send>(
     rt: &'x R,
-    shared: &'x PortShared<R>,
-    pass: Pass<MemHeld>,
+    shared: &'x SharedOf<H, R>,
+    pass: Pass<H>,
     session: u32,
     port: &'x Port,
     gives: &'x Mutex<PortLink<R>>,
