@@ -1,5 +1,7 @@
 """Files and directories of a replay in replays.py, the calls on names that its server does, and the commands on names of its clients."""
 
+import hashlib
+
 STALE, NO_ENTRY, NOT_DIRECTORY, DIRECTORY, EXISTS, INVALID, NOT_EMPTY, JUKEBOX, BAD_COOKIE = 70, 2, 20, 21, 17, 22, 66, 10008, 10003
 ATTRIBUTES, WCC = 88, 116
 # what a failure answer has behind its status
@@ -17,7 +19,7 @@ class Tree:
     def __init__(self):
         self.files, self.versions = {}, {1: 0}
         self.places, self.directories = {1: (0, "")}, {1}
-        self.next, self.changes = 2, 0
+        self.next, self.changes, self.opened = 2, 0, 0
 
     def named(self, dir, name):
         return next((k for k, place in self.places.items() if place == (dir, name)), None)
@@ -39,7 +41,7 @@ class Tree:
             self.versions[node] = self.changes
             return
         if not self.changes:
-            self.changes = 1
+            self.changes = self.opened = 1
             self.versions.update((d, 1) for d in self.directories)
         self.files[node], self.versions[node] = bytes_, 1
 
@@ -94,11 +96,15 @@ class Tree:
 
 
 class Served:
-    """What the server does of calls on names. A change of a file is told to the last operation of its session that may make one."""
+    """What the server does of calls on names. A change of a file is told to the last operation of its session that may make one, or is that session's own."""
 
-    def changed(self, number, file):
-        op = self.sessions[number - 1].closing
-        op.point, op.file = self.step, file
+    def changed(self, number, kind, file, bytes_=b""):
+        session = self.sessions[number - 1]
+        if session.owner is None:
+            told = f"version {self.versions[file]} {len(bytes_)} {hashlib.sha1(bytes_).hexdigest()}"
+            self.raws.append(f"raw session {number} {kind} file {file} begin {session.begun} point {self.step} {told}")
+            return
+        session.closing.point, session.closing.file = self.step, file
 
     def fail(self, number, xid, kind, status):
         self.say(number, xid, 4 + FAILURE[kind], "failed", status)
@@ -136,7 +142,7 @@ class Served:
     def serve_create(self, number, xid, node, dir, name):
         if node is not None:
             return self.fail(number, xid, "create", EXISTS)
-        self.changed(number, self.tree.makes(dir, name, True))
+        self.changed(number, "Make", self.tree.makes(dir, name, True))
         self.say(number, xid, 4 + 24 + ATTRIBUTES + WCC, "done")
 
     def serve_mkdir(self, number, xid, node, dir, name):
@@ -183,7 +189,8 @@ class Served:
             if tree.named(dir, name) != node or tree.named(to, to_name) != file:
                 return self.fail(number, xid, kind, JUKEBOX)
             tree.moves(node, dir, to, to_name, file)
-        self.changed(number, file)
+        self.versions[file] += 1
+        self.changed(number, "Remove", file)
         self.say(number, xid, 4 + (WCC if kind == "remove" else 2 * WCC), "done")
 
 

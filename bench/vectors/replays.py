@@ -2,13 +2,14 @@
 """Replays traces apart from the program, by what each line does, and looks over the examples:
 
     bench/vectors/replays.py [--without-indexes] [--mend] FILE ..
-    bench/vectors/replays.py [--without-indexes] [--names] --random SECONDS PROGRAM [SEED]
+    bench/vectors/replays.py [--without-indexes] [--names] [--raw] --random SECONDS PROGRAM [SEED]
 
 FILE is NAME.trace (with NAME.out) or NAME.rows. Each history is compared with the one that is wanted;
 --mend writes what came here in its place. With --random the traces of bench/random-traces are replayed
 here and by the program, from the seed on, 1 where not said otherwise, for so many seconds; with --names
-they have directories and commands on names too (name_traces.py). What is
-refused, and words other than 'replay', are left alone. Messages have their sizes but not their bytes;
+they have directories and commands on names too (name_traces.py), with --raw sessions that are no client's
+(raw_traces.py). What is refused, and words other than 'replay' and 'replay --summary', are left alone.
+Messages of clients have their sizes but not their bytes;
 of the clocks what leases need is looked at, and
 the clock rule isn't. The status is 1 where a history differs.
 """
@@ -25,6 +26,8 @@ sys.path.insert(0, __file__.rsplit("/", 1)[0])
 from generated_rows import chunk_end, random_bytes
 from name_traces import with_names
 from names import FAILURE, Served, Tree, Walks
+from raw_calls import Raw
+from raw_traces import with_raw
 
 CALLS, TRIES, PAIRS, FILE_MOST, TREE_MOST = 16, 4, 1024, 1 << 26, 1 << 30
 INDEXES = "--without-indexes" not in sys.argv
@@ -156,12 +159,12 @@ class Client:
         return version > 0 and file in self.kept and self.kept[file][0] == version and self.now < until
 
 
-class World(Served, Walks):
+class World(Served, Walks, Raw):
     def __init__(self):
         self.step, self.tree, self.ops = 0, Tree(), []
         self.files, self.versions = self.tree.files, self.tree.versions
         self.sessions, self.clients, self.waiting, self.temps = [], [], [], {}
-        self.index, self.journal = Index(), 0
+        self.index, self.raws, self.is_raw = Index(), [], False
         # the last moment used, the leases by session and file, each [ends, xid of its RECALL], the last xid of a session
         self.term, self.drift, self.moment, self.leases, self.drawn, self.asked = 0, 0, 0, {}, {}, {}
 
@@ -185,6 +188,8 @@ class World(Served, Walks):
 
     def take(self, number, way, amount, now):
         session = self.sessions[number - 1]
+        if session.owner is None:
+            return self.take_raw(number, amount, now)
         queue, came = getattr(session, way), session.came
         left = sum(m[0] for m in queue) - came[way] if amount is None else amount
         messages = []
@@ -234,6 +239,13 @@ class World(Served, Walks):
             self.asked[number].discard(xid)
             self.leases = {k: v for k, v in self.leases.items() if k[0] != number or v[1] != xid}
 
+    def known(self, count, name):
+        """The bytes of this length and digest that the server's index leads to, if it does."""
+        return held(self.files, self.index.find(name), count, name)
+
+    def chunks_of(self, file):
+        return chunks(self.files[file])
+
     def ready(self, moment):
         heads = set()
         for at, (number, _, kind, change) in enumerate(self.waiting):
@@ -273,7 +285,7 @@ class World(Served, Walks):
         if kind == "lease":
             self.say(number, xid, 100, "done", self.versions[file], self.grant(number, file))
         elif kind == "hash":
-            listed = chunks(self.files[file])
+            listed = self.chunks_of(file)
             told = [c for c in listed if c[0] >= rest[1]][:PAIRS]
             self.index.enter(file, told)
             term = self.grant(number, file)
@@ -287,7 +299,7 @@ class World(Served, Walks):
             self.say(number, xid, 4, "done")
         elif kind == "cond":
             fd, offset, length, name = rest
-            bytes_ = held(self.files, self.index.find(name), length, name)
+            bytes_ = self.known(length, name)
             if bytes_ is not None:
                 self.temps[number, fd][offset] = bytes_
             self.say(number, xid, 4, "done" if bytes_ is not None else "unknown")
@@ -314,8 +326,7 @@ class World(Served, Walks):
         self.tree.changes += 1
         self.files[file], self.versions[file] = whole, self.versions[file] + 1
         self.index.enter(file, chunks(whole))
-        self.journal += 1
-        self.changed(number, file)
+        self.changed(number, "Commit", file, whole)
         self.say(number, xid, 16, "done", self.versions[file], len(whole), self.grant(number, file))
 
     def hang(self, number):
@@ -561,6 +572,11 @@ class World(Served, Walks):
             self.sessions.append(Session(client.number))
             client.session, client.linked, client.calls, client.xid = len(self.sessions), True, {}, 0
             client.now = int(words[2])
+        elif kind == "rawjoin":
+            self.is_raw = True
+            self.raw_joins()
+        elif kind == "raw":
+            self.raw_sends(int(words[1]), bytes.fromhex(words[2]))
         elif kind == "do":
             self.clients[int(words[1]) - 1].now = int(words[2])
             self.command(self.clients[int(words[1]) - 1], words[3], words[4:])
@@ -593,21 +609,34 @@ class World(Served, Walks):
                 at += len(item)
 
     def history(self):
-        return ["lbfs-history 1"] + [op.text(k + 1) for k, op in enumerate(self.ops)] + [f"end ops {len(self.ops)} steps {self.step}"]
+        counts = f"ops {len(self.ops)}" + (f" raw {len(self.raws)}" if self.is_raw else "")
+        return ["lbfs-history 1"] + [op.text(k + 1) for k, op in enumerate(self.ops)] + self.raws + [f"end {counts} steps {self.step}"]
+
+    def summary(self):
+        kinds = [op.out.split(" ")[0] for op in self.ops]
+        opened, closed, running = (kinds.count(k) for k in ("Opened", "Closed", "Running"))
+        other = sum(kinds.count(k) for k in ("Done", "Piece", "Names", "Seen"))
+        refused = len(kinds) - opened - closed - other - running
+        totals = [sum(op.counts[k] for op in self.ops) for k in range(4)]
+        return [
+            f"ops {len(self.ops)} opened {opened} closed {closed} other {other} refused {refused} running {running}",
+            "cond {} tmp {} read {} data {}".format(*totals),
+            f"journal {self.tree.changes - self.tree.opened}",
+        ]
 
 
-def replay(lines):
+def replay(lines, is_summary=False):
     world = World()
     for line in lines:
         if line and not line.startswith("#"):
             world.line(line.split(" "))
-    return world.history()
+    return world.summary() if is_summary else world.history()
 
 
-def compare(name, lines, wanted):
+def compare(name, lines, wanted, is_summary=False):
     """The history that came, or None where it could not be told."""
     try:
-        came = replay(lines)
+        came = replay(lines, is_summary)
     except Exception as fault:  # told, so that nobody takes it for a match
         print(f"{name}: not replayed: {fault!r}")
         DIFFER.append(name)
@@ -642,14 +671,15 @@ def rows(path, mend):
         return out
 
     for k in range(1, len(parts)):
-        both = front + parts[k]
+        both = [l for l in front + parts[k] if l != "words replay --summary"]
+        is_summary = len(both) < len(front + parts[k])
         if any(re.match(r"(words|status|hex|end|source|sink) ", l) for l in both) or any("\\" in l for l in both if l.startswith("in ")):
             continue
         lines, wanted = expand(both, "in"), expand(both, "out")
         if len(wanted) < 2:
             continue
         seen += 1
-        came = compare(f"{path} {parts[k][0]}", lines, wanted)
+        came = compare(f"{path} {parts[k][0]}", lines, wanted, is_summary)
         if mend and came is not None and came != wanted:
             own = came[len(expand(front, "out")) :]
             keep = [l for l in parts[k] if not l.startswith("out ")]
@@ -667,6 +697,7 @@ def random_ones(seconds, program, seed):
     makers = importlib.util.module_from_spec(importlib.util.spec_from_loader("random_traces", loader))
     loader.exec_module(makers)
     maker = with_names(makers.Maker) if "--names" in sys.argv else makers.Maker
+    maker = with_raw(maker) if "--raw" in sys.argv else maker
     until, first, same, refused, steps = time.time() + seconds, seed, 0, 0, 0
     while time.time() < until:
         lines = maker(seed).trace().lines
