@@ -19,11 +19,13 @@ trap 'rm -rf "$work"' EXIT
 #   opens    one file, opened again and again
 #   closes   one file, opened, written to, closed and settled again and again
 #   clients  the same by 16 clients, one after the other, each with a file of its own
+#   leased   16 clients open and abandon one file by turns, under leases
+#   asked    the same with a term that isn't above the drift, so that each open asks
 #   skipped  lines that are skipped
 make() {
     awk -v kind="$1" -v lines="$2" 'BEGIN {
-        clients = kind == "clients" ? 16 : 1
-        print "lbfs-trace 1\nterm 60000\ndrift 100\nclients " clients
+        clients = kind ~ /clients|leased|asked/ ? 16 : 1
+        print "lbfs-trace 1\n" (kind == "asked" ? "term 1\ndrift 1" : "term 60000\ndrift 100") "\nclients " clients
         left = lines - 4
         if (kind == "files") {
             count = int((left - 1) / 3)
@@ -47,6 +49,15 @@ make() {
                 c = c % clients + 1
             }
         }
+        if (kind == "leased" || kind == "asked") {
+            print "file f t:abc"
+            for (c = 1; c <= clients; c++) print "join " c " 0 0"
+            left -= 1 + clients
+            for (c = 1; left >= 3; left -= 3) {
+                print "do " c " 0 open #2\npass " c " 9 0 0\ndo " c " 0 abandon #2"
+                c = c % clients + 1
+            }
+        }
         while (left-- > 0) print "# a line that is skipped"
     }'
 }
@@ -61,7 +72,7 @@ spent() {
 }
 
 declare -A longest
-for kind in files opens closes clients skipped; do
+for kind in files opens closes clients leased asked skipped; do
     make "$kind" 16384 >"$work/short"
     make "$kind" 65536 >"$work/long"
     short='' long=''
@@ -77,6 +88,7 @@ for kind in files opens closes clients skipped; do
     longest[$kind]=$long
 done
 awk -v many="${longest[clients]}" -v one="${longest[closes]}" 'BEGIN { printf "65536 lines of 16 clients against as many of one: %.2f\n", many / one }'
+awk -v under="${longest[leased]}" -v without="${longest[asked]}" 'BEGIN { printf "65536 lines of 16 clients under leases against as many without: %.2f\n", under / without }'
 if command -v /usr/bin/time >/dev/null; then
     make files 65536 >"$work/long"
     /usr/bin/time -f 'files, 65536 lines: at most %M KiB held' "$program" replay <"$work/long" >/dev/null
