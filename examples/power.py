@@ -6,7 +6,7 @@ import struct
 import subprocess
 
 CALLS = "openat,open,creat,close,dup,dup2,dup3,fcntl,lseek,write,writev,pwrite64,pwritev,ftruncate,fallocate"
-CALLS += ",rename,renameat,renameat2,unlink,unlinkat,fsync,fdatasync,syncfs,sendto,sendmsg,accept,accept4,mkdir"
+CALLS += ",link,linkat,rename,renameat,renameat2,unlink,unlinkat,fsync,fdatasync,syncfs,sendto,sendmsg,accept,accept4,mkdir"
 LINE = re.compile(r"^(\d+) +(.*)$")
 RESUMED = re.compile(r"^<\.\.\. (\w+) resumed>(.*)$")
 CALL = re.compile(r"^(\w+)\((.*)\) += (-?\d+|\?)", re.S)
@@ -125,7 +125,8 @@ class Trace:
             inode = self.names[name]
             if "O_TRUNC" in text:
                 inode.do(("cut", 0, b""))
-            self.open[fd] = [inode, 0]
+            # what the reserve has is no matter, and much
+            self.open[fd] = "reserve" if name.startswith(b"reserve") else [inode, 0]
 
     def set_name(self, step):
         self.pending_names.append(step)
@@ -155,6 +156,10 @@ class Trace:
         elif call in ("rename", "renameat", "renameat2"):
             old, new = (self.name_of(it) for it in strings(text)[:2])
             self.set_name(("move", old, new, self.names[old]))
+            return True
+        elif call in ("link", "linkat"):
+            old, new = (self.name_of(it) for it in strings(text)[:2])
+            self.set_name(("set", new, self.names[old]))
             return True
         elif call in ("unlink", "unlinkat"):
             name = self.name_of(strings(text)[0])
@@ -190,7 +195,7 @@ class Trace:
             for step in self.pending_names[:count]:
                 rename(self.sure_names, step)
             self.pending_names, self.flushed_names = self.pending_names[count:], self.flushed_names + count
-        elif held:
+        elif isinstance(held, list):
             held[0].flush(marks[1])
 
     def marks(self, fd):

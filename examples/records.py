@@ -14,7 +14,7 @@ def read(path):
 
 def tree_in(folder):
     """What each path of a folder that isn't served has."""
-    nodes, contents = {}, {}
+    nodes, contents, made = {}, {}, set()
     for name in os.listdir(folder):
         given = read(f"{folder}/{name}")
         if name == "head":
@@ -24,8 +24,13 @@ def tree_in(folder):
             nodes[int(name[1:])] = parent, KINDS[kind], given[12:]
         elif name[0] == "c" and name[1:].isdigit():
             contents[int(name[1:])] = given[8:]
+        elif name[0] == "m" and name[1:].isdigit():
+            made.add(int(name[1:]))
         else:
             raise AssertionError(f"{name} is left in a folder that was served")
+
+    if any(contents.get(of) != b"" for of in made):
+        raise AssertionError(f"{made} are as they were made, and {contents.keys()} are there")
 
     def path_of(node):
         parent, _, name = nodes[node]

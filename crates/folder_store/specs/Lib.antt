@@ -1,2 +1,3 @@
 pub mod Folder
+pub mod Found
 pub mod Rows

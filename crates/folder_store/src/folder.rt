@@ -5,7 +5,8 @@
 ghost use Rattle.std.specs.Prelude.{◌≡◌, None};
 
 use crate::commit::FolderSyncs;
-use crate::format::{content_front, content_in, head_bytes, head_in, node_front, node_in};
+use crate::format::{content_front, head_bytes, node_front};
+use crate::found::record_in;
 use crate::look::look;
 use lb_base::faults::one_more;
 use lb_base::source::Failed;
@@ -21,11 +22,16 @@ use store::record::{Change, Head, Kept};
 use store::store::{Store, StoreError};
 use synced_store::checks::{CheckedStore, Checks};
 use synced_store::syncs::Synced;
+use system_folder::disk_files::has_room;
 use system_folder::disk_folder::DiskFolder;
 use system_folder::naming::put_name;
 
-/// A record of more bytes is written in a file of its own before the log names it.
+/// A record of more bytes is written in a file of its own before the log names it, unless its file has room
+/// for them already.
 const LARGE: usize = 32 << 10;
+
+/// And one of more bytes than these always: the log says no more of one.
+const LARGE_ALWAYS: usize = 256 << 10;
 
 /// How many edits a change is at most: two of each part, and the head's.
 const EDITS_MOST: usize = 5;
@@ -58,6 +64,8 @@ impl<R: Drop> Drop for FolderStore<R> {
 
 /// A folder that is loaded.
 struct Held<R> {
+    /// The folder's path, and a slash behind it.
+    front: String,
     store: LogStore<DiskFolder<R>>,
     syncs: FolderSyncs<R>,
 }
@@ -65,7 +73,12 @@ struct Held<R> {
 // By hand: docs/PROVING.md, "Values that are let go".
 impl<R: Drop> Drop for Held<R> {
     fn drop(self) {
-        let Held { store, syncs } = self;
+        let Held {
+            front,
+            store,
+            syncs,
+        } = self;
+        drop(front);
         drop(store);
         drop(syncs);
     }
@@ -83,25 +96,6 @@ impl<R> FolderStore<R> {
             spare: 0,
             faults: 0,
         }
-    }
-}
-
-/// The record that these bytes of its file say.
-pub(crate) fn record_in(
-    alloc: Global,
-    which: Which,
-    bytes: Vec<u8>,
-) -> Result<Option<Kept>, AllocError> {
-    match which {
-        Which::Head => Ok(head_in(&bytes).map(Kept::Head)),
-        Which::Node(id) => match node_in(alloc, id, &bytes)? {
-            Some(node) => Ok(Some(Kept::Node(node))),
-            None => Ok(None),
-        },
-        Which::Content(id) => match content_in(alloc, id, bytes)? {
-            Some(content) => Ok(Some(Kept::Content(content))),
-            None => Ok(None),
-        },
     }
 }
 
@@ -180,17 +174,39 @@ fn load_folder<R: Files<File = File> + AllocGlobal + Eprint + Clone + Drop>(
         }
     }
     let syncs = syncs_of(rt, alloc, place, unsynced)?;
-    Ok((Held { store, syncs }, records))
+    let front = format!(in alloc; "{place}/")?;
+    let held = Held {
+        front,
+        store,
+        syncs,
+    };
+    Ok((held, records))
 }
 
-/// A record's bytes, where the log says them or where they are many.
-fn put_of<'a>(front: &'a [u8], body: &'a [u8]) -> What<'a> {
-    let parts = Parts { front, body };
-    if LARGE < front.len().saturating_add(body.len()) {
-        What::Large(parts)
-    } else {
-        What::Put(parts)
+/// A part of a change, with the bytes that stand in front of its record, and whether they have a file of their
+/// own first.
+#[derive(Clone, Copy)]
+struct Part<'a> {
+    change: &'a Change,
+    front: &'a [u8; 12],
+    is_large: bool,
+}
+
+/// Whether a change's record has a file of its own first. It needs none where so many bytes are in its file's
+/// place already: the log says them then, and one flush is enough.
+fn is_large<R: Files<File = File>>(rt: &R, alloc: Global, folder: &str, change: &Change) -> bool {
+    let Change::Content(content) = change else {
+        return false;
+    };
+    let len = content.bytes.len().saturating_add(8);
+    if len <= LARGE || LARGE_ALWAYS < len {
+        return LARGE < len;
     }
+    let mut path = String::new(alloc);
+    if path.push_str(folder).is_err() || put_name(&mut path, Which::Content(content.id)).is_err() {
+        return true;
+    }
+    !has_room(rt, path.as_str(), len as u64)
 }
 
 /// The bytes that stand in front of a change's record.
@@ -219,7 +235,10 @@ impl<'a> Edits<'a> {
         let (front, behind) = head.split_at(8);
         let edit = Edit {
             which: Which::Head,
-            what: put_of(front, behind),
+            what: What::Put(Parts {
+                front,
+                body: behind,
+            }),
         };
         Edits {
             list: [edit; EDITS_MOST],
@@ -235,17 +254,27 @@ impl<'a> Edits<'a> {
     }
 
     /// Adds those of a part of the change.
-    fn add(&mut self, change: &'a Change, front: &'a [u8; 12]) {
-        match change {
+    fn add(&mut self, part: Part<'a>) {
+        match part.change {
             Change::Node(node) => {
-                self.push(Which::Node(node.id), put_of(front, node.name.as_slice()));
+                let parts = Parts {
+                    front: part.front,
+                    body: node.name.as_slice(),
+                };
+                self.push(Which::Node(node.id), What::Put(parts));
             }
             Change::Content(content) => {
-                let (front, _rest) = front.split_at(8);
-                self.push(
-                    Which::Content(content.id),
-                    put_of(front, content.bytes.as_slice()),
-                );
+                let (front, _rest) = part.front.split_at(8);
+                let parts = Parts {
+                    front,
+                    body: content.bytes.as_slice(),
+                };
+                let what = if part.is_large {
+                    What::Large(parts)
+                } else {
+                    What::Put(parts)
+                };
+                self.push(Which::Content(content.id), what);
             }
             Change::Drop(id) => {
                 self.push(Which::Node(*id), What::Goes);
@@ -261,35 +290,43 @@ impl<'a> Edits<'a> {
 }
 
 impl<R: Files<File = File> + AllocGlobal + Eprint + Clone + Drop> Held<R> {
-    /// Makes a change of these parts, whose fronts are given.
+    /// Makes a change of these parts.
     fn apply_parts<'a>(
         &mut self,
         head: &'a [u8; 16],
-        first: &'a Change,
-        front: &'a [u8; 12],
-        second: &'a Option<Change>,
-        behind: &'a [u8; 12],
+        first: Part<'a>,
+        second: Option<Part<'a>>,
     ) -> Result<(), Unfinished> {
         let mut edits = Edits::new(head);
-        edits.add(first, front);
+        edits.add(first);
         if let Some(second) = second {
-            edits.add(second, behind);
+            edits.add(second);
         }
         self.store.apply(edits.as_slice())
     }
 
     /// Makes a change, or leaves the records as they were, or is in doubt.
-    fn apply(&mut self, head: Head, first: &Change, second: &Option<Change>) -> Result<(), Failed> {
+    fn apply(
+        &mut self,
+        rt: &R,
+        head: Head,
+        first: &Change,
+        second: &Option<Change>,
+    ) -> Result<(), Failed> {
         if self.syncs.commit().is_in_doubt() {
             return Err(Failed);
         }
         let head = head_bytes(head);
         let front = front_of(first);
-        let behind = match second {
-            Some(second) => front_of(second),
-            None => [0u8; 12],
+        let part = self.part_of(rt, first, &front);
+        let made = match second {
+            Some(second) => {
+                let behind = front_of(second);
+                let more = self.part_of(rt, second, &behind);
+                self.apply_parts(&head, part, Some(more))
+            }
+            None => self.apply_parts(&head, part, None),
         };
-        let made = self.apply_parts(&head, first, &front, second, &behind);
         self.syncs.commit().note_given();
         match made {
             Ok(()) => Ok(()),
@@ -298,6 +335,16 @@ impl<R: Files<File = File> + AllocGlobal + Eprint + Clone + Drop> Held<R> {
                 Err(Failed)
             }
             Err(Unfinished::Failed | Unfinished::Memory) => Err(Failed),
+        }
+    }
+
+    /// A part of a change, with its front.
+    fn part_of<'a>(&self, rt: &R, change: &'a Change, front: &'a [u8; 12]) -> Part<'a> {
+        let alloc = rt.alloc();
+        Part {
+            change,
+            front,
+            is_large: is_large(rt, alloc, self.front.as_str(), change),
         }
     }
 
@@ -343,7 +390,7 @@ impl<R: Files<File = File> + AllocGlobal + Eprint + Clone + Drop> Store for Fold
 
     fn apply(&mut self, head: Head, first: Change, second: Option<Change>) -> Result<(), Failed> {
         let made = match &mut self.held {
-            Some(held) => held.apply(head, &first, &second),
+            Some(held) => held.apply(&self.rt, head, &first, &second),
             None => Err(Failed),
         };
         drop(first);

@@ -5,4 +5,5 @@
 pub mod commit;
 pub mod folder;
 pub mod format;
+mod found;
 pub mod look;

@@ -1,7 +1,13 @@
 //! A look at a folder, which stays as it is: the records that a start would load, and a line for each file
-//! that holds none.
+//! that holds none (`specs/Found.antt`).
 
-use crate::folder::record_in;
+ghost use Rattle.std.specs.Prelude.{IfOk, OnOk};
+ghost use Rattle.system_folder.specs.Names.{name_of};
+ghost use Rattle.log_store.specs.declared.which.Which.{Which};
+ghost use Rattle.folder_store.specs.Found.{Adds, IsFound, LooksOver};
+ghost use Rattle.folder_store.specs.declared.found.Reading.{Reading};
+
+use crate::found::{Reading, add_reading};
 use log_store::edit::{Line, Task};
 use log_store::which::{Which, is_same};
 use std::alloc::{AllocError, Global};
@@ -10,10 +16,10 @@ use std::fs::{File, TryLockError};
 use std::io::{Error, ErrorKind};
 use std::rt::Files;
 use std::{fs, io};
-use store::record::Kept;
 use store::store::StoreError;
 use synced_store::checks::CheckedStore;
 use system_folder::disk_files::{READ_MOST, read_file};
+use system_folder::made::{put_made_name, unless_made};
 use system_folder::naming::put_name;
 use system_folder::open_folder::{files_there, read_log};
 use system_folder::redo::told_by;
@@ -32,6 +38,7 @@ enum Told<'a> {
 
 /// A folder that no server has while it is looked at, and what its changes tell.
 struct Looked {
+    place: String,
     lock: File,
     /// What an earlier form's change tells, and behind it the log.
     lines: Vec<Line>,
@@ -43,10 +50,12 @@ struct Looked {
 impl Drop for Looked {
     fn drop(self) {
         let Looked {
+            place,
             lock,
             lines,
             records,
         } = self;
+        drop(place);
         drop(lock);
         drop(lines);
         drop(records);
@@ -68,11 +77,55 @@ fn last_of<'a>(lines: &'a [Line], which: Which) -> Option<Told<'a>> {
     told
 }
 
-/// The bytes of a record's file, if it is there.
+/// The path of a record's file, and a content's second one.
+struct Paths {
+    own: String,
+    made: Option<String>,
+}
+
+// By hand: docs/PROVING.md, "Values that are let go".
+impl Drop for Paths {
+    fn drop(self) {
+        let Paths { own, made } = self;
+        drop(own);
+        drop(made);
+    }
+}
+
+impl Paths {
+    /// The paths of a record's files.
+    fn new(alloc: Global, place: &str, name: &str, which: Which) -> Result<Paths, AllocError> {
+        let own = format!(in alloc; "{place}/{name}")?;
+        let made = match which {
+            Which::Content(id) => {
+                let mut made = format!(in alloc; "{place}/")?;
+                put_made_name(&mut made, id)?;
+                Some(made)
+            }
+            Which::Head | Which::Node(_) => None,
+        };
+        Ok(Paths { own, made })
+    }
+}
+
+/// The bytes of a record by its file.
+fn own_bytes<R: Files<File = File>>(
+    rt: &R,
+    alloc: Global,
+    paths: &Paths,
+) -> io::Result<Option<Vec<u8>>> {
+    let read = read_file(rt, alloc, paths.own.as_str(), READ_MOST)?;
+    match (read, &paths.made) {
+        (Some(bytes), Some(made)) => Ok(Some(unless_made(rt, bytes, made.as_str())?)),
+        (read, _) => Ok(read),
+    }
+}
+
+/// The bytes of a record, if it is there.
 fn bytes_of<R: Files<File = File>>(
     rt: &R,
     alloc: Global,
-    path: &str,
+    paths: &Paths,
     told: &Option<Told<'_>>,
 ) -> io::Result<Option<Vec<u8>>> {
     match told {
@@ -83,30 +136,32 @@ fn bytes_of<R: Files<File = File>>(
             Ok(Some(copy))
         }
         Some(Told::Beside) => {
-            let beside = format!(in alloc; "{path}~")?;
+            let own = paths.own.as_str();
+            let beside = format!(in alloc; "{own}~")?;
             match read_file(rt, alloc, beside.as_str(), READ_MOST)? {
                 Some(bytes) => Ok(Some(bytes)),
-                None => read_file(rt, alloc, path, READ_MOST),
+                None => own_bytes(rt, alloc, paths),
             }
         }
-        None => read_file(rt, alloc, path, READ_MOST),
+        None => own_bytes(rt, alloc, paths),
     }
 }
 
-/// The record, if it is there and its file says one.
-fn record_of<R: Files<File = File>>(
+/// What was read of a record's file. The one error is want of memory.
+fn reading_of<R: Files<File = File>>(
     rt: &R,
     alloc: Global,
-    path: &str,
-    which: Which,
+    paths: &Paths,
     told: &Option<Told<'_>>,
-) -> io::Result<Option<Kept>> {
-    let Some(bytes) = bytes_of(rt, alloc, path, told)? else {
-        return Ok(None);
-    };
-    match record_in(alloc, which, bytes)? {
-        Some(record) => Ok(Some(record)),
-        None => Err(Error::from(ErrorKind::InvalidData)),
+) -> Result<Reading, AllocError> {
+    match bytes_of(rt, alloc, paths, told) {
+        Ok(Some(bytes)) => Ok(Reading::Bytes(bytes)),
+        Ok(None) => Ok(Reading::Missing),
+        Err(why) if why.kind() == ErrorKind::OutOfMemory => Err(AllocError),
+        Err(why) if why.kind() == ErrorKind::InvalidData => {
+            Ok(Reading::Fault(String::from_str(alloc, "no such record")?))
+        }
+        Err(why) => Ok(Reading::Fault(format!(in alloc; "{why}")?)),
     }
 }
 
@@ -120,25 +175,37 @@ fn add_finding(found: &mut CheckedStore, line: String) -> Result<(), AllocError>
 fn add<R: Files<File = File>>(
     rt: &R,
     alloc: Global,
-    place: &str,
+    looked: &Looked,
     which: Which,
-    told: &Option<Told<'_>>,
     found: &mut CheckedStore,
-) -> Result<(), AllocError> {
+) -> Result<(), AllocError>
+    ensures { OnOk result ((r : Reading) × Adds which (name_of which) r found.old found.new) }
+{
+    let told = last_of(looked.lines.as_slice(), which);
     let mut name = String::new(alloc);
     put_name(&mut name, which)?;
-    let path = format!(in alloc; "{place}/{name}")?;
-    match record_of(rt, alloc, path.as_str(), which, told) {
-        Ok(Some(record)) => {
-            found.records.push(record)?;
-            Ok(())
+    let paths = Paths::new(alloc, looked.place.as_str(), name.as_str(), which)?;
+    let reading = reading_of(rt, alloc, &paths, &told)?;
+    add_reading(alloc, which, name.as_str(), reading, found)
+}
+
+/// Adds what is found of each of these records.
+#[tactic(auto, using(crate::proofs::Looks::looks_on))]
+fn add_all<R: Files<File = File>>(
+    rt: &R,
+    alloc: Global,
+    looked: &Looked,
+    records: &[Which],
+    found: &mut CheckedStore,
+) -> Result<(), AllocError>
+    ensures { OnOk result (LooksOver records.now found.old found.new) }
+{
+    match records {
+        [which, rest @ ..] => {
+            add(rt, alloc, looked, *which, found)?;
+            add_all(rt, alloc, looked, rest, found)
         }
-        Ok(None) => Ok(()),
-        Err(why) if why.kind() == ErrorKind::OutOfMemory => Err(AllocError),
-        Err(why) if why.kind() == ErrorKind::InvalidData => {
-            add_finding(found, format!(in alloc; "{name}: no such record")?)
-        }
-        Err(why) => add_finding(found, format!(in alloc; "{name}: {why}")?),
+        [] => Ok(()),
     }
 }
 
@@ -238,6 +305,7 @@ fn open_for_look<R: Files<File = File> + AllocGlobal + Clone + Drop>(
     let lines = lines_of(rt, alloc, place, found)?;
     let records = records_named(alloc, there.as_slice(), lines.as_slice())?;
     Ok(Looked {
+        place: String::from_str(alloc, place)?,
         lock,
         lines,
         records,
@@ -245,11 +313,14 @@ fn open_for_look<R: Files<File = File> + AllocGlobal + Clone + Drop>(
 }
 
 /// What is found in a folder. Where the folder itself can't be read that is told on standard error.
+#[tactic(auto, using(crate::proofs::Looks::found_by))]
 pub fn look<R: Files<File = File> + AllocGlobal + Eprint + Clone + Drop>(
     rt: &R,
     alloc: Global,
     place: &str,
-) -> Result<CheckedStore, StoreError> {
+) -> Result<CheckedStore, StoreError>
+    ensures { IfOk result (λ found. IsFound found) }
+{
     let mut found = CheckedStore {
         records: Vec::new(alloc),
         findings: Vec::new(alloc),
@@ -266,10 +337,15 @@ pub fn look<R: Files<File = File> + AllocGlobal + Eprint + Clone + Drop>(
             return Err(StoreError::Failed);
         }
     };
-    for which in looked.records.iter() {
-        let told = last_of(looked.lines.as_slice(), *which);
-        add(rt, alloc, place, *which, &told, &mut found)?;
-    }
+    let CheckedStore {
+        records: _none,
+        findings,
+    } = found;
+    let mut found = CheckedStore {
+        records: Vec::new(alloc),
+        findings,
+    };
+    add_all(rt, alloc, &looked, looked.records.as_slice(), &mut found)?;
     drop(looked);
     Ok(found)
 }

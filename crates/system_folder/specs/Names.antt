@@ -26,6 +26,10 @@ lettered_in (c ∷ cs) = lettered c cs
 abbrev pub which_of : List ℕ → Option Which
 which_of name = if bytes_eq name (codes "head") then Some which.Head else lettered_in name
 
+-- the second name of a content's file, which has the content as a file is made with it
+abbrev pub made_name : ℕ → List ℕ
+made_name id = codes "m" ++ decimal id
+
 -- an id has 64 bits
 abbrev pub IsWord : Which → Type 0
 IsWord which.Head = Unit {0}

@@ -2,9 +2,11 @@
 //! writes its bytes alone. Its frames stand one behind the other from the file's beginning; what stands behind
 //! the last is zeros, or frames of an earlier round, whose numbers are lower.
 
+use crate::needs::{Need, Needs};
 use log_store::edit::Edit;
 use log_store::entry::put_entry;
 use log_store::frame::{FRONT, put_frame};
+use log_store::which::Which;
 use std::alloc::{AllocError, Global};
 use std::fs::{File, OpenOptions};
 use std::io;
@@ -18,53 +20,18 @@ const ROOM: u64 = 128 << 10;
 /// How many bytes are written at once as the file is made.
 const PIECE: usize = 4096;
 
-/// How much room carrying out the log may need: less than the reserve, by what one entry may need, and by what
-/// the folder's own names may.
-const NEED_MOST: u64 = RESERVE as u64 - (64 << 10);
+/// A log of so many entries, bytes or records is to be carried out: more are slow to read at a start, and
+/// each record's file is flushed by itself meanwhile.
+const LONG_COUNT: usize = 2048;
 
-/// How many bytes the reserve has: what finds no room when the log is carried out gets its.
-pub(crate) const RESERVE: usize = 256 << 10;
+const LONG_BYTES: u64 = 8 << 20;
 
-/// How many empty files the reserve has beside it, for a file system that has room for so many files alone:
-/// as many as it has pages, or as many as there is room for.
-pub(crate) const SPARES: usize = 64;
-
-/// A log that has so many entries or bytes is to be carried out.
-const LONG_COUNT: usize = 256;
-
-const LONG_BYTES: u64 = 1 << 20;
+const LONG_RECORDS: usize = 512;
 
 /// Past so many it takes no more.
-const COUNT_MOST: usize = 1024;
+const COUNT_MOST: usize = 4096;
 
-const BYTES_MOST: u64 = 2 << 20;
-
-/// What carrying out entries needs at most.
-#[derive(Clone, Copy)]
-pub struct Need {
-    /// So many bytes.
-    pub bytes: u64,
-    /// So many files that aren't there yet.
-    pub files: usize,
-}
-
-impl Need {
-    /// Nothing.
-    pub const NONE: Need = Need { bytes: 0, files: 0 };
-
-    /// What both need.
-    fn and(self, other: Need) -> Need {
-        Need {
-            bytes: self.bytes.saturating_add(other.bytes),
-            files: self.files.saturating_add(other.files),
-        }
-    }
-
-    /// Whether a reserve with so many empty files has less.
-    fn is_beyond(self, spares: usize) -> bool {
-        (RESERVE as u64) < self.bytes || spares < self.files
-    }
-}
+const BYTES_MOST: u64 = 12 << 20;
 
 /// The log, and where it ends.
 pub struct LogFile {
@@ -75,8 +42,10 @@ pub struct LogFile {
     next: u64,
     /// How many frames there are.
     count: usize,
-    /// What carrying them out needs at most.
-    need: Need,
+    /// What carrying them out needs.
+    needs: Needs,
+    /// Whether room is scarce, so that a log that was carried out gives back what it has beyond its own.
+    is_scarce: bool,
     entry: Vec<u8>,
     frame: Vec<u8>,
 }
@@ -89,11 +58,13 @@ impl Drop for LogFile {
             end: _end,
             next: _next,
             count: _count,
-            need: _need,
+            needs,
+            is_scarce: _is_scarce,
             entry,
             frame,
         } = self;
         drop(file);
+        drop(needs);
         drop(entry);
         drop(frame);
     }
@@ -132,7 +103,8 @@ impl LogFile {
             end: 0,
             next: 1,
             count: 0,
-            need: Need::NONE,
+            needs: Needs::new(alloc),
+            is_scarce: false,
             entry: Vec::new(alloc),
             frame: Vec::new(alloc),
         })
@@ -143,15 +115,29 @@ impl LogFile {
         self.count
     }
 
-    /// Writes an entry behind the others, which needs so much when it is carried out, where so many empty files
-    /// are kept. Where that fails there is none.
-    pub fn append(&mut self, edits: &[Edit<'_>], need: Need, spares: usize) -> io::Result<()> {
+    /// Carrying out a record needs so much, once the next entry is there.
+    pub fn add_need(&mut self, which: Which, need: Need) -> Result<(), AllocError> {
+        self.needs.add(which, need)
+    }
+
+    /// Room is scarce: what the log has beyond its own goes, at once where it is empty. Whether any went.
+    pub fn note_scarce(&mut self) -> io::Result<bool> {
+        self.is_scarce = true;
+        let is_long = ROOM < self.file.metadata()?.len();
+        self.give_back()?;
+        Ok(is_long && self.count == 0)
+    }
+
+    /// Writes an entry behind the others, which needs so much when it is carried out, where so much is kept. Where
+    /// that fails there is none.
+    pub fn append(&mut self, edits: &[Edit<'_>], need: Need, reserve: Need) -> io::Result<()> {
         self.entry.clear();
         put_entry(&mut self.entry, edits)?;
         self.frame.clear();
         put_frame(&mut self.frame, self.next, self.entry.as_slice())?;
         let end = self.end.saturating_add(self.frame.len() as u64);
-        if COUNT_MOST <= self.count || BYTES_MOST < end || self.is_beyond(need, spares) {
+        let is_past = need.is_some() && self.needs.is_past(reserve);
+        if COUNT_MOST <= self.count || BYTES_MOST < end || is_past {
             return Err(Error::from(ErrorKind::StorageFull));
         }
         // No front stands behind it: what a client stored, which an earlier round left there, is no frame.
@@ -160,13 +146,7 @@ impl LogFile {
         self.end = end;
         self.next = self.next.saturating_add(1);
         self.count = self.count.saturating_add(1);
-        self.need = self.need.and(need);
         Ok(())
-    }
-
-    /// Whether carrying out the log and an entry might need more room than the reserve has.
-    fn is_beyond(&self, need: Need, spares: usize) -> bool {
-        (0 < need.bytes || 0 < need.files) && self.need.and(need).is_beyond(spares)
     }
 
     /// The log has its first entries, as many as these: none, or all that there are, of which one that
@@ -188,7 +168,19 @@ impl LogFile {
         self.end = end;
         self.count = count;
         if count == 0 {
-            self.need = Need::NONE;
+            self.needs.clear();
+            return self.give_back();
+        }
+        Ok(())
+    }
+
+    /// An empty log has no more than its own room again, where room is scarce. That it is empty is on the disk
+    /// first: a cut of power would leave some of its entries else, and not the last of them.
+    fn give_back(&mut self) -> io::Result<()> {
+        if self.is_scarce && self.count == 0 {
+            self.file.sync_data()?;
+            self.file.set_len(ROOM)?;
+            self.is_scarce = false;
         }
         Ok(())
     }
@@ -198,8 +190,16 @@ impl LogFile {
         self.file.sync_data()
     }
 
-    /// Whether it is to be carried out.
-    pub fn is_long(&self) -> bool {
-        LONG_COUNT <= self.count || LONG_BYTES <= self.end || NEED_MOST <= self.need.bytes
+    /// Whether it is to be carried out, where so much is kept.
+    pub fn is_long(&self, reserve: Need) -> bool {
+        LONG_COUNT <= self.count
+            || LONG_BYTES <= self.end
+            || LONG_RECORDS <= self.needs.count()
+            || self.is_near(reserve)
+    }
+
+    /// Whether carrying it out needs nearly as much as a reserve has.
+    pub fn is_near(&self, reserve: Need) -> bool {
+        self.needs.is_near(reserve)
     }
 }

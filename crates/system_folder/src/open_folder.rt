@@ -3,23 +3,28 @@
 use crate::disk_files::{
     READ_MOST, has_room, is_missing, more_room, open_regular, read_file, unless_gone, write_file,
 };
-use crate::log_file::{LogFile, Need, RESERVE, SPARES};
+use crate::log_file::LogFile;
+use crate::made::{MADE, are_made, content_id, unless_made};
 use crate::naming::held_by;
+use crate::needs::{BARE_RESERVE, LARGE_RESERVE, Need, RESERVE, SIZES};
 use crate::paths::Paths;
 use crate::redo::carry_out;
 use crate::strangers::{Stranger, stranger_in};
-use log_store::edit::{Edit, Line, What};
+use log_store::edit::{Edit, Line, Parts, What};
 use log_store::entry::add_lines;
 use log_store::frame::{FRONT, frame_at, number_at};
 use log_store::which::{FileName, Which, is_same};
 use std::alloc::{AllocError, Global};
-use std::fs::{File, TryLockError};
-use std::io::{Error, ErrorKind};
+use std::fs::{File, OpenOptions, TryLockError};
+use std::io::{Error, ErrorKind, Write};
 use std::rt::Files;
 use std::{fs, io, mem};
 
 /// The most bytes of a log: those after which it is carried out, and the entry that makes it so long.
-const LOG_MOST: u64 = 4 << 20;
+const LOG_MOST: u64 = 16 << 20;
+
+/// How many times as much as a large reserve there is room for before one is kept.
+const PLENTY: u64 = 4;
 
 /// The file that was written last, until it is flushed.
 struct Written {
@@ -51,8 +56,12 @@ pub(crate) struct OpenFolder<R> {
     is_left: bool,
     /// Whether the reserve is there.
     reserve: bool,
-    /// How many empty files are known to be kept beside it.
-    spares: usize,
+    /// How many bytes it has, and how many empty files are known to be kept beside it.
+    kept: Need,
+    /// Whether the log was carried out for want of more.
+    wants_more: bool,
+    /// Whether a larger one wasn't tried yet.
+    may_grow: bool,
     /// Whether nothing is flushed.
     unsynced: bool,
     /// Whether a flush failed: of what wasn't on the disk then nothing is known, and no later flush tells.
@@ -72,7 +81,9 @@ impl<R: Drop> Drop for OpenFolder<R> {
             loose,
             is_left: _is_left,
             reserve: _reserve,
-            spares: _spares,
+            kept: _kept,
+            wants_more: _wants_more,
+            may_grow: _may_grow,
             unsynced: _unsynced,
             lost: _lost,
         } = self;
@@ -199,7 +210,9 @@ impl<R: Files<File = File> + AllocGlobal + Clone + Drop> OpenFolder<R> {
                     loose: Vec::new(alloc),
                     is_left: true,
                     reserve: false,
-                    spares: 0,
+                    kept: BARE_RESERVE,
+                    wants_more: false,
+                    may_grow: true,
                     unsynced,
                     lost: false,
                 })
@@ -235,33 +248,51 @@ impl<R: Files<File = File> + AllocGlobal + Clone + Drop> OpenFolder<R> {
 
     /// Looks whether an earlier run left the reserve, for what it left in its log.
     pub(crate) fn find_reserve(&mut self) {
-        self.reserve = match self.paths.name_reserve() {
-            Ok(()) => has_room(&self.rt, self.paths.at(), RESERVE as u64),
-            Err(_want) => false,
-        };
-    }
-
-    /// What carrying out these edits needs at most.
-    fn need_of(&mut self, edits: &[Edit<'_>]) -> io::Result<Need> {
-        let mut need = Need::NONE;
-        for edit in edits.iter() {
-            if let What::Put(parts) = edit.what {
-                self.paths.name(edit.which)?;
-                let len = (parts.front.len() as u64).saturating_add(parts.body.len() as u64);
-                let more = more_room(&self.rt, self.paths.at(), len);
-                need.bytes = need.bytes.saturating_add(more);
-                if is_missing(&self.rt, self.paths.at()) {
-                    need.files = need.files.saturating_add(1);
-                }
+        self.reserve = false;
+        if self.paths.name_reserve().is_err() {
+            return;
+        }
+        for len in SIZES {
+            if !self.reserve && has_room(&self.rt, self.paths.at(), len) {
+                self.reserve = true;
+                self.kept.bytes = len;
             }
         }
-        Ok(need)
+    }
+
+    /// What carrying out a record's bytes needs at most.
+    fn need_of(&mut self, which: Which, parts: &Parts<'_>) -> io::Result<Need> {
+        self.paths.name(which)?;
+        let len = (parts.front.len() as u64).saturating_add(parts.body.len() as u64);
+        Ok(Need {
+            bytes: more_room(&self.rt, self.paths.at(), len),
+            files: if is_missing(&self.rt, self.paths.at()) {
+                1
+            } else {
+                0
+            },
+        })
+    }
+
+    /// Notes what carrying out these edits needs, and answers all of it.
+    fn note_needs(&mut self, edits: &[Edit<'_>]) -> io::Result<Need> {
+        let mut all = Need::NONE;
+        for edit in edits.iter() {
+            if let What::Put(parts) = &edit.what {
+                let need = self.need_of(edit.which, parts)?;
+                if let Some(log) = &mut self.log {
+                    log.add_need(edit.which, need)?;
+                }
+                all = all.and(need);
+            }
+        }
+        Ok(all)
     }
 
     fn remove_reserve(&mut self) -> io::Result<()> {
         self.reserve = false;
-        self.spares = 0;
-        for number in 0..SPARES {
+        self.kept = BARE_RESERVE;
+        for number in 0..LARGE_RESERVE.files {
             self.paths.name_spare(number)?;
             unless_gone(fs::remove_file(&self.rt, self.paths.at()))?;
         }
@@ -299,7 +330,14 @@ impl<R: Files<File = File> + AllocGlobal + Clone + Drop> OpenFolder<R> {
     /// The bytes of a file, if it is there.
     pub(crate) fn read(&mut self, alloc: Global, name: FileName) -> io::Result<Option<Vec<u8>>> {
         self.paths.name_file(name)?;
-        read_file(&self.rt, alloc, self.paths.at(), READ_MOST)
+        let read = read_file(&self.rt, alloc, self.paths.at(), READ_MOST)?;
+        match (read, content_id(name)) {
+            (Some(bytes), Some(id)) => {
+                self.paths.name_made(id)?;
+                Ok(Some(unless_made(&self.rt, bytes, self.paths.at())?))
+            }
+            (read, _) => Ok(read),
+        }
     }
 
     /// The files that are there, by their records.
@@ -317,23 +355,81 @@ impl<R: Files<File = File> + AllocGlobal + Clone + Drop> OpenFolder<R> {
         Ok(names)
     }
 
-    /// Writes a file; a record's that finds no room gets the reserve's.
+    /// Writes a file.
     pub(crate) fn write(&mut self, name: FileName, front: &[u8], body: &[u8]) -> io::Result<()> {
         self.written = None;
+        self.paths.name_file(name)?;
+        let Some(id) = content_id(name) else {
+            return self.write_named(name, front, body);
+        };
+        let is_new = is_missing(&self.rt, self.paths.at());
+        if is_new && !self.unsynced && are_made(front, body) {
+            return self.write_made(id);
+        }
+        self.write_named(name, front, body)?;
+        self.unname_made(id)
+    }
+
+    /// Writes a content as a file is made with it. Where it can't have its second name it is flushed later.
+    fn write_made(&mut self, id: u64) -> io::Result<()> {
+        let name = FileName::Record(Which::Content(id));
+        drop(self.write_or_make_room(name, &MADE, &[])?);
+        self.paths.name_made(id)?;
+        match fs::hard_link(&self.rt, self.paths.beside(), self.paths.at()) {
+            Ok(()) => Ok(()),
+            Err(why) if why.kind() == ErrorKind::AlreadyExists => Ok(()),
+            Err(_why) => Ok(self.loose.push(name)?),
+        }
+    }
+
+    /// Writes the file that was named, whose bytes are flushed later.
+    fn write_named(&mut self, name: FileName, front: &[u8], body: &[u8]) -> io::Result<()> {
         if !self.unsynced {
             self.loose.push(name)?;
         }
-        self.paths.name_file(name)?;
-        let file = match write_file(&self.rt, self.paths.at(), front, body) {
-            Err(why) if why.kind() == ErrorKind::StorageFull && self.may_take(name) => {
-                self.remove_reserve()?;
-                self.paths.name_file(name)?;
-                write_file(&self.rt, self.paths.at(), front, body)?
-            }
-            done => done?,
-        };
+        let file = self.write_or_make_room(name, front, body)?;
         self.written = Some(Written { name, file });
         Ok(())
+    }
+
+    /// Writes the file that was named; where it finds no room what can be let go for it goes.
+    fn write_or_make_room(
+        &mut self,
+        name: FileName,
+        front: &[u8],
+        body: &[u8],
+    ) -> io::Result<File> {
+        match write_file(&self.rt, self.paths.at(), front, body) {
+            Err(why) if why.kind() == ErrorKind::StorageFull => {
+                let path = String::from_str(self.alloc, self.paths.at())?;
+                if !self.make_room(name)? {
+                    return Err(why);
+                }
+                write_file(&self.rt, path.as_str(), front, body)
+            }
+            done => done,
+        }
+    }
+
+    /// Makes room for a file that finds none: the log gives back what it has beyond its own, and a record's file
+    /// may have the reserve's.
+    fn make_room(&mut self, name: FileName) -> io::Result<bool> {
+        let mut is_more = false;
+        if let Some(log) = &mut self.log {
+            is_more = log.note_scarce()?;
+        }
+        if self.may_take(name) {
+            self.remove_reserve()?;
+            self.paths.name_file(name)?;
+            is_more = true;
+        }
+        Ok(is_more)
+    }
+
+    /// The second name of a content's file goes, if it is there.
+    fn unname_made(&mut self, id: u64) -> io::Result<()> {
+        self.paths.name_made(id)?;
+        unless_gone(fs::remove_file(&self.rt, self.paths.at()))
     }
 
     /// Whether a file that finds no room may have the reserve's.
@@ -364,13 +460,21 @@ impl<R: Files<File = File> + AllocGlobal + Clone + Drop> OpenFolder<R> {
     /// The new file of a record takes its place, if there is one.
     pub(crate) fn rename(&mut self, which: Which) -> io::Result<()> {
         self.paths.name(which)?;
-        unless_gone(fs::rename(&self.rt, self.paths.beside(), self.paths.at()))
+        unless_gone(fs::rename(&self.rt, self.paths.beside(), self.paths.at()))?;
+        match which {
+            Which::Content(id) => self.unname_made(id),
+            Which::Head | Which::Node(_) => Ok(()),
+        }
     }
 
     /// A file goes, if it is there.
     pub(crate) fn remove(&mut self, name: FileName) -> io::Result<()> {
         self.paths.name_file(name)?;
-        unless_gone(fs::remove_file(&self.rt, self.paths.at()))
+        unless_gone(fs::remove_file(&self.rt, self.paths.at()))?;
+        match content_id(name) {
+            Some(id) => self.unname_made(id),
+            None => Ok(()),
+        }
     }
 
     /// All files that were written are on the disk, and the names.
@@ -428,13 +532,19 @@ impl<R: Files<File = File> + AllocGlobal + Clone + Drop> OpenFolder<R> {
 
     /// Adds an entry to the log.
     pub(crate) fn append(&mut self, edits: &[Edit<'_>]) -> io::Result<()> {
-        let need = self.need_of(edits)?;
-        if 0 < need.bytes || 0 < need.files {
+        let need = self.note_needs(edits)?;
+        if need.is_some() {
             self.take_reserve()?;
         }
         self.paths.name_log()?;
         match &mut self.log {
-            Some(log) => log.append(edits, need, self.spares),
+            Some(log) => match log.append(edits, need, self.kept) {
+                Err(why) if why.kind() == ErrorKind::StorageFull => {
+                    let _is_more = log.note_scarce()?;
+                    Err(why)
+                }
+                done => done,
+            },
             None => Err(Error::from(ErrorKind::NotFound)),
         }
     }
@@ -443,7 +553,10 @@ impl<R: Files<File = File> + AllocGlobal + Clone + Drop> OpenFolder<R> {
     pub(crate) fn cut_log(&mut self, count: usize) -> io::Result<()> {
         self.paths.name_log()?;
         match &mut self.log {
-            Some(log) => log.cut(count),
+            Some(log) => {
+                self.wants_more = self.wants_more || log.is_near(self.kept);
+                log.cut(count)
+            }
             None => {
                 self.log = Some(LogFile::make(&self.rt, self.alloc, self.paths.at())?);
                 self.flush_folder()
@@ -489,7 +602,7 @@ impl<R: Files<File = File> + AllocGlobal + Clone + Drop> OpenFolder<R> {
     /// Whether the log is to be carried out.
     pub(crate) fn is_long(&self) -> bool {
         match &self.log {
-            Some(log) => log.is_long(),
+            Some(log) => log.is_long(self.kept),
             None => false,
         }
     }
@@ -499,39 +612,77 @@ impl<R: Files<File = File> + AllocGlobal + Clone + Drop> OpenFolder<R> {
         self.reserve
     }
 
-    /// Makes the reserve, if it isn't there, and as many of its empty files as there is room for.
+    /// Makes the reserve, if it isn't there or is small, and as many of its empty files as there is room for.
     pub(crate) fn take_reserve(&mut self) -> io::Result<()> {
-        if !self.reserve {
-            match self.make_reserve() {
-                Ok(()) => self.reserve = true,
-                Err(why) => {
-                    // What there is of it would take room from others.
-                    self.remove_reserve()?;
-                    return Err(why);
+        if !self.reserve || self.kept.bytes < RESERVE.bytes {
+            self.make_reserve()?;
+        }
+        if self.wants_more && self.may_grow {
+            self.may_grow = false;
+            self.grow_reserve()?;
+        }
+        let is_large = self.kept.bytes == LARGE_RESERVE.bytes;
+        self.make_spares(if is_large {
+            LARGE_RESERVE.files
+        } else {
+            RESERVE.files
+        })
+    }
+
+    /// Makes the largest reserve that there is room for.
+    fn make_reserve(&mut self) -> io::Result<()> {
+        for len in SIZES {
+            match self.write_reserve(len) {
+                Ok(()) => {
+                    self.reserve = true;
+                    self.kept.bytes = len;
+                    return Ok(());
                 }
+                Err(why) if why.kind() == ErrorKind::StorageFull => {}
+                Err(why) => return Err(why),
             }
         }
-        self.make_spares()
+        // What there is of it would take room from others.
+        self.remove_reserve()?;
+        Err(Error::from(ErrorKind::StorageFull))
     }
 
     /// Writes the reserve's file.
-    fn make_reserve(&mut self) -> io::Result<()> {
+    fn write_reserve(&mut self, len: u64) -> io::Result<()> {
         self.paths.name_reserve()?;
-        let bytes = vec![in self.alloc; 1u8; RESERVE]?;
-        drop(write_file(&self.rt, self.paths.at(), bytes.as_slice(), &[])?);
+        let piece = len.min(RESERVE.bytes);
+        let bytes = vec![in self.alloc; 1u8; piece as usize]?;
+        let mut file = write_file(&self.rt, self.paths.at(), bytes.as_slice(), &[])?;
+        for _piece in 1..len / RESERVE.bytes {
+            file.write_all(bytes.as_slice())?;
+        }
         Ok(())
     }
 
+    /// Keeps more, where there is plenty of room.
+    fn grow_reserve(&mut self) -> io::Result<()> {
+        let tried = self.write_reserve(LARGE_RESERVE.bytes.saturating_mul(PLENTY));
+        if tried.is_ok() {
+            self.kept.bytes = LARGE_RESERVE.bytes;
+        }
+        // What was only tried goes again.
+        self.paths.name_reserve()?;
+        let mut options = OpenOptions::new();
+        options.write(true);
+        let file = options.open(&self.rt, self.paths.at())?;
+        file.set_len(self.kept.bytes)
+    }
+
     /// Makes the empty files that aren't there, as far as there is room.
-    fn make_spares(&mut self) -> io::Result<()> {
-        for number in self.spares..SPARES {
+    fn make_spares(&mut self, count: usize) -> io::Result<()> {
+        for number in self.kept.files..count {
             self.paths.name_spare(number)?;
             match write_file(&self.rt, self.paths.at(), &[], &[]) {
                 Ok(file) => drop(file),
                 Err(why) if why.kind() == ErrorKind::StorageFull => return Ok(()),
                 Err(why) => return Err(why),
             }
-            self.spares = number.saturating_add(1);
+            self.kept.files = number.saturating_add(1);
         }
         Ok(())
     }

@@ -1,5 +1,6 @@
 //! The paths of a folder's files.
 
+use crate::made::put_made_name;
 use crate::naming::put_name;
 use log_store::which::{FileName, Which};
 use std::alloc::{AllocError, Global};
@@ -70,7 +71,7 @@ impl Paths {
         self.at.as_str()
     }
 
-    /// The path of the new file beside the one named last (`NAME~`).
+    /// The path of the file beside the one named last: the new one of a record (`NAME~`).
     pub fn beside(&self) -> &str {
         self.beside.as_str()
     }
@@ -93,6 +94,13 @@ impl Paths {
                 self.at.push_str(BESIDE)
             }
         }
+    }
+
+    /// Names the second name of a content's file, which stands beside the first (`beside`).
+    pub(crate) fn name_made(&mut self, id: u64) -> Result<(), AllocError> {
+        self.begin()?;
+        put_name(&mut self.beside, Which::Content(id))?;
+        put_made_name(&mut self.at, id)
     }
 
     /// Names the log.

@@ -1,0 +1,51 @@
+//! A content as a file is made with it, of the first version and without bytes. Its file has a second name (`mID`), which
+//! says so, whatever a cut of power leaves of its bytes: once both names are on the disk there is nothing else to flush.
+
+ghost use Rattle.std.specs.Prelude.{◌≡◌, ◌++◌, OnOk, string_bytes};
+ghost use Rattle.system_folder.specs.Names.{made_name};
+
+use crate::disk_files::is_missing;
+use log_store::which::{FileName, Which};
+use std::alloc::AllocError;
+use std::fmt::Write;
+use std::fs::File;
+use std::rt::Files;
+
+/// The bytes of such a content.
+pub(crate) const MADE: [u8; 8] = [0, 0, 0, 0, 0, 0, 0, 1];
+
+/// Whether these bytes, and those behind them, are such a content's.
+pub(crate) fn are_made(front: &[u8], body: &[u8]) -> bool {
+    (body.is_empty() && front == MADE.as_slice()) || (front.is_empty() && body == MADE.as_slice())
+}
+
+/// The id of a content's own file.
+pub(crate) fn content_id(name: FileName) -> Option<u64> {
+    match name {
+        FileName::Record(Which::Content(id)) => Some(id),
+        _ => None,
+    }
+}
+
+/// Writes the second name of such a content's file behind a path. The one error is want of memory.
+pub fn put_made_name(path: &mut String, id: u64) -> Result<(), AllocError>
+    ensures { OnOk result (string_bytes path.new ≡ string_bytes path.old ++ made_name id) }
+{
+    write!(path, "m{id}")
+}
+
+/// The bytes of a content by what its own file has, and whether its second name is there: those of one as it was made, unless
+/// there are more. The one error is want of memory.
+pub fn unless_made<R: Files<File = File>>(
+    rt: &R,
+    bytes: Vec<u8>,
+    made: &str,
+) -> Result<Vec<u8>, AllocError> {
+    if MADE.len() < bytes.len() || bytes.as_slice() == MADE.as_slice() || is_missing(rt, made) {
+        return Ok(bytes);
+    }
+    let mut bytes = bytes;
+    bytes.clear();
+    bytes.extend_from_slice(&MADE)?;
+    Ok(bytes)
+}
