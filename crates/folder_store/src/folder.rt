@@ -348,14 +348,16 @@ impl<R: Files<File = File> + AllocGlobal + Eprint + Clone + Drop> Held<R> {
         }
     }
 
-    /// The log is carried out, and nothing but records' files is left.
-    fn close(&mut self) -> Result<(), Failed> {
+    /// The log is carried out, and nothing but records' files is left. Where memory is wanting the log stays,
+    /// for the next start.
+    fn close(&mut self) -> Result<(), StoreError> {
         if self.syncs.commit().is_in_doubt() {
-            return Err(Failed);
+            return Err(StoreError::Failed);
         }
         match self.store.close() {
             Ok(()) => Ok(()),
-            Err(_why) => Err(Failed),
+            Err(Unfinished::Memory) => Err(StoreError::Memory),
+            Err(Unfinished::Failed | Unfinished::InDoubt) => Err(StoreError::Failed),
         }
     }
 }
@@ -417,12 +419,12 @@ impl<R: Files<File = File> + AllocGlobal + Eprint + Clone + Drop + Send + Sync> 
         self.unsynced = true;
     }
 
-    fn close(&mut self) -> Result<(), Failed> {
+    fn close(&mut self) -> Result<(), StoreError> {
         let done = match &mut self.held {
             Some(held) => held.close(),
             None => Ok(()),
         };
-        if done.is_err() {
+        if let Err(StoreError::Failed) = &done {
             self.faults = one_more(self.faults);
         }
         done

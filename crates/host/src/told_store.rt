@@ -93,7 +93,7 @@ impl<R: Eprint + Drop, S: Synced + Drop> Synced for ToldStore<R, S> {
         self.store.leave_unflushed();
     }
 
-    fn close(&mut self) -> Result<(), Failed> {
+    fn close(&mut self) -> Result<(), StoreError> {
         self.store.close()
     }
 

@@ -2,13 +2,14 @@
 //! tells of outlasts a cut of power; it waits for that beside the store, so that others go on
 //! meanwhile, and changes that wait at once share a flush.
 
-ghost use Rattle.std.specs.Prelude.{◌≡◌, ℕ, ◌≤◌, OnOk, OnErr};
+ghost use Rattle.std.specs.Prelude.{◌≡◌, ℕ, ◌≤◌, OnOk, IsErrOf};
 ghost use Rattle.lb_base.specs.Causes.{Rose};
+ghost use Rattle.store.specs.declared.store.StoreError.TheVariants as errors;
 
 use lb_base::source::Failed;
 use std::alloc::AllocError;
 use std::sync::Wait;
-use store::store::Store;
+use store::store::{Store, StoreError};
 
 /// Makes sure what a store was given. Threads share it, beside the store.
 pub trait Syncs {
@@ -35,12 +36,13 @@ pub trait Synced: Store {
         ensures spare { Self.spare self.new ≡ Self.spare self.old }
         ensures faults { Self.faults self.new ≡ Self.faults self.old };
 
-    /// Nothing more will be given: all is made sure. `Failed` comes where anything that the store was
-    /// given could not be made sure, by the object too; the count of faults rises then.
-    fn close(&mut self) -> Result<(), Failed>
+    /// Nothing more will be given: all is made sure. An error comes where anything that the store was
+    /// given could not be made sure, by the object too: want of memory, or `Failed`, where the count of
+    /// faults rose.
+    fn close(&mut self) -> Result<(), StoreError>
         ensures kept { Self.records self.new ≡ Self.records self.old }
         ensures later { Self.faults self.old ≤ Self.faults self.new }
-        ensures cause { OnErr result (Rose (Self.faults self.old) (Self.faults self.new)) };
+        ensures cause { IsErrOf result errors.Failed → Rose (Self.faults self.old) (Self.faults self.new) };
 
     /// How many faults there were.
     fn fault_count(&self) -> u64

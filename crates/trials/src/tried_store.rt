@@ -135,10 +135,10 @@ impl Synced for TriedStore {
 
     fn leave_unflushed(&mut self) {}
 
-    fn close(&mut self) -> Result<(), Failed> {
+    fn close(&mut self) -> Result<(), StoreError> {
         if self.settles.has_failed.load(Ordering::SeqCst) {
             self.faults = one_more(self.faults);
-            return Err(Failed);
+            return Err(StoreError::Failed);
         }
         Ok(())
     }
