@@ -26,6 +26,10 @@ lettered_in (c ∷ cs) = lettered c cs
 abbrev pub which_of : List ℕ → Option Which
 which_of name = if bytes_eq name (codes "head") then Some which.Head else lettered_in name
 
+-- a content as a file is made with it: of the first version, and without bytes
+abbrev pub made_bytes : List ℕ
+made_bytes = 0 ∷ 0 ∷ 0 ∷ 0 ∷ 0 ∷ 0 ∷ 0 ∷ 1 ∷ []
+
 -- the second name of a content's file, which has the content as a file is made with it
 abbrev pub made_name : ℕ → List ℕ
 made_name id = codes "m" ++ decimal id

@@ -2,7 +2,7 @@
 use Rattle.std.specs.Prelude.{◌≡◌, [], ◌∷◌, true, false, Some, None, codes, ◌++◌}
 use Rattle.std.proofs.Common.{refl}
 use Rattle.log_store.specs.declared.which.Which.TheVariants as which
-use Rattle.system_folder.specs.Names.{which_of, made_name}
+use Rattle.system_folder.specs.Names.{which_of}
 use Rattle.system_folder.specs.Strangers.{begins_log, begins_reserve, begins_list}
 
 which_row : which_of (codes "c120") ≡ Some (which.Content 120)
@@ -16,7 +16,7 @@ beside_row : which_of (codes "n2~") ≡ None
 beside_row = refl
 
 -- the second name of a content's file is that of no record
-made_row : which_of (made_name 120) ≡ None
+made_row : which_of (codes "m120") ≡ None
 made_row = refl
 
 -- a text isn't a log, nor what is reserved

@@ -1,8 +1,8 @@
 //! A content as a file is made with it, of the first version and without bytes. Its file has a second name (`mID`), which
 //! says so, whatever a cut of power leaves of its bytes: once both names are on the disk there is nothing else to flush.
 
-ghost use Rattle.std.specs.Prelude.{◌≡◌, ◌++◌, OnOk, string_bytes};
-ghost use Rattle.system_folder.specs.Names.{made_name};
+ghost use Rattle.std.specs.Prelude.{◌≡◌, ◌⊎◌, ◌≤◌, ◌++◌, true, length, OnOk, IfOk, string_bytes};
+ghost use Rattle.system_folder.specs.Names.{made_bytes, made_name};
 
 use crate::disk_files::is_missing;
 use log_store::which::{FileName, Which};
@@ -15,8 +15,14 @@ use std::rt::Files;
 pub(crate) const MADE: [u8; 8] = [0, 0, 0, 0, 0, 0, 0, 1];
 
 /// Whether these bytes, and those behind them, are such a content's.
-pub(crate) fn are_made(front: &[u8], body: &[u8]) -> bool {
-    (body.is_empty() && front == MADE.as_slice()) || (front.is_empty() && body == MADE.as_slice())
+#[tactic(auto, using(crate::proofs::Names::made_front, crate::proofs::Names::made_body))]
+pub(crate) fn are_made(front: &[u8], body: &[u8]) -> bool
+    ensures { result ≡ true → front.now ++ body.now ≡ made_bytes }
+{
+    match body {
+        [] => front == MADE.as_slice(),
+        [_first, ..] => front.is_empty() && body == MADE.as_slice(),
+    }
 }
 
 /// The id of a content's own file.
@@ -40,7 +46,9 @@ pub fn unless_made<R: Files<File = File>>(
     rt: &R,
     bytes: Vec<u8>,
     made: &str,
-) -> Result<Vec<u8>, AllocError> {
+) -> Result<Vec<u8>, AllocError>
+    ensures { IfOk result (λ r. (r.items ≡ bytes.items) ⊎ ((length bytes.items ≤ 8) × (r.items ≡ made_bytes))) }
+{
     if MADE.len() < bytes.len() || bytes.as_slice() == MADE.as_slice() || is_missing(rt, made) {
         return Ok(bytes);
     }
