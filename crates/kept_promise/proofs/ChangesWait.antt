@@ -63,7 +63,7 @@ waits_there ws i f c l at on = any_at (λ (d : Change). is_about d l.file) ws i 
 
 taken_none : (s : State) (n xid : ℕ) (b : Body) (p : State × ServerStep) → AreOrdered s.leasing.leases → Taken s n xid b p → NoneGranted s p.0
 taken_none s n xid b p ordered (stays waiting leasing) = none_same s p.0 (ap (λ g. g.leases) leasing)
-taken_none s n xid b p ordered (grants file waiting leasing) = λ i j c l waits at on. by j l file (ap (λ (ls : List Lease). slice_get ls j) (sym (ap (λ g. g.leases) leasing)) ∙ at) (waits_there s.waiting i 0 c l (ap (λ (ws : List Change). slice_get ws i) (sym waiting) ∙ waits) on)
+taken_none s n xid b p ordered (grants file names waiting leasing) = λ i j c l waits at on. by j l file (ap (λ (ls : List Lease). slice_get ls j) (sym (ap (λ g. g.leases) leasing)) ∙ at) (waits_there s.waiting i 0 c l (ap (λ (ws : List Change). slice_get ws i) (sym waiting) ∙ waits) on)
   where
     by : (j : ℕ) (l : Lease) (file : Option ℕ) → slice_get (with_granted_on s.leasing.leases s.leasing.moment n file (term_on s file)) j ≡ Some l → waits_on s.waiting l.file ≡ true → StoodIn s.leasing.leases l
     by j l None at waits = stood_there s.leasing.leases j l at
@@ -189,7 +189,7 @@ serves_on k n now bytes ordered = by (numbered k.sessions n)
   where
     taken : (x : Session) (xid : ℕ) (b : Body) → parse_of (server_waits k n) bytes ≡ Ok (message.Call xid b) → (p : State × ServerStep) → Taken (at_reading k.server now) n xid b p → GoesOn (Serves n now bytes) (record { event = Serves n now bytes; before = k.server; after = p.0; sent = p.1.send })
     taken x xid b read p (stays waiting leasing) = inl waiting
-    taken x xid b read p (grants file waiting leasing) = inl waiting
+    taken x xid b read p (grants file names waiting leasing) = inl waiting
     taken x xid b read p (comes_to c asked waiting leasing says) = inr (c, comes_so k n now bytes xid b p.0 p.1.send ordered read c asked waiting leasing says)
 
     got : (x : Session) (m : Message) → parse_of (server_waits k n) bytes ≡ Ok m → (t : Bool) → (let p = got_if_under k.server false t n m now in GoesOn (Serves n now bytes) (record { event = Serves n now bytes; before = k.server; after = p.0; sent = p.1.send }))
@@ -264,7 +264,7 @@ goes_on book k qs (Cuts c) kept ordered = rests_on k (Cuts c) (λ n now bytes z.
 
 taken_ordered : (s : State) (n xid : ℕ) (b : Body) (p : State × ServerStep) → Taken s n xid b p → AreOrdered s.leasing.leases → AreOrdered p.0.leasing.leases
 taken_ordered s n xid b p (stays waiting leasing) h = subst (λ g. AreOrdered g.leases) (sym leasing) h
-taken_ordered s n xid b p (grants file waiting leasing) h = subst (λ g. AreOrdered g.leases) (sym leasing) (by file)
+taken_ordered s n xid b p (grants file names waiting leasing) h = subst (λ g. AreOrdered g.leases) (sym leasing) (by file)
   where
     by : (file : Option ℕ) → AreOrdered (with_granted_on s.leasing.leases s.leasing.moment n file (term_on s file))
     by None = h
@@ -319,7 +319,7 @@ stays_ordered k e h = what_happens k e (λ t. AreOrdered t.core.server.leasing.l
 
 quiet_taken : (s : State) (n xid : ℕ) (b : Body) (p : State × ServerStep) → Taken s n xid b p → p.0.leasing.quiet ≡ s.leasing.quiet
 quiet_taken s n xid b p (stays waiting leasing) = ap (λ g. g.quiet) leasing
-quiet_taken s n xid b p (grants file waiting leasing) = ap (λ g. g.quiet) leasing
+quiet_taken s n xid b p (grants file names waiting leasing) = ap (λ g. g.quiet) leasing
 quiet_taken s n xid b p (comes_to c asked waiting leasing says) = ap (λ g. g.quiet) leasing
 
 quiet_got : (s : State) (t : Bool) (n now : ℕ) (m : Message) → (got_if_under s false t n m now).0.leasing.quiet ≡ s.leasing.quiet

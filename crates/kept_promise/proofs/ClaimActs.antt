@@ -23,7 +23,7 @@ use Rattle.kept_promise.proofs.RecallsKept.{AreRecalls, AreAwaited, AreTwo, AllO
 use Rattle.kept_promise.proofs.Claimed.{Claimed, HasClaims, HasNote, IsTalking, IsPromised, AllTails, leasing_xid, ups_of, downs_of, way_of}
 use Rattle.kept_promise.proofs.ClaimWays.{downs_on, before_at, sent_is, ups_are, ups_unless}
 use Rattle.kept_promise.proofs.ClaimFrame.{claim_of, Goes, note_goes, tails_map, promised_map}
-use Rattle.kept_promise.proofs.NoteSteps.{StepKeeps, HadNote}
+use Rattle.kept_promise.proofs.NoteSteps.{StepKeeps, HadNote, SendsLease}
 
 -- ---- calls go up
 
@@ -303,7 +303,7 @@ module _ (k : Core) (ms mid : List Mix) (t : CoreStep) (i : ℕ) (seat next : Se
               note_goes noted more clock at_ k t.core ms (mixes_after mid t sent) i f n.version n.until acts.drift term_same grows o (λ f. seat.session ≡ Some o.number → Spare f t.up) (act_goes o.number o.session o.there) (λ mine. spare f (keeps.stores f g n at is))
           noted_then f g n at is (inr new) = fresh f n new (spare f (keeps.stores f g n at is))
 
-          sent_then : (u : Task) (x : ℕ) → next.client.task ≡ Some u → leasing_xid u.stage ≡ Some x → ((seat.client.next_xid ≤ x) × (next.client.sent ≡ now)) ⊎ ((seat.client.task ≡ Some u) × (next.client.sent ≡ seat.client.sent) × (does.send ≡ []))
+          sent_then : (u : Task) (x : ℕ) → next.client.task ≡ Some u → leasing_xid u.stage ≡ Some x → ((seat.client.next_xid ≤ x) × (next.client.sent ≡ now) × SendsLease does.send x u.file) ⊎ ((seat.client.task ≡ Some u) × (next.client.sent ≡ seat.client.sent) × (does.send ≡ []))
               → (base : ℕ) × IsAmong (noted_at i next.client.sent base) more × (base ≤ at_)
           sent_then u x task lease (inl e) = (at_, subst (λ (z : ℕ). IsAmong (noted_at i z at_) more) (sym e.1) known, omega arith)
           sent_then u x task lease (inr e) = let s = c.sent u x e.0 lease in let b = s.2 in (s.0, subst (λ (z : ℕ). IsAmong (noted_at i z s.0) more) (sym e.1) (grows _ s.1), omega (arith, b, le))

@@ -12,14 +12,14 @@ use Rattle.client_state.specs.declared.task.Stage.TheVariants as stage
 use Rattle.open_close.specs.Step.{command_step, got_step}
 use Rattle.server_core.specs.State as server
 use Rattle.lease_law.specs.Claims.{IsAmong, IsNote, noted_at}
-use Rattle.kept_promise.proofs.Common.{Core, CoreStep, Seat, Session, Event, Event.Does, Event.Hears, happens, does, acted, commanded_sessions, session_of, numbered, with_numbered, Moment, Opening, Command, Told, told_message, message_spell, Down, Down.Tells, Down.Recalls, tolds_in, Mix, queue_of, word_of, Queue, commanded_session, place_with, place_after}
+use Rattle.kept_promise.proofs.Common.{Core, CoreStep, Seat, Session, Event, Event.Does, Event.Hears, happens, does, acted, commanded_sessions, session_of, numbered, with_numbered, Moment, Book, Opening, Command, Told, told_message, message_spell, Down, Down.Tells, Down.Recalls, tolds_in, Mix, queue_of, word_of, Queue, commanded_session, place_with, place_after}
 use Rattle.kept_promise.proofs.Lists.{some_is, nothing_there, same_or_not, set_count}
 use Rattle.kept_promise.proofs.Keys.{there_by}
 use Rattle.kept_promise.proofs.Turns.{around_with}
 use Rattle.kept_promise.proofs.Heard.{told_pending}
 use Rattle.kept_promise.proofs.Moves.{told_there}
 use Rattle.kept_promise.proofs.Messages.{Job, job, CloseOf}
-use Rattle.kept_promise.proofs.Facts.{IsBalanced}
+use Rattle.kept_promise.proofs.Facts.{IsBalanced, IsKept}
 use Rattle.kept_promise.proofs.Mixes.{there_plain}
 use Rattle.kept_promise.proofs.Fits.{FitLaws}
 use Rattle.kept_promise.proofs.Actors.{Heard, heard_at, heard_acts}
@@ -157,23 +157,22 @@ module _ (k : Core) (ms : List Mix) (i n now : ℕ) (a : Told) (seat : Seat) (x 
           (ap (λ (z : Mix). z.ups) (sym w), inl (ap (λ (z : Mix). z.downs) (sym w)))
 
 -- a close's file is small
-pub closes_small : {all past rest : List Moment} {opening : List Opening} {k : Core} {ms : List Mix} {e : Event} {mid after : List Mix} (s : MixStep all past rest opening k ms e mid after) (i : ℕ) (seat : Seat) (n : ℕ) (x : Session) (m : Mix) → numbered k.seats i ≡ Some seat → seat.session ≡ Some n → numbered k.sessions n ≡ Some x → x.cut ≡ false → numbered ms n ≡ Some m → ClosesSmall seat.client
-closes_small {all = all} {opening = opening} {k = k} {ms = ms} s i seat n x m here mine there uncut is u task storing =
-    elim ((s.plain.kept.seats i seat here).matched) [
+pub closes_small : (book : Book) (k : Core) (qs : List Queue) (i : ℕ) (seat : Seat) (n : ℕ) (x : Session) (q : Queue) → IsKept book k qs → numbered k.seats i ≡ Some seat → numbered k.sessions n ≡ Some x → x.owner ≡ i → x.cut ≡ false → numbered qs n ≡ Some q → ClosesSmall seat.client
+closes_small book k qs i seat n x q kept here there owner uncut is u task storing =
+    elim ((kept.seats i seat here).matched) [
       | inl none ↦ nothing_there u (sym none.1 ∙ task)
       | inr busy ↦ by busy.0 busy.1
     ]
   where
-    small : (j : Job) (v : List ℕ) (closing : Option ℕ) (contents : ℕ → List ℕ) (next : ℕ) → (st : Stage) → CloseOf (book_at opening k all) closing contents next j v st → IsStoring st → j.file < 18446744073709551616
+    small : (j : Job) (v : List ℕ) (closing : Option ℕ) (contents : ℕ → List ℕ) (next : ℕ) → (st : Stage) → CloseOf book closing contents next j v st → IsStoring st → j.file < 18446744073709551616
     small j v closing contents next (stage.Making y temp) c y_ = c.0.small
     small j v closing contents next (stage.Storing st) c y_ = c.0.small
     small j v closing contents next st c y_ = absurd y_
 
     by : (j : Job) → job seat ≡ Some j → u.file < 18446744073709551616
     by j is_job =
-        let h = s.plain.kept.sessions n x (queue_of m) there (there_plain ms n m is) in
-        let o = owners_are s i seat n here mine in
-        let same : h.seat ≡ seat = some_is h.seat seat (sym h.owner ∙ ap (numbered k.seats) (ap (λ (z : Session). z.owner) (some_is x o.0 (sym there ∙ o.1)) ∙ o.2) ∙ here) in
+        let h = kept.sessions n x q there is in
+        let same : h.seat ≡ seat = some_is h.seat seat (sym h.owner ∙ ap (numbered k.seats) owner ∙ here) in
         let q = job_task seat.place seat.client.task u j task is_job in
         subst (λ (f : ℕ). f < 18446744073709551616) q.0
         (small j _ x.closing h.contents _ j.stage (h.closes uncut j (ap job same ∙ is_job)) (subst IsStoring (sym q.1) storing))
@@ -215,7 +214,7 @@ told_claimed laws {all = all} {opening = opening} {k = k} {ms = ms} n now bytes 
     does_ = heard_acts laws (book_at opening k all) k (map queue_of ms) n now bytes (with_numbered (map queue_of ms) n (record q { downs = tolds_in ds })) s.plain.kept f
 
     keeps : StepKeeps now seat.client r (NewNote seat.client f.told)
-    keeps = told_keeps seat.client f.told now (closes_small s i seat n f.session m f.owner f.newest f.at f.uncut is)
+    keeps = told_keeps seat.client f.told now (closes_small (book_at opening k all) k (map queue_of ms) i seat n f.session q s.plain.kept f.owner f.at refl f.uncut (there_plain ms n m is))
 
     then_ : List Mix
     then_ = with_numbered ms n (record m { downs = ds })

@@ -86,8 +86,8 @@ settled_are book k qs now kept = by (settling book k qs now kept)
         })
 
     by : Settling k now (settles k now) → Settled k (settles k now).core.ops
-    by (makes_else (inl same) entered tells) = inl same
-    by (makes_else (inr gone) entered tells) = inr (goes_of gone)
+    by (makes_else (inl same) entered tells removes) = inl same
+    by (makes_else (inr gone) entered tells removes) = inr (goes_of gone)
     by (makes_commit c cs f out what there) =
         subst (λ (t : CoreStep). Settled k t.core.ops) (sym (out.is ∙ ap (settled_to k) (made_is book k.server now c cs f kept.server out.out there what))) (made cs c out what f)
 

@@ -9,10 +9,11 @@ use Rattle.callback_core.specs.Waits.{without}
 use Rattle.server_core.specs.Closing.{ready_by}
 use Rattle.server_core.specs.State.{State, Change}
 use Rattle.trace_replay.specs.Trail.{step_if}
-use Rattle.trace_replay.specs.PendingChanges.{move_of, GrantsNone, FreesAnswered, GoesOn, IsFreeBy, settling_at, settlings, TakesOut, WaitInTurn}
+use Rattle.trace_replay.specs.PendingChanges.{move_of, KeepsTime, LeasesCome, GrantsNone, FreesAnswered, GoesOn, IsFreeBy, settling_at, settlings, TakesOut, WaitInTurn}
 use Rattle.kept_promise.proofs.Common.{Contains-append_left, Contains-push, Contains-push_cases, Core, Session, Event, Event.Joins, Event.Does, Event.Serves, Event.Hears, Event.Settles, Event.Cuts, Event.Hangs, happens, numbered, Moment, Book, Queue, Opening}
 use Rattle.kept_promise.proofs.ChangesWait.{grants_none, frees_answered, goes_on, stays_ordered, quiet_stays}
 use Rattle.kept_promise.proofs.Facts.{IsKept}
+use Rattle.kept_promise.proofs.LeasesCame.{leases_come, keeps_time}
 use Rattle.kept_promise.proofs.Lists.{some_is, nothing_there, within, of_appended, kept_appended}
 use Rattle.kept_promise.proofs.MadeRuns.{Leaves, leaves_ready}
 use Rattle.kept_promise.proofs.ReadySoon.{ready_soon}
@@ -100,7 +101,6 @@ free_then k e ordered t q r c h there were = record {
       let last = h.ended w.0 s.place d s.lease w.1 w.2 file s.there (s.file ∙ on) (ap (λ (n : ℕ). is_others (record l { session = n }) (asker d)) s.session ∙ other) in
       let same = s.ends in
       omega (arith, last, same));
-  awake = let le = h.awake in let same = quiet_stays k e in omega (arith, le, same);
 }
 
 free_same : (k : Core) (e : Event) → AreOrdered k.server.leasing.leases → (t q : ℕ) (c : Change) → IsFreeBy k.server t q c → (happens k e).core.server.waiting ≡ k.server.waiting → IsFreeBy (happens k e).core.server t q c
@@ -120,15 +120,14 @@ compare (suc a) (suc b) = elim (compare a b) [
   | inr (inr gt) ↦ inr (inr (omega (arith, gt)))
 ]
 
-settle_nears : (k : Core) → AreOrdered k.server.leasing.leases → (t now q : ℕ) (c : Change) → IsFreeBy k.server t q c → (o : Option Change) → ready_by k.server now ≡ o → Leaves k now o → Nears k (Settles now) t q c
-settle_nears k ordered t now q c h o e l = by o e l (nat_le t now) refl
+settle_nears : (k : Core) → AreOrdered k.server.leasing.leases → k.server.leasing.quiet ≡ 0 → (t now q : ℕ) (c : Change) → IsFreeBy k.server t q c → (o : Option Change) → ready_by k.server now ≡ o → Leaves k now o → Nears k (Settles now) t q c
+settle_nears k ordered awake t now q c h o e l = by o e l (nat_le t now) refl
   where
     -- something is ready at a reading that is late enough
     soon : t ≤ now → (d : Change) × (i : ℕ) × (i ≤ q) × (slice_get k.server.waiting i ≡ Some d) × (ready_by k.server now ≡ Some d)
-    soon le = ready_soon k.server now q c (record {
+    soon le = ready_soon k.server now q c awake (record {
       there = h.there;
       ended = λ i j d l before at file stands on other. (let z = h.ended i j d l before at file stands on other in omega (arith, z, le));
-      awake = let w = h.awake in omega (arith, w, le);
     })
 
     late : nat_le t now ≡ true → t ≤ now
@@ -194,14 +193,14 @@ serve_nears k ordered t n now bytes q c h (inr (d, comes)) =
           ]),
     )
 
-nears : (book : Book) (k : Core) (qs : List Queue) (e : Event) (t q : ℕ) (c : Change) → IsKept book k qs → AreOrdered k.server.leasing.leases → IsFreeBy k.server t q c → GoesOn e (move_of (moment k e)) → Nears k e t q c
-nears book k qs (Serves n now bytes) t q c kept ordered h goes = serve_nears k ordered t n now bytes q c h goes
-nears book k qs (Settles now) t q c kept ordered h goes = settle_nears k ordered t now q c h (ready_by k.server now) refl (leaves_ready book k qs now kept)
-nears book k qs (Hangs n) t q c kept ordered h goes = hang_nears k ordered t n q c h goes
-nears book k qs (Joins i) t q c kept ordered h goes = inr (q, omega arith, free_same k (Joins i) ordered t q c h goes)
-nears book k qs (Does i now d) t q c kept ordered h goes = inr (q, omega arith, free_same k (Does i now d) ordered t q c h goes)
-nears book k qs (Hears n now bytes) t q c kept ordered h goes = inr (q, omega arith, free_same k (Hears n now bytes) ordered t q c h goes)
-nears book k qs (Cuts i) t q c kept ordered h goes = inr (q, omega arith, free_same k (Cuts i) ordered t q c h goes)
+nears : (book : Book) (k : Core) (qs : List Queue) (e : Event) (t q : ℕ) (c : Change) → IsKept book k qs → AreOrdered k.server.leasing.leases → k.server.leasing.quiet ≡ 0 → IsFreeBy k.server t q c → GoesOn e (move_of (moment k e)) → Nears k e t q c
+nears book k qs (Serves n now bytes) t q c kept ordered awake h goes = serve_nears k ordered t n now bytes q c h goes
+nears book k qs (Settles now) t q c kept ordered awake h goes = settle_nears k ordered awake t now q c h (ready_by k.server now) refl (leaves_ready book k qs now kept)
+nears book k qs (Hangs n) t q c kept ordered awake h goes = hang_nears k ordered t n q c h goes
+nears book k qs (Joins i) t q c kept ordered awake h goes = inr (q, omega arith, free_same k (Joins i) ordered t q c h goes)
+nears book k qs (Does i now d) t q c kept ordered awake h goes = inr (q, omega arith, free_same k (Does i now d) ordered t q c h goes)
+nears book k qs (Hears n now bytes) t q c kept ordered awake h goes = inr (q, omega arith, free_same k (Hears n now bytes) ordered t q c h goes)
+nears book k qs (Cuts i) t q c kept ordered awake h goes = inr (q, omega arith, free_same k (Cuts i) ordered t q c h goes)
 
 -- ---- lists of moments
 
@@ -252,9 +251,18 @@ IsGone c ms = (n : Moment) × Contains ms n × TakesOut n c
 abbrev IsStill : State → (t place : ℕ) → Change → List Moment → Type 0
 IsStill s t place c ms = (q : ℕ) × (q + settlings t ms ≤ place) × IsFreeBy s t q c
 
+-- in one step
+pub record TakesTurn (m : Moment) : Type 0 where
+  pub goes_on : GoesOn m.event (move_of m)
+  pub keeps : KeepsTime (move_of m)
+  pub come : LeasesCome (move_of m)
+  pub grants_none : GrantsNone (move_of m)
+  pub frees : FreesAnswered (move_of m)
+
 pub record TakeTurns (past : List Moment) (k : Core) : Type 0 where
   pub ordered : AreOrdered k.server.leasing.leases
-  pub each : (m : Moment) → Contains past m → GoesOn m.event (move_of m) × (GrantsNone (move_of m) × FreesAnswered (move_of m))
+  pub awake : k.server.leasing.quiet ≡ 0
+  pub each : (m : Moment) → Contains past m → TakesTurn m
   pub live : (early span : List Moment) (m : Moment) (t place : ℕ) (c : Change) → past ≡ early ++ m ∷ span → IsFreeBy m.before.server t place c → IsGone c (m ∷ span) ⊎ IsStill k.server t place c (m ∷ span)
   pub soon : (early span late : List Moment) (m : Moment) (t place : ℕ) (c : Change) → past ≡ early ++ m ∷ (span ++ late) → IsFreeBy m.before.server t place c → place < settlings t (m ∷ span) → IsGone c (m ∷ span)
 
@@ -281,7 +289,7 @@ module _ {all past rest : List Moment} {opening : List Opening} {k : Core} {qs :
   goes = goes_on (book_at opening k all) k qs e s.kept h.ordered
 
   nears_now : (t q : ℕ) (c : Change) → IsFreeBy k.server t q c → Nears k e t q c
-  nears_now t q c free = nears (book_at opening k all) k qs e t q c s.kept h.ordered free goes
+  nears_now t q c free = nears (book_at opening k all) k qs e t q c s.kept h.ordered h.awake free goes
 
   live_then : (early span : List Moment) (m : Moment) (t place : ℕ) (c : Change) → past ++ m_ ∷ [] ≡ early ++ m ∷ span → IsFreeBy m.before.server t place c → IsGone c (m ∷ span) ⊎ IsStill (happens k e).core.server t place c (m ∷ span)
   live_then early span m t place c is free = elim (split_last past early span m m_ is) [
@@ -316,9 +324,16 @@ module _ {all past rest : List Moment} {opening : List Opening} {k : Core} {qs :
   turns_then : TakeTurns (past ++ m_ ∷ []) (happens k e).core
   turns_then = record {
     ordered = stays_ordered k e h.ordered;
+    awake = quiet_stays k e ∙ h.awake;
     each = λ m there. elim (Contains-push_cases past m_ m there) [
       | inl old ↦ h.each m old
-      | inr new ↦ subst (λ (z : Moment). GoesOn z.event (move_of z) × (GrantsNone (move_of z) × FreesAnswered (move_of z))) new (goes, (grants_none k e h.ordered, frees_answered (book_at opening k all) k qs e made))
+      | inr new ↦ subst TakesTurn new (record {
+        goes_on = goes;
+        keeps = keeps_time k e h.awake;
+        come = leases_come (book_at opening k all) k qs e s.kept h.ordered;
+        grants_none = grants_none k e h.ordered;
+        frees = frees_answered (book_at opening k all) k qs e made;
+      })
     ];
     live = live_then;
     soon = soon_then;
@@ -331,6 +346,7 @@ pub carried_turns : Carried AllTurns
 carried_turns = record {
   first = λ all opening tree header kept. record {
     ordered = λ i j d before last. absurd (omega (arith, last));
+    awake = refl;
     each = λ m there. (let lt = there.1 in absurd (omega (arith, lt)));
     live = λ early span m t place c is free. none_more early m span is;
     soon = λ early span late m t place c is free lt. none_more early m (span ++ late) is;
@@ -338,10 +354,11 @@ carried_turns = record {
   steps = λ all past rest opening k qs e mid after s h. turns_then s h;
   adjusts = λ all past opening k qs index seats same h. record {
     ordered = h.ordered;
+    awake = h.awake;
     each = h.each;
     live = λ early span m t place c is free. elim (h.live early span m t place c is free) [
       | inl gone ↦ inl gone
-      | inr still ↦ inr (still.0, still.1, record { there = still.2.there; ended = still.2.ended; awake = still.2.awake })
+      | inr still ↦ inr (still.0, still.1, record { there = still.2.there; ended = still.2.ended })
     ];
     soon = h.soon;
   };
@@ -351,9 +368,11 @@ carried_turns = record {
 
 pub waits_in_turn : (book : Book) (k : Core) → TakeTurns book.moments k → WaitInTurn book
 waits_in_turn book k h = record {
-  goes_on = λ m there. (h.each m there).0;
-  grants_none = λ m there. (h.each m there).1.0;
-  frees = λ m there. (h.each m there).1.1;
-  ready = λ m now place c there free. ready_soon m.before.server now place c free;
+  goes_on = λ m there. (h.each m there).goes_on;
+  keeps = λ m there. (h.each m there).keeps;
+  come = λ m there. (h.each m there).come;
+  grants_none = λ m there. (h.each m there).grants_none;
+  frees = λ m there. (h.each m there).frees;
+  ready = λ m now place c there free. ready_soon m.before.server now place c (h.each m there).keeps.quiet free;
   soon = λ early span late m t place c is free lt. h.soon early span late m t place c is free lt;
 }

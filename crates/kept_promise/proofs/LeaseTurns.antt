@@ -47,7 +47,8 @@ use Rattle.server_core.specs.Recalling.{file_in, grants_on, recall_sent, recalls
 use Rattle.server_core.specs.State.{State, Change, change_of, held}
 use Rattle.server_core.specs.Step.{called_under, asks as asks_outcome, asks_tree}
 use Rattle.lease_law.proofs.Calls.{named_file}
-use Rattle.trace_replay.specs.PendingChanges.{name_in, file_asked, kind_asked}
+use Rattle.trace_replay.specs.PendingChanges.{name_in, file_asked, file_leased, kind_asked}
+use Rattle.kept_promise.proofs.Lists.{nothing_there}
 use Rattle.kept_promise.proofs.TreeMade.{remove_file}
 
 -- a call that waits from now on, as a change of the file that it asks to change
@@ -59,7 +60,7 @@ pub record IsAsked (t : Tree) (n xid : ℕ) (b : Body) (c : Change) : Type 0 whe
 
 pub data Taken (s : State) (n xid : ℕ) (b : Body) (p : State × ServerStep) : Type 0 where
   stays : p.0.waiting ≡ s.waiting → p.0.leasing ≡ s.leasing → Taken s n xid b p
-  grants : (file : Option ℕ) → p.0.waiting ≡ s.waiting → p.0.leasing ≡ (grants_on s n file).leasing → Taken s n xid b p
+  grants : (file : Option ℕ) → ((id : ℕ) → file ≡ Some id → file_leased b ≡ Some id) → p.0.waiting ≡ s.waiting → p.0.leasing ≡ (grants_on s n file).leasing → Taken s n xid b p
   comes_to : (c : Change) → IsAsked s.tree n xid b c → p.0.waiting ≡ s.waiting ++ c ∷ [] → p.0.leasing ≡ recalled s.leasing (recalls_for s c) → p.1.send ≡ map recall_sent (asking s.leasing (recalls_for s c)).1 → Taken s n xid b p
 
 -- ---- the file that a name stands for
@@ -82,6 +83,12 @@ handle_is handle id e = by (named_by handle) e
     by : (o : Option ℕ) → or_bad_handle o ≡ Ok id → o ≡ Some id
     by None e = no_ok e
     by (Some x) e = ap (λ (z : ℕ). Some z) (ok_same x id e)
+
+-- that of a node
+node_named : (t : Tree) (handle : List ℕ) (o : Result Node Status) → node_of t handle ≡ o → (id : ℕ) → file_in o ≡ Some id → named_by handle ≡ Some id
+node_named t handle (Err e) is id none = nothing_there id none
+node_named t handle (Ok directory) is id none = nothing_there id none
+node_named t handle (Ok (a_file f)) is id at = named_file t handle f is ∙ at
 
 -- what REMOVE's name stands for
 removed_is : (t : Tree) (held : Held) (busy : Bool) (dir : ℕ) (name : List ℕ) (file : ℕ) → asks_remove t held busy dir name ≡ Ok file → option_map (λ (n : TreeNode). n.id) (named t.nodes dir name) ≡ Some file
@@ -233,8 +240,8 @@ module _ (s : State) (n xid : ℕ) where
   nfs_taken m = let p : Tree × Option Outcome = calls_under s.tree (held s.waiting) busy false m in asks_taken s n xid (body.Nfs m) p.0 p.1 (λ a e. told_never (told s.tree.nodes m) (body.Nfs m) a e)
 
   pub called_taken : (b : Body) → Taken s n xid b (called_under s false n xid b)
-  called_taken (body.Lb (lb.GetLease handle)) = grants (file_in (node_of s.tree handle)) refl refl
-  called_taken (body.Lb (lb.GetHash r)) = grants (file_in (node_of s.tree r.handle)) refl refl
+  called_taken (body.Lb (lb.GetLease handle)) = grants (file_in (node_of s.tree handle)) (node_named s.tree handle (node_of s.tree handle) refl) refl refl
+  called_taken (body.Lb (lb.GetHash r)) = grants (file_in (node_of s.tree r.handle)) (node_named s.tree r.handle (node_of s.tree r.handle) refl) refl refl
   called_taken (body.Lb (lb.MkTmpFile a)) = makes_taken s n xid (body.Lb (lb.MkTmpFile a)) a.fd (node_of s.tree a.handle)
   called_taken (body.Lb (lb.TmpWrite a)) = writes_taken s n xid (body.Lb (lb.TmpWrite a)) a (temp_at s.temps n a.fd) (piece_fault (temp_at s.temps n a.fd) a.offset (length a.bytes))
   called_taken (body.Lb (lb.CondWrite a)) = names_taken s n xid (body.Lb (lb.CondWrite a)) a (temp_at s.temps n a.fd) (cond_fault a (temp_at s.temps n a.fd))

@@ -66,7 +66,7 @@ any_at p (y ∷ ys) (suc i) x e is = by (p y) (any_at p ys i x e is)
     by true h = refl
     by false h = h
 
-all_at : {X : Type 0} (P : X → Type 0) (xs : List X) (i : ℕ) (x : X) → AllByRecursion P xs → slice_get xs i ≡ Some x → P x
+pub all_at : {X : Type 0} (P : X → Type 0) (xs : List X) (i : ℕ) (x : X) → AllByRecursion P xs → slice_get xs i ≡ Some x → P x
 all_at P [] i x h e = nothing_there x e
 all_at P (y ∷ ys) zero x h e = subst P (some_is y x e) h.0
 all_at P (y ∷ ys) (suc i) x h e = all_at P ys i x h.1 e
@@ -123,7 +123,7 @@ granted_stood leases ws moment n id term f i l waits e on = by (waits_on ws id) 
     by false is e = given (term == 0) is e
 
 -- what stands where leases are asked for, in the place of another
-abbrev IsPlaced : List Lease → Lease → Type 0
+abbrev pub IsPlaced : List Lease → Lease → Type 0
 IsPlaced leases l = (i : ℕ) × (k : Lease) × (slice_get leases i ≡ Some k) × (k.session ≡ l.session) × (k.file ≡ l.file) × (k.ends ≡ l.ends)
 
 placed_there : (leases : List Lease) (l : Lease) → StoodIn leases l → IsPlaced leases l
@@ -139,7 +139,7 @@ marked_placed leases s f x i l e = by (lease_at leases s f) refl e
       | inr old ↦ placed_there leases l old
     ]
 
-all_marked_placed : (rs : List Asked) (leases : List Lease) (i : ℕ) (l : Lease) → slice_get (all_marked leases rs) i ≡ Some l → IsPlaced leases l
+pub all_marked_placed : (rs : List Asked) (leases : List Lease) (i : ℕ) (l : Lease) → slice_get (all_marked leases rs) i ≡ Some l → IsPlaced leases l
 all_marked_placed [] leases i l e = (i, l, e, refl, refl, refl)
 all_marked_placed (a ∷ rs) leases i l e =
     let h = all_marked_placed rs (marked leases a.session a.file a.xid) i l e in
@@ -208,7 +208,7 @@ all_spent : (rs : List Recall) (calls : List BackCall) (k : ℕ) → (call_at ca
 all_spent [] calls k h = h
 all_spent (r ∷ rs) calls k h = all_spent rs (asks_if calls r.session (xid_at calls r.session)) k (asked_spent calls r.session k (xid_at calls r.session) h)
 
-abbrev asked : (session file xid : ℕ) → Asked
+abbrev pub asked : (session file xid : ℕ) → Asked
 asked session file xid = record { session = session; file = file; xid = xid }
 
 -- each is asked for, or its session has had all its numbers
@@ -228,7 +228,7 @@ asked_there (q ∷ rs) calls (suc j) r e =
 
 -- ---- which remember that
 
-abbrev IsAsked : List Asked → (s f : ℕ) → Type 0
+abbrev pub IsAsked : List Asked → (s f : ℕ) → Type 0
 IsAsked rs s f = (x : ℕ) × (m : ℕ) × (slice_get rs m ≡ Some (asked s f x))
 
 pub record IsMarked (rs : List Asked) (leases : List Lease) (s f : ℕ) (l : Lease) : Type 0 where
@@ -313,7 +313,7 @@ map_from f [] j y e = nothing_there y e
 map_from f (x ∷ xs) zero y e = (x, refl, some_is (f x) y e)
 map_from f (x ∷ xs) (suc j) y e = map_from f xs j y e
 
-asks_from : (rs : List Recall) (calls : List BackCall) (m : ℕ) (a : Asked) → slice_get (asks calls rs).1 m ≡ Some a → (j : ℕ) × (r : Recall) × (slice_get rs j ≡ Some r) × (r.session ≡ a.session) × (r.file ≡ a.file)
+pub asks_from : (rs : List Recall) (calls : List BackCall) (m : ℕ) (a : Asked) → slice_get (asks calls rs).1 m ≡ Some a → (j : ℕ) × (r : Recall) × (slice_get rs j ≡ Some r) × (r.session ≡ a.session) × (r.file ≡ a.file)
 asks_from [] calls m a e = nothing_there a e
 asks_from (q ∷ rs) calls m a e = by (xid_at calls q.session) e (λ o i at. asks_from rs (asks_if calls q.session o) i a at)
   where
@@ -328,7 +328,7 @@ asks_from (q ∷ rs) calls m a e = by (xid_at calls q.session) e (λ o i at. ask
         here (suc m) e = let h = later (Some x) m e in (suc h.0, h.1, h.2, h.3, h.4)
 
 -- one that is asked for stood with no RECALL
-unasked_from : (leases : List Lease) (session file now j : ℕ) (r : Recall) → slice_get (recalls_of leases session file now) j ≡ Some r → (i : ℕ) × (l : Lease) × (slice_get leases i ≡ Some l) × (l.session ≡ r.session) × (l.file ≡ r.file) × (l.recall ≡ None)
+pub unasked_from : (leases : List Lease) (session file now j : ℕ) (r : Recall) → slice_get (recalls_of leases session file now) j ≡ Some r → (i : ℕ) × (l : Lease) × (slice_get leases i ≡ Some l) × (l.session ≡ r.session) × (l.file ≡ r.file) × (l.recall ≡ None)
 unasked_from leases session file now j r e =
     let n = map_from (recall_of file) (map (λ (l : Lease). l.session) (filter (λ l. is_wanted_back l session file now) leases)) j r e in
     let l = map_from (λ (l : Lease). l.session) (filter (λ l. is_wanted_back l session file now) leases) j n.0 n.1 in
@@ -345,7 +345,7 @@ unasked_from leases session file now j r e =
     wanted l true false is e = absurd cc
     wanted l false b is e = absurd cc
 
-same_at : (leases : List Lease) → AreOrdered leases → (i j : ℕ) (k l : Lease) → slice_get leases i ≡ Some k → slice_get leases j ≡ Some l → k.session ≡ l.session → k.file ≡ l.file → k ≡ l
+pub same_at : (leases : List Lease) → AreOrdered leases → (i j : ℕ) (k l : Lease) → slice_get leases i ≡ Some k → slice_get leases j ≡ Some l → k.session ≡ l.session → k.file ≡ l.file → k ≡ l
 same_at leases ordered i j k l a b s f =
     let p = all_at (λ l. lease_at leases l.session l.file ≡ Some l) leases i k (all_found leases ordered) a in
     let q = all_at (λ l. lease_at leases l.session l.file ≡ Some l) leases j l (all_found leases ordered) b in

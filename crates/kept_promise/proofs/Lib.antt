@@ -7,6 +7,7 @@ pub mod ReadySoon
 pub mod LeaseTurns
 pub mod LeasesStand
 pub mod ChangesWait
+pub mod LeasesCame
 pub mod InTurn
 pub mod Lists
 pub mod Taking
@@ -253,6 +254,7 @@ pub mod ClaimTold
 pub mod ClaimCalls
 pub mod ClaimServes
 pub mod NoteSteps
+pub mod NotesCame
 pub mod ClaimActs
 pub mod ClaimHears
 pub mod ClaimNumbers

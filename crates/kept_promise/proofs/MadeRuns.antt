@@ -15,9 +15,9 @@ use Rattle.server_core.specs.declared.change.Wanted.TheVariants as wanted
 use Rattle.server_rules.specs.declared.told.Told.TheVariants as announced
 use Rattle.tree_reading.specs.declared.entry.EntryKind.TheVariants as kind
 use Rattle.trace_ends.specs.Core.{newest_entries, changed_file}
-use Rattle.trace_replay.specs.Faithful.{IsSettled, SettlesReady, IsSettling, IsMadeOrRefused}
+use Rattle.trace_replay.specs.Faithful.{IsSettled, IsRemoved, SettlesReady, IsSettling, IsMadeOrRefused}
 use Rattle.kept_promise.proofs.Common.{Contains-push_cases, slice_get, slice_set, Contains, stands, Change, ServerStep, File, Entry, ClientStep, Ended, Op, Opening, TakenCall, has_point, op_after, Core, Session, Event, Event.Serves, Event.Settles, CoreStep, joins, does, cuts, hangs, ops_with, settles, happens, Moment, step_of, Book, Queue}
-use Rattle.kept_promise.proofs.Lists.{some_is, nothing_there, at_end, at_replaced, kept_appended, of_appended, same_or_not, set_else, within, of_more, in_front}
+use Rattle.kept_promise.proofs.Lists.{some_is, nothing_there, at_end, at_replaced, kept_appended, of_appended, same_or_not, set_else, within, of_more, of_replicate, in_front}
 use Rattle.kept_promise.proofs.Turns.{also_numbered}
 use Rattle.kept_promise.proofs.Facts.{IsKept}
 use Rattle.kept_promise.proofs.RunsCarried.{book_at, moment, Step, Carried}
@@ -120,6 +120,7 @@ first_later book more m c later (inr refused) = inr refused
 
 pub record AreMade (opening : List Opening) (all past : List Moment) (k : Core) : Type 0 where
   pub settled : (i p : ℕ) (e : Entry) → slice_get k.entries i ≡ Some p → slice_get k.server.journal i ≡ Some e → e.kind ≡ kind.Commit → IsSettled (book_at opening k all) i p
+  pub removed : (i p : ℕ) (e : Entry) → slice_get k.entries i ≡ Some p → slice_get k.server.journal i ≡ Some e → e.kind ≡ kind.Remove → IsRemoved all p e
   pub makes : MakesReady (book_at opening k past)
 
 -- it stays once a journal has grown
@@ -158,6 +159,7 @@ settled_later opening all k l i p journal points s =
 made_quietly : (opening : List Opening) (all past : List Moment) (k : Core) (e : Event) → ((now : ℕ) → e ≡ Settles now → ⊥) → Quietly k (happens k e) → AreMade opening all past k → AreMade opening all (past ++ moment k e ∷ []) (happens k e).core
 made_quietly opening all past k e none q h = record {
   settled = λ i p d at is commit. settled_later opening all k (happens k e).core i p (λ x was. ap (λ (l : List Entry). slice_get l i) q.1 ∙ was) q.2 (h.settled i p d (ap (λ (l : List ℕ). slice_get l i) (sym q.0) ∙ at) (ap (λ (l : List Entry). slice_get l i) (sym q.1) ∙ is) commit);
+  removed = λ i p d at is goes. h.removed i p d (ap (λ (l : List ℕ). slice_get l i) (sym q.0) ∙ at) (ap (λ (l : List Entry). slice_get l i) (sym q.1) ∙ is) goes;
   makes = λ m now c there is at. elim (Contains-push_cases past (moment k e) m there) [
     | inl old ↦ first_later (book_at opening k past) (book_at opening (happens k e).core (past ++ moment k e ∷ [])) m c (λ i p had. ap (λ (l : List ℕ). slice_get l i) q.0 ∙ had) (h.makes m now c old is at)
     | inr new ↦ absurd (none now (ap (λ (z : Moment). z.event) new ∙ is))
@@ -172,8 +174,9 @@ at_more [] (suc n) y lt = refl
 at_more (x ∷ xs) n y lt = at_more xs n y lt
 
 made_entered : (opening : List Opening) (all past : List Moment) (k : Core) (e : Event) → length k.entries ≡ length k.server.journal → (q : Entered k (happens k e)) → KeepsPoints k.ops (happens k e).core.ops → ((now : ℕ) (c : Change) → e ≡ Settles now → ready_by k.server now ≡ Some c → (0 < length q.es) ⊎ RefusesFor (happens k e) c)
+    → ((i : ℕ) (d : Entry) → slice_get q.es i ≡ Some d → d.kind ≡ kind.Remove → IsRemoved all (k.steps + 1) d)
     → AreMade opening all past k → AreMade opening all (past ++ moment k e ∷ []) (happens k e).core
-made_entered opening all past k e count q points tells h = record {
+made_entered opening all past k e count q points tells goes_now h = record {
   settled = λ i p d at is commit. elim (of_more k.entries steps i p (ap (λ (l : List ℕ). slice_get l i) (sym q.entries) ∙ at)) [
     | inl old ↦ elim (of_more k.server.journal q.es i d (ap (λ (l : List Entry). slice_get l i) (sym q.journal) ∙ is)) [
       | inl was ↦ settled_later opening all k later i p (λ x had. ap (λ (l : List Entry). slice_get l i) q.journal ∙ in_front k.server.journal q.es i x had) points (h.settled i p d old was commit)
@@ -182,6 +185,16 @@ made_entered opening all past k e count q points tells h = record {
     | inr late ↦ elim (of_more k.server.journal q.es i d (ap (λ (l : List Entry). slice_get l i) (sym q.journal) ∙ is)) [
       | inl was ↦ let x = late.1 in let y = within k.server.journal i d was in absurd (omega (arith, x, y, count))
       | inr new ↦ absurd (q.plain new.0 d new.2 commit)
+    ]
+  ];
+  removed = λ i p d at is goes. elim (of_more k.entries steps i p (ap (λ (l : List ℕ). slice_get l i) (sym q.entries) ∙ at)) [
+    | inl old ↦ elim (of_more k.server.journal q.es i d (ap (λ (l : List Entry). slice_get l i) (sym q.journal) ∙ is)) [
+      | inl was ↦ h.removed i p d old was goes
+      | inr new ↦ let x = new.1 in let y = within k.entries i p old in absurd (omega (arith, x, y, count))
+    ]
+    | inr late ↦ elim (of_more k.server.journal q.es i d (ap (λ (l : List Entry). slice_get l i) (sym q.journal) ∙ is)) [
+      | inl was ↦ let x = late.1 in let y = within k.server.journal i d was in absurd (omega (arith, x, y, count))
+      | inr new ↦ subst (λ (z : ℕ). IsRemoved all z d) (sym (of_replicate (length q.es) (k.steps + 1) late.0 p late.2)) (goes_now new.0 d new.2 goes)
     ]
   ];
   makes = λ m t c there is at. elim (Contains-push_cases past (moment k e) m there) [
@@ -229,6 +242,9 @@ made_settling all past rest opening k qs now mid after s h = by (settling (book_
 
     count : length k.entries ≡ length k.server.journal
     count = s.kept.sound.journal.count
+
+    commit_stays : {A : Type 0} → kind.Commit ≡ kind.Remove → A
+    commit_stays z = absurd cc
 
     made : (c : Change) (cs : List Change) (f : File) → SettlesOut k now c cs → c.what ≡ wanted.Content (content_wanted c.what) → AreMade opening all (past ++ moment k (Settles now) ∷ []) (left_by k (made_change (at_reading (record k.server { waiting = cs }) now) c (content_wanted c.what) f))
     made c cs f out what =
@@ -278,6 +294,10 @@ made_settling all past rest opening k qs now mid after s h = by (settling (book_
               closing = pending.known;
             }
           ];
+          removed = λ i p d at is goes. elim (of_appended k.entries (k.steps + 1) i p at) [
+            | inr was ↦ h.removed i p d was (old_entry i p d was is) goes
+            | inl last ↦ commit_stays (ap (λ (z : Entry). z.kind) (some_is (entry_of c (content_wanted c.what) f) d (sym (ap (slice_get (k.server.journal ++ entry_of c (content_wanted c.what) f ∷ [])) (last.0 ∙ count) ∙ at_end k.server.journal (entry_of c (content_wanted c.what) f)) ∙ is)) ∙ goes)
+          ];
           makes = λ m n d in_ is at. elim (Contains-push_cases past (moment k (Settles now)) m in_) [
             | inl was ↦ first_later (book_at opening k past) (book_at opening (left_by k (made_change (at_reading (record k.server { waiting = cs }) now) c (content_wanted c.what) f)) (past ++ moment k (Settles now) ∷ [])) m d (λ i p had. kept_appended k.entries (k.steps + 1) i p had) (h.makes m n d was is at)
             | inr new ↦ inl (subst (λ (z : Moment). slice_get (k.entries ++ (k.steps + 1) ∷ []) (length z.before.server.journal) ≡ Some (step_of z)) new (ap (slice_get (k.entries ++ (k.steps + 1) ∷ [])) (sym count) ∙ at_end k.entries (k.steps + 1)))
@@ -290,7 +310,8 @@ made_settling all past rest opening k qs now mid after s h = by (settling (book_
     by : Settling k now (settles k now) → AreMade opening all (past ++ moment k (Settles now) ∷ []) (settles k now).core
     by (makes_commit c cs f out what there) =
         subst (λ (t : CoreStep). AreMade opening all (past ++ moment k (Settles now) ∷ []) t.core) (sym (out.is ∙ ap (settled_to k) (made_is (book_at opening k all) k.server now c cs f kept.server out.out there what))) (made c cs f out what)
-    by (makes_else ops q tells) = made_entered opening all past k (Settles now) count q (gone_points k (settles k now).core.ops ops) (λ n c is at. tells c (ap (ready_by k.server) (settles_at is) ∙ at)) h
+    by (makes_else ops q tells removes) = made_entered opening all past k (Settles now) count q (gone_points k (settles k now).core.ops ops) (λ n c is at. tells c (ap (ready_by k.server) (settles_at is) ∙ at))
+        (λ i d at goes. (let r = removes i d at goes in record { moment = moment k (Settles now); there = here; now = now; event_is = refl; step_is = refl; change = r.change; ready = r.ready; call = r.call; what_is = r.what_is; file_is = r.file_is; session_is = r.session_is })) h
 
 -- ---- a call is taken
 
@@ -302,7 +323,7 @@ made_points k ops (inr m) = subst (KeepsPoints k.ops) (sym m.after_is) (pointed_
 made_serving : FitLaws → (all past rest : List Moment) (opening : List Opening) (k : Core) (qs : List Queue) (n now : ℕ) (bytes : List ℕ) (mid after : List Queue) → Step all past rest opening k qs (Serves n now bytes) mid after → AreMade opening all past k → AreMade opening all (past ++ moment k (Serves n now bytes) ∷ []) (happens k (Serves n now bytes)).core
 made_serving laws all past rest opening k qs n now bytes mid after s h =
     let q : IsQuiet k (happens k (Serves n now bytes)) = serves_quiet laws (book_at opening k all) k qs n now bytes mid s.kept s.finds in
-    made_entered opening all past k (Serves n now bytes) count q.entered (made_points k (happens k (Serves n now bytes)).core.ops q.ops) (λ m c e at. absurd (not_settles m e)) h
+    made_entered opening all past k (Serves n now bytes) count q.entered (made_points k (happens k (Serves n now bytes)).core.ops q.ops) (λ m c e at. absurd (not_settles m e)) (λ i d at goes. absurd (q.stays i d at goes)) h
   where
     count : length k.entries ≡ length k.server.journal
     count = s.kept.sound.journal.count
@@ -369,9 +390,9 @@ AllSettled all past opening k qs = AreMade opening all past k × AllLeave past
 
 pub carried_settled : FitLaws → Carried AllSettled
 carried_settled laws = record {
-  first = λ all opening tree count kept. (record { settled = λ i p d at is commit. nothing_there p at; makes = λ m now c there is at. (let lt = there.1 in absurd (omega (arith, lt))) }, λ m now there is. (let lt = there.1 in absurd (omega (arith, lt))));
+  first = λ all opening tree count kept. (record { settled = λ i p d at is commit. nothing_there p at; removed = λ i p d at is goes. nothing_there p at; makes = λ m now c there is at. (let lt = there.1 in absurd (omega (arith, lt))) }, λ m now there is. (let lt = there.1 in absurd (omega (arith, lt))));
   steps = λ all past rest opening k qs e mid after s h. (settled_event laws all past rest opening k qs e mid after s h.0, left_event all past rest opening k qs e mid after s h.1);
-  adjusts = λ all past opening k qs index seats same h. (record { settled = h.0.settled; makes = h.0.makes }, h.1);
+  adjusts = λ all past opening k qs index seats same h. (record { settled = h.0.settled; removed = h.0.removed; makes = h.0.makes }, h.1);
 }
 
 -- ---- what the promise says of settlings

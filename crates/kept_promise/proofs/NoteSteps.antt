@@ -4,12 +4,14 @@ use Rattle.std.specs.Prelude.{◌-◌, ◌==◌, ◌||◌, cond, nat_eq, nat_lt,
 use Rattle.std.specs.List.{list_any, AllByRecursion}
 use Rattle.std.specs.Map.{set_value}
 use Rattle.std.proofs.lemmas.Bool.Decides.{nat_tests}
+use Rattle.xdr_codec.specs.Handle.{handle_bytes}
 use Rattle.hash_calls.specs.declared.message.Lb.TheVariants as lb
 use Rattle.hash_calls.specs.declared.message.LbProc.TheVariants as lb_proc
 use Rattle.nfs3_calls.specs.declared.message.Nfs.TheVariants as nfs
 use Rattle.path_calls.specs.declared.walk.Walk.{Walk}
 use Rattle.wire.specs.declared.message.Body.TheVariants as body
 use Rattle.wire.specs.declared.message.Message.{Message}
+use Rattle.wire.specs.declared.message.Message.TheVariants as message
 use Rattle.wire.specs.declared.message.Program.{Program}
 use Rattle.wire.specs.declared.message.Program.TheVariants as program
 use Rattle.lease_rules.specs.Leases.{note_until}
@@ -32,7 +34,8 @@ use Rattle.file_close.specs.Closing.{names_next, names_from, cond_call, commit_c
 use Rattle.file_close.specs.Storing.{named_if}
 use Rattle.open_close.specs.Step.{takes, took_if, lease_in}
 use Rattle.lease_law.specs.Claims.{answered_by, stored_by}
-use Rattle.kept_promise.proofs.Common.{slice_get, Command, Answer, Done, Failed, Chunk, Hashes, Leased, Piece, Pending, Body, Broken, broken_of, State, local_bytes, Fetch, ReadCall, Store, StoreCall, Stage, Way, Names, Reads, BadPeer, ClientStep, is_here, is_stored, names_all, store_of, store_at, answered, read_at, with_hashes, with_bytes, fetch_of, listed, fault_in, other_version, tries_most, took, got_step, command_step, reads_if, lists_on, retries, told_shape, told_version, told_hashes, told_first, told_lease, uses_kept, misfits, told_bytes, told_chunk, told_piece, goes_if, told_temp, told_way, told_stored, told_whole, sends_whole, calls_of, idle, reads_all, reads_on, goes_on, Told, told_message, reply_body}
+use Rattle.trace_replay.specs.Notes.{handle_asked}
+use Rattle.kept_promise.proofs.Common.{slice_get, Contains, Contains-push, Command, Answer, Done, Failed, Chunk, Hashes, Leased, Piece, Pending, Body, Broken, broken_of, State, local_bytes, Fetch, ReadCall, Store, StoreCall, Stage, Way, Names, Reads, BadPeer, ClientStep, is_here, is_stored, names_all, store_of, store_at, answered, read_at, with_hashes, with_bytes, fetch_of, listed, fault_in, other_version, tries_most, took, got_step, command_step, reads_if, lists_on, retries, told_shape, told_version, told_hashes, told_first, told_lease, uses_kept, misfits, told_bytes, told_chunk, told_piece, goes_if, told_temp, told_way, told_stored, told_whole, sends_whole, calls_of, idle, reads_all, reads_on, goes_on, Told, told_message, reply_body}
 use Rattle.kept_promise.proofs.Lists.{some_is, nothing_there}
 use Rattle.kept_promise.proofs.TreeWalks.{own_handle}
 use Rattle.kept_promise.proofs.Caches.{AddsNone, same_notes, reserved_notes, with_notes, unnoted_notes, set_found}
@@ -57,6 +60,13 @@ pub record NewNote (s : State) (a : Told) (f : ℕ) (n : Note) : Type 0 where
   pub version : n.version ≡ granted.version
   pub until : note_until s.sent granted.term s.drift ≡ Some n.until
 
+-- among what goes out is the call of this number, on the file
+abbrev pub SendsLease : List Message → (xid file : ℕ) → Type 0
+SendsLease ms xid file = (b : Body) × (handle_asked b ≡ Some (handle_bytes file)) × Contains ms (message.Call xid b)
+
+one_sent : (b : Body) (xid file : ℕ) → handle_asked b ≡ Some (handle_bytes file) → SendsLease (message.Call xid b ∷ []) xid file
+one_sent b xid file names = (b, names, Contains-push [] (message.Call xid b))
+
 -- a step at a reading of the client's clock
 pub record StepKeeps (now : ℕ) (s : State) (r : State × ClientStep) (New : (f : ℕ) → Note → Type 0) : Type 0 where
   pub drift : r.0.drift ≡ s.drift
@@ -65,7 +75,7 @@ pub record StepKeeps (now : ℕ) (s : State) (r : State × ClientStep) (New : (f
   pub calls : AllByRecursion (λ m. answered_by m ≡ None) r.1.send
   pub stores : (f : ℕ) (e : Kept) (n : Note) → kept_of r.0.cache f ≡ Some e → e.note ≡ Some n → AllByRecursion (λ m. stored_by m ≡ Some f → ⊥) r.1.send
   -- a call that may bring a lease goes out now, or is the same, and nothing goes out
-  pub sent : (u : Task) (x : ℕ) → r.0.task ≡ Some u → leasing_xid u.stage ≡ Some x → ((s.next_xid ≤ x) × (r.0.sent ≡ now)) ⊎ ((s.task ≡ Some u) × (r.0.sent ≡ s.sent) × (r.1.send ≡ []))
+  pub sent : (u : Task) (x : ℕ) → r.0.task ≡ Some u → leasing_xid u.stage ≡ Some x → ((s.next_xid ≤ x) × (r.0.sent ≡ now) × SendsLease r.1.send x u.file) ⊎ ((s.task ≡ Some u) × (r.0.sent ≡ s.sent) × (r.1.send ≡ []))
 
 -- a close's file has a number of 64 bits
 abbrev pub IsStoring : Stage → Type 0
@@ -97,7 +107,7 @@ record StepPlain (s : State) (r : State × ClientStep) : Type 0 where
   pub drift : r.0.drift ≡ s.drift
   pub notes : AddsNone s.cache r.0.cache
   pub plain : ArePlain r.1.send
-  pub sent : (u : Task) (x : ℕ) → r.0.task ≡ Some u → leasing_xid u.stage ≡ Some x → (s.next_xid ≤ x) × (r.0.sent ≡ s.clock)
+  pub sent : (u : Task) (x : ℕ) → r.0.task ≡ Some u → leasing_xid u.stage ≡ Some x → (s.next_xid ≤ x) × (r.0.sent ≡ s.clock) × SendsLease r.1.send x u.file
 
 -- one that sends one at its end
 record StepCommit (s : State) (r : State × ClientStep) : Type 0 where
@@ -105,7 +115,7 @@ record StepCommit (s : State) (r : State × ClientStep) : Type 0 where
   pub notes : AddsNone s.cache r.0.cache
   pub calls : AllByRecursion (λ m. answered_by m ≡ None) r.1.send
   pub stores : (f : ℕ) (e : Kept) (n : Note) → kept_of r.0.cache f ≡ Some e → e.note ≡ Some n → AllByRecursion (λ m. stored_by m ≡ Some f → ⊥) r.1.send
-  pub sent : (u : Task) (x : ℕ) → r.0.task ≡ Some u → leasing_xid u.stage ≡ Some x → (s.next_xid ≤ x) × (r.0.sent ≡ s.clock)
+  pub sent : (u : Task) (x : ℕ) → r.0.task ≡ Some u → leasing_xid u.stage ≡ Some x → (s.next_xid ≤ x) × (r.0.sent ≡ s.clock) × SendsLease r.1.send x u.file
 
 module _ (s : State) where
   -- the operation ends
@@ -117,12 +127,15 @@ module _ (s : State) where
   goes_so t c u drift notes is none plain = record { drift = drift; notes = notes; plain = plain; sent = λ v x task lease. nothing_there x (sym none ∙ ap (λ (z : Task). leasing_xid z.stage) (some_is u v (sym is ∙ task)) ∙ lease) }
 
   -- or by one that may
-  asks_so : (t : State) (c : ClientStep) (u : Task) → t.drift ≡ s.drift → AddsNone s.cache t.cache → t.task ≡ Some u → leasing_xid u.stage ≡ Some s.next_xid → t.sent ≡ s.clock → ArePlain c.send → StepPlain s (t, c)
-  asks_so t c u drift notes is lease_ sent plain = record {
+  asks_so : (t : State) (c : ClientStep) (u : Task) → t.drift ≡ s.drift → AddsNone s.cache t.cache → t.task ≡ Some u → leasing_xid u.stage ≡ Some s.next_xid → t.sent ≡ s.clock → ArePlain c.send → SendsLease c.send s.next_xid u.file → StepPlain s (t, c)
+  asks_so t c u drift notes is lease_ sent plain asks = record {
     drift = drift;
     notes = notes;
     plain = plain;
-    sent = λ v x task lease. (let same : s.next_xid ≡ x = some_is s.next_xid x (sym lease_ ∙ ap (λ (z : Task). leasing_xid z.stage) (some_is u v (sym is ∙ task)) ∙ lease) in (omega (arith, same), sent));
+    sent = λ v x task lease.
+        let own = some_is u v (sym is ∙ task) in
+        let same : s.next_xid ≡ x = some_is s.next_xid x (sym lease_ ∙ ap (λ (z : Task). leasing_xid z.stage) own ∙ lease) in
+        (omega (arith, same), sent, subst (λ (n : ℕ). SendsLease c.send n v.file) same (subst (λ (z : Task). SendsLease c.send s.next_xid z.file) own asks));
   }
 
 -- ---- calls that go out one by one
@@ -176,12 +189,12 @@ module _ (s : State) (calls : List Pending) (file xid : ℕ) where
   reads_again f bytes = on_reads f bytes (is_here (reads_all s.cache s.index file f s.next_xid).fetch)
 
   retried : (f : Fetch) (version bytes : ℕ) (may : Bool) → StepPlain s (retries s calls file xid may f version bytes)
-  retried f version bytes true = asks_so s _ _ _ refl (same_notes s.cache) refl refl refl ((refl, refl), tt)
+  retried f version bytes true = asks_so s _ _ _ refl (same_notes s.cache) refl refl refl ((refl, refl), tt) (one_sent _ _ _ refl)
   retried f version bytes false = ends_so s _ _ refl (same_notes s.cache) refl refl
 
   lists : (f : Fetch) (eof : Bool) → StepPlain s (lists_on s calls file xid f eof)
   lists f true = reads_again (listed f) 0
-  lists f false = asks_so s _ _ _ refl (same_notes s.cache) refl refl refl ((refl, refl), tt)
+  lists f false = asks_so s _ _ _ refl (same_notes s.cache) refl refl refl ((refl, refl), tt) (one_sent _ _ _ refl)
 
   shaped : (f : Fetch) (h : Hashes) (o : Broken) → StepPlain s (told_shape s calls file xid f h o)
   shaped f h None = lists (with_hashes f h) h.eof
@@ -201,7 +214,7 @@ module _ (s : State) (calls : List Pending) (file xid : ℕ) where
 
   uses : (version : ℕ) (o : Option (List ℕ)) → StepPlain s (uses_kept s calls file xid version o)
   uses version (Some bytes) = ends_so s _ _ refl (same_notes s.cache) refl refl
-  uses version None = asks_so s _ _ _ refl (same_notes s.cache) refl refl refl ((refl, refl), tt)
+  uses version None = asks_so s _ _ _ refl (same_notes s.cache) refl refl refl ((refl, refl), tt) (one_sent _ _ _ refl)
 
   leased : (a : Answer Leased Unit) → StepPlain s (told_lease s calls file xid a)
   leased (Failed e u) = ends_so s _ _ refl (same_notes s.cache) refl refl
@@ -236,7 +249,10 @@ module _ (s : State) (calls : List Pending) (file xid : ℕ) where
           ((λ q. let same : file ≡ f = some_is file f (sym (own_handle file small) ∙ q) in unnoted_own (reserved s.cache file) file e n (ap (kept_of (without_note (reserved s.cache file) file)) same ∙ at) is), tt);
       sent = λ u x task lease. (let same = some_is (record { file = file; stage = stage.Committing (names_all st s.next_xid).next_xid }) u task in
           let is_x : (names_all st s.next_xid).next_xid ≡ x = some_is (names_all st s.next_xid).next_xid x (ap (λ (z : Task). leasing_xid z.stage) same ∙ lease) in
-          let r = (names_go st s.next_xid).rises in (omega (arith, r, is_x), refl));
+          let r = (names_go st s.next_xid).rises in
+          let last = commit_call (names_all st s.next_xid).next_xid (names_all st s.next_xid).store.temp file (length content) in
+          let asks : SendsLease ((names_all st s.next_xid).send ++ last ∷ []) (names_all st s.next_xid).next_xid file = (_, refl, Contains-push (names_all st s.next_xid).send last) in
+          (omega (arith, r, is_x), refl, subst (λ (n : ℕ). SendsLease ((names_all st s.next_xid).send ++ last ∷ []) n u.file) is_x (subst (λ (z : Task). SendsLease ((names_all st s.next_xid).send ++ last ∷ []) (names_all st s.next_xid).next_xid z.file) same asks)));
     })
 
     goes_next : (content : List ℕ) (w : Store) → StepPlain s (goes_on s file content w) ⊎ StepCommit s (goes_on s file content w)
@@ -288,11 +304,11 @@ module _ (s : State) (calls : List Pending) (file xid : ℕ) where
     fault = λ f untold. ends_so s _ _ refl (same_notes s.cache) refl refl;
     asks = λ v k. goes_so s _ _ _ refl (same_notes s.cache) refl refl ((refl, refl), tt);
     open_already = λ id k is. ends_so s _ _ refl (same_notes s.cache) refl refl;
-    fetches = λ id k shut none. asks_so s _ _ _ refl (reserved_notes s.cache id) refl refl refl ((refl, refl), tt);
-    leases = λ id c k shut at. asks_so s _ _ _ refl (reserved_notes s.cache id) refl refl refl ((refl, refl), tt);
+    fetches = λ id k shut none. asks_so s _ _ _ refl (reserved_notes s.cache id) refl refl refl ((refl, refl), tt) (one_sent _ _ _ refl);
+    leases = λ id c k shut at. asks_so s _ _ _ refl (reserved_notes s.cache id) refl refl refl ((refl, refl), tt) (one_sent _ _ _ refl);
     opens_now = λ id c k shut at. ends_so s _ _ refl (same_notes s.cache) refl refl;
     renew_already = λ id k is. ends_so s _ _ refl (same_notes s.cache) refl refl;
-    renews = λ id k shut. asks_so s _ _ _ refl (reserved_notes s.cache id) refl refl refl ((refl, refl), tt);
+    renews = λ id k shut. asks_so s _ _ _ refl (reserved_notes s.cache id) refl refl refl ((refl, refl), tt) (one_sent _ _ _ refl);
     empties_now = λ id c k shut at. ends_so s _ _ refl (same_notes s.cache) refl refl;
     ends = λ v e k is. ends_so s _ _ refl (same_notes s.cache) refl refl;
   })
@@ -322,9 +338,9 @@ pub command_keeps : (s : State) (d : Command) (now : ℕ) → StepKeeps now s (c
 command_keeps s d now = command_cases (λ r. StepKeeps now s r (λ f n. ⊥)) s d now (record {
   busy = λ t is. same_keeps now s _ (λ f n. ⊥) refl refl refl refl refl;
   answers = λ free opened o plain. same_keeps now s _ (λ f n. ⊥) refl refl refl refl refl;
-  fetches = λ file is free may. plain_keeps now s _ (λ f n. ⊥) (asks_so (at s now) _ _ _ refl (reserved_notes s.cache file) refl refl refl ((refl, refl), tt));
-  asks = λ file c is free may there. plain_keeps now s _ (λ f n. ⊥) (asks_so (at s now) _ _ _ refl (reserved_notes s.cache file) refl refl refl ((refl, refl), tt));
-  renews = λ file is free may. plain_keeps now s _ (λ f n. ⊥) (asks_so (at s now) _ _ _ refl (reserved_notes s.cache file) refl refl refl ((refl, refl), tt));
+  fetches = λ file is free may. plain_keeps now s _ (λ f n. ⊥) (asks_so (at s now) _ _ _ refl (reserved_notes s.cache file) refl refl refl ((refl, refl), tt) (one_sent _ _ _ refl));
+  asks = λ file c is free may there. plain_keeps now s _ (λ f n. ⊥) (asks_so (at s now) _ _ _ refl (reserved_notes s.cache file) refl refl refl ((refl, refl), tt) (one_sent _ _ _ refl));
+  renews = λ file is free may. plain_keeps now s _ (λ f n. ⊥) (asks_so (at s now) _ _ _ refl (reserved_notes s.cache file) refl refl refl ((refl, refl), tt) (one_sent _ _ _ refl));
   opens_now = λ file c is free shut fresh. same_keeps now s _ (λ f n. ⊥) refl refl refl refl refl;
   empties_now = λ file c is free shut fresh. same_keeps now s _ (λ f n. ⊥) refl refl refl refl refl;
   walks = λ c is free may. plain_keeps now s _ (λ f n. ⊥) (goes_so (at s now) _ _ _ refl (same_notes s.cache) refl refl ((refl, refl), tt));

@@ -27,6 +27,7 @@ use Rattle.kept_promise.proofs.StoredWhole.{Stored, carried_stored, has_stored, 
 use Rattle.kept_promise.proofs.VersionRuns.{Versions, carried_versions, opens_version}
 use Rattle.kept_promise.proofs.MadeRuns.{AllSettled, carried_settled, settles_ready}
 use Rattle.kept_promise.proofs.InTurn.{AllTurns, carried_turns, waits_in_turn}
+use Rattle.kept_promise.proofs.NotesCame.{AllNotes, carried_notes, answers_recall}
 use Rattle.kept_promise.proofs.SmallDeeds.{SmallDeeds, carried_small}
 use Rattle.kept_promise.proofs.Alike.{runs_in_order, run_given, all_given}
 use Rattle.kept_promise.proofs.Following.{IsFollowed}
@@ -106,9 +107,13 @@ Walked all past opening k qs = WalksAt all past opening k qs × ((IsFollowed pas
 abbrev More : Fact
 More all past opening k qs = Used all past opening k qs × (AllNamed all past opening k qs × (SmallDeeds all past opening k qs × Walked all past opening k qs))
 
--- and by which calls the journal grew, and which operations waited for those, and how pending changes go on, which needs none of it
+-- how pending changes go on, and where notes come from, which needs nothing else
+abbrev Leased : Fact
+Leased all past opening k qs = AllTurns all past opening k qs × AllNotes all past opening k qs
+
+-- and by which calls the journal grew, and which operations waited for those
 abbrev Whole : Fact
-Whole all past opening k qs = More all past opening k qs × (AllAwaited all past opening k qs × AllTurns all past opening k qs)
+Whole all past opening k qs = More all past opening k qs × (AllAwaited all past opening k qs × Leased all past opening k qs)
 
 told_carried : Carried Told
 told_carried =
@@ -140,7 +145,9 @@ more_carried =
     (carried_both SmallDeeds Walked (carried_small fit_laws) walked_carried))
 
 whole_carried : Carried Whole
-whole_carried = carried_both More (λ all past opening k qs. AllAwaited all past opening k qs × AllTurns all past opening k qs) more_carried (carried_both AllAwaited AllTurns (carried_awaited fit_laws) carried_turns)
+whole_carried =
+    carried_both More (λ all past opening k qs. AllAwaited all past opening k qs × Leased all past opening k qs) more_carried
+    (carried_both AllAwaited Leased (carried_awaited fit_laws) (carried_both AllTurns AllNotes carried_turns (carried_notes fit_laws)))
 
 -- ---- the promise of what a run leaves
 
@@ -157,8 +164,8 @@ is_known w all leased soon h walks k d o was at =
     (λ f is status refused. open_refused (book_of w all) (deeds_of all) deeds.rising deeds.each deeds.count walks.before k d o was at f is cause status refused)
     (λ f is status refused. rewrite_refused (book_of w all) (deeds_of all) deeds.rising deeds.each deeds.count walks.before k d o was at f is cause status refused)
 
-promise_of : (input : List ℕ) (w : World) → AreLeased (moments input) → ((k : ℕ) (o : Op) → slice_get w.core.ops k ≡ Some o → Soon (book_of w (moments input)) o o.outcome) → run input ≡ Ok w → (h : Stands (AsMix More) (moments input) (moments input) w) → AllAwaited (moments input) (moments input) w.opening w.core (map queue_of h.mixes) → AllTurns (moments input) (moments input) w.opening w.core (map queue_of h.mixes) → HaveNumbers w.core h.mixes → IsKeptPromise input w
-promise_of input w leased soon ran h awaited turns counted =
+promise_of : (input : List ℕ) (w : World) → AreLeased (moments input) → ((k : ℕ) (o : Op) → slice_get w.core.ops k ≡ Some o → Soon (book_of w (moments input)) o o.outcome) → run input ≡ Ok w → (h : Stands (AsMix More) (moments input) (moments input) w) → AllAwaited (moments input) (moments input) w.opening w.core (map queue_of h.mixes) → Leased (moments input) (moments input) w.opening w.core (map queue_of h.mixes) → HaveNumbers w.core h.mixes → IsKeptPromise input w
+promise_of input w leased soon ran h awaited leases counted =
     let all : List Moment = moments input in
     let qs : List Queue = map queue_of h.mixes in
     let stored : Stored all all w.opening w.core qs = h.more.0.0.1.0 in
@@ -178,8 +185,11 @@ promise_of input w leased soon ran h awaited turns counted =
         cuts = cuts_end w all h.more.0.0.0.cuts;
         journal = h.kept.sound.journal;
         settled = λ i p e at is kind. changes.0.0.settled i p e at is kind;
+        removed = λ i p e at is kind. changes.0.0.removed i p e at is kind;
         settles = settles_ready (book_of w all) changes.0.0.makes changes.0.1;
-        waits = waits_in_turn (book_of w all) w.core turns;
+        waits = waits_in_turn (book_of w all) w.core leases.0;
+        recalls = λ m there. answers_recall m;
+        notes = λ m there. leases.1.come m there;
         points = λ k o at. opens_at (book_of w all) o (λ len digest is. (logs.1.0.once k len digest o at is).called);
         versions = opens_version (book_of w all) w.core qs h.kept leased versions.1;
         no_fault = no_fault (book_of w all) h.kept.sound;

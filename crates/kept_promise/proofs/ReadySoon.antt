@@ -1,4 +1,4 @@
--- Where no lease holds up a change, or one of its file that came before it, and the quiet is over, one of those is ready, or one that came before.
+-- Where no lease holds up a change, or one of its file that came before it, one of those is ready, or one that came before.
 use Rattle.std.proofs.Common.{◌≡◌, ℕ, zero, suc, ◌<◌, ◌≤◌, List, [], ◌∷◌, ◌++◌, Some, None, Bool, true, false, refl, sym, ap, ◌∙◌, subst, arith}
 use Rattle.std.specs.Prelude.{cond, find, not, max, slice_get, nat_le, nat_lt, ◌==◌, ◌&&◌, ◌||◌, if◌then◌else◌}
 use Rattle.std.specs.List.{list_any}
@@ -95,11 +95,10 @@ first_of (w ∷ ws) (suc place) c e = by (w.file == c.file) refl (first_of ws pl
     by true is h = record { at = 0; change = w; no_later = omega arith; there = refl; file = grind (arith, nat_tests, is); first = λ i d lt at. absurd (omega (arith, lt)) }
     by false is h = let le = h.no_later in record { at = suc h.at; change = h.change; no_later = omega (arith, le); there = h.there; file = h.file; first = λ i d lt at. front h is i d lt at }
 
-pub ready_soon : (s : server.State) (now place : ℕ) (c : Change) → IsFreeBy s (max s.leasing.moment now) place c → (d : Change) × (i : ℕ) × (i ≤ place) × (slice_get s.waiting i ≡ Some d) × (ready_by s now ≡ Some d)
-ready_soon s now place c free =
+pub ready_soon : (s : server.State) (now place : ℕ) (c : Change) → s.leasing.quiet ≡ 0 → IsFreeBy s (max s.leasing.moment now) place c → (d : Change) × (i : ℕ) × (i ≤ place) × (slice_get s.waiting i ≡ Some d) × (ready_by s now ≡ Some d)
+ready_soon s now place c awake free =
     let h = first_of s.waiting place c free.there in
     let le = h.no_later in
-    let awake = free.awake in
     let found = found_soon (is_free s.leasing.leases (max s.leasing.moment now)) [] s.waiting h.at h.change h.there refl h.first (freed s.leasing.leases (max s.leasing.moment now) h.change (λ j l at on other. free.ended h.at j h.change l le h.there h.file at (on ∙ h.file) other)) in
     let past : nat_le s.leasing.quiet (max s.leasing.moment now) ≡ true = grind (arith, nat_tests, awake) in
     let first = found.2 in

@@ -55,14 +55,22 @@ pub record Entered (k : Core) (t : CoreStep) : Type 0 where
   pub journal : t.core.server.journal ≡ k.server.journal ++ es
   pub plain : (i : ℕ) (e : Entry) → slice_get es i ≡ Some e → e.kind ≡ kind.Commit → ⊥
 
+-- no file goes by them
+abbrev pub NoneGoes : List Entry → Type 0
+NoneGoes es = (i : ℕ) (e : Entry) → slice_get es i ≡ Some e → e.kind ≡ kind.Remove → ⊥
+
 pub record IsQuiet (k : Core) (t : CoreStep) : Type 0 where
   pub ops : (t.core.ops ≡ k.ops) ⊎ MadeHere k t.core.ops
   pub seats : t.core.seats ≡ k.seats
   pub passes : k.steps ≤ t.core.steps
   pub up : t.up ≡ []
   pub entered : Entered k t
+  pub stays : NoneGoes entered.es
 
-none_entered : (k : Core) (t : CoreStep) → t.core.entries ≡ k.entries → t.core.server.journal ≡ k.server.journal → Entered k t
+abbrev EnteredStays : Core → CoreStep → Type 0
+EnteredStays k t = (q : Entered k t) × NoneGoes q.es
+
+abbrev none_entered : (k : Core) (t : CoreStep) → t.core.entries ≡ k.entries → t.core.server.journal ≡ k.server.journal → Entered k t
 none_entered k t entries journal = record { es = []; entries = entries ∙ sym (append-nil k.entries); journal = journal ∙ sym (append-nil k.server.journal); plain = λ i e at. nothing_there e at }
 
 -- an entry of what a walk's call makes is of no content
@@ -76,16 +84,31 @@ entry_plain t left g e true m c is commit = make_commit (sym (ap (λ (z : TreeEn
     make_commit : kind.Make ≡ kind.Commit → ⊥
     make_commit z = absurd cc
 
-making_entered : (k : Core) (n now : ℕ) (x : Session) (xid : ℕ) (w : Walk) → is_building w ≡ true → Entered k (making_got k n now x xid (made_by k.server.tree (server.held k.server.waiting) w.dir w.goal))
+-- nor is it one of a file that goes
+entry_stays : (t : Tree) (left : List (List ℕ)) (g : Goal) (e : TreeEntry) (b : Bool) → builds_at left g ≡ true → creates_at left g ≡ b → EntryAt t g e → e.kind ≡ kind.Remove → ⊥
+entry_stays t left g e false m c is goes = name_goes (sym (entry_name t g e (name_goal left g m c) is) ∙ goes)
+  where
+    name_goes : kind.Name ≡ kind.Remove → ⊥
+    name_goes z = absurd cc
+entry_stays t left g e true m c is goes = make_goes (sym (ap (λ (z : TreeEntry). z.kind) (subst (λ (z : Goal). EntryAt t z e) (make_goal left g m c).1 is)) ∙ goes)
+  where
+    make_goes : kind.Make ≡ kind.Remove → ⊥
+    make_goes z = absurd cc
+
+making_entered : (k : Core) (n now : ℕ) (x : Session) (xid : ℕ) (w : Walk) → is_building w ≡ true → EnteredStays k (making_got k n now x xid (made_by k.server.tree (server.held k.server.waiting) w.dir w.goal))
 making_entered k n now x xid w making = by (made_walk k.server.tree (server.held k.server.waiting) w making)
   where
     plain : (e : TreeEntry) → EntryAt k.server.tree w.goal e → (i : ℕ) (d : Entry) → slice_get (written_by n e ∷ []) i ≡ Some d → d.kind ≡ kind.Commit → ⊥
     plain e is zero d at commit = entry_plain k.server.tree w.left w.goal e (is_creating w) making refl is (ap (λ (z : Entry). z.kind) (some_is (written_by n e) d at) ∙ commit)
     plain e is (suc i) d at commit = nothing_there d at
 
-    by : MadeSo k.server.tree (server.held k.server.waiting) w → Entered k (making_got k n now x xid (made_by k.server.tree (server.held k.server.waiting) w.dir w.goal))
-    by (refuses s r is err turned leads procs) = subst (λ (p : Tree × Finished). Entered k (making_got k n now x xid p)) (sym is) (record { es = []; entries = refl; journal = refl; plain = λ i e at. nothing_there e at })
-    by (enters done e r after is step first_is second_is entry_is after_is leads procs) = subst (λ (p : Tree × Finished). Entered k (making_got k n now x xid p)) (sym is) (record { es = written_by n e ∷ []; entries = refl; journal = refl; plain = plain e entry_is })
+    stays : (e : TreeEntry) → EntryAt k.server.tree w.goal e → NoneGoes (written_by n e ∷ [])
+    stays e is zero d at goes = entry_stays k.server.tree w.left w.goal e (is_creating w) making refl is (ap (λ (z : Entry). z.kind) (some_is (written_by n e) d at) ∙ goes)
+    stays e is (suc i) d at goes = nothing_there d at
+
+    by : MadeSo k.server.tree (server.held k.server.waiting) w → EnteredStays k (making_got k n now x xid (made_by k.server.tree (server.held k.server.waiting) w.dir w.goal))
+    by (refuses s r is err turned leads procs) = subst (λ (p : Tree × Finished). EnteredStays k (making_got k n now x xid p)) (sym is) (record { es = []; entries = refl; journal = refl; plain = λ i e at. nothing_there e at }, λ i e at. nothing_there e at)
+    by (enters done e r after is step first_is second_is entry_is after_is leads procs) = subst (λ (p : Tree × Finished). EnteredStays k (making_got k n now x xid p)) (sym is) (record { es = written_by n e ∷ []; entries = refl; journal = refl; plain = plain e entry_is }, stays e entry_is)
 
 -- what a call that makes something leaves of the operations
 making_ops : (book : Book) (k : Core) (qs : List Queue) (n now : ℕ) (x : Session) (q : Queue) (xid : ℕ) (w : Walk) (us : List Ask) → IsKept book k qs → IsSession book k.seats k.server n x q → q.ups ≡ record { xid = xid; call = Walks w } ∷ us → is_building w ≡ true → (let r = making_got k n now x xid (made_by k.server.tree (server.held k.server.waiting) w.dir w.goal) in (r.core.ops ≡ k.ops) ⊎ MadeHere k r.core.ops)
@@ -127,12 +150,13 @@ going_quiet k n now x xid w small goes standing bounded = by (comes_so k.server.
       passes = omega arith;
       up = refl;
       entered = record { es = entries_by n d.first d.second; entries = ap (λ (m : ℕ). k.entries ++ replicate m (k.steps + 1)) (count_is n d.first d.second); journal = refl; plain = λ i e at commit. true_and_false (is_of_file e.kind) (ap is_of_file commit) (names_none n d.first d.second first second i e at) };
+      stays = λ i e at goes. true_and_false (is_of_file e.kind) (ap is_of_file goes) (names_none n d.first d.second first second i e at);
     }
 
     by : ComesSo k.server.tree (server.held k.server.waiting) (has_waiting k.server.waiting n) w → IsQuiet k (server_got k n now x (message.Call xid (body.Nfs (next_call w))))
     by (refused s r is why turned leads procs) = subst (IsQuiet k) (sym (got_answered k n now x xid w k.server.tree (said (name_answer r)) small goes standing is)) (no_entries k.server.tree (said (name_answer r)) (λ e f. nothing_there e f) (λ e f. nothing_there e f))
     by (done_now done r after is step first second leads procs files none root next) = subst (IsQuiet k) (sym (got_answered k n now x xid w after (record { answer = name_answer r; first = done.first; second = done.second }) small goes standing is)) (no_entries after (record { answer = name_answer r; first = done.first; second = done.second }) first second)
-    by (waits a g is asks there room free two) = subst (IsQuiet k) (sym (got_waits k n now x xid w a small goes standing is)) (record { ops = inl refl; seats = refl; passes = omega arith; up = refl; entered = none_entered k (waits_got k n now x xid a) refl refl })
+    by (waits a g is asks there room free two) = subst (IsQuiet k) (sym (got_waits k n now x xid w a small goes standing is)) (record { ops = inl refl; seats = refl; passes = omega arith; up = refl; entered = none_entered k (waits_got k n now x xid a) refl refl; stays = λ i e at. nothing_there e at })
 
 ask_quiet : FitLaws → (book : Book) (k : Core) (qs : List Queue) (n now : ℕ) (bytes : List ℕ) (mid : List Queue) → IsKept book k qs → FindsAsk qs n bytes mid → IsQuiet k (happens k (Serves n now bytes))
 ask_quiet laws book k qs n now bytes mid kept f = by (numbered k.sessions n) refl
@@ -143,7 +167,7 @@ ask_quiet laws book k qs n now bytes mid kept f = by (numbered k.sessions n) ref
     quietly : (x : Session) → makes_call f.1.call ≡ false → IsQuiet k (serves_if k n now x (Ok (ask_message f.1)))
     quietly x none =
         subst (IsQuiet k) (sym (got_quiet k n now x (ask_message f.1) (is_of_files f.1 fits none)))
-        (record { ops = inl refl; seats = refl; passes = omega arith; up = refl; entered = none_entered k (quiet_got k n now x (ask_message f.1)) refl (got_keeps (λ (z : server.State). z.journal ≡ k.server.journal) k.server n (ask_message f.1) now (is_of_files f.1 fits none) (λ temps waiting index leasing w. refl)) })
+        (record { ops = inl refl; seats = refl; passes = omega arith; up = refl; entered = none_entered k (quiet_got k n now x (ask_message f.1)) refl (got_keeps (λ (z : server.State). z.journal ≡ k.server.journal) k.server n (ask_message f.1) now (is_of_files f.1 fits none) (λ temps waiting index leasing w. refl)); stays = λ i e at. nothing_there e at })
 
     no_ups : {a : Ask} {us : List Ask} → ◌≡◌ {A = List Ask} [] (a ∷ us) → ⊥
     no_ups e = absurd cc
@@ -157,8 +181,9 @@ ask_quiet laws book k qs n now bytes mid kept f = by (numbered k.sessions n) ref
         let h = kept.sessions n x f.0 at f.3 in
         let first : f.0.ups ≡ record { xid = f.1.xid; call = Walks w } ∷ f.2 = f.4 ∙ ap (λ (c : Call). record { xid = f.1.xid; call = c } ∷ f.2) is in
         let fit = subst (CallFits f.1.xid) is fits in
+        let entered = making_entered k n now x f.1.xid w makes in
         subst (IsQuiet k) (sym (got_making k n now x f.1.xid w fit.1 makes (h.stands_is ∙ ap not (unhung x (record { xid = f.1.xid; call = Walks w }) x.hung refl h first))))
-        (record { ops = making_ops book k qs n now x f.0 f.1.xid w f.2 kept h first makes; seats = refl; passes = omega arith; up = refl; entered = making_entered k n now x f.1.xid w makes })
+        (record { ops = making_ops book k qs n now x f.0 f.1.xid w f.2 kept h first makes; seats = refl; passes = omega arith; up = refl; entered = entered.0; stays = entered.1 })
 
     going : (x : Session) → numbered k.sessions n ≡ Some x → (w : Walk) → is_going w ≡ true → f.1.call ≡ Walks w → IsQuiet k (serves_if k n now x (Ok (ask_message (record { xid = f.1.xid; call = Walks w }))))
     going x at w goes is =
@@ -177,7 +202,7 @@ ask_quiet laws book k qs n now bytes mid kept f = by (numbered k.sessions n) ref
         subst (λ (c : Call). IsQuiet k (serves_if k n now x (Ok (ask_message (record { xid = f.1.xid; call = c }))))) (sym w.1) (making x at w.0 w.2 w.1)
 
     by : (x : Option Session) → numbered k.sessions n ≡ x → IsQuiet k (serves k n now bytes x)
-    by None at = record { ops = inl refl; seats = refl; passes = omega arith; up = refl; entered = none_entered k (serves k n now bytes None) refl refl }
+    by None at = record { ops = inl refl; seats = refl; passes = omega arith; up = refl; entered = none_entered k (serves k n now bytes None) refl refl; stays = λ i e at. nothing_there e at }
     by (Some x) at = subst (λ (r : Result Message WireFault). IsQuiet k (serves_if k n now x r)) (sym (serves_read laws book k qs n now bytes mid kept f)) (any x at (makes_call f.1.call) refl)
 
 -- so is an answer to a RECALL
@@ -186,7 +211,7 @@ serves_quiet laws book k qs n now bytes mid kept (inl f) = ask_quiet laws book k
 serves_quiet laws book k qs n now bytes mid kept (inr f) =
     let taken = reply_taken laws k qs n now bytes mid f in
     let t : CoreStep = idles (record k { server = record k.server { leasing = taken.0 } }) in
-    subst (IsQuiet k) (sym taken.1) (record { ops = inl refl; seats = refl; passes = omega arith; up = refl; entered = none_entered k t refl refl })
+    subst (IsQuiet k) (sym taken.1) (record { ops = inl refl; seats = refl; passes = omega arith; up = refl; entered = none_entered k t refl refl; stays = λ i e at. nothing_there e at })
 
 -- ---- a call that may change no file
 

@@ -53,9 +53,21 @@ RefusesFor t c = (answer : Message) × (s : Status) × Contains t.down (record {
 abbrev pub TellsReady : (k : Core) (now : ℕ) (t : CoreStep) → List Entry → Type 0
 TellsReady k now t es = (c : Change) → ready_by k.server now ≡ Some c → (0 < length es) ⊎ RefusesFor t c
 
+-- the file that went is the one that the ready REMOVE or RENAME was of
+pub record IsRemove (k : Core) (now : ℕ) (e : Entry) : Type 0 where
+  pub change : Change
+  pub ready : ready_by k.server now ≡ Some change
+  pub call : Asked
+  pub what_is : change.what ≡ wanted.Asked call
+  pub file_is : e.file ≡ change.file
+  pub session_is : e.session ≡ change.session
+
+abbrev pub RemovesReady : (k : Core) (now : ℕ) → List Entry → Type 0
+RemovesReady k now es = (i : ℕ) (e : Entry) → slice_get es i ≡ Some e → e.kind ≡ kind.Remove → IsRemove k now e
+
 pub data Settling (k : Core) (now : ℕ) (t : CoreStep) : Type 0 where
   makes_commit : (c : Change) (cs : List Change) (f : File) → SettlesOut k now c cs → c.what ≡ wanted.Content (content_wanted c.what) → the_files.file_at k.server.tree c.file ≡ Some f → Settling k now t
-  makes_else : (t.core.ops ≡ k.ops) ⊎ GoesHere k t.core.ops → (q : Entered k t) → TellsReady k now t q.es → Settling k now t
+  makes_else : (t.core.ops ≡ k.ops) ⊎ GoesHere k t.core.ops → (q : Entered k t) → TellsReady k now t q.es → RemovesReady k now q.es → Settling k now t
 
 -- ---- the entries of what goes
 
@@ -72,6 +84,18 @@ no_commit n first second e is removes names i d at commit = by i second names (a
     by zero second names at = remove_commit (sym removes ∙ ap (λ (z : Entry). z.kind) (some_is (entry_by n e) d at) ∙ commit)
     by (suc i) None names at = nothing_there d at
     by (suc zero) (Some y) names at = name_commit (sym (names y refl) ∙ ap (λ (z : Entry). z.kind) (some_is (entry_by n y) d at) ∙ commit)
+    by (suc (suc i)) (Some y) names at = nothing_there d at
+
+removed_is : (n : ℕ) (first second : Option TreeEntry) (e : TreeEntry) → first ≡ Some e → IsName second → (i : ℕ) (d : Entry) → slice_get (entries_by n first second) i ≡ Some d → d.kind ≡ kind.Remove → (d.file ≡ e.file) × (d.session ≡ n)
+removed_is n first second e is names i d at removes = by i second names (ap (λ (o : Option TreeEntry). slice_get (entries_by n o second) i) (sym is) ∙ at)
+  where
+    name_remove : {A : Type 0} → kind.Name ≡ kind.Remove → A
+    name_remove z = absurd cc
+
+    by : (i : ℕ) (second : Option TreeEntry) → IsName second → slice_get (entries_by n (Some e) second) i ≡ Some d → (d.file ≡ e.file) × (d.session ≡ n)
+    by zero second names at = let same = sym (some_is (entry_by n e) d at) in (ap (λ (z : Entry). z.file) same, ap (λ (z : Entry). z.session) same)
+    by (suc i) None names at = nothing_there d at
+    by (suc zero) (Some y) names at = name_remove (sym (names y refl) ∙ ap (λ (z : Entry). z.kind) (some_is (entry_by n y) d at) ∙ removes)
     by (suc (suc i)) (Some y) names at = nothing_there d at
 
 changed_is : (n : ℕ) (first second : Option TreeEntry) (e : TreeEntry) (file : ℕ) → first ≡ Some e → e.kind ≡ kind.Remove → e.file ≡ file → changed_file (entries_by n first second) ≡ Some file
@@ -103,13 +127,14 @@ asks_itself (asked.Rename r) = (refl, refl, refl)
 pub settling : (book : Book) (k : Core) (qs : List Queue) (now : ℕ) → IsKept book k qs → Settling k now (settles k now)
 settling book k qs now kept = by (what_settles book k qs now kept)
   where
-    asked_so : (c : Change) (cs : List Change) (a : Asked) (x : Session) → SettlesOut k now c cs → numbered k.sessions c.session ≡ Some x → (p : (place : ℕ) × (op : Op) × (x.closing ≡ Some place) × (slice_get k.ops place ≡ Some op) × IsUnmade op × (op.word ≡ asked_word a) × (op.file ≡ 0)) → SettlesSo k.server.tree (server.held cs) (walk_for a) a
+    asked_so : (c : Change) (cs : List Change) (a : Asked) (x : Session) → SettlesOut k now c cs → c.what ≡ wanted.Asked a → c.file ≡ file_of a → numbered k.sessions c.session ≡ Some x → (p : (place : ℕ) × (op : Op) × (x.closing ≡ Some place) × (slice_get k.ops place ≡ Some op) × IsUnmade op × (op.word ≡ asked_word a) × (op.file ≡ 0)) → SettlesSo k.server.tree (server.held cs) (walk_for a) a
         → Settling k now (asked_step k now c cs (tree_settles k.server.tree (server.held cs) a))
-    asked_so c cs a x out here p (refused_late s r is why refuses leads procs) = subst (λ (z : Tree × Finished). Settling k now (asked_step k now c cs z)) (sym is) (makes_else
+    asked_so c cs a x out what file here p (refused_late s r is why refuses leads procs) = subst (λ (z : Tree × Finished). Settling k now (asked_step k now c cs z)) (sym is) (makes_else
         (inl (ap (settled_ops k.ops (k.steps + 1) None) here ∙ pointed_none k.ops x.closing (k.steps + 1)))
         (record { es = []; entries = refl; journal = refl; plain = λ i e at. nothing_there e at })
-        (tells_ready k now c (asked_step k now c cs (k.server.tree, said (name_answer r))) [] out.ready (inr (message.Answer c.xid (body.Nfs (name_answer r)), s, Contains-push [] (record { session = c.session; message = message.Answer c.xid (body.Nfs (name_answer r)) }), refuses))))
-    asked_so c cs a x out here (place, op, known, there, unmade, word, file_is) (goes done r after is step gone names leads procs files none off root next) = subst (λ (z : Tree × Finished). Settling k now (asked_step k now c cs z)) (sym is) (makes_else
+        (tells_ready k now c (asked_step k now c cs (k.server.tree, said (name_answer r))) [] out.ready (inr (message.Answer c.xid (body.Nfs (name_answer r)), s, Contains-push [] (record { session = c.session; message = message.Answer c.xid (body.Nfs (name_answer r)) }), refuses)))
+        (λ i e at. nothing_there e at))
+    asked_so c cs a x out what file here (place, op, known, there, unmade, word, file_is) (goes done r after is step gone names leads procs files none off root next) = subst (λ (z : Tree × Finished). Settling k now (asked_step k now c cs z)) (sym is) (makes_else
         (inr (record {
           place = place;
           op = op;
@@ -129,10 +154,11 @@ settling book k qs now kept = by (what_settles book k qs now kept)
           journal = refl;
           plain = no_commit c.session done.first done.second gone.entry gone.is gone.kind_is names;
         })
-        (tells_ready k now c (asked_step k now c cs (after, record { answer = name_answer r; first = done.first; second = done.second })) (entries_by c.session done.first done.second) out.ready (inl (some_entered c.session done.first done.second gone.entry gone.is))))
+        (tells_ready k now c (asked_step k now c cs (after, record { answer = name_answer r; first = done.first; second = done.second })) (entries_by c.session done.first done.second) out.ready (inl (some_entered c.session done.first done.second gone.entry gone.is)))
+        (λ i d at goes_. (let h = removed_is c.session done.first done.second gone.entry gone.is names i d at goes_ in record { change = c; ready = out.ready; call = a; what_is = what; file_is = h.0 ∙ gone.file_is ∙ sym file; session_is = h.1 })))
 
     by : WhatSettles k now → Settling k now (settles k now)
-    by (settles_none none is) = subst (Settling k now) (sym is) (makes_else (inl refl) (record { es = []; entries = sym (append-nil k.entries); journal = sym (append-nil k.server.journal); plain = λ i d at. nothing_there d at }) (λ c at. nothing_there c (sym none ∙ at)))
+    by (settles_none none is) = subst (Settling k now) (sym is) (makes_else (inl refl) (record { es = []; entries = sym (append-nil k.entries); journal = sym (append-nil k.server.journal); plain = λ i d at. nothing_there d at }) (λ c at. nothing_there c (sym none ∙ at)) (λ i e at. nothing_there e at))
     by (settles_one c cs out) = is_wanted c.what refl
       where
         at_place : slice_get k.server.waiting out.out.place ≡ Some c
@@ -154,13 +180,13 @@ settling book k qs now kept = by (what_settles book k qs now kept)
         commit content what (Some f) there = makes_commit c cs f out (what ∙ ap (λ (x : List ℕ). wanted.Content x) (sym (ap content_wanted what))) there
         commit content what None none =
             let is = unmade_settles k now c cs content out what (node_gone book k.server c.file kept.server (kept.server.targets out.out.place c at_place) none) in
-            subst (Settling k now) (sym is) (makes_else (inl refl) (record { es = []; entries = sym (append-nil k.entries); journal = sym (append-nil k.server.journal); plain = λ i d at. nothing_there d at }) (tells_ready k now c (unmade_step k now c cs) [] out.ready (inr (told_message (unmade_told c), status.Stale, Contains-push [] (record { session = c.session; message = told_message (unmade_told c) }), refl))))
+            subst (Settling k now) (sym is) (makes_else (inl refl) (record { es = []; entries = sym (append-nil k.entries); journal = sym (append-nil k.server.journal); plain = λ i d at. nothing_there d at }) (tells_ready k now c (unmade_step k now c cs) [] out.ready (inr (told_message (unmade_told c), status.Stale, Contains-push [] (record { session = c.session; message = told_message (unmade_told c) }), refl))) (λ i e at. nothing_there e at))
 
         is_wanted : (w : Wanted) → c.what ≡ w → Settling k now (settles k now)
         is_wanted (wanted.Content content) what = commit content what (the_files.file_at k.server.tree c.file) refl
         is_wanted (wanted.Asked a) what =
             let p : IsGoing book c.session home.0.closing home.0.cut (job h.seat) c.xid a = subst (λ (w : Wanted). WaitsFor book c.session home.0.closing home.0.cut (job h.seat) c.xid c.file w) what pending in
             let wants = subst (IsWanted c.file) what (kept.server.wants out.out.place c at_place) in
-            subst (Settling k now) (sym (asked_settles k now c cs a out what)) (asked_so c cs a home.0 out home.1
+            subst (Settling k now) (sym (asked_settles k now c cs a out what)) (asked_so c cs a home.0 out what wants.0 home.1
             (p.place, p.op, p.known, ap (λ (l : List Op). slice_get l p.place) (sym kept.ops) ∙ p.there, p.unmade, p.word_is, p.file_is)
             (settles_so k.server.tree (server.held cs) (walk_for a) a kept.server.bounded wants.2 (asks_itself a) wants.1 (λ n d. no_directory book k.server (file_of a) n kept.server (subst (λ (f : ℕ). WasThere book f) wants.0 (kept.server.targets out.out.place c at_place)) d)))

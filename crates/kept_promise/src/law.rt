@@ -15,8 +15,10 @@ ghost use Rattle.kept_promise.specs.Arrivals.{UpsComeInOrder, DownsComeInOrder};
 /// Of every accepted trace: each of its commands has its one operation in the history, each outcome
 /// has its cause and each cause its outcome, and the history is legal wherever no two different byte
 /// lists that were hashed in the run share a digest. What an operation counts is what was sent and
-/// received for it. Operations whose client is left alone have ended, and well. Each change that waits at the
-/// server has the value of the close that asked for it, which is still running or was lost, and of
+/// received for it, and bytes that the other end was found to have are not sent. Operations whose client
+/// is left alone have ended, and well. A change waits no longer than the leases that hold it up, which are
+/// asked for and given up; and an open under a lease that is noted asks nobody. Each change that waits at
+/// the server has the value of the close that asked for it, which is still running or was lost, and of
 /// each file the server's tree has what the history says; and what is on its way on each session are
 /// whole messages, which their end takes. It does nothing: a caller learns this by calling it.
 pub fn promise_is_kept()

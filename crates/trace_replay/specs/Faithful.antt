@@ -20,6 +20,7 @@ use Rattle.lease_rules.specs.declared.lease.Lease.{Lease}
 use Rattle.server_core.specs.Closing.{ready_by}
 use Rattle.server_core.specs.State.{Change}
 use Rattle.server_core.specs.declared.change.Wanted.TheVariants as wanted
+use Rattle.tree_calls.specs.declared.asked.Asked.{Asked}
 use Rattle.server_core.specs.declared.journal.Entry.{Entry}
 use Rattle.tree_reading.specs.declared.entry.EntryKind.{EntryKind}
 use Rattle.tree_reading.specs.declared.entry.EntryKind.TheVariants as kind
@@ -48,6 +49,7 @@ use Rattle.trace_replay.specs.Book.{Book, Or, version_at}
 use Rattle.trace_replay.specs.OwnCalls.{TakesCall}
 use Rattle.trace_replay.specs.AtOnce.{EndsFresh}
 use Rattle.trace_replay.specs.PendingChanges.{WaitInTurn}
+use Rattle.trace_replay.specs.Notes.{AnswersRecall, NotesCome}
 use Rattle.trace_replay.specs.Causes.{HasCause, can_go, is_busy, local_before, own_answer}
 
 -- ---- an operation
@@ -231,6 +233,21 @@ pub record IsSettled (book : Book) (number step : ℕ) : Type 0 where
   pub owner : session.owner ≡ op.client
   pub closing : session.closing ≡ Some place
 
+-- A file goes in this step as a change is made that was pending: the one that was ready, of that file, which a REMOVE asked for, or a RENAME over it. The journal's
+-- entry names its session.
+pub record IsRemoved (moments : List Moment) (step : ℕ) (e : Entry) : Type 0 where
+  pub moment : Moment
+  pub there : Contains moments moment
+  pub now : ℕ
+  pub event_is : moment.event ≡ Settles now
+  pub step_is : step_of moment ≡ step
+  pub change : Change
+  pub ready : ready_by moment.before.server now ≡ Some change
+  pub call : Asked
+  pub what_is : change.what ≡ wanted.Asked call
+  pub file_is : e.file ≡ change.file
+  pub session_is : e.session ≡ change.session
+
 -- why an answer to what waited refuses, if it does
 abbrev pub change_refusal : Message → Option Status
 change_refusal (message.Answer xid (body.Lb (lb.CommitTmpAnswer a))) = failed_by a
@@ -277,9 +294,13 @@ pub record IsFaithful (input : List ℕ) (book : Book) : Type 0 where
   pub cuts : CutsEnd book
   pub journal : HasJournal book
   pub settled : (i p : ℕ) (e : Entry) → slice_get book.entries i ≡ Some p → slice_get book.journal i ≡ Some e → e.kind ≡ kind.Commit → IsSettled book i p
+  pub removed : (i p : ℕ) (e : Entry) → slice_get book.entries i ≡ Some p → slice_get book.journal i ≡ Some e → e.kind ≡ kind.Remove → IsRemoved book.moments p e
   pub settles : SettlesReady book
   -- a change waits no longer than the leases on its file last, and than those that stand before it
   pub waits : WaitInTurn book
+  -- a client is asked for its lease, and answers; and what it notes of leases was told it
+  pub recalls : (m : Moment) → Contains book.moments m → AnswersRecall m
+  pub notes : (m : Moment) → Contains book.moments m → NotesCome book.moments m
   -- an open that got its content has its point by its GETLEASE, if it began no attempt, or else by the first GETHASH of one, or in its own step, by a content that was fresh then
   pub points : (k : ℕ) (o : Op) → slice_get book.ops k ≡ Some o → OpensAt book o o.outcome
   pub versions : (k : ℕ) (o : Op) → slice_get book.ops k ≡ Some o → OpensVersion book o o.outcome

@@ -23,6 +23,7 @@ pub mod Entries
 pub mod WarmRows
 pub mod PendingChanges
 pub mod PendingRows
+pub mod Notes
 pub mod Walking
 pub mod WalkingRows
 pub mod Fetches

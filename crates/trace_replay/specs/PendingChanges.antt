@@ -1,6 +1,6 @@
 -- What becomes of the changes that are pending at the server in each step of a run, and of the leases that hold them up (Gray and Cheriton, SOSP 1989): a change
 -- waits no longer than these last, and than those that stand before it.
-use Rattle.std.specs.Prelude.{◌≡◌, ◌⊎◌, ℕ, ◌+◌, ◌<◌, ◌≤◌, List, [], ◌∷◌, ◌++◌, true, false, nat_le, max, remove, Option, Some, None, Ok, Contains, slice_get}
+use Rattle.std.specs.Prelude.{◌≡◌, ◌⊎◌, ℕ, ◌+◌, ◌<◌, ◌≤◌, List, [], ◌∷◌, ◌++◌, true, nat_le, max, remove, Option, Some, None, Ok, Contains, slice_get}
 use Rattle.std.specs.Option.{option_map}
 use Rattle.xdr_codec.specs.Handle.{file_of, handle_bytes}
 use Rattle.hash_calls.specs.declared.message.Back.TheVariants as back
@@ -22,6 +22,8 @@ use Rattle.callback_core.specs.BackCalls.{call_at, waiting_at}
 use Rattle.callback_core.specs.Waits.{without}
 use Rattle.server_core.specs.Closing.{ready_by}
 use Rattle.server_core.specs.State.{State, Change, stands}
+use Rattle.server_core.specs.declared.change.Wanted.{Wanted}
+use Rattle.server_core.specs.declared.change.Wanted.TheVariants as wanted
 use Rattle.server_core.specs.declared.event.Sent.{Sent}
 use Rattle.trace_ends.specs.Core.{Event, Event.Serves, Event.Settles, Event.Hangs, server_waiting, happens}
 use Rattle.trace_replay.specs.Trail.{Moment, step_if}
@@ -37,7 +39,61 @@ pub record Move : Type 0 where
 abbrev pub move_of : Moment → Move
 move_of m = let t = happens m.before m.event in record { event = m.event; before = m.before.server; after = t.core.server; sent = t.down }
 
+-- ---- the server's clock
+
+-- the reading of the server's clock that an event carries
+abbrev pub reading_of : Event → ℕ
+reading_of (Serves session now bytes) = now
+reading_of (Settles now) = now
+reading_of e = 0
+
+-- The term stays. The server's moment is the greatest reading that it went by. There is no quiet.
+pub record KeepsTime (v : Move) : Type 0 where
+  pub term : v.after.leasing.term ≡ v.before.leasing.term
+  pub moment : (v.after.leasing.moment ≡ v.before.leasing.moment) ⊎ (v.after.leasing.moment ≡ max v.before.leasing.moment (reading_of v.event))
+  pub quiet : v.before.leasing.quiet ≡ 0
+
 -- ---- leases
+
+-- the RECALL of a lease, under this number
+abbrev pub recall_of : Lease → (xid : ℕ) → Sent
+recall_of l xid = record { session = l.session; message = message.Call xid (body.Back (back.Recall (handle_bytes l.file))) }
+
+-- the file on which a call asks for a lease
+abbrev pub file_leased : Body → Option ℕ
+file_leased (body.Lb (lb.GetLease handle)) = file_of handle
+file_leased (body.Lb (lb.GetHash r)) = file_of r.handle
+file_leased b = None
+
+-- what a COMMITTMP asks for
+abbrev pub IsContent : Wanted → Type 0
+IsContent (wanted.Content content) = Unit {0}
+IsContent (wanted.Asked a) = ⊥
+
+-- the server takes such a call of the session, or makes the change that its COMMITTMP asked for
+abbrev pub GrantsTo : Move → (session file : ℕ) → Type 0
+GrantsTo v session file =
+    ((now xid : ℕ) × (bytes : List ℕ) × (call : Body) × (v.event ≡ Serves session now bytes) × (parse_of server_waiting bytes ≡ Ok (message.Call xid call)) × (file_leased call ≡ Some file))
+    ⊎ ((now : ℕ) × (c : Change) × (v.event ≡ Settles now) × (ready_by v.before now ≡ Some c) × IsContent c.what × (c.session ≡ session) × (c.file ≡ file))
+
+-- granted in this step: to a session that stands, from the moment on, for the term; and nobody has asked for it
+pub record IsGranted (v : Move) (l : Lease) : Type 0 where
+  pub to : GrantsTo v l.session l.file
+  pub up : stands v.before l.session ≡ true
+  pub ends : l.ends ≡ max v.before.leasing.moment (reading_of v.event) + v.before.leasing.term
+  pub unasked : l.recall ≡ None
+
+-- asked for in this step: its RECALL goes out, under the number that it remembers from now on
+pub record IsAskedFor (v : Move) (l : Lease) : Type 0 where
+  pub xid : ℕ
+  pub recall : l.recall ≡ Some xid
+  pub place : ℕ
+  pub there : slice_get v.before.leasing.leases place ≡ Some (record l { recall = None })
+  pub sent : Contains v.sent (recall_of l xid)
+
+-- Each lease behind a step stood before, just so; or it is asked for, or granted, in this step.
+abbrev pub LeasesCome : Move → Type 0
+LeasesCome v = (i : ℕ) (l : Lease) → slice_get v.after.leasing.leases i ≡ Some l → ((j : ℕ) × (slice_get v.before.leasing.leases j ≡ Some l)) ⊎ (IsAskedFor v l ⊎ IsGranted v l)
 
 -- the same lease, which was asked for by the same RECALL, or by none
 pub record StoodIn (leases : List Lease) (l : Lease) : Type 0 where
@@ -65,7 +121,7 @@ FreesAnswered v = (session now xid : ℕ) (bytes : List ℕ) → v.event ≡ Ser
 -- The session of a lease is asked for it by a RECALL of its file, under a number that the lease remembers; or it was to be asked for more than it has numbers.
 abbrev pub AsksFor : Move → Lease → Type 0
 AsksFor v l =
-    ((xid : ℕ) × Contains v.sent (record { session = l.session; message = message.Call xid (body.Back (back.Recall (handle_bytes l.file))) }) × (i : ℕ) × (slice_get v.after.leasing.leases i ≡ Some (record l { recall = Some xid })))
+    ((xid : ℕ) × Contains v.sent (recall_of l xid) × (i : ℕ) × (slice_get v.after.leasing.leases i ≡ Some (record l { recall = Some xid })))
     ⊎ ((call_at v.after.leasing.calls l.session).spent ≡ true)
 
 -- So it is with each lease that holds a change up, hasn't ended at this reading, and was asked for by no RECALL, as far as its session stands.
@@ -113,11 +169,10 @@ GoesOn e v = v.after.waiting ≡ v.before.waiting
 -- ---- it waits no longer than leases
 
 -- From this reading on nothing holds the change at this place up but others before it: neither it nor one of its file that stands before it is held up by a lease,
--- since each on that ends by then, but for the session's own under its COMMITTMP; and so does the quiet after the server's start.
+-- since each on that ends by then, but for the session's own under its COMMITTMP.
 pub record IsFreeBy (s : State) (reading place : ℕ) (c : Change) : Type 0 where
   pub there : slice_get s.waiting place ≡ Some c
   pub ended : (i j : ℕ) (d : Change) (l : Lease) → i ≤ place → slice_get s.waiting i ≡ Some d → d.file ≡ c.file → slice_get s.leasing.leases j ≡ Some l → l.file ≡ c.file → is_others l (asker d) ≡ true → l.ends ≤ reading
-  pub awake : s.leasing.quiet ≤ reading
 
 -- At each moment at which nothing holds it up, it is ready, or one that stands before it: that a settling makes (`TakesReady`).
 abbrev pub AreReady : Book → Type 0
@@ -147,6 +202,8 @@ AreSettledSoon book = (early span late : List Moment) (m : Moment) (reading plac
 
 pub record WaitInTurn (book : Book) : Type 0 where
   pub goes_on : (m : Moment) → Contains book.moments m → GoesOn m.event (move_of m)
+  pub keeps : (m : Moment) → Contains book.moments m → KeepsTime (move_of m)
+  pub come : (m : Moment) → Contains book.moments m → LeasesCome (move_of m)
   pub grants_none : (m : Moment) → Contains book.moments m → GrantsNone (move_of m)
   pub frees : (m : Moment) → Contains book.moments m → FreesAnswered (move_of m)
   pub ready : AreReady book

@@ -14,11 +14,11 @@ use Rattle.server_core.specs.declared.event.Sent.{Sent}
 use Rattle.server_core.specs.State as server
 use Rattle.server_core.specs.State.{State, Change, change_of}
 use Rattle.server_core.specs.Step.{opens_with}
-use Rattle.trace_ends.specs.Core.{Event.Serves, Event.Settles, Event.Hangs}
+use Rattle.trace_ends.specs.Core.{Event, Event.Serves, Event.Settles, Event.Hangs}
 use Rattle.trace_replay.specs.Book.{Book}
 use Rattle.trace_replay.specs.Trail.{Moment}
 use Rattle.trace_replay.specs.Faithful.{TakesReady}
-use Rattle.trace_replay.specs.PendingChanges.{Move, GrantsNone, GivesUp, AsksFor, AsksForAll, GoesOn, file_asked, settlings}
+use Rattle.trace_replay.specs.PendingChanges.{Move, KeepsTime, GrantsTo, IsGranted, IsAskedFor, LeasesCome, GrantsNone, GivesUp, AsksFor, AsksForAll, GoesOn, file_asked, settlings}
 
 -- ---- states
 
@@ -102,6 +102,59 @@ gives_another_up h = let w = h.others 0 (lease 4 2 1000 (Some 2)) refl (λ s r. 
   where
     other : ◌≡◌ {A = Option ℕ} (Some 2) (Some 1) → ⊥
     other e = absurd cc
+
+-- a lease lasts longer than the term, or is granted to another than asks
+granted_too_long : LeasesCome (served (state [] []) (state [] (lease 4 2 2000 None ∷ [])) []) → ⊥
+granted_too_long h = by (h 0 (lease 4 2 2000 None) refl)
+  where
+    v : Move
+    v = served (state [] []) (state [] (lease 4 2 2000 None ∷ [])) []
+
+    by : ((j : ℕ) × (slice_get [] j ≡ Some (lease 4 2 2000 None))) ⊎ (IsAskedFor v (lease 4 2 2000 None) ⊎ IsGranted v (lease 4 2 2000 None)) → ⊥
+    by (inl old) = no (lease 4 2 2000 None) old.1
+    by (inr (inl asked)) = no asked.xid asked.recall
+    by (inr (inr granted)) = let ends = granted.ends in absurd (omega (arith, ends))
+
+granted_to_another : GrantsTo (served (state [] []) (state [] (lease 3 2 1000 None ∷ [])) []) 3 2 → ⊥
+granted_to_another (inl h) = let same = ap session_in h.4 in absurd (omega (arith, same))
+  where
+    session_in : Event → ℕ
+    session_in (Serves session now bytes) = session
+    session_in e = 0
+granted_to_another (inr h) = absurd (other h.2)
+  where
+    other : {now : ℕ} → Serves 4 0 [] ≡ Settles now → ⊥
+    other e = absurd cc
+
+-- one remembers a number for which no RECALL goes out
+remembers_alone : LeasesCome (served (state [] (lease 3 2 1000 None ∷ [])) (state (close 4 2 ∷ []) (lease 3 2 1000 (Some 1) ∷ [])) []) → ⊥
+remembers_alone h = by (h 0 (lease 3 2 1000 (Some 1)) refl)
+  where
+    v : Move
+    v = served (state [] (lease 3 2 1000 None ∷ [])) (state (close 4 2 ∷ []) (lease 3 2 1000 (Some 1) ∷ [])) []
+
+    recalls : (a b : Lease) → Some a ≡ Some b → a.recall ≡ b.recall
+    recalls a b e = cc
+
+    old : (j : ℕ) → slice_get (lease 3 2 1000 None ∷ []) j ≡ Some (lease 3 2 1000 (Some 1)) → ⊥
+    old zero e = no 1 (recalls (lease 3 2 1000 None) (lease 3 2 1000 (Some 1)) e)
+    old (suc j) e = no (lease 3 2 1000 (Some 1)) e
+
+    by : ((j : ℕ) × (slice_get (lease 3 2 1000 None ∷ []) j ≡ Some (lease 3 2 1000 (Some 1)))) ⊎ (IsAskedFor v (lease 3 2 1000 (Some 1)) ⊎ IsGranted v (lease 3 2 1000 (Some 1))) → ⊥
+    by (inl h) = old h.0 h.1
+    by (inr (inl asked)) = let lt = asked.sent.1 in absurd (omega (arith, lt))
+    by (inr (inr granted)) = no 1 (sym granted.unasked)
+
+-- the server's clock runs ahead of all readings, or a quiet begins
+runs_ahead : KeepsTime (served (state [] []) (record two_files { leasing = record two_files.leasing { term = 1000; moment = 5 } }) []) → ⊥
+runs_ahead h = by h.moment
+  where
+    by : (◌≡◌ {A = ℕ} 5 0) ⊎ (◌≡◌ {A = ℕ} 5 0) → ⊥
+    by (inl e) = absurd (omega (arith, e))
+    by (inr e) = absurd (omega (arith, e))
+
+falls_quiet : (s : State) → KeepsTime (served (record s { leasing = record s.leasing { quiet = 500 } }) s []) → ⊥
+falls_quiet s h = let e = h.quiet in absurd (omega (arith, e))
 
 -- no RECALL goes out as a change comes
 asks_nobody : AsksForAll (served (state [] (lease 3 2 1000 None ∷ [])) (state (close 4 2 ∷ []) (lease 3 2 1000 None ∷ [])) []) 0 (close 4 2) → ⊥

@@ -170,7 +170,7 @@ HoldsMessages w = (number : ℕ) (q : Wire) → numbered w.wires number ≡ Some
 -- A replayed history tells what the trace says, moment by moment. Each open in it gave the whole content that its file had at one moment within it, and each
 -- close that ended Closed replaced its file wholly by its local content at one moment within it, wherever no two different byte lists
 -- that were hashed in the run share a digest. An operation that is left alone has ended, and bytes that the other end was found to have were
--- not sent. What the server holds is what the history says, and what is on its way between the two ends are whole messages, which their ends
+-- not sent. A change waits no longer than the leases that hold it up, and an open under a lease that is noted asks nobody. What the server holds is what the history says, and what is on its way between the two ends are whole messages, which their ends
 -- take.
 pub record IsKeptPromise (input : List ℕ) (w : World) : Type 0 where
   pub chained : IsChained input (moments input) w
