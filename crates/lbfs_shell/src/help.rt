@@ -11,24 +11,25 @@ get [-r] PATH [LOCAL]      fetches a file, or with -r a directory
 put [-r] LOCAL [PATH]      stores a file, or with -r a folder
 sync [--delete] LOCAL PATH stores what differs in a folder
 mkdir [-p] PATH            makes a directory
-rm [-r] PATH               removes a file, or with -r a directory with all that is in it
+rm [-r] PATH               removes a file, or with -r a directory with all in it
 rmdir PATH                 removes an empty directory
 mv PATH PATH               gives a file or a directory another name
 stat PATH                  says what a name stands for
 cat PATH                   writes what is in a file
 help [COMMAND]             says this, or more of one command
 bye                        ends the shell
-PATH is on the server, LOCAL here. A name with blanks stands in quotes: 'two words'.
+PATH is on the server, LOCAL here; a name with blanks is quoted: 'two words'.
 ";
 
 const LS: &str = "ls [-l] [PATH]
-Lists the names in a directory; without PATH in the one where the shell stands. A file is listed alone. With
--l each line has what the name stands for, its bytes (of a directory its names), its version and the name.
+Lists the names in a directory; without PATH in the one where the shell stands.
+A file is listed alone. With -l each line has what the name stands for, its
+bytes (of a directory its names), its version and the name.
 ";
 
 const CD: &str = "cd [PATH]
-Goes to a directory of the server, where PATHs that begin with no slash begin from then on; without PATH
-it stays.
+Goes to a directory of the server, where PATHs that begin with no slash begin
+from then on; without PATH it stays.
 ";
 
 const PWD: &str = "pwd
@@ -36,27 +37,30 @@ Says in which directory of the server the shell stands.
 ";
 
 const LCD: &str = "lcd [LOCAL]
-Goes to a folder here, where LOCALs that begin with no slash begin from then on; without LOCAL it says
-which one that is.
+Goes to a folder here, where LOCALs that begin with no slash begin from then
+on; without LOCAL it says which one that is.
 ";
 
 const GET: &str = "get [-r] PATH [LOCAL]
-Fetches a file to LOCAL: into it where LOCAL is a folder, and else in its place; without LOCAL to the
-file's own name here. With -r a directory, with all that is in it. A file that is replaced keeps its
-permissions, and of what it has nothing is fetched. Nothing is where LOCAL can't be written.
+Fetches a file to LOCAL: into it where LOCAL is a folder, and else in its
+place; without LOCAL to the file's own name here. With -r a directory, with all
+that is in it. A file that is replaced keeps its permissions, and of what it
+has nothing is fetched. Nothing is where LOCAL can't be written.
 ";
 
 const PUT: &str = "put [-r] LOCAL [PATH]
-Stores a file under PATH: in it where PATH is a directory; without PATH where the shell stands. The
-directories above it are made, where they aren't there. With -r a folder, with all that is in it, but for
-symbolic links, which are said. Of a file that is replaced nothing is fetched. Storing over a certain version
-alone (--if-version) isn't there yet.
+Stores a file under PATH: in it where PATH is a directory; without PATH where
+the shell stands. The directories above it are made, where they aren't there.
+With -r a folder, with all that is in it, but for symbolic links, which are
+said. Of a file that is replaced nothing is fetched. Storing over a certain
+version alone (--if-version) isn't there yet.
 ";
 
 const SYNC: &str = "sync [--delete] LOCAL PATH
-Stores what differs, by content, in the folder LOCAL, so that the directory PATH has it all. With --delete
-what LOCAL hasn't is removed there. Each path that was stored, made or removed is said, unless the shell is
---quiet. Symbolic links in the folder are said, and what has their names stays.
+Stores what differs, by content, in the folder LOCAL, so that the directory
+PATH has it all. With --delete what LOCAL hasn't is removed there. Each path
+that was stored, made or removed is said, unless the shell is --quiet. Symbolic
+links in the folder are said, and what has their names stays.
 ";
 
 const MKDIR: &str = "mkdir [-p] PATH
@@ -72,11 +76,13 @@ Removes an empty directory.
 ";
 
 const MV: &str = "mv PATH PATH
-Gives a file or a directory another name: the second PATH, or its own in it, where that is a directory.
+Gives a file or a directory another name: the second PATH, or its own in it,
+where that is a directory.
 ";
 
 const STAT: &str = "stat PATH
-Says whether a name stands for a file or a directory, its id, its version and its length.
+Says whether a name stands for a file or a directory, its id, its version and
+its length.
 ";
 
 const CAT: &str = "cat PATH
