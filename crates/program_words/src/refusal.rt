@@ -28,9 +28,10 @@ const USAGE: &str = "usage: lbfs COMMAND
                                         runs the commands on standard input on a served folder
   check --store DIR                     looks over a folder that isn't served
   share DIR [--port P] [--term MS] [--unsynced]
-                                        serves a folder until it is ended, at port 7000 if none is given
+                                        serves a folder until it is ended,
+                                        at port 7000 if none is given
   shell --port P [--links N] [--quiet] [COMMAND ..]
-                                        runs the command, or those that are typed, on a served folder
+                                        runs a command, or what is typed, on a served folder
 docs/COMMANDS.md says what each reads, writes and ends with.
 ";
 
