@@ -1,3 +1,4 @@
+pub mod Again
 pub mod Commands
 pub mod Giving
 pub mod Local
