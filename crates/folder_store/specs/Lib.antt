@@ -1,3 +1,4 @@
 pub mod Folder
 pub mod Found
 pub mod Rows
+pub mod Edits

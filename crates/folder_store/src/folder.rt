@@ -5,13 +5,12 @@
 ghost use Rattle.std.specs.Prelude.{◌≡◌, None};
 
 use crate::commit::FolderSyncs;
-use crate::format::{content_front, head_bytes, node_front};
+use crate::edits::apply_change;
 use crate::found::record_in;
 use crate::look::look;
 use lb_base::faults::one_more;
 use lb_base::source::Failed;
 use log_store::carrying::Unfinished;
-use log_store::edit::{Edit, Parts, What};
 use log_store::records::LogStore;
 use log_store::which::Which;
 use std::alloc::{AllocError, Global};
@@ -32,9 +31,6 @@ const LARGE: usize = 32 << 10;
 
 /// And one of more bytes than these always: the log says no more of one.
 const LARGE_ALWAYS: usize = 256 << 10;
-
-/// How many edits a change is at most: two of each part, and the head's.
-const EDITS_MOST: usize = 5;
 
 /// A store in a folder.
 pub struct FolderStore<R> {
@@ -183,15 +179,6 @@ fn load_folder<R: Files<File = File> + AllocGlobal + Eprint + Clone + Drop>(
     Ok((held, records))
 }
 
-/// A part of a change, with the bytes that stand in front of its record, and whether they have a file of their
-/// own first.
-#[derive(Clone, Copy)]
-struct Part<'a> {
-    change: &'a Change,
-    front: &'a [u8; 12],
-    is_large: bool,
-}
-
 /// Whether a change's record has a file of its own first. It needs none where so many bytes are in its file's
 /// place already: the log says them then, and one flush is enough.
 fn is_large<R: Files<File = File>>(rt: &R, alloc: Global, folder: &str, change: &Change) -> bool {
@@ -209,102 +196,7 @@ fn is_large<R: Files<File = File>>(rt: &R, alloc: Global, folder: &str, change: 
     !has_room(rt, path.as_str(), len as u64)
 }
 
-/// The bytes that stand in front of a change's record.
-fn front_of(change: &Change) -> [u8; 12] {
-    match change {
-        Change::Node(node) => node_front(node),
-        Change::Content(content) => {
-            let mut front = [0u8; 12];
-            front[..8].copy_from_slice(&content_front(content));
-            front
-        }
-        Change::Drop(_) => [0u8; 12],
-    }
-}
-
-/// The edits of a change, the head's first.
-#[derive(Clone, Copy, Drop)]
-struct Edits<'a> {
-    list: [Edit<'a>; EDITS_MOST],
-    count: usize,
-}
-
-impl<'a> Edits<'a> {
-    /// That of the head.
-    fn new(head: &'a [u8; 16]) -> Edits<'a> {
-        let (front, behind) = head.split_at(8);
-        let edit = Edit {
-            which: Which::Head,
-            what: What::Put(Parts {
-                front,
-                body: behind,
-            }),
-        };
-        Edits {
-            list: [edit; EDITS_MOST],
-            count: 1,
-        }
-    }
-
-    fn push(&mut self, which: Which, what: What<'a>) {
-        if self.count < EDITS_MOST {
-            self.list[self.count] = Edit { which, what };
-            self.count += 1;
-        }
-    }
-
-    /// Adds those of a part of the change.
-    fn add(&mut self, part: Part<'a>) {
-        match part.change {
-            Change::Node(node) => {
-                let parts = Parts {
-                    front: part.front,
-                    body: node.name.as_slice(),
-                };
-                self.push(Which::Node(node.id), What::Put(parts));
-            }
-            Change::Content(content) => {
-                let (front, _rest) = part.front.split_at(8);
-                let parts = Parts {
-                    front,
-                    body: content.bytes.as_slice(),
-                };
-                let what = if part.is_large {
-                    What::Large(parts)
-                } else {
-                    What::Put(parts)
-                };
-                self.push(Which::Content(content.id), what);
-            }
-            Change::Drop(id) => {
-                self.push(Which::Node(*id), What::Goes);
-                self.push(Which::Content(*id), What::Goes);
-            }
-        }
-    }
-
-    fn as_slice(&self) -> &[Edit<'a>] {
-        let (edits, _rest) = self.list.split_at(self.count.min(EDITS_MOST));
-        edits
-    }
-}
-
 impl<R: Files<File = File> + AllocGlobal + Eprint + Clone + Drop> Held<R> {
-    /// Makes a change of these parts.
-    fn apply_parts<'a>(
-        &mut self,
-        head: &'a [u8; 16],
-        first: Part<'a>,
-        second: Option<Part<'a>>,
-    ) -> Result<(), Unfinished> {
-        let mut edits = Edits::new(head);
-        edits.add(first);
-        if let Some(second) = second {
-            edits.add(second);
-        }
-        self.store.apply(edits.as_slice())
-    }
-
     /// Makes a change, or leaves the records as they were, or is in doubt.
     fn apply(
         &mut self,
@@ -316,17 +208,14 @@ impl<R: Files<File = File> + AllocGlobal + Eprint + Clone + Drop> Held<R> {
         if self.syncs.commit().is_in_doubt() {
             return Err(Failed);
         }
-        let head = head_bytes(head);
-        let front = front_of(first);
-        let part = self.part_of(rt, first, &front);
-        let made = match second {
-            Some(second) => {
-                let behind = front_of(second);
-                let more = self.part_of(rt, second, &behind);
-                self.apply_parts(&head, part, Some(more))
-            }
-            None => self.apply_parts(&head, part, None),
+        let alloc = rt.alloc();
+        let folder = self.front.as_str();
+        let is_second_large = match second {
+            Some(second) => is_large(rt, alloc, folder, second),
+            None => false,
         };
+        let are_large = (is_large(rt, alloc, folder, first), is_second_large);
+        let made = apply_change(&mut self.store, head, first, second, are_large);
         self.syncs.commit().note_given();
         match made {
             Ok(()) => Ok(()),
@@ -335,16 +224,6 @@ impl<R: Files<File = File> + AllocGlobal + Eprint + Clone + Drop> Held<R> {
                 Err(Failed)
             }
             Err(Unfinished::Failed | Unfinished::Memory) => Err(Failed),
-        }
-    }
-
-    /// A part of a change, with its front.
-    fn part_of<'a>(&self, rt: &R, change: &'a Change, front: &'a [u8; 12]) -> Part<'a> {
-        let alloc = rt.alloc();
-        Part {
-            change,
-            front,
-            is_large: is_large(rt, alloc, self.front.as_str(), change),
         }
     }
 

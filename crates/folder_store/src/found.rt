@@ -46,7 +46,7 @@ pub(crate) fn record_in(
 }
 
 /// Adds what was read of the file of this name. The one error is want of memory.
-#[tactic(auto, using(crate::proofs::Looks::none_more))]
+#[tactic(auto, using(crate::proofs::Looks::none_more, crate::proofs::Looks::no_record))]
 pub(crate) fn add_reading(
     alloc: Global,
     which: Which,

@@ -3,6 +3,7 @@
 #![tactic(auto)]
 
 pub mod commit;
+mod edits;
 pub mod folder;
 pub mod format;
 mod found;
