@@ -26,7 +26,7 @@ def tree_in(folder):
             contents[int(name[1:])] = given[8:]
         elif name[0] == "m" and name[1:].isdigit():
             made.add(int(name[1:]))
-        else:
+        elif name != ".term":
             raise AssertionError(f"{name} is left in a folder that was served")
 
     if any(contents.get(of) != b"" for of in made):

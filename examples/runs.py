@@ -96,6 +96,10 @@ class Server(Run):
     def threads(self):
         return self.told("Threads")
 
+    def descriptors(self):
+        """How many descriptors it has open."""
+        return len(os.listdir(f"/proc/{self.process.pid}/fd"))
+
     def sleeps(self):
         """How often each of its threads went to sleep."""
         found, folder = {}, f"/proc/{self.process.pid}/task"
@@ -113,9 +117,9 @@ class Server(Run):
 class Mount(Run):
     """A mount in a folder, which is given its lines one by one."""
 
-    def __init__(self, port, folder, *options):
+    def __init__(self, port, folder, *options, under=()):
         words = ["mount", "--port", port, "--drift", 100, *options]
-        super().__init__(words, stdin=subprocess.PIPE, cwd=folder)
+        super().__init__(words, under, stdin=subprocess.PIPE, cwd=folder)
         self.lines = queue.Queue()
         threading.Thread(target=self.read, daemon=True).start()
 

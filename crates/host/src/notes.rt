@@ -54,6 +54,11 @@ pub enum Note<'a> {
     Loading {
         place: &'a str,
     },
+    #[error("{place}: leases of the run before may last {more} ms longer than those of this one: waiting")]
+    Waiting {
+        place: &'a str,
+        more: u64,
+    },
     #[error("{place}: served at 127.0.0.1, port {port}; files: {files}")]
     Serving {
         place: &'a str,

@@ -165,6 +165,14 @@ fn shared<R: Drop>(peer: &Option<Arc<Peer<R>>>) -> Option<Arc<Peer<R>>> {
     }
 }
 
+/// One owner more of what is served.
+fn one_more_of(serving: &Option<Arc<Serving>>) -> Option<Arc<Serving>> {
+    match serving {
+        Some(serving) => Arc::try_clone(serving).ok(),
+        None => None,
+    }
+}
+
 /// A network over TCP, on 127.0.0.1 alone.
 #[derive(Drop)]
 pub struct TcpNetwork<R: Net<Listener = TcpListener, Stream = TcpStream>> {
@@ -173,8 +181,6 @@ pub struct TcpNetwork<R: Net<Listener = TcpListener, Stream = TcpStream>> {
     /// What is served, which is told once it listens.
     serving: Option<Arc<Serving>>,
     listener: Option<TcpListener>,
-    /// The port that is listened at.
-    port: u16,
     accepted: u64,
     faults: u64,
 }
@@ -223,16 +229,26 @@ fn next_link<R: Drop>(listener: &TcpListener) -> Result<TcpLink<R>, AcceptError>
     }
 }
 
-/// Dials the port that this host listens at, so that whoever accepts there has something to accept.
+/// Dials the port that is served, so that whoever accepts there has something to accept.
 #[derive(Drop)]
 pub struct TcpBell<R: Net<Listener = TcpListener, Stream = TcpStream>> {
     rt: R,
-    port: u16,
+    serving: Option<Arc<Serving>>,
+}
+
+/// The port that is served, if one is.
+fn port_of(serving: &Option<Arc<Serving>>) -> Option<u16> {
+    match serving {
+        Some(serving) => serving.port(),
+        None => None,
+    }
 }
 
 impl<R: Net<Listener = TcpListener, Stream = TcpStream>> Bell for TcpBell<R> {
     fn ring(&self) {
-        let _dialled = TcpStream::connect(&self.rt, here(self.port));
+        if let Some(port) = port_of(&self.serving) {
+            let _dialled = TcpStream::connect(&self.rt, here(port));
+        }
     }
 }
 
@@ -246,7 +262,6 @@ impl<R: Net<Listener = TcpListener, Stream = TcpStream>> TcpNetwork<R> {
             alloc,
             serving,
             listener: None,
-            port: 0,
             accepted: 0,
             faults: 0,
         }
@@ -281,7 +296,6 @@ impl<R: Net<Listener = TcpListener, Stream = TcpStream> + Eprint + Copy + Drop +
         match TcpListener::bind(&self.rt, here(port)) {
             Ok(listener) => {
                 self.listener = Some(listener);
-                self.port = port;
                 if let Some(serving) = &self.serving {
                     serving.tell_at(&self.rt, port);
                 }
@@ -298,7 +312,7 @@ impl<R: Net<Listener = TcpListener, Stream = TcpStream> + Eprint + Copy + Drop +
     fn bell(&self) -> TcpBell<R> {
         TcpBell {
             rt: self.rt,
-            port: self.port,
+            serving: one_more_of(&self.serving),
         }
     }
 

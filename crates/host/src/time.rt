@@ -1,5 +1,6 @@
 //! The host's clock, and a rest.
 
+use crate::sleeping::{Jumps, millis};
 use limits::READING_MOST;
 use links::clock::Clock;
 use links::rest::Rest;
@@ -14,23 +15,42 @@ use std::time::Duration;
 pub struct HostClock<R> {
     rt: R,
     last: AtomicU64,
+    /// How far it has jumped, where it does.
+    jumps: Option<Jumps>,
 }
 
 impl<R> HostClock<R> {
-    /// A clock that gave no reading yet.
+    /// A clock that gave no reading yet. It stands still while the host sleeps.
     pub fn new(rt: R) -> HostClock<R> {
         HostClock {
             rt,
             last: AtomicU64::new(0),
+            jumps: None,
+        }
+    }
+}
+
+impl<R: HostTime> HostClock<R> {
+    /// One that jumps past the end of each lease where the host slept, or its wall clock was set.
+    pub fn jumping(rt: R) -> HostClock<R> {
+        let jumps = Some(Jumps::new(&rt));
+        HostClock {
+            rt,
+            last: AtomicU64::new(0),
+            jumps,
         }
     }
 }
 
 impl<R: HostTime> Clock for HostClock<R> {
     fn now(&self) -> u64 {
-        let read = match self.rt.monotonic() {
-            Ok(since) => u64::try_from(since.as_millis()).unwrap_or(READING_MOST),
-            Err(_) => 0,
+        let ahead = match &self.jumps {
+            Some(jumps) => jumps.now(&self.rt),
+            None => 0,
+        };
+        let read = match millis(self.rt.monotonic()) {
+            Some(read) => read.saturating_add(ahead),
+            None => 0,
         };
         self.last
             .fetch_max(read, Ordering::SeqCst)

@@ -1,12 +1,17 @@
-//! A store that tells on standard error that it is being loaded, and is in all else the one that it
-//! stands over.
+//! A store that tells on standard error that it is being loaded, and notes then in the folder for how long
+//! leases are to be granted (`terms`). It is in all else the one that it stands over.
 
-ghost use Rattle.std.specs.Prelude.{◌≡◌};
+ghost use Rattle.std.specs.Prelude.{◌≡◌, ◌≤◌, ◌+◌, ◌-◌, ◌^◌, min, IsErrOf};
+ghost use Rattle.lb_base.specs.Causes.{Rose};
+ghost use Rattle.store.specs.declared.store.StoreError.TheVariants as errors;
 
 use crate::notes::{Note, tell};
 use crate::serving::Serving;
+use crate::terms::take_term;
+use lb_base::faults::one_more;
 use lb_base::source::Failed;
 use std::alloc::{AllocError, Global};
+use std::rt::{Clock as HostTime, Files as HostDisk};
 use std::sync::Arc;
 use store::record::{Change, Head, Kept, NodeKind};
 use store::store::{Store, StoreError};
@@ -20,14 +25,46 @@ pub struct ToldStore<R, S> {
     store: S,
     /// What is served, which gets the number of files.
     serving: Option<Arc<Serving>>,
+    /// For how many milliseconds leases are to be granted, if any are.
+    term: Option<u64>,
+    /// How often the term couldn't be noted.
+    faults: u64,
 }
 
 impl<R, S> ToldStore<R, S> {
-    /// This store, whose loading is told by that runtime.
-    pub fn new(rt: R, store: S, serving: Option<Arc<Serving>>) -> ToldStore<R, S>
-        ensures { result ≡ record { rt = rt; store = store; serving = serving } }
+    /// This store, whose loading is told by that runtime. Where leases are to be granted the term is noted
+    /// as it is loaded.
+    pub fn new(rt: R, store: S, serving: Option<Arc<Serving>>, term: Option<u64>) -> ToldStore<R, S>
+        ensures { result ≡ record { rt = rt; store = store; serving = serving; term = term; faults = 0 } }
     {
-        ToldStore { rt, store, serving }
+        ToldStore {
+            rt,
+            store,
+            serving,
+            term,
+            faults: 0,
+        }
+    }
+}
+
+impl<R: HostDisk + HostTime + Eprint, S> ToldStore<R, S> {
+    /// Notes the term, where leases are to be granted.
+    fn take_term(&mut self, alloc: Global, place: &str) -> Result<(), StoreError>
+        ensures store { self.new.store ≡ self.old.store }
+        ensures later { self.old.faults ≤ self.new.faults }
+        ensures cause { IsErrOf result errors.Failed → Rose self.old.faults self.new.faults }
+    {
+        let Some(term) = self.term else {
+            return Ok(());
+        };
+        match take_term(&self.rt, alloc, place, term) {
+            Ok(true) => Ok(()),
+            Ok(false) => {
+                self.faults = one_more(self.faults);
+                Err(StoreError::Failed)
+            }
+            Err(AllocError) => Err(StoreError::Memory),
+        }
     }
 }
 
@@ -47,12 +84,12 @@ fn files_in(records: &[Kept]) -> u64 {
     records.iter().filter(|kept| is_file(kept)).count() as u64
 }
 
-impl<R: Eprint, S: Store> Store for ToldStore<R, S> {
+impl<R: HostDisk + HostTime + Eprint, S: Store> Store for ToldStore<R, S> {
     ghost records = { λ s. S.records s.store };
 
     ghost spare = { λ s. S.spare s.store };
 
-    ghost faults = { λ s. S.faults s.store };
+    ghost faults = { λ s. min (S.faults s.store + s.faults) (2 ^ 64 - 1) };
 
     fn load(&mut self, alloc: Global, place: &str) -> Result<Vec<Kept>, StoreError> {
         tell(&self.rt, &Note::Loading { place });
@@ -61,7 +98,13 @@ impl<R: Eprint, S: Store> Store for ToldStore<R, S> {
                 if let Some(serving) = &self.serving {
                     serving.note_files(files_in(records.as_slice()));
                 }
-                Ok(records)
+                match self.take_term(alloc, place) {
+                    Ok(()) => Ok(records),
+                    Err(why) => {
+                        drop(records);
+                        Err(why)
+                    }
+                }
             }
             Err(why) => Err(why),
         }
@@ -76,13 +119,13 @@ impl<R: Eprint, S: Store> Store for ToldStore<R, S> {
     }
 }
 
-impl<R: Eprint, S: Checks> Checks for ToldStore<R, S> {
+impl<R: HostDisk + HostTime + Eprint, S: Checks> Checks for ToldStore<R, S> {
     fn check(&mut self, alloc: Global, place: &str) -> Result<CheckedStore, StoreError> {
         self.store.check(alloc, place)
     }
 }
 
-impl<R: Eprint + Drop, S: Synced + Drop> Synced for ToldStore<R, S> {
+impl<R: HostDisk + HostTime + Eprint + Drop, S: Synced + Drop> Synced for ToldStore<R, S> {
     type Y = S::Y;
 
     fn syncs(&self) -> Result<S::Y, AllocError> {
@@ -98,6 +141,6 @@ impl<R: Eprint + Drop, S: Synced + Drop> Synced for ToldStore<R, S> {
     }
 
     fn fault_count(&self) -> u64 {
-        self.store.fault_count()
+        self.store.fault_count().saturating_add(self.faults)
     }
 }

@@ -55,6 +55,14 @@ fn served_place(alloc: Global, words: &[String]) -> Result<Option<String>, Alloc
     }
 }
 
+/// For how many milliseconds the words have leases granted; none where they have nothing served.
+fn granted_term(alloc: Global, words: &[String]) -> Result<Option<u64>, AllocError> {
+    match asked_of(alloc, words)? {
+        Some(Asked::Serve(options)) => Ok(Some(options.term)),
+        _ => Ok(None),
+    }
+}
+
 /// Whether the words have nothing flushed.
 fn is_unsynced(alloc: Global, words: &[String]) -> Result<bool, AllocError> {
     match asked_of(alloc, words)? {
@@ -120,14 +128,26 @@ fn tell_end<D: Synced + Checks + Drop>(
     }
 }
 
-/// What `main` needs before it runs: the folder that is served, if one is, and what is told of it.
+/// What `main` needs before it runs: the folder that is served, if one is, what is told of it, and for how
+/// long leases are granted.
 fn served(
     alloc: Global,
     words: &[String],
-) -> Result<(Option<String>, Option<Arc<Serving>>), AllocError> {
+) -> Result<(Option<String>, Option<Arc<Serving>>, Option<u64>), AllocError> {
     let place = served_place(alloc, words)?;
     let serving = serving_at(alloc, &place)?;
-    Ok((place, serving))
+    let term = granted_term(alloc, words)?;
+    Ok((place, serving, term))
+}
+
+/// The clock of a server, or of a mount. A server's stands still while the host sleeps, so that its leases
+/// last no shorter than their holders take them to; a mount's jumps past them.
+fn clock_for(rt: HostRuntime, serves: bool) -> HostClock<HostRuntime> {
+    if serves {
+        HostClock::new(rt)
+    } else {
+        HostClock::jumping(rt)
+    }
 }
 
 /// The end of a program whose memory ran out before it ran.
@@ -145,13 +165,13 @@ fn run<H: Threads + Wait + Sync, D: Synced + Checks + Drop + Send>(
     stores: (D, D),
 ) -> ExitCode {
     let (store, again) = stores;
-    let Ok((place, serving)) = served(rt.alloc(), words) else {
+    let Ok((place, serving, term)) = served(rt.alloc(), words) else {
         return starved(&rt);
     };
     let Ok(unsynced) = is_unsynced(rt.alloc(), words) else {
         return starved(&rt);
     };
-    let mut store = ToldStore::new(rt, store, shared(&serving));
+    let mut store = ToldStore::new(rt, store, shared(&serving), term);
     if unsynced {
         store.leave_unflushed();
     }
@@ -161,7 +181,7 @@ fn run<H: Threads + Wait + Sync, D: Synced + Checks + Drop + Send>(
         store,
         files: HostFiles::new(rt, process::id(rt.process())),
         network: TcpNetwork::new(rt, rt.alloc(), serving),
-        clock: HostClock::new(rt),
+        clock: clock_for(rt, place.is_some()),
         rest: HostRest::new(rt),
     };
     let status = status_of(handle, rt.alloc(), words, outside);
