@@ -2,6 +2,7 @@
 //! session's box can have, so that each thread hears its own. And what wakes the ticker. A bell is a
 //! number that is raised and then woken on. No clause speaks of it.
 
+use server_held::turns::Turns;
 use std::array;
 use std::sync::Wait;
 use std::sync::atomic::{AtomicU64, Ordering};
@@ -15,6 +16,13 @@ pub(crate) const PLACES: usize = 64;
 pub(crate) struct Bells {
     bells: [AtomicU64; PLACES],
     ticker: AtomicU64,
+}
+
+/// How often the bell of a place had been rung in a turn.
+#[derive(Clone, Copy)]
+pub(crate) struct Rung {
+    place: usize,
+    count: u64,
 }
 
 /// The bit of a place.
@@ -36,13 +44,18 @@ impl Bells {
         &self.bells[place % PLACES]
     }
 
-    /// How often the bell of a place was rung.
-    pub(crate) fn count(&self, place: usize) -> u64 {
-        self.at(place).load(Ordering::SeqCst)
+    /// How often the bell of a place was rung. It is counted while a turn lends what is shared, and so
+    /// never behind the turn: what a later one has to say rings behind the count.
+    pub(crate) fn rung<H: Turns>(&self, _lent: &H, place: usize) -> Rung {
+        Rung {
+            place,
+            count: self.at(place).load(Ordering::SeqCst),
+        }
     }
 
-    /// Sleeps until the bell of a place is rung, where it has been rung so often alone.
-    pub(crate) fn wait<W: Wait>(&self, rt: &W, place: usize, count: u64) {
+    /// Sleeps until a bell is rung, where it has been rung so often alone.
+    pub(crate) fn wait<W: Wait>(&self, rt: &W, rung: Rung) {
+        let Rung { place, count } = rung;
         self.at(place).park(rt, (count & 0xffff_ffff) as u32);
     }
 

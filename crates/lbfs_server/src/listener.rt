@@ -32,6 +32,8 @@ pub enum Stop {
     Network,
     /// The store could not be made sure of something that was told to it.
     Doubt,
+    /// No thread could be had that makes changes which wait.
+    Memory,
 }
 
 /// Serves a session on its link and the link's twin: one thread takes records and puts out their
@@ -315,12 +317,50 @@ where
     (pass, Ok(()))
 }
 
+/// Listens at a port, and takes links off the network until as many sessions as are asked for have begun.
+fn listen_all<
+    's,
+    'e,
+    R: Threads + Wait + Sync,
+    H: Turns + Drop + Send,
+    Y: Syncs + Sync,
+    G: Gate + Drop + Sync,
+    N: Network,
+    C: Clock + Sync,
+    T: Rest,
+>(
+    scope: &'s Scope<'s, &'e ()>,
+    rt: &'e R,
+    shared: &'e Shared<H, Y, G, N::L>,
+    pass: Pass<H>,
+    net: &mut N,
+    clock: &'e C,
+    rest: &T,
+    work: &'e Work,
+    port: u16,
+    sessions: u32,
+) -> (Pass<H>, Result<(), Stop>)
+where
+    N::L: Drop + Send + 's,
+    requires { IsPassOf shared.now.post pass }
+    ensures pass { Follows shared.now.post pass result.0 }
+    ensures counted { OnOk result.1 (CountsMore (N.accepted net.old) sessions (N.accepted net.new)) }
+    ensures later { N.faults net.old ≤ N.faults net.new }
+    ensures cause { IsErrOf result.1 stops.Network → Rose (N.faults net.old) (N.faults net.new) }
+{
+    if net.listen(port).is_err() {
+        return (pass, Err(Stop::Network));
+    }
+    accept_all(scope, rt, shared, pass, net, clock, rest, work, sessions)
+}
+
 /// Listens at a port and serves as many sessions as are asked for, each in threads of its own; it
 /// returns once they have ended. A link for which no session can stand is shut at once, and is none
-/// of these.
+/// of these. Where the ticker can't be started it doesn't listen: a change that waits might never be made.
 ///
 /// `Ok` comes once at least so many links were accepted, `Network` only where the network's count of
-/// faults rose, and `Doubt` where the store could not be made sure of something.
+/// faults rose, `Doubt` where the store could not be made sure of something, and `Memory` where no ticker
+/// could be had.
 pub fn serve_links<
     'x,
     R: Threads + Wait + Sync,
@@ -348,10 +388,6 @@ where
     ensures later { N.faults net ≤ N.faults result.1 }
     ensures cause { IsErrOf result.0 stops.Network → Rose (N.faults net) (N.faults result.1) }
 {
-    let mut net = net;
-    if net.listen(port).is_err() {
-        return (Err(Stop::Network), net, pass);
-    }
     let bell = net.bell();
     let (pass, ticks_pass) = shared.split(pass);
     let at_work = Work::new();
@@ -373,10 +409,14 @@ where
                     tick(rt, shared, ticks_pass, &bell, clock, rest, work);
                 },
             );
+            let is_alone = ticks.is_err();
             drop(ticks);
             let mut net = net;
-            let (pass, served) = accept_all(
-                scope, rt, shared, pass, &mut net, clock, rest, work, sessions,
+            if is_alone {
+                return (Err(Stop::Memory), net, pass);
+            }
+            let (pass, served) = listen_all(
+                scope, rt, shared, pass, &mut net, clock, rest, work, port, sessions,
             );
             work.end_accepting();
             shared.tell_ticker(true);

@@ -191,6 +191,7 @@ where
     match ended {
         Ok(()) => (Ok(Served { sessions, front }), store, net),
         Err(Stop::Network) => (Err(ServeError::Network), store, net),
+        Err(Stop::Memory) => (Err(ServeError::Memory), store, net),
         // Its close would have failed.
         Err(Stop::Doubt) => (Err(ServeError::Memory), store, net),
     }

@@ -102,7 +102,8 @@ fn read_on<W: Wait, H: Turns + Drop, Y: Syncs, G: Gate + Drop, L: Link + Drop, C
                 let bytes = record.as_slice();
                 let (read, prepared) = shared.read(rt, pass, session, bytes);
                 let mut gives = gives.lock(rt);
-                let (next, out) = shared.got(rt, read, session, bytes, prepared, clock.now());
+                let now = clock.now();
+                let (next, out) = shared.got(rt, read, session, bytes, prepared, now, &*gives);
                 pass = next;
                 give_out(rt, shared, &mut *gives, out);
             }
@@ -157,9 +158,40 @@ pub fn session_out<W: Wait, H: Turns + Drop, Y: Syncs, G: Gate + Drop, L: Link +
     for _turn in rt.forever() {
         pass = shared.await_said(rt, pass, session);
         let mut link = gives.lock(rt);
-        let (next, out) = shared.take_out(rt, pass, session);
+        let (next, out) = shared.take_out(rt, pass, session, &*link);
         pass = next;
         if !give_out(rt, shared, &mut *link, out) {
+            return pass;
+        }
+    }
+    unreachable!()
+}
+
+/// Puts out what there is to say to a session until a change of it waits no more: where no other thread does,
+/// nobody else would tell it what came of that. Meanwhile no record of it is read.
+fn give_awaited<W: Wait, H: Turns + Drop, Y: Syncs, G: Gate + Drop, L: Link + Drop>(
+    rt: &W,
+    shared: &Shared<H, Y, G, L>,
+    pass: Pass<H>,
+    session: u32,
+    link: &mut L,
+) -> Pass<H>
+    requires { IsPassOf shared.now.post pass }
+    ensures pass { Follows shared.now.post pass result }
+    ensures come { L.left link.new ≡ L.left link.old }
+    ensures later { L.faults link.old ≤ L.faults link.new }
+{
+    let mut pass = pass;
+    for _turn in rt.forever() {
+        let (next, owes) = shared.owes(rt, pass, session);
+        pass = next;
+        if !owes {
+            return pass;
+        }
+        pass = shared.await_said(rt, pass, session);
+        let (next, out) = shared.take_out(rt, pass, session, &*link);
+        pass = next;
+        if !give_out(rt, shared, link, out) {
             return pass;
         }
     }
@@ -193,9 +225,10 @@ fn both_on<W: Wait, H: Turns + Drop, Y: Syncs, G: Gate + Drop, L: Link + Drop, C
             Ok(record) => {
                 let bytes = record.as_slice();
                 let (read, prepared) = shared.read(rt, pass, session, bytes);
-                let (next, out) = shared.got(rt, read, session, bytes, prepared, clock.now());
-                pass = next;
+                let now = clock.now();
+                let (next, out) = shared.got(rt, read, session, bytes, prepared, now, &*link);
                 give_out(rt, shared, link, out);
+                pass = give_awaited(rt, shared, next, session, link);
             }
             Err(end) => return (pass, end),
         }
@@ -203,8 +236,8 @@ fn both_on<W: Wait, H: Turns + Drop, Y: Syncs, G: Gate + Drop, L: Link + Drop, C
     unreachable!()
 }
 
-/// A session in one thread: each record is taken, a change of it that waits may be made, and what
-/// there is to say is put out. It answers as `session_in` does, and has shut the link where the session
+/// A session in one thread: each record is taken, and what there is to say is put out, also what comes of a
+/// change that waits, before the next one is. It answers as `session_in` does, and has shut the link where the session
 /// was closed before its input ended, but where memory was wanting before the first record.
 pub fn session_both<W: Wait, H: Turns + Drop, Y: Syncs, G: Gate + Drop, L: Link + Drop, C: Clock>(
     rt: &W,

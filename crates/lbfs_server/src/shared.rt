@@ -10,7 +10,7 @@ ghost use Rattle.server_law.specs.Growth.{MayAdd};
 ghost use Rattle.turn_post.specs.Passes.{IsPassOf, Follows, seen};
 ghost use mathlib.Core.List.{IsPrefix};
 
-use crate::bells::{Bells, PLACES, bit};
+use crate::bells::{Bells, PLACES, Rung, bit};
 use crate::gate::Gate;
 use crate::outgoing::{Sure, Taken};
 use hash_calls::call::Commit;
@@ -120,13 +120,21 @@ fn bit_of<H: Turns>(held: &H, session: u32) -> u64 {
     }
 }
 
-/// The place of a session that stands and to which nothing is to be said.
-fn quiet_place<H: Turns>(held: &H, session: u32) -> Option<usize> {
+/// What a session's bell has rung, if the session stands and nothing is to be said to it.
+fn quiet_bell<H: Turns>(bells: &Bells, held: &H, session: u32) -> Option<Rung> {
     let place = held.place(session)?;
     if held.is_full_at(place) {
         return None;
     }
-    Some(place)
+    Some(bells.rung(held, place))
+}
+
+/// Whether something is to be said to a session that stands, or will be once a change of it is made.
+fn is_owed<H: Turns>(held: &H, session: u32) -> bool {
+    match held.place(session) {
+        Some(place) => held.is_full_at(place) || held.waits(session),
+        None => false,
+    }
 }
 
 /// The bits of the places of those sessions to which something is to be said.
@@ -168,16 +176,27 @@ fn settles_from(quiet: u64, now: u64) -> bool
     quiet <= now
 }
 
+/// What came of a turn in which a change that waits may be made, and a session that has no xid left for what it
+/// was to be asked, if there is one. It can't be let go, but by `close_spent`.
+struct Settled {
+    went: Went,
+    spent: Option<u32>,
+}
+
 /// A change that waits is made, if it may be, and if the quiet is over.
 #[tactic(auto, using(crate::proofs::Following::adds_none))]
-fn settle_in<H: Turns>(held: &mut H, alloc: Global, quiet: u64, now: u64) -> Went
+fn settle_in<H: Turns>(held: &mut H, alloc: Global, quiet: u64, now: u64) -> Settled
     requires { now < 2 ^ 63 }
     ensures { MayAdd (H.journal held.old) (H.journal held.new) }
 {
-    if settles_from(quiet, now) {
+    let went = if settles_from(quiet, now) {
         held.event(alloc, Event::Settle { now })
     } else {
         Went::NotReady
+    };
+    Settled {
+        went,
+        spent: held.spent(),
     }
 }
 
@@ -338,7 +357,8 @@ impl<H: Turns + Drop, Y: Syncs, G: Gate + Drop, L: Link + Drop> Shared<H, Y, G, 
 
     /// The turn of a record of a session that was read before. Where a change of the session waits then, or
     /// the record was an answer, which may have given a lease up, one that waits is made in a turn behind
-    /// it, if it may be; and what there is to say to the session is taken.
+    /// it, if it may be; and what there is to say to the session is taken. The link is the one on which it
+    /// goes out: whoever takes holds it, so that what is taken first goes out first.
     pub fn got<W: Wait>(
         &self,
         rt: &W,
@@ -347,6 +367,7 @@ impl<H: Turns + Drop, Y: Syncs, G: Gate + Drop, L: Link + Drop> Shared<H, Y, G, 
         bytes: &[u8],
         record: Prepared,
         now: u64,
+        _link: &L,
     ) -> (Pass<H>, Taken)
         requires pass { IsPassOf self.now.post pass }
         requires timed { now < 2 ^ 63 }
@@ -389,21 +410,22 @@ impl<H: Turns + Drop, Y: Syncs, G: Gate + Drop, L: Link + Drop> Shared<H, Y, G, 
         let stands = turn.value().stands(session);
         let said = said_in(&*turn.value());
         let waits = turn.value().waits(session);
-        let spent = turn.value().spent();
         let pass = turn.leave();
-        let pass = self.wake(rt, pass, settled, gone(settled, 0) | said);
+        let went = settled.went;
+        let pass = self.wake(rt, pass, went, gone(went, 0) | said);
         self.gate.after();
         self.tell_ticker(waits);
-        let pass = self.close_spent(rt, pass, spent);
+        let pass = self.close_spent(rt, pass, settled);
         (pass, Taken::new(messages, stands))
     }
 
     /// Ends the sessions that were to be asked for something and have no xid left, from this one on. Their
     /// leases stay until they end.
-    fn close_spent<W: Wait>(&self, rt: &W, pass: Pass<H>, spent: Option<u32>) -> Pass<H>
+    fn close_spent<W: Wait>(&self, rt: &W, pass: Pass<H>, settled: Settled) -> Pass<H>
         requires { IsPassOf self.now.post pass }
         ensures { Follows self.now.post pass result }
     {
+        let Settled { went: _, spent } = settled;
         let mut pass = pass;
         let mut spent = spent;
         for _at in 0..PLACES {
@@ -463,8 +485,14 @@ impl<H: Turns + Drop, Y: Syncs, G: Gate + Drop, L: Link + Drop> Shared<H, Y, G, 
         self.bells.wait_tick(rt, ticks);
     }
 
-    /// A turn that takes what there is to say to a session.
-    pub fn take_out<W: Wait>(&self, rt: &W, pass: Pass<H>, session: u32) -> (Pass<H>, Taken)
+    /// A turn that takes what there is to say to a session, for whoever holds the link on which it goes out.
+    pub fn take_out<W: Wait>(
+        &self,
+        rt: &W,
+        pass: Pass<H>,
+        session: u32,
+        _link: &L,
+    ) -> (Pass<H>, Taken)
         requires { IsPassOf self.now.post pass }
         ensures { Follows self.now.post pass result.0 }
     {
@@ -505,19 +533,25 @@ impl<H: Turns + Drop, Y: Syncs, G: Gate + Drop, L: Link + Drop> Shared<H, Y, G, 
         let mut pass = pass;
         for _turn in rt.forever() {
             let mut turn = self.post.enter(rt, pass);
-            let quiet = quiet_place(&*turn.value(), session);
-            // Counted in the turn: what a later one has to say rings behind it.
-            let rung = match quiet {
-                Some(place) => self.bells.count(place),
-                None => 0,
-            };
+            let quiet = quiet_bell(&self.bells, &*turn.value(), session);
             pass = turn.leave();
             match quiet {
-                Some(place) => self.bells.wait(rt, place, rung),
+                Some(rung) => self.bells.wait(rt, rung),
                 None => return pass,
             }
         }
         unreachable!()
+    }
+
+    /// A turn that looks whether something is to be said to a session, or will be once a change of it is
+    /// made.
+    pub fn owes<W: Wait>(&self, rt: &W, pass: Pass<H>, session: u32) -> (Pass<H>, bool)
+        requires { IsPassOf self.now.post pass }
+        ensures { Follows self.now.post pass result.0 }
+    {
+        let mut turn = self.post.enter(rt, pass);
+        let owed = is_owed(&*turn.value(), session);
+        (turn.leave(), owed)
     }
 
     /// Wakes the threads of these places that have nothing to say: now they have, or their session went.
