@@ -1,5 +1,5 @@
 -- In each step of a run pending changes go on in their order, no lease is granted on their files, and answers to RECALLs give leases up.
-use Rattle.std.proofs.Common.{◌≡◌, ◌⊎◌, inl, inr, ℕ, suc, ◌<◌, List, [], ◌∷◌, ◌++◌, map, Option, Some, None, Result, Ok, Err, Bool, true, false, refl, sym, ap, ◌∙◌, subst, arith}
+use Rattle.std.proofs.Common.{◌≡◌, ◌⊎◌, inl, inr, ℕ, suc, ◌<◌, ◌≤◌, List, [], ◌∷◌, ◌++◌, length, map, Option, Some, None, Result, Ok, Err, Bool, true, false, refl, sym, ap, ◌∙◌, subst, arith}
 use Rattle.std.specs.Prelude.{◌==◌, not, cond, max, slice_get, Contains}
 use Rattle.std.proofs.lemmas.Bool.Decides.{nat_tests}
 use Rattle.xdr_codec.specs.Handle.{handle_bytes}
@@ -11,6 +11,7 @@ use Rattle.wire.specs.declared.message.Body.{Body}
 use Rattle.wire.specs.declared.message.Body.TheVariants as body
 use Rattle.wire.specs.declared.message.Message.{Message}
 use Rattle.wire.specs.declared.message.Message.TheVariants as message
+use Rattle.limits.specs.declared.TheConstants.{XIDS_MOST}
 use Rattle.lease_rules.specs.Changes.{asker, is_about}
 use Rattle.lease_rules.specs.Leases.{is_others}
 use Rattle.lease_rules.specs.declared.change.Recall.{Recall}
@@ -36,8 +37,8 @@ use Rattle.server_core.specs.declared.change.Wanted.{Wanted}
 use Rattle.server_core.specs.declared.change.Wanted.TheVariants as wanted
 use Rattle.server_core.specs.declared.event.Sent.{Sent}
 use Rattle.server_core.specs.declared.event.ServerStep.{ServerStep}
-use Rattle.trace_replay.specs.PendingChanges.{move_of, StoodIn, GrantsNone, GivesUp, FreesAnswered, Comes, GoesOn}
-use Rattle.kept_promise.proofs.Common.{Core, CoreStep, Session, Event, Event.Joins, Event.Does, Event.Serves, Event.Hears, Event.Settles, Event.Cuts, Event.Hangs, happens, serves, serves_if, hangs, hangs_if, numbered, server_waits, Book, Queue}
+use Rattle.trace_replay.specs.PendingChanges.{move_of, recall_numbers, StoodIn, GrantsNone, GivesUp, FreesAnswered, Comes, GoesOn}
+use Rattle.kept_promise.proofs.Common.{Core, CoreStep, Session, Event, Event.Joins, Event.Does, Event.Serves, Event.Hears, Event.Settles, Event.Cuts, Event.Hangs, happens, serves, serves_if, hangs, hangs_if, numbered, server_waits, Book, Queue, Moment}
 use Rattle.kept_promise.proofs.CallsAlike.{call_read}
 use Rattle.kept_promise.proofs.Facts.{IsKept}
 use Rattle.kept_promise.proofs.Happens.{what_happens}
@@ -62,13 +63,13 @@ waits_there : (ws : List Change) (i f : ℕ) (c : Change) (l : Lease) → slice_
 waits_there ws i f c l at on = any_at (λ (d : Change). is_about d l.file) ws i c at (let same : c.file ≡ l.file = sym on in grind (arith, nat_tests, same))
 
 taken_none : (s : State) (n xid : ℕ) (b : Body) (p : State × ServerStep) → AreOrdered s.leasing.leases → Taken s n xid b p → NoneGranted s p.0
-taken_none s n xid b p ordered (stays waiting leasing) = none_same s p.0 (ap (λ g. g.leases) leasing)
-taken_none s n xid b p ordered (grants file names waiting leasing) = λ i j c l waits at on. by j l file (ap (λ (ls : List Lease). slice_get ls j) (sym (ap (λ g. g.leases) leasing)) ∙ at) (waits_there s.waiting i 0 c l (ap (λ (ws : List Change). slice_get ws i) (sym waiting) ∙ waits) on)
+taken_none s n xid b p ordered (stays waiting leasing quiet same) = none_same s p.0 (ap (λ g. g.leases) leasing)
+taken_none s n xid b p ordered (grants file names waiting leasing quiet same) = λ i j c l waits at on. by j l file (ap (λ (ls : List Lease). slice_get ls j) (sym (ap (λ g. g.leases) leasing)) ∙ at) (waits_there s.waiting i 0 c l (ap (λ (ws : List Change). slice_get ws i) (sym waiting) ∙ waits) on)
   where
     by : (j : ℕ) (l : Lease) (file : Option ℕ) → slice_get (with_granted_on s.leasing.leases s.leasing.moment n file (term_on s file)) j ≡ Some l → waits_on s.waiting l.file ≡ true → StoodIn s.leasing.leases l
     by j l None at waits = stood_there s.leasing.leases j l at
     by j l (Some id) at waits = granted_stood s.leasing.leases s.waiting s.leasing.moment n id s.leasing.term l.file j l waits at refl
-taken_none s n xid b p ordered (comes_to c asked waiting leasing sent) = λ i j d l waits at on. asked_stood s.leasing.leases ordered s.leasing.calls (λ (r : Recall). stands s r.session) (asker c) c.file s.leasing.moment j l (all_marked_ordered (asking s.leasing (recalls_for s c)).1 s.leasing.leases ordered) (ap (λ (ls : List Lease). slice_get ls j) (sym (ap (λ g. g.leases) leasing)) ∙ at)
+taken_none s n xid b p ordered (comes_to c asked waiting leasing sent same) = λ i j d l waits at on. asked_stood s.leasing.leases ordered s.leasing.calls (λ (r : Recall). stands s r.session) (asker c) c.file s.leasing.moment j l (all_marked_ordered (asking s.leasing (recalls_for s c)).1 s.leasing.leases ordered) (ap (λ (ls : List Lease). slice_get ls j) (sym (ap (λ g. g.leases) leasing)) ∙ at)
 
 got_none : (s : State) (t : Bool) (n now : ℕ) (m : Message) → AreOrdered s.leasing.leases → NoneGranted s (got_if_under s false t n m now).0
 got_none s false n now m ordered = none_same s s refl
@@ -154,10 +155,14 @@ asks_all s c i l ordered at on other lasts unasked up =
     ]
 
 -- the call is a change from now on
-comes_so : (k : Core) (n now : ℕ) (bytes : List ℕ) (xid : ℕ) (b : Body) (after : State) (sent : List Sent) → AreOrdered k.server.leasing.leases → parse_of (server_waits k n) bytes ≡ Ok (message.Call xid b) → (c : Change) → IsAsked k.server.tree n xid b c → after.waiting ≡ k.server.waiting ++ c ∷ []
+-- by these moments a session whose numbers are used up was sent as many RECALLs
+abbrev pub SpentSo : (till : List Moment) → Core → State → Type 0
+SpentSo till k after = (n : ℕ) → stands k.server n ≡ true → (call_at after.leasing.calls n).spent ≡ true → XIDS_MOST ≤ length (recall_numbers n till)
+
+comes_so : (till : List Moment) (k : Core) (n now : ℕ) (bytes : List ℕ) (xid : ℕ) (b : Body) (after : State) (sent : List Sent) → AreOrdered k.server.leasing.leases → parse_of (server_waits k n) bytes ≡ Ok (message.Call xid b) → (c : Change) → IsAsked k.server.tree n xid b c → after.waiting ≡ k.server.waiting ++ c ∷ []
     → after.leasing ≡ recalled (at_reading k.server now).leasing (recalls_for (at_reading k.server now) c) → sent ≡ map recall_sent (asking (at_reading k.server now).leasing (recalls_for (at_reading k.server now) c)).1
-    → Comes (record { event = Serves n now bytes; before = k.server; after = after; sent = sent }) n now bytes c
-comes_so k n now bytes xid b after sent ordered read c asked waiting leasing says = record {
+    → SpentSo till k after → Comes till (record { event = Serves n now bytes; before = k.server; after = after; sent = sent }) n now bytes c
+comes_so till k n now bytes xid b after sent ordered read c asked waiting leasing says spends = record {
   call = b;
   read = call_read k n bytes xid b read ∙ ap (λ (y : ℕ). Ok (message.Call y b)) (sym asked.xid_is);
   session_is = asked.session_is;
@@ -166,7 +171,7 @@ comes_so k n now bytes xid b after sent ordered read c asked waiting leasing say
   behind = waiting;
   asks = λ i l at on other lasts unasked up. elim (asks_all (at_reading k.server now) c i l ordered at on other lasts unasked up) [
     | inl h ↦ inl (h.0, subst (λ (ms : List Sent). Contains ms (record { session = l.session; message = message.Call h.0 (body.Back (back.Recall (handle_bytes l.file))) })) (sym says) h.1, h.2, ap (λ g. slice_get g.leases h.2) leasing ∙ h.3)
-    | inr spent ↦ inr (ap (λ g. (call_at g.calls l.session).spent) leasing ∙ spent)
+    | inr spent ↦ inr (spends l.session up (ap (λ g. (call_at g.calls l.session).spent) leasing ∙ spent))
   ];
 }
 
@@ -181,31 +186,31 @@ without_absent (w ∷ ws) n none = by (w.session == n) refl (without_absent ws n
     by true is later = absurd (none 0 w refl (grind (arith, nat_tests, is)))
     by false is later = ap (λ (l : List Change). w ∷ l) later
 
-abbrev ServedOn : Core → (n now : ℕ) (bytes : List ℕ) → CoreStep → Type 0
-ServedOn k n now bytes t = GoesOn (Serves n now bytes) (record { event = Serves n now bytes; before = k.server; after = t.core.server; sent = t.down })
+abbrev ServedOn : List Moment → Core → (n now : ℕ) (bytes : List ℕ) → CoreStep → Type 0
+ServedOn till k n now bytes t = SpentSo till k t.core.server → GoesOn till (Serves n now bytes) (record { event = Serves n now bytes; before = k.server; after = t.core.server; sent = t.down })
 
-serves_on : (k : Core) (n now : ℕ) (bytes : List ℕ) → AreOrdered k.server.leasing.leases → ServedOn k n now bytes (happens k (Serves n now bytes))
-serves_on k n now bytes ordered = by (numbered k.sessions n)
+serves_on : (till : List Moment) (k : Core) (n now : ℕ) (bytes : List ℕ) → AreOrdered k.server.leasing.leases → ServedOn till k n now bytes (happens k (Serves n now bytes))
+serves_on till k n now bytes ordered = by (numbered k.sessions n)
   where
-    taken : (x : Session) (xid : ℕ) (b : Body) → parse_of (server_waits k n) bytes ≡ Ok (message.Call xid b) → (p : State × ServerStep) → Taken (at_reading k.server now) n xid b p → GoesOn (Serves n now bytes) (record { event = Serves n now bytes; before = k.server; after = p.0; sent = p.1.send })
-    taken x xid b read p (stays waiting leasing) = inl waiting
-    taken x xid b read p (grants file names waiting leasing) = inl waiting
-    taken x xid b read p (comes_to c asked waiting leasing says) = inr (c, comes_so k n now bytes xid b p.0 p.1.send ordered read c asked waiting leasing says)
+    taken : (x : Session) (xid : ℕ) (b : Body) → parse_of (server_waits k n) bytes ≡ Ok (message.Call xid b) → (p : State × ServerStep) → Taken (at_reading k.server now) n xid b p → SpentSo till k p.0 → GoesOn till (Serves n now bytes) (record { event = Serves n now bytes; before = k.server; after = p.0; sent = p.1.send })
+    taken x xid b read p (stays waiting leasing quiet same) spends = inl waiting
+    taken x xid b read p (grants file names waiting leasing quiet same) spends = inl waiting
+    taken x xid b read p (comes_to c asked waiting leasing says same) spends = inr (c, comes_so till k n now bytes xid b p.0 p.1.send ordered read c asked waiting leasing says spends)
 
-    got : (x : Session) (m : Message) → parse_of (server_waits k n) bytes ≡ Ok m → (t : Bool) → (let p = got_if_under k.server false t n m now in GoesOn (Serves n now bytes) (record { event = Serves n now bytes; before = k.server; after = p.0; sent = p.1.send }))
-    got x m read false = inl refl
-    got x (message.Call xid b) read true = taken x xid b read (called_under (at_reading k.server now) false n xid b) (called_taken (at_reading k.server now) n xid b)
-    got x (message.Unfit xid why) read true = inl refl
-    got x (message.Refuse xid why) read true = inl refl
-    got x (message.Answer xid b) read true = inl refl
+    got : (x : Session) (m : Message) → parse_of (server_waits k n) bytes ≡ Ok m → (t : Bool) → (let p = got_if_under k.server false t n m now in SpentSo till k p.0 → GoesOn till (Serves n now bytes) (record { event = Serves n now bytes; before = k.server; after = p.0; sent = p.1.send }))
+    got x m read false spends = inl refl
+    got x (message.Call xid b) read true spends = taken x xid b read (called_under (at_reading k.server now) false n xid b) (called_taken (at_reading k.server now) n xid b) spends
+    got x (message.Unfit xid why) read true spends = inl refl
+    got x (message.Refuse xid why) read true spends = inl refl
+    got x (message.Answer xid b) read true spends = inl refl
 
-    read_ : (x : Session) (r : Result Message WireFault) → parse_of (server_waits k n) bytes ≡ r → ServedOn k n now bytes (serves_if k n now x r)
-    read_ x (Ok m) is = got x m is (stands k.server n)
-    read_ x (Err e) is = inl refl
+    read_ : (x : Session) (r : Result Message WireFault) → parse_of (server_waits k n) bytes ≡ r → ServedOn till k n now bytes (serves_if k n now x r)
+    read_ x (Ok m) is spends = got x m is (stands k.server n) spends
+    read_ x (Err e) is spends = inl refl
 
-    by : (o : Option Session) → ServedOn k n now bytes (serves k n now bytes o)
-    by None = inl refl
-    by (Some x) = read_ x (parse_of (server_waits k n) bytes) refl
+    by : (o : Option Session) → ServedOn till k n now bytes (serves k n now bytes o)
+    by None spends = inl refl
+    by (Some x) spends = read_ x (parse_of (server_waits k n) bytes) refl spends
 
 hangs_on : (book : Book) (k : Core) (qs : List Queue) (n : ℕ) → IsKept book k qs → (happens k (Hangs n)).core.server.waiting ≡ without k.server.waiting n
 hangs_on book k qs n kept = by (numbered k.sessions n) refl
@@ -232,9 +237,9 @@ hangs_on book k qs n kept = by (numbered k.sessions n) refl
     by None at = untouched (λ x there up. nothing_there x (sym at ∙ there))
     by (Some x) at = hung x at x.hung refl
 
-settles_on : (k : Core) (now : ℕ) (o : Option Change) → ready_by k.server now ≡ o → Leaves k now o → GoesOn (Settles now) (move_of (moment k (Settles now)))
-settles_on k now None e l = inl (ap (λ (s : State). s.waiting) l)
-settles_on k now (Some c) e l = inr (l.place, c, e, l.there, l.left)
+settles_on : (till : List Moment) (k : Core) (now : ℕ) (o : Option Change) → ready_by k.server now ≡ o → Leaves k now o → GoesOn till (Settles now) (move_of (moment k (Settles now)))
+settles_on till k now None e l = inl (ap (λ (s : State). s.waiting) l)
+settles_on till k now (Some c) e l = inr (l.place, c, e, l.there, l.left)
 
 -- an event of no other kind touches it
 rests_on : (k : Core) (e : Event) → ((n now : ℕ) (bytes : List ℕ) → e ≡ Serves n now bytes → ⊥) → ((now : ℕ) → e ≡ Settles now → ⊥) → ((n : ℕ) → e ≡ Hangs n → ⊥) → (happens k e).core.server.waiting ≡ k.server.waiting
@@ -251,25 +256,25 @@ rests_on k e served settled hung = what_happens k e (λ t. t.core.server.waiting
   hangs = λ n x is at. absurd (hung n is);
 })
 
-pub goes_on : (book : Book) (k : Core) (qs : List Queue) (e : Event) → IsKept book k qs → AreOrdered k.server.leasing.leases → GoesOn e (move_of (moment k e))
-goes_on book k qs (Serves n now bytes) kept ordered = serves_on k n now bytes ordered
-goes_on book k qs (Settles now) kept ordered = settles_on k now (ready_by k.server now) refl (leaves_ready book k qs now kept)
-goes_on book k qs (Hangs n) kept ordered = hangs_on book k qs n kept
-goes_on book k qs (Joins c) kept ordered = rests_on k (Joins c) (λ n now bytes z. absurd cc) (λ now z. absurd cc) (λ n z. absurd cc)
-goes_on book k qs (Does c now d) kept ordered = rests_on k (Does c now d) (λ n now bytes z. absurd cc) (λ now z. absurd cc) (λ n z. absurd cc)
-goes_on book k qs (Hears n now bytes) kept ordered = rests_on k (Hears n now bytes) (λ n now bytes z. absurd cc) (λ now z. absurd cc) (λ n z. absurd cc)
-goes_on book k qs (Cuts c) kept ordered = rests_on k (Cuts c) (λ n now bytes z. absurd cc) (λ now z. absurd cc) (λ n z. absurd cc)
+pub goes_on : (till : List Moment) (book : Book) (k : Core) (qs : List Queue) (e : Event) → IsKept book k qs → AreOrdered k.server.leasing.leases → ((n now : ℕ) (bytes : List ℕ) → e ≡ Serves n now bytes → SpentSo till k (happens k e).core.server) → GoesOn till e (move_of (moment k e))
+goes_on till book k qs (Serves n now bytes) kept ordered spends = serves_on till k n now bytes ordered (spends n now bytes refl)
+goes_on till book k qs (Settles now) kept ordered spends = settles_on till k now (ready_by k.server now) refl (leaves_ready book k qs now kept)
+goes_on till book k qs (Hangs n) kept ordered spends = hangs_on book k qs n kept
+goes_on till book k qs (Joins c) kept ordered spends = rests_on k (Joins c) (λ n now bytes z. absurd cc) (λ now z. absurd cc) (λ n z. absurd cc)
+goes_on till book k qs (Does c now d) kept ordered spends = rests_on k (Does c now d) (λ n now bytes z. absurd cc) (λ now z. absurd cc) (λ n z. absurd cc)
+goes_on till book k qs (Hears n now bytes) kept ordered spends = rests_on k (Hears n now bytes) (λ n now bytes z. absurd cc) (λ now z. absurd cc) (λ n z. absurd cc)
+goes_on till book k qs (Cuts c) kept ordered spends = rests_on k (Cuts c) (λ n now bytes z. absurd cc) (λ now z. absurd cc) (λ n z. absurd cc)
 
 -- ---- leases stand in their order
 
 taken_ordered : (s : State) (n xid : ℕ) (b : Body) (p : State × ServerStep) → Taken s n xid b p → AreOrdered s.leasing.leases → AreOrdered p.0.leasing.leases
-taken_ordered s n xid b p (stays waiting leasing) h = subst (λ g. AreOrdered g.leases) (sym leasing) h
-taken_ordered s n xid b p (grants file names waiting leasing) h = subst (λ g. AreOrdered g.leases) (sym leasing) (by file)
+taken_ordered s n xid b p (stays waiting leasing quiet same) h = subst (λ g. AreOrdered g.leases) (sym leasing) h
+taken_ordered s n xid b p (grants file names waiting leasing quiet same) h = subst (λ g. AreOrdered g.leases) (sym leasing) (by file)
   where
     by : (file : Option ℕ) → AreOrdered (with_granted_on s.leasing.leases s.leasing.moment n file (term_on s file))
     by None = h
     by (Some id) = with_granted_ordered s.leasing.leases s.leasing.moment n id (term_on s (Some id)) h
-taken_ordered s n xid b p (comes_to c asked waiting leasing says) h = subst (λ g. AreOrdered g.leases) (sym leasing) (all_marked_ordered (asking s.leasing (recalls_for s c)).1 s.leasing.leases h)
+taken_ordered s n xid b p (comes_to c asked waiting leasing says same) h = subst (λ g. AreOrdered g.leases) (sym leasing) (all_marked_ordered (asking s.leasing (recalls_for s c)).1 s.leasing.leases h)
 
 got_ordered : (s : State) (t : Bool) (n now : ℕ) (m : Message) → AreOrdered s.leasing.leases → AreOrdered (got_if_under s false t n m now).0.leasing.leases
 got_ordered s false n now m h = h
@@ -318,9 +323,9 @@ stays_ordered k e h = what_happens k e (λ t. AreOrdered t.core.server.leasing.l
 -- ---- nor does the quiet end later
 
 quiet_taken : (s : State) (n xid : ℕ) (b : Body) (p : State × ServerStep) → Taken s n xid b p → p.0.leasing.quiet ≡ s.leasing.quiet
-quiet_taken s n xid b p (stays waiting leasing) = ap (λ g. g.quiet) leasing
-quiet_taken s n xid b p (grants file names waiting leasing) = ap (λ g. g.quiet) leasing
-quiet_taken s n xid b p (comes_to c asked waiting leasing says) = ap (λ g. g.quiet) leasing
+quiet_taken s n xid b p (stays waiting leasing quiet same) = ap (λ g. g.quiet) leasing
+quiet_taken s n xid b p (grants file names waiting leasing quiet same) = ap (λ g. g.quiet) leasing
+quiet_taken s n xid b p (comes_to c asked waiting leasing says same) = ap (λ g. g.quiet) leasing
 
 quiet_got : (s : State) (t : Bool) (n now : ℕ) (m : Message) → (got_if_under s false t n m now).0.leasing.quiet ≡ s.leasing.quiet
 quiet_got s false n now m = refl

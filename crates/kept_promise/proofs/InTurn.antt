@@ -17,6 +17,7 @@ use Rattle.kept_promise.proofs.LeasesCame.{leases_come, keeps_time}
 use Rattle.kept_promise.proofs.Lists.{some_is, nothing_there, within, of_appended, kept_appended}
 use Rattle.kept_promise.proofs.MadeRuns.{Leaves, leaves_ready}
 use Rattle.kept_promise.proofs.ReadySoon.{ready_soon}
+use Rattle.kept_promise.proofs.RecallNumbers.{NumbersAt, first_numbers, numbers_then, serves_lives}
 use Rattle.kept_promise.proofs.RunsCarried.{book_at, moment, Finds, Step, Carried}
 use Rattle.kept_promise.proofs.Turns.{also_numbered}
 
@@ -179,9 +180,9 @@ hang_nears k ordered t n q c h left = by (c.session == n) refl
           free_then k (Hangs n) ordered t q l.place c h (ap (λ (ws : List Change). slice_get ws l.place) left ∙ l.there) (λ i d below at. l.were i d below (ap (λ (ws : List Change). slice_get ws i) (sym left) ∙ at)),
         )
 
-serve_nears : (k : Core) → AreOrdered k.server.leasing.leases → (t n now : ℕ) (bytes : List ℕ) (q : ℕ) (c : Change) → IsFreeBy k.server t q c → GoesOn (Serves n now bytes) (move_of (moment k (Serves n now bytes))) → Nears k (Serves n now bytes) t q c
-serve_nears k ordered t n now bytes q c h (inl same) = inr (q, omega arith, free_same k (Serves n now bytes) ordered t q c h same)
-serve_nears k ordered t n now bytes q c h (inr (d, comes)) =
+serve_nears : (till : List Moment) (k : Core) → AreOrdered k.server.leasing.leases → (t n now : ℕ) (bytes : List ℕ) (q : ℕ) (c : Change) → IsFreeBy k.server t q c → GoesOn till (Serves n now bytes) (move_of (moment k (Serves n now bytes))) → Nears k (Serves n now bytes) t q c
+serve_nears till k ordered t n now bytes q c h (inl same) = inr (q, omega arith, free_same k (Serves n now bytes) ordered t q c h same)
+serve_nears till k ordered t n now bytes q c h (inr (d, comes)) =
     let inside = within k.server.waiting q c h.there in
     inr (
       q,
@@ -193,14 +194,14 @@ serve_nears k ordered t n now bytes q c h (inr (d, comes)) =
           ]),
     )
 
-nears : (book : Book) (k : Core) (qs : List Queue) (e : Event) (t q : ℕ) (c : Change) → IsKept book k qs → AreOrdered k.server.leasing.leases → k.server.leasing.quiet ≡ 0 → IsFreeBy k.server t q c → GoesOn e (move_of (moment k e)) → Nears k e t q c
-nears book k qs (Serves n now bytes) t q c kept ordered awake h goes = serve_nears k ordered t n now bytes q c h goes
-nears book k qs (Settles now) t q c kept ordered awake h goes = settle_nears k ordered awake t now q c h (ready_by k.server now) refl (leaves_ready book k qs now kept)
-nears book k qs (Hangs n) t q c kept ordered awake h goes = hang_nears k ordered t n q c h goes
-nears book k qs (Joins i) t q c kept ordered awake h goes = inr (q, omega arith, free_same k (Joins i) ordered t q c h goes)
-nears book k qs (Does i now d) t q c kept ordered awake h goes = inr (q, omega arith, free_same k (Does i now d) ordered t q c h goes)
-nears book k qs (Hears n now bytes) t q c kept ordered awake h goes = inr (q, omega arith, free_same k (Hears n now bytes) ordered t q c h goes)
-nears book k qs (Cuts i) t q c kept ordered awake h goes = inr (q, omega arith, free_same k (Cuts i) ordered t q c h goes)
+nears : (till : List Moment) (book : Book) (k : Core) (qs : List Queue) (e : Event) (t q : ℕ) (c : Change) → IsKept book k qs → AreOrdered k.server.leasing.leases → k.server.leasing.quiet ≡ 0 → IsFreeBy k.server t q c → GoesOn till e (move_of (moment k e)) → Nears k e t q c
+nears till book k qs (Serves n now bytes) t q c kept ordered awake h goes = serve_nears till k ordered t n now bytes q c h goes
+nears till book k qs (Settles now) t q c kept ordered awake h goes = settle_nears k ordered awake t now q c h (ready_by k.server now) refl (leaves_ready book k qs now kept)
+nears till book k qs (Hangs n) t q c kept ordered awake h goes = hang_nears k ordered t n q c h goes
+nears till book k qs (Joins i) t q c kept ordered awake h goes = inr (q, omega arith, free_same k (Joins i) ordered t q c h goes)
+nears till book k qs (Does i now d) t q c kept ordered awake h goes = inr (q, omega arith, free_same k (Does i now d) ordered t q c h goes)
+nears till book k qs (Hears n now bytes) t q c kept ordered awake h goes = inr (q, omega arith, free_same k (Hears n now bytes) ordered t q c h goes)
+nears till book k qs (Cuts i) t q c kept ordered awake h goes = inr (q, omega arith, free_same k (Cuts i) ordered t q c h goes)
 
 -- ---- lists of moments
 
@@ -225,6 +226,15 @@ split_last [] (y ∷ ys) span m e is = none_more ys m span (tail_same is)
 split_last (x ∷ xs) (y ∷ ys) span m e is = elim (split_last xs ys span m e (tail_same is)) [
   | inl h ↦ inl h
   | inr h ↦ inr (h.0, h.1, ap (λ z. z ∷ xs) (head_same is) ∙ ap (λ l. y ∷ l) h.2)
+]
+
+split_first : {X : Type 0} (past early span : List X) (m e : X) → past ++ e ∷ [] ≡ early ++ m ∷ span → ((early ≡ past) × (m ≡ e)) ⊎ ((s : List X) × (past ≡ early ++ m ∷ s))
+split_first [] [] span m e is = inl (refl, sym (head_same is))
+split_first (x ∷ xs) [] span m e is = inr (xs, ap (λ z. z ∷ xs) (head_same is))
+split_first [] (y ∷ ys) span m e is = none_more ys m span (tail_same is)
+split_first (x ∷ xs) (y ∷ ys) span m e is = elim (split_first xs ys span m e (tail_same is)) [
+  | inl h ↦ inl (ap (λ l. y ∷ l) h.0 ∙ ap (λ z. z ∷ xs) (sym (head_same is)), h.1)
+  | inr h ↦ inr (h.0, ap (λ z. z ∷ xs) (head_same is) ∙ ap (λ l. y ∷ l) h.1)
 ]
 
 split_more : {X : Type 0} (span late s : List X) (e : X) → span ++ late ≡ s ++ e ∷ [] → (late ≡ []) ⊎ ((l : List X) × (s ≡ span ++ l))
@@ -253,7 +263,6 @@ IsStill s t place c ms = (q : ℕ) × (q + settlings t ms ≤ place) × IsFreeBy
 
 -- in one step
 pub record TakesTurn (m : Moment) : Type 0 where
-  pub goes_on : GoesOn m.event (move_of m)
   pub keeps : KeepsTime (move_of m)
   pub come : LeasesCome (move_of m)
   pub grants_none : GrantsNone (move_of m)
@@ -262,6 +271,8 @@ pub record TakesTurn (m : Moment) : Type 0 where
 pub record TakeTurns (past : List Moment) (k : Core) : Type 0 where
   pub ordered : AreOrdered k.server.leasing.leases
   pub awake : k.server.leasing.quiet ≡ 0
+  pub numbers : NumbersAt past k
+  pub goes : (early late : List Moment) (m : Moment) → past ≡ early ++ m ∷ late → GoesOn (early ++ m ∷ []) m.event (move_of m)
   pub each : (m : Moment) → Contains past m → TakesTurn m
   pub live : (early span : List Moment) (m : Moment) (t place : ℕ) (c : Change) → past ≡ early ++ m ∷ span → IsFreeBy m.before.server t place c → IsGone c (m ∷ span) ⊎ IsStill k.server t place c (m ∷ span)
   pub soon : (early span late : List Moment) (m : Moment) (t place : ℕ) (c : Change) → past ≡ early ++ m ∷ (span ++ late) → IsFreeBy m.before.server t place c → place < settlings t (m ∷ span) → IsGone c (m ∷ span)
@@ -285,11 +296,20 @@ module _ {all past rest : List Moment} {opening : List Opening} {k : Core} {qs :
       by (inl f) = also_numbered qs k.sessions n f.0 (sym s.kept.made.1) f.3
       by (inr f) = (f.session, f.at)
 
-  goes : GoesOn e (move_of m_)
-  goes = goes_on (book_at opening k all) k qs e s.kept h.ordered
+  numbers_now : NumbersAt (past ++ m_ ∷ []) (happens k e).core
+  numbers_now = numbers_then past k e s.kept.made.0 h.numbers
+
+  goes : GoesOn (past ++ m_ ∷ []) e (move_of m_)
+  goes = goes_on (past ++ m_ ∷ []) (book_at opening k all) k qs e s.kept h.ordered (λ n now bytes is i up z. numbers_now.spent i (serves_lives k e n now bytes is i up) z)
+
+  goes_then : (early late : List Moment) (m : Moment) → past ++ m_ ∷ [] ≡ early ++ m ∷ late → GoesOn (early ++ m ∷ []) m.event (move_of m)
+  goes_then early late m is = elim (split_first past early late m m_ is) [
+    | inl now ↦ subst (λ (l : List Moment). GoesOn (l ++ m ∷ []) m.event (move_of m)) (sym now.0) (subst (λ (z : Moment). GoesOn (past ++ z ∷ []) z.event (move_of z)) (sym now.1) goes)
+    | inr old ↦ h.goes early old.0 m old.1
+  ]
 
   nears_now : (t q : ℕ) (c : Change) → IsFreeBy k.server t q c → Nears k e t q c
-  nears_now t q c free = nears (book_at opening k all) k qs e t q c s.kept h.ordered h.awake free goes
+  nears_now t q c free = nears (past ++ m_ ∷ []) (book_at opening k all) k qs e t q c s.kept h.ordered h.awake free goes
 
   live_then : (early span : List Moment) (m : Moment) (t place : ℕ) (c : Change) → past ++ m_ ∷ [] ≡ early ++ m ∷ span → IsFreeBy m.before.server t place c → IsGone c (m ∷ span) ⊎ IsStill (happens k e).core.server t place c (m ∷ span)
   live_then early span m t place c is free = elim (split_last past early span m m_ is) [
@@ -325,10 +345,11 @@ module _ {all past rest : List Moment} {opening : List Opening} {k : Core} {qs :
   turns_then = record {
     ordered = stays_ordered k e h.ordered;
     awake = quiet_stays k e ∙ h.awake;
+    numbers = numbers_now;
+    goes = goes_then;
     each = λ m there. elim (Contains-push_cases past m_ m there) [
       | inl old ↦ h.each m old
       | inr new ↦ subst TakesTurn new (record {
-        goes_on = goes;
         keeps = keeps_time k e h.awake;
         come = leases_come (book_at opening k all) k qs e s.kept h.ordered;
         grants_none = grants_none k e h.ordered;
@@ -347,6 +368,8 @@ carried_turns = record {
   first = λ all opening tree header kept. record {
     ordered = λ i j d before last. absurd (omega (arith, last));
     awake = refl;
+    numbers = first_numbers tree header;
+    goes = λ early late m is. none_more early m late is;
     each = λ m there. (let lt = there.1 in absurd (omega (arith, lt)));
     live = λ early span m t place c is free. none_more early m span is;
     soon = λ early span late m t place c is free lt. none_more early m (span ++ late) is;
@@ -355,6 +378,8 @@ carried_turns = record {
   adjusts = λ all past opening k qs index seats same h. record {
     ordered = h.ordered;
     awake = h.awake;
+    numbers = record { count = h.numbers.count; last = h.numbers.last; spent = h.numbers.spent };
+    goes = h.goes;
     each = h.each;
     live = λ early span m t place c is free. elim (h.live early span m t place c is free) [
       | inl gone ↦ inl gone
@@ -368,7 +393,8 @@ carried_turns = record {
 
 pub waits_in_turn : (book : Book) (k : Core) → TakeTurns book.moments k → WaitInTurn book
 waits_in_turn book k h = record {
-  goes_on = λ m there. (h.each m there).goes_on;
+  goes_on = h.goes;
+  numbered = h.numbers.count;
   keeps = λ m there. (h.each m there).keeps;
   come = λ m there. (h.each m there).come;
   grants_none = λ m there. (h.each m there).grants_none;

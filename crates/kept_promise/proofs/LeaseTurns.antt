@@ -47,6 +47,8 @@ use Rattle.server_core.specs.Recalling.{file_in, grants_on, recall_sent, recalls
 use Rattle.server_core.specs.State.{State, Change, change_of, held}
 use Rattle.server_core.specs.Step.{called_under, asks as asks_outcome, asks_tree}
 use Rattle.lease_law.proofs.Calls.{named_file}
+use Rattle.server_core.specs.declared.event.Sent.{Sent}
+use Rattle.trace_replay.specs.Numbered.{numbers_among}
 use Rattle.trace_replay.specs.PendingChanges.{name_in, file_asked, file_leased, kind_asked}
 use Rattle.kept_promise.proofs.Lists.{nothing_there}
 use Rattle.kept_promise.proofs.TreeMade.{remove_file}
@@ -58,10 +60,17 @@ pub record IsAsked (t : Tree) (n xid : ℕ) (b : Body) (c : Change) : Type 0 whe
   pub file_is : file_asked t b ≡ Some c.file
   pub kind_is : kind_asked b ≡ Some c.kind
 
+-- no call is sent
+abbrev pub NoCalls : List Sent → Type 0
+NoCalls ss = numbers_among (map (λ (s : Sent). s.message) ss) ≡ []
+
+abbrev pub SameSessions : State → State → Type 0
+SameSessions s t = (t.sessions ≡ s.sessions) × (t.sessions_made ≡ s.sessions_made)
+
 pub data Taken (s : State) (n xid : ℕ) (b : Body) (p : State × ServerStep) : Type 0 where
-  stays : p.0.waiting ≡ s.waiting → p.0.leasing ≡ s.leasing → Taken s n xid b p
-  grants : (file : Option ℕ) → ((id : ℕ) → file ≡ Some id → file_leased b ≡ Some id) → p.0.waiting ≡ s.waiting → p.0.leasing ≡ (grants_on s n file).leasing → Taken s n xid b p
-  comes_to : (c : Change) → IsAsked s.tree n xid b c → p.0.waiting ≡ s.waiting ++ c ∷ [] → p.0.leasing ≡ recalled s.leasing (recalls_for s c) → p.1.send ≡ map recall_sent (asking s.leasing (recalls_for s c)).1 → Taken s n xid b p
+  stays : p.0.waiting ≡ s.waiting → p.0.leasing ≡ s.leasing → NoCalls p.1.send → SameSessions s p.0 → Taken s n xid b p
+  grants : (file : Option ℕ) → ((id : ℕ) → file ≡ Some id → file_leased b ≡ Some id) → p.0.waiting ≡ s.waiting → p.0.leasing ≡ (grants_on s n file).leasing → NoCalls p.1.send → SameSessions s p.0 → Taken s n xid b p
+  comes_to : (c : Change) → IsAsked s.tree n xid b c → p.0.waiting ≡ s.waiting ++ c ∷ [] → p.0.leasing ≡ recalled s.leasing (recalls_for s c) → p.1.send ≡ map recall_sent (asking s.leasing (recalls_for s c)).1 → SameSessions s p.0 → Taken s n xid b p
 
 -- ---- the file that a name stands for
 
@@ -118,42 +127,42 @@ over_is busy (Some n) (Ok (planned.Over c)) node file e = by (is_directory n.bod
 
 module _ (s : State) (n xid : ℕ) (b : Body) where
   makes_taken : (fd : ℕ) (o : Result Node Status) → Taken s n xid b (makes s n xid fd o)
-  makes_taken fd (Err e) = stays refl refl
-  makes_taken fd (Ok directory) = stays refl refl
+  makes_taken fd (Err e) = stays refl refl refl (refl, refl)
+  makes_taken fd (Ok directory) = stays refl refl refl (refl, refl)
   makes_taken fd (Ok (a_file f)) = by (room_fault s.temps n fd)
     where
       by : (o : Option Status) → Taken s n xid b (makes_unless s n xid fd f.id o)
-      by (Some e) = stays refl refl
-      by None = stays refl refl
+      by (Some e) = stays refl refl refl (refl, refl)
+      by None = stays refl refl refl (refl, refl)
 
   writes_taken : (a : TempPiece) (t : Option Temp) (o : Option Status) → Taken s n xid b (writes_unless s n xid a t o)
-  writes_taken a (Some t) None = stays refl refl
-  writes_taken a (Some t) (Some e) = stays refl refl
-  writes_taken a None o = stays refl refl
+  writes_taken a (Some t) None = stays refl refl refl (refl, refl)
+  writes_taken a (Some t) (Some e) = stays refl refl refl (refl, refl)
+  writes_taken a None o = stays refl refl refl (refl, refl)
 
   names_taken : (a : CondPiece) (t : Option Temp) (o : Option Status) → Taken s n xid b (names_unless s n xid a t o)
-  names_taken a t (Some e) = stays refl refl
+  names_taken a t (Some e) = stays refl refl refl (refl, refl)
   names_taken a t None = by t (bytes_known s.tree a (place_of s.index.pairs (key_of a.digest)))
     where
       by : (t : Option Temp) (o : Option (List ℕ)) → Taken s n xid b (names_bytes (looked_up s a) n xid a t o)
-      by (Some t) (Some bytes) = stays refl refl
-      by (Some t) None = stays refl refl
-      by None o = stays refl refl
+      by (Some t) (Some bytes) = stays refl refl refl (refl, refl)
+      by (Some t) None = stays refl refl refl (refl, refl)
+      by None o = stays refl refl refl (refl, refl)
 
   whole_taken : (temps : List (ℕ × Temp)) (id : ℕ) → file_asked s.tree b ≡ Some id → kind_asked b ≡ Some kind.Commit → (o : Option (List ℕ)) → Taken s n xid b (commits_whole (record s { temps = temps }) n xid id o)
-  whole_taken temps id file does None = stays refl refl
+  whole_taken temps id file does None = stays refl refl refl (refl, refl)
   whole_taken temps id file does (Some content) = by (has_waiting s.waiting n) (is_full (record s { temps = temps }) (length content))
     where
       u : State
       u = record s { temps = temps }
 
       by : (x y : Bool) → Taken s n xid b (if x then answers u n xid (lb.CommitTmpAnswer (Failed status.Jukebox tt)) else if y then answers u n xid (lb.CommitTmpAnswer (Failed status.NoSpc tt)) else comes u (change_of n xid id (wanted.Content content)))
-      by true y = stays refl refl
-      by false true = stays refl refl
-      by false false = comes_to (change_of n xid id (wanted.Content content)) (record { session_is = refl; xid_is = refl; file_is = file; kind_is = does }) refl refl refl
+      by true y = stays refl refl refl (refl, refl)
+      by false true = stays refl refl refl (refl, refl)
+      by false false = comes_to (change_of n xid id (wanted.Content content)) (record { session_is = refl; xid_is = refl; file_is = file; kind_is = does }) refl refl refl (refl, refl)
 
 commits_taken : (s : State) (n xid : ℕ) (a : Commit) (t : Option Temp) → Taken s n xid (body.Lb (lb.CommitTmp a)) (commits s n xid a t)
-commits_taken s n xid a None = stays refl refl
+commits_taken s n xid a None = stays refl refl refl (refl, refl)
 commits_taken s n xid a (Some t) = by (node_of s.tree a.handle) refl
   where
     temps : List (ℕ × Temp)
@@ -163,19 +172,19 @@ commits_taken s n xid a (Some t) = by (node_of s.tree a.handle) refl
     b = body.Lb (lb.CommitTmp a)
 
     by : (o : Result Node Status) → node_of s.tree a.handle ≡ o → Taken s n xid b (commits_to (record s { temps = temps }) n xid a.size t o)
-    by (Err e) is = stays refl refl
-    by (Ok directory) is = stays refl refl
+    by (Err e) is = stays refl refl refl (refl, refl)
+    by (Ok directory) is = stays refl refl refl (refl, refl)
     by (Ok (a_file f)) is = short (nat_lt size_most a.size)
       where
         short : (x : Bool) → Taken s n xid b (if x then answers (record s { temps = temps }) n xid (lb.CommitTmpAnswer (Failed status.FBig tt)) else commits_whole (record s { temps = temps }) n xid f.id (assembled t a.size))
-        short true = stays refl refl
+        short true = stays refl refl refl (refl, refl)
         short false = whole_taken s n xid b temps f.id (named_file s.tree a.handle f is) refl (assembled t a.size)
 
 -- what a call of NFS comes to, over the tree that it leaves
 asks_taken : (s : State) (n xid : ℕ) (b : Body) (t : Tree) (o : Option Outcome) → ((a : Asked) → o ≡ Some (Waits a) → IsAsked s.tree n xid b (change_of n xid (file_of a) (wanted.Asked a))) → Taken s n xid b (asks_outcome (record s { tree = t }) n xid o)
-asks_taken s n xid b t None is = stays refl refl
-asks_taken s n xid b t (Some (Answered d)) is = stays refl refl
-asks_taken s n xid b t (Some (Waits a)) is = comes_to (change_of n xid (file_of a) (wanted.Asked a)) (is a refl) refl refl refl
+asks_taken s n xid b t None is = stays refl refl refl (refl, refl)
+asks_taken s n xid b t (Some (Answered d)) is = stays refl refl refl (refl, refl)
+asks_taken s n xid b t (Some (Waits a)) is = comes_to (change_of n xid (file_of a) (wanted.Asked a)) (is a refl) refl refl refl (refl, refl)
 
 answered_waits : {A : Type 0} {d : Done} {a : Asked} → ◌≡◌ {A = Option Outcome} (Some (Answered d)) (Some (Waits a)) → A
 answered_waits e = absurd cc
@@ -240,14 +249,14 @@ module _ (s : State) (n xid : ℕ) where
   nfs_taken m = let p : Tree × Option Outcome = calls_under s.tree (held s.waiting) busy false m in asks_taken s n xid (body.Nfs m) p.0 p.1 (λ a e. told_never (told s.tree.nodes m) (body.Nfs m) a e)
 
   pub called_taken : (b : Body) → Taken s n xid b (called_under s false n xid b)
-  called_taken (body.Lb (lb.GetLease handle)) = grants (file_in (node_of s.tree handle)) (node_named s.tree handle (node_of s.tree handle) refl) refl refl
-  called_taken (body.Lb (lb.GetHash r)) = grants (file_in (node_of s.tree r.handle)) (node_named s.tree r.handle (node_of s.tree r.handle) refl) refl refl
+  called_taken (body.Lb (lb.GetLease handle)) = grants (file_in (node_of s.tree handle)) (node_named s.tree handle (node_of s.tree handle) refl) refl refl refl (refl, refl)
+  called_taken (body.Lb (lb.GetHash r)) = grants (file_in (node_of s.tree r.handle)) (node_named s.tree r.handle (node_of s.tree r.handle) refl) refl refl refl (refl, refl)
   called_taken (body.Lb (lb.MkTmpFile a)) = makes_taken s n xid (body.Lb (lb.MkTmpFile a)) a.fd (node_of s.tree a.handle)
   called_taken (body.Lb (lb.TmpWrite a)) = writes_taken s n xid (body.Lb (lb.TmpWrite a)) a (temp_at s.temps n a.fd) (piece_fault (temp_at s.temps n a.fd) a.offset (length a.bytes))
   called_taken (body.Lb (lb.CondWrite a)) = names_taken s n xid (body.Lb (lb.CondWrite a)) a (temp_at s.temps n a.fd) (cond_fault a (temp_at s.temps n a.fd))
   called_taken (body.Lb (lb.CommitTmp a)) = commits_taken s n xid a (temp_at s.temps n a.fd)
-  called_taken (body.Lb m) = stays refl refl
-  called_taken (body.Nfs nfs.Null) = stays refl refl
-  called_taken (body.Nfs (nfs.Read r)) = stays refl refl
+  called_taken (body.Lb m) = stays refl refl refl (refl, refl)
+  called_taken (body.Nfs nfs.Null) = stays refl refl refl (refl, refl)
+  called_taken (body.Nfs (nfs.Read r)) = stays refl refl refl (refl, refl)
   called_taken (body.Nfs m) = nfs_taken m
-  called_taken (body.Back m) = stays refl refl
+  called_taken (body.Back m) = stays refl refl refl (refl, refl)

@@ -140,8 +140,8 @@ same_come : (v : Move) → v.after.leasing.leases ≡ v.before.leasing.leases �
 same_come v same i l at = inl (i, ap (λ (ls : List Lease). slice_get ls i) (sym same) ∙ at)
 
 taken_come : (s : State) (n now xid : ℕ) (bytes : List ℕ) (b : Body) (p : State × ServerStep) → AreOrdered s.leasing.leases → parse_of server_waiting bytes ≡ Ok (message.Call xid b) → stands s n ≡ true → Taken (at_reading s now) n xid b p → LeasesCome (served n now bytes s p)
-taken_come s n now xid bytes b p ordered read up (stays waiting leasing) = same_come (served n now bytes s p) (ap (λ g. g.leases) leasing)
-taken_come s n now xid bytes b p ordered read up (grants file names waiting leasing) = λ i l at. by i l file names (ap (λ (ls : List Lease). slice_get ls i) (sym (ap (λ g. g.leases) leasing)) ∙ at)
+taken_come s n now xid bytes b p ordered read up (stays waiting leasing quiet same) = same_come (served n now bytes s p) (ap (λ g. g.leases) leasing)
+taken_come s n now xid bytes b p ordered read up (grants file names waiting leasing quiet same) = λ i l at. by i l file names (ap (λ (ls : List Lease). slice_get ls i) (sym (ap (λ g. g.leases) leasing)) ∙ at)
   where
     v : Move
     v = served n now bytes s p
@@ -152,7 +152,7 @@ taken_come s n now xid bytes b p ordered read up (grants file names waiting leas
       | inl new ↦ inr (inr (subst (IsGranted v) new (record { to = inl (now, xid, bytes, b, refl, read, names id refl); up = up; ends = refl; unasked = refl })))
       | inr old ↦ inl old
     ]
-taken_come s n now xid bytes b p ordered read up (comes_to c is_asked waiting leasing says) = λ i l at. by l (asked_came s.leasing.leases ordered s.leasing.calls (λ (r : Recall). stands s r.session) (asker c) c.file (max s.leasing.moment now) i l (all_marked_ordered all s.leasing.leases ordered) (ap (λ (ls : List Lease). slice_get ls i) (sym (ap (λ g. g.leases) leasing)) ∙ at))
+taken_come s n now xid bytes b p ordered read up (comes_to c is_asked waiting leasing says same) = λ i l at. by l (asked_came s.leasing.leases ordered s.leasing.calls (λ (r : Recall). stands s r.session) (asker c) c.file (max s.leasing.moment now) i l (all_marked_ordered all s.leasing.leases ordered) (ap (λ (ls : List Lease). slice_get ls i) (sym (ap (λ g. g.leases) leasing)) ∙ at))
   where
     all : List Asked
     all = (asking (at_reading s now).leasing (recalls_for (at_reading s now) c)).1
@@ -265,9 +265,9 @@ goes_to was then_ now e g is reads (inl same) = inl same
 goes_to was then_ now e g is reads (inr late) = inr (late ∙ ap (max was) (sym reads) ∙ ap (λ (z : Event). max was (reading_of z)) (sym is))
 
 taken_goes : (s : State) (n now xid : ℕ) (b : Body) (p : State × ServerStep) → Taken (at_reading s now) n xid b p → Goes s.leasing.moment p.0.leasing.moment now
-taken_goes s n now xid b p (stays waiting leasing) = inr (ap (λ g. g.moment) leasing)
-taken_goes s n now xid b p (grants file names waiting leasing) = inr (ap (λ g. g.moment) leasing)
-taken_goes s n now xid b p (comes_to c is_asked waiting leasing says) = inr (ap (λ g. g.moment) leasing)
+taken_goes s n now xid b p (stays waiting leasing quiet same) = inr (ap (λ g. g.moment) leasing)
+taken_goes s n now xid b p (grants file names waiting leasing quiet same) = inr (ap (λ g. g.moment) leasing)
+taken_goes s n now xid b p (comes_to c is_asked waiting leasing says same) = inr (ap (λ g. g.moment) leasing)
 
 got_goes : (s : State) (t : Bool) (n now : ℕ) (m : Message) → Goes s.leasing.moment (got_if_under s false t n m now).0.leasing.moment now
 got_goes s false n now m = inl refl

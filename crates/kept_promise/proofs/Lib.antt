@@ -7,6 +7,7 @@ pub mod ReadySoon
 pub mod LeaseTurns
 pub mod LeasesStand
 pub mod ChangesWait
+pub mod RecallNumbers
 pub mod LeasesCame
 pub mod InTurn
 pub mod Lists

@@ -30,7 +30,7 @@ among_count [] = refl
 among_count (message.Call x c ∷ ms) = let h = among_count ms in omega (arith, h)
 among_count (m ∷ ms) = let h = among_count ms in omega (arith, h)
 
-count_join : (k : ℕ) (xs ys : List ℕ) → CountOn k xs → CountOn (k + length xs) ys → CountOn k (xs ++ ys)
+pub count_join : (k : ℕ) (xs ys : List ℕ) → CountOn k xs → CountOn (k + length xs) ys → CountOn k (xs ++ ys)
 count_join k [] ys h g = subst (λ z. CountOn z ys) (let e : k + 0 ≡ k = omega arith in e) g
 count_join k (x ∷ xs) ys h g = (h.0, count_join (k + 1) xs ys h.1 (subst (λ z. CountOn z ys) (let e : k + length (x ∷ xs) ≡ (k + 1) + length xs = omega arith in e) g))
 

@@ -220,7 +220,7 @@ at_beside calls n s c own apart =
     none_else None = refl
     none_else (Some d) = refl
 
-at_hung : (calls : List BackCall) (n s : ℕ) → (n ≡ s → ⊥) → call_at (hung calls n) s ≡ call_at calls s
+pub at_hung : (calls : List BackCall) (n s : ℕ) → (n ≡ s → ⊥) → call_at (hung calls n) s ≡ call_at calls s
 at_hung calls n s apart = ap (λ (x : Option BackCall). unwrap_or x (unasked s)) (find_kept (is_at s) (λ d. not (is_at n d)) (kept_beside n s apart) calls)
 
 used_session : (n xid : ℕ) (c : BackCall) → (used_by n xid c).session ≡ c.session
@@ -230,7 +230,7 @@ used_session n xid c = by (is_at n c)
     by true = refl
     by false = refl
 
-at_used : (calls : List BackCall) (n xid s : ℕ) → call_at (answered calls n xid) s ≡ used_by n xid (call_at calls s)
+pub at_used : (calls : List BackCall) (n xid s : ℕ) → call_at (answered calls n xid) s ≡ used_by n xid (call_at calls s)
 at_used [] n xid s = by (s == n)
   where
     by : (b : Bool) → unasked s ≡ (if b then unasked s else unasked s)

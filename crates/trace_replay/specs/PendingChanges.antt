@@ -1,7 +1,8 @@
 -- What becomes of the changes that are pending at the server in each step of a run, and of the leases that hold them up (Gray and Cheriton, SOSP 1989): a change
 -- waits no longer than these last, and than those that stand before it.
-use Rattle.std.specs.Prelude.{◌≡◌, ◌⊎◌, ℕ, ◌+◌, ◌<◌, ◌≤◌, List, [], ◌∷◌, ◌++◌, true, nat_le, max, remove, Option, Some, None, Ok, Contains, slice_get}
+use Rattle.std.specs.Prelude.{◌≡◌, ◌⊎◌, ℕ, ◌+◌, ◌<◌, ◌≤◌, List, [], ◌∷◌, ◌++◌, length, true, nat_le, max, remove, Option, Some, None, Ok, Contains, slice_get}
 use Rattle.std.specs.Option.{option_map}
+use Rattle.limits.specs.declared.TheConstants.{XIDS_MOST}
 use Rattle.xdr_codec.specs.Handle.{file_of, handle_bytes}
 use Rattle.hash_calls.specs.declared.message.Back.TheVariants as back
 use Rattle.hash_calls.specs.declared.message.Lb.TheVariants as lb
@@ -18,7 +19,7 @@ use Rattle.lease_rules.specs.Leases.{is_others}
 use Rattle.lease_rules.specs.declared.change.Kind.{Kind}
 use Rattle.lease_rules.specs.declared.change.Kind.TheVariants as kind
 use Rattle.lease_rules.specs.declared.lease.Lease.{Lease}
-use Rattle.callback_core.specs.BackCalls.{call_at, waiting_at}
+use Rattle.callback_core.specs.BackCalls.{waiting_at}
 use Rattle.callback_core.specs.Waits.{without}
 use Rattle.server_core.specs.Closing.{ready_by}
 use Rattle.server_core.specs.State.{State, Change, stands}
@@ -27,6 +28,8 @@ use Rattle.server_core.specs.declared.change.Wanted.TheVariants as wanted
 use Rattle.server_core.specs.declared.event.Sent.{Sent}
 use Rattle.trace_ends.specs.Core.{Event, Event.Serves, Event.Settles, Event.Hangs, server_waiting, happens}
 use Rattle.trace_replay.specs.Trail.{Moment, step_if}
+use Rattle.trace_replay.specs.Chained.{sent_to}
+use Rattle.trace_replay.specs.Numbered.{numbers_among, CountOn}
 use Rattle.trace_replay.specs.Book.{Book}
 
 -- a step of the run, at the server: what it was before and after, and what it sent
@@ -118,15 +121,21 @@ pub record GivesUp (v : Move) (session xid : ℕ) : Type 0 where
 abbrev pub FreesAnswered : Move → Type 0
 FreesAnswered v = (session now xid : ℕ) (bytes : List ℕ) → v.event ≡ Serves session now bytes → stands v.before session ≡ true → parse_of (waiting_at v.before.leasing.calls session) bytes ≡ Ok (message.Answer xid (body.Back back.RecallAnswer)) → GivesUp v session xid
 
--- The session of a lease is asked for it by a RECALL of its file, under a number that the lease remembers; or it was to be asked for more than it has numbers.
-abbrev pub AsksFor : Move → Lease → Type 0
-AsksFor v l =
+-- the numbers of the RECALLs that go down a session at these moments, in order
+abbrev pub recall_numbers : (session : ℕ) → List Moment → List ℕ
+recall_numbers session [] = []
+recall_numbers session (m ∷ ms) = numbers_among (sent_to session (happens m.before m.event).down) ++ recall_numbers session ms
+
+-- The session of a lease is asked for it by a RECALL of its file, under a number that the lease remembers; or by these moments it was sent as many RECALLs as
+-- there are numbers.
+abbrev pub AsksFor : (till : List Moment) → Move → Lease → Type 0
+AsksFor till v l =
     ((xid : ℕ) × Contains v.sent (recall_of l xid) × (i : ℕ) × (slice_get v.after.leasing.leases i ≡ Some (record l { recall = Some xid })))
-    ⊎ ((call_at v.after.leasing.calls l.session).spent ≡ true)
+    ⊎ (XIDS_MOST ≤ length (recall_numbers l.session till))
 
 -- So it is with each lease that holds a change up, hasn't ended at this reading, and was asked for by no RECALL, as far as its session stands.
-abbrev pub AsksForAll : Move → (now : ℕ) → Change → Type 0
-AsksForAll v now c = (i : ℕ) (l : Lease) → slice_get v.before.leasing.leases i ≡ Some l → l.file ≡ c.file → is_others l (asker c) ≡ true → max v.before.leasing.moment now < l.ends → l.recall ≡ None → stands v.before l.session ≡ true → AsksFor v l
+abbrev pub AsksForAll : (till : List Moment) → Move → (now : ℕ) → Change → Type 0
+AsksForAll till v now c = (i : ℕ) (l : Lease) → slice_get v.before.leasing.leases i ≡ Some l → l.file ≡ c.file → is_others l (asker c) ≡ true → max v.before.leasing.moment now < l.ends → l.recall ≡ None → stands v.before l.session ≡ true → AsksFor till v l
 
 -- ---- a change comes
 
@@ -150,21 +159,21 @@ kind_asked b = None
 
 -- The server takes a call of a session, which is a change from now on: of the file that it asks to change, behind all others. And the leases that hold it up are
 -- asked for.
-pub record Comes (v : Move) (session now : ℕ) (bytes : List ℕ) (c : Change) : Type 0 where
+pub record Comes (till : List Moment) (v : Move) (session now : ℕ) (bytes : List ℕ) (c : Change) : Type 0 where
   pub call : Body
   pub read : parse_of server_waiting bytes ≡ Ok (message.Call c.xid call)
   pub session_is : c.session ≡ session
   pub file_is : file_asked v.before.tree call ≡ Some c.file
   pub kind_is : kind_asked call ≡ Some c.kind
   pub behind : v.after.waiting ≡ v.before.waiting ++ c ∷ []
-  pub asks : AsksForAll v now c
+  pub asks : AsksForAll till v now c
 
 -- How the list of pending changes goes on: one comes, one is taken out by a settling, or the change of a session goes with it; and the others stay, in order.
-abbrev pub GoesOn : Event → Move → Type 0
-GoesOn (Serves session now bytes) v = (v.after.waiting ≡ v.before.waiting) ⊎ ((c : Change) × Comes v session now bytes c)
-GoesOn (Settles now) v = (v.after.waiting ≡ v.before.waiting) ⊎ ((place : ℕ) × (c : Change) × (ready_by v.before now ≡ Some c) × (slice_get v.before.waiting place ≡ Some c) × (v.after.waiting ≡ remove v.before.waiting place))
-GoesOn (Hangs session) v = v.after.waiting ≡ without v.before.waiting session
-GoesOn e v = v.after.waiting ≡ v.before.waiting
+abbrev pub GoesOn : (till : List Moment) → Event → Move → Type 0
+GoesOn till (Serves session now bytes) v = (v.after.waiting ≡ v.before.waiting) ⊎ ((c : Change) × Comes till v session now bytes c)
+GoesOn till (Settles now) v = (v.after.waiting ≡ v.before.waiting) ⊎ ((place : ℕ) × (c : Change) × (ready_by v.before now ≡ Some c) × (slice_get v.before.waiting place ≡ Some c) × (v.after.waiting ≡ remove v.before.waiting place))
+GoesOn till (Hangs session) v = v.after.waiting ≡ without v.before.waiting session
+GoesOn till e v = v.after.waiting ≡ v.before.waiting
 
 -- ---- it waits no longer than leases
 
@@ -201,7 +210,9 @@ AreSettledSoon book = (early span late : List Moment) (m : Moment) (reading plac
 -- ---- all of it
 
 pub record WaitInTurn (book : Book) : Type 0 where
-  pub goes_on : (m : Moment) → Contains book.moments m → GoesOn m.event (move_of m)
+  pub goes_on : (early late : List Moment) (m : Moment) → book.moments ≡ early ++ m ∷ late → GoesOn (early ++ m ∷ []) m.event (move_of m)
+  -- the RECALLs that go down a session are numbered from 1 on
+  pub numbered : (session : ℕ) → CountOn 1 (recall_numbers session book.moments)
   pub keeps : (m : Moment) → Contains book.moments m → KeepsTime (move_of m)
   pub come : (m : Moment) → Contains book.moments m → LeasesCome (move_of m)
   pub grants_none : (m : Moment) → Contains book.moments m → GrantsNone (move_of m)

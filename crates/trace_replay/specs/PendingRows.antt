@@ -1,5 +1,5 @@
 -- Worked steps of wrong servers, each of which a clause on pending changes refuses; and which file a call asks to change.
-use Rattle.std.specs.Prelude.{◌≡◌, ◌⊎◌, ℕ, ◌<◌, zero, suc, slice_get, List, [], ◌∷◌, Option, Some, None, true, false, codes, map, refl}
+use Rattle.std.specs.Prelude.{◌≡◌, ◌⊎◌, ℕ, ◌<◌, ◌≤◌, zero, suc, slice_get, List, [], ◌∷◌, Option, Some, None, true, false, codes, map, refl}
 use Rattle.std.proofs.Common.{ap, sym, ◌∙◌, inl, inr, arith}
 use Rattle.xdr_codec.specs.Handle.{handle_bytes}
 use Rattle.hash_calls.specs.declared.message.Lb.TheVariants as lb
@@ -73,7 +73,7 @@ forgotten h = let w = h 0 0 (close 2 2) (lease 3 2 1000 None) refl refl refl in 
     by (suc i) k e r = no k e
 
 -- a change that comes is put in front of one that is pending
-in_front : GoesOn (Serves 4 0 []) (served (state (close 2 2 ∷ []) []) (state (close 4 2 ∷ close 2 2 ∷ []) []) []) → ⊥
+in_front : GoesOn [] (Serves 4 0 []) (served (state (close 2 2 ∷ []) []) (state (close 4 2 ∷ close 2 2 ∷ []) []) []) → ⊥
 in_front (inl same) = absurd (cons_nil (tail same))
   where
     tail : {x y : Change} {xs ys : List Change} → x ∷ xs ≡ y ∷ ys → xs ≡ ys
@@ -90,7 +90,7 @@ in_front (inr (c, comes)) = let e = ap session_of (head comes.behind) in absurd 
     head e = cc
 
 -- a change is lost as another session's connection is
-lost_with_another : GoesOn (Hangs 3) (record { event = Hangs 3; before = state (close 2 2 ∷ []) []; after = state [] []; sent = [] }) → ⊥
+lost_with_another : GoesOn [] (Hangs 3) (record { event = Hangs 3; before = state (close 2 2 ∷ []) []; after = state [] []; sent = [] }) → ⊥
 lost_with_another e = absurd cc
 
 -- an answer to a RECALL gives nothing up, or another's lease too
@@ -157,12 +157,12 @@ falls_quiet : (s : State) → KeepsTime (served (record s { leasing = record s.l
 falls_quiet s h = let e = h.quiet in absurd (omega (arith, e))
 
 -- no RECALL goes out as a change comes
-asks_nobody : AsksForAll (served (state [] (lease 3 2 1000 None ∷ [])) (state (close 4 2 ∷ []) (lease 3 2 1000 None ∷ [])) []) 0 (close 4 2) → ⊥
+asks_nobody : AsksForAll [] (served (state [] (lease 3 2 1000 None ∷ [])) (state (close 4 2 ∷ []) (lease 3 2 1000 None ∷ [])) []) 0 (close 4 2) → ⊥
 asks_nobody h = by (h 0 (lease 3 2 1000 None) refl refl refl (omega arith) refl refl)
   where
-    by : AsksFor (served (state [] (lease 3 2 1000 None ∷ [])) (state (close 4 2 ∷ []) (lease 3 2 1000 None ∷ [])) []) (lease 3 2 1000 None) → ⊥
+    by : AsksFor [] (served (state [] (lease 3 2 1000 None ∷ [])) (state (close 4 2 ∷ []) (lease 3 2 1000 None ∷ [])) []) (lease 3 2 1000 None) → ⊥
     by (inl w) = let lt = w.1.1 in absurd (omega (arith, lt))
-    by (inr spent) = absurd cc
+    by (inr spent) = let le : 4294967295 ≤ 0 = spent in absurd (omega (arith, le))
 
 -- a settling takes the second change of a file, or one within the quiet after the start
 abbrev settled : State → Moment
