@@ -73,26 +73,34 @@ fn longer(before: u64, term: u64) -> u64
     before.saturating_sub(term)
 }
 
-/// Writes a file beside the one at a path, and puts it in its place once it is whole: a cut of power leaves
-/// the one or the other.
-fn write_whole<R: HostDisk>(rt: &R, beside: &str, path: &str, bytes: &[u8]) -> io::Result<()> {
+/// Writes a file of a folder beside the one at a path, and puts it in its place once it is whole: behind this
+/// a cut of power doesn't bring the one before back.
+fn write_whole<R: HostDisk>(
+    rt: &R,
+    folder: &str,
+    beside: &str,
+    path: &str,
+    bytes: &[u8],
+) -> io::Result<()> {
     let mut file = fs::create(rt, beside)?;
     file.write_all(bytes)?;
     file.sync_data()?;
     drop(file);
-    fs::rename(rt, beside, path)
+    fs::rename(rt, beside, path)?;
+    fs::open(rt, folder)?.sync_all()
 }
 
 /// Puts a term into the place of the one that was noted, and answers whether it could be.
 fn note_term<R: HostDisk + Eprint>(
     rt: &R,
     alloc: Global,
+    place: &str,
     path: &str,
     term: u64,
 ) -> Result<bool, AllocError> {
     let beside = format!(in alloc; "{path}~")?;
     let text = format!(in alloc; "{term}\n")?;
-    match write_whole(rt, beside.as_str(), path, text.as_bytes()) {
+    match write_whole(rt, place, beside.as_str(), path, text.as_bytes()) {
         Ok(()) => Ok(true),
         Err(why) => {
             tell(rt, &Note::Written { name: path, why });
@@ -131,6 +139,6 @@ pub(crate) fn take_term<R: HostDisk + HostTime + Eprint>(
         tell(rt, &Note::Waiting { place, more });
         thread::sleep(rt, Duration::from_millis(more));
     }
-    let noted = note_term(rt, alloc, path.as_str(), term)?;
+    let noted = note_term(rt, alloc, place, path.as_str(), term)?;
     Ok(noted || !is_shorter(before, term))
 }

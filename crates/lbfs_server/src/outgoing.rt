@@ -23,12 +23,26 @@ pub struct Sure {
     stands: bool,
 }
 
+/// Whether a message is a call.
+fn is_call(message: &Message) -> bool {
+    match message {
+        Message::Call(_, _) => true,
+        _ => false,
+    }
+}
+
 impl Taken {
     /// These messages, and whether more may follow.
     pub fn new(messages: Vec<Message>, stands: bool) -> Taken
         ensures { (result.messages ≡ messages) × (result.stands ≡ stands) }
     {
         Taken { messages, stands }
+    }
+
+    /// How many of the messages are calls, which the client is to answer.
+    pub(crate) fn calls(&self) -> u64 {
+        let calls = self.messages.iter().filter(|message| is_call(message));
+        calls.count() as u64
     }
 
     /// Makes the store sure of all that was made before what is to be said was taken; where nothing is,

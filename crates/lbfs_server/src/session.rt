@@ -168,31 +168,36 @@ pub fn session_out<W: Wait, H: Turns + Drop, Y: Syncs, G: Gate + Drop, L: Link +
 }
 
 /// Puts out what there is to say to a session until a change of it waits no more: where no other thread does,
-/// nobody else would tell it what came of that. Meanwhile no record of it is read.
+/// nobody else would tell it what came of that. Meanwhile no record of it is read; so it ends, too, where the
+/// client is asked for something, which the change may wait for. It answers how many calls the client hasn't
+/// answered, of which there were so many.
 fn give_awaited<W: Wait, H: Turns + Drop, Y: Syncs, G: Gate + Drop, L: Link + Drop>(
     rt: &W,
     shared: &Shared<H, Y, G, L>,
     pass: Pass<H>,
     session: u32,
+    asked: u64,
     link: &mut L,
-) -> Pass<H>
+) -> (Pass<H>, u64)
     requires { IsPassOf shared.now.post pass }
-    ensures pass { Follows shared.now.post pass result }
+    ensures pass { Follows shared.now.post pass result.0 }
     ensures come { L.left link.new ≡ L.left link.old }
     ensures later { L.faults link.old ≤ L.faults link.new }
 {
     let mut pass = pass;
+    let mut asked = asked;
     for _turn in rt.forever() {
         let (next, owes) = shared.owes(rt, pass, session);
         pass = next;
-        if !owes {
-            return pass;
+        if !owes || asked > 0 {
+            return (pass, asked);
         }
         pass = shared.await_said(rt, pass, session);
         let (next, out) = shared.take_out(rt, pass, session, &*link);
         pass = next;
+        asked = out.calls();
         if !give_out(rt, shared, link, out) {
-            return pass;
+            return (pass, asked);
         }
     }
     unreachable!()
@@ -220,15 +225,20 @@ fn both_on<W: Wait, H: Turns + Drop, Y: Syncs, G: Gate + Drop, L: Link + Drop, C
         Err(_) => return (pass, End::Memory),
     };
     let mut pass = pass;
+    let mut asked = 0u64;
     for _turn in rt.forever() {
         match inbox.next(shared.alloc(), link) {
             Ok(record) => {
                 let bytes = record.as_slice();
                 let (read, prepared) = shared.read(rt, pass, session, bytes);
+                let answered = u64::from(prepared.answers());
                 let now = clock.now();
                 let (next, out) = shared.got(rt, read, session, bytes, prepared, now, &*link);
+                let open = asked.saturating_sub(answered).saturating_add(out.calls());
                 give_out(rt, shared, link, out);
-                pass = give_awaited(rt, shared, next, session, link);
+                let (next, open) = give_awaited(rt, shared, next, session, open, link);
+                pass = next;
+                asked = open;
             }
             Err(end) => return (pass, end),
         }

@@ -84,6 +84,11 @@ impl Drop for Prepared {
 }
 
 impl Prepared {
+    /// Whether the record is an answer.
+    pub(crate) fn answers(&self) -> bool {
+        is_answer(&self.read)
+    }
+
     fn into_parts(self) -> (Result<Message, WireError>, Option<Content>) {
         let Prepared { read, ahead } = self;
         (read, ahead)
