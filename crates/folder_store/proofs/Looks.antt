@@ -1,5 +1,6 @@
 -- Lines and records are added one by one.
-use Rattle.std.proofs.Common.{◌≡◌, ℕ, List, [], ◌∷◌, ◌++◌, map, codes, string_bytes, String, Vec, Option, None, Result, Ok, Err, OnOk, refl, sym, ◌∙◌, ap, subst}
+use Rattle.std.proofs.Common.{◌≡◌, ℕ, List, [], ◌∷◌, ◌++◌, map, codes, string_bytes, String, Vec, Option, None, Result, Ok, Err, OnOk, refl, sym, ◌∙◌, ap, subst, length, ◌≤◌, ◌-◌, get_or, take, drop, arith}
+use Rattle.std.proofs.lemmas.List.{take_all}
 use Rattle.std.specs.declared.alloc.Global.{Global}
 use Rattle.store.specs.declared.record.Kept.{Kept}
 use Rattle.log_store.specs.declared.which.Which.{Which}
@@ -28,8 +29,15 @@ no_record (Ok u) w name r v o old new is by none records lines =
     )
 no_record (Err e) w name r v o old new is by none records lines = tt
 
-pub looks_on : (w : Which) (ws : List Which) (old mid new : CheckedStore) → ((r : Reading) × Adds w (name_of w) r old mid) → LooksOver ws mid new → LooksOver (w ∷ ws) old new
-looks_on w ws old mid new one rest = (mid, one, rest)
+first_of : (ws : List Which) (d : Which) → 1 ≤ length ws → ws ≡ get_or ws 0 d ∷ take (length ws - 1) (drop 1 ws)
+first_of [] d le = absurd (omega arith)
+first_of (w ∷ ws) d le = ap (λ (l : List Which). w ∷ l) (sym (take_all (length (w ∷ ws) - 1) ws (omega arith)))
+
+-- a record more in front of those that are looked over
+pub looks_on : {E : Type 0} (result : Result (Unit {0}) E) (ws : List Which) (d : Which) (old mid new : CheckedStore)
+    → 1 ≤ length ws → ((r : Reading) × Adds (get_or ws 0 d) (name_of (get_or ws 0 d)) r old mid) → OnOk result (LooksOver (take (length ws - 1) (drop 1 ws)) mid new) → OnOk result (LooksOver ws old new)
+looks_on (Ok u) ws d old mid new le one rest = subst (λ (l : List Which). LooksOver l old new) (sym (first_of ws d le)) (mid, one, rest)
+looks_on (Err e) ws d old mid new le one rest = tt
 
 pub found_by : (ws : List Which) (first found : CheckedStore) → first.records.items ≡ [] → LooksOver ws first found → IsFound found
 found_by ws first found none looks = (ws, first, none, looks)

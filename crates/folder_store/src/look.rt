@@ -190,7 +190,6 @@ fn add<R: Files<File = File>>(
 }
 
 /// Adds what is found of each of these records.
-#[tactic(auto, using(crate::proofs::Looks::looks_on))]
 fn add_all<R: Files<File = File>>(
     rt: &R,
     alloc: Global,
