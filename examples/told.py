@@ -91,7 +91,8 @@ class History:
 class Places:
     """Finds the points of the operations on one file: of the closes by their versions, and of each open behind the close whose
     content it got. Each has the first point that it may have, so where one of these is too late no other would do. A close
-    that nobody was told of was made in a version that nobody was told, or never: each that fits is tried."""
+    that nobody was told of was made in a version that nobody was told, or never: each that fits is tried whose content an open
+    got, and of the others the one that began first, since whatever fits later fits in the place of another one too."""
 
     def __init__(self, ops, first, last, at, step):
         self.first, self.last, self.at, self.step = first, last, at, step
@@ -130,6 +131,10 @@ class Places:
         op.point = self.behind(max(after, op.begin))
         return self.opened(op.value, op.point) if op.reaches(op.point) else None
 
+    def is_past(self, value, point):
+        """Whether an open of a content has ended before it can have a point behind this one."""
+        return any(not op.reaches(self.behind(max(point, op.begin))) for op in self.opens[value])
+
     def search(self, version, after, used):
         while version <= self.last and version in self.told:
             after = self.made(self.told[version], after)
@@ -141,7 +146,11 @@ class Places:
             for op in left:
                 op.point = None
             return not any(op.value in self.opens for op in left)
-        for op in left:
+        got = [op for op in left if op.value in self.opens]
+        if any(self.is_past(op.value, after) for op in got):
+            return False
+        others = [op for op in left if op.value not in self.opens]
+        for op in got + sorted(others, key=lambda op: op.begin)[:1]:
             self.tried += 1
             if self.tried > TRIED_MOST:
                 raise AssertionError("no order was found, though many were tried")
