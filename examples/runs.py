@@ -96,9 +96,15 @@ class Server(Run):
     def threads(self):
         return self.told("Threads")
 
-    def descriptors(self):
-        """How many descriptors it has open."""
-        return len(os.listdir(f"/proc/{self.process.pid}/fd"))
+    def sockets(self):
+        """How many sockets it has open; beside them it has files of its store."""
+        found, folder = 0, f"/proc/{self.process.pid}/fd"
+        for it in os.listdir(folder):
+            try:
+                found += os.readlink(f"{folder}/{it}").startswith("socket:")
+            except FileNotFoundError:
+                pass
+        return found
 
     def sleeps(self):
         """How often each of its threads went to sleep."""
