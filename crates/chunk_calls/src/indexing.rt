@@ -50,6 +50,6 @@ pub fn look_up<'a>(index: &mut Index, tree: &'a Tree, piece: &CondPiece) -> Opti
     ensures known { option_copied result ≡ bytes_known tree.now.tree piece.now (place_of index.old.pairs (key_of piece.now.digest)) }
     ensures order { index.new ≡ found index.old (key_of piece.now.digest) }
 {
-    let place = index.find(&piece.digest);
+    let place = index.find(piece.digest.as_slice());
     bytes_known(tree, piece, place)
 }

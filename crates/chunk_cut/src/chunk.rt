@@ -3,18 +3,19 @@
 ghost use Rattle.std.specs.Prelude.{◌≡◌, ◌++◌, OnOk, OnErr};
 ghost use Rattle.chunk_cut.specs.Chunks.{listed};
 
+use digests::Dig;
 use lb_base::items::Items;
 use std::alloc::AllocError;
 
 /// A chunk of a content.
-#[derive(Clone, Copy, Debug, PartialEq, Eq)]
+#[derive(Clone, Copy)]
 pub struct Chunk {
     /// Where it begins, in bytes from the start of the content.
     pub start: u64,
     /// How many bytes it has, at most 65,536.
     pub len: u64,
-    /// The SHA-1 digest of its bytes, by which it is known.
-    pub digest: [u8; 20],
+    /// The digest of its bytes, by which it is known.
+    pub digest: Dig,
 }
 
 /// Adds the chunk that there may be to the list. The one error is want of memory, and the list then

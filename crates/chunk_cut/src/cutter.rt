@@ -8,6 +8,7 @@ ghost use Rattle.chunk_cut.specs.Cutting.{IsFed, fed};
 
 use crate::chunk::{self, Chunk};
 use crate::scan;
+use digests::Dig;
 use lb_base::items::Items;
 use rabin_window::Window;
 use sha1::Sha1;
@@ -80,7 +81,7 @@ impl Cutter {
         Some(Chunk {
             start: self.start,
             len: self.len,
-            digest: self.hasher.finalize(),
+            digest: Dig::sha1(self.hasher.finalize()),
         })
     }
 
@@ -127,7 +128,7 @@ impl Cutter {
         let chunk = Chunk {
             start: self.start,
             len: self.len,
-            digest: hasher.finalize(),
+            digest: Dig::sha1(hasher.finalize()),
         };
         self.start += self.len;
         self.len = 0;

@@ -7,6 +7,7 @@ ghost use Rattle.chunk_index.specs.Placed.{bytes_placed};
 ghost use Rattle.chunk_places.specs.Known.{with_digest};
 
 use chunk_index::place::Place;
+use digests::Dig;
 use transfer_rules::pieces::{has_digest, range_end};
 
 /// The bytes of a place, where they lie in a content. It takes no memory.
@@ -18,7 +19,7 @@ pub fn bytes_placed<'a>(content: &'a [u8], place: &Place) -> Option<&'a [u8]>
 }
 
 /// Bytes that were found, where they have the digest: they are hashed each time. It takes no memory.
-pub fn with_digest<'a>(found: Option<&'a [u8]>, digest: &[u8; 20]) -> Option<&'a [u8]>
+pub fn with_digest<'a>(found: Option<&'a [u8]>, digest: &Dig) -> Option<&'a [u8]>
     ensures { option_copied result ≡ with_digest digest.now (option_copied found.entry) }
 {
     match found {

@@ -36,7 +36,7 @@ fn is_left_out(index: &mut Index, file: u64, chunk: &Chunk) -> bool
         offset: chunk.start,
         count: chunk.len,
     };
-    index.put(&chunk.digest, place).is_err()
+    index.put(chunk.digest.as_slice(), place).is_err()
 }
 
 /// Puts the places of chunks of a file, one after the other. A place for which memory is wanting is

@@ -13,6 +13,7 @@ use crate::state::ClientState;
 use chunk_cut::chunk::Chunk;
 use chunk_index::index::Index;
 use client_cache::cache::Cache;
+use digests::Dig;
 use lb_base::items::{Bytes, Items};
 use limits::FILE_MOST;
 use shared_bytes::SharedBytes;
@@ -63,7 +64,7 @@ fn laid(alloc: Global, items: &[Bytes]) -> Result<Items<Chunk>, AllocError>
     let mut chunks = Items::new(alloc);
     let mut start = 0;
     for item in items {
-        let digest = chunk_cut::digest(item.as_slice());
+        let digest = Dig::sha1(chunk_cut::digest(item.as_slice()));
         let len = item.len() as u64;
         chunks.push(Chunk { start, len, digest })?;
         start += len;

@@ -3,6 +3,7 @@
 
 ghost use Rattle.std.specs.Prelude.{◌≡◌};
 
+use digests::Dig;
 use lb_base::items::{Items, Name};
 use send_list::SendList;
 use transfer_rules::counts::Counts;
@@ -19,7 +20,7 @@ pub enum BadPeer {
     /// An answer to nothing that waits.
     UnknownXid { xid: u32 },
     /// A chunk's bytes have another digest than was told.
-    Digest { got: Digest, wanted: Digest },
+    Digest { got: Dig, wanted: Dig },
     /// A call was not accepted: the accept_stat, or 10 and the reject_stat.
     Denied { code: u32 },
     /// A number that came breaks a bound: 0 where none came.

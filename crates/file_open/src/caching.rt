@@ -84,7 +84,7 @@ fn bytes_there<'a>(cache: &'a Cache, chunk: &Chunk, place: Option<Place>) -> Opt
 fn kept_bytes<'a>(cache: &'a Cache, index: &Index, chunk: &Chunk) -> Option<&'a [u8]>
     ensures { option_copied result ≡ from_index cache.now index.now chunk.now }
 {
-    let found = bytes_there(cache, chunk, index.peek(&chunk.digest));
+    let found = bytes_there(cache, chunk, index.peek(chunk.digest.as_slice()));
     known::with_digest(found, &chunk.digest)
 }
 

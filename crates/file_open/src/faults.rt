@@ -8,6 +8,7 @@ ghost use Rattle.std.specs.Str.{bytes_eq};
 
 use chunk_cut::chunk::Chunk;
 use client_state::step::BadPeer;
+use digests::Dig;
 use sha1::Sha1;
 use transfer_rules::pieces;
 use xdr_codec::attr::Attr;
@@ -19,7 +20,7 @@ fn digest_fault(chunk: &Chunk, bytes: &[u8]) -> Option<BadPeer>
     if pieces::has_digest(bytes, &chunk.digest) {
         return None;
     }
-    let got = Sha1::digest(bytes);
+    let got = Dig::sha1(Sha1::digest(bytes));
     let wanted = chunk.digest;
     Some(BadPeer::Digest { got, wanted })
 }

@@ -7,6 +7,7 @@ ghost use Rattle.std.specs.Str.{bytes_eq};
 ghost use Rattle.sha1.specs.Sha1.{sha1};
 ghost use Rattle.transfer_rules.specs.Pieces.{broken_sum, range_end};
 
+use digests::Dig;
 use sha1::Sha1;
 
 /// Whether what was told, or is kept, is of the version that is wanted.
@@ -24,12 +25,12 @@ pub fn range_end(offset: u64, count: u64, len: u64) -> Option<u64>
     if end > len { None } else { Some(end) }
 }
 
-/// Whether bytes have this digest, in all twenty bytes: they are hashed each time.
-pub fn has_digest(bytes: &[u8], digest: &[u8; 20]) -> bool
+/// Whether bytes have this digest of SHA-1, in all its bytes: they are hashed each time.
+pub fn has_digest(bytes: &[u8], digest: &Dig) -> bool
     ensures { result ≡ bytes_eq (sha1 bytes.now) digest.now }
 {
     let got = Sha1::digest(bytes);
-    got == *digest
+    got.as_slice() == digest.as_slice()
 }
 
 /// What is wrong with the end of the chunks of a piece, which is the file's last or not, of so many.
