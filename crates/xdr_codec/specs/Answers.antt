@@ -8,7 +8,7 @@ use Rattle.xdr_codec.specs.Compose.{refined, tagged, embedded, in_words}
 use Rattle.xdr_codec.specs.Xdr.{u32_form}
 use Rattle.xdr_codec.specs.Tables.{named, named_there}
 use Rattle.xdr_codec.specs.declared.status.Status.{Status}
-use Rattle.xdr_codec.specs.declared.status.Status.TheVariants.{Perm, NoEnt, Io, Acces, Exist, NotDir, IsDir, Inval, FBig, NoSpc, NameTooLong, NotEmpty, Stale, BadHandle, BadCookie, NotSupp, TooSmall, ServerFault, Jukebox, HashNotFound, FdInUse, BadFd, TooManyTemps}
+use Rattle.xdr_codec.specs.declared.status.Status.TheVariants.{Perm, NoEnt, Io, Acces, Exist, NotDir, IsDir, Inval, FBig, NoSpc, NameTooLong, NotEmpty, Stale, BadHandle, BadCookie, NotSupp, TooSmall, ServerFault, Jukebox, HashNotFound, FdInUse, BadFd, TooManyTemps, Conflict}
 use Rattle.xdr_codec.specs.declared.answer.Answer.{Answer}
 use Rattle.xdr_codec.specs.declared.answer.Answer.TheVariants.{Done, Failed}
 use Rattle.xdr_codec.specs.Status.{status_number, statuses}
@@ -27,7 +27,7 @@ outcome_of n = named outcome_number n outcomes
 
 pub outcome_home : (o : Option Status) → outcome_of (outcome_number o) ≡ Some o
 outcome_home None = refl
-outcome_home (Some s) = elim s as (λ s. outcome_of (status_number s) ≡ Some (Some s)) [ Perm ↦ refl | NoEnt ↦ refl | Io ↦ refl | Acces ↦ refl | Exist ↦ refl | NotDir ↦ refl | IsDir ↦ refl | Inval ↦ refl | FBig ↦ refl | NoSpc ↦ refl | NameTooLong ↦ refl | NotEmpty ↦ refl | Stale ↦ refl | BadHandle ↦ refl | BadCookie ↦ refl | NotSupp ↦ refl | TooSmall ↦ refl | ServerFault ↦ refl | Jukebox ↦ refl | HashNotFound ↦ refl | FdInUse ↦ refl | BadFd ↦ refl | TooManyTemps ↦ refl ]
+outcome_home (Some s) = elim s as (λ s. outcome_of (status_number s) ≡ Some (Some s)) [ Perm ↦ refl | NoEnt ↦ refl | Io ↦ refl | Acces ↦ refl | Exist ↦ refl | NotDir ↦ refl | IsDir ↦ refl | Inval ↦ refl | FBig ↦ refl | NoSpc ↦ refl | NameTooLong ↦ refl | NotEmpty ↦ refl | Stale ↦ refl | BadHandle ↦ refl | BadCookie ↦ refl | NotSupp ↦ refl | TooSmall ↦ refl | ServerFault ↦ refl | Jukebox ↦ refl | HashNotFound ↦ refl | FdInUse ↦ refl | BadFd ↦ refl | TooManyTemps ↦ refl | Conflict ↦ refl ]
 
 pub outcome_there : (n : ℕ) (o : Option Status) → outcome_of n ≡ Some o → outcome_number o ≡ n
 outcome_there n o e = named_there outcome_number n outcomes o e
@@ -64,7 +64,7 @@ answer_parts f g = tagged outcome outcome_form (body_form f g) (body_one f g)
 pub outcome_fits : (o : Option Status) → outcome_form.Fits o
 unfolding outcome_form u32_form
 outcome_fits None = lit< tt
-outcome_fits (Some s) = elim s as (λ s. status_number s < 2 ^ 32) [ Perm ↦ lit< tt | NoEnt ↦ lit< tt | Io ↦ lit< tt | Acces ↦ lit< tt | Exist ↦ lit< tt | NotDir ↦ lit< tt | IsDir ↦ lit< tt | Inval ↦ lit< tt | FBig ↦ lit< tt | NoSpc ↦ lit< tt | NameTooLong ↦ lit< tt | NotEmpty ↦ lit< tt | Stale ↦ lit< tt | BadHandle ↦ lit< tt | BadCookie ↦ lit< tt | NotSupp ↦ lit< tt | TooSmall ↦ lit< tt | ServerFault ↦ lit< tt | Jukebox ↦ lit< tt | HashNotFound ↦ lit< tt | FdInUse ↦ lit< tt | BadFd ↦ lit< tt | TooManyTemps ↦ lit< tt ]
+outcome_fits (Some s) = elim s as (λ s. status_number s < 2 ^ 32) [ Perm ↦ lit< tt | NoEnt ↦ lit< tt | Io ↦ lit< tt | Acces ↦ lit< tt | Exist ↦ lit< tt | NotDir ↦ lit< tt | IsDir ↦ lit< tt | Inval ↦ lit< tt | FBig ↦ lit< tt | NoSpc ↦ lit< tt | NameTooLong ↦ lit< tt | NotEmpty ↦ lit< tt | Stale ↦ lit< tt | BadHandle ↦ lit< tt | BadCookie ↦ lit< tt | NotSupp ↦ lit< tt | TooSmall ↦ lit< tt | ServerFault ↦ lit< tt | Jukebox ↦ lit< tt | HashNotFound ↦ lit< tt | FdInUse ↦ lit< tt | BadFd ↦ lit< tt | TooManyTemps ↦ lit< tt | Conflict ↦ lit< tt ]
 
 pub answer_same : {T F : Type 0} (f : Format T) (g : Format F) (a : Answer T F) → (answer_parts f g).spell a ≡ answer_spell f g a
 answer_same f g (Done x) = refl

@@ -2,7 +2,7 @@
 use Rattle.std.specs.Prelude.{ℕ, List, [], ◌∷◌, Option}
 use Rattle.xdr_codec.specs.Tables.{named}
 use Rattle.xdr_codec.specs.declared.status.Status.{Status}
-use Rattle.xdr_codec.specs.declared.status.Status.TheVariants.{Perm, NoEnt, Io, Acces, Exist, NotDir, IsDir, Inval, FBig, NoSpc, NameTooLong, NotEmpty, Stale, BadHandle, BadCookie, NotSupp, TooSmall, ServerFault, Jukebox, HashNotFound, FdInUse, BadFd, TooManyTemps}
+use Rattle.xdr_codec.specs.declared.status.Status.TheVariants.{Perm, NoEnt, Io, Acces, Exist, NotDir, IsDir, Inval, FBig, NoSpc, NameTooLong, NotEmpty, Stale, BadHandle, BadCookie, NotSupp, TooSmall, ServerFault, Jukebox, HashNotFound, FdInUse, BadFd, TooManyTemps, Conflict}
 
 abbrev pub status_number : Status → ℕ
 status_number Perm = 1
@@ -28,9 +28,10 @@ status_number HashNotFound = 20001
 status_number FdInUse = 20002
 status_number BadFd = 20003
 status_number TooManyTemps = 20004
+status_number Conflict = 20005
 
 abbrev pub statuses : List Status
-statuses = Perm ∷ NoEnt ∷ Io ∷ Acces ∷ Exist ∷ NotDir ∷ IsDir ∷ Inval ∷ FBig ∷ NoSpc ∷ NameTooLong ∷ NotEmpty ∷ Stale ∷ BadHandle ∷ BadCookie ∷ NotSupp ∷ TooSmall ∷ ServerFault ∷ Jukebox ∷ HashNotFound ∷ FdInUse ∷ BadFd ∷ TooManyTemps ∷ []
+statuses = Perm ∷ NoEnt ∷ Io ∷ Acces ∷ Exist ∷ NotDir ∷ IsDir ∷ Inval ∷ FBig ∷ NoSpc ∷ NameTooLong ∷ NotEmpty ∷ Stale ∷ BadHandle ∷ BadCookie ∷ NotSupp ∷ TooSmall ∷ ServerFault ∷ Jukebox ∷ HashNotFound ∷ FdInUse ∷ BadFd ∷ TooManyTemps ∷ Conflict ∷ []
 
 abbrev pub status_of : ℕ → Option Status
 status_of n = named status_number n statuses

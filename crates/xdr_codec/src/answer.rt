@@ -31,9 +31,9 @@ impl<T: Drop, F: Drop> Drop for Answer<T, F> {
     }
 }
 
-/// Whether the call was done, or why not.
+/// Whether the call was done, or why not. After an `Err` the reader is left inside the number.
 #[tactic(auto, unfolding(crate::specs::Answers::outcome_form))]
-fn read_outcome(reader: &mut Reader) -> Result<Option<Status>, ReadError>
+pub fn read_outcome(reader: &mut Reader) -> Result<Option<Status>, ReadError>
     ensures { Gives result reader.new (outcome_form.read reader.old) }
 {
     let at = reader.at();
@@ -47,8 +47,9 @@ fn read_outcome(reader: &mut Reader) -> Result<Option<Status>, ReadError>
     }
 }
 
+/// Writes whether the call was done, or why not; only memory can be wanting.
 #[tactic(auto, unfolding(crate::specs::Answers::outcome_form))]
-fn write_outcome(writer: &mut Writer, outcome: Option<Status>) -> Result<(), AllocError>
+pub fn write_outcome(writer: &mut Writer, outcome: Option<Status>) -> Result<(), AllocError>
     ensures { OnOk result (writer.new ≡ writer.old ++ outcome_form.spell outcome) }
 {
     match outcome {

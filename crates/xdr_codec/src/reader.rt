@@ -204,6 +204,24 @@ impl<'a> Reader<'a> {
         Ok(digest)
     }
 
+    /// Thirty-two bytes, as `fixed` reads them. Takes no memory.
+    #[tactic(auto, unfolding(crate::specs::Xdr::fixed_form))]
+    pub fn long_digest(&mut self) -> Result<[u8; 32], ReadError>
+        ensures gives { Gives result self.new ((fixed_form 32).read self.old) }
+        ensures stays { OnErr result (self.new ≡ self.old) }
+        ensures no_memory { ¬ IsErrOf result ReadError.Memory }
+    {
+        if self.rest.len() < 32 {
+            return Err(ReadError::Fault(Fault::Short { at: self.at }));
+        }
+        let (front, rest) = self.rest.split_at(32);
+        let mut digest = [0; 32];
+        digest.copy_from_slice(front);
+        self.rest = rest;
+        self.at += 32;
+        Ok(digest)
+    }
+
     /// At most `max` bytes behind their number, else `TooLong`, and zeros up to a multiple of four,
     /// else `BadFill` (RFC 4506, section 4.10); `Short` where fewer are left. The bytes are copied:
     /// `Memory` where there is none for them. After an `Err`, `Memory` too, the reader is where it

@@ -55,6 +55,8 @@ pub enum Status {
     BadFd,
     /// 20004, of LBFS: the session has too many temporary files.
     TooManyTemps,
+    /// 20005, of LBFS from version 2 on: the file isn't in the version that is to be replaced.
+    Conflict,
 }
 
 /// The number that stands for the status.
@@ -85,6 +87,7 @@ pub fn number(status: Status) -> u32
         Status::FdInUse => 20002,
         Status::BadFd => 20003,
         Status::TooManyTemps => 20004,
+        Status::Conflict => 20005,
     }
 }
 
@@ -116,6 +119,7 @@ pub fn from_number(number: u32) -> Option<Status>
         20002 => Some(Status::FdInUse),
         20003 => Some(Status::BadFd),
         20004 => Some(Status::TooManyTemps),
+        20005 => Some(Status::Conflict),
         _ => None,
     }
 }
