@@ -21,8 +21,16 @@ STATUSES = [1, 2, 5, 13, 17, 20, 21, 22, 27, 28, 63, 66, 70]
 STATUSES += [10001, 10003, 10004, 10005, 10006, 10008, 20001, 20002, 20003, 20004]
 
 
+# the root's handle
+ROOT = b"LB01" + bytes(4) + (1).to_bytes(8, "big")
+
+
 def sha1(text):
     return hashlib.sha1(text).digest()
+
+
+def sha256(text):
+    return hashlib.sha256(text).digest()
 
 
 class Packer(Told):
@@ -43,7 +51,7 @@ class Packer(Told):
         return self
 
     def digest(self, value):
-        self.pack_fopaque(20, value)
+        self.pack_fopaque(len(value), value)
         return self
 
     def flag(self, value):
@@ -87,8 +95,26 @@ def packed():
             yield f"results lbfs {procedure}", xdr().u32(status)
 
 
+def packed_later():
+    """Rows of later versions: a base from 2 on, SHA-256 from 3 on, LOOKLEASE from 4 on."""
+    xdr = Packer
+
+    yield "args lbfs2 6", xdr().u32(3).opaque(FILE).u64(4098).u64(7)
+    for version in range(1, 5):
+        yield f"results {'lbfs' + str(version) if version > 1 else 'lbfs'} 6", xdr().u32(20005)
+    yield "args lbfs2 5", xdr().u32(3).u64(2048).u32(2050).digest(sha1(b"abc"))
+    yield "args lbfs3 5", xdr().u32(3).u64(2048).u32(2050).digest(sha256(b"abc"))
+    pairs = [(sha256(b"abc"), 2048), (sha256(b""), 2050)]
+    yield "results lbfs3 2", xdr().u32(0).u64(7).u32(0).u64(4098).pairs(pairs).flag(True)
+    yield "args lbfs4 7", xdr().opaque(ROOT).opaque(b"ab")
+    yield "results lbfs4 7", xdr().u32(0).u64(9).u32(60000).flag(True).opaque(FILE).u32(1)
+    yield "results lbfs4 7", xdr().u32(0).u64(9).u32(0).flag(False)
+    for status in STATUSES + [20005]:
+        yield "results lbfs4 7", xdr().u32(status)
+
+
 def main():
-    for what, packer in packed():
+    for what, packer in [*packed(), *packed_later()]:
         told = "".join(" " + part for part in packer.told)
         text = packer.get_buffer()
         print(f"0 {what} : {words(text)}".rstrip() + f" =>{told}; same")

@@ -1,3 +1,4 @@
+pub mod Version
 pub mod Calls
 pub mod Lb
 pub mod Back

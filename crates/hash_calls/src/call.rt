@@ -1,17 +1,26 @@
-//! The arguments and the answer of each call. `specs/Calls.antt` states their forms.
+//! The arguments and the answer of each call. `specs/Calls.antt` states their forms, some of which
+//! hang on the version of LBFS.
 
 ghost use Rattle.std.specs.Prelude.{◌≡◌, ◌++◌, OnOk};
 
-use lb_base::items::{Bytes, Items};
-use limits::{PAIRS_MOST, PIECE_MOST};
+use digests::Dig;
+use lb_base::items::{Bytes, Items, Name};
 use std::alloc::{AllocError, Global};
-use xdr_codec::attr::Attr;
-use xdr_codec::digest::Digest;
+use xdr_codec::attr::{Attr, Kind};
 use xdr_codec::fault::ReadError;
 use xdr_codec::handle::Handle;
-use xdr_codec::item::{Item, read_counted, write_counted};
+use xdr_codec::item::Item;
 use xdr_codec::reader::Reader;
 use xdr_codec::writer::Writer;
+
+/// The file that a GETLEASE is about.
+#[derive(Clone, Copy, Drop)]
+pub struct LeaseOn {
+    /// The version of LBFS that the call is of, as its header tells it.
+    pub lbfs: u32,
+    /// The file.
+    pub handle: Handle,
+}
 
 /// What a GETLEASE gave.
 #[derive(Clone, Copy, Drop)]
@@ -27,6 +36,8 @@ pub struct Leased {
 /// What a GETHASH asks for: the chunks of a file that meet `count` bytes from `offset` on.
 #[derive(Clone, Copy, Drop)]
 pub struct HashRange {
+    /// The version of LBFS that the call is of, which says by which digests chunks are named.
+    pub lbfs: u32,
     /// The file.
     pub handle: Handle,
     /// The place of the range's first byte in the file.
@@ -38,8 +49,8 @@ pub struct HashRange {
 /// A chunk of a file.
 #[derive(Clone, Copy, Drop)]
 pub struct Pair {
-    /// The SHA-1 digest of the chunk's bytes.
-    pub digest: Digest,
+    /// The digest of the chunk's bytes: by SHA-1, and from version 3 of LBFS on by SHA-256.
+    pub digest: Dig,
     /// How many bytes the chunk has.
     pub size: u32,
 }
@@ -62,6 +73,8 @@ pub struct Hashes {
 /// What a MKTMPFILE asks for: a temporary file with nothing in it.
 #[derive(Clone, Copy, Drop)]
 pub struct NewTemp {
+    /// The version of LBFS that the call is of.
+    pub lbfs: u32,
     /// The number under which the asker will name the temporary file.
     pub fd: u32,
     /// A file that is there.
@@ -71,6 +84,8 @@ pub struct NewTemp {
 /// What a TMPWRITE asks for: bytes put into a temporary file.
 #[derive(Drop)]
 pub struct TempPiece {
+    /// The version of LBFS that the call is of.
+    pub lbfs: u32,
     /// The number of the temporary file.
     pub fd: u32,
     /// The place of the first byte in the temporary file.
@@ -83,25 +98,31 @@ pub struct TempPiece {
 /// the other end knows such bytes.
 #[derive(Clone, Copy, Drop)]
 pub struct CondPiece {
+    /// The version of LBFS that the call is of.
+    pub lbfs: u32,
     /// The number of the temporary file.
     pub fd: u32,
     /// The place of the first byte in the temporary file.
     pub offset: u64,
     /// How many bytes.
     pub count: u32,
-    /// The SHA-1 digest of the bytes.
-    pub digest: Digest,
+    /// The digest of the bytes: by SHA-1, and from version 3 of LBFS on by SHA-256.
+    pub digest: Dig,
 }
 
 /// What a COMMITTMP asks for: a file's content replaced by that of a temporary file.
 #[derive(Clone, Copy, Drop)]
 pub struct Commit {
+    /// The version of LBFS that the call is of.
+    pub lbfs: u32,
     /// The number of the temporary file, which ends.
     pub fd: u32,
     /// The file that gets the content.
     pub handle: Handle,
     /// How many bytes the temporary file is to have.
     pub size: u64,
+    /// From version 2 of LBFS on, the version of the file that is to be replaced.
+    pub base: Option<u64>,
 }
 
 /// What a COMMITTMP gave.
@@ -111,6 +132,37 @@ pub struct Committed {
     pub version: u64,
     /// How long the lease holds, in milliseconds; 0 where there is none.
     pub term: u32,
+}
+
+/// The name that a LOOKLEASE asks for.
+#[derive(Drop)]
+pub struct LookOn {
+    /// The version of LBFS that the call is of, which is 4 or more.
+    pub lbfs: u32,
+    /// The directory.
+    pub dir: Handle,
+    /// The name: any bytes, fewer than 2^32.
+    pub name: Name,
+}
+
+/// What a name of a directory stands for.
+#[derive(Clone, Copy, Drop)]
+pub struct Entry {
+    /// Its handle.
+    pub handle: Handle,
+    /// What it is.
+    pub kind: Kind,
+}
+
+/// What a LOOKLEASE gave.
+#[derive(Clone, Copy, Drop)]
+pub struct Looked {
+    /// The directory's version.
+    pub version: u64,
+    /// How long the lease on the directory holds, in milliseconds; 0 where there is none.
+    pub term: u32,
+    /// What the name stands for, if it stands for anything.
+    pub entry: Option<Entry>,
 }
 
 #[tactic(auto, unfolding(crate::specs::Calls::leased_form))]
@@ -135,160 +187,6 @@ impl Item for Leased {
     }
 }
 
-#[tactic(auto, unfolding(crate::specs::Calls::range_form))]
-impl Item for HashRange {
-    ghost use Rattle.hash_calls.specs.Calls.{range_form};
-
-    ghost form = { range_form };
-
-    ghost short = { λ _. Unit {0} };
-
-    fn read(alloc: Global, reader: &mut Reader) -> Result<HashRange, ReadError> {
-        let (handle, (offset, count)) = Item::read(alloc, reader)?;
-        Ok(HashRange {
-            handle,
-            offset,
-            count,
-        })
-    }
-
-    fn write(&self, writer: &mut Writer) -> Result<(), AllocError> {
-        (self.handle, (self.offset, self.count)).write(writer)
-    }
-}
-
-#[tactic(auto, unfolding(crate::specs::Calls::pair_form))]
-impl Item for Pair {
-    ghost use Rattle.hash_calls.specs.Calls.{pair_form};
-
-    ghost form = { pair_form };
-
-    ghost short = { λ _. Unit {0} };
-
-    fn read(alloc: Global, reader: &mut Reader) -> Result<Pair, ReadError> {
-        let (digest, size) = Item::read(alloc, reader)?;
-        Ok(Pair { digest, size })
-    }
-
-    fn write(&self, writer: &mut Writer) -> Result<(), AllocError> {
-        (self.digest, self.size).write(writer)
-    }
-}
-
-#[tactic(auto, unfolding(crate::specs::Calls::hashes_form))]
-impl Item for Hashes {
-    ghost use Rattle.std.specs.Prelude.{length, ◌≤◌};
-    ghost use Rattle.limits.specs.declared.TheConstants.{PAIRS_MOST};
-    ghost use Rattle.hash_calls.specs.Calls.{hashes_form};
-
-    ghost form = { hashes_form };
-
-    ghost short = { λ h. length h.pairs ≤ PAIRS_MOST };
-
-    fn read(alloc: Global, reader: &mut Reader) -> Result<Hashes, ReadError> {
-        let version = reader.u64()?;
-        let term = reader.u32()?;
-        let size = reader.u64()?;
-        let pairs = read_counted(alloc, PAIRS_MOST, reader)?;
-        let eof = reader.bool()?;
-        Ok(Hashes {
-            version,
-            term,
-            size,
-            pairs,
-            eof,
-        })
-    }
-
-    fn write(&self, writer: &mut Writer) -> Result<(), AllocError> {
-        (self.version, (self.term, self.size)).write(writer)?;
-        write_counted(writer, self.pairs.as_slice())?;
-        writer.bool(self.eof)
-    }
-}
-
-#[tactic(auto, unfolding(crate::specs::Calls::new_temp_form))]
-impl Item for NewTemp {
-    ghost use Rattle.hash_calls.specs.Calls.{new_temp_form};
-
-    ghost form = { new_temp_form };
-
-    ghost short = { λ _. Unit {0} };
-
-    fn read(alloc: Global, reader: &mut Reader) -> Result<NewTemp, ReadError> {
-        let (fd, handle) = Item::read(alloc, reader)?;
-        Ok(NewTemp { fd, handle })
-    }
-
-    fn write(&self, writer: &mut Writer) -> Result<(), AllocError> {
-        (self.fd, self.handle).write(writer)
-    }
-}
-
-#[tactic(auto, unfolding(crate::specs::Calls::temp_piece_form))]
-impl Item for TempPiece {
-    ghost use Rattle.std.specs.Prelude.{length, ◌≤◌};
-    ghost use Rattle.limits.specs.declared.TheConstants.{PIECE_MOST};
-    ghost use Rattle.hash_calls.specs.Calls.{temp_piece_form};
-
-    ghost form = { temp_piece_form };
-
-    ghost short = { λ p. length p.bytes ≤ PIECE_MOST };
-
-    fn read(alloc: Global, reader: &mut Reader) -> Result<TempPiece, ReadError> {
-        let fd = reader.u32()?;
-        let offset = reader.u64()?;
-        let bytes = reader.opaque(alloc, PIECE_MOST)?;
-        Ok(TempPiece { fd, offset, bytes })
-    }
-
-    fn write(&self, writer: &mut Writer) -> Result<(), AllocError> {
-        (self.fd, self.offset).write(writer)?;
-        writer.opaque(self.bytes.as_slice())
-    }
-}
-
-#[tactic(auto, unfolding(crate::specs::Calls::cond_piece_form))]
-impl Item for CondPiece {
-    ghost use Rattle.hash_calls.specs.Calls.{cond_piece_form};
-
-    ghost form = { cond_piece_form };
-
-    ghost short = { λ _. Unit {0} };
-
-    fn read(alloc: Global, reader: &mut Reader) -> Result<CondPiece, ReadError> {
-        let (fd, (offset, (count, digest))) = Item::read(alloc, reader)?;
-        Ok(CondPiece {
-            fd,
-            offset,
-            count,
-            digest,
-        })
-    }
-
-    fn write(&self, writer: &mut Writer) -> Result<(), AllocError> {
-        (self.fd, (self.offset, (self.count, self.digest))).write(writer)
-    }
-}
-
-#[tactic(auto, unfolding(crate::specs::Calls::commit_form))]
-impl Item for Commit {
-    ghost use Rattle.hash_calls.specs.Calls.{commit_form};
-
-    ghost form = { commit_form };
-
-    ghost short = { λ _. Unit {0} };
-
-    fn read(alloc: Global, reader: &mut Reader) -> Result<Commit, ReadError> {
-        let (fd, (handle, size)) = Item::read(alloc, reader)?;
-        Ok(Commit { fd, handle, size })
-    }
-
-    fn write(&self, writer: &mut Writer) -> Result<(), AllocError> {
-        (self.fd, (self.handle, self.size)).write(writer)
-    }
-}
-
 #[tactic(auto, unfolding(crate::specs::Calls::committed_form))]
 impl Item for Committed {
     ghost use Rattle.hash_calls.specs.Calls.{committed_form};
@@ -304,5 +202,45 @@ impl Item for Committed {
 
     fn write(&self, writer: &mut Writer) -> Result<(), AllocError> {
         (self.version, self.term).write(writer)
+    }
+}
+
+#[tactic(auto, unfolding(crate::specs::Calls::entry_form))]
+impl Item for Entry {
+    ghost use Rattle.hash_calls.specs.Calls.{entry_form};
+
+    ghost form = { entry_form };
+
+    ghost short = { λ _. Unit {0} };
+
+    fn read(alloc: Global, reader: &mut Reader) -> Result<Entry, ReadError> {
+        let (handle, kind) = Item::read(alloc, reader)?;
+        Ok(Entry { handle, kind })
+    }
+
+    fn write(&self, writer: &mut Writer) -> Result<(), AllocError> {
+        (self.handle, self.kind).write(writer)
+    }
+}
+
+#[tactic(auto, unfolding(crate::specs::Calls::looked_form))]
+impl Item for Looked {
+    ghost use Rattle.hash_calls.specs.Calls.{looked_form};
+
+    ghost form = { looked_form };
+
+    ghost short = { λ _. Unit {0} };
+
+    fn read(alloc: Global, reader: &mut Reader) -> Result<Looked, ReadError> {
+        let (version, (term, entry)) = Item::read(alloc, reader)?;
+        Ok(Looked {
+            version,
+            term,
+            entry,
+        })
+    }
+
+    fn write(&self, writer: &mut Writer) -> Result<(), AllocError> {
+        (self.version, (self.term, self.entry)).write(writer)
     }
 }

@@ -3,7 +3,10 @@
 //! it.
 #![tactic(auto)]
 
+pub mod asking;
 pub mod back;
 pub mod call;
+pub mod hashing;
 pub mod lb;
 pub mod message;
+pub mod version;

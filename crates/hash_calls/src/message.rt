@@ -2,10 +2,14 @@
 //! procedures.
 
 ghost use Rattle.std.specs.Prelude.{◌≡◌};
-ghost use Rattle.hash_calls.specs.Lb.{proc_number, proc_of, lb_proc};
+ghost use Rattle.hash_calls.specs.Lb.{proc_number, proc_of, proc_in, since, lb_proc, lbfs_of};
 ghost use Rattle.hash_calls.specs.Back.{proc_number as back_number, proc_of as back_of, back_proc};
 
-use crate::call::{Commit, Committed, CondPiece, HashRange, Hashes, Leased, NewTemp, TempPiece};
+use crate::call::{
+    Commit, Committed, CondPiece, HashRange, Hashes, LeaseOn, Leased, LookOn, Looked, NewTemp,
+    TempPiece,
+};
+use crate::version::LOOKLEASE_SINCE;
 use xdr_codec::answer::Answer;
 use xdr_codec::handle::Handle;
 
@@ -26,6 +30,17 @@ pub enum LbProc {
     CondWrite,
     /// Replaces a file's content by a temporary file's.
     CommitTmp,
+    /// Gives what a name of a directory stands for, and a lease on the directory.
+    LookLease,
+}
+
+/// A procedure in a version of LBFS.
+#[derive(Clone, Copy, Drop)]
+pub struct LbIn {
+    /// The version.
+    pub lbfs: u32,
+    /// The procedure.
+    pub procedure: LbProc,
 }
 
 impl LbProc {
@@ -41,6 +56,7 @@ impl LbProc {
             LbProc::TmpWrite => 4,
             LbProc::CondWrite => 5,
             LbProc::CommitTmp => 6,
+            LbProc::LookLease => 7,
         }
     }
 
@@ -56,19 +72,47 @@ impl LbProc {
             4 => Some(LbProc::TmpWrite),
             5 => Some(LbProc::CondWrite),
             6 => Some(LbProc::CommitTmp),
+            7 => Some(LbProc::LookLease),
             _ => None,
+        }
+    }
+
+    /// The first version of LBFS that has the procedure.
+    fn since(self) -> u32
+        ensures { result ≡ since self }
+    {
+        match self {
+            LbProc::LookLease => LOOKLEASE_SINCE,
+            _ => 1,
+        }
+    }
+
+    /// The procedure that has the number in a version of LBFS.
+    pub fn of_number_in(lbfs: u32, number: u32) -> Option<LbProc>
+        ensures { result ≡ proc_in lbfs number }
+    {
+        match LbProc::of_number(number) {
+            None => None,
+            Some(procedure) => {
+                if procedure.since() <= lbfs {
+                    Some(procedure)
+                } else {
+                    None
+                }
+            }
         }
     }
 }
 
-/// The arguments of a call of LBFS, or what it gave: a failure answer is the status alone.
+/// The arguments of a call of LBFS with the version that it is of, or what a call gave: a failure
+/// answer is the status alone.
 pub enum Lb {
-    /// NULL has no arguments.
-    Null,
+    /// NULL has no arguments. The number is the version.
+    Null(u32),
     /// NULL gives nothing, and no status.
     NullAnswer,
     /// The file that a GETLEASE is about.
-    GetLease(Handle),
+    GetLease(LeaseOn),
     /// What a GETLEASE gave.
     GetLeaseAnswer(Answer<Leased, ()>),
     /// The part of a file that a GETHASH is about.
@@ -91,6 +135,10 @@ pub enum Lb {
     CommitTmp(Commit),
     /// What a COMMITTMP gave.
     CommitTmpAnswer(Answer<Committed, ()>),
+    /// The name that a LOOKLEASE is about.
+    LookLease(LookOn),
+    /// What a LOOKLEASE gave.
+    LookLeaseAnswer(Answer<Looked, ()>),
 }
 
 // Written by hand, it is proved here alone; derived, each crate above would prove how each part is
@@ -98,14 +146,16 @@ pub enum Lb {
 impl Drop for Lb {
     fn drop(self) {
         match self {
-            Lb::Null | Lb::NullAnswer | Lb::GetLease(_) | Lb::GetHash(_) => (),
+            Lb::Null(_) | Lb::NullAnswer | Lb::GetLease(_) | Lb::GetHash(_) => (),
             Lb::MkTmpFile(_) | Lb::CondWrite(_) | Lb::CommitTmp(_) => (),
             Lb::TmpWrite(piece) => drop(piece),
+            Lb::LookLease(look) => drop(look),
             Lb::GetLeaseAnswer(answer) => drop(answer),
             Lb::GetHashAnswer(answer) => drop(answer),
             Lb::MkTmpFileAnswer(answer) | Lb::TmpWriteAnswer(answer) => drop(answer),
             Lb::CondWriteAnswer(answer) => drop(answer),
             Lb::CommitTmpAnswer(answer) => drop(answer),
+            Lb::LookLeaseAnswer(answer) => drop(answer),
         }
     }
 }
@@ -116,13 +166,31 @@ impl Lb {
         ensures { result ≡ lb_proc self.now }
     {
         match self {
-            Lb::Null | Lb::NullAnswer => LbProc::Null,
+            Lb::Null(_) | Lb::NullAnswer => LbProc::Null,
             Lb::GetLease(_) | Lb::GetLeaseAnswer(_) => LbProc::GetLease,
             Lb::GetHash(_) | Lb::GetHashAnswer(_) => LbProc::GetHash,
             Lb::MkTmpFile(_) | Lb::MkTmpFileAnswer(_) => LbProc::MkTmpFile,
             Lb::TmpWrite(_) | Lb::TmpWriteAnswer(_) => LbProc::TmpWrite,
             Lb::CondWrite(_) | Lb::CondWriteAnswer(_) => LbProc::CondWrite,
             Lb::CommitTmp(_) | Lb::CommitTmpAnswer(_) => LbProc::CommitTmp,
+            Lb::LookLease(_) | Lb::LookLeaseAnswer(_) => LbProc::LookLease,
+        }
+    }
+
+    /// The version that a call is of; of an answer 0.
+    pub fn lbfs(&self) -> u32
+        ensures { result ≡ lbfs_of self.now }
+    {
+        match self {
+            Lb::Null(lbfs) => *lbfs,
+            Lb::GetLease(call) => call.lbfs,
+            Lb::GetHash(call) => call.lbfs,
+            Lb::MkTmpFile(call) => call.lbfs,
+            Lb::TmpWrite(call) => call.lbfs,
+            Lb::CondWrite(call) => call.lbfs,
+            Lb::CommitTmp(call) => call.lbfs,
+            Lb::LookLease(call) => call.lbfs,
+            _ => 0,
         }
     }
 }
