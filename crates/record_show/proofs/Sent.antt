@@ -28,7 +28,7 @@ use Rattle.wire.specs.declared.fault.WireFault.TheVariants.{NotRpc, UnknownXid}
 use Rattle.wire.proofs.Again.{front_fits, no_auth_fits, spell_again}
 use Rattle.record_show.specs.Line.{any_call, answer_line, read_line, line_of}
 use Rattle.record_show.specs.Show.{record_text, end_text, parts_text, shown}
-use Rattle.record_show.specs.Sent.{sent_stat, sent_numbers, sent_line}
+use Rattle.record_show.specs.Sent.{sent_stat, sent_numbers, sent_line, is_known}
 use Rattle.record_show.specs.Stat.{accept_number, accept_stat_form, reject_number, reject_stat_form, stat_form, answer_form}
 use Rattle.record_show.specs.declared.line.Line.TheVariants.{Answer}
 use Rattle.record_show.specs.declared.stat.AcceptStat.{AcceptStat}
@@ -151,14 +151,14 @@ refusal_fits refusal.SystemErr = accepted_fits no_auth accept.SystemErr no_auth_
 refusal_fits (refusal.RpcMismatch low high) = denied_fits reject.RpcMismatch
 refusal_fits (refusal.AuthError why) = denied_fits reject.AuthError
 
-pub sent_shown : (m : Message) → IsSpelled m → line_of (message_spell m) ≡ sent_line m
-sent_shown (message.Call xid b) spelled =
-    ap (λ (r : Result Message WireFault). read_line r (answer_line (answer_form.read (start (message_spell (message.Call xid b)))))) (spell_again any_call (message.Call xid b) spelled (any_served (program_of b)))
-sent_shown (message.Answer xid b) spelled =
+pub sent_shown : (m : Message) → IsSpelled m → is_known m ≡ true → line_of (message_spell m) ≡ sent_line m
+sent_shown (message.Call xid b) spelled known =
+    ap (λ (r : Result Message WireFault). read_line r (answer_line (answer_form.read (start (message_spell (message.Call xid b)))))) (spell_again any_call (message.Call xid b) spelled (any_served (program_of b), known))
+sent_shown (message.Answer xid b) spelled known =
     ap (λ (head : List ℕ). line_of (front_form.spell (answers xid) ++ (head ++ body_spell b))) (success_then no_auth)
     ∙ answered xid (Accepted no_auth accept.Success) (body_spell b) spelled.0 (accepted_fits no_auth accept.Success no_auth_fits)
-sent_shown (message.Refuse xid why) spelled =
+sent_shown (message.Refuse xid why) spelled known =
     ap (λ (head : List ℕ). line_of (front_form.spell (answers xid) ++ head)) (refusal_then why)
     ∙ answered xid (sent_stat why) (numbers_spell why) spelled.0 (refusal_fits why)
     ∙ ap (λ (n : ℕ). Answer xid (sent_stat why) n) (numbers_long why)
-sent_shown (message.Unfit xid why) spelled = absurd spelled
+sent_shown (message.Unfit xid why) spelled known = absurd spelled

@@ -16,12 +16,13 @@ use Rattle.record_show.specs.Stat.{answer_form}
 use Rattle.record_show.specs.declared.line.Line.{Line}
 use Rattle.record_show.specs.declared.line.Line.TheVariants.{Call, Unfit, Answer, Bad}
 use Rattle.record_show.specs.declared.stat.Stat.{Stat}
+use Rattle.wire.specs.declared.message.TheConstants.{LBFS_SERVED}
 
 -- ---- what is shown of a record
 
 -- every program's calls, and no answer
 abbrev pub any_call : Waiting
-any_call = record { side = Either; calls = [] }
+any_call = record { side = Either; lbfs = LBFS_SERVED; calls = [] }
 
 -- an answer is looked at as far as its accept_stat or reject_stat
 abbrev pub answer_line : Result ((Front × Stat) × Input) Fault → Line

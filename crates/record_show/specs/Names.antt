@@ -45,6 +45,7 @@ lb_name lb.MkTmpFile = codes "MKTMPFILE"
 lb_name lb.TmpWrite = codes "TMPWRITE"
 lb_name lb.CondWrite = codes "CONDWRITE"
 lb_name lb.CommitTmp = codes "COMMITTMP"
+lb_name lb.LookLease = codes "LOOKLEASE"
 
 abbrev pub back_name : BackProc → List ℕ
 back_name back.Null = codes "NULL"

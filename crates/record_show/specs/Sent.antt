@@ -1,6 +1,8 @@
 -- What is shown of a message that is sent.
-use Rattle.std.specs.Prelude.{ℕ, length}
+use Rattle.std.specs.Prelude.{ℕ, length, Bool, true}
 use Rattle.wire.specs.Message.{program_of, body_spell, no_auth}
+use Rattle.wire.specs.Parse.{is_in}
+use Rattle.wire.specs.declared.message.TheConstants.{LBFS_SERVED}
 use Rattle.wire.specs.declared.message.Message.{Message}
 use Rattle.wire.specs.declared.message.Message.TheVariants as message
 use Rattle.wire.specs.declared.message.RpcRefusal.{RpcRefusal}
@@ -37,3 +39,8 @@ sent_line (message.Call xid b) = Call xid (program_of b) (length (body_spell b))
 sent_line (message.Answer xid b) = Answer xid (Accepted no_auth accept.Success) (length (body_spell b))
 sent_line (message.Refuse xid why) = Answer xid (sent_stat why) (sent_numbers why)
 sent_line (message.Unfit xid why) = Unfit xid why
+
+-- a call of LBFS is known in the versions that are served; all else is
+abbrev pub is_known : Message → Bool
+is_known (message.Call xid b) = is_in LBFS_SERVED b
+is_known m = true

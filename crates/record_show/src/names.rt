@@ -51,6 +51,7 @@ fn lb_name(procedure: LbProc) -> &'static str
         LbProc::TmpWrite => "TMPWRITE",
         LbProc::CondWrite => "CONDWRITE",
         LbProc::CommitTmp => "COMMITTMP",
+        LbProc::LookLease => "LOOKLEASE",
     }
 }
 

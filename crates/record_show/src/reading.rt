@@ -15,7 +15,7 @@ use lb_base::items::Items;
 use rpc_record::messages::Call;
 use std::alloc::{AllocError, Global};
 use wire::fault::{WireError, WireFault, place};
-use wire::message::{Message, Program, RpcRefusal, Side, Waiting};
+use wire::message::{LBFS_SERVED, Message, Program, RpcRefusal, Side, Waiting};
 use wire::parse::parse;
 use xdr_codec::fault::ReadError;
 use xdr_codec::reader::Reader;
@@ -89,6 +89,7 @@ fn said_in(alloc: Global, contents: &[u8]) -> Said
 {
     let expected = Waiting {
         side: Side::Either,
+        lbfs: LBFS_SERVED,
         calls: Items::new(alloc),
     };
     let read = parse(alloc, contents, &expected);

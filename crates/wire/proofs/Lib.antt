@@ -1,6 +1,6 @@
+pub mod Named
 pub mod Again
 pub mod Said
-pub mod Named
 pub mod Refusals
 pub mod Bounds
 pub mod NfsSizes

@@ -10,9 +10,9 @@ use Rattle.rpc_record.specs.declared.header.Direction.{Direction}
 use Rattle.rpc_record.specs.declared.header.Direction.TheVariants as direction
 use Rattle.rpc_record.specs.declared.header.Front.{Front}
 use Rattle.rpc_record.specs.declared.header.CallHead.{CallHead}
-use Rattle.wire.specs.Message.{program_of, body_spell, args_of, result_of, is_unfit, Says}
+use Rattle.wire.specs.Message.{program_of, body_version, body_spell, args_of, result_of, is_unfit, Says}
 use Rattle.wire.specs.Parse.{waiting, IsExpected, read_or, fault_at, called, with_args, taken, parse_call_body, parse_call, refusal_of, replied, parse_reply, parse_by, parse_of}
-use Rattle.wire.specs.Refused.{Begins, IsCallIn, IsCallWith, AreArguments, WhyUnfit, IsUnfit, IsRpc, IsUnasked, IsGarbage, HaveCauses}
+use Rattle.wire.specs.Refused.{Begins, IsCallIn, IsCallWith, IsVersion, AreArguments, WhyUnfit, IsUnfit, IsRpc, IsUnasked, IsGarbage, HaveCauses}
 use Rattle.wire.specs.declared.fault.WireFault.{WireFault}
 use Rattle.wire.specs.declared.fault.WireFault.TheVariants.{NotRpc, UnknownXid, Garbage}
 use Rattle.wire.specs.declared.message.Body.{Body}
@@ -25,7 +25,7 @@ use Rattle.wire.specs.declared.message.Message.{Message}
 use Rattle.wire.specs.declared.message.Message.TheVariants.{Call, Answer, Refuse, Unfit}
 use Rattle.wire.proofs.Again.{args_again, begins, two_fits, said_again, front_fits}
 use Rattle.wire.proofs.Said.{message_is, read_or_ok, args_found, xid_fits, read_is_said}
-use Rattle.wire.proofs.Named.{NamesNone, Names, called_names, names_called}
+use Rattle.wire.proofs.Named.{IsNamed, NamesNone, Names, called_names, names_called}
 
 -- ---- what comes of a call, and of a reply
 
@@ -39,10 +39,10 @@ OfCall (Err (NotRpc at)) = Unit {0}
 OfCall (Err (UnknownXid x)) = ⊥
 OfCall (Err (Garbage at)) = ⊥
 
-of_call : (side : Side) (xid : ℕ) (i : Input) → OfCall (parse_call side xid i)
-of_call side xid i = of_read OfCall NotRpc (u32_form.read i) _ (λ fault. tt) (λ version. by_version (version.0 == 2) version.1)
+of_call : (side : Side) (n xid : ℕ) (i : Input) → OfCall (parse_call side n xid i)
+of_call side n xid i = of_read OfCall NotRpc (u32_form.read i) _ (λ fault. tt) (λ version. by_version (version.0 == 2) version.1)
   where
-    by_version : (t : Bool) (j : Input) → OfCall (cond t (parse_call_body side xid j) (Ok (Unfit xid (refusal.RpcMismatch 2 2))))
+    by_version : (t : Bool) (j : Input) → OfCall (cond t (parse_call_body side n xid j) (Ok (Unfit xid (refusal.RpcMismatch 2 2))))
     by_version true j = of_read OfCall NotRpc (call_form.read j) _ (λ fault. tt) (λ head. tt)
     by_version false j = tt
 
@@ -52,12 +52,12 @@ OfReply o xid (Err (NotRpc at)) = ⊥
 OfReply o xid (Err (UnknownXid x)) = (xid ≡ x) × (o ≡ None)
 OfReply o xid (Err (Garbage at)) = IsSome o
 
-of_reply : (xid : ℕ) (o : Option Program) (i : Input) → OfReply o xid (parse_reply xid o i)
-of_reply xid None i = let none : OfReply None xid (Err (UnknownXid xid)) = (refl, refl) in none
-of_reply xid (Some p) i = of_read (OfReply (Some p) xid) Garbage (reply_form.read i) _ (λ fault. refl) (λ head. by_head (refusal_of head.0) head.1)
+of_reply : (v xid : ℕ) (o : Option Program) (i : Input) → OfReply o xid (parse_reply v xid o i)
+of_reply v xid None i = let none : OfReply None xid (Err (UnknownXid xid)) = (refl, refl) in none
+of_reply v xid (Some p) i = of_read (OfReply (Some p) xid) Garbage (reply_form.read i) _ (λ fault. refl) (λ head. by_head (refusal_of head.0) head.1)
   where
-    by_head : (why : Option RpcRefusal) (j : Input) → OfReply (Some p) xid (replied xid p why j)
-    by_head None j = of_read (OfReply (Some p) xid) Garbage (whole_at j.at (result_of p) j.rest) (λ (b : Body). Ok (Answer xid b)) (λ fault. refl) (λ (b : Body). let done : OfReply (Some p) xid (Ok (Answer xid b)) = (refl, refl) in done)
+    by_head : (why : Option RpcRefusal) (j : Input) → OfReply (Some p) xid (replied v xid p why j)
+    by_head None j = of_read (OfReply (Some p) xid) Garbage (whole_at j.at (result_of v p) j.rest) (λ (b : Body). Ok (Answer xid b)) (λ fault. refl) (λ (b : Body). let done : OfReply (Some p) xid (Ok (Answer xid b)) = (refl, refl) in done)
     by_head (Some why) j = of_read (OfReply (Some p) xid) Garbage (ended j) (λ _. Ok (Refuse xid why)) (λ fault. refl) (λ _. let done : OfReply (Some p) xid (Ok (Refuse xid why)) = (refl, refl) in done)
 
 -- ---- what stands before what was read
@@ -99,7 +99,7 @@ other_read w xid version rest bytes (small, (lt, is)) other =
 record Headed (w : Waiting) (xid : ℕ) (h : CallHead) (rest bytes : List ℕ) : Type 0 where
   at : ℕ
   fits : IsBytes bytes → IsBytes rest
-  is : parse_of w bytes ≡ Ok (taken xid (called w.side h) (record { at = at; rest = rest }))
+  is : parse_of w bytes ≡ Ok (taken xid h.version (called w.side w.lbfs h) (record { at = at; rest = rest }))
 
 head_read : (w : Waiting) (xid : ℕ) (h : CallHead) (rest bytes : List ℕ) → IsCallWith xid h rest bytes → Headed w xid h rest bytes
 head_read w xid h rest bytes (head, (small, (lt, is))) =
@@ -109,8 +109,8 @@ head_read w xid h rest bytes (head, (small, (lt, is))) =
     let v : u32_form.read (record { at = f.0; rest = u32_form.spell 2 ++ behind_version }) ≡ Ok (2, behind f.0 (u32_form.spell 2) behind_version) = u32_form.again 2 f.0 behind_version two_fits in
     let at : ℕ = f.0 + length (u32_form.spell 2) in
     let c : call_form.read (record { at = at; rest = behind_version }) ≡ Ok (h, behind at (call_form.spell h) rest) = call_form.again h at rest head in
-    let version : parse_call w.side xid (record { at = f.0; rest = u32_form.spell 2 ++ behind_version }) ≡ parse_call_body w.side xid (record { at = at; rest = behind_version }) = rw v refl in
-    let named : parse_call_body w.side xid (record { at = at; rest = behind_version }) ≡ Ok (taken xid (called w.side h) (behind at (call_form.spell h) rest)) = ap (λ r. read_or NotRpc r (λ h. Ok (taken xid (called w.side h.0) h.1))) c in
+    let version : parse_call w.side w.lbfs xid (record { at = f.0; rest = u32_form.spell 2 ++ behind_version }) ≡ parse_call_body w.side w.lbfs xid (record { at = at; rest = behind_version }) = rw v refl in
+    let named : parse_call_body w.side w.lbfs xid (record { at = at; rest = behind_version }) ≡ Ok (taken xid h.version (called w.side w.lbfs h) (behind at (call_form.spell h) rest)) = ap (λ r. read_or NotRpc r (λ h. Ok (taken xid h.0.version (called w.side w.lbfs h.0) h.1))) c in
     record {
       at = at + length (call_form.spell h);
       fits = λ all.
@@ -124,38 +124,38 @@ head_read w xid h rest bytes (head, (small, (lt, is))) =
 -- ---- calls that can't be taken
 
 -- the arguments of a procedure are read exactly where they stand there
-args_or_not : (p : Program) (at : ℕ) (rest : List ℕ) (r : Result Body Fault) → IsBytes rest → whole_at at (args_of p) rest ≡ r → ¬ AreArguments p rest → (fault : Fault) × (r ≡ Err fault)
-args_or_not p at rest (Ok b) fits e none = let a = args_found p at rest b fits e in absurd (none (b, a.0.0, a.0.1.0, a.0.1.1, a.1))
-args_or_not p at rest (Err fault) fits e none = (fault, refl)
+args_or_not : (n v : ℕ) (p : Program) (at : ℕ) (rest : List ℕ) (r : Result Body Fault) → IsVersion n v p → IsBytes rest → whole_at at (args_of v p) rest ≡ r → ¬ AreArguments v p rest → (fault : Fault) × (r ≡ Err fault)
+args_or_not n v p at rest (Ok b) version fits e none = let a = args_found n v p at rest b version fits e in absurd (none (b, a.0.0, a.0.1.0, a.0.1.1.0, a.0.1.1.1, a.1))
+args_or_not n v p at rest (Err fault) version fits e none = (fault, refl)
 
 no_body : (b : Body) (fault : Fault) (r : Result Body Fault) → r ≡ Ok b → r ≡ Err fault → ⊥
 no_body b fault (Ok x) e f = absurd cc
 no_body b fault (Err x) e f = absurd cc
 
-no_args : (p : Program) (at : ℕ) (rest : List ℕ) (fault : Fault) → whole_at at (args_of p) rest ≡ Err fault → ¬ AreArguments p rest
-no_args p at rest fault e (b, is, fits, of, text) =
-    let again : whole_at at (args_of (program_of b)) (body_spell b) ≡ Ok b = args_again at b is fits in
-    let here : whole_at at (args_of p) rest ≡ Ok b = ap (whole_at at (args_of p)) text ∙ ap (λ (p : Program). whole_at at (args_of p) (body_spell b)) (sym of) ∙ again in
+no_args : (v : ℕ) (p : Program) (at : ℕ) (rest : List ℕ) (fault : Fault) → whole_at at (args_of v p) rest ≡ Err fault → ¬ AreArguments v p rest
+no_args v p at rest fault e (b, is, fits, version, of, text) =
+    let again : whole_at at (args_of (body_version b) (program_of b)) (body_spell b) ≡ Ok b = args_again at b is fits in
+    let here : whole_at at (args_of v p) rest ≡ Ok b = ap (whole_at at (args_of v p)) text ∙ ap (λ (p : Program). whole_at at (args_of v p) (body_spell b)) (sym of) ∙ ap (λ (v : ℕ). whole_at at (args_of v (program_of b)) (body_spell b)) (sym version) ∙ again in
     no_body b fault _ here e
 
-unfit_as : (w : Waiting) (xid : ℕ) (h : CallHead) (rest bytes : List ℕ) (r : Result Program RpcRefusal) → IsCallWith xid h rest bytes → Names w.side h r → (at : ℕ) × (parse_of w bytes ≡ Ok (taken xid r (record { at = at; rest = rest })))
+unfit_as : (w : Waiting) (xid : ℕ) (h : CallHead) (rest bytes : List ℕ) (r : Result Program RpcRefusal) → IsCallWith xid h rest bytes → Names w.side w.lbfs h r → (at : ℕ) × (parse_of w bytes ≡ Ok (taken xid h.version r (record { at = at; rest = rest })))
 unfit_as w xid h rest bytes r stands names =
     let k = head_read w xid h rest bytes stands in
-    (k.at, k.is ∙ ap (λ (p : Result Program RpcRefusal). Ok (taken xid p (record { at = k.at; rest = rest }))) (names_called w.side h r names))
+    (k.at, k.is ∙ ap (λ (p : Result Program RpcRefusal). Ok (taken xid h.version p (record { at = k.at; rest = rest }))) (names_called w.side w.lbfs h r names))
 
-unfit_head : (w : Waiting) (xid : ℕ) (why : RpcRefusal) (bytes : List ℕ) → IsBytes bytes → (h : CallHead) (rest : List ℕ) → IsCallWith xid h rest bytes → WhyUnfit w.side h rest why → parse_of w bytes ≡ Ok (Unfit xid why)
+unfit_head : (w : Waiting) (xid : ℕ) (why : RpcRefusal) (bytes : List ℕ) → IsBytes bytes → (h : CallHead) (rest : List ℕ) → IsCallWith xid h rest bytes → WhyUnfit w.side w.lbfs h rest why → parse_of w bytes ≡ Ok (Unfit xid why)
 unfit_head w xid refusal.ProgUnavail bytes fits h rest stands y = (unfit_as w xid h rest bytes (Err refusal.ProgUnavail) stands y).1
 unfit_head w xid (refusal.ProgMismatch low high) bytes fits h rest stands y = (unfit_as w xid h rest bytes (Err (refusal.ProgMismatch low high)) stands y).1
 unfit_head w xid refusal.ProcUnavail bytes fits h rest stands y = (unfit_as w xid h rest bytes (Err refusal.ProcUnavail) stands y).1
-unfit_head w xid refusal.GarbageArgs bytes fits h rest stands (p, served, named, none) =
-    let k = unfit_as w xid h rest bytes (Ok p) stands (served, named) in
-    let bad = args_or_not p k.0 rest _ ((head_read w xid h rest bytes stands).fits fits) refl none in
+unfit_head w xid refusal.GarbageArgs bytes fits h rest stands (p, served, version, has, named, none) =
+    let k = unfit_as w xid h rest bytes (Ok p) stands (served, version, has, named) in
+    let bad = args_or_not w.lbfs h.version p k.0 rest _ version ((head_read w xid h rest bytes stands).fits fits) refl none in
     k.1 ∙ ap (λ (r : Result Body Fault). Ok (with_args xid r)) bad.1
 unfit_head w xid refusal.SystemErr bytes fits h rest stands y = absurd y
 unfit_head w xid (refusal.RpcMismatch low high) bytes fits h rest stands y = absurd y
 unfit_head w xid (refusal.AuthError n) bytes fits h rest stands y = absurd y
 
-unfit_read : (w : Waiting) (xid : ℕ) (why : RpcRefusal) (bytes : List ℕ) → IsBytes bytes → IsUnfit w.side xid why bytes → parse_of w bytes ≡ Ok (Unfit xid why)
+unfit_read : (w : Waiting) (xid : ℕ) (why : RpcRefusal) (bytes : List ℕ) → IsBytes bytes → IsUnfit w.side w.lbfs xid why bytes → parse_of w bytes ≡ Ok (Unfit xid why)
 unfit_read w xid (refusal.RpcMismatch low high) bytes fits (version, rest, stands, other, l, u) = other_read w xid version rest bytes stands other ∙ rw (l, u) refl
 unfit_read w xid refusal.ProgUnavail bytes fits (h, rest, stands, why) = unfit_head w xid refusal.ProgUnavail bytes fits h rest stands why
 unfit_read w xid (refusal.ProgMismatch low high) bytes fits (h, rest, stands, why) = unfit_head w xid (refusal.ProgMismatch low high) bytes fits h rest stands why
@@ -165,62 +165,62 @@ unfit_read w xid refusal.SystemErr bytes fits (h, rest, stands, why) = absurd wh
 unfit_read w xid (refusal.AuthError n) bytes fits (h, rest, stands, why) = absurd why
 
 -- what was read as a call that can't be taken is one
-abbrev UnfitIs : Side → List ℕ → Message → Type 0
-UnfitIs side bytes (Call xid b) = Unit {0}
-UnfitIs side bytes (Answer xid b) = Unit {0}
-UnfitIs side bytes (Refuse xid why) = Unit {0}
-UnfitIs side bytes (Unfit xid why) = IsUnfit side xid why bytes
+abbrev UnfitIs : Side → (lbfs : ℕ) → List ℕ → Message → Type 0
+UnfitIs side n bytes (Call xid b) = Unit {0}
+UnfitIs side n bytes (Answer xid b) = Unit {0}
+UnfitIs side n bytes (Refuse xid why) = Unit {0}
+UnfitIs side n bytes (Unfit xid why) = IsUnfit side n xid why bytes
 
-named_unfit : (side : Side) (xid : ℕ) (why : RpcRefusal) (h : CallHead) (rest bytes : List ℕ) → IsCallWith xid h rest bytes → NamesNone side h why → IsUnfit side xid why bytes
-named_unfit side xid refusal.ProgUnavail h rest bytes stands y = (h, rest, stands, y)
-named_unfit side xid (refusal.ProgMismatch low high) h rest bytes stands y = (h, rest, stands, y)
-named_unfit side xid refusal.ProcUnavail h rest bytes stands y = (h, rest, stands, y)
-named_unfit side xid refusal.GarbageArgs h rest bytes stands y = absurd y
-named_unfit side xid refusal.SystemErr h rest bytes stands y = absurd y
-named_unfit side xid (refusal.RpcMismatch low high) h rest bytes stands y = absurd y
-named_unfit side xid (refusal.AuthError n) h rest bytes stands y = absurd y
+named_unfit : (side : Side) (n xid : ℕ) (why : RpcRefusal) (h : CallHead) (rest bytes : List ℕ) → IsCallWith xid h rest bytes → NamesNone side n h why → IsUnfit side n xid why bytes
+named_unfit side n xid refusal.ProgUnavail h rest bytes stands y = (h, rest, stands, y)
+named_unfit side n xid (refusal.ProgMismatch low high) h rest bytes stands y = (h, rest, stands, y)
+named_unfit side n xid refusal.ProcUnavail h rest bytes stands y = (h, rest, stands, y)
+named_unfit side n xid refusal.GarbageArgs h rest bytes stands y = absurd y
+named_unfit side n xid refusal.SystemErr h rest bytes stands y = absurd y
+named_unfit side n xid (refusal.RpcMismatch low high) h rest bytes stands y = absurd y
+named_unfit side n xid (refusal.AuthError k) h rest bytes stands y = absurd y
 
-with_args_unfit : (side : Side) (xid : ℕ) (p : Program) (h : CallHead) (at : ℕ) (rest bytes : List ℕ) → IsCallWith xid h rest bytes → Names side h (Ok p) → (r : Result Body Fault) → whole_at at (args_of p) rest ≡ r → UnfitIs side bytes (with_args xid r)
-with_args_unfit side xid p h at rest bytes stands names (Ok b) e = tt
-with_args_unfit side xid p h at rest bytes stands names (Err fault) e = (h, rest, stands, (p, names.0, names.1, no_args p at rest fault e))
+with_args_unfit : (side : Side) (n xid : ℕ) (p : Program) (h : CallHead) (at : ℕ) (rest bytes : List ℕ) → IsCallWith xid h rest bytes → IsNamed side n h p → (r : Result Body Fault) → whole_at at (args_of h.version p) rest ≡ r → UnfitIs side n bytes (with_args xid r)
+with_args_unfit side n xid p h at rest bytes stands names (Ok b) e = tt
+with_args_unfit side n xid p h at rest bytes stands names (Err fault) e = (h, rest, stands, (p, names.0, names.1, names.2, names.3, no_args h.version p at rest fault e))
 
-taken_unfit : (side : Side) (xid : ℕ) (h : CallHead) (i : Input) (bytes : List ℕ) → IsCallWith xid h i.rest bytes → (r : Result Program RpcRefusal) → Names side h r → UnfitIs side bytes (taken xid r i)
-taken_unfit side xid h i bytes stands (Ok p) names = with_args_unfit side xid p h i.at i.rest bytes stands names _ refl
-taken_unfit side xid h i bytes stands (Err why) names = named_unfit side xid why h i.rest bytes stands names
+taken_unfit : (side : Side) (n xid : ℕ) (h : CallHead) (i : Input) (bytes : List ℕ) → IsCallWith xid h i.rest bytes → (r : Result Program RpcRefusal) → Names side n h r → UnfitIs side n bytes (taken xid h.version r i)
+taken_unfit side n xid h i bytes stands (Ok p) names = with_args_unfit side n xid p h i.at i.rest bytes stands names _ refl
+taken_unfit side n xid h i bytes stands (Err why) names = named_unfit side n xid why h i.rest bytes stands names
 
-call_unfit : (side : Side) (xid : ℕ) (i : Input) (m : Message) (bytes : List ℕ) → Begins xid direction.Call i.rest bytes → IsBytes i.rest → parse_call side xid i ≡ Ok m → UnfitIs side bytes m
-call_unfit side xid i m bytes (lt, is) fits e =
-    let v = read_or_ok NotRpc (u32_form.read i) (λ version. cond (version.0 == 2) (parse_call_body side xid version.1) (Ok (Unfit xid (refusal.RpcMismatch 2 2)))) m e in
+call_unfit : (side : Side) (n xid : ℕ) (i : Input) (m : Message) (bytes : List ℕ) → Begins xid direction.Call i.rest bytes → IsBytes i.rest → parse_call side n xid i ≡ Ok m → UnfitIs side n bytes m
+call_unfit side n xid i m bytes (lt, is) fits e =
+    let v = read_or_ok NotRpc (u32_form.read i) (λ version. cond (version.0 == 2) (parse_call_body side n xid version.1) (Ok (Unfit xid (refusal.RpcMismatch 2 2)))) m e in
     let t = u32_form.takes i v.0.0 v.0.1 fits v.1 in
     by_version (v.0.0 == 2) v.0.0 v.0.1 refl (fits_u32 v.0.0 t.1) (is ∙ ap (λ (r : List ℕ). front_form.spell (record { xid = xid; direction = direction.Call }) ++ r) t.0.parts) t.0.rest_fits v.2
   where
-    by_version : (t : Bool) (version : ℕ) (j : Input) → (version == 2) ≡ t → version < 2 ^ 32 → bytes ≡ front_form.spell (record { xid = xid; direction = direction.Call }) ++ (u32_form.spell version ++ j.rest) → IsBytes j.rest → cond t (parse_call_body side xid j) (Ok (Unfit xid (refusal.RpcMismatch 2 2))) ≡ Ok m → UnfitIs side bytes m
+    by_version : (t : Bool) (version : ℕ) (j : Input) → (version == 2) ≡ t → version < 2 ^ 32 → bytes ≡ front_form.spell (record { xid = xid; direction = direction.Call }) ++ (u32_form.spell version ++ j.rest) → IsBytes j.rest → cond t (parse_call_body side n xid j) (Ok (Unfit xid (refusal.RpcMismatch 2 2))) ≡ Ok m → UnfitIs side n bytes m
     by_version false version j t small all ok is_m =
-        let unfit : UnfitIs side bytes (Unfit xid (refusal.RpcMismatch 2 2)) = (version, j.rest, (small, (lt, all)), eqb-false version 2 t, refl, refl) in
-        subst (UnfitIs side bytes) (message_is (Unfit xid (refusal.RpcMismatch 2 2)) m is_m) unfit
+        let unfit : UnfitIs side n bytes (Unfit xid (refusal.RpcMismatch 2 2)) = (version, j.rest, (small, (lt, all)), eqb-false version 2 t, refl, refl) in
+        subst (UnfitIs side n bytes) (message_is (Unfit xid (refusal.RpcMismatch 2 2)) m is_m) unfit
     by_version true version j t small all ok is_m =
-        let h = read_or_ok NotRpc (call_form.read j) (λ head. Ok (taken xid (called side head.0) head.1)) m is_m in
+        let h = read_or_ok NotRpc (call_form.read j) (λ head. Ok (taken xid head.0.version (called side n head.0) head.1)) m is_m in
         let u = call_form.takes j h.0.0 h.0.1 ok h.1 in
         let here : bytes ≡ front_form.spell (record { xid = xid; direction = direction.Call }) ++ (u32_form.spell 2 ++ (call_form.spell h.0.0 ++ h.0.1.rest)) = all ∙ ap (λ (n : ℕ). front_form.spell (record { xid = xid; direction = direction.Call }) ++ (u32_form.spell n ++ j.rest)) (eqb-true version 2 t) ∙ ap (λ (r : List ℕ). front_form.spell (record { xid = xid; direction = direction.Call }) ++ (u32_form.spell 2 ++ r)) u.0.parts in
         let stands : IsCallWith xid h.0.0 h.0.1.rest bytes = (u.1, (omega arith, (lt, here))) in
-        subst (UnfitIs side bytes) (message_is (taken xid (called side h.0.0) h.0.1) m h.2) (taken_unfit side xid h.0.0 h.0.1 bytes stands (called side h.0.0) (called_names side h.0.0))
+        subst (UnfitIs side n bytes) (message_is (taken xid h.0.0.version (called side n h.0.0) h.0.1) m h.2) (taken_unfit side n xid h.0.0 h.0.1 bytes stands (called side n h.0.0) (called_names side n h.0.0))
 
 -- what comes of a record is what comes of a call, or of a reply
 ok_fault : (m : Message) (fault : WireFault) (r : Result Message WireFault) → r ≡ Ok m → r ≡ Err fault → ⊥
 ok_fault m fault (Ok x) e f = absurd cc
 ok_fault m fault (Err x) e f = absurd cc
 
-by_unfit : (w : Waiting) (xid : ℕ) (d : Direction) (i : Input) (m : Message) (bytes : List ℕ) → Begins xid d i.rest bytes → IsBytes i.rest → parse_by w xid d i ≡ Ok m → UnfitIs w.side bytes m
-by_unfit w xid direction.Call i m bytes begins fits e = call_unfit w.side xid i m bytes begins fits e
-by_unfit w xid direction.Reply i m bytes begins fits e = not_unfit m (subst (OfReply (waiting xid w.calls) xid) e (of_reply xid (waiting xid w.calls) i)).0
+by_unfit : (w : Waiting) (xid : ℕ) (d : Direction) (i : Input) (m : Message) (bytes : List ℕ) → Begins xid d i.rest bytes → IsBytes i.rest → parse_by w xid d i ≡ Ok m → UnfitIs w.side w.lbfs bytes m
+by_unfit w xid direction.Call i m bytes begins fits e = call_unfit w.side w.lbfs xid i m bytes begins fits e
+by_unfit w xid direction.Reply i m bytes begins fits e = not_unfit m (subst (OfReply (waiting xid w.calls) xid) e (of_reply w.lbfs xid (waiting xid w.calls) i)).0
   where
-    not_unfit : (m : Message) → is_unfit m ≡ false → UnfitIs w.side bytes m
+    not_unfit : (m : Message) → is_unfit m ≡ false → UnfitIs w.side w.lbfs bytes m
     not_unfit (Call x b) e = tt
     not_unfit (Answer x b) e = tt
     not_unfit (Refuse x why) e = tt
     not_unfit (Unfit x why) e = absurd cc
 
-unfit_found : (w : Waiting) (m : Message) (bytes : List ℕ) → IsBytes bytes → parse_of w bytes ≡ Ok m → UnfitIs w.side bytes m
+unfit_found : (w : Waiting) (m : Message) (bytes : List ℕ) → IsBytes bytes → parse_of w bytes ≡ Ok m → UnfitIs w.side w.lbfs bytes m
 unfit_found w m bytes fits e =
     elim (fronted w bytes fits) [
       | inl bad ↦ absurd (ok_fault m (NotRpc bad.0) (parse_of w bytes) e bad.1)
@@ -241,42 +241,42 @@ reply_is_rpc o xid at (Err f) of e = subst (λ (r : Result Message WireFault). O
 rpc_read : (w : Waiting) (bytes : List ℕ) (at : ℕ) → parse_of w bytes ≡ Err (NotRpc at) → ¬ IsRpc bytes
 rpc_read w bytes at e (inl (xid, rest, (lt, is))) =
     let f = begins w xid direction.Reply rest lt in
-    reply_is_rpc (waiting xid w.calls) xid at _ (of_reply xid (waiting xid w.calls) (record { at = f.0; rest = rest })) (sym f.1 ∙ sym (ap (parse_of w) is) ∙ e)
+    reply_is_rpc (waiting xid w.calls) xid at _ (of_reply w.lbfs xid (waiting xid w.calls) (record { at = f.0; rest = rest })) (sym f.1 ∙ sym (ap (parse_of w) is) ∙ e)
 rpc_read w bytes at e (inr (inl (xid, version, rest, stands, other))) = ok_fault (Unfit xid (refusal.RpcMismatch 2 2)) (NotRpc at) (parse_of w bytes) (other_read w xid version rest bytes stands other) e
 rpc_read w bytes at e (inr (inr (xid, h, rest, stands))) =
     let k = head_read w xid h rest bytes stands in
-    ok_fault (taken xid (called w.side h) (record { at = k.at; rest = rest })) (NotRpc at) (parse_of w bytes) k.is e
+    ok_fault (taken xid h.version (called w.side w.lbfs h) (record { at = k.at; rest = rest })) (NotRpc at) (parse_of w bytes) k.is e
 
 abbrev Bad : Result Message WireFault → Type 0
 Bad r = (at : ℕ) × (r ≡ Err (NotRpc at))
 
-call_no_rpc : (side : Side) (xid : ℕ) (i : Input) (bytes : List ℕ) → Begins xid direction.Call i.rest bytes → IsBytes i.rest → ¬ IsRpc bytes → Bad (parse_call side xid i)
-call_no_rpc side xid i bytes (lt, is) fits none = by_read (u32_form.read i) refl
+call_no_rpc : (side : Side) (n xid : ℕ) (i : Input) (bytes : List ℕ) → Begins xid direction.Call i.rest bytes → IsBytes i.rest → ¬ IsRpc bytes → Bad (parse_call side n xid i)
+call_no_rpc side n xid i bytes (lt, is) fits none = by_read (u32_form.read i) refl
   where
     call_front : List ℕ
     call_front = front_form.spell (record { xid = xid; direction = direction.Call })
 
-    by_head : (j : Input) → bytes ≡ call_front ++ (u32_form.spell 2 ++ j.rest) → IsBytes j.rest → (r : Result (CallHead × Input) Fault) → call_form.read j ≡ r → Bad (read_or NotRpc r (λ head. Ok (taken xid (called side head.0) head.1)))
+    by_head : (j : Input) → bytes ≡ call_front ++ (u32_form.spell 2 ++ j.rest) → IsBytes j.rest → (r : Result (CallHead × Input) Fault) → call_form.read j ≡ r → Bad (read_or NotRpc r (λ head. Ok (taken xid head.0.version (called side n head.0) head.1)))
     by_head j all ok (Err fault) e = (fault_at fault, refl)
     by_head j all ok (Ok h) e =
         let u = call_form.takes j h.0 h.1 ok e in
         let stands : IsCallWith xid h.0 h.1.rest bytes = (u.1, (omega arith, (lt, all ∙ ap (λ (r : List ℕ). call_front ++ (u32_form.spell 2 ++ r)) u.0.parts))) in
         absurd (none (inr (inr (xid, h.0, h.1.rest, stands))))
 
-    by_version : (t : Bool) (version : ℕ) (j : Input) → (version == 2) ≡ t → version < 2 ^ 32 → bytes ≡ call_front ++ (u32_form.spell version ++ j.rest) → IsBytes j.rest → Bad (cond t (parse_call_body side xid j) (Ok (Unfit xid (refusal.RpcMismatch 2 2))))
+    by_version : (t : Bool) (version : ℕ) (j : Input) → (version == 2) ≡ t → version < 2 ^ 32 → bytes ≡ call_front ++ (u32_form.spell version ++ j.rest) → IsBytes j.rest → Bad (cond t (parse_call_body side n xid j) (Ok (Unfit xid (refusal.RpcMismatch 2 2))))
     by_version false version j t small all ok =
         let stands : IsCallIn xid version j.rest bytes = (small, (lt, all)) in
         absurd (none (inr (inl (xid, version, j.rest, stands, eqb-false version 2 t))))
     by_version true version j t small all ok = by_head j (all ∙ ap (λ (n : ℕ). call_front ++ (u32_form.spell n ++ j.rest)) (eqb-true version 2 t)) ok (call_form.read j) refl
 
-    by_read : (r : Result (ℕ × Input) Fault) → u32_form.read i ≡ r → Bad (read_or NotRpc r (λ version. cond (version.0 == 2) (parse_call_body side xid version.1) (Ok (Unfit xid (refusal.RpcMismatch 2 2)))))
+    by_read : (r : Result (ℕ × Input) Fault) → u32_form.read i ≡ r → Bad (read_or NotRpc r (λ version. cond (version.0 == 2) (parse_call_body side n xid version.1) (Ok (Unfit xid (refusal.RpcMismatch 2 2)))))
     by_read (Err fault) e = (fault_at fault, refl)
     by_read (Ok v) e =
         let t = u32_form.takes i v.0 v.1 fits e in
         by_version (v.0 == 2) v.0 v.1 refl (fits_u32 v.0 t.1) (is ∙ ap (λ (r : List ℕ). call_front ++ r) t.0.parts) t.0.rest_fits
 
 by_no_rpc : (w : Waiting) (xid : ℕ) (d : Direction) (i : Input) (bytes : List ℕ) → Begins xid d i.rest bytes → IsBytes i.rest → ¬ IsRpc bytes → Bad (parse_by w xid d i)
-by_no_rpc w xid direction.Call i bytes begins fits none = call_no_rpc w.side xid i bytes begins fits none
+by_no_rpc w xid direction.Call i bytes begins fits none = call_no_rpc w.side w.lbfs xid i bytes begins fits none
 by_no_rpc w xid direction.Reply i bytes begins fits none = absurd (none (inl (xid, i.rest, begins)))
 
 no_rpc_found : (w : Waiting) (bytes : List ℕ) → IsBytes bytes → ¬ IsRpc bytes → Bad (parse_of w bytes)
@@ -288,8 +288,8 @@ no_rpc_found w bytes fits none =
 
 -- ---- answers that are none that is awaited
 
-no_call_fault : (side : Side) (xid : ℕ) (i : Input) (fault : WireFault) → parse_call side xid i ≡ Err fault → (at : ℕ) × (fault ≡ NotRpc at)
-no_call_fault side xid i fault e = not_rpc_only fault (subst OfCall e (of_call side xid i))
+no_call_fault : (side : Side) (n xid : ℕ) (i : Input) (fault : WireFault) → parse_call side n xid i ≡ Err fault → (at : ℕ) × (fault ≡ NotRpc at)
+no_call_fault side n xid i fault e = not_rpc_only fault (subst OfCall e (of_call side n xid i))
   where
     not_rpc_only : (fault : WireFault) → OfCall (Err fault) → (at : ℕ) × (fault ≡ NotRpc at)
     not_rpc_only (NotRpc at) of = (at, refl)
@@ -309,8 +309,8 @@ record Replied (w : Waiting) (bytes : List ℕ) (fault : WireFault) : Type 0 whe
   of : OfReply (waiting xid w.calls) xid (Err fault)
 
 by_replied : (w : Waiting) (xid : ℕ) (d : Direction) (i : Input) (bytes : List ℕ) (fault : WireFault) → Begins xid d i.rest bytes → IsOfAnswer fault → parse_by w xid d i ≡ Err fault → Replied w bytes fault
-by_replied w xid direction.Call i bytes fault begins answer e = let no = no_call_fault w.side xid i fault e in absurd (subst IsOfAnswer no.1 answer)
-by_replied w xid direction.Reply i bytes fault begins answer e = record { xid = xid; rest = i.rest; begins = begins; of = subst (λ (r : Result Message WireFault). OfReply (waiting xid w.calls) xid r) e (of_reply xid (waiting xid w.calls) i) }
+by_replied w xid direction.Call i bytes fault begins answer e = let no = no_call_fault w.side w.lbfs xid i fault e in absurd (subst IsOfAnswer no.1 answer)
+by_replied w xid direction.Reply i bytes fault begins answer e = record { xid = xid; rest = i.rest; begins = begins; of = subst (λ (r : Result Message WireFault). OfReply (waiting xid w.calls) xid r) e (of_reply w.lbfs xid (waiting xid w.calls) i) }
 
 replied_by : (w : Waiting) (bytes : List ℕ) (fault : WireFault) → IsBytes bytes → IsOfAnswer fault → parse_of w bytes ≡ Err fault → Replied w bytes fault
 replied_by w bytes fault fits answer e =
@@ -327,7 +327,7 @@ unasked_found w xid bytes fits e =
 unasked_read : (w : Waiting) (xid : ℕ) (bytes : List ℕ) → IsUnasked w xid bytes → parse_of w bytes ≡ Err (UnknownXid xid)
 unasked_read w xid bytes (rest, (lt, is), none) =
     let f = begins w xid direction.Reply rest lt in
-    ap (parse_of w) is ∙ f.1 ∙ ap (λ (o : Option Program). parse_reply xid o (record { at = f.0; rest = rest })) none
+    ap (parse_of w) is ∙ f.1 ∙ ap (λ (o : Option Program). parse_reply w.lbfs xid o (record { at = f.0; rest = rest })) none
 
 garbage_found : (w : Waiting) (bytes : List ℕ) (at : ℕ) → IsBytes bytes → parse_of w bytes ≡ Err (Garbage at) → IsGarbage w bytes
 garbage_found w bytes at fits e =
@@ -347,8 +347,8 @@ garbage_of w xid bytes fits waits none (Err (Garbage at)) e of = (at, refl)
 garbage_read : (w : Waiting) (bytes : List ℕ) → IsBytes bytes → IsGarbage w bytes → (at : ℕ) × (parse_of w bytes ≡ Err (Garbage at))
 garbage_read w bytes fits ((xid, rest, (lt, is), waits), none) =
     let f = begins w xid direction.Reply rest lt in
-    let e : parse_of w bytes ≡ parse_reply xid (waiting xid w.calls) (record { at = f.0; rest = rest }) = ap (parse_of w) is ∙ f.1 in
-    let g = garbage_of w xid bytes fits waits none _ e (of_reply xid (waiting xid w.calls) (record { at = f.0; rest = rest })) in
+    let e : parse_of w bytes ≡ parse_reply w.lbfs xid (waiting xid w.calls) (record { at = f.0; rest = rest }) = ap (parse_of w) is ∙ f.1 in
+    let g = garbage_of w xid bytes fits waits none _ e (of_reply w.lbfs xid (waiting xid w.calls) (record { at = f.0; rest = rest })) in
     (g.0, e ∙ g.1)
 
 pub have_causes : (w : Waiting) → HaveCauses w

@@ -1,21 +1,23 @@
 -- What is read as a message says it, and may come.
-use Rattle.std.proofs.Common.{◌≡◌, ℕ, ◌<◌, ◌^◌, Bool, true, false, cond, List, [], ◌++◌, length, Option, Some, None, Result, Ok, Err, refl, sym, ap, subst, ◌∙◌}
-use Rattle.std.specs.Prelude.{IsSome, ◌&&◌, ◌==◌}
+use Rattle.std.proofs.Common.{◌≡◌, ℕ, ◌<◌, ◌^◌, Bool, true, false, cond, List, [], ◌++◌, length, Option, Some, None, Result, Ok, Err, refl, sym, ap, subst, ◌∙◌, arith}
+use Rattle.std.specs.Prelude.{IsSome, ◌==◌}
 use Rattle.std.proofs.lemmas.Bool.{eqb-true}
+use Rattle.std.proofs.lemmas.Bool.Decides.{nat_tests}
 use Rattle.std.proofs.lemmas.List.{append-nil, nil_from_length}
 use Rattle.xdr_codec.specs.declared.fault.Fault.{Fault}
 use Rattle.xdr_codec.specs.declared.fault.Fault.TheVariants.{Trailing}
 use Rattle.xdr_codec.specs.Format.{Input, IsBytes, whole_at, ended}
-use Rattle.xdr_codec.specs.Tables.{named_there}
 use Rattle.xdr_codec.specs.Xdr.{u32_form}
 use Rattle.xdr_codec.specs.Whole.{whole_found, ended_ok}
 use Rattle.nfs3_calls.specs.Nfs as nfs
 use Rattle.hash_calls.specs.Lb as lb
 use Rattle.hash_calls.specs.Back as back
 use Rattle.rpc_record.specs.Header.{front_form, auth_form, call_form, versions_form, accept_form, denial_form, reply_form}
-use Rattle.wire.specs.Message.{nfs_number, lbfs_number, back_number, program_of, body_spell, args_of, result_of, is_call, BodyFits, RefusalFits, Says, call_head, refusal_head, no_auth, answer_spell, refuse_spell, is_unfit}
-use Rattle.wire.specs.Parse.{serves_files, serves_callbacks, serves, waiting, IsExpected, read_or, versioned, procedure_of, found_or, called, with_args, taken, parse_call_body, parse_call, refusal_of, replied, parse_reply, parse_by, parse_of}
+use Rattle.wire.specs.Message.{program_of, body_version, body_spell, in_version, args_of, result_of, is_call, BodyFits, FitsIn, RefusalFits, Says, call_head, refusal_head, no_auth, answer_spell, refuse_spell, is_unfit}
+use Rattle.wire.specs.Parse.{serves, waiting, is_in, IsExpected, read_or, called, with_args, taken, parse_call_body, parse_call, refusal_of, replied, parse_reply, parse_by, parse_of}
+use Rattle.wire.specs.Refused.{IsVersion, HasProcedure}
 use Rattle.wire.proofs.Again.{no_auth_fits}
+use Rattle.wire.proofs.Named.{IsNamed, Names, called_names}
 use Rattle.rpc_record.specs.declared.header.Direction.{Direction}
 use Rattle.rpc_record.specs.declared.header.Direction.TheVariants as direction
 use Rattle.rpc_record.specs.declared.header.Front.{Front}
@@ -29,6 +31,7 @@ use Rattle.rpc_record.specs.declared.header.Denial.TheVariants as denial
 use Rattle.rpc_record.specs.declared.header.ReplyHead.{ReplyHead}
 use Rattle.rpc_record.specs.declared.header.ReplyHead.TheVariants.{Accepted, Denied}
 use Rattle.wire.specs.declared.message.Body.{Body}
+use Rattle.wire.specs.declared.message.Body.TheVariants as body
 use Rattle.wire.specs.declared.message.Side.{Side}
 use Rattle.wire.specs.declared.message.Program.{Program}
 use Rattle.wire.specs.declared.message.Program.TheVariants as program
@@ -61,94 +64,43 @@ if_fit false found xid why m fit e = let is : true ≡ is_unfit m = ap is_unfit 
     no_unfit : (m : Message) → true ≡ is_unfit m → is_unfit m ≡ false → ⊥
     no_unfit m is fit = let both : true ≡ false = is ∙ fit in absurd cc
 
--- ---- what a call's numbers name
-
-both_true : (x y : Bool) → (x && y) ≡ true → (x ≡ true) × (y ≡ true)
-both_true true y e = (refl, e)
-both_true false y e = absurd cc
-
-pub head_is : (h : CallHead) (p : Program) → h.program ≡ (call_head h.cred h.verf p).program → h.version ≡ (call_head h.cred h.verf p).version → h.procedure ≡ (call_head h.cred h.verf p).procedure → h ≡ call_head h.cred h.verf p
-head_is h p e f g = rw (← e, ← f, ← g) refl
-
-procedure_found : {P : Type 0} (name : P → Program) (o : Option P) (p : Program) → found_or (procedure_of name o) ≡ Ok p → (q : P) × (o ≡ Some q) × (name q ≡ p)
-procedure_found name (Some q) p e = (q, refl, cc)
-procedure_found name None p e = absurd cc
-
-version_found : (own : ℕ) (test : Bool) (found : Result Program RpcRefusal) (p : Program) → cond test found (Err (refusal.ProgMismatch own own)) ≡ Ok p → (test ≡ true) × (found ≡ Ok p)
-version_found own true found p e = (refl, e)
-version_found own false found p e = absurd cc
-
-abbrev IsNamed : Side → CallHead → Program → Type 0
-IsNamed side h p = (serves side p ≡ true) × (h ≡ call_head h.cred h.verf p)
-
-named_nfs : (side : Side) (h : CallHead) (p : Program) → serves_files side ≡ true → h.program ≡ nfs_number → versioned 3 h.version (procedure_of program.Nfs (nfs.proc_of h.procedure)) ≡ Ok p → IsNamed side h p
-named_nfs side h p served is e =
-    let v = version_found 3 (h.version == 3) (found_or (procedure_of program.Nfs (nfs.proc_of h.procedure))) p e in
-    let q = procedure_found program.Nfs (nfs.proc_of h.procedure) p v.1 in
-    subst (IsNamed side h) q.2 (served, head_is h (program.Nfs q.0) is (eqb-true h.version 3 v.0) (sym (named_there nfs.proc_number h.procedure nfs.procs q.0 q.1)))
-
-named_lb : (side : Side) (h : CallHead) (p : Program) → serves_files side ≡ true → h.program ≡ lbfs_number → versioned 1 h.version (procedure_of program.Lb (lb.proc_of h.procedure)) ≡ Ok p → IsNamed side h p
-named_lb side h p served is e =
-    let v = version_found 1 (h.version == 1) (found_or (procedure_of program.Lb (lb.proc_of h.procedure))) p e in
-    let q = procedure_found program.Lb (lb.proc_of h.procedure) p v.1 in
-    subst (IsNamed side h) q.2 (served, head_is h (program.Lb q.0) is (eqb-true h.version 1 v.0) (sym (named_there lb.proc_number h.procedure lb.procs q.0 q.1)))
-
-named_back : (side : Side) (h : CallHead) (p : Program) → serves_callbacks side ≡ true → h.program ≡ back_number → versioned 1 h.version (procedure_of program.Back (back.proc_of h.procedure)) ≡ Ok p → IsNamed side h p
-named_back side h p served is e =
-    let v = version_found 1 (h.version == 1) (found_or (procedure_of program.Back (back.proc_of h.procedure))) p e in
-    let q = procedure_found program.Back (back.proc_of h.procedure) p v.1 in
-    subst (IsNamed side h) q.2 (served, head_is h (program.Back q.0) is (eqb-true h.version 1 v.0) (sym (named_there back.proc_number h.procedure back.procs q.0 q.1)))
-
--- a program that was found is one of those whose test holds
-one_of : {P : Type 0} (a b c : Bool) (x y z : Result Program RpcRefusal) (p : Program) → (a ≡ true → x ≡ Ok p → P) → (b ≡ true → y ≡ Ok p → P) → (c ≡ true → z ≡ Ok p → P) → cond a x (cond b y (cond c z (Err refusal.ProgUnavail))) ≡ Ok p → P
-one_of true b c x y z p f g h e = f refl e
-one_of false true c x y z p f g h e = g refl e
-one_of false false true x y z p f g h e = h refl e
-one_of false false false x y z p f g h e = absurd cc
-
-called_named : (side : Side) (h : CallHead) (p : Program) → called side h ≡ Ok p → IsNamed side h p
-called_named side h p e =
-    one_of (serves_files side && (h.program == nfs_number)) (serves_files side && (h.program == lbfs_number)) (serves_callbacks side && (h.program == back_number)) (versioned 3 h.version (procedure_of program.Nfs (nfs.proc_of h.procedure))) (versioned 1 h.version (procedure_of program.Lb (lb.proc_of h.procedure))) (versioned 1 h.version (procedure_of program.Back (back.proc_of h.procedure))) p
-    (λ is found. let both = both_true (serves_files side) (h.program == nfs_number) is in named_nfs side h p both.0 (eqb-true h.program nfs_number both.1) found)
-    (λ is found. let both = both_true (serves_files side) (h.program == lbfs_number) is in named_lb side h p both.0 (eqb-true h.program lbfs_number both.1) found)
-    (λ is found. let both = both_true (serves_callbacks side) (h.program == back_number) is in named_back side h p both.0 (eqb-true h.program back_number both.1) found)
-    e
-
 -- ---- bodies
 
-abbrev pub HasArgs : Program → Body → Type 0
-HasArgs p b = (is_call b ≡ true) × (BodyFits b × (program_of b ≡ p))
+abbrev pub HasArgs : (version : ℕ) → Program → Body → Type 0
+HasArgs v p b = (is_call b ≡ true) × (BodyFits b × ((body_version b ≡ v) × (program_of b ≡ p)))
 
-abbrev HasResult : Program → Body → Type 0
-HasResult p b = (is_call b ≡ false) × (BodyFits b × (program_of b ≡ p))
+abbrev HasResult : (lbfs : ℕ) → Program → Body → Type 0
+HasResult v p b = (is_call b ≡ false) × (BodyFits b × (FitsIn v b × (program_of b ≡ p)))
 
-pub args_found : (p : Program) (at : ℕ) (rest : List ℕ) (b : Body) → IsBytes rest → whole_at at (args_of p) rest ≡ Ok b → HasArgs p b × (rest ≡ body_spell b)
-args_found (program.Nfs q) at rest b fits e =
-    let w = whole_found at (args_of (program.Nfs q)) rest b fits e in
+pub args_found : (n v : ℕ) (p : Program) (at : ℕ) (rest : List ℕ) (b : Body) → IsVersion n v p → IsBytes rest → whole_at at (args_of v p) rest ≡ Ok b → HasArgs v p b × (rest ≡ body_spell b)
+args_found n v (program.Nfs q) at rest b version fits e =
+    let w = whole_found at (args_of v (program.Nfs q)) rest b fits e in
     let h = nfs.args_fit q w.0.0 w.0.2 in
-    (subst (HasArgs (program.Nfs q)) w.0.1 (h.0, (h.1.1, ap program.Nfs h.1.0)), w.1)
-args_found (program.Lb q) at rest b fits e =
-    let w = whole_found at (args_of (program.Lb q)) rest b fits e in
-    let h = lb.args_fit q w.0.0 w.0.2 in
-    (subst (HasArgs (program.Lb q)) w.0.1 (h.0, (h.1.1, ap program.Lb h.1.0)), w.1)
-args_found (program.Back q) at rest b fits e =
-    let w = whole_found at (args_of (program.Back q)) rest b fits e in
+    let three : 3 ≡ v = omega (arith, version.0, version.1) in
+    (subst (HasArgs v (program.Nfs q)) w.0.1 (h.0, (h.1.1, (three, ap program.Nfs h.1.0))), w.1)
+args_found n v (program.Lb q) at rest b version fits e =
+    let w = whole_found at (args_of v (program.Lb q)) rest b fits e in
+    let h = lb.args_fit (in_version v q) w.0.0 w.0.2 in
+    (subst (HasArgs v (program.Lb q)) w.0.1 (h.0, (h.1.1.1, (h.1.1.0, ap program.Lb h.1.0))), w.1)
+args_found n v (program.Back q) at rest b version fits e =
+    let w = whole_found at (args_of v (program.Back q)) rest b fits e in
     let h = back.args_fit q w.0.0 w.0.2 in
-    (subst (HasArgs (program.Back q)) w.0.1 (h.0, (h.1.1, ap program.Back h.1.0)), w.1)
+    let one : 1 ≡ v = omega (arith, version.0, version.1) in
+    (subst (HasArgs v (program.Back q)) w.0.1 (h.0, (h.1.1, (one, ap program.Back h.1.0))), w.1)
 
-result_found : (p : Program) (at : ℕ) (rest : List ℕ) (b : Body) → IsBytes rest → whole_at at (result_of p) rest ≡ Ok b → HasResult p b × (rest ≡ body_spell b)
-result_found (program.Nfs q) at rest b fits e =
-    let w = whole_found at (result_of (program.Nfs q)) rest b fits e in
+result_found : (v : ℕ) (p : Program) (at : ℕ) (rest : List ℕ) (b : Body) → IsBytes rest → whole_at at (result_of v p) rest ≡ Ok b → HasResult v p b × (rest ≡ body_spell b)
+result_found v (program.Nfs q) at rest b fits e =
+    let w = whole_found at (result_of v (program.Nfs q)) rest b fits e in
     let h = nfs.answer_fits q w.0.0 w.0.2 in
-    (subst (HasResult (program.Nfs q)) w.0.1 (h.0, (h.1.1, ap program.Nfs h.1.0)), w.1)
-result_found (program.Lb q) at rest b fits e =
-    let w = whole_found at (result_of (program.Lb q)) rest b fits e in
-    let h = lb.answer_fits q w.0.0 w.0.2 in
-    (subst (HasResult (program.Lb q)) w.0.1 (h.0, (h.1.1, ap program.Lb h.1.0)), w.1)
-result_found (program.Back q) at rest b fits e =
-    let w = whole_found at (result_of (program.Back q)) rest b fits e in
+    (subst (HasResult v (program.Nfs q)) w.0.1 (h.0, (h.1.1, (tt, ap program.Nfs h.1.0))), w.1)
+result_found v (program.Lb q) at rest b fits e =
+    let w = whole_found at (result_of v (program.Lb q)) rest b fits e in
+    let h = lb.answer_fits (in_version v q) w.0.0 w.0.2 in
+    (subst (HasResult v (program.Lb q)) w.0.1 (h.0, (lb.fits_in v w.0.0 h.1.1, (h.1.1, ap program.Lb h.1.0))), w.1)
+result_found v (program.Back q) at rest b fits e =
+    let w = whole_found at (result_of v (program.Back q)) rest b fits e in
     let h = back.answer_fits q w.0.0 w.0.2 in
-    (subst (HasResult (program.Back q)) w.0.1 (h.0, (h.1.1, ap program.Back h.1.0)), w.1)
+    (subst (HasResult v (program.Back q)) w.0.1 (h.0, (h.1.1, (tt, ap program.Back h.1.0))), w.1)
 
 -- ---- calls
 
@@ -159,31 +111,46 @@ with_args_said : (xid : ℕ) (r : Result Body Fault) (m : Message) → is_unfit 
 with_args_said xid (Ok b) m fit e = (b, refl, message_is (Call xid b) m e)
 with_args_said xid (Err fault) m fit e = absurd (no_unfit xid refusal.GarbageArgs m fit e)
 
-taken_said : (xid : ℕ) (r : Result Program RpcRefusal) (i : Input) (m : Message) → is_unfit m ≡ false → parsed (taken xid r i) ≡ parsed m → (p : Program) × (r ≡ Ok p) × (parsed (with_args xid (whole_at i.at (args_of p) i.rest)) ≡ parsed m)
-taken_said xid (Ok p) i m fit e = (p, refl, e)
-taken_said xid (Err why) i m fit e = absurd (no_unfit xid why m fit e)
+taken_said : (xid v : ℕ) (r : Result Program RpcRefusal) (i : Input) (m : Message) → is_unfit m ≡ false → parsed (taken xid v r i) ≡ parsed m → (p : Program) × (r ≡ Ok p) × (parsed (with_args xid (whole_at i.at (args_of v p) i.rest)) ≡ parsed m)
+taken_said xid v (Ok p) i m fit e = (p, refl, e)
+taken_said xid v (Err why) i m fit e = absurd (no_unfit xid why m fit e)
 
 auths_fit : (h : CallHead) → call_form.Fits h → auth_form.Fits h.cred × auth_form.Fits h.verf
 unfolding call_form
 auths_fit h fits = fits.1.1.1
 
-call_said : (w : Waiting) (xid : ℕ) (i : Input) (m : Message) (bytes : List ℕ) → xid < 2 ^ 32 → bytes ≡ front_form.spell (record { xid = xid; direction = direction.Call }) ++ i.rest → IsBytes i.rest → is_unfit m ≡ false → parse_call w.side xid i ≡ Ok m → Says m bytes × IsExpected w m
+version_small : (h : CallHead) → call_form.Fits h → h.version < 2 ^ 32
+unfolding call_form u32_form
+version_small h fits = fits.1.0
+
+-- a call whose version of LBFS is served, and has the procedure
+is_served : (n : ℕ) (b : Body) → IsVersion n (body_version b) (program_of b) → HasProcedure (body_version b) (program_of b) → is_in n b ≡ true
+is_served n (body.Nfs m) version has = refl
+is_served n (body.Lb l) version has = grind (arith, nat_tests, version.1, has)
+is_served n (body.Back b) version has = refl
+
+call_said : (w : Waiting) (xid : ℕ) (i : Input) (m : Message) (bytes : List ℕ) → xid < 2 ^ 32 → bytes ≡ front_form.spell (record { xid = xid; direction = direction.Call }) ++ i.rest → IsBytes i.rest → is_unfit m ≡ false → parse_call w.side w.lbfs xid i ≡ Ok m → Says m bytes × IsExpected w m
 call_said w xid i m bytes lt all fits fit e =
-    let v = read_or_ok NotRpc (u32_form.read i) (λ version. cond (version.0 == 2) (parse_call_body w.side xid version.1) (Ok (Unfit xid (refusal.RpcMismatch 2 2)))) m e in
+    let v = read_or_ok NotRpc (u32_form.read i) (λ version. cond (version.0 == 2) (parse_call_body w.side w.lbfs xid version.1) (Ok (Unfit xid (refusal.RpcMismatch 2 2)))) m e in
     let t = u32_form.takes i v.0.0 v.0.1 fits v.1 in
-    let two = if_fit (v.0.0 == 2) (parse_call_body w.side xid v.0.1) xid (refusal.RpcMismatch 2 2) m fit v.2 in
-    let h = read_or_ok NotRpc (call_form.read v.0.1) (λ head. Ok (taken xid (called w.side head.0) head.1)) m two.1 in
+    let two = if_fit (v.0.0 == 2) (parse_call_body w.side w.lbfs xid v.0.1) xid (refusal.RpcMismatch 2 2) m fit v.2 in
+    let h = read_or_ok NotRpc (call_form.read v.0.1) (λ head. Ok (taken xid head.0.version (called w.side w.lbfs head.0) head.1)) m two.1 in
     let u = call_form.takes v.0.1 h.0.0 h.0.1 t.0.rest_fits h.1 in
-    let p = taken_said xid (called w.side h.0.0) h.0.1 m fit h.2 in
-    let named = called_named w.side h.0.0 p.0 p.1 in
-    let b = with_args_said xid (whole_at h.0.1.at (args_of p.0) h.0.1.rest) m fit p.2 in
-    let found = args_found p.0 h.0.1.at h.0.1.rest b.0 u.0.rest_fits b.1 in
+    let p = taken_said xid h.0.0.version (called w.side w.lbfs h.0.0) h.0.1 m fit h.2 in
+    let named : IsNamed w.side w.lbfs h.0.0 p.0 = subst (Names w.side w.lbfs h.0.0) p.1 (called_names w.side w.lbfs h.0.0) in
+    let b = with_args_said xid (whole_at h.0.1.at (args_of h.0.0.version p.0) h.0.1.rest) m fit p.2 in
+    let found = args_found w.lbfs h.0.0.version p.0 h.0.1.at h.0.1.rest b.0 named.1 u.0.rest_fits b.1 in
+    let version : body_version b.0 ≡ h.0.0.version = found.0.1.1.0 in
+    let program : program_of b.0 ≡ p.0 = found.0.1.1.1 in
     let auths = auths_fit h.0.0 u.1 in
-    let head : h.0.0 ≡ call_head h.0.0.cred h.0.0.verf (program_of b.0) = named.1 ∙ ap (call_head h.0.0.cred h.0.0.verf) (sym found.0.1.1) in
-    let spelled : i.rest ≡ u32_form.spell 2 ++ (call_form.spell (call_head h.0.0.cred h.0.0.verf (program_of b.0)) ++ body_spell b.0) =
+    let head : h.0.0 ≡ call_head h.0.0.cred h.0.0.verf (body_version b.0) (program_of b.0) = named.3 ∙ ap (λ (n : ℕ). call_head h.0.0.cred h.0.0.verf n p.0) (sym version) ∙ ap (call_head h.0.0.cred h.0.0.verf (body_version b.0)) (sym program) in
+    let spelled : i.rest ≡ u32_form.spell 2 ++ (call_form.spell (call_head h.0.0.cred h.0.0.verf (body_version b.0) (program_of b.0)) ++ body_spell b.0) =
     t.0.parts ∙ ap (λ (n : ℕ). u32_form.spell n ++ v.0.1.rest) (eqb-true v.0.0 2 two.0) ∙ ap (λ (r : List ℕ). u32_form.spell 2 ++ r) (u.0.parts ∙ ap (λ (r : List ℕ). call_form.spell h.0.0 ++ r) found.1 ∙ ap (λ (c : CallHead). call_form.spell c ++ body_spell b.0) head) in
+    let small : body_version b.0 < 2 ^ 32 = subst (λ (n : ℕ). n < 2 ^ 32) (sym version) (version_small h.0.0 u.1) in
+    let here : IsVersion w.lbfs (body_version b.0) (program_of b.0) = subst (IsVersion w.lbfs (body_version b.0)) (sym program) (subst (λ (n : ℕ). IsVersion w.lbfs n p.0) (sym version) named.1) in
+    let has : HasProcedure (body_version b.0) (program_of b.0) = subst (HasProcedure (body_version b.0)) (sym program) (subst (λ (n : ℕ). HasProcedure n p.0) (sym version) named.2) in
     let said : Says (Call xid b.0) bytes × IsExpected w (Call xid b.0) =
-    (((lt, (found.0.0, found.0.1.0)), (h.0.0.cred, h.0.0.verf, (auths.0, auths.1, all ∙ ap (λ (r : List ℕ). front_form.spell (record { xid = xid; direction = direction.Call }) ++ r) spelled))), ap (serves w.side) found.0.1.1 ∙ named.0) in
+    (((lt, (found.0.0, (small, found.0.1.0))), (h.0.0.cred, h.0.0.verf, (auths.0, auths.1, all ∙ ap (λ (r : List ℕ). front_form.spell (record { xid = xid; direction = direction.Call }) ++ r) spelled))), (ap (serves w.side) program ∙ named.0, is_served w.lbfs b.0 here has)) in
     subst (λ (m : Message). Says m bytes × IsExpected w m) b.2 said
 
 -- ---- replies
@@ -244,14 +211,14 @@ success_there (Denied (denial.AuthError n)) fits e = absurd cc
 abbrev reply_front : ℕ → List ℕ
 reply_front xid = front_form.spell (record { xid = xid; direction = direction.Reply })
 
-replied_said : (w : Waiting) (xid : ℕ) (p : Program) (h : ReplyHead) (o : Option RpcRefusal) (i : Input) (m : Message) (bytes : List ℕ) → xid < 2 ^ 32 → bytes ≡ reply_front xid ++ (reply_form.spell h ++ i.rest) → IsBytes i.rest → reply_form.Fits h → waiting xid w.calls ≡ Some p → refusal_of h ≡ o → replied xid p o i ≡ Ok m → Says m bytes × IsExpected w m
+replied_said : (w : Waiting) (xid : ℕ) (p : Program) (h : ReplyHead) (o : Option RpcRefusal) (i : Input) (m : Message) (bytes : List ℕ) → xid < 2 ^ 32 → bytes ≡ reply_front xid ++ (reply_form.spell h ++ i.rest) → IsBytes i.rest → reply_form.Fits h → waiting xid w.calls ≡ Some p → refusal_of h ≡ o → replied w.lbfs xid p o i ≡ Ok m → Says m bytes × IsExpected w m
 replied_said w xid p h None i m bytes lt all fits head waits is e =
-    let b = read_or_ok Garbage (whole_at i.at (result_of p) i.rest) (λ b. Ok (Answer xid b)) m e in
-    let found = result_found p i.at i.rest b.0 fits b.1 in
+    let b = read_or_ok Garbage (whole_at i.at (result_of w.lbfs p) i.rest) (λ b. Ok (Answer xid b)) m e in
+    let found = result_found w.lbfs p i.at i.rest b.0 fits b.1 in
     let s = success_there h head is in
     let spelled : bytes ≡ answer_spell xid s.0 b.0 = all ∙ ap (λ (r : List ℕ). reply_front xid ++ (reply_form.spell h ++ r)) found.1 ∙ ap (λ (h : ReplyHead). reply_front xid ++ (reply_form.spell h ++ body_spell b.0)) s.1.1 in
     let said : Says (Answer xid b.0) bytes × IsExpected w (Answer xid b.0) =
-    (((lt, (found.0.0, found.0.1.0)), (s.0, (s.1.0, spelled))), waits ∙ ap (λ (p : Program). Some p) (sym found.0.1.1)) in
+    (((lt, (found.0.0, found.0.1.0)), (s.0, (s.1.0, spelled))), (waits ∙ ap (λ (p : Program). Some p) (sym found.0.1.1.1), found.0.1.1.0)) in
     subst (λ (m : Message). Says m bytes × IsExpected w m) (message_is (Answer xid b.0) m b.2) said
 replied_said w xid p h (Some why) i m bytes lt all fits head waits is e =
     let u = read_or_ok Garbage (ended i) (λ _. Ok (Refuse xid why)) m e in
@@ -262,10 +229,10 @@ replied_said w xid p h (Some why) i m bytes lt all fits head waits is e =
     (((lt, s.1.1.0), (s.0, (s.1.0, spelled))), subst (λ (o : Option Program). IsSome o) (sym waits) refl) in
     subst (λ (m : Message). Says m bytes × IsExpected w m) (message_is (Refuse xid why) m u.2) said
 
-reply_said : (w : Waiting) (xid : ℕ) (o : Option Program) (i : Input) (m : Message) (bytes : List ℕ) → xid < 2 ^ 32 → bytes ≡ reply_front xid ++ i.rest → IsBytes i.rest → waiting xid w.calls ≡ o → parse_reply xid o i ≡ Ok m → Says m bytes × IsExpected w m
+reply_said : (w : Waiting) (xid : ℕ) (o : Option Program) (i : Input) (m : Message) (bytes : List ℕ) → xid < 2 ^ 32 → bytes ≡ reply_front xid ++ i.rest → IsBytes i.rest → waiting xid w.calls ≡ o → parse_reply w.lbfs xid o i ≡ Ok m → Says m bytes × IsExpected w m
 reply_said w xid None i m bytes lt all fits waits e = absurd cc
 reply_said w xid (Some p) i m bytes lt all fits waits e =
-    let h = read_or_ok Garbage (reply_form.read i) (λ head. replied xid p (refusal_of head.0) head.1) m e in
+    let h = read_or_ok Garbage (reply_form.read i) (λ head. replied w.lbfs xid p (refusal_of head.0) head.1) m e in
     let t = reply_form.takes i h.0.0 h.0.1 fits h.1 in
     replied_said w xid p h.0.0 (refusal_of h.0.0) h.0.1 m bytes lt (all ∙ ap (λ (r : List ℕ). reply_front xid ++ r) t.0.parts) t.0.rest_fits t.1 waits refl h.2
 

@@ -8,7 +8,7 @@ use Rattle.rpc_record.specs.declared.header.Direction.{Direction}
 use Rattle.rpc_record.specs.declared.header.Direction.TheVariants as direction
 use Rattle.rpc_record.specs.declared.header.Accept.TheVariants as accept
 use Rattle.rpc_record.specs.declared.header.ReplyHead.TheVariants.{Accepted}
-use Rattle.wire.specs.Message.{program_of, program_version, body_spell, is_unfit, RefusalFits, call_head, refusal_head, no_auth, message_spell}
+use Rattle.wire.specs.Message.{program_of, least_version, most_version, body_version, body_spell, is_unfit, RefusalFits, call_head, refusal_head, no_auth, message_spell}
 use Rattle.wire.specs.Parse.{parse_of}
 use Rattle.wire.specs.Refused.{IsUnfit, IsRefused, HasNoBytes}
 use Rattle.wire.specs.declared.fault.WireFault.TheVariants.{NotRpc}
@@ -24,25 +24,30 @@ use Rattle.wire.proofs.Again.{spell_again}
 use Rattle.wire.proofs.Refusals.{have_causes}
 use Rattle.wire.proofs.Sizes.{small_fits}
 
-version_fits : (p : Program) → program_version p < 2 ^ 32
-version_fits (program.Nfs x) = lit< tt
-version_fits (program.Lb x) = lit< tt
-version_fits (program.Back x) = lit< tt
+least_fits : (p : Program) → least_version p < 2 ^ 32
+least_fits (program.Nfs x) = lit< tt
+least_fits (program.Lb x) = lit< tt
+least_fits (program.Back x) = lit< tt
 
-unfit_fits : (side : Side) (xid : ℕ) (why : RpcRefusal) (bytes : List ℕ) → IsUnfit side xid why bytes → (xid < 2 ^ 32) × RefusalFits why
-unfit_fits side xid refusal.ProgUnavail bytes (h, rest, stands, y) = (stands.1.1.0, tt)
-unfit_fits side xid (refusal.ProgMismatch low high) bytes (h, rest, stands, (p, of, other, l, u)) =
-    (stands.1.1.0, (omega (arith, l, version_fits p), omega (arith, u, version_fits p)))
-unfit_fits side xid refusal.ProcUnavail bytes (h, rest, stands, y) = (stands.1.1.0, tt)
-unfit_fits side xid refusal.GarbageArgs bytes (h, rest, stands, y) = (stands.1.1.0, tt)
-unfit_fits side xid refusal.SystemErr bytes (h, rest, stands, y) = absurd y
-unfit_fits side xid (refusal.RpcMismatch low high) bytes (version, rest, stands, other, l, u) = (stands.1.0, (omega (arith, l), omega (arith, u)))
-unfit_fits side xid (refusal.AuthError n) bytes (h, rest, stands, y) = absurd y
+most_fits : (n : ℕ) (p : Program) → n < 2 ^ 32 → most_version n p < 2 ^ 32
+most_fits n (program.Nfs x) lt = lit< tt
+most_fits n (program.Lb x) lt = lt
+most_fits n (program.Back x) lt = lit< tt
 
-pub refused : (w : Waiting) (xid : ℕ) (why : RpcRefusal) (bytes : List ℕ) → IsBytes bytes → parse_of w bytes ≡ Ok (Unfit xid why) → IsRefused xid why
-refused w xid why bytes fits e =
-    let unfit : IsUnfit w.side xid why bytes = ((have_causes w).unfit xid why bytes fits).0 e in
-    let spelled = unfit_fits w.side xid why bytes unfit in
+unfit_fits : (side : Side) (n xid : ℕ) (why : RpcRefusal) (bytes : List ℕ) → n < 2 ^ 32 → IsUnfit side n xid why bytes → (xid < 2 ^ 32) × RefusalFits why
+unfit_fits side n xid refusal.ProgUnavail bytes lt (h, rest, stands, y) = (stands.1.1.0, tt)
+unfit_fits side n xid (refusal.ProgMismatch low high) bytes lt (h, rest, stands, (p, of, other, l, u)) =
+    (stands.1.1.0, (omega (arith, l, least_fits p), omega (arith, u, most_fits n p lt)))
+unfit_fits side n xid refusal.ProcUnavail bytes lt (h, rest, stands, y) = (stands.1.1.0, tt)
+unfit_fits side n xid refusal.GarbageArgs bytes lt (h, rest, stands, y) = (stands.1.1.0, tt)
+unfit_fits side n xid refusal.SystemErr bytes lt (h, rest, stands, y) = absurd y
+unfit_fits side n xid (refusal.RpcMismatch low high) bytes lt (version, rest, stands, other, l, u) = (stands.1.0, (omega (arith, l), omega (arith, u)))
+unfit_fits side n xid (refusal.AuthError k) bytes lt (h, rest, stands, y) = absurd y
+
+pub refused : (w : Waiting) (xid : ℕ) (why : RpcRefusal) (bytes : List ℕ) → w.lbfs < 2 ^ 32 → IsBytes bytes → parse_of w bytes ≡ Ok (Unfit xid why) → IsRefused xid why
+refused w xid why bytes lt fits e =
+    let unfit : IsUnfit w.side w.lbfs xid why bytes = ((have_causes w).unfit xid why bytes fits).0 e in
+    let spelled = unfit_fits w.side w.lbfs xid why bytes lt unfit in
     (small_fits (Refuse xid why) spelled tt, λ asker waits. spell_again asker (Refuse xid why) spelled waits)
 
 front_there : (xid : ℕ) (d : Direction) (rest : List ℕ) → front_form.spell (record { xid = xid; direction = d }) ++ rest ≡ [] → ⊥
@@ -50,7 +55,7 @@ unfolding front_form direction_form u32_form
 front_there xid d rest e = absurd (omega (arith, ap length e, length-append (front_form.spell (record { xid = xid; direction = d })) rest, length-append (u32_form.spell xid) (direction_form.spell d), wide32.len xid))
 
 no_bytes : (m : Message) → message_spell m ≡ [] → is_unfit m ≡ true
-no_bytes (Call xid b) e = absurd (front_there xid direction.Call (u32_form.spell 2 ++ (call_form.spell (call_head no_auth no_auth (program_of b)) ++ body_spell b)) e)
+no_bytes (Call xid b) e = absurd (front_there xid direction.Call (u32_form.spell 2 ++ (call_form.spell (call_head no_auth no_auth (body_version b) (program_of b)) ++ body_spell b)) e)
 no_bytes (Answer xid b) e = absurd (front_there xid direction.Reply (reply_form.spell (Accepted no_auth accept.Success) ++ body_spell b) e)
 no_bytes (Refuse xid why) e = absurd (front_there xid direction.Reply (reply_form.spell (refusal_head no_auth why)) e)
 no_bytes (Unfit xid why) e = refl

@@ -3,7 +3,7 @@ use Rattle.std.proofs.Common.{◌≡◌, ℕ, ◌≤◌, List, ◌++◌, length,
 use Rattle.limits.specs.declared.TheConstants.{RECORD_MOST}
 use Rattle.xdr_codec.specs.Xdr.{u32_form, opaque_spell}
 use Rattle.rpc_record.specs.Header.{direction_form, front_form, auth_form, call_form, versions_form, accept_form, denial_form, reply_form}
-use Rattle.wire.specs.Message.{program_of, body_spell, BodyFits, IsSpelled, MessageFits, call_head, refusal_head, message_spell, no_auth}
+use Rattle.wire.specs.Message.{program_of, body_version, body_spell, BodyFits, IsSpelled, MessageFits, call_head, refusal_head, message_spell, no_auth}
 use Rattle.wire.specs.Size.{IsSmallBody, IsSmall}
 use Rattle.rpc_record.specs.declared.header.Direction.{Direction}
 use Rattle.rpc_record.specs.declared.header.Direction.TheVariants as direction
@@ -21,7 +21,7 @@ use Rattle.wire.proofs.HashSizes.{lb_most, back_most}
 
 body_most : (b : Body) → BodyFits b → IsSmallBody b → length (body_spell b) ≤ 66000
 body_most (body.Nfs n) fits small = nfs_most n fits small
-body_most (body.Lb l) fits small = omega (arith, lb_most l fits)
+body_most (body.Lb l) fits small = omega (arith, lb_most l fits small)
 body_most (body.Back b) fits small = omega (arith, back_most b fits)
 
 front_len : (xid : ℕ) (d : Direction) → length (front_form.spell (record { xid = xid; direction = d })) ≡ 8
@@ -32,9 +32,9 @@ version_len : length (u32_form.spell 2) ≡ 4
 unfolding u32_form
 version_len = refl
 
-call_len : (p : Program) → length (call_form.spell (call_head no_auth no_auth p)) ≡ 28
+call_len : (v : ℕ) (p : Program) → length (call_form.spell (call_head no_auth no_auth v p)) ≡ 28
 unfolding call_form auth_form opaque_spell u32_form
-call_len p = refl
+call_len v p = refl
 
 success_len : length (reply_form.spell (Accepted no_auth accept.Success)) ≡ 16
 unfolding reply_form accept_form auth_form opaque_spell u32_form
@@ -53,8 +53,8 @@ refusal_most (refusal.AuthError why) = omega arith
 small_most : (m : Message) → IsSpelled m → IsSmall m → length (message_spell m) ≤ RECORD_MOST
 small_most (Call xid b) spelled small =
     let front : List ℕ = front_form.spell (record { xid = xid; direction = direction.Call }) in
-    let head : List ℕ = call_form.spell (call_head no_auth no_auth (program_of b)) in
-    omega (arith, body_most b spelled.1.1 small, front_len xid direction.Call, version_len, call_len (program_of b), length-append head (body_spell b), length-append (u32_form.spell 2) (head ++ body_spell b), length-append front (u32_form.spell 2 ++ (head ++ body_spell b)))
+    let head : List ℕ = call_form.spell (call_head no_auth no_auth (body_version b) (program_of b)) in
+    omega (arith, body_most b spelled.1.1.1 small, front_len xid direction.Call, version_len, call_len (body_version b) (program_of b), length-append head (body_spell b), length-append (u32_form.spell 2) (head ++ body_spell b), length-append front (u32_form.spell 2 ++ (head ++ body_spell b)))
 small_most (Answer xid b) spelled small =
     let front : List ℕ = front_form.spell (record { xid = xid; direction = direction.Reply }) in
     let head : List ℕ = reply_form.spell (Accepted no_auth accept.Success) in

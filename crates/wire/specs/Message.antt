@@ -6,6 +6,8 @@ use Rattle.xdr_codec.specs.Compose.{embedded}
 use Rattle.xdr_codec.specs.Xdr.{u32_form}
 use Rattle.nfs3_calls.specs.Nfs as nfs
 use Rattle.hash_calls.specs.Lb as lb
+use Rattle.hash_calls.specs.declared.message.LbIn.{LbIn}
+use Rattle.hash_calls.specs.declared.message.LbProc.{LbProc}
 use Rattle.hash_calls.specs.Back as back
 use Rattle.rpc_record.specs.Header.{front_form, auth_form, call_form, reply_form}
 use Rattle.rpc_record.specs.declared.header.Direction.TheVariants as direction
@@ -42,10 +44,16 @@ program_number (program.Nfs p) = nfs_number
 program_number (program.Lb p) = lbfs_number
 program_number (program.Back p) = back_number
 
-abbrev pub program_version : Program → ℕ
-program_version (program.Nfs p) = 3
-program_version (program.Lb p) = 1
-program_version (program.Back p) = 1
+-- the versions of a program that are served, from the least to the most; of LBFS as many as the end says
+abbrev pub least_version : Program → ℕ
+least_version (program.Nfs p) = 3
+least_version (program.Lb p) = 1
+least_version (program.Back p) = 1
+
+abbrev pub most_version : (lbfs : ℕ) → Program → ℕ
+most_version lbfs (program.Nfs p) = 3
+most_version lbfs (program.Lb p) = lbfs
+most_version lbfs (program.Back p) = 1
 
 abbrev pub procedure_number : Program → ℕ
 procedure_number (program.Nfs p) = nfs.proc_number p
@@ -60,33 +68,50 @@ program_of (body.Nfs n) = program.Nfs (nfs.nfs_proc n)
 program_of (body.Lb l) = program.Lb (lb.lb_proc l)
 program_of (body.Back b) = program.Back (back.back_proc b)
 
+-- the version of its program that a call is of, as its header tells it; an answer doesn't say it
+abbrev pub body_version : Body → ℕ
+body_version (body.Nfs n) = 3
+body_version (body.Lb l) = lb.lbfs_of l
+body_version (body.Back b) = 1
+
 abbrev pub body_spell : Body → List ℕ
 body_spell (body.Nfs n) = nfs.nfs_spell n
 body_spell (body.Lb l) = lb.lb_spell l
 body_spell (body.Back b) = back.back_spell b
 
-abbrev pub args_of : Program → Format Body
-args_of (program.Nfs p) = embedded body.Nfs body_spell (nfs.args_form p) (λ _. nfs.args_same p _)
-args_of (program.Lb p) = embedded body.Lb body_spell (lb.args_form p) (λ _. lb.args_same p _)
-args_of (program.Back p) = embedded body.Back body_spell (back.args_form p) (λ _. back.args_same p _)
+-- a procedure of LBFS in a version
+abbrev pub in_version : (version : ℕ) → LbProc → LbIn
+in_version v p = record { lbfs = v; procedure = p }
 
-abbrev pub result_of : Program → Format Body
-result_of (program.Nfs p) = embedded body.Nfs body_spell (nfs.answer_of p) (λ _. nfs.answer_same p _)
-result_of (program.Lb p) = embedded body.Lb body_spell (lb.answer_of p) (λ _. lb.answer_same p _)
-result_of (program.Back p) = embedded body.Back body_spell (back.answer_of p) (λ _. back.answer_same p _)
+-- the arguments of a procedure in a version of its program, and what it gave
+abbrev pub args_of : (version : ℕ) → Program → Format Body
+args_of v (program.Nfs p) = embedded body.Nfs body_spell (nfs.args_form p) (λ _. nfs.args_same p _)
+args_of v (program.Lb p) = embedded body.Lb body_spell (lb.args_form (in_version v p)) (λ _. lb.args_same (in_version v p) _)
+args_of v (program.Back p) = embedded body.Back body_spell (back.args_form p) (λ _. back.args_same p _)
+
+abbrev pub result_of : (lbfs : ℕ) → Program → Format Body
+result_of v (program.Nfs p) = embedded body.Nfs body_spell (nfs.answer_of p) (λ _. nfs.answer_same p _)
+result_of v (program.Lb p) = embedded body.Lb body_spell (lb.answer_of (in_version v p)) (λ _. lb.answer_same (in_version v p) _)
+result_of v (program.Back p) = embedded body.Back body_spell (back.answer_of p) (λ _. back.answer_same p _)
 
 abbrev pub is_call : Body → Bool
 is_call (body.Nfs n) = nfs.is_call n
 is_call (body.Lb l) = lb.is_call l
 is_call (body.Back b) = back.is_call b
 
--- its byte strings, lists and numbers are within their maxima
+-- its byte strings, lists and numbers are within their maxima, and its layout is that of its version
 abbrev pub BodyFits : Body → Type 0
 BodyFits (body.Nfs n) = nfs.NfsFits n
 BodyFits (body.Lb l) = lb.LbFits l
 BodyFits (body.Back b) = back.BackFits b
 
--- its byte strings and lists are within their maxima, which its types do not say
+-- an answer's layout is that of a version of LBFS
+abbrev pub FitsIn : (lbfs : ℕ) → Body → Type 0
+FitsIn v (body.Nfs n) = Unit {0}
+FitsIn v (body.Lb l) = lb.FitsIn v l
+FitsIn v (body.Back b) = Unit {0}
+
+-- its byte strings and lists are within their maxima, and its layout is that of its version, which its types do not say
 abbrev pub IsShortBody : Body → Type 0
 IsShortBody (body.Nfs n) = nfs.IsShort n
 IsShortBody (body.Lb l) = lb.IsShort l
@@ -94,11 +119,11 @@ IsShortBody (body.Back b) = Unit {0}
 
 -- ---- spellings, with any authentication items
 
-abbrev pub call_head : Auth → Auth → Program → CallHead
-call_head cred verf p = record { program = program_number p; version = program_version p; procedure = procedure_number p; cred = cred; verf = verf }
+abbrev pub call_head : Auth → Auth → (version : ℕ) → Program → CallHead
+call_head cred verf v p = record { program = program_number p; version = v; procedure = procedure_number p; cred = cred; verf = verf }
 
 abbrev pub call_spell : ℕ → Auth → Auth → Body → List ℕ
-call_spell xid cred verf b = front_form.spell (record { xid = xid; direction = direction.Call }) ++ (u32_form.spell 2 ++ (call_form.spell (call_head cred verf (program_of b)) ++ body_spell b))
+call_spell xid cred verf b = front_form.spell (record { xid = xid; direction = direction.Call }) ++ (u32_form.spell 2 ++ (call_form.spell (call_head cred verf (body_version b) (program_of b)) ++ body_spell b))
 
 abbrev pub answer_spell : ℕ → Auth → Body → List ℕ
 answer_spell xid verf b = front_form.spell (record { xid = xid; direction = direction.Reply }) ++ (reply_form.spell (Accepted verf accept.Success) ++ body_spell b)
@@ -136,7 +161,7 @@ is_unfit (Unfit xid why) = true
 -- A call has arguments, and an answer a result, within their maxima. A call that can't be taken is
 -- read alone, and has no spelling.
 abbrev pub IsSpelled : Message → Type 0
-IsSpelled (Call xid b) = (xid < 2 ^ 32) × ((is_call b ≡ true) × BodyFits b)
+IsSpelled (Call xid b) = (xid < 2 ^ 32) × ((is_call b ≡ true) × ((body_version b < 2 ^ 32) × BodyFits b))
 IsSpelled (Answer xid b) = (xid < 2 ^ 32) × ((is_call b ≡ false) × BodyFits b)
 IsSpelled (Refuse xid why) = (xid < 2 ^ 32) × RefusalFits why
 IsSpelled (Unfit xid why) = ⊥

@@ -12,7 +12,7 @@ use Rattle.nfs3_calls.specs.Choices.{how_made_form, set_attr_form, set_time_form
 use Rattle.xdr_codec.specs.Handle.{handle_bytes}
 use Rattle.hash_calls.specs.declared.message.LbProc.TheVariants as lb_proc
 use Rattle.hash_calls.specs.declared.message.Lb.TheVariants as lb
-use Rattle.hash_calls.specs.Calls.{hashes_form}
+use Rattle.hash_calls.specs.Calls.{hashes_form, look_on_form}
 use Rattle.hash_calls.specs.declared.message.BackProc.TheVariants as back_proc
 use Rattle.hash_calls.specs.declared.message.Back.TheVariants as back
 use Rattle.rpc_record.specs.Header.{direction_form, front_form, auth_form, call_form, accept_form, denial_form, reply_form}
@@ -32,22 +32,22 @@ abbrev words : List ℕ → List ℕ
 words ws = flat_map (to_be_bytes w32) ws
 
 abbrev calls_at : Side → Waiting
-calls_at side = record { side = side; calls = [] }
+calls_at side = record { side = side; lbfs = 1; calls = [] }
 
 -- a client that awaits one answer
 abbrev awaits : ℕ → Program → Waiting
-awaits xid p = record { side = Client; calls = record { xid = xid; program = p } ∷ [] }
+awaits xid p = record { side = Client; lbfs = 1; calls = record { xid = xid; program = p } ∷ [] }
 
 -- ---- calls
 
 abbrev null_call : List ℕ
 null_call = words (7 ∷ 0 ∷ 2 ∷ 536890434 ∷ 1 ∷ 0 ∷ 0 ∷ 0 ∷ 0 ∷ 0 ∷ [])
 
-null_row : parse_of (calls_at Server) null_call ≡ Ok (Call 7 (body.Lb lb.Null))
+null_row : parse_of (calls_at Server) null_call ≡ Ok (Call 7 (body.Lb (lb.Null 1)))
 unfolding front_form direction_form call_form auth_form u32_form opaque_read count_form bytes_form
 null_row = refl
 
-null_spelled_row : message_spell (Call 7 (body.Lb lb.Null)) ≡ null_call
+null_spelled_row : message_spell (Call 7 (body.Lb (lb.Null 1))) ≡ null_call
 unfolding front_form direction_form call_form auth_form u32_form opaque_spell
 null_spelled_row = refl
 
@@ -77,7 +77,7 @@ either_recall_row : parse_of (calls_at Either) recall ≡ Ok (Call 1 (body.Back 
 unfolding front_form direction_form call_form auth_form u32_form opaque_read count_form bytes_form
 either_recall_row = refl
 
-either_null_row : parse_of (calls_at Either) null_call ≡ Ok (Call 7 (body.Lb lb.Null))
+either_null_row : parse_of (calls_at Either) null_call ≡ Ok (Call 7 (body.Lb (lb.Null 1)))
 unfolding front_form direction_form call_form auth_form u32_form opaque_read count_form bytes_form
 either_null_row = refl
 
@@ -109,6 +109,45 @@ nfs_version_row = refl
 lbfs_version_row : parse_of (calls_at Server) (words (7 ∷ 0 ∷ 2 ∷ 536890434 ∷ 9 ∷ 99 ∷ 0 ∷ 0 ∷ 0 ∷ 0 ∷ [])) ≡ Ok (Unfit 7 (refusal.ProgMismatch 1 1))
 unfolding front_form direction_form call_form auth_form u32_form opaque_read count_form bytes_form
 lbfs_version_row = refl
+
+-- LBFS is served in the versions from 1 on, here up to 1, and there up to 4; a version that isn't served isn't answered
+abbrev null_call_in : ℕ → List ℕ
+null_call_in v = words (7 ∷ 0 ∷ 2 ∷ 536890434 ∷ v ∷ 0 ∷ 0 ∷ 0 ∷ 0 ∷ 0 ∷ [])
+
+abbrev serving : ℕ → Waiting
+serving v = record { side = Server; lbfs = v; calls = [] }
+
+second_version_row : parse_of (serving 1) (null_call_in 2) ≡ Ok (Unfit 7 (refusal.ProgMismatch 1 1))
+unfolding front_form direction_form call_form auth_form u32_form opaque_read count_form bytes_form
+second_version_row = refl
+
+no_version_row : parse_of (serving 1) (null_call_in 0) ≡ Ok (Unfit 7 (refusal.ProgMismatch 1 1))
+unfolding front_form direction_form call_form auth_form u32_form opaque_read count_form bytes_form
+no_version_row = refl
+
+fourth_version_row : parse_of (serving 4) (null_call_in 4) ≡ Ok (Call 7 (body.Lb (lb.Null 4)))
+unfolding front_form direction_form call_form auth_form u32_form opaque_read count_form bytes_form
+fourth_version_row = refl
+
+fourth_spelled_row : message_spell (Call 7 (body.Lb (lb.Null 4))) ≡ null_call_in 4
+unfolding front_form direction_form call_form auth_form u32_form opaque_spell
+fourth_spelled_row = refl
+
+fifth_version_row : parse_of (serving 4) (null_call_in 5) ≡ Ok (Unfit 7 (refusal.ProgMismatch 1 4))
+unfolding front_form direction_form call_form auth_form u32_form opaque_read count_form bytes_form
+fifth_version_row = refl
+
+-- LOOKLEASE, procedure 7, of "a" in the root: version 4 has it, and version 3 has no such procedure
+abbrev look_call_in : ℕ → List ℕ
+look_call_in v = words (7 ∷ 0 ∷ 2 ∷ 536890434 ∷ v ∷ 7 ∷ 0 ∷ 0 ∷ 0 ∷ 0 ∷ 16 ∷ 1279406129 ∷ 0 ∷ 0 ∷ 1 ∷ 1 ∷ 1627389952 ∷ [])
+
+look_row : parse_of (serving 4) (look_call_in 4) ≡ Ok (Call 7 (body.Lb (lb.LookLease (record { lbfs = 4; dir = handle_bytes 1; name = 97 ∷ [] }))))
+unfolding front_form direction_form call_form auth_form u32_form opaque_read count_form bytes_form look_on_form
+look_row = refl
+
+no_look_row : parse_of (serving 4) (look_call_in 3) ≡ Ok (Unfit 7 refusal.ProcUnavail)
+unfolding front_form direction_form call_form auth_form u32_form opaque_read count_form bytes_form
+no_look_row = refl
 
 procedure_row : parse_of (calls_at Server) (words (7 ∷ 0 ∷ 2 ∷ 100003 ∷ 3 ∷ 99 ∷ 0 ∷ 0 ∷ 0 ∷ 0 ∷ 1 ∷ [])) ≡ Ok (Unfit 7 refusal.ProcUnavail)
 unfolding front_form direction_form call_form auth_form u32_form opaque_read count_form bytes_form

@@ -5,6 +5,8 @@ use Rattle.xdr_codec.specs.declared.answer.Answer.TheVariants.{Done}
 use Rattle.nfs3_calls.specs.Calls.{listing_form}
 use Rattle.nfs3_calls.specs.declared.message.Nfs.{Nfs}
 use Rattle.nfs3_calls.specs.declared.message.Nfs.TheVariants as nfs
+use Rattle.hash_calls.specs.declared.message.Lb.{Lb}
+use Rattle.hash_calls.specs.declared.message.Lb.TheVariants as lb
 use Rattle.wire.specs.declared.message.Body.{Body}
 use Rattle.wire.specs.declared.message.Body.TheVariants as body
 use Rattle.wire.specs.declared.message.Message.{Message}
@@ -26,10 +28,15 @@ IsSmallNfs (nfs.Rename r) = length r.from.name + length r.to.name ≤ small_name
 IsSmallNfs (nfs.ReadDirAnswer (Done l)) = length (listing_form.spell l) ≤ LISTING_MOST
 IsSmallNfs n = Unit {0}
 
--- all that a message of LBFS or of the callback program holds has a maximum
+-- the name of a LOOKLEASE; all else that a message of LBFS holds has a maximum
+abbrev pub IsSmallLb : Lb → Type 0
+IsSmallLb (lb.LookLease l) = length l.name ≤ small_names
+IsSmallLb l = Unit {0}
+
+-- all that a message of the callback program holds has a maximum
 abbrev pub IsSmallBody : Body → Type 0
 IsSmallBody (body.Nfs n) = IsSmallNfs n
-IsSmallBody (body.Lb l) = Unit {0}
+IsSmallBody (body.Lb l) = IsSmallLb l
 IsSmallBody (body.Back b) = Unit {0}
 
 abbrev pub IsSmall : Message → Type 0

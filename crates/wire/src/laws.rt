@@ -1,7 +1,7 @@
 //! What holds of every message and every record: `specs/Message.antt` says what a record says,
 //! `specs/Refused.antt` when it is no message, and `specs/Size.antt` which messages are short.
 
-ghost use Rattle.std.specs.Prelude.{◌≡◌, ℕ, List, Ok, false};
+ghost use Rattle.std.specs.Prelude.{◌≡◌, ℕ, ◌<◌, ◌^◌, List, Ok, false};
 ghost use Rattle.xdr_codec.specs.Format.{IsBytes};
 ghost use Rattle.wire.specs.Message.{message_spell, is_unfit, IsSpelled, MessageFits, Says};
 ghost use Rattle.wire.specs.Parse.{parse_of, IsExpected};
@@ -48,7 +48,7 @@ pub fn refusals_have_causes()
 /// The refusal of a call that can't be taken has a record, and the end that called, which waits
 /// under the xid, reads that refusal.
 pub fn refusals_are_read()
-    ensures { (w : Waiting) (xid : ℕ) (why : RpcRefusal) (bytes : List ℕ) → IsBytes bytes → parse_of w bytes ≡ Ok (Unfit xid why) → IsRefused xid why }
+    ensures { (w : Waiting) (xid : ℕ) (why : RpcRefusal) (bytes : List ℕ) → w.lbfs < 2 ^ 32 → IsBytes bytes → parse_of w bytes ≡ Ok (Unfit xid why) → IsRefused xid why }
 {}
 
 /// A call that can't be taken has no bytes to send, every other message has some, and no bytes are

@@ -2,7 +2,7 @@
 //! says, and `specs/Parse.antt` which may come.
 
 ghost use Rattle.std.specs.Prelude.{◌≡◌};
-ghost use Rattle.wire.specs.Message.{program_of, program_number, program_version, procedure_number};
+ghost use Rattle.wire.specs.Message.{program_of, program_number, procedure_number, body_version};
 ghost use Rattle.wire.specs.Parse.{serves_files, serves_callbacks};
 
 use hash_calls::message::{Back, BackProc, Lb, LbProc};
@@ -18,8 +18,14 @@ pub const NFS_VERSION: u32 = 3;
 /// The program number of LBFS.
 pub const LBFS_PROGRAM: u32 = 0x2000_4c42;
 
-/// The version of LBFS.
-pub const LBFS_VERSION: u32 = 1;
+/// The versions of LBFS are served from this one on.
+pub const LBFS_LEAST: u32 = 1;
+
+/// And up to this one.
+pub const LBFS_SERVED: u32 = 1;
+
+/// The version of LBFS that clients speak.
+pub const LBFS_SPOKEN: u32 = 1;
 
 /// The program number of the callback program, which a server calls on a client's connection.
 pub const BACK_PROGRAM: u32 = 0x2000_4c43;
@@ -47,7 +53,7 @@ pub enum RpcRefusal {
     /// No such program here (PROG_UNAVAIL, 1).
     ProgUnavail,
     /// Only the versions from `low` to `high` of the program (PROG_MISMATCH, 2). `parse` gives 3
-    /// and 3 for NFS, and 1 and 1 for the other two.
+    /// and 3 for NFS, 1 and 1 for the callback program, and for LBFS 1 and the last that is served.
     ProgMismatch { low: u32, high: u32 },
     /// No such procedure (PROC_UNAVAIL, 3).
     ProcUnavail,
@@ -93,7 +99,7 @@ pub enum Side {
 pub enum Program {
     /// NFS version 3 (RFC 1813), program 100003.
     Nfs(NfsProc),
-    /// LBFS version 1, program 0x20004C42.
+    /// LBFS, program 0x20004C42. Of which version a call is, says what it asks for.
     Lb(LbProc),
     /// The callback program, version 1, program 0x20004C43.
     Back(BackProc),
@@ -113,6 +119,9 @@ pub struct Pending {
 pub struct Waiting {
     /// The end that waits.
     pub side: Side,
+    /// A version of LBFS: where it is served, the last that is, and elsewhere that of the calls that
+    /// wait.
+    pub lbfs: u32,
     /// The calls without an answer yet, any number of them. Where two have one xid, an answer is
     /// taken as the first's. `parse` takes none out: its caller does so with the answer.
     pub calls: Items<Pending>,
@@ -141,6 +150,17 @@ impl Body {
             Body::Back(message) => Program::Back(message.procedure()),
         }
     }
+
+    /// The version of its program that a call is of; an answer doesn't say it.
+    pub fn version(&self) -> u32
+        ensures { result ≡ body_version self.now }
+    {
+        match self {
+            Body::Nfs(_) => NFS_VERSION,
+            Body::Lb(message) => message.lbfs(),
+            Body::Back(_) => BACK_VERSION,
+        }
+    }
 }
 
 impl Program {
@@ -152,17 +172,6 @@ impl Program {
             Program::Nfs(_) => NFS_PROGRAM,
             Program::Lb(_) => LBFS_PROGRAM,
             Program::Back(_) => BACK_PROGRAM,
-        }
-    }
-
-    /// The version of the program.
-    pub fn version(self) -> u32
-        ensures { result ≡ program_version self }
-    {
-        match self {
-            Program::Nfs(_) => NFS_VERSION,
-            Program::Lb(_) => LBFS_VERSION,
-            Program::Back(_) => BACK_VERSION,
         }
     }
 

@@ -3,15 +3,15 @@
 
 ghost use Rattle.std.specs.Prelude.{◌≡◌, Ok, None, IfOk};
 ghost use Rattle.wire.specs.Parse.{IsParsed, parse_of, parse_call, parse_call_body, parse_reply, replied, with_args, called, versioned, refusal_of, waiting};
-ghost use Rattle.wire.specs.Message.{args_of, result_of};
+ghost use Rattle.wire.specs.Message.{args_of, result_of, in_version};
 ghost use Rattle.xdr_codec.specs.Format.{GivesAll, whole_at};
 
 use crate::fault::{WireError, WireFault, garbage, not_rpc};
 use crate::message::{
-    BACK_PROGRAM, BACK_VERSION, Body, LBFS_PROGRAM, LBFS_VERSION, Message, NFS_PROGRAM,
-    NFS_VERSION, Pending, Program, RPC_VERSION, RpcRefusal, Side, Waiting,
+    BACK_PROGRAM, BACK_VERSION, Body, LBFS_LEAST, LBFS_PROGRAM, Message, NFS_PROGRAM, NFS_VERSION,
+    Pending, Program, RPC_VERSION, RpcRefusal, Side, Waiting,
 };
-use hash_calls::message::{BackProc, LbProc};
+use hash_calls::message::{BackProc, LbIn, LbProc};
 use nfs3_calls::message::NfsProc;
 use rpc_record::header::{Accept, CallHead, Denial, Direction, Front, ReplyHead};
 use std::alloc::{AllocError, Global};
@@ -35,10 +35,10 @@ pub fn parse(alloc: Global, bytes: &[u8], expected: &Waiting) -> Result<Message,
     match Front::read(alloc, &mut reader) {
         Err(error) => Err(not_rpc(error)),
         Ok(front) => match front.direction {
-            Direction::Call => call(alloc, expected.side, front.xid, &mut reader),
+            Direction::Call => { call(alloc, expected.side, expected.lbfs, front.xid, &mut reader) }
             Direction::Reply => {
                 let program = awaited(front.xid, expected.calls.as_slice());
-                reply(alloc, front.xid, program, &mut reader)
+                reply(alloc, expected.lbfs, front.xid, program, &mut reader)
             }
         },
     }
@@ -72,50 +72,62 @@ fn awaited(xid: u32, calls: &[Pending]) -> Option<Program>
     None
 }
 
-/// The procedure that was found, where the version is the program's own.
-fn versioned(own: u32, version: u32, found: Option<Program>) -> Result<Program, RpcRefusal>
-    ensures { result ≡ versioned own version found }
+/// The procedure that was found, where the version is one of the program's that are served.
+fn versioned(
+    least: u32,
+    most: u32,
+    version: u32,
+    found: Option<Program>,
+) -> Result<Program, RpcRefusal>
+    ensures { result ≡ versioned least most version found }
 {
-    if version != own {
-        return Err(RpcRefusal::ProgMismatch {
-            low: own,
-            high: own,
-        });
-    }
-    match found {
-        Some(program) => Ok(program),
-        None => Err(RpcRefusal::ProcUnavail),
+    if least <= version && version <= most {
+        match found {
+            Some(program) => Ok(program),
+            None => Err(RpcRefusal::ProcUnavail),
+        }
+    } else {
+        Err(RpcRefusal::ProgMismatch {
+            low: least,
+            high: most,
+        })
     }
 }
 
-/// The program and procedure that a header names, where they are served.
-fn called(side: Side, head: &CallHead) -> Result<Program, RpcRefusal>
-    ensures { result ≡ called side head.now }
+/// The program and procedure that a header names, where they are served; LBFS up to a version.
+fn called(side: Side, lbfs: u32, head: &CallHead) -> Result<Program, RpcRefusal>
+    ensures { result ≡ called side lbfs head.now }
 {
     if side.serves_files() && head.program == NFS_PROGRAM {
         let found = NfsProc::of_number(head.procedure).map(Program::Nfs);
-        return versioned(NFS_VERSION, head.version, found);
+        return versioned(NFS_VERSION, NFS_VERSION, head.version, found);
     }
     if side.serves_files() && head.program == LBFS_PROGRAM {
-        let found = LbProc::of_number(head.procedure).map(Program::Lb);
-        return versioned(LBFS_VERSION, head.version, found);
+        let found = LbProc::of_number_in(head.version, head.procedure).map(Program::Lb);
+        return versioned(LBFS_LEAST, lbfs, head.version, found);
     }
     if side.serves_callbacks() && head.program == BACK_PROGRAM {
         let found = BackProc::of_number(head.procedure).map(Program::Back);
-        return versioned(BACK_VERSION, head.version, found);
+        return versioned(BACK_VERSION, BACK_VERSION, head.version, found);
     }
     Err(RpcRefusal::ProgUnavail)
 }
 
 /// A call, from the version of RPC on.
-fn call(alloc: Global, side: Side, xid: u32, reader: &mut Reader) -> Result<Message, WireError>
-    ensures { IsParsed result (parse_call side xid reader.old) }
+fn call(
+    alloc: Global,
+    side: Side,
+    lbfs: u32,
+    xid: u32,
+    reader: &mut Reader,
+) -> Result<Message, WireError>
+    ensures { IsParsed result (parse_call side lbfs xid reader.old) }
 {
     match reader.u32() {
         Err(error) => Err(not_rpc(error)),
         Ok(version) => {
             if version == RPC_VERSION {
-                call_body(alloc, side, xid, reader)
+                call_body(alloc, side, lbfs, xid, reader)
             } else {
                 Ok(Message::Unfit(
                     xid,
@@ -130,14 +142,20 @@ fn call(alloc: Global, side: Side, xid: u32, reader: &mut Reader) -> Result<Mess
 }
 
 /// A call behind the version of RPC.
-fn call_body(alloc: Global, side: Side, xid: u32, reader: &mut Reader) -> Result<Message, WireError>
-    ensures { IsParsed result (parse_call_body side xid reader.old) }
+fn call_body(
+    alloc: Global,
+    side: Side,
+    lbfs: u32,
+    xid: u32,
+    reader: &mut Reader,
+) -> Result<Message, WireError>
+    ensures { IsParsed result (parse_call_body side lbfs xid reader.old) }
 {
     match CallHead::read(alloc, reader) {
         Err(error) => Err(not_rpc(error)),
-        Ok(head) => match called(side, &head) {
+        Ok(head) => match called(side, lbfs, &head) {
             Err(refusal) => Ok(Message::Unfit(xid, refusal)),
-            Ok(program) => arguments(alloc, xid, program, reader),
+            Ok(program) => arguments(alloc, xid, head.version, program, reader),
         },
     }
 }
@@ -145,46 +163,72 @@ fn call_body(alloc: Global, side: Side, xid: u32, reader: &mut Reader) -> Result
 fn arguments(
     alloc: Global,
     xid: u32,
+    version: u32,
     program: Program,
     reader: &mut Reader,
 ) -> Result<Message, WireError>
-    ensures { IsParsed result (Ok (with_args xid (whole_at reader.old.at (args_of program) reader.old.rest))) }
+    ensures { IsParsed result (Ok (with_args xid (whole_at reader.old.at (args_of version program) reader.old.rest))) }
 {
-    match read_call(alloc, program, reader) {
+    match read_call(alloc, version, program, reader) {
         Ok(body) => Ok(Message::Call(xid, body)),
         Err(ReadError::Memory) => Err(WireError::Memory),
         Err(ReadError::Fault(_)) => Ok(Message::Unfit(xid, RpcRefusal::GarbageArgs)),
     }
 }
 
-fn read_call(alloc: Global, program: Program, reader: &mut Reader) -> Result<Body, ReadError>
-    ensures { GivesAll result (whole_at reader.old.at (args_of program) reader.old.rest) }
+/// The arguments of a procedure in a version of its program.
+fn read_call(
+    alloc: Global,
+    version: u32,
+    program: Program,
+    reader: &mut Reader,
+) -> Result<Body, ReadError>
+    ensures { GivesAll result (whole_at reader.old.at (args_of version program) reader.old.rest) }
 {
     match program {
         Program::Nfs(procedure) => read_as!(Body::Nfs, read_args(alloc, procedure, reader)),
-        Program::Lb(procedure) => read_as!(Body::Lb, read_args(alloc, procedure, reader)),
+        Program::Lb(procedure) => read_as!(
+            Body::Lb,
+            read_args(alloc, in_version(version, procedure), reader)
+        ),
         Program::Back(procedure) => read_as!(Body::Back, read_args(alloc, procedure, reader)),
     }
 }
 
-fn read_result(alloc: Global, program: Program, reader: &mut Reader) -> Result<Body, ReadError>
-    ensures { GivesAll result (whole_at reader.old.at (result_of program) reader.old.rest) }
+/// What a procedure gave, of LBFS in a version.
+fn read_result(
+    alloc: Global,
+    lbfs: u32,
+    program: Program,
+    reader: &mut Reader,
+) -> Result<Body, ReadError>
+    ensures { GivesAll result (whole_at reader.old.at (result_of lbfs program) reader.old.rest) }
 {
     match program {
         Program::Nfs(procedure) => read_as!(Body::Nfs, read_results(alloc, procedure, reader)),
-        Program::Lb(procedure) => read_as!(Body::Lb, read_results(alloc, procedure, reader)),
+        Program::Lb(procedure) => read_as!(
+            Body::Lb,
+            read_results(alloc, in_version(lbfs, procedure), reader)
+        ),
         Program::Back(procedure) => read_as!(Body::Back, read_results(alloc, procedure, reader)),
     }
+}
+
+fn in_version(lbfs: u32, procedure: LbProc) -> LbIn
+    ensures { result ≡ in_version lbfs procedure }
+{
+    LbIn { lbfs, procedure }
 }
 
 /// An answer to what waits under its xid.
 fn reply(
     alloc: Global,
+    lbfs: u32,
     xid: u32,
     program: Option<Program>,
     reader: &mut Reader,
 ) -> Result<Message, WireError>
-    ensures { IsParsed result (parse_reply xid program reader.old) }
+    ensures { IsParsed result (parse_reply lbfs xid program reader.old) }
 {
     let Some(program) = program else {
         return Err(WireError::Fault(WireFault::UnknownXid { xid }));
@@ -192,7 +236,7 @@ fn reply(
     match ReplyHead::read(alloc, reader) {
         Err(error) => Err(garbage(error)),
         Ok(head) => match refusal(&head) {
-            None => answer(alloc, xid, program, reader),
+            None => answer(alloc, lbfs, xid, program, reader),
             Some(why) => match reader.end() {
                 Err(error) => Err(garbage(error)),
                 Ok(()) => Ok(Message::Refuse(xid, why)),
@@ -203,13 +247,14 @@ fn reply(
 
 fn answer(
     alloc: Global,
+    lbfs: u32,
     xid: u32,
     program: Program,
     reader: &mut Reader,
 ) -> Result<Message, WireError>
-    ensures { IsParsed result (replied xid program None reader.old) }
+    ensures { IsParsed result (replied lbfs xid program None reader.old) }
 {
-    match read_result(alloc, program, reader) {
+    match read_result(alloc, lbfs, program, reader) {
         Err(error) => Err(garbage(error)),
         Ok(body) => Ok(Message::Answer(xid, body)),
     }

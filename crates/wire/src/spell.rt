@@ -4,7 +4,7 @@ ghost use Rattle.std.specs.Prelude.{◌≡◌, ◌++◌, ◌<◌, ◌≤◌, ◌
 ghost use Rattle.limits.specs.declared.TheConstants.{RECORD_MOST};
 ghost use Rattle.rpc_record.specs.Records.{marked};
 ghost use Rattle.rpc_record.specs.declared.refusal.MarkError.TheVariants as mark_errors;
-ghost use Rattle.wire.specs.Message.{message_spell, body_spell, refusal_head, call_head, no_auth, IsShort, IsSpelled, IsShortBody, BodyFits, RefusalFits};
+ghost use Rattle.wire.specs.Message.{message_spell, body_spell, refusal_head, call_head, no_auth, program_of, body_version, IsShort, IsSpelled, IsShortBody, BodyFits, RefusalFits};
 ghost use Rattle.rpc_record.specs.Header.{front_form, call_form};
 
 use crate::message::{Body, Message, Program, RPC_VERSION, RpcRefusal};
@@ -74,7 +74,7 @@ fn put(alloc: Global, writer: &mut Writer, message: &Message) -> Result<(), Allo
         Message::Call(xid, body) => {
             put_front(writer, *xid, Direction::Call)?;
             writer.u32(RPC_VERSION)?;
-            put_call(alloc, writer, body.program())?;
+            put_call(alloc, writer, body)?;
             put_body(writer, body)
         }
         Message::Answer(xid, body) => {
@@ -98,10 +98,11 @@ fn put_front(writer: &mut Writer, xid: u32, direction: Direction) -> Result<(), 
     Front { xid, direction }.write(writer)
 }
 
-fn put_call(alloc: Global, writer: &mut Writer, program: Program) -> Result<(), AllocError>
-    ensures { OnOk result (writer.new ≡ writer.old ++ call_form.spell (call_head no_auth no_auth program)) }
+fn put_call(alloc: Global, writer: &mut Writer, body: &Body) -> Result<(), AllocError>
+    ensures spelled { OnOk result (writer.new ≡ writer.old ++ call_form.spell (call_head no_auth no_auth (body_version body.now) (program_of body.now))) }
+    ensures fits { body_version body.now < 2 ^ 32 }
 {
-    call_head(alloc, program).write(writer)
+    call_head(alloc, body.version(), body.program()).write(writer)
 }
 
 fn put_body(writer: &mut Writer, body: &Body) -> Result<(), AllocError>
@@ -125,12 +126,13 @@ fn no_auth(alloc: Global) -> Auth
     }
 }
 
-fn call_head(alloc: Global, program: Program) -> CallHead
-    ensures { result ≡ call_head no_auth no_auth program }
+fn call_head(alloc: Global, version: u32, program: Program) -> CallHead
+    ensures value { result ≡ call_head no_auth no_auth version program }
+    ensures fits { version < 2 ^ 32 }
 {
     CallHead {
         program: program.number(),
-        version: program.version(),
+        version,
         procedure: program.procedure(),
         cred: no_auth(alloc),
         verf: no_auth(alloc),
