@@ -1,9 +1,9 @@
 //! Arguments and results of procedures.
 
 use crate::bytes::{number_of, put_same, read_bytes};
-use crate::procedures::of_number;
+use crate::procedures::{lbfs_of, of_number};
 use crate::values::{Put, put_error};
-use hash_calls::message::{Back, Lb};
+use hash_calls::message::{Back, Lb, LbIn};
 use nfs3_calls::message::Nfs;
 use row_text::out::Out;
 use row_text::text::split;
@@ -19,6 +19,7 @@ struct Plan {
     at: u32,
     is_call: bool,
     program: Program,
+    lbfs: u32,
 }
 
 /// What was read, and its spelling.
@@ -62,7 +63,13 @@ fn put_body<M: ProgramBody + Put>(
 fn put_planned(alloc: Global, plan: Plan, bytes: &[u8], out: &mut Out) {
     match plan.program {
         Program::Nfs(found) => put_body::<Nfs>(alloc, plan, found, bytes, out),
-        Program::Lb(found) => put_body::<Lb>(alloc, plan, found, bytes, out),
+        Program::Lb(procedure) => {
+            let found = LbIn {
+                lbfs: plan.lbfs,
+                procedure,
+            };
+            put_body::<Lb>(alloc, plan, found, bytes, out)
+        }
         Program::Back(found) => put_body::<Back>(alloc, plan, found, bytes, out),
     }
 }
@@ -72,11 +79,13 @@ fn plan_of(front: &str) -> Option<Plan> {
     let (at, rest) = split(front, ' ');
     let (kind, rest) = split(rest, ' ');
     let (program, number) = split(rest, ' ');
+    let lbfs = lbfs_of(program);
     match of_number(program, number.trim_end()) {
         Some(program) => Some(Plan {
             at: number_of(at),
             is_call: kind == "args",
             program,
+            lbfs,
         }),
         None => None,
     }

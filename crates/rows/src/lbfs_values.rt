@@ -2,11 +2,18 @@
 
 use crate::values::Put;
 use hash_calls::call::{
-    Commit, Committed, CondPiece, HashRange, Hashes, Leased, NewTemp, Pair, TempPiece,
+    Commit, Committed, CondPiece, Entry, HashRange, Hashes, LeaseOn, Leased, LookOn, Looked,
+    NewTemp, Pair, TempPiece,
 };
 use hash_calls::message::{Back, Lb};
 use lb_base::items::Items;
 use row_text::out::Out;
+
+impl Put for LeaseOn {
+    fn put(&self, out: &mut Out) {
+        self.handle.put(out)
+    }
+}
 
 impl Put for Leased {
     fn put(&self, out: &mut Out) {
@@ -72,7 +79,32 @@ impl Put for Commit {
     fn put(&self, out: &mut Out) {
         self.fd.put(out);
         self.handle.put(out);
-        self.size.put(out)
+        self.size.put(out);
+        if let Some(base) = self.base {
+            base.put(out)
+        }
+    }
+}
+
+impl Put for LookOn {
+    fn put(&self, out: &mut Out) {
+        self.dir.put(out);
+        self.name.put(out)
+    }
+}
+
+impl Put for Entry {
+    fn put(&self, out: &mut Out) {
+        self.handle.put(out);
+        self.kind.put(out)
+    }
+}
+
+impl Put for Looked {
+    fn put(&self, out: &mut Out) {
+        self.version.put(out);
+        self.term.put(out);
+        self.entry.put(out)
     }
 }
 
@@ -86,8 +118,8 @@ impl Put for Committed {
 impl Put for Lb {
     fn put(&self, out: &mut Out) {
         match self {
-            Lb::Null | Lb::NullAnswer => (),
-            Lb::GetLease(handle) => handle.put(out),
+            Lb::Null(_) | Lb::NullAnswer => (),
+            Lb::GetLease(lease) => lease.put(out),
             Lb::GetLeaseAnswer(answer) => answer.put(out),
             Lb::GetHash(range) => range.put(out),
             Lb::GetHashAnswer(answer) => answer.put(out),
@@ -99,6 +131,8 @@ impl Put for Lb {
             Lb::CondWriteAnswer(answer) => answer.put(out),
             Lb::CommitTmp(commit) => commit.put(out),
             Lb::CommitTmpAnswer(answer) => answer.put(out),
+            Lb::LookLease(look) => look.put(out),
+            Lb::LookLeaseAnswer(answer) => answer.put(out),
         }
     }
 }

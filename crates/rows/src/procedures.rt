@@ -14,9 +14,19 @@ fn of_nfs(number: u32) -> Option<Program> {
     }
 }
 
-/// The procedure of LBFS that has the number.
-fn of_lbfs(number: u32) -> Option<Program> {
-    match LbProc::of_number(number) {
+/// The version of LBFS that a program's word names: `lbfs2` is version 2, and `lbfs` version 1.
+pub fn lbfs_of(program: &str) -> u32 {
+    match program {
+        "lbfs2" => 2,
+        "lbfs3" => 3,
+        "lbfs4" => 4,
+        _ => 1,
+    }
+}
+
+/// The procedure of LBFS that has the number, in a version.
+fn of_lbfs(lbfs: u32, number: u32) -> Option<Program> {
+    match LbProc::of_number_in(lbfs, number) {
         Some(found) => Some(Program::Lb(found)),
         None => None,
     }
@@ -30,12 +40,12 @@ fn of_back(number: u32) -> Option<Program> {
     }
 }
 
-/// The procedure of the program, `nfs`, `lbfs` or `back`, that has the number.
+/// The procedure of the program, `nfs`, `lbfs` (or `lbfs2` to `lbfs4`) or `back`, that has the number.
 pub fn of_number(program: &str, number: &str) -> Option<Program> {
     let number = number.parse::<u32>().unwrap_or(99);
     match program {
         "nfs" => of_nfs(number),
-        "lbfs" => of_lbfs(number),
+        "lbfs" | "lbfs2" | "lbfs3" | "lbfs4" => of_lbfs(lbfs_of(program), number),
         _ => of_back(number),
     }
 }

@@ -8,7 +8,7 @@ use row_text::out::Out;
 use row_text::text::split;
 use std::alloc::Global;
 use wire::fault::WireError;
-use wire::message::{Body, Message, Pending, RpcRefusal, Side, Waiting};
+use wire::message::{Body, LBFS_SERVED, Message, Pending, RpcRefusal, Side, Waiting};
 use wire::parse::parse;
 use wire::spell::spell;
 
@@ -135,7 +135,11 @@ pub fn put(alloc: Global, row: &str, out: &mut Out) {
     let (front, bytes) = split(row, ':');
     let side = side_of(front);
     let calls = calls_of(alloc, front, out);
-    let expected = Waiting { side, calls };
+    let expected = Waiting {
+        side,
+        lbfs: LBFS_SERVED,
+        calls,
+    };
     let record = read_bytes(alloc, bytes, out);
     let read = parse(alloc, record.as_slice(), &expected);
     put_read(alloc, &read, record.as_slice(), out);

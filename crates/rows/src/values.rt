@@ -1,6 +1,7 @@
 //! Values as they are printed: their numbers, truth values and bytes in the order of their spelling.
 
 use crate::bytes::put_bytes;
+use digests::Dig;
 use lb_base::items::Items;
 use row_text::out::Out;
 use std::fmt::Debug;
@@ -66,6 +67,12 @@ impl Put for Items<u8> {
 }
 
 impl Put for [u8; 20] {
+    fn put(&self, out: &mut Out) {
+        put_bytes(out, self.as_slice())
+    }
+}
+
+impl Put for Dig {
     fn put(&self, out: &mut Out) {
         put_bytes(out, self.as_slice())
     }

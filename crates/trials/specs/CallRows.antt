@@ -1,5 +1,5 @@
 -- Worked rows of the server's calls of LBFS: each with its faults in the order of its checks, of two at once the first; and of renames beside other changes of their files.
-use Rattle.std.specs.Prelude.{◌≡◌, ℕ, List, [], ◌∷◌, ◌++◌, map, replicate, codes, refl}
+use Rattle.std.specs.Prelude.{None, ◌≡◌, ℕ, List, [], ◌∷◌, ◌++◌, map, replicate, codes, refl}
 use Rattle.xdr_codec.specs.Handle.{handle_bytes}
 use Rattle.xdr_codec.specs.declared.status.Status.{Status}
 use Rattle.xdr_codec.specs.declared.status.Status.TheVariants as status
@@ -67,16 +67,16 @@ each s ms = map (λ (m : Lb). of_sent (server_step s (calls 1 m)).1.send) ms
 -- ---- a server: the file 2, "a", of three bytes, the file 3, "b", of none, and the directory 4; two sessions
 
 abbrev makes : (fd : ℕ) → (handle : List ℕ) → Lb
-makes fd handle = lb.MkTmpFile (record { fd = fd; handle = handle })
+makes fd handle = lb.MkTmpFile (record { lbfs = 1; fd = fd; handle = handle })
 
 abbrev writes : (fd offset : ℕ) → List ℕ → Lb
-writes fd offset bytes = lb.TmpWrite (record { fd = fd; offset = offset; bytes = bytes })
+writes fd offset bytes = lb.TmpWrite (record { lbfs = 1; fd = fd; offset = offset; bytes = bytes })
 
 abbrev names : (fd offset count : ℕ) → Lb
-names fd offset count = lb.CondWrite (record { fd = fd; offset = offset; count = count; digest = replicate 20 0 })
+names fd offset count = lb.CondWrite (record { lbfs = 1; fd = fd; offset = offset; count = count; digest = replicate 20 0 })
 
 abbrev commits : (fd : ℕ) → (handle : List ℕ) → (size : ℕ) → Lb
-commits fd handle size = lb.CommitTmp (record { fd = fd; handle = handle; size = size })
+commits fd handle size = lb.CommitTmp (record { lbfs = 1; fd = fd; handle = handle; size = size; base = None })
 
 abbrev tree : State
 tree = after (opens_with (opens_with (opens_with empty 1 (codes "a") (Content (codes "abc"))) 1 (codes "b") (Content [])) 1 (codes "d") Directory) (event.Connect ∷ event.Connect ∷ [])
@@ -96,10 +96,10 @@ a_file = handle_bytes 2
 
 -- ---- GETLEASE and GETHASH
 
-asked : each tree (map lb.GetLease (wrong ∷ gone ∷ directory ∷ a_file ∷ [])) ≡ refused status.BadHandle ∷ refused status.Stale ∷ refused status.IsDir ∷ done ∷ []
+asked : each tree (map (λ (h : List ℕ). lb.GetLease (record { lbfs = 1; handle = h })) (wrong ∷ gone ∷ directory ∷ a_file ∷ [])) ≡ refused status.BadHandle ∷ refused status.Stale ∷ refused status.IsDir ∷ done ∷ []
 asked = refl
 
-hashed : each tree (map (λ (h : List ℕ). lb.GetHash (record { handle = h; offset = 0; count = 0 })) (wrong ∷ gone ∷ directory ∷ [])) ≡ refused status.BadHandle ∷ refused status.Stale ∷ refused status.IsDir ∷ []
+hashed : each tree (map (λ (h : List ℕ). lb.GetHash (record { lbfs = 1; handle = h; offset = 0; count = 0 })) (wrong ∷ gone ∷ directory ∷ [])) ≡ refused status.BadHandle ∷ refused status.Stale ∷ refused status.IsDir ∷ []
 hashed = refl
 
 -- ---- MKTMPFILE: the handle, the kind, a number in use, and how many there are

@@ -16,7 +16,7 @@ use std::sync::Wait;
 use std::thread;
 use std::time::Duration;
 use turn_post::post::Pass;
-use wire::message::{Body, Message, RpcRefusal};
+use wire::message::{Body, LBFS_SPOKEN, Message, RpcRefusal};
 
 /// How many bytes a piece has, and how many there are.
 const PIECE: usize = 65_536;
@@ -47,6 +47,7 @@ pub fn store_pieces<R: Wait + Clock + Copy + Drop, H: Turns + Drop>(
             return pass;
         };
         let piece = TempPiece {
+            lbfs: LBFS_SPOKEN,
             fd: 1,
             offset: u64::from(at).saturating_mul(PIECE as u64),
             bytes,
