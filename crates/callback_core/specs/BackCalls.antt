@@ -13,6 +13,7 @@ use Rattle.lease_rules.specs.declared.lease.Lease.{Lease}
 use Rattle.lease_rules.specs.declared.change.Recall.{Recall}
 use Rattle.lease_table.specs.Leases.{marked}
 use Rattle.callback_core.specs.declared.back_calls.Asked.{Asked}
+use Rattle.wire.specs.declared.message.TheConstants.{LBFS_SERVED}
 
 -- a session that was asked for something
 pub record BackCall : Type 0 where
@@ -54,7 +55,7 @@ call_at calls session = unwrap_or (find (is_at session) calls) (unasked session)
 
 -- what may come on a session's connection: the calls that are served, and answers to those that wait
 abbrev pub waiting_at : List BackCall → (session : ℕ) → Waiting
-waiting_at calls session = record { side = Server; calls = (call_at calls session).waits }
+waiting_at calls session = record { side = Server; lbfs = LBFS_SERVED; calls = (call_at calls session).waits }
 
 -- the xid of the session's next call, if it has one left
 abbrev pub xid_at : List BackCall → (session : ℕ) → Option ℕ

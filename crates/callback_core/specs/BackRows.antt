@@ -61,10 +61,10 @@ never_asked = refl
 
 -- ---- what is waited for
 
-waits_for : waiting_at (call 1 2 (recall_pending 2 ∷ []) ∷ []) 1 ≡ record { side = Server; calls = recall_pending 2 ∷ [] }
+waits_for : waiting_at (call 1 2 (recall_pending 2 ∷ []) ∷ []) 1 ≡ record { side = Server; lbfs = 1; calls = recall_pending 2 ∷ [] }
 waits_for = refl
 
-for_nothing : waiting_at (call 1 2 (recall_pending 2 ∷ []) ∷ []) 3 ≡ record { side = Server; calls = [] }
+for_nothing : waiting_at (call 1 2 (recall_pending 2 ∷ []) ∷ []) 3 ≡ record { side = Server; lbfs = 1; calls = [] }
 for_nothing = refl
 
 -- a session that is hung is waited for no longer

@@ -3,6 +3,7 @@
 ghost use Rattle.std.specs.Prelude.{◌≡◌, [], ◌++◌, ◌∷◌, IfOk, OnOk, Option, find, filter, map, not, ◌==◌};
 ghost use Rattle.std.specs.Option.{option_copied, option_map};
 ghost use Rattle.wire.specs.declared.message.Side.TheVariants.{Server};
+ghost use Rattle.wire.specs.declared.message.TheConstants.{LBFS_SERVED};
 ghost use Rattle.callback_core.specs.BackCalls.{unasked, with_recall, recalled_if, recall_pending, is_at, call_at, waiting_at, xid_at, with_call, asks, asks_if, answered_by, answered, hung, is_spent, spent};
 
 use hash_calls::message::BackProc;
@@ -12,7 +13,7 @@ use lease_rules::xids::draw;
 use std::alloc::{AllocError, Global};
 use std::marker::Model;
 use std::mem;
-use wire::message::{Pending, Program, Side, Waiting};
+use wire::message::{LBFS_SERVED, Pending, Program, Side, Waiting};
 
 /// That a session was asked for its lease on a file, by the RECALL with this xid.
 #[derive(Clone, Copy)]
@@ -40,13 +41,14 @@ struct BackCall {
 impl Model for BackCall {
     ghost use Rattle.std.specs.Prelude.{◌≡◌};
     ghost use Rattle.wire.specs.declared.message.Side.TheVariants.{Server};
+    ghost use Rattle.wire.specs.declared.message.TheConstants.{LBFS_SERVED};
     ghost use Rattle.callback_core.specs.BackCalls.{BackCall as Seen};
 
     ghost Value = { Seen };
 
     ghost view = { λ c. record { session = c.session; last = c.last; waits = c.waiting.calls; spent = c.spent } };
 
-    ghost invariant = { λ c. c.waiting.side ≡ Server };
+    ghost invariant = { λ c. (c.waiting.side ≡ Server) × (c.waiting.lbfs ≡ LBFS_SERVED) };
 }
 
 impl BackCall {
@@ -86,6 +88,7 @@ impl BackCall {
             last: self.last,
             waiting: Waiting {
                 side: Side::Server,
+                lbfs: LBFS_SERVED,
                 calls,
             },
             spent: self.spent,
@@ -130,10 +133,11 @@ impl BackCall {
 
 /// What a server waits for where it asked for nothing. It takes no memory.
 fn no_calls(alloc: Global) -> Waiting
-    ensures { result ≡ record { side = Server; calls = [] } }
+    ensures { result ≡ record { side = Server; lbfs = LBFS_SERVED; calls = [] } }
 {
     Waiting {
         side: Side::Server,
+        lbfs: LBFS_SERVED,
         calls: Items::new(alloc),
     }
 }
@@ -244,13 +248,14 @@ pub struct BackCalls {
 impl Model for BackCalls {
     ghost use Rattle.std.specs.Prelude.{◌≡◌, List, []};
     ghost use Rattle.wire.specs.declared.message.Side.TheVariants.{Server};
+    ghost use Rattle.wire.specs.declared.message.TheConstants.{LBFS_SERVED};
     ghost use Rattle.callback_core.specs.BackCalls.{BackCall as Seen};
 
     ghost Value = { List Seen };
 
     ghost view = { λ b. b.calls.items };
 
-    ghost invariant = { λ b. b.none ≡ record { side = Server; calls = [] } };
+    ghost invariant = { λ b. b.none ≡ record { side = Server; lbfs = LBFS_SERVED; calls = [] } };
 }
 
 /// What RECALLs come to, before any is sent.

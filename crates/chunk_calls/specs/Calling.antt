@@ -24,8 +24,8 @@ says_named n = says n.temps n.index (lb.CondWriteAnswer n.answer)
 
 -- term: that of the lease which the call is granted on its file, in milliseconds; 0 where it is granted none
 abbrev pub calls : Tree → Temps → Indexed → (session term : ℕ) → Lb → Called
-calls tree temps index session term lb.Null = says temps index lb.NullAnswer
-calls tree temps index session term (lb.GetLease handle) = says temps index (lb.GetLeaseAnswer (lease_answer term (node_of tree handle)))
+calls tree temps index session term (lb.Null z) = says temps index lb.NullAnswer
+calls tree temps index session term (lb.GetLease z) = says temps index (lb.GetLeaseAnswer (lease_answer term (node_of tree z.handle)))
 calls tree temps index session term (lb.GetHash r) = says temps (with_told index (chunks_told (node_of tree r.handle) r)) (lb.GetHashAnswer (hash_answer term (node_of tree r.handle) r))
 calls tree temps index session term (lb.MkTmpFile a) = let p = made temps session a.fd (target_in (node_of tree a.handle)) in says p.0 index (lb.MkTmpFileAnswer p.1)
 calls tree temps index session term (lb.TmpWrite a) = let p = wrote temps a (temp_at temps session a.fd) in says p.0 index (lb.TmpWriteAnswer p.1)

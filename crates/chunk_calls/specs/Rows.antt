@@ -28,19 +28,19 @@ comes temps m = calls tree temps no_index 1 0 m
 -- ---- GETLEASE
 
 abbrev leases : List ℕ → Called
-leases handle = comes [] (lb.GetLease handle)
+leases handle = comes [] (lb.GetLease (record { lbfs = 1; handle = handle }))
 
 row_lease : ((leases (76 ∷ [])).answer ≡ Some (lb.GetLeaseAnswer (Failed BadHandle tt))) × ((leases (handle_bytes 9)).answer ≡ Some (lb.GetLeaseAnswer (Failed Stale tt))) × ((leases (handle_bytes 3)).answer ≡ Some (lb.GetLeaseAnswer (Failed IsDir tt))) × ((leases (handle_bytes 2)).answer ≡ Some (lb.GetLeaseAnswer (Done (record { attr = attr_of (record { id = 2; version = 1; content = codes "abc" }); version = 1; term = 0 }))))
 row_lease = (refl, refl, refl, refl)
 
 -- the term is told of a file, and of nothing else
-granted : ((calls tree [] no_index 1 60000 (lb.GetLease (handle_bytes 2))).answer ≡ Some (lb.GetLeaseAnswer (Done (record { attr = attr_of (record { id = 2; version = 1; content = codes "abc" }); version = 1; term = 60000 })))) × ((calls tree [] no_index 1 60000 (lb.GetLease (handle_bytes 3))).answer ≡ Some (lb.GetLeaseAnswer (Failed IsDir tt)))
+granted : ((calls tree [] no_index 1 60000 (lb.GetLease (record { lbfs = 1; handle = handle_bytes 2 }))).answer ≡ Some (lb.GetLeaseAnswer (Done (record { attr = attr_of (record { id = 2; version = 1; content = codes "abc" }); version = 1; term = 60000 })))) × ((calls tree [] no_index 1 60000 (lb.GetLease (record { lbfs = 1; handle = handle_bytes 3 }))).answer ≡ Some (lb.GetLeaseAnswer (Failed IsDir tt)))
 granted = (refl, refl)
 
 -- ---- temporary files
 
 abbrev makes : Temps → (fd : ℕ) → List ℕ → Called
-makes temps fd handle = comes temps (lb.MkTmpFile (record { fd = fd; handle = handle }))
+makes temps fd handle = comes temps (lb.MkTmpFile (record { lbfs = 1; fd = fd; handle = handle }))
 
 -- session 1 has a temporary file 1
 abbrev one : Temps
@@ -50,7 +50,7 @@ row_makes : ((makes [] 1 (handle_bytes 2)).answer ≡ Some (lb.MkTmpFileAnswer (
 row_makes = (refl, refl, refl)
 
 abbrev writes : Temps → (fd offset : ℕ) → List ℕ → Called
-writes temps fd offset bytes = comes temps (lb.TmpWrite (record { fd = fd; offset = offset; bytes = bytes }))
+writes temps fd offset bytes = comes temps (lb.TmpWrite (record { lbfs = 1; fd = fd; offset = offset; bytes = bytes }))
 
 -- a piece that meets another is refused, and one for no temporary file
 row_writes : ((writes one 1 0 (codes "xy")).answer ≡ Some (lb.TmpWriteAnswer (Done tt))) × ((writes (writes one 1 0 (codes "xy")).temps 1 1 (codes "z")).answer ≡ Some (lb.TmpWriteAnswer (Failed Inval tt))) × ((writes one 2 0 (codes "x")).answer ≡ Some (lb.TmpWriteAnswer (Failed BadFd tt)))
@@ -63,7 +63,7 @@ abbrev placed : List ℕ → (offset count : ℕ) → Indexed
 placed bytes offset count = put no_index (key_of (sha1 bytes)) (record { file = 2; offset = offset; count = count })
 
 abbrev names : Indexed → (fd : ℕ) → Called
-names index fd = calls tree one index 1 0 (lb.CondWrite (record { fd = fd; offset = 0; count = 2; digest = sha1 (codes "bc") }))
+names index fd = calls tree one index 1 0 (lb.CondWrite (record { lbfs = 1; fd = fd; offset = 0; count = 2; digest = sha1 (codes "bc") }))
 
 -- the right bytes, others, and those of another count; where there is a fault nothing is looked up
 row_names : ((names (placed (codes "bc") 1 2) 1).answer ≡ Some (lb.CondWriteAnswer (Done tt))) × ((names (placed (codes "bc") 0 2) 1).answer ≡ Some (lb.CondWriteAnswer (Failed HashNotFound tt))) × ((names (placed (codes "bc") 1 1) 1).answer ≡ Some (lb.CondWriteAnswer (Failed HashNotFound tt))) × ((names (placed (codes "bc") 1 2) 2) ≡ record { temps = one; index = placed (codes "bc") 1 2; answer = Some (lb.CondWriteAnswer (Failed BadFd tt)) })
@@ -72,5 +72,5 @@ row_names = (refl, refl, refl, refl)
 
 -- ---- a COMMITTMP is none of these calls, and an answer is none
 
-row_none : (comes one (lb.CommitTmp (record { fd = 1; handle = handle_bytes 2; size = 0 })) ≡ record { temps = one; index = no_index; answer = None }) × (comes one lb.NullAnswer ≡ record { temps = one; index = no_index; answer = None })
+row_none : (comes one (lb.CommitTmp (record { lbfs = 1; fd = 1; handle = handle_bytes 2; size = 0; base = None })) ≡ record { temps = one; index = no_index; answer = None }) × (comes one lb.NullAnswer ≡ record { temps = one; index = no_index; answer = None })
 row_none = (refl, refl)

@@ -75,9 +75,9 @@ pub fn call(
     ensures takes { OnErr result (Takes tree.now.tree temps.old index.old session call.old) }
 {
     match call {
-        Lb::Null => Ok(done(Lb::NullAnswer)),
-        Lb::GetLease(handle) => {
-            let told = answers::lease_answer(term, tree, handle);
+        Lb::Null(_) => Ok(done(Lb::NullAnswer)),
+        Lb::GetLease(lease) => {
+            let told = answers::lease_answer(term, tree, &lease.handle);
             Ok(done(Lb::GetLeaseAnswer(told)))
         }
         Lb::GetHash(range) => tell_hashes(alloc, tree, index, term, range),

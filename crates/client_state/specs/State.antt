@@ -27,6 +27,7 @@ use Rattle.client_state.specs.declared.task.StoreCall.{StoreCall}
 use Rattle.client_state.specs.declared.task.Task.{Task}
 use Rattle.client_state.specs.declared.task.Way.TheVariants as way
 use Rattle.client_state.specs.declared.task.Way.{Way}
+use Rattle.wire.specs.declared.message.TheConstants.{LBFS_SPOKEN}
 
 pub record State : Type 0 where
   -- whether a connection is joined
@@ -130,7 +131,7 @@ abbrev pub calls_of : State → List Pending
 calls_of s = pending s.task ++ s.forgotten
 
 abbrev pub waiting_of : State → Waiting
-waiting_of s = record { side = side.Client; calls = calls_of s }
+waiting_of s = record { side = side.Client; lbfs = LBFS_SPOKEN; calls = calls_of s }
 
 -- whether one of these has this xid, and those that have not
 abbrev pub has_call : List Pending → (xid : ℕ) → Bool

@@ -13,21 +13,22 @@ use Rattle.transfer_rules.specs.Chunks.{all_came}
 use Rattle.client_state.specs.declared.task.Store.{Store}
 use Rattle.client_state.specs.declared.task.StoreCall.{StoreCall}
 use Rattle.client_state.specs.declared.task.Way.TheVariants as way
+use Rattle.wire.specs.declared.message.TheConstants.{LBFS_SPOKEN}
 pub use Rattle.file_close.specs.declared.calls.Names.{Names}
 
 -- ---- the calls
 
 abbrev pub make_call : (xid temp file : ℕ) → Message
-make_call xid temp file = message.Call xid (body.Lb (lb.MkTmpFile (record { fd = temp; handle = handle_bytes file })))
+make_call xid temp file = message.Call xid (body.Lb (lb.MkTmpFile (record { lbfs = LBFS_SPOKEN; fd = temp; handle = handle_bytes file })))
 
 abbrev pub cond_call : (xid temp : ℕ) → Chunk → Message
-cond_call xid temp c = message.Call xid (body.Lb (lb.CondWrite (record { fd = temp; offset = c.start; count = c.len; digest = c.digest })))
+cond_call xid temp c = message.Call xid (body.Lb (lb.CondWrite (record { lbfs = LBFS_SPOKEN; fd = temp; offset = c.start; count = c.len; digest = c.digest })))
 
 abbrev pub temp_call : (xid temp : ℕ) → List ℕ → Chunk → Message
-temp_call xid temp content c = message.Call xid (body.Lb (lb.TmpWrite (record { fd = temp; offset = c.start; bytes = chunk_bytes content c })))
+temp_call xid temp content c = message.Call xid (body.Lb (lb.TmpWrite (record { lbfs = LBFS_SPOKEN; fd = temp; offset = c.start; bytes = chunk_bytes content c })))
 
 abbrev pub commit_call : (xid temp file size : ℕ) → Message
-commit_call xid temp file size = message.Call xid (body.Lb (lb.CommitTmp (record { fd = temp; handle = handle_bytes file; size = size })))
+commit_call xid temp file size = message.Call xid (body.Lb (lb.CommitTmp (record { lbfs = LBFS_SPOKEN; fd = temp; handle = handle_bytes file; size = size; base = None })))
 
 -- ---- the chunks are named
 

@@ -5,6 +5,7 @@ ghost use Rattle.file_close.specs.Closing.{commit_call, cond_call, temp_call};
 ghost use Rattle.wire.specs.declared.message.Message.TheVariants as message;
 ghost use Rattle.hash_calls.specs.declared.message.Lb.TheVariants as lb;
 ghost use Rattle.wire.specs.declared.message.Body.TheVariants as body;
+ghost use Rattle.wire.specs.declared.message.TheConstants.{LBFS_SPOKEN};
 
 use chunk_cut::chunk::Chunk;
 use client_state::local;
@@ -12,14 +13,18 @@ use hash_calls::call::{Commit, CondPiece, NewTemp, TempPiece};
 use hash_calls::message::Lb;
 use lb_base::items::Bytes;
 use std::alloc::{AllocError, Global};
-use wire::message::{Body, Message};
+use wire::message::{Body, LBFS_SPOKEN, Message};
 use xdr_codec::handle::Handle;
 
 /// The call for a temporary file of this number. It takes no memory.
 pub fn make_call(xid: u32, temp: u32, handle: Handle) -> Message
-    ensures { result ≡ message.Call xid (body.Lb (lb.MkTmpFile (record { fd = temp; handle = handle }))) }
+    ensures { result ≡ message.Call xid (body.Lb (lb.MkTmpFile (record { lbfs = LBFS_SPOKEN; fd = temp; handle = handle }))) }
 {
-    let temp = NewTemp { fd: temp, handle };
+    let temp = NewTemp {
+        lbfs: LBFS_SPOKEN,
+        fd: temp,
+        handle,
+    };
     Message::Call(xid, Body::Lb(Lb::MkTmpFile(temp)))
 }
 
@@ -29,6 +34,7 @@ pub fn cond_call(xid: u32, temp: u32, chunk: &Chunk) -> Message
     ensures { result ≡ cond_call xid temp chunk.now }
 {
     let piece = CondPiece {
+        lbfs: LBFS_SPOKEN,
         fd: temp,
         offset: chunk.start,
         count: chunk.len as u32,
@@ -49,6 +55,7 @@ pub fn temp_call(
 {
     let bytes = local::part_of(content, chunk.start, chunk.len);
     let piece = TempPiece {
+        lbfs: LBFS_SPOKEN,
         fd: temp,
         offset: chunk.start,
         bytes: Bytes::copy_of(alloc, bytes)?,
@@ -68,9 +75,11 @@ pub fn commit_call(
 {
     let handle = Handle::of_file(alloc, file)?;
     let commit = Commit {
+        lbfs: LBFS_SPOKEN,
         fd: temp,
         handle,
         size,
+        base: None,
     };
     Ok(Message::Call(xid, Body::Lb(Lb::CommitTmp(commit))))
 }

@@ -20,17 +20,18 @@ use Rattle.client_state.specs.declared.task.Fetch.{Fetch}
 use Rattle.client_state.specs.declared.task.ReadCall.{ReadCall}
 use Rattle.file_open.specs.Caching.{from_index}
 use Rattle.file_open.specs.Shape.{with_pairs}
+use Rattle.wire.specs.declared.message.TheConstants.{LBFS_SPOKEN}
 pub use Rattle.file_open.specs.declared.calls.Reads.{Reads}
 
 -- ---- the calls
 
 -- for the version of a file whose content is kept
 abbrev pub lease_call : (xid file : ℕ) → Message
-lease_call xid file = message.Call xid (body.Lb (lb.GetLease (handle_bytes file)))
+lease_call xid file = message.Call xid (body.Lb (lb.GetLease (record { lbfs = LBFS_SPOKEN; handle = handle_bytes file })))
 
 -- for the chunks from a place on
 abbrev pub hash_call : (xid file offset : ℕ) → Message
-hash_call xid file offset = message.Call xid (body.Lb (lb.GetHash (record { handle = handle_bytes file; offset = offset; count = 4294967295 })))
+hash_call xid file offset = message.Call xid (body.Lb (lb.GetHash (record { lbfs = LBFS_SPOKEN; handle = handle_bytes file; offset = offset; count = 4294967295 })))
 
 abbrev pub read_call : (xid file : ℕ) → Chunk → Message
 read_call xid file c = message.Call xid (body.Nfs (nfs.Read (record { handle = handle_bytes file; offset = c.start; count = c.len })))

@@ -315,8 +315,8 @@ module _ (clock : ℕ) (c : Claim) (way : Way) (behind downs : List Message) whe
         same h = record { orderly = h.orderly; safe = h.safe; numbered = λ q. h.numbered (numbered_as s u c.session way.ups downs refl refl q) }
 
     called_keep : (n xid : ℕ) (b : Body) → (n ≡ c.session → IsAmong (message.Call xid b) way.ups) → Stands s (called_under s fault n xid b)
-    called_keep n xid (body.Lb lb.Null) own = told_keeps s ready s n xid _ refl refl refl refl
-    called_keep n xid (body.Lb (lb.GetLease handle)) own = grants_keep s ready n xid (file_in (node_of s.tree handle)) (tells_lease s n xid (node_of s.tree handle)).0 _ refl refl refl refl
+    called_keep n xid (body.Lb (lb.Null z)) own = told_keeps s ready s n xid _ refl refl refl refl
+    called_keep n xid (body.Lb (lb.GetLease z)) own = grants_keep s ready n xid (file_in (node_of s.tree z.handle)) (tells_lease s n xid (node_of s.tree z.handle)).0 _ refl refl refl refl
     called_keep n xid (body.Lb (lb.GetHash r)) own = grants_keep s ready n xid (file_in (node_of s.tree r.handle)) (tells_hashes s n xid r (node_of s.tree r.handle)).0 _ refl refl refl refl
     called_keep n xid (body.Lb (lb.MkTmpFile a)) own = makes_keep s ready n xid a.fd (node_of s.tree a.handle)
     called_keep n xid (body.Lb (lb.TmpWrite a)) own = writes_keep s ready n xid a (temp_at s.temps n a.fd) (piece_fault (temp_at s.temps n a.fd) a.offset (length a.bytes))

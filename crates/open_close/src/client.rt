@@ -29,7 +29,7 @@ use std::collections::BTreeMap;
 use std::marker::Model;
 use transfer_rules::counts::no_counts;
 use wire::fault::WireFault;
-use wire::message::{Message, Side, Waiting};
+use wire::message::{LBFS_SPOKEN, Message, Side, Waiting};
 
 /// A client of one connection, with its open files and at most one operation under way.
 pub struct Client {
@@ -89,6 +89,7 @@ impl Client {
                 task: None,
                 waiting: Waiting {
                     side: Side::Client,
+                    lbfs: LBFS_SPOKEN,
                     calls: Items::new(alloc),
                 },
                 own: 0,

@@ -147,7 +147,7 @@ module _ (s : State) (session xid : ℕ) where
 
   -- a lease takes memory, which is that of a GETLEASE or GETHASH
   lease_takes : (m : Lb) → (term_on s (leased_file s.tree m) == 0) ≡ false → TakesMemory s session (body.Lb m)
-  lease_takes (lb.GetLease handle) some = some
+  lease_takes (lb.GetLease z) some = some
   lease_takes (lb.GetHash r) some = is_file (node_of s.tree r.handle) some
   lease_takes m some = absurd (true≢false some)
 

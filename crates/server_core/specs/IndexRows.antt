@@ -1,5 +1,5 @@
 -- Worked sessions with the index of chunks, and GETLEASE.
-use Rattle.std.specs.Prelude.{◌≡◌, ℕ, List, [], ◌∷◌, refl, codes, length}
+use Rattle.std.specs.Prelude.{None, ◌≡◌, ℕ, List, [], ◌∷◌, refl, codes, length}
 use Rattle.sha1.specs.Sha1.{sha1, digest_bytes, hash_after, compress, rounds, schedule, first_words}
 use Rattle.chunk_cut.specs.Search.{next_end, closed_ends}
 use Rattle.rabin_window.specs.Fingerprint.{fp}
@@ -39,20 +39,20 @@ abbrev answers : (xid : ℕ) → Lb → ServerStep
 answers xid b = to 1 (message.Answer xid (body.Lb b))
 
 abbrev tree : State
-tree = after (opens_with empty 1 (codes "a") (Content (codes "abc"))) (event.Connect ∷ calls 1 (lb.MkTmpFile (record { fd = 1; handle = handle_bytes 2 })) ∷ [])
+tree = after (opens_with empty 1 (codes "a") (Content (codes "abc"))) (event.Connect ∷ calls 1 (lb.MkTmpFile (record { lbfs = 1; fd = 1; handle = handle_bytes 2 })) ∷ [])
 
 abbrev hashes : (xid : ℕ) → Event
-hashes xid = calls xid (lb.GetHash (record { handle = handle_bytes 2; offset = 0; count = 9 }))
+hashes xid = calls xid (lb.GetHash (record { lbfs = 1; handle = handle_bytes 2; offset = 0; count = 9 }))
 
 -- bytes that are named for place 0 of the temporary file
 abbrev names : (xid : ℕ) → List ℕ → Event
-names xid bytes = calls xid (lb.CondWrite (record { fd = 1; offset = 0; count = length bytes; digest = sha1 bytes }))
+names xid bytes = calls xid (lb.CondWrite (record { lbfs = 1; fd = 1; offset = 0; count = length bytes; digest = sha1 bytes }))
 
 abbrev named : (xid : ℕ) → Answer Unit Unit → ServerStep
 named xid a = answers xid (lb.CondWriteAnswer a)
 
 abbrev commits : (xid : ℕ) → Event
-commits xid = calls xid (lb.CommitTmp (record { fd = 1; handle = handle_bytes 2; size = 3 }))
+commits xid = calls xid (lb.CommitTmp (record { lbfs = 1; fd = 1; handle = handle_bytes 2; size = 3; base = None }))
 
 abbrev settled : (xid version : ℕ) → ServerStep
 settled xid version = record (answers xid (lb.CommitTmpAnswer (Done (record { version = version; term = 0 })))) { told = told.Settled 1 xid; entries = 1 }
@@ -70,7 +70,7 @@ told_and_taken = refl
 
 -- so it does with the chunks of a content that was closed
 abbrev closed : State
-closed = after tree (calls 2 (lb.TmpWrite (record { fd = 1; offset = 0; bytes = codes "xyz" })) ∷ commits 3 ∷ event.Settle 7 ∷ calls 4 (lb.MkTmpFile (record { fd = 1; handle = handle_bytes 2 })) ∷ [])
+closed = after tree (calls 2 (lb.TmpWrite (record { lbfs = 1; fd = 1; offset = 0; bytes = codes "xyz" })) ∷ commits 3 ∷ event.Settle 7 ∷ calls 4 (lb.MkTmpFile (record { lbfs = 1; fd = 1; handle = handle_bytes 2 })) ∷ [])
 
 closed_and_taken : steps closed (names 5 (codes "xyz") ∷ []) ≡ (named 5 (Done tt) ∷ [])
 unfolding closed_ends next_end fp key_of sha1 digest_bytes hash_after compress rounds schedule first_words
@@ -101,10 +101,10 @@ unfolding key_of sha1 digest_bytes hash_after compress rounds schedule first_wor
 looked_up = refl
 
 -- a fault that is found before is told, and nothing looked up
-faults : steps two (calls 2 (lb.CondWrite (record { fd = 2; offset = 0; count = 1; digest = sha1 (codes "c") })) ∷ calls 3 (lb.CondWrite (record { fd = 1; offset = 0; count = 0; digest = sha1 [] })) ∷ []) ≡ (named 2 (Failed status.BadFd tt) ∷ named 3 (Failed status.Inval tt) ∷ [])
+faults : steps two (calls 2 (lb.CondWrite (record { lbfs = 1; fd = 2; offset = 0; count = 1; digest = sha1 (codes "c") })) ∷ calls 3 (lb.CondWrite (record { lbfs = 1; fd = 1; offset = 0; count = 0; digest = sha1 [] })) ∷ []) ≡ (named 2 (Failed status.BadFd tt) ∷ named 3 (Failed status.Inval tt) ∷ [])
 faults = refl
 
-faults_unchanged : after two (calls 2 (lb.CondWrite (record { fd = 2; offset = 0; count = 1; digest = sha1 (codes "c") })) ∷ []) ≡ two
+faults_unchanged : after two (calls 2 (lb.CondWrite (record { lbfs = 1; fd = 2; offset = 0; count = 1; digest = sha1 (codes "c") })) ∷ []) ≡ two
 faults_unchanged = refl
 
 -- all pairs are dropped
@@ -115,7 +115,7 @@ dropped = refl
 -- ---- GETLEASE
 
 abbrev leases : (xid : ℕ) → List ℕ → Event
-leases xid handle = calls xid (lb.GetLease handle)
+leases xid handle = calls xid (lb.GetLease (record { lbfs = 1; handle = handle }))
 
 abbrev leased : (xid : ℕ) → Answer Leased Unit → ServerStep
 leased xid a = answers xid (lb.GetLeaseAnswer a)

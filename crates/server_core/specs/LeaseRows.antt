@@ -42,11 +42,11 @@ abbrev calls : (session xid now : ℕ) → Lb → Event
 calls session xid now b = event.Got session (message.Call xid (body.Lb b)) now
 
 abbrev leases_at : (session file now : ℕ) → Event
-leases_at session file now = calls session 1 now (lb.GetLease (handle_bytes file))
+leases_at session file now = calls session 1 now (lb.GetLease (record { lbfs = 1; handle = handle_bytes file }))
 
 -- a session gives a file no content; the last of these calls has the xid 3
 abbrev commits : (session file now : ℕ) → List Event
-commits session file now = calls session 2 now (lb.MkTmpFile (record { fd = 1; handle = handle_bytes file })) ∷ calls session 3 now (lb.CommitTmp (record { fd = 1; handle = handle_bytes file; size = 0 })) ∷ []
+commits session file now = calls session 2 now (lb.MkTmpFile (record { lbfs = 1; fd = 1; handle = handle_bytes file })) ∷ calls session 3 now (lb.CommitTmp (record { lbfs = 1; fd = 1; handle = handle_bytes file; size = 0; base = None })) ∷ []
 
 abbrev removes : (session now : ℕ) → List ℕ → Event
 removes session now name = event.Got session (message.Call 3 (body.Nfs (nfs.Remove (record { dir = handle_bytes 1; name = name })))) now
@@ -96,7 +96,7 @@ forgotten : (after tree (leases_at 1 2 0 ∷ leases_at 2 2 1000 ∷ [])).leasing
 forgotten = refl
 
 -- GETHASH grants one too, whatever it tells
-by_hashes : (after tree (calls 1 1 4 (lb.GetHash (record { handle = handle_bytes 3; offset = 0; count = 0 })) ∷ [])).leasing.leases ≡ lease 1 3 1004 None ∷ []
+by_hashes : (after tree (calls 1 1 4 (lb.GetHash (record { lbfs = 1; handle = handle_bytes 3; offset = 0; count = 0 })) ∷ [])).leasing.leases ≡ lease 1 3 1004 None ∷ []
 by_hashes = refl
 
 -- none is granted while a change of the file waits, and the term 0 is told; on another file one is

@@ -66,7 +66,7 @@ renames session xid name to = asks session xid (nfs.Rename (record { from = at 1
 
 -- the session gives the file no bytes, by its temporary file 1
 abbrev empties : (session file : ℕ) → List Event
-empties session file = calls session 1 (lb.MkTmpFile (record { fd = 1; handle = handle_bytes file })) ∷ calls session 2 (lb.CommitTmp (record { fd = 1; handle = handle_bytes file; size = 0 })) ∷ []
+empties session file = calls session 1 (lb.MkTmpFile (record { lbfs = 1; fd = 1; handle = handle_bytes file })) ∷ calls session 2 (lb.CommitTmp (record { lbfs = 1; fd = 1; handle = handle_bytes file; size = 0; base = None })) ∷ []
 
 -- ---- what a step comes to, in short: to whom it says what under which number, what it tells, and how many entries it makes
 

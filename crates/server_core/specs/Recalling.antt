@@ -44,7 +44,7 @@ grants_on s session file = record s { leasing = record s.leasing { leases = with
 
 -- the file on which a call is granted a lease, if it names one
 abbrev pub leased_file : Tree → Lb → Option ℕ
-leased_file t (lb.GetLease handle) = file_in (node_of t handle)
+leased_file t (lb.GetLease z) = file_in (node_of t z.handle)
 leased_file t (lb.GetHash r) = file_in (node_of t r.handle)
 leased_file t m = None
 

@@ -1,5 +1,5 @@
 -- Worked sessions.
-use Rattle.std.specs.Prelude.{◌≡◌, ℕ, List, [], ◌∷◌, ◌++◌, map, replicate, refl, codes, length, Bool, true, false, Some}
+use Rattle.std.specs.Prelude.{None, ◌≡◌, ℕ, List, [], ◌∷◌, ◌++◌, map, replicate, refl, codes, length, Bool, true, false, Some}
 use Rattle.sha1.specs.Sha1.{sha1}
 use Rattle.chunk_cut.specs.Search.{next_end, closed_ends}
 use Rattle.rabin_window.specs.Fingerprint.{fp}
@@ -52,7 +52,7 @@ answers xid b = to 1 (message.Answer xid (body.Lb b))
 -- ---- GETHASH and READ
 
 abbrev hashes : (xid file offset count : ℕ) → Event
-hashes xid file offset count = calls xid (lb.GetHash (record { handle = handle_bytes file; offset = offset; count = count }))
+hashes xid file offset count = calls xid (lb.GetHash (record { lbfs = 1; handle = handle_bytes file; offset = offset; count = count }))
 
 abbrev told_hashes : (xid size : ℕ) → List Pair → (eof : Bool) → ServerStep
 told_hashes xid size pairs eof = answers xid (lb.GetHashAnswer (Done (record { version = 1; term = 0; size = size; pairs = pairs; eof = eof })))
@@ -76,7 +76,7 @@ abbrev second : Pair
 second = record { digest = sha1 (replicate 10 0); size = 10 }
 
 abbrev both_of : (offset count : ℕ) → Hashes
-both_of offset count = hashes_of 0 marked (record { handle = []; offset = offset; count = count })
+both_of offset count = hashes_of 0 marked (record { lbfs = 1; handle = []; offset = offset; count = count })
 
 abbrev some_of : List Pair → Bool → Hashes
 some_of pairs eof = record { version = 1; term = 0; size = 2058; pairs = pairs; eof = eof }
@@ -91,16 +91,16 @@ pieces_read = refl
 -- ---- temporary files
 
 abbrev makes : (xid number : ℕ) → Event
-makes xid number = calls xid (lb.MkTmpFile (record { fd = number; handle = handle_bytes 2 }))
+makes xid number = calls xid (lb.MkTmpFile (record { lbfs = 1; fd = number; handle = handle_bytes 2 }))
 
 abbrev made : (xid : ℕ) → ServerStep
 made xid = answers xid (lb.MkTmpFileAnswer (Done tt))
 
 abbrev writes : (xid offset : ℕ) → List ℕ → Event
-writes xid offset bytes = calls xid (lb.TmpWrite (record { fd = 1; offset = offset; bytes = bytes }))
+writes xid offset bytes = calls xid (lb.TmpWrite (record { lbfs = 1; fd = 1; offset = offset; bytes = bytes }))
 
 abbrev commits : (xid number size : ℕ) → Event
-commits xid number size = calls xid (lb.CommitTmp (record { fd = number; handle = handle_bytes 2; size = size }))
+commits xid number size = calls xid (lb.CommitTmp (record { lbfs = 1; fd = number; handle = handle_bytes 2; size = size; base = None }))
 
 temps : steps tree (makes 1 1 ∷ makes 2 1 ∷ writes 3 0 (codes "ab") ∷ writes 4 1 (codes "x") ∷ writes 5 3 (codes "d") ∷ commits 6 1 4 ∷ commits 7 1 4 ∷ commits 8 9 0 ∷ []) ≡ (made 1 ∷ answers 2 (lb.MkTmpFileAnswer (Failed status.FdInUse tt)) ∷ answers 3 (lb.TmpWriteAnswer (Done tt)) ∷ answers 4 (lb.TmpWriteAnswer (Failed status.Inval tt)) ∷ answers 5 (lb.TmpWriteAnswer (Done tt)) ∷ answers 6 (lb.CommitTmpAnswer (Failed status.Inval tt)) ∷ answers 7 (lb.CommitTmpAnswer (Failed status.BadFd tt)) ∷ answers 8 (lb.CommitTmpAnswer (Failed status.BadFd tt)) ∷ [])
 temps = refl
@@ -118,7 +118,7 @@ too_many = refl
 -- ---- a change is made
 
 -- the content "x" in one piece, committed under xid 4, settled at moment 7; then nothing waits
-changed : steps tree (makes 1 1 ∷ calls 2 (lb.CondWrite (record { fd = 1; offset = 0; count = 1; digest = sha1 (codes "x") })) ∷ writes 3 0 (codes "x") ∷ commits 4 1 1 ∷ event.Settle 7 ∷ event.Settle 8 ∷ []) ≡ (made 1 ∷ answers 2 (lb.CondWriteAnswer (Failed status.HashNotFound tt)) ∷ answers 3 (lb.TmpWriteAnswer (Done tt)) ∷ sends [] ∷ record (answers 4 (lb.CommitTmpAnswer (Done (record { version = 2; term = 0 })))) { told = told.Settled 1 4; entries = 1 } ∷ record (sends []) { told = told.NotReady } ∷ [])
+changed : steps tree (makes 1 1 ∷ calls 2 (lb.CondWrite (record { lbfs = 1; fd = 1; offset = 0; count = 1; digest = sha1 (codes "x") })) ∷ writes 3 0 (codes "x") ∷ commits 4 1 1 ∷ event.Settle 7 ∷ event.Settle 8 ∷ []) ≡ (made 1 ∷ answers 2 (lb.CondWriteAnswer (Failed status.HashNotFound tt)) ∷ answers 3 (lb.TmpWriteAnswer (Done tt)) ∷ sends [] ∷ record (answers 4 (lb.CommitTmpAnswer (Done (record { version = 2; term = 0 })))) { told = told.Settled 1 4; entries = 1 } ∷ record (sends []) { told = told.NotReady } ∷ [])
 changed = refl
 
 changed_state : (after tree (makes 1 1 ∷ writes 3 0 (codes "x") ∷ commits 4 1 1 ∷ event.Settle 7 ∷ event.Settle 8 ∷ [])) ≡ record tree { tree = record { nodes = root 1 ∷ record { id = 2; parent = 1; name = codes "a"; version = 2; body = Content (codes "x") } ∷ record { id = 3; parent = 1; name = codes "b"; version = 1; body = Content [] } ∷ []; next = 4; changes = 2 }; journal = record { file = 2; version = 2; kind = entry.Commit; len = 1; sha1 = sha1 (codes "x"); session = 1 } ∷ []; index = with_chunk no_index 2 (record { start = 0; len = 1; digest = sha1 (codes "x") }); leasing = unleased 7 }
@@ -148,7 +148,7 @@ calls_by session xid b = event.Got session (message.Call xid (body.Lb b)) 0
 
 -- a session gives file 2 this content, by its temporary file 1
 abbrev gives : (session : ℕ) → List ℕ → List Event
-gives session content = calls_by session 1 (lb.MkTmpFile (record { fd = 1; handle = handle_bytes 2 })) ∷ calls_by session 2 (lb.TmpWrite (record { fd = 1; offset = 0; bytes = content })) ∷ calls_by session 3 (lb.CommitTmp (record { fd = 1; handle = handle_bytes 2; size = length content })) ∷ []
+gives session content = calls_by session 1 (lb.MkTmpFile (record { lbfs = 1; fd = 1; handle = handle_bytes 2 })) ∷ calls_by session 2 (lb.TmpWrite (record { lbfs = 1; fd = 1; offset = 0; bytes = content })) ∷ calls_by session 3 (lb.CommitTmp (record { lbfs = 1; fd = 1; handle = handle_bytes 2; size = length content; base = None })) ∷ []
 
 -- first session 2, then session 1
 abbrev both : State
@@ -173,7 +173,7 @@ next_number : steps both (event.Hang 2 ∷ event.Connect ∷ []) ≡ (sends [] �
 next_number = refl
 
 -- a session with a change that waits has no second, and its temporary file ends
-second_change : steps both (calls_by 1 4 (lb.MkTmpFile (record { fd = 2; handle = handle_bytes 3 })) ∷ calls_by 1 5 (lb.CommitTmp (record { fd = 2; handle = handle_bytes 3; size = 0 })) ∷ calls_by 1 6 (lb.CommitTmp (record { fd = 2; handle = handle_bytes 3; size = 0 })) ∷ []) ≡ (to 1 (message.Answer 4 (body.Lb (lb.MkTmpFileAnswer (Done tt)))) ∷ to 1 (message.Answer 5 (body.Lb (lb.CommitTmpAnswer (Failed status.Jukebox tt)))) ∷ to 1 (message.Answer 6 (body.Lb (lb.CommitTmpAnswer (Failed status.BadFd tt)))) ∷ [])
+second_change : steps both (calls_by 1 4 (lb.MkTmpFile (record { lbfs = 1; fd = 2; handle = handle_bytes 3 })) ∷ calls_by 1 5 (lb.CommitTmp (record { lbfs = 1; fd = 2; handle = handle_bytes 3; size = 0; base = None })) ∷ calls_by 1 6 (lb.CommitTmp (record { lbfs = 1; fd = 2; handle = handle_bytes 3; size = 0; base = None })) ∷ []) ≡ (to 1 (message.Answer 4 (body.Lb (lb.MkTmpFileAnswer (Done tt)))) ∷ to 1 (message.Answer 5 (body.Lb (lb.CommitTmpAnswer (Failed status.Jukebox tt)))) ∷ to 1 (message.Answer 6 (body.Lb (lb.CommitTmpAnswer (Failed status.BadFd tt)))) ∷ [])
 second_change = refl
 
 -- 64 sessions stand at once

@@ -77,8 +77,8 @@ asks_tree s session xid p = asks (record s { tree = p.0 }) session xid p.1
 -- What a call of a session does. One of these programs that the server doesn't do yet is refused, as a procedure that it doesn't have
 -- (RFC 5531 section 9). fault: whether the store fails, if it is asked.
 abbrev pub called_under : State → (fault : Bool) → (session xid : ℕ) → Body → State × ServerStep
-called_under s fault session xid (body.Lb lb.Null) = says s session xid (body.Lb lb.NullAnswer)
-called_under s fault session xid (body.Lb (lb.GetLease handle)) = tells_lease s session xid (node_of s.tree handle)
+called_under s fault session xid (body.Lb (lb.Null z)) = says s session xid (body.Lb lb.NullAnswer)
+called_under s fault session xid (body.Lb (lb.GetLease z)) = tells_lease s session xid (node_of s.tree z.handle)
 called_under s fault session xid (body.Lb (lb.GetHash r)) = tells_hashes s session xid r (node_of s.tree r.handle)
 called_under s fault session xid (body.Lb (lb.MkTmpFile a)) = makes s session xid a.fd (node_of s.tree a.handle)
 called_under s fault session xid (body.Lb (lb.TmpWrite a)) = writes s session xid a (temp_at s.temps session a.fd)
@@ -242,7 +242,7 @@ chunks_entered s e = None
 -- The calls that take memory: those that give chunks or bytes of a file, a handle or names, and those that keep something, a lease too. One that is refused,
 -- or answered by a failure, takes none.
 abbrev pub TakesMemory : State → (session : ℕ) → Body → Type 0
-TakesMemory s session (body.Lb (lb.GetLease handle)) = (term_on s (file_in (node_of s.tree handle)) == 0) ≡ false
+TakesMemory s session (body.Lb (lb.GetLease z)) = (term_on s (file_in (node_of s.tree z.handle)) == 0) ≡ false
 TakesMemory s session (body.Lb (lb.GetHash r)) = IsFile (node_of s.tree r.handle)
 TakesMemory s session (body.Lb (lb.MkTmpFile a)) = IsFile (node_of s.tree a.handle) × (room_fault s.temps session a.fd ≡ None)
 TakesMemory s session (body.Lb (lb.TmpWrite a)) = piece_fault (temp_at s.temps session a.fd) a.offset (length a.bytes) ≡ None

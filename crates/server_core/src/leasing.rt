@@ -20,7 +20,7 @@ pub fn leased_file(tree: &Tree, call: &Lb) -> Option<u64>
     ensures { result ≡ leased_file tree.now.tree call.now }
 {
     let handle = match call {
-        Lb::GetLease(handle) => handle,
+        Lb::GetLease(lease) => &lease.handle,
         Lb::GetHash(range) => &range.handle,
         _ => return None,
     };

@@ -30,7 +30,7 @@ module _ {S : Type 0} (records : S → Option (List Kept)) (faults : S → ℕ) 
   -- a record that is no answer is read alike, whatever was asked for
   pub heard_so : (old : Held S) (session now : ℕ) (bytes : List ℕ) (message : Message) (said : Went) (new : Held S) → parse_of server_waits bytes ≡ Ok message → Took records faults old (event.Got session message now) said new → HeardOrLeft records faults old session now (parse_of (waits_for old session) bytes) said new
   heard_so old session now bytes message said new is took =
-      heard_ok old session now (parse_of (waits_for old session) bytes) message said new (read_alike (waits_for old session) refl bytes (subst IsKnown (sym is) tt) ∙ is) took
+      heard_ok old session now (parse_of (waits_for old session) bytes) message said new (read_alike (waits_for old session) refl refl bytes (subst IsKnown (sym is) tt) ∙ is) took
 
   known : (fault : WireFault) → is_unknown (errors.Fault fault) ≡ false → IsKnown (Err fault)
   known (NotRpc at) e = tt
@@ -40,4 +40,4 @@ module _ {S : Type 0} (records : S → Option (List Kept)) (faults : S → ℕ) 
   pub unread_so : (old : Held S) (session now : ℕ) (bytes : List ℕ) (error : WireError) (said : Went) (new : Held S) → is_unknown error ≡ false → IsParsed (Err error) (parse_of server_waits bytes) → Unread records faults old session error said new → HeardOrLeft records faults old session now (parse_of (waits_for old session) bytes) said new
   unread_so old session now bytes errors.Memory said new not is unread = inr unread
   unread_so old session now bytes (errors.Fault fault) said new not is unread =
-      heard_err old session now (parse_of (waits_for old session) bytes) (errors.Fault fault) said new (read_alike (waits_for old session) refl bytes (subst IsKnown (sym is) (known fault not)) ∙ is) unread
+      heard_err old session now (parse_of (waits_for old session) bytes) (errors.Fault fault) said new (read_alike (waits_for old session) refl refl bytes (subst IsKnown (sym is) (known fault not)) ∙ is) unread

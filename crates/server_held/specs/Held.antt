@@ -24,10 +24,11 @@ use Rattle.server_held.specs.Kept.{Steps, StoreKeeps}
 use Rattle.server_held.specs.declared.held.Held.{Held}
 use Rattle.server_held.specs.declared.held.Went.{Went}
 use Rattle.server_held.specs.declared.held.Went.TheVariants as went
+use Rattle.wire.specs.declared.message.TheConstants.{LBFS_SERVED}
 
 -- by what a record is read before its turn: as if the server had asked its clients for nothing
 abbrev pub server_waits : Waiting
-server_waits = record { side = side.Server; calls = [] }
+server_waits = record { side = side.Server; lbfs = LBFS_SERVED; calls = [] }
 
 -- whether an error is that of an answer that nobody waits for
 abbrev pub is_unknown : WireError → Bool

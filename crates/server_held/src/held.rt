@@ -34,7 +34,7 @@ use store::store::Store;
 use tree_nodes::content::Content;
 use turn_post::journaled::Journaled;
 use wire::fault::{WireError, WireFault};
-use wire::message::{Message, Side, Waiting};
+use wire::message::{LBFS_SERVED, Message, Side, Waiting};
 use wire::parse::parse;
 
 /// What came of an event.
@@ -87,6 +87,7 @@ pub fn read_record(alloc: Global, bytes: &[u8]) -> Result<Message, WireError>
 {
     let waiting = Waiting {
         side: Side::Server,
+        lbfs: LBFS_SERVED,
         calls: Items::new(alloc),
     };
     parse(alloc, bytes, &waiting)

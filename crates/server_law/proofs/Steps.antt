@@ -164,7 +164,7 @@ module _ (opening : Tree) (s : State) (fault : Bool) (h : Holds opening s) where
   -- ---- any call
 
   called_told : (session xid : ℕ) (b : Body) → Holds opening (called_under s fault session xid b).0
-  called_told session xid (body.Lb (lb.GetLease handle)) = kept (called_under s fault session xid (body.Lb (lb.GetLease handle))).0 refl refl
+  called_told session xid (body.Lb (lb.GetLease z)) = kept (called_under s fault session xid (body.Lb (lb.GetLease z))).0 refl refl
   called_told session xid (body.Lb (lb.GetHash r)) = kept (called_under s fault session xid (body.Lb (lb.GetHash r))).0 refl refl
   called_told session xid (body.Lb (lb.MkTmpFile a)) = makes_kept session xid a.fd (node_of s.tree a.handle)
   called_told session xid (body.Lb (lb.TmpWrite a)) = writes_kept session xid a (temp_at s.temps session a.fd)

@@ -36,6 +36,7 @@ use Rattle.trace_ends.specs.Commands.{word_of, file_of, value_at_begin}
 use Rattle.trace_ends.specs.Ops.{begun, op_after, place_after, place_with, pointed_at, ops_with}
 use Rattle.trace_ends.specs.Session.{Seat, Session, commanded_session, is_newest, new_session, session_of, settled_ops, taken_of, taken_with}
 use Rattle.trace_ends.specs.Numbers.{numbered, with_numbered}
+use Rattle.wire.specs.declared.message.TheConstants.{LBFS_SERVED}
 
 -- ---- the core
 
@@ -106,7 +107,7 @@ changed_file es = option_map (λ e. e.file) (find (λ e. is_of_file e.kind) es)
 
 -- no answer is waited for: a call is read so, whatever else waits
 abbrev pub server_waiting : Waiting
-server_waiting = record { side = side.Server; calls = [] }
+server_waiting = record { side = side.Server; lbfs = LBFS_SERVED; calls = [] }
 
 -- what the server waits for on a session: answers to RECALLs
 abbrev pub server_waits : Core → (number : ℕ) → Waiting

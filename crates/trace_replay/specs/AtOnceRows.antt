@@ -10,7 +10,7 @@ use Rattle.transfer_rules.specs.Limits.{calls_most}
 use Rattle.xdr_codec.specs.Answers.{outcome_form}
 use Rattle.xdr_codec.specs.Attr.{time_form, kind_form, attr_form}
 use Rattle.xdr_codec.specs.Xdr.{u32_form, u64_form, bool_form, bytes_form, fixed_form, count_form, opaque_spell, opaque_read}
-use Rattle.hash_calls.specs.Calls.{leased_form, hashes_form, pair_form, new_temp_form, temp_piece_form, cond_piece_form, commit_form, committed_form}
+use Rattle.hash_calls.specs.Calls.{lease_on_form, leased_form, hashes_form, pair_form, new_temp_form, temp_piece_form, cond_piece_form, commit_form, committed_form}
 use Rattle.hash_calls.specs.Calls.{range_form as hash_range_form}
 use Rattle.nfs3_calls.specs.Calls.{piece_form}
 use Rattle.nfs3_calls.specs.Calls.{range_form}
@@ -27,7 +27,7 @@ abbrev opened_thrice : List ℕ
 opened_thrice = codes "lbfs-trace 1\nterm 1000\ndrift 100\nclients 1\nfile a t:a\njoin 1 0 0\ndo 1 0 open #2\npass 1 3 0 0\ndo 1 0 abandon #2\ndo 1 899 open #2\ndo 1 899 abandon #2\ndo 1 900 rewrite #2\n"
 
 pub fresh_till : map (λ (d : Deed). d.fresh) (deeds_of (moments opened_thrice)) ≡ false ∷ false ∷ true ∷ false ∷ false ∷ []
-unfolding calls_most fronted key_of leased_form record_of digits encode_with decode_pairs sha1 digest_bytes hash_after compress rounds schedule first_words closed_ends next_end outcome_form time_form kind_form attr_form u32_form u64_form bool_form bytes_form fixed_form count_form opaque_spell opaque_read hashes_form pair_form hash_range_form piece_form range_form new_temp_form temp_piece_form cond_piece_form commit_form committed_form direction_form front_form auth_form call_form versions_form accept_form denial_form reply_form
+unfolding calls_most fronted key_of lease_on_form leased_form record_of digits encode_with decode_pairs sha1 digest_bytes hash_after compress rounds schedule first_words closed_ends next_end outcome_form time_form kind_form attr_form u32_form u64_form bool_form bytes_form fixed_form count_form opaque_spell opaque_read hashes_form pair_form hash_range_form piece_form range_form new_temp_form temp_piece_form cond_piece_form commit_form committed_form direction_form front_form auth_form call_form versions_form accept_form denial_form reply_form
 fresh_till = refl
 
 -- what is fresh is open without a link

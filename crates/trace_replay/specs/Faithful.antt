@@ -137,7 +137,7 @@ OpensVersion book o outcome = Unit {0}
 -- by which call an open of this file has its point, where it began so many attempts: by its GETLEASE, where it began none, and else by a GETHASH from the
 -- first byte on, as each attempt begins with one
 abbrev pub IsFirstOf : (attempts file : ℕ) → Body → Type 0
-IsFirstOf zero file (body.Lb (lb.GetLease handle)) = handle ≡ handle_bytes file
+IsFirstOf zero file (body.Lb (lb.GetLease z)) = z.handle ≡ handle_bytes file
 IsFirstOf (suc n) file (body.Lb (lb.GetHash a)) = (a.handle ≡ handle_bytes file) × (a.offset ≡ 0)
 IsFirstOf n file b = ⊥
 

@@ -39,7 +39,7 @@ granted_by b = None
 
 -- the handle of a call whose answer may tell of one
 abbrev pub handle_asked : Body → Option (List ℕ)
-handle_asked (body.Lb (lb.GetLease handle)) = Some handle
+handle_asked (body.Lb (lb.GetLease z)) = Some z.handle
 handle_asked (body.Lb (lb.GetHash r)) = Some r.handle
 handle_asked (body.Lb (lb.CommitTmp a)) = Some a.handle
 handle_asked b = None

@@ -64,7 +64,7 @@ recall_of l xid = record { session = l.session; message = message.Call xid (body
 
 -- the file on which a call asks for a lease
 abbrev pub file_leased : Body → Option ℕ
-file_leased (body.Lb (lb.GetLease handle)) = file_of handle
+file_leased (body.Lb (lb.GetLease z)) = file_of z.handle
 file_leased (body.Lb (lb.GetHash r)) = file_of r.handle
 file_leased b = None
 

@@ -187,7 +187,7 @@ in_the_quiet book s t = let le = t.awake in absurd (omega (arith, le))
 -- ---- which file
 
 -- a REMOVE's is what its name stands for, a RENAME's what it replaces
-pub files_asked : map (file_asked two_files.tree) (body.Lb (lb.CommitTmp (record { handle = handle_bytes 3; fd = 1; size = 0 })) ∷ body.Nfs (nfs.Remove (record { dir = handle_bytes ROOT; name = codes "a" })) ∷ body.Nfs (nfs.Rename (record { from = record { dir = handle_bytes ROOT; name = codes "a" }; to = record { dir = handle_bytes ROOT; name = codes "b" } })) ∷ body.Nfs (nfs.Rename (record { from = record { dir = handle_bytes ROOT; name = codes "a" }; to = record { dir = handle_bytes ROOT; name = codes "c" } })) ∷ [])
+pub files_asked : map (file_asked two_files.tree) (body.Lb (lb.CommitTmp (record { lbfs = 1; handle = handle_bytes 3; fd = 1; size = 0; base = None })) ∷ body.Nfs (nfs.Remove (record { dir = handle_bytes ROOT; name = codes "a" })) ∷ body.Nfs (nfs.Rename (record { from = record { dir = handle_bytes ROOT; name = codes "a" }; to = record { dir = handle_bytes ROOT; name = codes "b" } })) ∷ body.Nfs (nfs.Rename (record { from = record { dir = handle_bytes ROOT; name = codes "a" }; to = record { dir = handle_bytes ROOT; name = codes "c" } })) ∷ [])
     ≡ Some 3 ∷ Some 2 ∷ Some 3 ∷ None ∷ []
 files_asked = refl
 

@@ -40,6 +40,7 @@ use Rattle.trace_replay.specs.Trail.{Moment, step_of, client_of, taken_by}
 use Rattle.trace_replay.specs.Traffic.{is_in}
 use Rattle.trace_replay.specs.Book.{Book, version_at}
 use Rattle.trace_replay.specs.OwnCalls.{TakesCall}
+use Rattle.wire.specs.declared.message.TheConstants.{LBFS_SPOKEN}
 
 -- ---- the server knows a chunk
 
@@ -109,7 +110,7 @@ lease_told xid l = message.Answer xid (body.Lb (lb.GetLeaseAnswer (Done l)))
 -- In a step of the operation, before this moment, the server took its GETLEASE of this number; the file had this version then.
 pub record LeasedAt (book : Book) (o : Op) (m : Moment) (xid version : ℕ) : Type 0 where
   pub step : ℕ
-  pub taken : TakesCall book o.client step xid (body.Lb (lb.GetLease (handle_bytes o.file)))
+  pub taken : TakesCall book o.client step xid (body.Lb (lb.GetLease (record { lbfs = LBFS_SPOKEN; handle = handle_bytes o.file })))
   pub within : o.begin ≤ step
   pub before : step < step_of m
   pub version_is : version_at book o.file step ≡ version

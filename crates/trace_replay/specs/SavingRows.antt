@@ -31,7 +31,7 @@ holds pairs = record {
 }
 
 abbrev names : List ℕ → CondPiece
-names bytes = record { fd = 1; offset = 0; count = length bytes; digest = sha1 bytes }
+names bytes = record { lbfs = 1; fd = 1; offset = 0; count = length bytes; digest = sha1 bytes }
 
 -- the key of a chunk "abc", and places that lie in file 2 and past its end
 abbrev pairs_of : (file offset count : ℕ) → Pairs

@@ -99,7 +99,7 @@ IsRead waiting m = MessageFits m × (parse_of waiting (message_spell m) ≡ Ok m
 
 -- a call that these clients make, or an answer to a RECALL that the server waits for
 abbrev pub IsServed : List Pending → Message → Type 0
-IsServed waits (message.Call xid (body.Lb (lb.GetLease handle))) = Unit {0}
+IsServed waits (message.Call xid (body.Lb (lb.GetLease z))) = Unit {0}
 IsServed waits (message.Call xid (body.Lb (lb.GetHash a))) = Unit {0}
 IsServed waits (message.Call xid (body.Lb (lb.MkTmpFile a))) = Unit {0}
 IsServed waits (message.Call xid (body.Lb (lb.TmpWrite a))) = Unit {0}

@@ -251,14 +251,14 @@ pub record AttemptsMet (o : Op) (deals : List Deal) : Type 0 where
 
 -- an open asks for chunks and bytes of its file
 abbrev pub IsFetchCall : (file : ℕ) → Message → Type 0
-IsFetchCall file (message.Call xid (body.Lb (lb.GetLease handle))) = handle ≡ handle_bytes file
+IsFetchCall file (message.Call xid (body.Lb (lb.GetLease z))) = z.handle ≡ handle_bytes file
 IsFetchCall file (message.Call xid (body.Lb (lb.GetHash a))) = a.handle ≡ handle_bytes file
 IsFetchCall file (message.Call xid (body.Nfs (nfs.Read r))) = r.handle ≡ handle_bytes file
 IsFetchCall file m = ⊥
 
 -- a rewrite asks for the version of its file
 abbrev pub IsVersionCall : (file : ℕ) → Message → Type 0
-IsVersionCall file (message.Call xid (body.Lb (lb.GetLease handle))) = handle ≡ handle_bytes file
+IsVersionCall file (message.Call xid (body.Lb (lb.GetLease z))) = z.handle ≡ handle_bytes file
 IsVersionCall file m = ⊥
 
 -- a close puts chunks of its value into a temporary file (`NamesChunks` and `PaysAll` say which), and has its file replaced by it
