@@ -14,7 +14,7 @@ use Rattle.kept_promise.proofs.Facts.{IsKept, IsSession, IsMatched, is_naming}
 use Rattle.kept_promise.proofs.Turns.{also_numbered}
 use Rattle.kept_promise.proofs.RunsCarried.{FindsAsk, FindsTold, Finds}
 use Rattle.kept_promise.proofs.Counted.{IsActor}
-use Rattle.kept_promise.proofs.Statements.{CallFits}
+use Rattle.kept_promise.proofs.Statements.{ToldFits, CallFits}
 
 -- ---- operations
 
@@ -158,10 +158,10 @@ heard_at book k qs n now bytes mid kept f = by (also_numbered qs k.sessions n f.
 pub heard_reads : FitLaws → (book : Book) (k : Core) (qs : List Queue) (n now : ℕ) (bytes : List ℕ) (mid : List Queue) → IsKept book k qs → (h : Heard k qs n now bytes mid) → parse_of (client.waiting_of h.seat.client) bytes ≡ Ok (told_message h.told)
 heard_reads laws book k qs n now bytes mid kept h =
     let s = kept.sessions n h.session h.queue h.at h.queue_is in
-    let fits = (subst (AllTolds (λ u. MessageFits (told_message u))) h.first s.downs_fit).0 in
+    let fits = (subst (AllTolds (λ u. ToldFits u)) h.first s.downs_fit).0 in
     let same : s.seat ≡ h.seat = some_is s.seat h.seat (sym s.owner ∙ h.owner) in
     ap (λ (b : List ℕ). parse_of (client.waiting_of h.seat.client) b) h.bytes_is
-    ∙ subst (λ (c : Seat). parse_of (client.waiting_of c.client) (message_spell (told_message h.told)) ≡ Ok (told_message h.told)) same (laws.again (client.waiting_of s.seat.client) (told_message h.told) fits.0 (expected n k.server.waiting h.queue h.session.hung s.seat.client 0 h.told (s.talk h.uncut).balanced (ap (λ (l : List Told). slice_get l 0) h.first)))
+    ∙ subst (λ (c : Seat). parse_of (client.waiting_of c.client) (message_spell (told_message h.told)) ≡ Ok (told_message h.told)) same (laws.again (client.waiting_of s.seat.client) (told_message h.told) fits.0.0 (expected n k.server.waiting h.queue h.session.hung s.seat.client 0 h.told (s.talk h.uncut).balanced (ap (λ (l : List Told). slice_get l 0) h.first) fits.1))
 
 pub heard_acts : FitLaws → (book : Book) (k : Core) (qs : List Queue) (n now : ℕ) (bytes : List ℕ) (mid : List Queue) → IsKept book k qs → (h : Heard k qs n now bytes mid) → happens k (Hears n now bytes) ≡ acted k h.session.owner h.seat (got_step h.seat.client (Ok (told_message h.told)) now).0 (got_step h.seat.client (Ok (told_message h.told)) now).1
 heard_acts laws book k qs n now bytes mid kept h = h.hears_is ∙ ap (λ (r : Result Message WireFault). acted k h.session.owner h.seat (got_step h.seat.client r now).0 (got_step h.seat.client r now).1) (heard_reads laws book k qs n now bytes mid kept h)

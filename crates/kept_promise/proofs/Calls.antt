@@ -11,7 +11,7 @@ use Rattle.client_state.specs.declared.task.Way.TheVariants as way
 use Rattle.kept_promise.proofs.Common.{slice_get, Chunk, handle_bytes, Done, Failed, Status, message_spell, MessageFits, Node, directory, file, node_of, at, makes, makes_unless, writes_unless, room_fault, Temp, temp_at, with_temp, key_of, piece_fault, range_fault, insert_entry, nat_cmp, ServerStep, Indexed, File, Core, Session, Event.Serves, CoreStep, Loss.Nothing, numbered, with_numbered, unless, hashed_of, Book, Call.Lease, Call.Hash, Call.Read, Call.Make, Call.Send, Reply, Reply.Made, Reply.Stored, Ask, Told, Queue, ask_message, told_message, call_program, reply_program, Tree, Call.Walks, Reply.Walked, happens, serves, serves_if, got_if, stands, Message, WireFault, Contains, Contains-push, name_answer, not, value_at, later, Leasing}
 use Rattle.server_core.specs.Recalling.{term_on, file_in, grants_on}
 use Rattle.kept_promise.proofs.Recallings.{term_small}
-use Rattle.kept_promise.proofs.Statements.{CallFits, IsPlain}
+use Rattle.kept_promise.proofs.Statements.{ToldFits, CallFits, IsPlain}
 use Rattle.kept_promise.proofs.Lists.{some_is, nothing_there, at_end}
 use Rattle.kept_promise.proofs.Messages.{Job, job, stage_word, AllAsks, Rising, AreParts, IsPiece, TempUnder, AnswerOf}
 use Rattle.kept_promise.proofs.History.{onward}
@@ -38,6 +38,7 @@ use Rattle.server_core.specs.declared.event.Sent.{Sent}
 use Rattle.kept_promise.proofs.Rights.{WasThere}
 use Rattle.kept_promise.proofs.Gone.{IsStill, IsNone, still_or_none, close_gone}
 use Rattle.kept_promise.proofs.OrderSteps.{up_untold}
+use Rattle.wire.specs.declared.message.TheConstants.{LBFS_SPOKEN}
 
 -- the answers on their way once one was told
 abbrev pub downs_then : Session → Queue → Ask → Reply → List Told
@@ -45,7 +46,7 @@ downs_then x q a r = unless x.cut q.downs (record { xid = a.xid; reply = r } ∷
 
 -- ---- what is answered with no change of the temporary files
 
-pub same_temps : (book : Book) (k : Core) (n : ℕ) (x : Session) (q : Queue) (a : Ask) (r : Reply) (h : IsSession book k.seats k.server n x q) → IsShelf k.server.temps → (x.cut ≡ false → Wanted (onward book 1 book.ops) (job h.seat) a.xid r) → (x.cut ≡ false → (us : List Ask) → q.ups ≡ a ∷ us → Held k.server.temps n us (downs_then x q a r) (locals_of h.seat.client) (job h.seat)) → reply_program r ≡ call_program a.call → MessageFits (told_message (record { xid = a.xid; reply = r }))
+pub same_temps : (book : Book) (k : Core) (n : ℕ) (x : Session) (q : Queue) (a : Ask) (r : Reply) (h : IsSession book k.seats k.server n x q) → IsShelf k.server.temps → (x.cut ≡ false → Wanted (onward book 1 book.ops) (job h.seat) a.xid r) → (x.cut ≡ false → (us : List Ask) → q.ups ≡ a ∷ us → Held k.server.temps n us (downs_then x q a r) (locals_of h.seat.client) (job h.seat)) → reply_program r ≡ call_program a.call → ToldFits (record { xid = a.xid; reply = r })
     → (x.cut ≡ false → AnswerOf (onward book 1 book.ops) (x.taken ++ record { xid = a.xid; step = book.steps + 1 } ∷ []) x.closing (job h.seat) a.xid r) → Answers book k n x q a k.server.temps r h
 same_temps book k n x q a r h shelf wanted held program fits answer = record {
   shelf = shelf;
@@ -62,7 +63,7 @@ same_temps book k n x q a r h shelf wanted held program fits answer = record {
 
 -- ---- what is answered with one put in
 
-pub put_temp : (book : Book) (k : Core) (n : ℕ) (x : Session) (q : Queue) (a : Ask) (r : Reply) (m : ℕ) (t : Temp) (h : IsSession book k.seats k.server n x q) → IsShelf k.server.temps → t.fd < 4294967296 → (x.cut ≡ false → Wanted (onward book 1 book.ops) (job h.seat) a.xid r) → (x.cut ≡ false → (us : List Ask) → q.ups ≡ a ∷ us → Held (with_temp k.server.temps t) n us (downs_then x q a r) (locals_of h.seat.client) (job h.seat)) → reply_program r ≡ call_program a.call → MessageFits (told_message (record { xid = a.xid; reply = r }))
+pub put_temp : (book : Book) (k : Core) (n : ℕ) (x : Session) (q : Queue) (a : Ask) (r : Reply) (m : ℕ) (t : Temp) (h : IsSession book k.seats k.server n x q) → IsShelf k.server.temps → t.fd < 4294967296 → (x.cut ≡ false → Wanted (onward book 1 book.ops) (job h.seat) a.xid r) → (x.cut ≡ false → (us : List Ask) → q.ups ≡ a ∷ us → Held (with_temp k.server.temps t) n us (downs_then x q a r) (locals_of h.seat.client) (job h.seat)) → reply_program r ≡ call_program a.call → ToldFits (record { xid = a.xid; reply = r })
     → (x.cut ≡ false → AnswerOf (onward book 1 book.ops) (x.taken ++ record { xid = a.xid; step = book.steps + 1 } ∷ []) x.closing (job h.seat) a.xid r)
     → m < 4294967296 → key_of t.session t.fd ≡ key_of n m → AreParts (hashed_of book.moments) (h.contents m) t.pieces → (x.cut ≡ false → m < h.seat.client.next_temp) → Answers book k n x q a (with_temp k.server.temps t) r h
 put_temp book k n x q a r m t h shelf number wanted held program fits answer small keyed parts under = record {
@@ -334,7 +335,7 @@ serve_make laws book k qs n now x q xid m f us g = by (node_of k.server.tree (ha
     by (Ok (file z)) is = faults (room_fault k.server.temps n m) z.id refl
 
 pub serve_send : FitLaws → (book : Book) (k : Core) (qs : List Queue) (n now : ℕ) (x : Session) (q : Queue) (xid m start : ℕ) (bytes : List ℕ) (us : List Ask) → Given book k qs n now x q (record { xid = xid; call = Send m start bytes }) us
-    → Leads book (rest_of qs n q us) (served k n x xid (writes_unless (at k.server now) n xid (record { fd = m; offset = start; bytes = bytes }) (temp_at k.server.temps n m) (piece_fault (temp_at k.server.temps n m) start (length bytes))))
+    → Leads book (rest_of qs n q us) (served k n x xid (writes_unless (at k.server now) n xid (record { lbfs = LBFS_SPOKEN; fd = m; offset = start; bytes = bytes }) (temp_at k.server.temps n m) (piece_fault (temp_at k.server.temps n m) start (length bytes))))
 serve_send laws book k qs n now x q xid m start bytes us g = by (temp_at k.server.temps n m) (piece_fault (temp_at k.server.temps n m) start (length bytes)) refl refl
   where
     a : Ask
@@ -369,7 +370,7 @@ serve_send laws book k qs n now x q xid m start bytes us g = by (temp_at k.serve
     plain : (o : Option Status) → (x.cut ≡ false → ⊥) → Leads book (rest_of qs n q us) (answered k n (later k.server.leasing now) x a k.server.temps k.server.index (Stored (done_unless o)))
     plain o never = serve_plain laws book k qs n now x q a us k.server.index (Stored (done_unless o)) g (λ uncut. absurd (never uncut)) (λ uncut. absurd (never uncut)) refl tt fits.0 (λ uncut. tt)
 
-    by : (t : Option Temp) (o : Option Status) → temp_at k.server.temps n m ≡ t → piece_fault (temp_at k.server.temps n m) start (length bytes) ≡ o → Leads book (rest_of qs n q us) (served k n x xid (writes_unless (at k.server now) n xid (record { fd = m; offset = start; bytes = bytes }) t o))
+    by : (t : Option Temp) (o : Option Status) → temp_at k.server.temps n m ≡ t → piece_fault (temp_at k.server.temps n m) start (length bytes) ≡ o → Leads book (rest_of qs n q us) (served k n x xid (writes_unless (at k.server now) n xid (record { lbfs = LBFS_SPOKEN; fd = m; offset = start; bytes = bytes }) t o))
     by None o found fault = plain o (λ uncut. let w = goes uncut in nothing_there w.0 (sym found ∙ w.1))
     by (Some t) (Some s) found fault = plain (Some s) (λ uncut. nothing_there s (sym (goes uncut).2 ∙ fault))
     by (Some t) None found fault =

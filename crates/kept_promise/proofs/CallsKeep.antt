@@ -103,7 +103,7 @@ none_more : (Q : server.State → Type 0) (s : server.State) → Q s → Q (reco
 none_more Q s q = subst (λ (l : List Entry). Q (record s { journal = l })) (sym (append-nil s.journal)) q
 
 called_keeps : (Q : server.State → Type 0) (s : server.State) (session xid : ℕ) (b : Body) → IsOfFiles (message.Call xid b) → Frees Q s session (IsByCommit (message.Call xid b)) → Q (called s session xid b).0
-called_keeps Q s session xid (body.Lb (lb.GetLease handle)) plain q = q s.temps s.waiting s.index _ (inl refl)
+called_keeps Q s session xid (body.Lb (lb.GetLease z)) plain q = q s.temps s.waiting s.index _ (inl refl)
 called_keeps Q s session xid (body.Lb (lb.GetHash r)) plain q = q s.temps s.waiting _ _ (inl refl)
 called_keeps Q s session xid (body.Lb (lb.MkTmpFile a)) plain q = by (node_of s.tree a.handle)
   where

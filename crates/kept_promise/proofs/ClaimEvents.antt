@@ -71,7 +71,7 @@ module _ (laws : FitLaws) (all past rest : List Moment) (opening : List Opening)
               let waited = subst (λ (l : List Up). AreAwaited k.server n (map up_message l) (downs_of m.downs)) first (h.talks n m is).awaited in
               let fits = subst (λ (l : List Up). AllByRecursion UpFits l) first (s.fit n x.0 m x.1 is).ups in
               reply_taken_claimed n now bytes s clock noted (noted ++ []) le (grows_to noted []) x.0 m xid us x.1 is first mid_is
-              (serves_as (reply_message xid) is_bytes (laws.again (server_waits k n) (reply_message xid) (reply_fits xid fits.0).0 (waited.waited up).answers.0)) h
+              (serves_as (reply_message xid) is_bytes (laws.again (server_waits k n) (reply_message xid) (reply_fits xid fits.0).0 ((waited.waited up).answers.0, tt))) h
 
   hears_goal : (n now : ℕ) (bytes : List ℕ) (mid after : List Mix) → Goal (Hears n now bytes) mid after
   hears_goal n now bytes mid after s clock at noted clocked h = by s.found

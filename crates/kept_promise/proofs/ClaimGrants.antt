@@ -122,13 +122,13 @@ commits_none s n xid a (Some t) = commits_to_none (record s { temps = without_te
 
 -- calls that ask for no lease
 abbrev pub IsLeaseless : Body → Type 0
-IsLeaseless (body.Lb (lb.GetLease handle)) = ⊥
+IsLeaseless (body.Lb (lb.GetLease z)) = ⊥
 IsLeaseless (body.Lb (lb.GetHash r)) = ⊥
 IsLeaseless b = Unit {0}
 
 called_none : (s : State) (fault : Bool) (n xid : ℕ) (b : Body) → IsLeaseless b → Grantless (called_under s fault n xid b).1.send
-called_none s fault n xid (body.Lb lb.Null) free = (refl, tt)
-called_none s fault n xid (body.Lb (lb.GetLease handle)) free = absurd free
+called_none s fault n xid (body.Lb (lb.Null z)) free = (refl, tt)
+called_none s fault n xid (body.Lb (lb.GetLease z)) free = absurd free
 called_none s fault n xid (body.Lb (lb.GetHash r)) free = absurd free
 called_none s fault n xid (body.Lb (lb.MkTmpFile a)) free = makes_none s n xid a.fd (node_of s.tree a.handle)
 called_none s fault n xid (body.Lb (lb.TmpWrite a)) free = writes_none s n xid a (temp_at s.temps n a.fd) (piece_fault (temp_at s.temps n a.fd) a.offset (length a.bytes))

@@ -351,7 +351,7 @@ recall_claimed laws {all = all} {opening = opening} {k = k} {ms = ms} n now byte
             ok_is a b e = cc
 
             same_message : recall_message r.xid r.file ≡ recall_message xid f
-            same_message = ok_is (recall_message r.xid r.file) (recall_message xid f) (sym r.reads ∙ ap (parse_of (waiting_of r.seat.client)) bytes_is ∙ laws.again (waiting_of r.seat.client) (recall_message xid f) (recall_fits xid f small_xid).0 refl)
+            same_message = ok_is (recall_message r.xid r.file) (recall_message xid f) (sym r.reads ∙ ap (parse_of (waiting_of r.seat.client)) bytes_is ∙ laws.again (waiting_of r.seat.client) (recall_message xid f) (recall_fits xid f small_xid).0 (refl, refl))
 
             xid_is : (a b g i : ℕ) → recall_message a g ≡ recall_message b i → a ≡ b
             xid_is a b g i e = cc

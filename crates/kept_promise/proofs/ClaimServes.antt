@@ -50,6 +50,7 @@ use Rattle.kept_promise.proofs.ClaimCalls.{one_tail, none_committed, NotCommitti
 use Rattle.kept_promise.proofs.ClaimTold.{lease_promised, hash_promised}
 use Rattle.kept_promise.proofs.ClaimServer.{Dropped, awaited_dropped, ServerTurn, At, server_claimed}
 use Rattle.kept_promise.proofs.ClaimServed.{made_is, pairs_are, finish, none_told, promised_as, still_behind}
+use Rattle.wire.specs.declared.message.TheConstants.{LBFS_SPOKEN}
 
 -- ---- a message is taken off its way
 
@@ -314,7 +315,7 @@ ask_taken_claimed {all = all} {opening = opening} {k = k} {ms = ms} n now bytes 
         hash_case f o e = split (same_or_not j n)
           where
             range : HashRange
-            range = record { handle = handle_bytes f; offset = o; count = 4294967295 }
+            range = record { lbfs = LBFS_SPOKEN; handle = handle_bytes f; offset = o; count = 4294967295 }
 
             q : server.State × ServerStep
             q = tells_hashes (at k.server now) n a.xid range (node_of k.server.tree (handle_bytes f))

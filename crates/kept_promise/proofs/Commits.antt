@@ -32,6 +32,7 @@ use Rattle.kept_promise.proofs.Leading.{Leads}
 use Rattle.server_core.specs.declared.change.Wanted.TheVariants as what
 use Rattle.server_law.proofs.TreeCalls.{entries_more, sizes_more}
 use Rattle.kept_promise.proofs.Rights.{WasThere}
+use Rattle.wire.specs.declared.message.TheConstants.{LBFS_SPOKEN}
 
 -- ---- it is refused
 
@@ -200,7 +201,7 @@ no_room laws book k qs n now x q xid m f size us g content uncut is full =
           bytes = message_spell (ask_message a);
           event_is = refl;
           xid = xid;
-          call = record { fd = m; handle = handle_bytes f; size = size };
+          call = record { lbfs = LBFS_SPOKEN; fd = m; handle = handle_bytes f; size = size; base = None };
           parsed = parsed laws a (first_fits book k qs n now x q a us g);
           size = (subst (AllAsks (IsCommit book x.closing x.cut (job h.seat) h.contents)) g.first h.commits).0.1 ∙ value;
           after = omega (arith, begun, steps);
@@ -228,7 +229,7 @@ target_gone book k qs n now x q xid m f size us g uncut gone =
     (p.0, w.0, p.1, p.2, w.1, w.2, inr (w.3, refl))
 
 pub serve_commit : FitLaws → (book : Book) (k : Core) (qs : List Queue) (n now : ℕ) (x : Session) (q : Queue) (xid m f size : ℕ) (us : List Ask) → Given book k qs n now x q (record { xid = xid; call = Commit m f size }) us
-    → Leads book (rest_of qs n q us) (served k n x xid (commits (at k.server now) n xid (record { fd = m; handle = handle_bytes f; size = size }) (temp_at k.server.temps n m)))
+    → Leads book (rest_of qs n q us) (served k n x xid (commits (at k.server now) n xid (record { lbfs = LBFS_SPOKEN; fd = m; handle = handle_bytes f; size = size; base = None }) (temp_at k.server.temps n m)))
 serve_commit laws book k qs n now x q xid m f size us g = by (temp_at k.server.temps n m) refl
   where
     a : Ask
@@ -283,6 +284,6 @@ serve_commit laws book k qs n now x q xid m f size us g = by (temp_at k.server.t
     nodes t found (is_gone none e) = subst (λ (nd : Result Node Status). Leads book (rest_of qs n q us) (served k n x xid (commits_to (record (at k.server now) { temps = left }) n xid size t nd))) (sym e) (ends status.Stale (λ uncut. target_gone book k qs n now x q xid m f size us g uncut (subst (FileIs book f) none (g.kept.server.held f))))
     nodes t found (is_file z there e) = subst (λ (nd : Result Node Status). Leads book (rest_of qs n q us) (served k n x xid (commits_to (record (at k.server now) { temps = left }) n xid size t nd))) (sym e) (sized (nat_lt size_most size) z.id t refl found (subst (FileIs book f) there (g.kept.server.held f)).0 (is_there book f z (subst (FileIs book f) there (g.kept.server.held f))))
 
-    by : (o : Option Temp) → temp_at k.server.temps n m ≡ o → Leads book (rest_of qs n q us) (served k n x xid (commits (at k.server now) n xid (record { fd = m; handle = handle_bytes f; size = size }) o))
+    by : (o : Option Temp) → temp_at k.server.temps n m ≡ o → Leads book (rest_of qs n q us) (served k n x xid (commits (at k.server now) n xid (record { lbfs = LBFS_SPOKEN; fd = m; handle = handle_bytes f; size = size; base = None }) o))
     by None found = fails status.BadFd (λ uncut. let r = ready uncut in nothing_there r.temp (sym found ∙ r.found))
     by (Some t) found = nodes t found (looked k.server.tree f (first_fits book k qs n now x q a us g).2)

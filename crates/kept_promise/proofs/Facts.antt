@@ -10,7 +10,7 @@ use Rattle.client_state.specs.declared.task.Way.TheVariants as way
 use Rattle.register_model.specs.declared.op.Outcome.TheVariants as told
 use Rattle.kept_promise.proofs.Common.{slice_get, not, MessageFits, Pending, stands, Temp, key_of, Change, File, Local, Stage, StoreCall, Op, Core, Seat, Session, numbered, hashed_of, Book, HadContent, Or, value_at, version_at, Call, Call.Commit, Call.Walks, Ask, Queue, told_message, cond, changes, Leasing, taken_at}
 use Rattle.kept_promise.proofs.PathNames.{IsWalkSmall, walk_calls, is_creating}
-use Rattle.kept_promise.proofs.Statements.{CallFits}
+use Rattle.kept_promise.proofs.Statements.{ToldFits, CallFits}
 use Rattle.kept_promise.proofs.Keys.{times, own, on_way, pending_key, IsOurs}
 use Rattle.kept_promise.proofs.Messages.{Job, job, stage_word, goal_word, AllAsks, AllTolds, AllUnder, Rising, IsAsked, IsAnswer, IsTrying, HasFetch, IsCommit, IsPiece, WaitsFor, walk_for, TempUnder, AreParts, CloseOf, content_wanted}
 use Rattle.kept_promise.proofs.Rights.{WasThere, IsSound}
@@ -86,7 +86,7 @@ pub record IsSession (book : Book) (seats : List Seat) (s : server.State) (n : �
   pub lost : x.hung ≡ true → q.ups ≡ []
   pub stands_is : stands s n ≡ not x.hung
   pub ups_fit : AllAsks (λ a. CallFits a.xid a.call) q.ups
-  pub downs_fit : AllTolds (λ t. MessageFits (told_message t)) q.downs
+  pub downs_fit : AllTolds (λ t. ToldFits t) q.downs
   pub talk : x.cut ≡ false → IsTalk book n s.waiting x q seat
   -- what each temporary file of the session is to be
   pub contents : ℕ → List ℕ

@@ -11,6 +11,7 @@ use Rattle.kept_promise.proofs.Shelf.{IsShelf, NoTemp, none_counted}
 use Rattle.kept_promise.proofs.Shelves.{fault_alike, put_alike}
 use Rattle.kept_promise.proofs.Orderly.{UpSend, known_reply, DownKnown, Holds}
 use Rattle.kept_promise.proofs.Ordered.{known_more}
+use Rattle.wire.specs.declared.message.TheConstants.{LBFS_SPOKEN}
 
 -- ---- a first temporary file
 
@@ -64,7 +65,7 @@ pub chunk_goes : (v : List ℕ) (has : Chunk → Bool) (i : ℕ) (c : Chunk) →
 chunk_goes v has i c short at none = piece_goes_in v has (with_chunk has c) i c short at none (chunk_here has c) (λ k d b apart. chunk_else v has i k c d at b apart)
 
 -- the name of a chunk that is not held is not refused
-pub name_free : (v : List ℕ) (has : Chunk → Bool) (i : ℕ) (c : Chunk) (t : Temp) (m : ℕ) → length v ≤ 67108864 → slice_get (chunks_of v) i ≡ Some c → has c ≡ false → SameShape t.pieces (PiecesOf v has (chunks_of v)) → cond_fault (record { fd = m; offset = c.start; count = c.len; digest = c.digest }) (Some t) ≡ None
+pub name_free : (v : List ℕ) (has : Chunk → Bool) (i : ℕ) (c : Chunk) (t : Temp) (m : ℕ) → length v ≤ 67108864 → slice_get (chunks_of v) i ≡ Some c → has c ≡ false → SameShape t.pieces (PiecesOf v has (chunks_of v)) → cond_fault (record { lbfs = LBFS_SPOKEN; fd = m; offset = c.start; count = c.len; digest = c.digest }) (Some t) ≡ None
 name_free v has i c t m short at none is =
     let s = chunk_sizes v i c at in
     let pos = s.0 in

@@ -64,6 +64,7 @@ use Rattle.kept_promise.proofs.Rooted.{IsRooted}
 use Rattle.kept_promise.proofs.TakenOut.{SettlesOut, settled_to}
 use Rattle.kept_promise.proofs.GoingSettles.{makes_for, answer_key, settled_server, ShowsSettled, kept_settled, settled_came}
 use Rattle.kept_promise.proofs.Unused.{unused_gone}
+use Rattle.kept_promise.proofs.Statements.{ToldFits}
 
 -- ---- the step
 
@@ -162,8 +163,8 @@ module _ (laws : FitLaws) (book : Book) (k : Core) (qs : List Queue) (now : ℕ)
       let answer : Sent = record { session = n; message = message.Answer c.xid (body.Nfs (name_answer r)) } in
       subst (λ (s : CoreStep). Contains s.down answer) (sym step_is) (subst (λ (m : Nfs). Contains {X = Sent} (record { session = n; message = message.Answer c.xid (body.Nfs m) } ∷ []) answer) (sym same) (Contains-push [] answer))
 
-  fits : (r : NameReply) → IsBounded settled.0 → settled.1.answer ≡ name_answer r → MessageFits (told_message (record { xid = c.xid; reply = Walked r }))
-  fits r bounded same = subst (λ (m : Nfs). MessageFits (message.Answer c.xid (body.Nfs m))) same (laws.settled c.xid t held a (kept.server.xids out.out.place c out.out.there) kept.server.bounded bounded)
+  fits : (r : NameReply) → IsBounded settled.0 → settled.1.answer ≡ name_answer r → ToldFits (record { xid = c.xid; reply = Walked r })
+  fits r bounded same = (subst (λ (m : Nfs). MessageFits (message.Answer c.xid (body.Nfs m))) same (laws.settled c.xid t held a (kept.server.xids out.out.place c out.out.there) kept.server.bounded bounded), tt)
 
   -- ---- its session
 

@@ -35,7 +35,7 @@ use Rattle.trace_ends.specs.Ops.{pointed_at}
 use Rattle.server_law.proofs.Trees.{IsBounded}
 use Rattle.server_law.proofs.TreeCalls.{entries_more, sizes_more}
 use Rattle.kept_promise.proofs.Common.{slice_get, cond, option_map, Contains, Contains-push, message_spell, MessageFits, stands, not, has_waiting, at, Entry, File, Op, TakenCall, Core, Session, Event.Serves, CoreStep, with_numbered, happens, serves, serves_if, quiet, Book, Call.Walks, Reply.Walked, NameReply, name_answer, Ask, Queue, ask_message, told_message, Leasing, later}
-use Rattle.kept_promise.proofs.Statements.{CallFits}
+use Rattle.kept_promise.proofs.Statements.{ToldFits, CallFits}
 use Rattle.kept_promise.proofs.Lists.{some_is, nothing_there, all_map}
 use Rattle.kept_promise.proofs.PathNames.{IsWalkSmall, going_makes, going_creates, is_going, is_making, is_creating}
 use Rattle.kept_promise.proofs.Keys.{key, change_key, ask_key}
@@ -164,7 +164,7 @@ module _ (laws : FitLaws) (book : Book) (k : Core) (qs : List Queue) (n now : �
       ∙ ap (λ (l : List Op). plain_step k.server.journal l (k.entries ++ []) (name_answer r)) (pointed_none k.ops x.closing (k.steps + 1))
       ∙ ap (λ (l : List ℕ). plain_step k.server.journal k.ops l (name_answer r)) (append-nil k.entries)
 
-  serve_refused : (s : Status) (r : NameReply) → comes_by t held busy w.dir w.goal ≡ (t, Answered (said (name_answer r))) → RefusedAs t w s → refusal_of (name_answer r) ≡ Some s → walk_told w (name_answer r) ≡ leading.Ends (walk_end.Refused s) → nfs_proc (name_answer r) ≡ nfs_proc (next_call w) → MessageFits (told_message (record { xid = xid; reply = Walked r })) → Leads book (rest_of qs n q us) (happens k (Serves n now (message_spell (ask_message a))))
+  serve_refused : (s : Status) (r : NameReply) → comes_by t held busy w.dir w.goal ≡ (t, Answered (said (name_answer r))) → RefusedAs t w s → refusal_of (name_answer r) ≡ Some s → walk_told w (name_answer r) ≡ leading.Ends (walk_end.Refused s) → nfs_proc (name_answer r) ≡ nfs_proc (next_call w) → ToldFits (record { xid = xid; reply = Walked r }) → Leads book (rest_of qs n q us) (happens k (Serves n now (message_spell (ask_message a))))
   serve_refused s r is why refuses leads procs fit =
       subst (Leads book (rest_of qs n q us)) (sym (answered_is t (said (name_answer r)) is ∙ refused_step r))
       (leads_by book k qs n now x q a us k.server.temps k.server.index (Walked r) g (same_temps book k n x q a (Walked r) h g.kept.shelf (λ uncut. tt) (λ uncut vs e. held_still book k qs n now x q a us g (Walked r) tt tt uncut vs e) (ap (λ p. program.Nfs p) procs) fit
@@ -219,7 +219,7 @@ module _ (laws : FitLaws) (book : Book) (k : Core) (qs : List Queue) (n now : �
       ∙ ap (λ (l : List Op). entered_step k n leasing x a after (k.server.journal ++ entries_of_names done) l (k.entries ++ replicate (count_of done.first done.second) (k.steps + 1)) (Walked r)) (pointed_none k.ops x.closing (k.steps + 1))
       ∙ ap (λ (m : ℕ). entered_step k n leasing x a after (k.server.journal ++ entries_of_names done) k.ops (k.entries ++ replicate m (k.steps + 1)) (Walked r)) (count_is n done.first done.second)
 
-  serve_now : (done : TreeChange) (r : NameReply) (after : Tree) → comes_by t held busy w.dir w.goal ≡ (after, Answered (record { answer = name_answer r; first = done.first; second = done.second })) → step_by t held w.dir w.goal ≡ (after, Ok done) → IsName done.first → IsName done.second → walk_told w (name_answer r) ≡ leading.Ends walk_end.Done → nfs_proc (name_answer r) ≡ nfs_proc (next_call w) → ((f : ℕ) → the_files.file_at after f ≡ the_files.file_at t f) → ((f : ℕ) → with_id t.nodes f ≡ None → with_id after.nodes f ≡ None) → IsRooted after.nodes → after.next ≡ t.next → MessageFits (told_message (record { xid = xid; reply = Walked r }))
+  serve_now : (done : TreeChange) (r : NameReply) (after : Tree) → comes_by t held busy w.dir w.goal ≡ (after, Answered (record { answer = name_answer r; first = done.first; second = done.second })) → step_by t held w.dir w.goal ≡ (after, Ok done) → IsName done.first → IsName done.second → walk_told w (name_answer r) ≡ leading.Ends walk_end.Done → nfs_proc (name_answer r) ≡ nfs_proc (next_call w) → ((f : ℕ) → the_files.file_at after f ≡ the_files.file_at t f) → ((f : ℕ) → with_id t.nodes f ≡ None → with_id after.nodes f ≡ None) → IsRooted after.nodes → after.next ≡ t.next → ToldFits (record { xid = xid; reply = Walked r })
       → Leads book (rest_of qs n q us) (happens k (Serves n now (message_spell (ask_message a))))
   serve_now done r after is step first second leads procs files none root next fit =
       let d : Finished = record { answer = name_answer r; first = done.first; second = done.second } in
@@ -305,8 +305,8 @@ module _ (laws : FitLaws) (book : Book) (k : Core) (qs : List Queue) (n now : �
 
   -- ---- any of them
 
-  going_fits : (after : Tree) (d : Finished) (r : NameReply) → comes_by t held busy w.dir w.goal ≡ (after, Answered d) → IsBounded after → d.answer ≡ name_answer r → MessageFits (told_message (record { xid = xid; reply = Walked r }))
-  going_fits after d r is bounded same = subst (λ (m : Nfs). MessageFits (message.Answer xid (body.Nfs m))) same (laws.goings xid t held busy w after d fits.0 g.kept.server.bounded bounded is going)
+  going_fits : (after : Tree) (d : Finished) (r : NameReply) → comes_by t held busy w.dir w.goal ≡ (after, Answered d) → IsBounded after → d.answer ≡ name_answer r → ToldFits (record { xid = xid; reply = Walked r })
+  going_fits after d r is bounded same = (subst (λ (m : Nfs). MessageFits (message.Answer xid (body.Nfs m))) same (laws.goings xid t held busy w after d fits.0 g.kept.server.bounded bounded is going), tt)
 
   serve_so : ComesSo t held busy w → Leads book (rest_of qs n q us) (happens k (Serves n now (message_spell (ask_message a))))
   serve_so (refused s r is why refuses leads procs) = serve_refused s r is why refuses leads procs (going_fits t (said (name_answer r)) r is g.kept.server.bounded refl)

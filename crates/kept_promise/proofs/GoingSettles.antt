@@ -32,6 +32,7 @@ use Rattle.kept_promise.proofs.Unwaited.{unwaited}
 use Rattle.kept_promise.proofs.Steps.{no_commits}
 use Rattle.kept_promise.proofs.Facts.{IsServer, IsTalk, IsSession, IsKept, commits_in}
 use Rattle.kept_promise.proofs.Leading.{IsNoted}
+use Rattle.kept_promise.proofs.Statements.{ToldFits}
 
 -- ---- the walk whose last call waits
 
@@ -81,7 +82,7 @@ pub record ShowsTold (book more : Book) (k : Core) (c : Change) (x : Session) (q
   pub journal_is : more.journal ≡ s.journal
   pub made_here : (p : ℕ) → made ≡ Some p → x.closing ≡ Some p
   pub key_is : told_key (record { xid = c.xid; reply = r }) ≡ change_key c
-  pub fits : MessageFits (told_message (record { xid = c.xid; reply = r }))
+  pub fits : ToldFits (record { xid = c.xid; reply = r })
   pub answers : x.cut ≡ false → AllTolds (IsAnswer more x.taken x.closing (job h.seat)) q.downs
   pub answer : x.cut ≡ false → AnswerOf more x.taken x.closing (job h.seat) c.xid r
   pub closes : x.cut ≡ false → (j : Job) → job h.seat ≡ Some j → CloseOf more x.closing h.contents h.seat.client.next_temp j (client.local_bytes h.seat.client.opened j.file) j.stage
@@ -163,7 +164,7 @@ module _ (book more : Book) (k : Core) (qs : List Queue) (now : ℕ) (c : Change
           lost = h.lost;
           stands_is = h.stands_is;
           ups_fit = h.ups_fit;
-          downs_fit = all_unless (λ (u : Told). MessageFits (told_message u)) x.cut q.downs (t ∷ []) h.downs_fit (shows.fits, tt);
+          downs_fit = all_unless (λ (u : Told). ToldFits u) x.cut q.downs (t ∷ []) h.downs_fit (shows.fits, tt);
           talk = λ uncut. subst (λ (b : Bool). IsTalk more n cs x (record q { downs = unless b q.downs (t ∷ []) }) h.seat) (sym uncut) (talks uncut (h.talk uncut));
           contents = h.contents;
           lengths = h.lengths;
@@ -191,7 +192,7 @@ pub record ShowsSettled (book more : Book) (k : Core) (now : ℕ) (c : Change) (
   pub journal_is : more.journal ≡ journal
   pub made_here : (p : ℕ) → made ≡ Some p → x.closing ≡ Some p
   pub key_is : told_key (record { xid = c.xid; reply = Walked r }) ≡ change_key c
-  pub fits : MessageFits (told_message (record { xid = c.xid; reply = Walked r }))
+  pub fits : ToldFits (record { xid = c.xid; reply = Walked r })
   pub answer : x.cut ≡ false → AnswerOf more x.taken x.closing (job h.seat) c.xid (Walked r)
   pub running : (p : ℕ) (o : Op) → slice_get more.ops p ≡ Some o → o.outcome ≡ told.Running → (e : Seat) × (j : Job) × (numbered k.seats o.client ≡ Some e) × (job e ≡ Some j) × (j.place ≡ p)
 

@@ -3,7 +3,7 @@ use Rattle.std.proofs.Common.{inl, inr, ◌≡◌, ℕ, zero, suc, ◌+◌, ◌<
 use Rattle.client_state.specs.State as client
 use Rattle.register_model.specs.declared.op.Outcome.TheVariants as told
 use Rattle.kept_promise.proofs.Common.{nat_tests, slice_get, cond, ◌==◌, nat_le, MessageFits, Pending, Change, Op, Core, Seat, Session, numbered, unless, hashed_of, Book, Call, Call.Commit, Call.Walks, Ask, Told, Queue, told_message, call_program, reply_program}
-use Rattle.kept_promise.proofs.Statements.{CallFits}
+use Rattle.kept_promise.proofs.Statements.{ToldFits, CallFits}
 use Rattle.kept_promise.proofs.Keys.{times, times_append, own, on_way, change_key, ask_key, told_key, pending_key, IsOurs, call_ours, found_by, there_by, key_code}
 use Rattle.kept_promise.proofs.Messages.{Job, job, job_of, AllAsks, AllTolds, Rising, IsAsked, IsAnswer, HasFetch, IsCommit, IsPiece, WaitsFor, TempUnder, CloseOf}
 use Rattle.kept_promise.proofs.History.{Goes, Still, onward}
@@ -198,7 +198,7 @@ kept_heard book ops k qs n x q t ts c place asks made ended seats after kept at 
         lost = λ hung. hung_ups x.hung hung (h.lost hung);
         stands_is = h.stands_is;
         ups_fit = all_unless (λ (a : Ask). CallFits a.xid a.call) x.hung q.ups asks h.ups_fit shows.fits;
-        downs_fit = first_down (λ u. MessageFits (told_message u)) h.downs_fit;
+        downs_fit = first_down (λ u. ToldFits u) h.downs_fit;
         talk = λ u.
             let talk = h.talk uncut in
             record {

@@ -36,13 +36,14 @@ use Rattle.kept_promise.proofs.Acted.{rest_down, leads_comes}
 use Rattle.kept_promise.proofs.Found.{took_finds}
 use Rattle.kept_promise.proofs.Drops.{has_there, forgotten_there, leads_drops}
 use Rattle.kept_promise.proofs.Leading.{IsNoted, Leads, KeptHears}
+use Rattle.kept_promise.proofs.Statements.{ToldFits}
 
 -- ---- the answer comes whole
 
 heard : FitLaws → (book : Book) (k : Core) (qs : List Queue) (n : ℕ) (x : Session) (q : Queue) (t : Told) (ts : List Told) → (h : IsSession book k.seats k.server n x q) → q.downs ≡ t ∷ ts → x.cut ≡ false → parse_of (client.waiting_of h.seat.client) (message_spell (told_message t)) ≡ Ok (told_message t)
 heard laws book k qs n x q t ts h first uncut =
-    let fits = (subst (AllTolds (λ u. MessageFits (told_message u))) first h.downs_fit).0 in
-    laws.again (client.waiting_of h.seat.client) (told_message t) fits.0 (expected n k.server.waiting q x.hung h.seat.client 0 t (h.talk uncut).balanced (ap (λ (l : List Told). slice_get l 0) first))
+    let fits = (subst (AllTolds (λ u. ToldFits u)) first h.downs_fit).0 in
+    laws.again (client.waiting_of h.seat.client) (told_message t) fits.0.0 (expected n k.server.waiting q x.hung h.seat.client 0 t (h.talk uncut).balanced (ap (λ (l : List Told). slice_get l 0) first) fits.1)
 
 -- ---- what is hashed at it
 

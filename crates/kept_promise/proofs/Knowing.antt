@@ -33,11 +33,12 @@ use Rattle.kept_promise.proofs.Facts.{IsSession}
 use Rattle.kept_promise.proofs.Serves.{answered, parsed, contains_at}
 use Rattle.kept_promise.proofs.Calls.{downs_then, put_temp, served, Given, session_in, first_fits, rest_of, leads_by, held_still, held_at, place_at, rest_above, serve_plain}
 use Rattle.kept_promise.proofs.Leading.{Leads}
+use Rattle.wire.specs.declared.message.TheConstants.{LBFS_SPOKEN}
 
 -- ---- bytes that are known
 
 abbrev pub name_piece : (temp : ℕ) → Chunk → CondPiece
-name_piece m d = record { fd = m; offset = d.start; count = d.len; digest = d.digest }
+name_piece m d = record { lbfs = LBFS_SPOKEN; fd = m; offset = d.start; count = d.len; digest = d.digest }
 
 -- those of a place are as many as it has
 bytes_many : (f : Option File) (p : Place) (bytes : List ℕ) → bytes_of f p ≡ Some bytes → length bytes ≡ p.count

@@ -249,7 +249,7 @@ module _ (s : State) (n xid : ℕ) where
   nfs_taken m = let p : Tree × Option Outcome = calls_under s.tree (held s.waiting) busy false m in asks_taken s n xid (body.Nfs m) p.0 p.1 (λ a e. told_never (told s.tree.nodes m) (body.Nfs m) a e)
 
   pub called_taken : (b : Body) → Taken s n xid b (called_under s false n xid b)
-  called_taken (body.Lb (lb.GetLease handle)) = grants (file_in (node_of s.tree handle)) (node_named s.tree handle (node_of s.tree handle) refl) refl refl refl (refl, refl)
+  called_taken (body.Lb (lb.GetLease z)) = grants (file_in (node_of s.tree z.handle)) (node_named s.tree z.handle (node_of s.tree z.handle) refl) refl refl refl (refl, refl)
   called_taken (body.Lb (lb.GetHash r)) = grants (file_in (node_of s.tree r.handle)) (node_named s.tree r.handle (node_of s.tree r.handle) refl) refl refl refl (refl, refl)
   called_taken (body.Lb (lb.MkTmpFile a)) = makes_taken s n xid (body.Lb (lb.MkTmpFile a)) a.fd (node_of s.tree a.handle)
   called_taken (body.Lb (lb.TmpWrite a)) = writes_taken s n xid (body.Lb (lb.TmpWrite a)) a (temp_at s.temps n a.fd) (piece_fault (temp_at s.temps n a.fd) a.offset (length a.bytes))

@@ -36,7 +36,7 @@ use Rattle.trace_ends.specs.Core.{changed_file, is_of_file}
 use Rattle.trace_ends.specs.Ops.{pointed_at, pointed}
 use Rattle.server_law.proofs.Trees.{given, IsBounded}
 use Rattle.kept_promise.proofs.Common.{slice_get, slice_set, cond, option_map, Contains, Contains-push, message_spell, MessageFits, stands, not, at, Entry, File, Op, TakenCall, Change, Stage, Word, Core, Seat, Session, Event.Serves, CoreStep, numbered, with_numbered, happens, serves, serves_if, quiet, Book, value_at, version_at, Call.Walks, Reply.Walked, value_from, unwrap_or, NameReply, name_answer, Ask, Told, Queue, ask_message, told_message, Leasing, later}
-use Rattle.kept_promise.proofs.Statements.{CallFits}
+use Rattle.kept_promise.proofs.Statements.{ToldFits, CallFits}
 use Rattle.trace_replay.specs.Faithful.{IsKind}
 use Rattle.register_model.specs.Register.{IsFit}
 use Rattle.kept_promise.proofs.Keys.{own}
@@ -138,8 +138,8 @@ module _ (laws : FitLaws) (book : Book) (k : Core) (qs : List Queue) (n now : �
   room : t.changes + server.entries_held k.server.waiting + 0 ≤ 4294967295
   room = let c = g.kept.server.changes in omega (arith, c)
 
-  reply_fits : (r : NameReply) (after : Tree) → made.0 ≡ after → IsBounded after → made.1.answer ≡ name_answer r → MessageFits (told_message (record { xid = xid; reply = Walked r }))
-  reply_fits r after tree_is bounded is = subst (λ (m : Nfs). MessageFits (message.Answer xid (body.Nfs m))) is (laws.makings xid t held w fits.0 g.kept.server.bounded (subst IsBounded (sym tree_is) bounded) making)
+  reply_fits : (r : NameReply) (after : Tree) → made.0 ≡ after → IsBounded after → made.1.answer ≡ name_answer r → ToldFits (record { xid = xid; reply = Walked r })
+  reply_fits r after tree_is bounded is = (subst (λ (m : Nfs). MessageFits (message.Answer xid (body.Nfs m))) is (laws.makings xid t held w fits.0 g.kept.server.bounded (subst IsBounded (sym tree_is) bounded) making), tt)
 
   -- ---- it's refused
 

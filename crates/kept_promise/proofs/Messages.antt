@@ -36,6 +36,7 @@ use Rattle.kept_promise.proofs.Common.{handle_bytes, Body, slice_get, cond, Stat
 use Rattle.kept_promise.proofs.Lists.{AllOf}
 use Rattle.kept_promise.proofs.Rights.{WasThere, IsHeld, IsUnmade, IsMade}
 use Rattle.server_core.specs.declared.change.Wanted.TheVariants as wanted
+use Rattle.wire.specs.declared.message.TheConstants.{LBFS_SPOKEN}
 
 -- ---- the operation under way
 
@@ -141,10 +142,10 @@ pub record IsTold (book : Book) (taken : List TakenCall) (j : Job) (xid : ℕ) (
 
 -- the calls by which an open asks
 abbrev pub lease_body : (file : ℕ) → Body
-lease_body file = body.Lb (lb.GetLease (handle_bytes file))
+lease_body file = body.Lb (lb.GetLease (record { lbfs = LBFS_SPOKEN; handle = handle_bytes file }))
 
 abbrev pub hash_body : (file offset : ℕ) → Body
-hash_body file offset = body.Lb (lb.GetHash (record { handle = handle_bytes file; offset = offset; count = 4294967295 }))
+hash_body file offset = body.Lb (lb.GetHash (record { lbfs = LBFS_SPOKEN; handle = handle_bytes file; offset = offset; count = 4294967295 }))
 
 -- this call was taken, and the job's client waited for the answer
 pub record IsServed (book : Book) (taken : List TakenCall) (j : Job) (xid : ℕ) (call : Body) : Type 0 where
@@ -178,7 +179,7 @@ abbrev pub IsTrying : Book → Option Job → Type 0
 IsTrying book job = (j : Job) (n x : ℕ) → job ≡ Some j → j.stage ≡ stage.Hashing n x → Trying book j n
 
 abbrev pub range_from : (offset : ℕ) → HashRange
-range_from offset = record { handle = []; offset = offset; count = 4294967295 }
+range_from offset = record { lbfs = LBFS_SPOKEN; handle = []; offset = offset; count = 4294967295 }
 
 abbrev pub range_of : Chunk → Range
 range_of c = record { handle = []; offset = c.start; count = c.len }

@@ -288,7 +288,7 @@ open_stores file v (Sent m ∷ log) h = let l = open_stores file v log h.1 in el
 ]
   where
     by : (m : Message) → IsFetchCall file m → length (named_in log) ≡ 0 → whole_in log ≡ 0 → (length (named_in (Sent m ∷ log)) ≡ 0) × (whole_in (Sent m ∷ log) ≡ 0)
-    by (message.Call xid (body.Lb (lb.GetLease handle))) own a b = (omega (arith, a), omega (arith, b))
+    by (message.Call xid (body.Lb (lb.GetLease z))) own a b = (omega (arith, a), omega (arith, b))
     by (message.Call xid (body.Lb (lb.GetHash z))) own a b = (omega (arith, a), omega (arith, b))
     by (message.Call xid (body.Nfs (nfs.Read z))) own a b = (omega (arith, a), omega (arith, b))
     by m own a b = absurd own
@@ -332,7 +332,7 @@ renew_counts file v (Sent m ∷ log) h = (let l = renew_counts file v log h.1 in
 ])
   where
     by : (m : Message) → IsVersionCall file m → begins_in log ≡ 0 → length (named_in log) ≡ 0 → whole_in log ≡ 0 → asked_in log ≡ 0 → bytes_in log ≡ 0 → (let d = Sent m ∷ log in (begins_in d ≡ 0) × (length (named_in d) ≡ 0) × (whole_in d ≡ 0) × (asked_in d ≡ 0) × (bytes_in d ≡ 0))
-    by (message.Call xid (body.Lb (lb.GetLease handle))) own a b c d e = (omega (arith, a), omega (arith, b), omega (arith, c), omega (arith, d), omega (arith, e))
+    by (message.Call xid (body.Lb (lb.GetLease z))) own a b c d e = (omega (arith, a), omega (arith, b), omega (arith, c), omega (arith, d), omega (arith, e))
     by m own a b c d e = absurd own
 
 -- and neither begins an attempt but an open

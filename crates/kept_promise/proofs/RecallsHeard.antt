@@ -45,7 +45,7 @@ kept_recalls laws book k qs n now xid file small fits kept noted = by (numbered 
     bytes = message_spell (recall_message xid file)
 
     reads : (seat : Seat) → parse_of (client.waiting_of seat.client) (message_spell (recall_message xid file)) ≡ Ok (recall_message xid file)
-    reads seat = laws.again (client.waiting_of seat.client) (recall_message xid file) (recall_fits xid file small).0 refl
+    reads seat = laws.again (client.waiting_of seat.client) (recall_message xid file) (recall_fits xid file small).0 (refl, refl)
 
     heard : (owner : ℕ) (seat : Seat) → numbered k.seats owner ≡ Some seat → (b : Bool) → Leads book qs (hears_if k owner now seat bytes b)
     heard owner seat here false = leads_quiet book k qs kept

@@ -494,8 +494,8 @@ module _ (s : State) where
   nfs_moves fault n xid m = let p : Tree × Option Outcome = calls_under s.tree (held s.waiting) (has_waiting s.waiting n) fault m in asks_moves (record s { tree = p.0 }) refl refl n xid p.1
 
   called_moves : (fault : Bool) (n xid : ℕ) (b : Body) → Moves s (called_under s fault n xid b)
-  called_moves fault n xid (body.Lb lb.Null) = plain s (called_under s fault n xid (body.Lb lb.Null)).1 refl refl refl (refl, tt)
-  called_moves fault n xid (body.Lb (lb.GetLease handle)) = plain (called_under s fault n xid (body.Lb (lb.GetLease handle))).0 (called_under s fault n xid (body.Lb (lb.GetLease handle))).1 refl refl refl (refl, tt)
+  called_moves fault n xid (body.Lb (lb.Null z)) = plain s (called_under s fault n xid (body.Lb (lb.Null z))).1 refl refl refl (refl, tt)
+  called_moves fault n xid (body.Lb (lb.GetLease z)) = plain (called_under s fault n xid (body.Lb (lb.GetLease z))).0 (called_under s fault n xid (body.Lb (lb.GetLease z))).1 refl refl refl (refl, tt)
   called_moves fault n xid (body.Lb (lb.GetHash r)) = plain (called_under s fault n xid (body.Lb (lb.GetHash r))).0 (called_under s fault n xid (body.Lb (lb.GetHash r))).1 refl refl refl (refl, tt)
   called_moves fault n xid (body.Lb (lb.MkTmpFile a)) = makes_moves n xid a.fd (node_of s.tree a.handle)
   called_moves fault n xid (body.Lb (lb.TmpWrite a)) = writes_moves n xid a (temp_at s.temps n a.fd) (piece_fault (temp_at s.temps n a.fd) a.offset (length a.bytes))

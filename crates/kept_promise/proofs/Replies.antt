@@ -1,5 +1,5 @@
 -- RECALLs and their answers fit records, and are quiet steps: the server changes its leases alone, and a client its clock and a note.
-use Rattle.std.proofs.Common.{◌≡◌, ℕ, zero, suc, ◌+◌, ◌-◌, ◌<◌, List, [], ◌∷◌, ◌++◌, Option, Some, None, Result, Ok, Err, Bool, true, false, refl, sym, ap, ◌∙◌, subst, arith, append-nil, length, replicate}
+use Rattle.std.proofs.Common.{lit<, ◌≡◌, ℕ, zero, suc, ◌+◌, ◌-◌, ◌<◌, List, [], ◌∷◌, ◌++◌, Option, Some, None, Result, Ok, Err, Bool, true, false, refl, sym, ap, ◌∙◌, subst, arith, append-nil, length, replicate}
 use Rattle.std.proofs.lemmas.List.{drop_all}
 use Rattle.xdr_codec.specs.declared.fault.Fault.{Fault}
 use Rattle.xdr_codec.specs.Format.{Input, whole_at, ended}
@@ -47,7 +47,7 @@ pub reply_fits : (xid : ℕ) → xid < 4294967296 → MessageFits (reply_message
 reply_fits xid x = small_fits (reply_message xid) (x, (refl, tt)) tt
 
 pub recall_fits : (xid file : ℕ) → xid < 4294967296 → MessageFits (recall_message xid file)
-recall_fits xid file x = small_fits (recall_message xid file) (x, (refl, (omega (arith, handle_len file), omega (arith, handle_len file)))) tt
+recall_fits xid file x = small_fits (recall_message xid file) (x, (refl, (lit< tt, (omega (arith, handle_len file), omega (arith, handle_len file))))) tt
   where
     handle_len : (name : ℕ) → length (handle_bytes name) ≡ 16
     handle_len name = refl
@@ -63,39 +63,39 @@ is_reply (message.Unfit xid why) = false
 message_in : (m n : Message) → ◌≡◌ {A = Result Message WireFault} (Ok m) (Ok n) → m ≡ n
 message_in m n e = cc
 
-replied_is : (xid : ℕ) (p : Program) (why : Option RpcRefusal) (i : Input) (m : Message) → replied xid p why i ≡ Ok m → is_reply m ≡ true
-replied_is xid p None i m e = by (whole_at i.at (result_of p) i.rest) e
+replied_is : (n xid : ℕ) (p : Program) (why : Option RpcRefusal) (i : Input) (m : Message) → replied n xid p why i ≡ Ok m → is_reply m ≡ true
+replied_is n xid p None i m e = by (whole_at i.at (result_of n p) i.rest) e
   where
     by : (r : Result _ Fault) → read_or Garbage r (λ a. Ok (message.Answer xid a)) ≡ Ok m → is_reply m ≡ true
     by (Ok a) e = ap is_reply (sym (message_in (message.Answer xid a) m e))
     by (Err f) e = absurd cc
-replied_is xid p (Some why) i m e = by (ended i) e
+replied_is n xid p (Some why) i m e = by (ended i) e
   where
     by : {A : Type 0} → (r : Result A Fault) → read_or Garbage r (λ _. Ok (message.Refuse xid why)) ≡ Ok m → is_reply m ≡ true
     by (Ok a) e = ap is_reply (sym (message_in (message.Refuse xid why) m e))
     by (Err f) e = absurd cc
 
-reply_is : (xid : ℕ) (p : Option Program) (i : Input) (m : Message) → parse_reply xid p i ≡ Ok m → is_reply m ≡ true
-reply_is xid None i m e = absurd cc
-reply_is xid (Some p) i m e = by (reply_form.read i) e
+reply_is : (n xid : ℕ) (p : Option Program) (i : Input) (m : Message) → parse_reply n xid p i ≡ Ok m → is_reply m ≡ true
+reply_is n xid None i m e = absurd cc
+reply_is n xid (Some p) i m e = by (reply_form.read i) e
   where
-    by : (r : Result (ReplyHead × Input) Fault) → read_or Garbage r (λ head. replied xid p (refusal_of head.0) head.1) ≡ Ok m → is_reply m ≡ true
-    by (Ok h) e = replied_is xid p (refusal_of h.0) h.1 m e
+    by : (r : Result (ReplyHead × Input) Fault) → read_or Garbage r (λ head. replied n xid p (refusal_of head.0) head.1) ≡ Ok m → is_reply m ≡ true
+    by (Ok h) e = replied_is n xid p (refusal_of h.0) h.1 m e
     by (Err f) e = absurd cc
 
 -- what is no answer is read alike whatever waits
-by_alike : (v w : Waiting) → v.side ≡ w.side → (xid : ℕ) (d : Direction) (i : Input) (m : Message) → is_reply m ≡ false → parse_by v xid d i ≡ Ok m → parse_by w xid d i ≡ Ok m
-by_alike v w same xid direction.Call i m none e = ap (λ s. parse_call s xid i) (sym same) ∙ e
-by_alike v w same xid direction.Reply i m none e = absurd (by (sym none ∙ reply_is xid (waiting xid v.calls) i m e))
+by_alike : (v w : Waiting) → v.side ≡ w.side → v.lbfs ≡ w.lbfs → (xid : ℕ) (d : Direction) (i : Input) (m : Message) → is_reply m ≡ false → parse_by v xid d i ≡ Ok m → parse_by w xid d i ≡ Ok m
+by_alike v w same lbfs xid direction.Call i m none e = ap (λ s. parse_call s w.lbfs xid i) (sym same) ∙ ap (λ n. parse_call v.side n xid i) (sym lbfs) ∙ e
+by_alike v w same lbfs xid direction.Reply i m none e = absurd (by (sym none ∙ reply_is v.lbfs xid (waiting xid v.calls) i m e))
   where
     by : false ≡ true → ⊥
     by z = cc
 
-pub read_alike : (v w : Waiting) → v.side ≡ w.side → (bytes : List ℕ) (m : Message) → is_reply m ≡ false → parse_of v bytes ≡ Ok m → parse_of w bytes ≡ Ok m
-read_alike v w same bytes m none e = by (front_form.read (record { at = 0; rest = bytes })) e
+pub read_alike : (v w : Waiting) → v.side ≡ w.side → v.lbfs ≡ w.lbfs → (bytes : List ℕ) (m : Message) → is_reply m ≡ false → parse_of v bytes ≡ Ok m → parse_of w bytes ≡ Ok m
+read_alike v w same lbfs bytes m none e = by (front_form.read (record { at = 0; rest = bytes })) e
   where
     by : (r : Result (Front × Input) Fault) → read_or NotRpc r (λ front. parse_by v front.0.xid front.0.direction front.1) ≡ Ok m → read_or NotRpc r (λ front. parse_by w front.0.xid front.0.direction front.1) ≡ Ok m
-    by (Ok front) e = by_alike v w same front.0.xid front.0.direction front.1 m none e
+    by (Ok front) e = by_alike v w same lbfs front.0.xid front.0.direction front.1 m none e
     by (Err f) e = absurd cc
 
 -- an answer to a RECALL is read as an answer, or as none that is waited for
@@ -103,15 +103,15 @@ pub reply_read : FitLaws → (w : Waiting) → w.side ≡ side.Server → (xid :
 reply_read laws w server xid small m e = by (is_reply m) refl
   where
     asked : Waiting
-    asked = record { side = side.Server; calls = recall_pending xid ∷ [] }
+    asked = record { side = side.Server; lbfs = w.lbfs; calls = recall_pending xid ∷ [] }
 
     found : IsExpected asked (reply_message xid)
-    found = grind (arith, Rattle.std.proofs.lemmas.Bool.Decides.nat_tests)
+    found = (grind (arith, Rattle.std.proofs.lemmas.Bool.Decides.nat_tests), tt)
 
     by : (b : Bool) → is_reply m ≡ b → is_reply m ≡ true
     by true is = is
     by false is =
-        let alike = read_alike w asked server (message_spell (reply_message xid)) m is e in
+        let alike = read_alike w asked server refl (message_spell (reply_message xid)) m is e in
         let same : m ≡ reply_message xid = message_in m (reply_message xid) (sym alike ∙ laws.again asked (reply_message xid) (reply_fits xid small).0 found) in
         ap is_reply same
 
@@ -232,7 +232,7 @@ recall_heard laws book k qs n now bytes mid kept f =
     let h = kept.sessions n f.session q.0 f.at q.1 in
     let newest = (h.here f.uncut).0 in
     let o : Option ℕ = file_of (handle_bytes f.file) in
-    let reads : parse_of (client.waiting_of h.seat.client) bytes ≡ Ok (recall_message f.xid f.file) = ap (parse_of (client.waiting_of h.seat.client)) f.bytes_is ∙ laws.again (client.waiting_of h.seat.client) (recall_message f.xid f.file) (recall_fits f.xid f.file f.xid_fits).0 refl in
+    let reads : parse_of (client.waiting_of h.seat.client) bytes ≡ Ok (recall_message f.xid f.file) = ap (parse_of (client.waiting_of h.seat.client)) f.bytes_is ∙ laws.again (client.waiting_of h.seat.client) (recall_message f.xid f.file) (recall_fits f.xid f.file f.xid_fits).0 (refl, refl) in
     record {
       session = f.session;
       seat = h.seat;

@@ -1,7 +1,7 @@
 -- Bytes that come to an end, in whatever pieces: each record that they complete is that of the first message on its way.
 use Rattle.std.proofs.Common.{◌≡◌, ℕ, zero, suc, ◌≤◌, List, [], ◌∷◌, ◌++◌, length, take, drop, Option, Some, None, Bool, true, false, refl, sym, ap, ◌∙◌, subst, arith, append-nil, append_assoc, map}
 use Rattle.kept_promise.proofs.Common.{take-append-drop, All-nil, All-cons, All, fed, stream, message_spell, MessageFits, Message, Event, Event.Serves, Event.Hears, CoreStep, numbered, with_numbered, happens, World, Wire, bytes_of, happened, all_happened, up_taken, up_at, up_some, down_taken, down_at, down_some, up_length, down_length, up_all, round, is_still, passes, Moment, moments_of, up_moments_at, up_moments, down_moments_at, down_moments, round_moments, passes_moments, book_of, Up, Up.Asks, Up.Replies, Down, Down.Tells, Down.Recalls, up_message, down_message, reply_message, asks_in, tolds_in, Mix, queue_of, Carries, ask_message, told_message}
-use Rattle.kept_promise.proofs.Statements.{CallFits}
+use Rattle.kept_promise.proofs.Statements.{ToldFits, CallFits}
 use Rattle.kept_promise.proofs.Messages.{AllAsks, AllTolds}
 use Rattle.kept_promise.proofs.Facts.{IsKept}
 use Rattle.kept_promise.proofs.Fits.{FitLaws}
@@ -69,9 +69,9 @@ ups_short fits [] h small = All-nil (λ r. length r ≤ 131072)
 ups_short fits (Asks a ∷ us) h small = All-cons (λ r. length r ≤ 131072) (up_bytes (Asks a)) (map message_spell (map up_message us)) (fits_short (ask_message a) (fits.calls a.xid a.call h.0).0) (ups_short fits us h.1 small.1)
 ups_short fits (Replies xid ∷ us) h small = All-cons (λ r. length r ≤ 131072) (up_bytes (Replies xid)) (map message_spell (map up_message us)) (fits_short (reply_message xid) (reply_fits xid small.0)) (ups_short fits us h small.1)
 
-pub downs_short : (ds : List Down) → AllTolds (λ t. MessageFits (told_message t)) (tolds_in ds) → AllByRecursion DownFits ds → All (λ r. length r ≤ 131072) (map message_spell (map down_message ds))
+pub downs_short : (ds : List Down) → AllTolds (λ t. ToldFits t) (tolds_in ds) → AllByRecursion DownFits ds → All (λ r. length r ≤ 131072) (map message_spell (map down_message ds))
 downs_short [] h small = All-nil (λ r. length r ≤ 131072)
-downs_short (Tells t ∷ ds) h small = All-cons (λ r. length r ≤ 131072) (down_bytes (Tells t)) (map message_spell (map down_message ds)) (fits_short (told_message t) h.0) (downs_short ds h.1 small.1)
+downs_short (Tells t ∷ ds) h small = All-cons (λ r. length r ≤ 131072) (down_bytes (Tells t)) (map message_spell (map down_message ds)) (fits_short (told_message t) h.0.0) (downs_short ds h.1 small.1)
 downs_short (Recalls xid file ∷ ds) h small = All-cons (λ r. length r ≤ 131072) (down_bytes (Recalls xid file)) (map message_spell (map down_message ds)) (fits_short (recall_message xid file) (recall_fits xid file small.0.0)) (downs_short ds h small.1)
 
 -- a queue's bytes, cut anywhere, are still behind what its end has

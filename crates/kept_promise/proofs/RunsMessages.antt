@@ -8,7 +8,7 @@ use Rattle.wire.specs.Parse.{waiting}
 use Rattle.wire.specs.declared.message.Program.{Program}
 use Rattle.wire.specs.declared.message.Program.TheVariants as program
 use Rattle.kept_promise.proofs.Common.{not, stands, All-nil, All-cons, All, slice_get, ◌==◌, ◌||◌, if◌then◌else◌, has_call, State, MessageFits, IsExpected, Waiting, Message, Pending, waiting_of, calls_of, Core, Session, server_waiting, server_waits, World, Moment, book_of, Call, Call.Lease, Ask, Told, Up, Up.Asks, Up.Replies, Down, Down.Tells, Down.Recalls, Mix, asks_in, tolds_in, queue_of, numbered, call_message, ask_message, told_message, reply_message, up_message, down_message, Call.Walks}
-use Rattle.kept_promise.proofs.Statements.{CallFits}
+use Rattle.kept_promise.proofs.Statements.{ToldFits, CallFits}
 use Rattle.kept_promise.proofs.Messages.{AllAsks, AllTolds}
 use Rattle.kept_promise.proofs.Facts.{IsSession}
 use Rattle.kept_promise.proofs.Fits.{FitLaws}
@@ -29,6 +29,9 @@ use Rattle.wire.specs.declared.message.Body.TheVariants as body
 use Rattle.wire.specs.declared.message.Message.TheVariants as message
 use Rattle.path_calls.specs.declared.walk.Goal.{Goal}
 use Rattle.path_calls.specs.declared.walk.Goal.TheVariants as goal
+use Rattle.kept_promise.specs.Talk.{reply_body}
+use Rattle.wire.specs.Message.{FitsIn}
+use Rattle.wire.specs.declared.message.TheConstants.{LBFS_SPOKEN}
 
 -- ---- the numbers of RECALLs
 
@@ -156,7 +159,7 @@ ups_read fits k n (Asks a ∷ us) h small waits =
     All-cons (IsRead (server_waits k n)) (ask_message a) (map up_message us) (c.0, fits.again (server_waits k n) (ask_message a) c.0.0 (ask_expected k n a.xid a.call c.1)) (ups_read fits k n us h.1 small.1 waits.1)
 ups_read fits k n (Replies x ∷ us) h small waits =
     let m = reply_fits x small.0 in
-    All-cons (IsRead (server_waits k n)) (reply_message x) (map up_message us) (m, fits.again (server_waits k n) (reply_message x) m.0 waits.0) (ups_read fits k n us h small.1 waits.1)
+    All-cons (IsRead (server_waits k n)) (reply_message x) (map up_message us) (m, fits.again (server_waits k n) (reply_message x) m.0 (waits.0, tt)) (ups_read fits k n us h small.1 waits.1)
 
 served_at : (waits : List Pending) (xid dir : ℕ) (left : List (List ℕ)) (g : Goal) → IsServed waits (message.Call xid (body.Nfs (call_at dir left g)))
 served_at waits xid dir (n ∷ ns) g = tt
@@ -219,13 +222,13 @@ of_down [] i m at = nothing_there m at
 of_down (d ∷ ds) zero m at = (d, refl, some_is (down_message d) m at)
 of_down (d ∷ ds) (suc i) m at = of_down ds i m at
 
-downs_read : FitLaws → (c : State) (ds : List Down) → AllTolds (λ t. MessageFits (told_message t)) (tolds_in ds) → AllByRecursion DownFits ds → ((i : ℕ) (t : Told) → slice_get (tolds_in ds) i ≡ Some t → IsExpected (waiting_of c) (told_message t)) → All (IsRead (waiting_of c)) (map down_message ds)
+downs_read : FitLaws → (c : State) (ds : List Down) → AllTolds (λ t. ToldFits t) (tolds_in ds) → AllByRecursion DownFits ds → ((i : ℕ) (t : Told) → slice_get (tolds_in ds) i ≡ Some t → FitsIn LBFS_SPOKEN (reply_body t.reply) → IsExpected (waiting_of c) (told_message t)) → All (IsRead (waiting_of c)) (map down_message ds)
 downs_read fits c [] h small waits = All-nil (IsRead (waiting_of c))
 downs_read fits c (Tells t ∷ ds) h small waits =
-    All-cons (IsRead (waiting_of c)) (told_message t) (map down_message ds) (h.0, fits.again (waiting_of c) (told_message t) h.0.0 (waits zero t refl)) (downs_read fits c ds h.1 small.1 (λ i u at. waits (suc i) u at))
+    All-cons (IsRead (waiting_of c)) (told_message t) (map down_message ds) (h.0.0, fits.again (waiting_of c) (told_message t) h.0.0.0 (waits zero t refl h.0.1)) (downs_read fits c ds h.1 small.1 (λ i u at. waits (suc i) u at))
 downs_read fits c (Recalls x f ∷ ds) h small waits =
     let m = recall_fits x f small.0.0 in
-    All-cons (IsRead (waiting_of c)) (recall_message x f) (map down_message ds) (m, fits.again (waiting_of c) (recall_message x f) m.0 refl) (downs_read fits c ds h small.1 waits)
+    All-cons (IsRead (waiting_of c)) (recall_message x f) (map down_message ds) (m, fits.again (waiting_of c) (recall_message x f) m.0 (refl, refl)) (downs_read fits c ds h small.1 waits)
 
 downs_answered : (calls : List Pending) (ds : List Down) → ((i : ℕ) (t : Told) → slice_get (tolds_in ds) i ≡ Some t → (k : ℕ) × (slice_get calls k ≡ Some (told_pending t))) → All (IsAnswered calls) (map down_message ds)
 downs_answered calls [] waits = All-nil (IsAnswered calls)
@@ -277,7 +280,7 @@ holds_messages P fits all past w h counted number q at =
     -- a session that was cut has nothing on its way down
     downs : (x : Session) (m : Mix) → (s : IsSession (book_of w all) w.core.seats w.core.server number x (queue_of m)) → IsMix x m → (b : Bool) → x.cut ≡ b → All (IsRead (waiting_of s.seat.client)) (map down_message m.downs)
     downs x m s mix true cut = subst (λ (ds : List Down). All (IsRead (waiting_of s.seat.client)) (map down_message ds)) (sym (mix.shut cut)) (All-nil (IsRead (waiting_of s.seat.client)))
-    downs x m s mix false uncut = downs_read fits s.seat.client m.downs s.downs_fit mix.downs (λ i t there. expected number w.core.server.waiting (queue_of m) x.hung s.seat.client i t (s.talk uncut).balanced there)
+    downs x m s mix false uncut = downs_read fits s.seat.client m.downs s.downs_fit mix.downs (λ i t there layout. expected number w.core.server.waiting (queue_of m) x.hung s.seat.client i t (s.talk uncut).balanced there layout)
 
     answers : (x : Session) (m : Mix) → (s : IsSession (book_of w all) w.core.seats w.core.server number x (queue_of m)) → IsMix x m → (b : Bool) → x.cut ≡ b → All (IsAnswered (calls_of s.seat.client)) (map down_message m.downs)
     answers x m s mix true cut = subst (λ (ds : List Down). All (IsAnswered (calls_of s.seat.client)) (map down_message ds)) (sym (mix.shut cut)) (All-nil (IsAnswered (calls_of s.seat.client)))

@@ -4,14 +4,14 @@ use Rattle.std.proofs.lemmas.List.Elements.{All-take, All-filter}
 use Rattle.sha1.specs.Sha1.{sha1, digest_bytes}
 use Rattle.xdr_codec.specs.Attr.{attr_form, kind_form, time_form}
 use Rattle.xdr_codec.specs.Xdr.{u32_form, u64_form, bool_form, bool_fits, fixed_form, count_form}
-use Rattle.hash_calls.specs.Calls.{hashes_form, leased_form, pair_form, new_temp_form, temp_piece_form, cond_piece_form, commit_form, committed_form}
+use Rattle.hash_calls.specs.Calls.{lease_on_form, hashes_form, leased_form, pair_form, new_temp_form, temp_piece_form, cond_piece_form, commit_form, committed_form}
 use Rattle.hash_calls.specs.Calls.{range_form as hash_range_form}
 use Rattle.nfs3_calls.specs.Calls.{piece_form, range_form, place_form, list_range_form, new_file_form, new_dir_form, rename_form}
 use Rattle.nfs3_calls.specs.Choices.{set_attr_form, set_time_form, how_made_form}
 use Rattle.wire.proofs.Sizes.{small_fits}
 use Rattle.chunk_calls.specs.Answers.{time_of}
 use Rattle.kept_promise.proofs.Common.{All, slice_get, filter, All-nil, All-cons, All-map, chunks_of, chunk_bytes, Chunk, handle_bytes, Done, Failed, HashRange, Range, MessageFits, IsExpected, meets, told_chunks, pair_of, is_end, hashes_of, leased_of, piece_of, attr_of, File, server_waiting, Call, Call.Lease, Call.Hash, Call.Read, Call.Make, Call.Name, Call.Send, Call.Commit, Reply, Reply.Versioned, Reply.Hashed, Reply.Bytes, Reply.Made, Reply.Named, Reply.Stored, Reply.Changed, call_message, told_message, Call.Walks}
-use Rattle.kept_promise.proofs.Statements.{CallFits, CallsFit, CallsExpected, FileFits, HashAnswersFit, LeaseAnswersFit, ReadAnswersFit, IsPlain, PlainAnswersFit, AreInRow}
+use Rattle.kept_promise.proofs.Statements.{ToldFits, CallFits, CallsFit, CallsExpected, FileFits, HashAnswersFit, LeaseAnswersFit, ReadAnswersFit, IsPlain, PlainAnswersFit, AreInRow}
 use Rattle.kept_promise.proofs.Chunks.{chunks_in_row, chunks_are_named, len_map}
 use Rattle.path_calls.specs.Walk.{place, call_at, page_call, keeps_all, create_call, make_dir_call, rename_call}
 use Rattle.path_calls.specs.declared.walk.Goal.{Goal}
@@ -20,6 +20,7 @@ use Rattle.nfs3_calls.specs.declared.message.Nfs.TheVariants as nfs
 use Rattle.wire.specs.declared.message.Body.TheVariants as body
 use Rattle.wire.specs.declared.message.Message.TheVariants as message
 use Rattle.kept_promise.proofs.PathNames.{AreNames, IsGoalNamed, IsAsking}
+use Rattle.wire.specs.declared.message.TheConstants.{LBFS_SPOKEN}
 
 handle_len : (name : ℕ) → length (handle_bytes name) ≡ 16
 handle_len name = refl
@@ -32,7 +33,7 @@ sha1_len bytes = refl
 
 place_fits : (xid dir : ℕ) (name : List ℕ) → xid < 2 ^ 32 → length name ≤ 255 → MessageFits (message.Call xid (body.Nfs (nfs.Lookup (place dir name))))
 unfolding place_form
-place_fits xid dir name x short = small_fits (message.Call xid (body.Nfs (nfs.Lookup (place dir name)))) (x, (refl, ((omega (arith, handle_len dir), omega (arith, handle_len dir)), (omega (arith, short), omega (arith, short))))) (omega (arith, short))
+place_fits xid dir name x short = small_fits (message.Call xid (body.Nfs (nfs.Lookup (place dir name)))) (x, (refl, (lit< tt, ((omega (arith, handle_len dir), omega (arith, handle_len dir)), (omega (arith, short), omega (arith, short)))))) (omega (arith, short))
 
 -- no attribute is set
 keeps_fit : set_attr_form.Fits keeps_all
@@ -46,21 +47,21 @@ spot_fits dir name short = ((omega (arith, handle_len dir), omega (arith, handle
 
 create_fits : (xid dir : ℕ) (name : List ℕ) → xid < 2 ^ 32 → length name ≤ 255 → MessageFits (message.Call xid (body.Nfs (create_call dir name)))
 unfolding new_file_form how_made_form u32_form
-create_fits xid dir name x short = small_fits (message.Call xid (body.Nfs (create_call dir name))) (x, (refl, (spot_fits dir name short, ((lit< tt, refl), (keeps_all, refl, keeps_fit))))) (omega (arith, short))
+create_fits xid dir name x short = small_fits (message.Call xid (body.Nfs (create_call dir name))) (x, (refl, (lit< tt, (spot_fits dir name short, ((lit< tt, refl), (keeps_all, refl, keeps_fit)))))) (omega (arith, short))
 
 make_dir_fits : (xid dir : ℕ) (name : List ℕ) → xid < 2 ^ 32 → length name ≤ 255 → MessageFits (message.Call xid (body.Nfs (make_dir_call dir name)))
 unfolding new_dir_form
-make_dir_fits xid dir name x short = small_fits (message.Call xid (body.Nfs (make_dir_call dir name))) (x, (refl, (spot_fits dir name short, keeps_fit))) (omega (arith, short))
+make_dir_fits xid dir name x short = small_fits (message.Call xid (body.Nfs (make_dir_call dir name))) (x, (refl, (lit< tt, (spot_fits dir name short, keeps_fit)))) (omega (arith, short))
 
 remove_dir_fits : (xid dir : ℕ) (name : List ℕ) → xid < 2 ^ 32 → length name ≤ 255 → MessageFits (message.Call xid (body.Nfs (nfs.RmDir (place dir name))))
-remove_dir_fits xid dir name x short = small_fits (message.Call xid (body.Nfs (nfs.RmDir (place dir name)))) (x, (refl, spot_fits dir name short)) (omega (arith, short))
+remove_dir_fits xid dir name x short = small_fits (message.Call xid (body.Nfs (nfs.RmDir (place dir name)))) (x, (refl, (lit< tt, spot_fits dir name short))) (omega (arith, short))
 
 remove_fits : (xid dir : ℕ) (name : List ℕ) → xid < 2 ^ 32 → length name ≤ 255 → MessageFits (message.Call xid (body.Nfs (nfs.Remove (place dir name))))
-remove_fits xid dir name x short = small_fits (message.Call xid (body.Nfs (nfs.Remove (place dir name)))) (x, (refl, spot_fits dir name short)) (omega (arith, short))
+remove_fits xid dir name x short = small_fits (message.Call xid (body.Nfs (nfs.Remove (place dir name)))) (x, (refl, (lit< tt, spot_fits dir name short))) (omega (arith, short))
 
 rename_fits : (xid from : ℕ) (name : List ℕ) (to : ℕ) (other : List ℕ) → xid < 2 ^ 32 → length name ≤ 255 → length other ≤ 255 → MessageFits (message.Call xid (body.Nfs (rename_call from name to other)))
 unfolding rename_form
-rename_fits xid from name to other x short short_to = small_fits (message.Call xid (body.Nfs (rename_call from name to other))) (x, (refl, (spot_fits from name short, spot_fits to other short_to))) (omega (arith, short, short_to))
+rename_fits xid from name to other x short short_to = small_fits (message.Call xid (body.Nfs (rename_call from name to other))) (x, (refl, (lit< tt, (spot_fits from name short, spot_fits to other short_to)))) (omega (arith, short, short_to))
 
 walk_fits : (xid dir : ℕ) (left : List (List ℕ)) (g : Goal) → xid < 2 ^ 32 → AreNames left → IsGoalNamed g → IsAsking g → MessageFits (message.Call xid (body.Nfs (call_at dir left g)))
 unfolding list_range_form u64_form u32_form
@@ -68,8 +69,8 @@ walk_fits xid dir (n ∷ ns) g x names aim asks = place_fits xid dir n x names.0
 walk_fits xid dir [] (goal.Find name) x names aim asks = place_fits xid dir name x aim.1
 walk_fits xid dir [] (goal.Rewrite name) x names aim asks = place_fits xid dir name x aim.1
 walk_fits xid dir [] (goal.Look name) x names aim asks = place_fits xid dir name x aim.1
-walk_fits xid dir [] goal.LookRoot x names aim asks = small_fits (message.Call xid (body.Nfs (nfs.GetAttr (handle_bytes dir)))) (x, (refl, (omega (arith, handle_len dir), omega (arith, handle_len dir)))) tt
-walk_fits xid dir [] (goal.List p) x names aim asks = small_fits (message.Call xid (body.Nfs (page_call dir p))) (x, (refl, ((omega (arith, handle_len dir), omega (arith, handle_len dir)), (asks.0, (asks.1, lit< tt))))) tt
+walk_fits xid dir [] goal.LookRoot x names aim asks = small_fits (message.Call xid (body.Nfs (nfs.GetAttr (handle_bytes dir)))) (x, (refl, (lit< tt, (omega (arith, handle_len dir), omega (arith, handle_len dir))))) tt
+walk_fits xid dir [] (goal.List p) x names aim asks = small_fits (message.Call xid (body.Nfs (page_call dir p))) (x, (refl, (lit< tt, ((omega (arith, handle_len dir), omega (arith, handle_len dir)), (asks.0, (asks.1, lit< tt)))))) tt
 walk_fits xid dir [] (goal.Make name) x names aim asks = create_fits xid dir name x aim.1
 walk_fits xid dir [] (goal.MakeDir name) x names aim asks = make_dir_fits xid dir name x aim.1
 walk_fits xid dir [] (goal.Remove name) x names aim asks = remove_fits xid dir name x aim.1
@@ -78,23 +79,23 @@ walk_fits xid dir [] (goal.RenameFrom name to) x names aim asks = place_fits xid
 walk_fits xid dir [] (goal.RenameTo from name to) x names aim asks = rename_fits xid from name dir to x aim.0.1 aim.1.1
 
 call_fits : (xid : ℕ) (c : Call) → CallFits xid c → MessageFits (call_message xid c)
-unfolding hash_range_form range_form new_temp_form cond_piece_form temp_piece_form commit_form fixed_form u64_form u32_form
-call_fits xid (Lease file) f = small_fits (call_message xid (Lease file)) (f.0, (refl, (omega (arith, handle_len file), omega (arith, handle_len file)))) tt
-call_fits xid (Hash file offset) f = let o = f.2 in small_fits (call_message xid (Hash file offset)) (f.0, (refl, ((omega (arith, handle_len file), omega (arith, handle_len file)), (omega (arith, o), lit< tt)))) tt
-call_fits xid (Read file c) f = let s = f.2 in let l = f.3 in small_fits (call_message xid (Read file c)) (f.0, (refl, ((omega (arith, handle_len file), omega (arith, handle_len file)), (omega (arith, s), omega (arith, l))))) tt
-call_fits xid (Make temp file) f = small_fits (call_message xid (Make temp file)) (f.0, (refl, (f.1, (omega (arith, handle_len file), omega (arith, handle_len file))))) tt
-call_fits xid (Name temp c) f = let s = f.2 in let l = f.3 in small_fits (call_message xid (Name temp c)) (f.0, (refl, (f.1, (omega (arith, s), (omega (arith, l), f.4))))) tt
-call_fits xid (Send temp start bytes) f = let s = f.2 in let l = f.3 in small_fits (call_message xid (Send temp start bytes)) (f.0, (refl, (f.1, (omega (arith, s), (omega (arith, l), omega (arith, l)))))) tt
-call_fits xid (Commit temp file size) f = let s = f.3 in small_fits (call_message xid (Commit temp file size)) (f.0, (refl, (f.1, ((omega (arith, handle_len file), omega (arith, handle_len file)), omega (arith, s))))) tt
+unfolding lease_on_form hash_range_form range_form new_temp_form cond_piece_form temp_piece_form commit_form fixed_form u64_form u32_form
+call_fits xid (Lease file) f = small_fits (call_message xid (Lease file)) (f.0, (refl, (lit< tt, (refl, (omega (arith, handle_len file), omega (arith, handle_len file)))))) tt
+call_fits xid (Hash file offset) f = let o = f.2 in small_fits (call_message xid (Hash file offset)) (f.0, (refl, (lit< tt, (refl, ((omega (arith, handle_len file), omega (arith, handle_len file)), (omega (arith, o), lit< tt)))))) tt
+call_fits xid (Read file c) f = let s = f.2 in let l = f.3 in small_fits (call_message xid (Read file c)) (f.0, (refl, (lit< tt, ((omega (arith, handle_len file), omega (arith, handle_len file)), (omega (arith, s), omega (arith, l)))))) tt
+call_fits xid (Make temp file) f = small_fits (call_message xid (Make temp file)) (f.0, (refl, (lit< tt, (refl, (f.1, (omega (arith, handle_len file), omega (arith, handle_len file))))))) tt
+call_fits xid (Name temp c) f = let s = f.2 in let l = f.3 in small_fits (call_message xid (Name temp c)) (f.0, (refl, (lit< tt, (refl, (f.1, (omega (arith, s), (omega (arith, l), f.4))))))) tt
+call_fits xid (Send temp start bytes) f = let s = f.2 in let l = f.3 in small_fits (call_message xid (Send temp start bytes)) (f.0, (refl, (lit< tt, (refl, (f.1, (omega (arith, s), (omega (arith, l), omega (arith, l)))))))) tt
+call_fits xid (Commit temp file size) f = let s = f.3 in small_fits (call_message xid (Commit temp file size)) (f.0, (refl, (lit< tt, (refl, (f.1, ((omega (arith, handle_len file), omega (arith, handle_len file)), (omega (arith, s), tt))))))) tt
 call_fits xid (Walks w) f = walk_fits xid w.dir w.left w.goal f.0 f.1.named.0 f.1.named.1 f.1.asking
 
 call_expected : (xid : ℕ) (c : Call) → IsExpected server_waiting (call_message xid c)
-call_expected xid (Lease file) = refl
-call_expected xid _ = refl
+call_expected xid (Lease file) = (refl, refl)
+call_expected xid _ = (refl, refl)
 
 pub calls_expected : CallsExpected
-calls_expected calls xid (Lease file) = refl
-calls_expected calls xid _ = refl
+calls_expected calls xid (Lease file) = (refl, refl)
+calls_expected calls xid _ = (refl, refl)
 
 pub calls_fit : CallsFit
 calls_fit = λ xid c f. (call_fits xid c f, call_expected xid c)
@@ -112,17 +113,17 @@ chunks_named x = by (chunks_of x) 0 (length x) (chunks_in_row x) (λ i c at. let
     by [] from to r f = All-nil (λ (c : Chunk). (length c.digest ≡ 20) × (c.len ≤ 65536))
     by (c ∷ cs) from to r f = All-cons (λ (c : Chunk). (length c.digest ≡ 20) × (c.len ≤ 65536)) c cs (f 0 c refl, r.2) (by cs (c.start + c.len) to r.3 (λ i d at. f (suc i) d at))
 
-pairs_fit : (x : List ℕ) (r : HashRange) → (length (map pair_of (told_chunks x r)) ≤ 1024) × All pair_form.Fits (map pair_of (told_chunks x r))
+pairs_fit : (x : List ℕ) (r : HashRange) → (length (map pair_of (told_chunks x r)) ≤ 1024) × All (pair_form LBFS_SPOKEN).Fits (map pair_of (told_chunks x r))
 unfolding pair_form fixed_form u32_form
 pairs_fit x r = (
   let a = len_map (told_chunks x r) in let b = length-take 1024 (filter (meets r.offset r.count) (chunks_of x)) in omega (arith, a, b),
-  All-map pair_form.Fits pair_of (told_chunks x r) (λ i c lt. let h = told i c lt in let l = h.1 in (h.0, omega (arith, l))),
+  All-map (pair_form LBFS_SPOKEN).Fits pair_of (told_chunks x r) (λ i c lt. let h = told i c lt in let l = h.1 in (h.0, omega (arith, l))),
 )
   where
     told : AllNamed (told_chunks x r)
     told = All-take (λ (c : Chunk). (length c.digest ≡ 20) × (c.len ≤ 65536)) 1024 (filter (meets r.offset r.count) (chunks_of x)) (All-filter (meets r.offset r.count) (λ (c : Chunk). (length c.digest ≡ 20) × (c.len ≤ 65536)) (chunks_of x) (chunks_named x))
 
-hashes_are : (term : ℕ) (f : File) (r : HashRange) → term < 2 ^ 32 → FileFits f → hashes_form.Fits (hashes_of term f r)
+hashes_are : (term : ℕ) (f : File) (r : HashRange) → term < 2 ^ 32 → FileFits f → (hashes_form LBFS_SPOKEN).Fits (hashes_of term f r)
 unfolding hashes_form u64_form u32_form count_form
 hashes_are term f r leased fit =
     let pairs = pairs_fit f.content r in
@@ -131,7 +132,10 @@ hashes_are term f r leased fit =
     (omega (arith, v), (omega (arith, leased), (omega (arith, l), (((let le = pairs.0 in omega (arith, le), pairs.0), (refl, pairs.1)), bool_fits (is_end (length f.content) r.offset (told_chunks f.content r))))))
 
 pub hash_answers_fit : HashAnswersFit
-hash_answers_fit = λ xid term g handle offset x leased fit. small_fits (told_message (record { xid = xid; reply = Hashed (Done (hashes_of term g (record { handle = handle; offset = offset; count = 4294967295 }))) })) (x, (refl, hashes_are term g (record { handle = handle; offset = offset; count = 4294967295 }) leased fit)) tt
+hash_answers_fit = λ xid term g handle offset x leased fit.
+    let r : HashRange = record { lbfs = LBFS_SPOKEN; handle = handle; offset = offset; count = 4294967295 } in
+    let h = hashes_are term g r leased fit in
+    (small_fits (told_message (record { xid = xid; reply = Hashed (Done (hashes_of term g r)) })) (x, (refl, (LBFS_SPOKEN, h))) tt, h)
 
 -- ---- READ
 
@@ -153,7 +157,9 @@ unfolding leased_form u64_form u32_form
 leased_is term f leased fit = let v = fit.1 in (attr_fits f fit, (omega (arith, v), omega (arith, leased)))
 
 pub lease_answers_fit : LeaseAnswersFit
-lease_answers_fit = λ xid term g x leased fit. small_fits (told_message (record { xid = xid; reply = Versioned (Done (leased_of term g)) })) (x, (refl, leased_is term g leased fit)) tt
+lease_answers_fit = λ xid term g x leased fit.
+    let l = leased_is term g leased fit in
+    (small_fits (told_message (record { xid = xid; reply = Versioned (Done (leased_of term g)) })) (x, (refl, l)) tt, l)
 
 -- ---- bytes of a file
 
@@ -167,23 +173,23 @@ piece_is f r fit =
     ((bool_fits true, attr_fits f fit), (omega (arith, len), (bool_fits _, (omega (arith, len), omega (arith, len)))))
 
 pub read_answers_fit : ReadAnswersFit
-read_answers_fit = λ xid g handle offset count x fit. small_fits (told_message (record { xid = xid; reply = Bytes (Done (piece_of g (record { handle = handle; offset = offset; count = count }))) })) (x, (refl, piece_is g (record { handle = handle; offset = offset; count = count }) fit)) (piece_len g (record { handle = handle; offset = offset; count = count }))
+read_answers_fit = λ xid g handle offset count x fit. (small_fits (told_message (record { xid = xid; reply = Bytes (Done (piece_of g (record { handle = handle; offset = offset; count = count }))) })) (x, (refl, piece_is g (record { handle = handle; offset = offset; count = count }) fit)) (piece_len g (record { handle = handle; offset = offset; count = count })), tt)
 
 -- ---- all other answers
 
-plain_fits : (xid : ℕ) (r : Reply) → xid < 2 ^ 32 → IsPlain r → MessageFits (told_message (record { xid = xid; reply = r }))
+plain_fits : (xid : ℕ) (r : Reply) → xid < 2 ^ 32 → IsPlain r → ToldFits (record { xid = xid; reply = r })
 unfolding committed_form u64_form u32_form
-plain_fits xid (Versioned (Failed s u)) x plain = small_fits (told_message (record { xid = xid; reply = Versioned (Failed s u) })) (x, (refl, refl)) tt
-plain_fits xid (Hashed (Failed s u)) x plain = small_fits (told_message (record { xid = xid; reply = Hashed (Failed s u) })) (x, (refl, refl)) tt
-plain_fits xid (Bytes (Failed s None)) x plain = small_fits (told_message (record { xid = xid; reply = Bytes (Failed s None) })) (x, (refl, (bool_fits false, refl))) tt
-plain_fits xid (Made (Done u)) x plain = small_fits (told_message (record { xid = xid; reply = Made (Done u) })) (x, (refl, refl)) tt
-plain_fits xid (Made (Failed s u)) x plain = small_fits (told_message (record { xid = xid; reply = Made (Failed s u) })) (x, (refl, refl)) tt
-plain_fits xid (Named (Done u)) x plain = small_fits (told_message (record { xid = xid; reply = Named (Done u) })) (x, (refl, refl)) tt
-plain_fits xid (Named (Failed s u)) x plain = small_fits (told_message (record { xid = xid; reply = Named (Failed s u) })) (x, (refl, refl)) tt
-plain_fits xid (Stored (Done u)) x plain = small_fits (told_message (record { xid = xid; reply = Stored (Done u) })) (x, (refl, refl)) tt
-plain_fits xid (Stored (Failed s u)) x plain = small_fits (told_message (record { xid = xid; reply = Stored (Failed s u) })) (x, (refl, refl)) tt
-plain_fits xid (Changed (Failed s u)) x plain = small_fits (told_message (record { xid = xid; reply = Changed (Failed s u) })) (x, (refl, refl)) tt
-plain_fits xid (Changed (Done c)) x plain = let v = plain.0 in let t = plain.1 in small_fits (told_message (record { xid = xid; reply = Changed (Done c) })) (x, (refl, (omega (arith, v), omega (arith, t)))) tt
+plain_fits xid (Versioned (Failed s u)) x plain = (small_fits (told_message (record { xid = xid; reply = Versioned (Failed s u) })) (x, (refl, refl)) tt, refl)
+plain_fits xid (Hashed (Failed s u)) x plain = (small_fits (told_message (record { xid = xid; reply = Hashed (Failed s u) })) (x, (refl, (LBFS_SPOKEN, refl))) tt, refl)
+plain_fits xid (Bytes (Failed s None)) x plain = (small_fits (told_message (record { xid = xid; reply = Bytes (Failed s None) })) (x, (refl, (bool_fits false, refl))) tt, tt)
+plain_fits xid (Made (Done u)) x plain = (small_fits (told_message (record { xid = xid; reply = Made (Done u) })) (x, (refl, refl)) tt, refl)
+plain_fits xid (Made (Failed s u)) x plain = (small_fits (told_message (record { xid = xid; reply = Made (Failed s u) })) (x, (refl, refl)) tt, refl)
+plain_fits xid (Named (Done u)) x plain = (small_fits (told_message (record { xid = xid; reply = Named (Done u) })) (x, (refl, refl)) tt, refl)
+plain_fits xid (Named (Failed s u)) x plain = (small_fits (told_message (record { xid = xid; reply = Named (Failed s u) })) (x, (refl, refl)) tt, refl)
+plain_fits xid (Stored (Done u)) x plain = (small_fits (told_message (record { xid = xid; reply = Stored (Done u) })) (x, (refl, refl)) tt, refl)
+plain_fits xid (Stored (Failed s u)) x plain = (small_fits (told_message (record { xid = xid; reply = Stored (Failed s u) })) (x, (refl, refl)) tt, refl)
+plain_fits xid (Changed (Failed s u)) x plain = (small_fits (told_message (record { xid = xid; reply = Changed (Failed s u) })) (x, (refl, refl)) tt, refl)
+plain_fits xid (Changed (Done c)) x plain = let v = plain.0 in let t = plain.1 in (small_fits (told_message (record { xid = xid; reply = Changed (Done c) })) (x, (refl, (omega (arith, v), omega (arith, t)))) tt, (omega (arith, v), omega (arith, t)))
 plain_fits xid _ x plain = absurd plain
 
 pub plain_answers_fit : PlainAnswersFit

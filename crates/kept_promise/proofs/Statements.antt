@@ -18,6 +18,9 @@ use Rattle.tree_calls.specs.declared.asked.Outcome.TheVariants.{Answered}
 use Rattle.kept_promise.proofs.Departures.{comes_by}
 use Rattle.kept_promise.proofs.Makings.{made_by}
 use Rattle.kept_promise.proofs.Common.{nat_le, All, slice_get, insert_entry, nat_cmp, sha1, Unread, fed, stream, chunks_of, chunk_bytes, end_of, Chunk, Done, Failed, MessageFits, IsExpected, told_chunks, pair_of, is_end, hashes_of, leased_of, piece_of, piece_bytes, File, with_pairs, broken_of, slots_bytes, Fetch, World, server_waiting, up_some, down_some, KeepsClocks, run, accepted, Call, Call.Lease, Call.Hash, Call.Read, Call.Make, Call.Name, Call.Send, Call.Commit, Reply, Reply.Versioned, Reply.Hashed, Reply.Bytes, Reply.Made, Reply.Named, Reply.Stored, Reply.Changed, call_message, told_message, Call.Walks, Reply.Walked, NameReply, name_answer, Tree}
+use Rattle.wire.specs.declared.message.TheConstants.{LBFS_SERVED, LBFS_SPOKEN}
+use Rattle.wire.specs.Message.{FitsIn}
+use Rattle.kept_promise.specs.Talk.{Told, reply_body}
 
 -- ---- chunk lists
 
@@ -39,7 +42,7 @@ ChunksAreNamed = (x : List ℕ) (j : ℕ) (c : Chunk) → slice_get (chunks_of x
 -- the range from the end of the first chunks on
 abbrev pub TellsNext : Type 0
 TellsNext = (x : List ℕ) (i : ℕ) (handle : List ℕ) → i ≤ length (chunks_of x) → length x ≤ 67108864
-    → told_chunks x (record { handle = handle; offset = end_of (take i (chunks_of x)); count = 4294967295 }) ≡ take 1024 (drop i (chunks_of x))
+    → told_chunks x (record { lbfs = LBFS_SPOKEN; handle = handle; offset = end_of (take i (chunks_of x)); count = 4294967295 }) ≡ take 1024 (drop i (chunks_of x))
 
 abbrev pub TellsEnd : Type 0
 TellsEnd = (x : List ℕ) (i : ℕ) → i ≤ length (chunks_of x) → is_end (length x) (end_of (take i (chunks_of x))) (take 1024 (drop i (chunks_of x))) ≡ nat_le (length (chunks_of x)) (i + 1024)
@@ -51,7 +54,7 @@ PairsTell = (x : List ℕ) (i : ℕ) → i ≤ length (chunks_of x) → with_pai
 -- and nothing is broken in them
 abbrev pub NothingBroken : Type 0
 NothingBroken = (term : ℕ) (g : File) (f : Fetch) (x : List ℕ) (i : ℕ) (handle : List ℕ) → g.content ≡ x → length x ≤ 67108864 → f.size ≡ length x → f.chunks ≡ take i (chunks_of x) → i ≤ length (chunks_of x)
-    → broken_of f (hashes_of term g (record { handle = handle; offset = end_of (take i (chunks_of x)); count = 4294967295 })) ≡ None
+    → broken_of f (hashes_of term g (record { lbfs = LBFS_SPOKEN; handle = handle; offset = end_of (take i (chunks_of x)); count = 4294967295 })) ≡ None
 
 -- a READ of a chunk gives its bytes
 abbrev pub ReadGives : Type 0
@@ -99,20 +102,24 @@ CallsFit = (xid : ℕ) (c : Call) → CallFits xid c → MessageFits (call_messa
 
 -- it is one that the server does, whatever it waits for
 abbrev pub CallsExpected : Type 0
-CallsExpected = (calls : List Pending) (xid : ℕ) (c : Call) → IsExpected (record { side = side.Server; calls = calls }) (call_message xid c)
+CallsExpected = (calls : List Pending) (xid : ℕ) (c : Call) → IsExpected (record { side = side.Server; lbfs = LBFS_SERVED; calls = calls }) (call_message xid c)
+
+-- an answer fits its record, and its layout is that of the version which these clients speak
+abbrev pub ToldFits : Told → Type 0
+ToldFits t = MessageFits (told_message t) × FitsIn LBFS_SPOKEN (reply_body t.reply)
 
 -- an answer is of a file within its bounds
 abbrev pub FileFits : File → Type 0
 FileFits g = (g.id < 2 ^ 64) × (g.version < 2 ^ 32) × (length g.content ≤ 67108864)
 
 abbrev pub HashAnswersFit : Type 0
-HashAnswersFit = (xid term : ℕ) (g : File) (handle : List ℕ) (offset : ℕ) → xid < 2 ^ 32 → term < 2 ^ 32 → FileFits g → MessageFits (told_message (record { xid = xid; reply = Hashed (Done (hashes_of term g (record { handle = handle; offset = offset; count = 4294967295 }))) }))
+HashAnswersFit = (xid term : ℕ) (g : File) (handle : List ℕ) (offset : ℕ) → xid < 2 ^ 32 → term < 2 ^ 32 → FileFits g → ToldFits (record { xid = xid; reply = Hashed (Done (hashes_of term g (record { lbfs = LBFS_SPOKEN; handle = handle; offset = offset; count = 4294967295 }))) })
 
 abbrev pub LeaseAnswersFit : Type 0
-LeaseAnswersFit = (xid term : ℕ) (g : File) → xid < 2 ^ 32 → term < 2 ^ 32 → FileFits g → MessageFits (told_message (record { xid = xid; reply = Versioned (Done (leased_of term g)) }))
+LeaseAnswersFit = (xid term : ℕ) (g : File) → xid < 2 ^ 32 → term < 2 ^ 32 → FileFits g → ToldFits (record { xid = xid; reply = Versioned (Done (leased_of term g)) })
 
 abbrev pub ReadAnswersFit : Type 0
-ReadAnswersFit = (xid : ℕ) (g : File) (handle : List ℕ) (offset count : ℕ) → xid < 2 ^ 32 → FileFits g → MessageFits (told_message (record { xid = xid; reply = Bytes (Done (piece_of g (record { handle = handle; offset = offset; count = count }))) }))
+ReadAnswersFit = (xid : ℕ) (g : File) (handle : List ℕ) (offset count : ℕ) → xid < 2 ^ 32 → FileFits g → ToldFits (record { xid = xid; reply = Bytes (Done (piece_of g (record { handle = handle; offset = offset; count = count }))) })
 
 -- all other answers: refusals, and those that have nothing to tell but a version and a term
 abbrev pub IsPlain : Reply → Type 0
@@ -128,7 +135,7 @@ IsPlain r = ⊥
 
 -- what a tree within the limits tells a walk
 abbrev pub NameAnswersFit : Type 0
-NameAnswersFit = (xid : ℕ) (t : Tree) (w : Walk) (r : NameReply) → xid < 2 ^ 32 → IsBounded t → IsWalkSmall w → told_by t.nodes (next_call w) ≡ Some (name_answer r) → MessageFits (told_message (record { xid = xid; reply = Walked r }))
+NameAnswersFit = (xid : ℕ) (t : Tree) (w : Walk) (r : NameReply) → xid < 2 ^ 32 → IsBounded t → IsWalkSmall w → told_by t.nodes (next_call w) ≡ Some (name_answer r) → ToldFits (record { xid = xid; reply = Walked r })
 
 -- and what it answers to a call that makes or removes something
 abbrev pub MakingAnswersFit : Type 0
@@ -142,7 +149,7 @@ abbrev pub SettledAnswersFit : Type 0
 SettledAnswersFit = (xid : ℕ) (t : Tree) (held : Held) (a : Asked) → xid < 2 ^ 32 → IsBounded t → IsBounded (settles t held a).0 → MessageFits (message.Answer xid (body.Nfs (settles t held a).1.answer))
 
 abbrev pub PlainAnswersFit : Type 0
-PlainAnswersFit = (xid : ℕ) (r : Reply) → xid < 2 ^ 32 → IsPlain r → MessageFits (told_message (record { xid = xid; reply = r }))
+PlainAnswersFit = (xid : ℕ) (r : Reply) → xid < 2 ^ 32 → IsPlain r → ToldFits (record { xid = xid; reply = r })
 
 -- ---- deliveries
 

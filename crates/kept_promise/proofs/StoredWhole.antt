@@ -265,7 +265,7 @@ open_commits file v (Sent m ∷ log) h = let l = open_commits file v log h.1 in 
 ]
   where
     by : (m : Message) → IsFetchCall file m → commit_number (Sent m) ≡ 0
-    by (message.Call xid (body.Lb (lb.GetLease handle))) own = refl
+    by (message.Call xid (body.Lb (lb.GetLease z))) own = refl
     by (message.Call xid (body.Lb (lb.GetHash z))) own = refl
     by (message.Call xid (body.Nfs (nfs.Read z))) own = refl
     by m own = absurd own
@@ -280,7 +280,7 @@ renew_commits file v (Sent m ∷ log) h = let l = renew_commits file v log h.1 i
 ]
   where
     by : (m : Message) → IsVersionCall file m → commit_number (Sent m) ≡ 0
-    by (message.Call xid (body.Lb (lb.GetLease handle))) own = refl
+    by (message.Call xid (body.Lb (lb.GetLease z))) own = refl
     by m own = absurd own
 
 is_close : (w : Word) (file : ℕ) (v : List ℕ) (u : History) (log : List Deal) → OpOwn log w file v u → 0 < commits_said log → w ≡ words.Close

@@ -6,7 +6,7 @@ use Rattle.chunk_calls.specs.Files as the_files
 use Rattle.client_state.specs.State as client
 use Rattle.register_model.specs.declared.op.Outcome.TheVariants as told
 use Rattle.kept_promise.proofs.Common.{slice_get, Indexed, MessageFits, Temp, key_of, Change, File, TakenCall, Core, Session, numbered, unless, hashed_of, Book, value_at, Reply, Ask, Told, Queue, told_message, call_program, reply_program, version_at, Entry, Op, Seat, Tree, Leasing}
-use Rattle.kept_promise.proofs.Statements.{CallFits}
+use Rattle.kept_promise.proofs.Statements.{ToldFits, CallFits}
 use Rattle.kept_promise.proofs.Lists.{some_is, nothing_there, same_or_not, false_and_true, all_append, all_map, all_unless}
 use Rattle.kept_promise.proofs.Keys.{times, times_append, own, on_way, key, change_key, ask_key, told_key}
 use Rattle.kept_promise.proofs.Messages.{job, AllAsks, Rising, IsAsked, AnswerOf, IsAnswer, IsCommit, IsPiece, TempUnder, AreParts, Job, AllTolds, WaitsFor, CloseOf}
@@ -73,7 +73,7 @@ pub record Shows (book more : Book) (k : Core) (n : ℕ) (x : Session) (q : Queu
   pub journal_is : more.journal ≡ s.journal
   pub made_here : (p : ℕ) → made ≡ Some p → x.closing ≡ Some p
   pub program : reply_program r ≡ call_program a.call
-  pub fits : MessageFits (told_message (record { xid = a.xid; reply = r }))
+  pub fits : ToldFits (record { xid = a.xid; reply = r })
   pub answer : x.cut ≡ false → AnswerOf more (x.taken ++ record { xid = a.xid; step = book.steps + 1 } ∷ []) x.closing (job h.seat) a.xid r
   -- the facts of the session that speak of what it remembers
   pub answers : x.cut ≡ false → AllTolds (IsAnswer more (x.taken ++ record { xid = a.xid; step = book.steps + 1 } ∷ []) x.closing (job h.seat)) q.downs
@@ -128,7 +128,7 @@ kept_taken book more k qs n leasing tree journal temps index x q a us r made ses
         lost = λ hung. absurd (false_and_true x.hung unhung hung);
         stands_is = h.stands_is;
         ups_fit = (ups_of (λ b. CallFits b.xid b.call) h.ups_fit).1;
-        downs_fit = all_unless (λ (u : Told). MessageFits (told_message u)) x.cut q.downs (t ∷ []) h.downs_fit (shows.fits, tt);
+        downs_fit = all_unless (λ (u : Told). ToldFits u) x.cut q.downs (t ∷ []) h.downs_fit (shows.fits, tt);
         talk = λ uncut. subst (λ (b : Bool). IsTalk more n k.server.waiting y (put_down q us b t) c) (sym uncut) (talks h shows uncut (h.talk uncut));
         contents = h.contents;
         lengths = h.lengths;
@@ -197,7 +197,7 @@ kept_taken book more k qs n leasing tree journal temps index x q a us r made ses
 -- what a call that is answered at once is to show
 pub record Answers (book : Book) (k : Core) (n : ℕ) (x : Session) (q : Queue) (a : Ask) (temps : List (ℕ × Temp)) (r : Reply) (h : IsSession book k.seats k.server n x q) : Type 0 where
   pub program : reply_program r ≡ call_program a.call
-  pub fits : MessageFits (told_message (record { xid = a.xid; reply = r }))
+  pub fits : ToldFits (record { xid = a.xid; reply = r })
   pub answer : x.cut ≡ false → AnswerOf (onward book 1 book.ops) (x.taken ++ record { xid = a.xid; step = book.steps + 1 } ∷ []) x.closing (job h.seat) a.xid r
   pub pieces : (i m : ℕ) (e : ℕ × Temp) → m < 4294967296 → slice_get temps i ≡ Some e → e.0 ≡ key_of n m → AreParts (hashed_of book.moments) (h.contents m) e.1.pieces × (key_of e.1.session e.1.fd ≡ e.0)
   pub below : x.cut ≡ false → (i m : ℕ) (e : ℕ × Temp) → m < 4294967296 → slice_get temps i ≡ Some e → e.0 ≡ key_of n m → m < h.seat.client.next_temp

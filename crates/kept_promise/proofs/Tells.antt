@@ -17,7 +17,7 @@ use Rattle.wire.specs.declared.message.Pending.{Pending}
 use Rattle.trace_replay.specs.OwnCalls.{TakesCall}
 use Rattle.trace_replay.specs.Trail.{served_hashed}
 use Rattle.kept_promise.proofs.Common.{slice_get, cond, ◌==◌, ◌||◌, Contains, end_of, parse_of, server_waiting, Body, Message, Op, Task, chunk_bytes, Chunk, handle_bytes, Failed, Status, HashRange, Range, message_spell, MessageFits, Node, directory, file, node_of, told_chunks, hashes_of, piece_of, leased_of, File, Fetch, Stage, Value, TakenCall, Core, Seat, Session, Event.Serves, numbered, hashed_of, Book, value_at, version_at, Call.Lease, Call.Hash, Call.Read, Reply, Reply.Versioned, Reply.Hashed, Reply.Bytes, Ask, Queue, ask_message, told_message, Tree, Call.Walks, Reply.Walked, name_answer, happens, NameReply, Moment, Event, taken_at}
-use Rattle.kept_promise.proofs.Statements.{CallFits}
+use Rattle.kept_promise.proofs.Statements.{ToldFits, CallFits}
 use Rattle.kept_promise.proofs.Lists.{some_is, nothing_there}
 use Rattle.kept_promise.proofs.Messages.{Job, job, job_of, lease_body, hash_body, AllAsks, Rising, IsAsked, hash_offset, IsTold, IsHashed, RefusedTold, HashTold, IsLeased, LeaseTold, IsRead, ReadTold, TriedBy, AnswerOf, IsFetch, IsReading, FetchOf, range_from, WalkCame, WalkTold, IsTakenFor, lease_xid}
 use Rattle.kept_promise.proofs.Rights.{IsHeld, WasThere}
@@ -36,6 +36,7 @@ use Rattle.path_calls.specs.Walk.{next_call}
 use Rattle.kept_promise.proofs.PathNames.{is_making}
 use Rattle.kept_promise.proofs.WalkReplies.{walk_reply, reply_told}
 use Rattle.kept_promise.proofs.Unused.{directory_unused}
+use Rattle.wire.specs.declared.message.TheConstants.{LBFS_SPOKEN}
 
 -- ---- what a name stands for
 
@@ -193,19 +194,19 @@ gone_told book k qs n x q a f us c j kept was talk e is same none =
 abbrev pub lease_reply : (term : ℕ) → Tree → (f : ℕ) → Reply
 lease_reply term t f = Versioned (lease_answer term (node_of t (handle_bytes f)))
 
-pub lease_reply_fits : FitLaws → (book : Book) (s : server.State) (xid term f : ℕ) → IsServer book s → xid < 4294967296 → term < 4294967296 → f < 18446744073709551616 → MessageFits (told_message (record { xid = xid; reply = lease_reply term s.tree f }))
+pub lease_reply_fits : FitLaws → (book : Book) (s : server.State) (xid term f : ℕ) → IsServer book s → xid < 4294967296 → term < 4294967296 → f < 18446744073709551616 → ToldFits (record { xid = xid; reply = lease_reply term s.tree f })
 lease_reply_fits laws book s xid term f h x leased lt = by (looked s.tree f lt)
   where
-    by : Found s.tree f → MessageFits (told_message (record { xid = xid; reply = lease_reply term s.tree f }))
-    by (is_directory z there none e) = subst (λ (node : Result Node Status). MessageFits (told_message (record { xid = xid; reply = Versioned (lease_answer term node) }))) (sym e) (laws.plain xid (Versioned (Failed status.IsDir tt)) x tt)
-    by (is_gone none e) = subst (λ (node : Result Node Status). MessageFits (told_message (record { xid = xid; reply = Versioned (lease_answer term node) }))) (sym e) (laws.plain xid (Versioned (Failed status.Stale tt)) x tt)
+    by : Found s.tree f → ToldFits (record { xid = xid; reply = lease_reply term s.tree f })
+    by (is_directory z there none e) = subst (λ (node : Result Node Status). ToldFits (record { xid = xid; reply = Versioned (lease_answer term node) })) (sym e) (laws.plain xid (Versioned (Failed status.IsDir tt)) x tt)
+    by (is_gone none e) = subst (λ (node : Result Node Status). ToldFits (record { xid = xid; reply = Versioned (lease_answer term node) })) (sym e) (laws.plain xid (Versioned (Failed status.Stale tt)) x tt)
     by (is_file g at e) =
         let b = subst (FileIs book f) at (h.held f) in
         let v = (file_bounded s.tree f g h.bounded at).0 in
         let c = h.changes in
         let id = b.0 in
         let small = b.2 in
-        subst (λ (node : Result Node Status). MessageFits (told_message (record { xid = xid; reply = Versioned (lease_answer term node) }))) (sym e) (laws.leases xid term g x leased (omega (arith, id, small), omega (arith, v, c), b.5))
+        subst (λ (node : Result Node Status). ToldFits (record { xid = xid; reply = Versioned (lease_answer term node) })) (sym e) (laws.leases xid term g x leased (omega (arith, id, small), omega (arith, v, c), b.5))
 
 -- the call that waits where a GETLEASE does
 lease_waits : (st : Stage) (x : ℕ) → lease_xid st ≡ Some x → client.pending_in st ≡ client.lb_pending lb_proc.GetLease x
@@ -324,24 +325,24 @@ walk_told book k qs n now x q xid w us c kept was here talk e fits none noted se
 -- ---- a GETHASH
 
 abbrev pub hash_range : (f offset : ℕ) → HashRange
-hash_range f offset = record { handle = handle_bytes f; offset = offset; count = 4294967295 }
+hash_range f offset = record { lbfs = LBFS_SPOKEN; handle = handle_bytes f; offset = offset; count = 4294967295 }
 
 abbrev pub hash_reply : (term : ℕ) → Tree → (f offset : ℕ) → Reply
 hash_reply term t f offset = Hashed (hash_answer term (node_of t (handle_bytes f)) (hash_range f offset))
 
-pub hash_reply_fits : FitLaws → (book : Book) (s : server.State) (xid term f offset : ℕ) → IsServer book s → xid < 4294967296 → term < 4294967296 → f < 18446744073709551616 → MessageFits (told_message (record { xid = xid; reply = hash_reply term s.tree f offset }))
+pub hash_reply_fits : FitLaws → (book : Book) (s : server.State) (xid term f offset : ℕ) → IsServer book s → xid < 4294967296 → term < 4294967296 → f < 18446744073709551616 → ToldFits (record { xid = xid; reply = hash_reply term s.tree f offset })
 hash_reply_fits laws book s xid term f offset h x leased lt = by (looked s.tree f lt)
   where
-    by : Found s.tree f → MessageFits (told_message (record { xid = xid; reply = hash_reply term s.tree f offset }))
-    by (is_directory z there none e) = subst (λ (node : Result Node Status). MessageFits (told_message (record { xid = xid; reply = Hashed (hash_answer term node (hash_range f offset)) }))) (sym e) (laws.plain xid (Hashed (Failed status.IsDir tt)) x tt)
-    by (is_gone none e) = subst (λ (node : Result Node Status). MessageFits (told_message (record { xid = xid; reply = Hashed (hash_answer term node (hash_range f offset)) }))) (sym e) (laws.plain xid (Hashed (Failed status.Stale tt)) x tt)
+    by : Found s.tree f → ToldFits (record { xid = xid; reply = hash_reply term s.tree f offset })
+    by (is_directory z there none e) = subst (λ (node : Result Node Status). ToldFits (record { xid = xid; reply = Hashed (hash_answer term node (hash_range f offset)) })) (sym e) (laws.plain xid (Hashed (Failed status.IsDir tt)) x tt)
+    by (is_gone none e) = subst (λ (node : Result Node Status). ToldFits (record { xid = xid; reply = Hashed (hash_answer term node (hash_range f offset)) })) (sym e) (laws.plain xid (Hashed (Failed status.Stale tt)) x tt)
     by (is_file g at e) =
         let b = subst (FileIs book f) at (h.held f) in
         let v = (file_bounded s.tree f g h.bounded at).0 in
         let c = h.changes in
         let id = b.0 in
         let small = b.2 in
-        subst (λ (node : Result Node Status). MessageFits (told_message (record { xid = xid; reply = Hashed (hash_answer term node (hash_range f offset)) }))) (sym e) (laws.hashes xid term g (handle_bytes f) offset x leased (omega (arith, id, small), omega (arith, v, c), b.5))
+        subst (λ (node : Result Node Status). ToldFits (record { xid = xid; reply = Hashed (hash_answer term node (hash_range f offset)) })) (sym e) (laws.hashes xid term g (handle_bytes f) offset x leased (omega (arith, id, small), omega (arith, v, c), b.5))
 
 pub hash_told : FitLaws → (book : Book) (k : Core) (qs : List Queue) (n now : ℕ) (x : Session) (q : Queue) (xid term f offset : ℕ) (us : List Ask) (c : Seat) → IsKept book k qs → numbered k.seats x.owner ≡ Some c → c.session ≡ Some n → IsTalk book n k.server.waiting x q c → q.ups ≡ record { xid = xid; call = Hash f offset } ∷ us → CallFits xid (Hash f offset)
     → IsNoted book k (Serves n now (message_spell (ask_message (record { xid = xid; call = Hash f offset })))) → AnswerOf (onward book 1 book.ops) (with_taken x xid (book.steps + 1)) x.closing (job c) xid (hash_reply term k.server.tree f offset)
@@ -386,19 +387,19 @@ read_range f d = record { handle = handle_bytes f; offset = d.start; count = d.l
 abbrev pub read_reply : Tree → (f : ℕ) → Chunk → Reply
 read_reply t f d = Bytes (read_answer (node_of t (handle_bytes f)) (read_range f d))
 
-pub read_reply_fits : FitLaws → (book : Book) (s : server.State) (xid f : ℕ) (d : Chunk) → IsServer book s → xid < 4294967296 → f < 18446744073709551616 → MessageFits (told_message (record { xid = xid; reply = read_reply s.tree f d }))
+pub read_reply_fits : FitLaws → (book : Book) (s : server.State) (xid f : ℕ) (d : Chunk) → IsServer book s → xid < 4294967296 → f < 18446744073709551616 → ToldFits (record { xid = xid; reply = read_reply s.tree f d })
 read_reply_fits laws book s xid f d h x lt = by (looked s.tree f lt)
   where
-    by : Found s.tree f → MessageFits (told_message (record { xid = xid; reply = read_reply s.tree f d }))
-    by (is_directory z there none e) = subst (λ (node : Result Node Status). MessageFits (told_message (record { xid = xid; reply = Bytes (read_answer node (read_range f d)) }))) (sym e) (laws.plain xid (Bytes (Failed status.Inval None)) x tt)
-    by (is_gone none e) = subst (λ (node : Result Node Status). MessageFits (told_message (record { xid = xid; reply = Bytes (read_answer node (read_range f d)) }))) (sym e) (laws.plain xid (Bytes (Failed status.Stale None)) x tt)
+    by : Found s.tree f → ToldFits (record { xid = xid; reply = read_reply s.tree f d })
+    by (is_directory z there none e) = subst (λ (node : Result Node Status). ToldFits (record { xid = xid; reply = Bytes (read_answer node (read_range f d)) })) (sym e) (laws.plain xid (Bytes (Failed status.Inval None)) x tt)
+    by (is_gone none e) = subst (λ (node : Result Node Status). ToldFits (record { xid = xid; reply = Bytes (read_answer node (read_range f d)) })) (sym e) (laws.plain xid (Bytes (Failed status.Stale None)) x tt)
     by (is_file g at e) =
         let b = subst (FileIs book f) at (h.held f) in
         let v = (file_bounded s.tree f g h.bounded at).0 in
         let c = h.changes in
         let id = b.0 in
         let small = b.2 in
-        subst (λ (node : Result Node Status). MessageFits (told_message (record { xid = xid; reply = Bytes (read_answer node (read_range f d)) }))) (sym e) (laws.reads xid g (handle_bytes f) d.start d.len x (omega (arith, id, small), omega (arith, v, c), b.5))
+        subst (λ (node : Result Node Status). ToldFits (record { xid = xid; reply = Bytes (read_answer node (read_range f d)) })) (sym e) (laws.reads xid g (handle_bytes f) d.start d.len x (omega (arith, id, small), omega (arith, v, c), b.5))
 
 pub read_told : (book : Book) (k : Core) (qs : List Queue) (n now : ℕ) (x : Session) (q : Queue) (xid f : ℕ) (d : Chunk) (us : List Ask) (c : Seat) → IsKept book k qs → numbered k.seats x.owner ≡ Some c → IsTalk book n k.server.waiting x q c → q.ups ≡ record { xid = xid; call = Read f d } ∷ us → f < 18446744073709551616 → IsNoted book k (Serves n now (message_spell (ask_message (record { xid = xid; call = Read f d }))))
     → AnswerOf (onward book 1 book.ops) (with_taken x xid (book.steps + 1)) x.closing (job c) xid (read_reply k.server.tree f d)

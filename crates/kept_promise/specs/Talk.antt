@@ -31,6 +31,7 @@ use Rattle.file_open.specs.Opening.{lease_call, hash_call, read_call}
 use Rattle.file_close.specs.Closing.{make_call, cond_call, commit_call}
 use Rattle.lease_law.specs.Claims.{recall_message}
 use Rattle.trace_ends.specs.Wires.{Wire, bytes_of}
+use Rattle.wire.specs.declared.message.TheConstants.{LBFS_SPOKEN}
 
 -- ---- calls and answers
 
@@ -91,7 +92,7 @@ call_message xid (Hash file offset) = hash_call xid file offset
 call_message xid (Read file c) = read_call xid file c
 call_message xid (Make temp file) = make_call xid temp file
 call_message xid (Name temp c) = cond_call xid temp c
-call_message xid (Send temp start bytes) = message.Call xid (body.Lb (lb.TmpWrite (record { fd = temp; offset = start; bytes = bytes })))
+call_message xid (Send temp start bytes) = message.Call xid (body.Lb (lb.TmpWrite (record { lbfs = LBFS_SPOKEN; fd = temp; offset = start; bytes = bytes })))
 call_message xid (Commit temp file size) = commit_call xid temp file size
 call_message xid (Walks w) = message.Call xid (body.Nfs (next_call w))
 
