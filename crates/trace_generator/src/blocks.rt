@@ -5,7 +5,7 @@ ghost use Rattle.trace_generator.specs.Lines.{do_front, do_line, on_file, write_
 ghost use Rattle.trace_generator.specs.declared.TheConstants.{BLOCKS_MOST};
 
 use crate::BLOCKS_MOST;
-use block_choice::{choice, client_of, file_of, offset_of};
+use crate::choosing::{choice, client_of, file_of, offset_of};
 use std::alloc::AllocError;
 use std::fmt::Write;
 

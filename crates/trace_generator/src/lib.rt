@@ -3,6 +3,7 @@
 #![tactic(auto)]
 
 pub mod blocks;
+mod choosing;
 pub mod text;
 
 /// The most blocks that a trace is made of.

@@ -6,6 +6,7 @@ pub mod answer;
 pub mod attr;
 pub mod digest;
 pub mod fault;
+mod filling;
 pub mod handle;
 pub mod item;
 pub mod laws;

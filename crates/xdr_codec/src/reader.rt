@@ -10,10 +10,10 @@ ghost use Rattle.xdr_codec.specs.Format.{Input, Gives, GivesAll, ended};
 ghost use Rattle.xdr_codec.specs.Xdr.{u32_form, u64_form, bool_form, bytes_form, fixed_form, opaque_form, count_form};
 
 use crate::fault::{Fault, ReadError};
+use crate::filling::{is_at_end, is_fill};
 use lb_base::items::Bytes;
 use std::alloc::Global;
 use std::marker::Model;
-use xdr_rules::{is_at_end, is_fill};
 
 /// The maximum of byte strings and lists that are declared without one (RFC 4506, sections 4.10 and
 /// 4.13), in bytes or in items.

@@ -1,6 +1,5 @@
 //! What the seed of a generated trace says of a block: which client opens which file, and where it
-//! writes. It stands apart from the text of a trace, so that a wrong choice is tried in seconds.
-#![tactic(auto)]
+//! writes.
 
 ghost use Rattle.std.specs.Prelude.{◌≡◌, ◌+◌, ◌*◌, ◌/◌, ◌%◌, ◌^◌, ◌<◌};
 

@@ -1,5 +1,5 @@
 use Rattle.std.proofs.Common.{rules}
-use Rattle.block_choice.proofs.client_of.Goals as goal
+use Rattle.xdr_codec.proofs.filling.is_at_end.Goals as goal
 
 pub returns : goal.returns
 returns c = search rules

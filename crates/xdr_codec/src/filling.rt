@@ -1,9 +1,7 @@
 //! Two rules by which XDR leaves no byte of a record without a meaning (RFC 4506): the bytes that
 //! fill an item up to a multiple of four are zeros, and nothing stands behind what fills a record.
 //! `bytes_read` of `xdr_codec/specs/Xdr.antt` and `ended` of its `Format.antt` state where each of
-//! them holds. They stand in a crate of their own because its check is short, and a wrong one of
-//! either is tried each time.
-#![tactic(auto)]
+//! them holds.
 
 ghost use Rattle.std.specs.Prelude.{◌≡◌, ◌==◌, length};
 ghost use Rattle.std.specs.List.{list_all};

@@ -1,7 +1,7 @@
 use Rattle.std.proofs.Common.{◌≡◌, ℕ, drop}
 use Rattle.std.specs.Prelude.{◌==◌}
 use Rattle.std.specs.List.{list_all}
-use Rattle.xdr_rules.proofs.is_fill.Given as goal
+use Rattle.xdr_codec.proofs.filling.is_fill.Given as goal
 
 -- those that are left decide
 abbrev pub invariant-loop-byte : goal.invariant-loop-byte

@@ -1,5 +1,5 @@
 use Rattle.std.proofs.Common.{rules}
-use Rattle.xdr_rules.proofs.is_at_end.Goals as goal
+use Rattle.trace_generator.proofs.choosing.client_of.Goals as goal
 
 pub returns : goal.returns
 returns c = search rules
