@@ -1,6 +1,6 @@
 //! The commands on an open file that need no message. `specs/Step.antt` says what each is told.
 
-ghost use Rattle.std.specs.Prelude.{◌≡◌, ◌<◌, ◌≤◌, length, IfOk, IfSome, OnErr, false};
+ghost use Rattle.std.specs.Prelude.{◌≡◌, ◌<◌, ◌≤◌, length, IfOk, OnErr, false};
 ghost use Rattle.client_state.specs.View.{state_of, IsSound};
 ghost use Rattle.limits.specs.declared.TheConstants.{FILE_MOST};
 ghost use Rattle.client_state.specs.State.{local_at};
@@ -15,40 +15,47 @@ use client_state::state::ClientState;
 use client_state::step::{ClientStep, Outcome};
 use client_state::task::Local;
 use command_text::content::{self, Content, Part};
+use lb_base::items::Bytes;
 use sha1::Sha1;
 use shared_bytes::SharedBytes;
 use std::alloc::{AllocError, Global};
+use std::mem;
 
-/// The bytes of a content that is one part of bytes, as that of a put is; they aren't copied.
-fn as_bytes(content: &Content) -> Option<&[u8]>
-    ensures { IfSome result (λ b. b.now ≡ content_bytes content.now) }
+/// The bytes of a content. Those of one that is one part of bytes, as that of a put is, aren't copied.
+fn bytes_of(alloc: Global, content: Content) -> Result<Bytes, AllocError>
+    ensures { IfOk result (λ b. b ≡ content_bytes content) }
 {
-    match content.as_slice() {
-        [Part::Bytes(bytes)] => Some(bytes.as_slice()),
-        _ => None,
+    let mut content = content;
+    if content.len() != 1 {
+        return content::build(alloc, &content);
     }
+    let mut part = content.remove(0);
+    if let Part::Bytes(bytes) = &mut part {
+        return Ok(mem::replace(bytes, Bytes::new(alloc)));
+    }
+    content.push(part)?;
+    content::build(alloc, &content)
 }
 
-/// An open file's content with some bytes written at a place, within the limit of a file.
-#[tactic(auto, using(command_text::proofs::Contents::content_size))]
+/// An open file's content with some bytes written at a place, within the limit of a file. Bytes that replace
+/// all of it aren't copied either.
+#[tactic(auto, using(command_text::proofs::Contents::content_size, crate::proofs::Writes::written_whole))]
 fn written(
     alloc: Global,
     local: &Local,
     offset: u64,
-    content: &Content,
+    content: Content,
 ) -> Result<SharedBytes, AllocError>
-    requires some { 0 < content_length content.now }
-    requires small { written_size (length local.now.bytes) offset (content_length content.now) ≤ FILE_MOST }
-    ensures written { IfOk result (λ b. b ≡ written local.now.bytes offset (content_bytes content.now)) }
+    requires some { 0 < content_length content }
+    requires small { written_size (length local.now.bytes) offset (content_length content) ≤ FILE_MOST }
+    ensures written { IfOk result (λ b. b ≡ written local.now.bytes offset (content_bytes content)) }
     ensures small { IfOk result (λ b. length b ≤ FILE_MOST) }
 {
-    match as_bytes(content) {
-        Some(more) => local::written(alloc, local.bytes.as_slice(), offset, more),
-        None => {
-            let more = content::build(alloc, content)?;
-            local::written(alloc, local.bytes.as_slice(), offset, more.as_slice())
-        }
+    let more = bytes_of(alloc, content)?;
+    if offset == 0 && local.bytes.len() <= more.len() {
+        return Ok(SharedBytes::new(alloc, more)?);
     }
+    local::written(alloc, local.bytes.as_slice(), offset, more.as_slice())
 }
 
 /// The file is open with this content, and the command is done. An `Err` changes nothing.
@@ -77,13 +84,13 @@ pub fn write(
     state: &mut ClientState,
     file: u64,
     offset: u64,
-    content: &Content,
+    content: Content,
 ) -> Result<ClientStep, AllocError>
     requires { IsSound state.old }
-    ensures ok { IfOk result (λ a. on_local (state_of state.old) state.old.task (local_at state.old.opened.entries file) (writes (state_of state.old) file offset content.now) ≡ (state_of state.new, a)) }
+    ensures ok { IfOk result (λ a. on_local (state_of state.old) state.old.task (local_at state.old.opened.entries file) (writes (state_of state.old) file offset content) ≡ (state_of state.new, a)) }
     ensures done { IfOk result (λ a. a.missed ≡ false) }
     ensures err { OnErr result (state_of state.new ≡ state_of state.old) }
-    ensures sure { OnErr result (MayMissOn state.old.task (local_at state.old.opened.entries file) (WriteTakes offset content.now)) }
+    ensures sure { OnErr result (MayMissOn state.old.task (local_at state.old.opened.entries file) (WriteTakes offset content)) }
     ensures sound { IsSound state.new }
 {
     if state.task.is_some() {
@@ -92,7 +99,7 @@ pub fn write(
     let Some(local) = parts::find_local(&state.opened, file) else {
         return Ok(parts::ends(alloc, Outcome::NotOpen, 0, 0));
     };
-    let count = content::length(content).ok_or(AllocError)?;
+    let count = content::length(&content).ok_or(AllocError)?;
     if count == 0 {
         return Ok(parts::ends(alloc, Outcome::Done, 0, 0));
     }

@@ -41,11 +41,7 @@ pub fn command(
             file,
             offset,
             content,
-        } => {
-            let done = commands::write(alloc, state, file, offset, &content);
-            drop(content);
-            done
-        }
+        } => commands::write(alloc, state, file, offset, content),
         Command::Trunc { file, size } => commands::trunc(alloc, state, file, size),
         Command::Read {
             file,
