@@ -7,6 +7,7 @@ ghost use Rattle.client_cache.specs.Cache.{kept_of, content_of, fresh_of, bytes_
 
 use crate::kept::{Content, Kept, Note};
 use chunk_index::place::Place;
+use cut_bytes::CutBytes;
 use lru::LruCache;
 use shared_bytes::SharedBytes;
 use std::alloc::{AllocError, Global};
@@ -73,7 +74,7 @@ fn give_entry(entries: &mut Keyed, file: u64) -> Result<(), AllocError>
 }
 
 /// Puts a content into a file's entry, which goes first.
-fn set_content(entries: &mut Keyed, file: u64, version: u64, bytes: SharedBytes)
+fn set_content(entries: &mut Keyed, file: u64, version: u64, bytes: CutBytes)
     requires there { IsSome (kept_of entries.old.entries file) }
     requires within { length entries.old.entries ≤ files_most }
     ensures { entries.new ≡ lru_cache (with_content entries.old.entries file version bytes) entries.old.cap }
@@ -102,7 +103,7 @@ fn drop_content(entries: &mut Keyed, file: u64)
 }
 
 /// The content at a place among those that are kept, with its file.
-fn content_at(entries: &Keyed, place: usize) -> Option<(u64, &SharedBytes)>
+fn content_at(entries: &Keyed, place: usize) -> Option<(u64, &CutBytes)>
     ensures { shown result ≡ slice_get (contents_in entries.now.entries) place }
 {
     let mut left = place;
@@ -145,7 +146,7 @@ impl Cache {
 
     /// The content that is kept of a file, with its version. Whoever is to have it for longer takes a
     /// further owner of it. It takes no memory.
-    pub fn content(&self, file: u64) -> Option<(u64, &SharedBytes)>
+    pub fn content(&self, file: u64) -> Option<(u64, &CutBytes)>
         ensures { lent result ≡ content_of self.now file }
     {
         let content = self.entries.peek(&file)?.content.as_ref()?;
@@ -179,7 +180,7 @@ impl Cache {
 
     /// The content that stands at this place among those that are kept, the most recent first, with its
     /// file; none exactly past the last. It takes no memory, and changes no order.
-    pub fn at(&self, place: usize) -> Option<(u64, &SharedBytes)>
+    pub fn at(&self, place: usize) -> Option<(u64, &CutBytes)>
         ensures shown { shown result ≡ slice_get (contents_in self.now) place }
         ensures most { length (contents_in self.now) ≤ files_most }
     {
@@ -214,6 +215,15 @@ impl Cache {
     /// Keeps the content of a file in a version, in place of the one that was kept, and brings its
     /// entry to the front. It takes no memory: the file has an entry.
     pub fn keep(&mut self, file: u64, version: u64, bytes: SharedBytes)
+        requires { IsSome (kept_of self.old file) }
+        ensures kept { self.new ≡ with_content self.old file version bytes }
+        ensures there { IsSome (kept_of self.new file) }
+    {
+        self.keep_cut(file, version, CutBytes::whole(bytes));
+    }
+
+    /// As `keep`, of a content whose chunks may have been found ahead, which stay with it.
+    pub fn keep_cut(&mut self, file: u64, version: u64, bytes: CutBytes)
         requires { IsSome (kept_of self.old file) }
         ensures kept { self.new ≡ with_content self.old file version bytes }
         ensures there { IsSome (kept_of self.new file) }

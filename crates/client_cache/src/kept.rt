@@ -1,6 +1,6 @@
 //! What is kept of a file. `specs/Cache.antt` states of how many, and what goes first.
 
-use shared_bytes::SharedBytes;
+use cut_bytes::CutBytes;
 
 /// A content, as a file had it in a version.
 #[derive(Drop)]
@@ -8,7 +8,7 @@ pub struct Content {
     /// The version.
     pub version: u64,
     /// The bytes.
-    pub bytes: SharedBytes,
+    pub bytes: CutBytes,
 }
 
 /// The note of a lease.

@@ -1,0 +1,146 @@
+//! Bytes with several owners, and what was found of them ahead: their chunks, and their digest. Whoever
+//! holds a lock while a content is stored so neither cuts nor hashes it there.
+//!
+//! Contracts see the list of the bytes alone, so nothing that is told depends on what was found ahead.
+#![tactic(auto)]
+
+ghost use Rattle.std.specs.Prelude.{◌≡◌, [], length, IfOk};
+ghost use Rattle.sha1.specs.Sha1.{sha1};
+ghost use Rattle.chunk_cut.specs.Chunks.{chunks_of};
+
+use chunk_cut::chunk::Chunk;
+use lb_base::items::Items;
+use shared_bytes::SharedBytes;
+use std::alloc::{AllocError, Global};
+use std::marker::Model;
+
+/// What is found of a content.
+struct Cut {
+    chunks: Items<Chunk>,
+    digest: [u8; 20],
+}
+
+// By hand: docs/PROVING.md, "Values that are let go".
+impl Drop for Cut {
+    fn drop(self) {
+        let Cut {
+            chunks,
+            digest: _digest,
+        } = self;
+        drop(chunks);
+    }
+}
+
+/// One owner of some bytes, with their chunks and their digest where these were found ahead. Contracts see
+/// the list of the bytes.
+pub struct CutBytes {
+    bytes: SharedBytes,
+    cut: Option<Cut>,
+}
+
+/// By hand, so that the crates above prove nothing of how the parts go.
+impl Drop for CutBytes {
+    fn drop(self) {
+        let CutBytes { bytes, cut } = self;
+        drop(bytes);
+        drop(cut);
+    }
+}
+
+impl Model for CutBytes {
+    ghost use Rattle.std.specs.Prelude.{List, ℕ, ◌≡◌, IfSome};
+    ghost use Rattle.sha1.specs.Sha1.{sha1};
+    ghost use Rattle.chunk_cut.specs.Chunks.{chunks_of};
+
+    ghost Value = { List ℕ };
+
+    ghost view = { λ c. c.bytes };
+
+    ghost invariant = { λ c. IfSome c.cut (λ k. (k.chunks ≡ chunks_of c.bytes) × (k.digest ≡ sha1 c.bytes)) };
+}
+
+impl CutBytes {
+    /// No byte. It takes no memory.
+    pub fn empty() -> CutBytes
+        ensures { result ≡ [] }
+    {
+        CutBytes::whole(SharedBytes::empty())
+    }
+
+    /// Bytes of which nothing was found. It takes no memory.
+    pub fn whole(bytes: SharedBytes) -> CutBytes
+        ensures { result ≡ bytes }
+    {
+        CutBytes { bytes, cut: None }
+    }
+
+    /// Bytes that are cut and hashed now, and so not again. The one error is want of memory.
+    pub fn cut(alloc: Global, bytes: SharedBytes) -> Result<CutBytes, AllocError>
+        ensures { IfOk result (λ cut. cut ≡ bytes) }
+    {
+        let chunks = chunk_cut::cut(alloc, bytes.as_slice())?;
+        let digest = chunk_cut::digest(bytes.as_slice());
+        let cut = Some(Cut { chunks, digest });
+        Ok(CutBytes { bytes, cut })
+    }
+
+    /// These bytes, with what was found of others ahead where those are the same.
+    #[tactic(auto, using(crate::proofs::Same::same))]
+    pub fn with(self, found: CutBytes) -> CutBytes
+        ensures { result ≡ self }
+    {
+        if found.as_slice() == self.as_slice() {
+            return found;
+        }
+        self
+    }
+
+    /// An owner of the bytes alone, of which others can be made.
+    pub fn shared(&self) -> &SharedBytes
+        ensures { result.now ≡ self.now }
+    {
+        &self.bytes
+    }
+
+    /// One more owner of the bytes alone. It copies none and takes no memory; the one error is that of
+    /// `SharedBytes`.
+    pub fn share(&self) -> Result<SharedBytes, AllocError>
+        ensures { IfOk result (λ shared. shared ≡ self.now) }
+    {
+        self.bytes.share()
+    }
+
+    /// The bytes as a slice.
+    pub fn as_slice(&self) -> &[u8]
+        ensures { result.now ≡ self.now }
+    {
+        self.bytes.as_slice()
+    }
+
+    /// The number of bytes.
+    pub fn len(&self) -> usize
+        ensures { result ≡ length self.now }
+    {
+        self.bytes.len()
+    }
+
+    /// A copy of the chunks, which are found now where they weren't ahead. The one error is want of memory.
+    pub fn chunks(&self, alloc: Global) -> Result<Items<Chunk>, AllocError>
+        ensures { IfOk result (λ chunks. chunks ≡ chunks_of self.now) }
+    {
+        match &self.cut {
+            Some(cut) => cut.chunks.try_clone(alloc),
+            None => chunk_cut::cut(alloc, self.bytes.as_slice()),
+        }
+    }
+
+    /// The digest of all bytes, which is found now where it wasn't ahead.
+    pub fn digest(&self) -> [u8; 20]
+        ensures { result ≡ sha1 self.now }
+    {
+        match &self.cut {
+            Some(cut) => cut.digest,
+            None => chunk_cut::digest(self.bytes.as_slice()),
+        }
+    }
+}
