@@ -13,6 +13,7 @@ use crate::state::ClientState;
 use chunk_cut::chunk::Chunk;
 use chunk_index::index::Index;
 use client_cache::cache::Cache;
+use cut_bytes::CutBytes;
 use digests::Dig;
 use lb_base::items::{Bytes, Items};
 use limits::FILE_MOST;
@@ -27,11 +28,16 @@ const OFFERED_FILE: u64 = u64::MAX;
 
 /// Puts the places of a content's chunks into the index; says whether some were left out, for want of
 /// memory. An `Err`, which is want of memory too, changes nothing.
-fn enter(alloc: Global, index: &mut Index, file: u64, content: &[u8]) -> Result<bool, AllocError>
+fn enter(
+    alloc: Global,
+    index: &mut Index,
+    file: u64,
+    content: &CutBytes,
+) -> Result<bool, AllocError>
     ensures ok { IfOk result (λ left_out. Enters index.old file (chunks_of content.now) left_out index.new) }
     ensures err { OnErr result (index.new ≡ index.old) }
 {
-    let chunks = chunk_cut::cut(alloc, content)?;
+    let chunks = content.chunks(alloc)?;
     Ok(chunk_places::enter(index, file, chunks.as_slice()))
 }
 
@@ -83,7 +89,7 @@ impl ClientState {
     {
         match self.cache.content(file) {
             None => Ok(false),
-            Some((_version, bytes)) => enter(alloc, &mut self.index, file, bytes.as_slice()),
+            Some((_version, bytes)) => enter(alloc, &mut self.index, file, bytes),
         }
     }
 

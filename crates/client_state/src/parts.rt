@@ -13,8 +13,8 @@ ghost use Rattle.client_state.specs.Ending.{is_open, refusal_code};
 
 use crate::step::{ClientStep, Ended, Outcome};
 use crate::task::Local;
+use cut_bytes::CutBytes;
 use send_list::SendList;
-use shared_bytes::SharedBytes;
 use std::alloc::Global;
 use std::collections::BTreeMap;
 use transfer_rules::counts::{Counts, no_counts};
@@ -97,12 +97,12 @@ pub fn local_bytes(opened: &BTreeMap<u64, Local>, file: u64) -> &[u8]
 }
 
 /// The content of a file that was open; nothing where it wasn't. It takes no memory.
-pub fn bytes_of(local: Option<Local>) -> SharedBytes
+pub fn bytes_of(local: Option<Local>) -> CutBytes
     ensures { result ≡ unwrap_or (option_map (λ l. l.bytes) local) [] }
 {
     match local {
         Some(local) => local.bytes,
-        None => SharedBytes::empty(),
+        None => CutBytes::empty(),
     }
 }
 

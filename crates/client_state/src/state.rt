@@ -15,6 +15,7 @@ use crate::{parts, waiting};
 use chunk_index::index::{Index, Key};
 use chunk_index::place::Place;
 use client_cache::cache::Cache;
+use cut_bytes::CutBytes;
 use lb_base::items::Items;
 use path_calls::walk::{Goal, Walk};
 use send_list::SendList;
@@ -312,8 +313,25 @@ impl ClientState {
     }
 
     /// The file is open with this content, whatever it was before. An `Err` changes nothing.
-    #[tactic(auto, using(crate::proofs::Bounds::locals_with))]
     pub fn put(&mut self, file: u64, version: u64, bytes: SharedBytes) -> Result<(), AllocError>
+        requires base { IsBase self.old }
+        requires small { length bytes ≤ FILE_MOST }
+        ensures ok { OnOk result (state_of self.new ≡ record (state_of self.old) { opened = with_local self.old.opened.entries file (record { version = version; bytes = bytes }) }) }
+        ensures err { OnErr result (state_of self.new ≡ state_of self.old) }
+        ensures task { self.new.task ≡ self.old.task }
+        ensures waiting { self.new.waiting ≡ self.old.waiting }
+        ensures own { self.new.own ≡ self.old.own }
+        ensures next_xid { self.new.next_xid ≡ self.old.next_xid }
+        ensures cache { self.new.cache ≡ self.old.cache }
+        ensures index { self.new.index ≡ self.old.index }
+        ensures base { IsBase self.new }
+    {
+        self.put_cut(file, version, CutBytes::whole(bytes))
+    }
+
+    /// As `put`, of a content whose chunks may have been found ahead, which stay with it.
+    #[tactic(auto, using(crate::proofs::Bounds::locals_with))]
+    pub fn put_cut(&mut self, file: u64, version: u64, bytes: CutBytes) -> Result<(), AllocError>
         requires base { IsBase self.old }
         requires small { length bytes ≤ FILE_MOST }
         ensures ok { OnOk result (state_of self.new ≡ record (state_of self.old) { opened = with_local self.old.opened.entries file (record { version = version; bytes = bytes }) }) }
@@ -334,7 +352,7 @@ impl ClientState {
     /// The file is no longer open, and this was its local content; nothing where it wasn't open. It
     /// takes no memory.
     #[tactic(auto, using(crate::proofs::Bounds::locals_without, crate::proofs::Locals::remove_is_without))]
-    pub fn take_local(&mut self, file: u64) -> SharedBytes
+    pub fn take_local(&mut self, file: u64) -> CutBytes
         requires { IsBase self.old }
         ensures bytes { result ≡ local_bytes self.old.opened.entries file }
         ensures rest { state_of self.new ≡ record (state_of self.old) { opened = without_local self.old.opened.entries file } }

@@ -1,9 +1,9 @@
 //! What a client has under way. `specs/State.antt` says which calls wait in each stage.
 
 use chunk_cut::chunk::Chunk;
+use cut_bytes::CutBytes;
 use lb_base::items::{Bytes, Items};
 use path_calls::walk::Walk;
-use shared_bytes::SharedBytes;
 
 /// What a client has of an open file. It stands under the file's id.
 #[derive(Drop)]
@@ -11,8 +11,8 @@ pub struct Local {
     /// The version that its content was fetched in; of a file that is written anew the one that the server
     /// told as that began.
     pub version: u64,
-    /// Its local content.
-    pub bytes: SharedBytes,
+    /// Its local content, with its chunks where they were found ahead of its close.
+    pub bytes: CutBytes,
 }
 
 /// A READ that waits for its answer.

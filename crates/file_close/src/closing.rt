@@ -2,7 +2,9 @@
 //! is then committed. `specs/Closing.antt` and `specs/Storing.antt` say how.
 
 ghost use Rattle.std.specs.Prelude.{◌≡◌, ◌+◌, ◌<◌, ◌≤◌, length, None, Some, slice_get, IfOk, OnOk, OnErr, false, true};
-ghost use Rattle.client_state.specs.View.{state_of, whole_of, IsHeld, IsSound, IsThere, HasXids, calls_after, store_left, IsStore};
+ghost use Rattle.std.specs.List.{All};
+ghost use Rattle.std.specs.Map.{values_of};
+ghost use Rattle.client_state.specs.View.{state_of, whole_of, IsHeld, IsSound, IsThere, HasXids, IsLocalBounded, calls_after, store_left, IsStore};
 ghost use Rattle.client_cache.specs.Cache.{reserved, without_note};
 ghost use Rattle.file_close.specs.Closing.{store_of};
 ghost use Rattle.client_state.specs.State.{local_at, local_bytes};
@@ -17,10 +19,12 @@ use chunk_cut::chunk::Chunk;
 use client_state::parts;
 use client_state::state::ClientState;
 use client_state::step::{ClientStep, Outcome};
-use client_state::task::{Stage, Store, StoreCall, Way};
+use client_state::task::{Local, Stage, Store, StoreCall, Way};
+use cut_bytes::CutBytes;
 use hash_calls::message::Lb;
 use send_list::SendList;
 use std::alloc::{AllocError, Global};
+use std::collections::BTreeMap;
 use transfer_rules::answers;
 use transfer_rules::chunks::chunk_at;
 use wire::message::Body;
@@ -175,6 +179,23 @@ fn go_on(
     }
 }
 
+/// The temporary file of this number is there, and no chunk of a file's local content in it.
+fn store_local(
+    alloc: Global,
+    opened: &BTreeMap<u64, Local>,
+    file: u64,
+    temp: u32,
+) -> Result<Store, AllocError>
+    requires { All IsLocalBounded (values_of opened.now.entries) }
+    ensures store { IfOk result (λ st. st ≡ store_of temp (local_bytes opened.now.entries file)) }
+    ensures within { IfOk result (λ st. IsStore st) }
+{
+    match parts::find_local(opened, file) {
+        Some(local) => stores::store_of(alloc, temp, &local.bytes),
+        None => stores::store_of(alloc, temp, &CutBytes::empty()),
+    }
+}
+
 /// The temporary file is there: the chunks of the content go into it. An `Err` changes nothing.
 pub fn store(
     alloc: Global,
@@ -190,8 +211,7 @@ pub fn store(
     ensures sound { OnOk result (IsSound state.new) }
     ensures held { OnErr result (IsHeld state.new) }
 {
-    let content = parts::local_bytes(&state.opened, file);
-    let store = stores::store_of(alloc, temp, content)?;
+    let store = store_local(alloc, &state.opened, file, temp)?;
     go_on(alloc, state, file, store)
 }
 
@@ -308,8 +328,8 @@ pub fn closed(
     ensures sound { IsSound state.new }
 {
     let content = state.take_local(file);
-    let step = stores::closed(alloc, file, version, content.as_slice(), xid);
-    state.cache.keep(file, version, content);
+    let step = stores::closed(alloc, file, version, &content, xid);
+    state.cache.keep_cut(file, version, content);
     state.forget(alloc, xid);
     step
 }

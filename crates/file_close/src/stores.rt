@@ -14,8 +14,8 @@ use chunk_cut::chunk::Chunk;
 use client_state::step::{ClientStep, Outcome};
 use client_state::task::{Store, StoreCall, Way};
 use client_state::{local, parts};
+use cut_bytes::CutBytes;
 use lb_base::items::Items;
-use sha1::Sha1;
 use std::alloc::{AllocError, Global};
 use transfer_rules::counts::{Counts, no_counts};
 
@@ -47,14 +47,15 @@ pub fn bytes_count(content: &[u8], chunk: &Chunk) -> u64
     local::part_of(content, chunk.start, chunk.len).len() as u64
 }
 
-/// The temporary file of this number is there, and no chunk of the content in it.
-pub fn store_of(alloc: Global, temp: u32, content: &[u8]) -> Result<Store, AllocError>
+/// The temporary file of this number is there, and no chunk of the content in it. The content is cut where
+/// that wasn't done ahead.
+pub fn store_of(alloc: Global, temp: u32, content: &CutBytes) -> Result<Store, AllocError>
     requires { length content.now ≤ FILE_MOST }
     ensures store { IfOk result (λ st. st ≡ store_of temp content.now) }
     ensures within { IfOk result (λ st. IsStore st) }
 {
     chunk_cut::ends_law();
-    let chunks = chunk_cut::cut(alloc, content)?;
+    let chunks = content.chunks(alloc)?;
     Ok(Store {
         temp,
         chunks,
@@ -83,14 +84,14 @@ pub fn with_whole(mut store: Store, call: StoreCall, xid: u32) -> Result<Store, 
 
 /// A close ends: the file has this content in this version, by the call with this xid. It takes no
 /// memory.
-pub fn closed(alloc: Global, file: u64, version: u64, content: &[u8], xid: u32) -> ClientStep
+pub fn closed(alloc: Global, file: u64, version: u64, content: &CutBytes, xid: u32) -> ClientStep
     ensures { result ≡ ends (outcome.Closed file version (length content.now) (sha1 content.now)) xid 0 }
 {
     let outcome = Outcome::Closed {
         file,
         version,
         len: content.len() as u64,
-        sha1: Sha1::digest(content),
+        sha1: content.digest(),
     };
     parts::ends(alloc, outcome, xid, 0)
 }

@@ -12,6 +12,7 @@ use chunk_index::place::Place;
 use chunk_places::known;
 use client_cache::cache::Cache;
 use client_state::task::Fetch;
+use cut_bytes::CutBytes;
 use lb_base::items::Bytes;
 use shared_bytes::SharedBytes;
 use std::alloc::{AllocError, Global};
@@ -39,7 +40,7 @@ fn is_fresh(cache: &Cache, file: u64, now: u64) -> bool
 
 /// The content that is kept of a file, with its version, where it is fresh: nobody needs to be asked. What is
 /// no file's has the version 0, and isn't lent, whatever a server told. It takes no memory.
-pub fn fresh(cache: &Cache, file: u64, now: u64) -> Option<(u64, &SharedBytes)>
+pub fn fresh(cache: &Cache, file: u64, now: u64) -> Option<(u64, &CutBytes)>
     ensures { lent result ≡ fresh_content cache.now file now }
 {
     let is_fresh = is_fresh(cache, file, now);

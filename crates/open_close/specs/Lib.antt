@@ -1,5 +1,6 @@
 pub mod Walking
 pub mod Step
+pub mod Putting
 pub mod Hashed
 pub mod LeaseRows
 pub mod Rows

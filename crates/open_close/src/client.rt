@@ -9,6 +9,7 @@ ghost use Rattle.client_state.specs.Noting.{at};
 ghost use Rattle.client_state.specs.State.{start_with, evicted, forged, index_cleared, waiting_of, local_at};
 ghost use Rattle.client_state.specs.Counting.{misses, by_memory};
 ghost use Rattle.file_open.specs.Caching.{fresh_content};
+ghost use Rattle.open_close.specs.Putting.{put_of};
 ghost use Rattle.open_close.specs.Step.{command_step, got_step, Misses, MayMissCommand};
 ghost use Rattle.client_state.specs.Ending.{cut, joined};
 
@@ -20,6 +21,7 @@ use client_state::parts;
 use client_state::state::ClientState;
 use client_state::step::{ClientStep, Ended, Outcome};
 use command_text::command::Command;
+use cut_bytes::CutBytes;
 use file_open::caching;
 use lb_base::items::{Bytes, Items};
 use send_list::SendList;
@@ -114,6 +116,25 @@ impl Client {
         let before = self.state.clock;
         self.state.set_clock(now);
         match taking::command(alloc, &mut self.state, command) {
+            Ok(step) => step,
+            Err(_) => {
+                self.state.set_clock(before);
+                missed(alloc)
+            }
+        }
+    }
+
+    /// As `command`, of a write from the first byte on: of a content whose chunks and digest may have been found
+    /// ahead. A close then neither cuts nor hashes it, where it replaced all of the file's.
+    pub fn put(&mut self, alloc: Global, file: u64, content: CutBytes, now: u64) -> ClientStep
+        ensures exact { result.missed ≡ false → command_step self.old (put_of file content) now ≡ (self.new, result) }
+        ensures missed { result.missed ≡ true → self.new ≡ self.old }
+        ensures silent { result.missed ≡ true → result ≡ misses (Some by_memory) }
+        ensures sure { result.missed ≡ true → MayMissCommand (at self.old now) (put_of file content) }
+    {
+        let before = self.state.clock;
+        self.state.set_clock(now);
+        match taking::put(alloc, &mut self.state, file, content) {
             Ok(step) => step,
             Err(_) => {
                 self.state.set_clock(before);
@@ -267,7 +288,7 @@ impl Client {
         ensures { option_copied result ≡ option_map (λ l. l.bytes) (local_at self.now.opened file) }
     {
         match parts::find_local(&self.state.opened, file) {
-            Some(local) => Some(&local.bytes),
+            Some(local) => Some(local.bytes.shared()),
             None => None,
         }
     }

@@ -5,6 +5,7 @@ ghost use Rattle.client_state.specs.View.{state_of, IsSound};
 ghost use Rattle.limits.specs.declared.TheConstants.{FILE_MOST};
 ghost use Rattle.client_state.specs.State.{local_at};
 ghost use Rattle.client_state.specs.Ending.{on_local, MayMissOn};
+ghost use Rattle.open_close.specs.Putting.{puts, PutTakes};
 ghost use Rattle.open_close.specs.Step.{writes, truncates, reads, abandons, done_with, WriteTakes};
 ghost use Rattle.command_text.specs.Content.{content_length, content_bytes};
 ghost use Rattle.client_state.specs.Local.{local_most, written, written_size};
@@ -15,6 +16,7 @@ use client_state::state::ClientState;
 use client_state::step::{ClientStep, Outcome};
 use client_state::task::Local;
 use command_text::content::{self, Content, Part};
+use cut_bytes::CutBytes;
 use lb_base::items::Bytes;
 use sha1::Sha1;
 use shared_bytes::SharedBytes;
@@ -58,13 +60,29 @@ fn written(
     local::written(alloc, local.bytes.as_slice(), offset, more.as_slice())
 }
 
+/// The content of a put, which is some bytes, in the place of an open file's first ones, within the limit of a
+/// file. It stays as it is, with what was found of it ahead, where the file's isn't the longer.
+#[tactic(auto, using(crate::proofs::Writes::written_whole))]
+fn replaced(alloc: Global, local: &Local, content: CutBytes) -> Result<CutBytes, AllocError>
+    requires some { 0 < length content }
+    requires small { written_size (length local.now.bytes) 0 (length content) ≤ FILE_MOST }
+    ensures written { IfOk result (λ b. b ≡ written local.now.bytes 0 content) }
+    ensures small { IfOk result (λ b. length b ≤ FILE_MOST) }
+{
+    if local.bytes.len() <= content.len() {
+        return Ok(content);
+    }
+    let whole = local::written(alloc, local.bytes.as_slice(), 0, content.as_slice())?;
+    Ok(CutBytes::whole(whole))
+}
+
 /// The file is open with this content, and the command is done. An `Err` changes nothing.
 fn done_with(
     alloc: Global,
     state: &mut ClientState,
     file: u64,
     version: u64,
-    bytes: SharedBytes,
+    bytes: CutBytes,
 ) -> Result<ClientStep, AllocError>
     requires sound { IsSound state.old }
     requires small { length bytes ≤ FILE_MOST }
@@ -73,7 +91,7 @@ fn done_with(
     ensures err { OnErr result (state_of state.new ≡ state_of state.old) }
     ensures sound { IsSound state.new }
 {
-    state.put(file, version, bytes)?;
+    state.put_cut(file, version, bytes)?;
     Ok(parts::ends(alloc, Outcome::Done, 0, 0))
 }
 
@@ -109,6 +127,40 @@ pub fn write(
     }
     let bytes = written(alloc, local, offset, content)?;
     let version = local.version;
+    done_with(alloc, state, file, version, CutBytes::whole(bytes))
+}
+
+/// A command to write bytes into an open file, from its first on. An `Err` changes nothing, and comes only
+/// where there is a content to make.
+pub fn put(
+    alloc: Global,
+    state: &mut ClientState,
+    file: u64,
+    content: CutBytes,
+) -> Result<ClientStep, AllocError>
+    requires { IsSound state.old }
+    ensures ok { IfOk result (λ a. on_local (state_of state.old) state.old.task (local_at state.old.opened.entries file) (puts (state_of state.old) file content) ≡ (state_of state.new, a)) }
+    ensures done { IfOk result (λ a. a.missed ≡ false) }
+    ensures err { OnErr result (state_of state.new ≡ state_of state.old) }
+    ensures sure { OnErr result (MayMissOn state.old.task (local_at state.old.opened.entries file) (PutTakes content)) }
+    ensures sound { IsSound state.new }
+{
+    if state.task.is_some() {
+        return Ok(parts::ends(alloc, Outcome::Busy, 0, 0));
+    }
+    let Some(local) = parts::find_local(&state.opened, file) else {
+        return Ok(parts::ends(alloc, Outcome::NotOpen, 0, 0));
+    };
+    let count = u128::from(content.len() as u64);
+    if count == 0 {
+        return Ok(parts::ends(alloc, Outcome::Done, 0, 0));
+    }
+    let size = local::written_size(local.bytes.len() as u64, 0, count)?;
+    if size > LOCAL_MOST {
+        return Ok(parts::ends(alloc, Outcome::TooBig(size), 0, 0));
+    }
+    let bytes = replaced(alloc, local, content)?;
+    let version = local.version;
     done_with(alloc, state, file, version, bytes)
 }
 
@@ -138,7 +190,7 @@ pub fn trunc(
     }
     let bytes = local::truncated(alloc, local.bytes.as_slice(), size)?;
     let version = local.version;
-    done_with(alloc, state, file, version, bytes)
+    done_with(alloc, state, file, version, CutBytes::whole(bytes))
 }
 
 /// A command to read a part of an open file. It takes no memory.

@@ -4,6 +4,7 @@ ghost use Rattle.std.specs.Prelude.{◌≡◌, IfOk, OnOk, OnErr, false, Ok};
 ghost use Rattle.file_open.specs.Looking.{with_file, reading_by, entering_by, entering};
 ghost use Rattle.file_open.specs.Fetching.{Comes};
 ghost use Rattle.client_state.specs.Ending.{forgets};
+ghost use Rattle.open_close.specs.Putting.{put_of};
 ghost use Rattle.open_close.specs.Step.{lease_in, takes, took, does, got_message, got_fault, hears, missed_at, MayMiss, MayMissCommand, InCommit, fault_of};
 ghost use Rattle.client_state.specs.View.{state_of, whole_of, IsHeld, IsSound, HasXids, IsWithin, StageIsThere};
 ghost use Rattle.wire.specs.declared.message.Message.TheVariants as message;
@@ -15,6 +16,7 @@ use client_state::step::{BadPeer, ClientStep};
 use client_state::task::{Stage, Task};
 use client_state::{parts, waiting};
 use command_text::command::Command;
+use cut_bytes::CutBytes;
 use file_close::closing;
 use file_open::{opening, rewriting};
 use std::alloc::{AllocError, Global};
@@ -52,6 +54,24 @@ pub fn command(
         Command::Abandon(file) => Ok(commands::abandon(alloc, state, file)),
         Command::Named(command) => walking::walk(alloc, state, command),
     }
+}
+
+/// A write from the first byte on, of a content that is whole. An `Err` changes nothing, and comes only where
+/// memory is taken.
+pub fn put(
+    alloc: Global,
+    state: &mut ClientState,
+    file: u64,
+    content: CutBytes,
+) -> Result<ClientStep, AllocError>
+    requires { IsSound state.old }
+    ensures ok { IfOk result (λ a. does (state_of state.old) (put_of file content) ≡ (state_of state.new, a)) }
+    ensures done { IfOk result (λ a. a.missed ≡ false) }
+    ensures err { OnErr result (state_of state.new ≡ state_of state.old) }
+    ensures sure { OnErr result (MayMissCommand (state_of state.old) (put_of file content)) }
+    ensures sound { IsSound state.new }
+{
+    commands::put(alloc, state, file, content)
 }
 
 /// What is wrong with a record that is no message.

@@ -16,8 +16,8 @@ use Rattle.client_state.proofs.Keeping.{bounded_kept}
 use Rattle.client_state.proofs.Pending.{held_cache}
 use Rattle.file_close.proofs.closing.closed.Goals as goal
 
-pub keep-requires : goal.keep-requires
-keep-requires c = subst (λ (es : Entries). IsSome (kept_of es c.args.file)) (sym c.take_local-content.ensures.cache) c.requires.there
+pub keep_cut-requires : goal.keep_cut-requires
+keep_cut-requires c = subst (λ (es : Entries). IsSome (kept_of es c.args.file)) (sym c.take_local-content.ensures.cache) c.requires.there
 
 pub forget-requires : goal.forget-requires
 forget-requires c =
@@ -25,7 +25,7 @@ forget-requires c =
     let t = c.take_local-content.new.self in
     let content = c.take_local-content.result in
     let small : length content ≤ file_limit = subst (λ (bytes : List ℕ). length bytes ≤ file_limit) (sym c.take_local-content.ensures.bytes) (local_small s.opened.entries c.args.file c.requires.held.base.locals) in
-    held_cache t c.keep.new.self (record { base = c.take_local-content.ensures.base; task = c.take_local-content.ensures.task ∙ c.requires.held.task }) (subst (λ (es : Entries). All IsKeptBounded es) (sym c.keep.ensures.kept) (bounded_kept t.cache c.args.file c.args.version content c.take_local-content.ensures.base.kept small))
+    held_cache t c.keep_cut.new.self (record { base = c.take_local-content.ensures.base; task = c.take_local-content.ensures.task ∙ c.requires.held.task }) (subst (λ (es : Entries). All IsKeptBounded es) (sym c.keep_cut.ensures.kept) (bounded_kept t.cache c.args.file c.args.version content c.take_local-content.ensures.base.kept small))
 
 pub returns-clause-ok : goal.returns-clause-ok
 returns-clause-ok c =
@@ -37,13 +37,13 @@ returns-clause-ok c =
     let content = c.take_local-content.result in
     let local = local_bytes s.opened.entries file in
     let shut : State = record (state_of s) { opened = without_local s.opened.entries file } in
-    let cache : c.keep.new.self ≡ with_content s.cache file version local =
-    c.keep.ensures.kept ∙ (ap (λ (es : Entries). with_content es file version content) c.take_local-content.ensures.cache ∙ ap (λ (bytes : List ℕ). with_content s.cache file version bytes) c.take_local-content.ensures.bytes) in
+    let cache : c.keep_cut.new.self ≡ with_content s.cache file version local =
+    c.keep_cut.ensures.kept ∙ (ap (λ (es : Entries). with_content es file version content) c.take_local-content.ensures.cache ∙ ap (λ (bytes : List ℕ). with_content s.cache file version bytes) c.take_local-content.ensures.bytes) in
     let state : state_of c.forget.new.self ≡ forgets (record shut { cache = with_content s.cache file version local }) s.waiting.calls xid =
     c.forget.ensures.rest
-    ∙ (ap (λ (r : State). forgets (record r { cache = c.keep.new.self }) t.waiting.calls xid) c.take_local-content.ensures.rest
-    ∙ (ap (λ (w : Waiting). forgets (record shut { cache = c.keep.new.self }) w.calls xid) c.take_local-content.ensures.waiting
+    ∙ (ap (λ (r : State). forgets (record r { cache = c.keep_cut.new.self }) t.waiting.calls xid) c.take_local-content.ensures.rest
+    ∙ (ap (λ (w : Waiting). forgets (record shut { cache = c.keep_cut.new.self }) w.calls xid) c.take_local-content.ensures.waiting
     ∙ ap (λ (es : Entries). forgets (record shut { cache = es }) s.waiting.calls xid) cache)) in
     let tells : List ℕ → ClientStep = λ bytes. ends (outcome.Closed file version (length bytes) (sha1 bytes)) xid 0 in
-    let step : c.closed-step.result ≡ tells local = c.closed-step.ensures ∙ (ap tells c.as_slice.ensures ∙ ap tells c.take_local-content.ensures.bytes) in
+    let step : c.closed-step.result ≡ tells local = c.closed-step.ensures ∙ ap tells c.take_local-content.ensures.bytes in
     sym (ap (λ (r : State). (r, c.closed-step.result)) state ∙ ap (λ (a : ClientStep). (forgets (record shut { cache = with_content s.cache file version local }) s.waiting.calls xid, a)) step)

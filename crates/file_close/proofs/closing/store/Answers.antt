@@ -1,5 +1,4 @@
-use Rattle.std.proofs.Common.{◌≡◌, ap, subst, ◌∙◌, IfOk, List, ℕ}
-use Rattle.file_close.specs.Closing.{store_of}
+use Rattle.std.proofs.Common.{◌≡◌, subst, IfOk}
 use Rattle.client_state.specs.State.{local_bytes}
 use Rattle.file_close.specs.Storing.{goes_on}
 use Rattle.client_state.specs.View.{state_of}
@@ -10,4 +9,4 @@ use Rattle.file_close.proofs.closing.store.Goals as goal
 pub returns-clause-ok : goal.returns-clause-ok
 returns-clause-ok c =
     let content = local_bytes c.args.state.now.opened.entries c.args.file in
-    subst (λ (st : Store). IfOk c.go_on.result (λ (a : ClientStep). goes_on (state_of c.args.state.now) c.args.file content st ≡ (state_of c.go_on.new.state, a))) (c.in_ok-store.ensures.store ∙ ap (λ (bytes : List ℕ). store_of c.args.temp bytes) c.local_bytes-content.ensures.bytes) c.go_on.ensures.ok
+    subst (λ (st : Store). IfOk c.go_on.result (λ (a : ClientStep). goes_on (state_of c.args.state.now) c.args.file content st ≡ (state_of c.go_on.new.state, a))) c.in_ok-store.ensures.store c.go_on.ensures.ok
