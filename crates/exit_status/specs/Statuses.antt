@@ -12,6 +12,7 @@ code_of status.ReadFault = 3
 code_of status.WriteFault = 4
 code_of status.Refused = 5
 code_of status.Memory = 6
+code_of status.NoThread = 6
 code_of status.Network = 7
 code_of status.Store = 8
 code_of status.Broken = 8

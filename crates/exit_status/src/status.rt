@@ -18,6 +18,8 @@ pub enum Status {
     Refused,
     /// Memory ran out; a front of the output was written.
     Memory,
+    /// A thread that a server can't do without could not be started.
+    NoThread,
     /// The network failed.
     Network,
     /// The store failed as it was opened, or one of its records breaks a rule; which, was written.
@@ -38,6 +40,7 @@ impl Status {
             Status::WriteFault => 4,
             Status::Refused => 5,
             Status::Memory => 6,
+            Status::NoThread => 6,
             Status::Network => 7,
             Status::Store => 8,
             Status::Broken => 8,

@@ -54,10 +54,11 @@ pub enum Note<'a> {
     Loading {
         place: &'a str,
     },
-    #[error("{place}: leases of the run before may last {more} ms longer than those of this one: waiting")]
+    #[error("{place}: leases of the run before may last {more} ms longer: waiting (not with --term {before})")]
     Waiting {
         place: &'a str,
         more: u64,
+        before: u64,
     },
     #[error("{place}: served at 127.0.0.1, port {port}; files: {files}")]
     Serving {
@@ -67,6 +68,8 @@ pub enum Note<'a> {
     },
     #[error("memory ran out")]
     Memory,
+    #[error("no thread could be started")]
+    NoThread,
 }
 
 /// Tells it on standard error. Where that can't be written either nobody is there to be told.

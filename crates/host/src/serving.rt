@@ -1,31 +1,46 @@
 //! What is served, for the one line that tells it once the server listens: the store knows how many
-//! files there are, and the network when that is. And where it is, for the network's bell.
+//! files there are, and the network when that is. And where it is, for the network's bell; and for how long
+//! leases are granted, which the store waits for and the network notes.
 
 use crate::notes::{Note, tell};
+use crate::terms::Term;
+use std::alloc::{AllocError, Global};
+use std::rt::{Clock as HostTime, Files as HostDisk};
 use std::sync::atomic::{AtomicU64, Ordering};
 
 /// What is served.
 #[derive(Drop)]
 pub struct Serving {
-    place: String,
+    term: Term,
     files: AtomicU64,
     /// The port, once it listens; else 0.
     port: AtomicU64,
 }
 
 impl Serving {
-    /// The store at this place, of which nothing is known yet.
-    pub fn new(place: String) -> Serving {
-        Serving {
-            place,
+    /// The store at this place, of which nothing is known yet; leases are granted for so many milliseconds.
+    pub fn new(alloc: Global, place: &str, term: u64) -> Result<Serving, AllocError> {
+        Ok(Serving {
+            term: Term::new(alloc, place, term)?,
             files: AtomicU64::new(0),
             port: AtomicU64::new(0),
-        }
+        })
     }
 
     /// The store has so many files.
     pub fn note_files(&self, files: u64) {
         self.files.store(files, Ordering::SeqCst);
+    }
+
+    /// Waits until no lease of the run before lasts longer than those of this one. Nobody else may serve the
+    /// store.
+    pub fn await_leases<R: HostDisk + HostTime + Eprint>(&self, rt: &R) {
+        self.term.await_longer(rt);
+    }
+
+    /// Notes for how long leases are granted, and answers whether they may be. The port is had by then.
+    pub fn may_grant<R: HostDisk + Eprint>(&self, rt: &R) -> bool {
+        self.term.note(rt)
     }
 
     /// The port that is served, if one is.
@@ -39,7 +54,7 @@ impl Serving {
     /// It is served at this port, which is told.
     pub fn tell_at<R: Eprint>(&self, rt: &R, port: u16) {
         self.port.store(u64::from(port), Ordering::SeqCst);
-        let place = self.place.as_str();
+        let place = self.term.place();
         let files = self.files.load(Ordering::SeqCst);
         tell(rt, &Note::Serving { place, port, files });
     }

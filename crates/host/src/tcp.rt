@@ -16,6 +16,7 @@ use std::alloc::Global;
 use std::io;
 use std::io::{ErrorKind, Read, Write};
 use std::net::{Ipv4Addr, Net, Shutdown, SocketAddr, SocketAddrV4, TcpListener, TcpStream};
+use std::rt::Files as HostDisk;
 use std::sync::Arc;
 use std::sync::atomic::{AtomicBool, Ordering};
 
@@ -282,8 +283,36 @@ impl<R: Net<Listener = TcpListener, Stream = TcpStream> + Copy + Drop> TcpNetwor
     }
 }
 
-impl<R: Net<Listener = TcpListener, Stream = TcpStream> + Eprint + Copy + Drop + Send> Network
-    for TcpNetwork<R> {
+impl<R: Net<Listener = TcpListener, Stream = TcpStream> + HostDisk + Eprint> TcpNetwork<R> {
+    /// Whether leases may be granted of what is served: for how long, is noted before.
+    fn may_grant(&self) -> bool {
+        match &self.serving {
+            Some(serving) => serving.may_grant(&self.rt),
+            None => true,
+        }
+    }
+
+    /// A listener at a port, where leases may be granted.
+    fn listener_at(&self, port: u16) -> Result<TcpListener, Failed> {
+        match TcpListener::bind(&self.rt, here(port)) {
+            Ok(listener) => {
+                if self.may_grant() {
+                    return Ok(listener);
+                }
+                drop(listener);
+                Err(Failed)
+            }
+            Err(why) => {
+                tell(&self.rt, &Note::Listen { port, why });
+                Err(Failed)
+            }
+        }
+    }
+}
+
+impl<
+    R: Net<Listener = TcpListener, Stream = TcpStream> + HostDisk + Eprint + Copy + Drop + Send,
+> Network for TcpNetwork<R> {
     type L = TcpLink<R>;
 
     type B = TcpBell<R>;
@@ -293,7 +322,7 @@ impl<R: Net<Listener = TcpListener, Stream = TcpStream> + Eprint + Copy + Drop +
     ghost accepted = { λ n. n.accepted };
 
     fn listen(&mut self, port: u16) -> Result<(), Failed> {
-        match TcpListener::bind(&self.rt, here(port)) {
+        match self.listener_at(port) {
             Ok(listener) => {
                 self.listener = Some(listener);
                 if let Some(serving) = &self.serving {
@@ -301,8 +330,7 @@ impl<R: Net<Listener = TcpListener, Stream = TcpStream> + Eprint + Copy + Drop +
                 }
                 Ok(())
             }
-            Err(why) => {
-                tell(&self.rt, &Note::Listen { port, why });
+            Err(Failed) => {
                 self.faults = one_more(self.faults);
                 Err(Failed)
             }

@@ -1,6 +1,7 @@
 //! For how long leases were granted of a served folder: its file `.term`, which holds that number of
 //! milliseconds and a line feed. A server that grants them for a shorter time waits out the difference
-//! before it listens. So none that the run before granted lasts longer than the new term from then on.
+//! before it listens. So none that the run before granted lasts longer than the new term from then on. It
+//! notes its own term once it listens, before anybody is served: one that can't listen leaves what was noted.
 
 ghost use Rattle.std.specs.Prelude.{◌≡◌, ◌≤◌, ◌-◌, IfSome};
 ghost use Rattle.limits.specs.declared.TheConstants.{TERM_MOST};
@@ -90,26 +91,6 @@ fn write_whole<R: HostDisk>(
     fs::open(rt, folder)?.sync_all()
 }
 
-/// Puts a term into the place of the one that was noted, and answers whether it could be.
-fn note_term<R: HostDisk + Eprint>(
-    rt: &R,
-    alloc: Global,
-    place: &str,
-    path: &str,
-    term: u64,
-) -> Result<bool, AllocError> {
-    let beside = format!(in alloc; "{path}~")?;
-    let text = format!(in alloc; "{term}\n")?;
-    match write_whole(rt, place, beside.as_str(), path, text.as_bytes()) {
-        Ok(()) => Ok(true),
-        Err(why) => {
-            tell(rt, &Note::Written { name: path, why });
-            let _gone = fs::remove_file(rt, beside.as_str());
-            Ok(false)
-        }
-    }
-}
-
 /// Whether a shorter term is noted than that of this run.
 fn is_shorter(before: Option<u64>, term: u64) -> bool {
     match before {
@@ -118,27 +99,69 @@ fn is_shorter(before: Option<u64>, term: u64) -> bool {
     }
 }
 
-/// Waits until no lease of the run before lasts longer than this term, and notes it for the run behind. Nobody
-/// else may serve the folder.
-///
-/// It answers whether leases may be granted: not where a shorter term stays noted, since the disk is full or
-/// fails. A longer one may stay.
-pub(crate) fn take_term<R: HostDisk + HostTime + Eprint>(
-    rt: &R,
-    alloc: Global,
-    place: &str,
+/// For how many milliseconds leases are granted of a served folder, and where that is noted.
+#[derive(Drop)]
+pub(crate) struct Term {
+    place: String,
     term: u64,
-) -> Result<bool, AllocError> {
-    let path = format!(in alloc; "{place}/.term")?;
-    let before = noted_term(rt, path.as_str());
-    if before == Some(term) {
-        return Ok(true);
+    path: String,
+    beside: String,
+    text: String,
+}
+
+impl Term {
+    /// That of a folder. Nothing is noted yet.
+    pub(crate) fn new(alloc: Global, place: &str, term: u64) -> Result<Term, AllocError> {
+        Ok(Term {
+            place: String::from_str(alloc, place)?,
+            term,
+            path: format!(in alloc; "{place}/.term")?,
+            beside: format!(in alloc; "{place}/.term~")?,
+            text: format!(in alloc; "{term}\n")?,
+        })
     }
-    let more = longer(before.unwrap_or(0), term);
-    if more > 0 {
-        tell(rt, &Note::Waiting { place, more });
-        thread::sleep(rt, Duration::from_millis(more));
+
+    /// The folder.
+    pub(crate) fn place(&self) -> &str {
+        self.place.as_str()
     }
-    let noted = note_term(rt, alloc, place, path.as_str(), term)?;
-    Ok(noted || !is_shorter(before, term))
+
+    /// Waits until no lease of the run before lasts longer than this term. Nobody else may serve the folder.
+    pub(crate) fn await_longer<R: HostDisk + HostTime + Eprint>(&self, rt: &R) {
+        let before = noted_term(rt, self.path.as_str()).unwrap_or(0);
+        let more = longer(before, self.term);
+        if more > 0 {
+            let place = self.place.as_str();
+            tell(
+                rt,
+                &Note::Waiting {
+                    place,
+                    more,
+                    before,
+                },
+            );
+            thread::sleep(rt, Duration::from_millis(more));
+        }
+    }
+
+    /// Notes the term for the run behind, and answers whether leases may be granted: not where a shorter one
+    /// stays noted, since the disk is full or fails. A longer one may stay.
+    pub(crate) fn note<R: HostDisk + Eprint>(&self, rt: &R) -> bool {
+        let path = self.path.as_str();
+        let before = noted_term(rt, path);
+        before == Some(self.term) || self.is_written(rt) || !is_shorter(before, self.term)
+    }
+
+    /// Puts the term into the place of the one that was noted, and answers whether it could be.
+    fn is_written<R: HostDisk + Eprint>(&self, rt: &R) -> bool {
+        let (path, beside) = (self.path.as_str(), self.beside.as_str());
+        match write_whole(rt, self.place(), beside, path, self.text.as_bytes()) {
+            Ok(()) => true,
+            Err(why) => {
+                tell(rt, &Note::Written { name: path, why });
+                let _gone = fs::remove_file(rt, beside);
+                false
+            }
+        }
+    }
 }

@@ -1,14 +1,10 @@
-//! A store that tells on standard error that it is being loaded, and notes then in the folder for how long
-//! leases are to be granted (`terms`). It is in all else the one that it stands over.
+//! A store that tells on standard error that it is being loaded, and waits then for leases of the run before
+//! (`terms`). It is in all else the one that it stands over.
 
-ghost use Rattle.std.specs.Prelude.{◌≡◌, ◌≤◌, ◌+◌, ◌-◌, ◌^◌, min, IsErrOf};
-ghost use Rattle.lb_base.specs.Causes.{Rose};
-ghost use Rattle.store.specs.declared.store.StoreError.TheVariants as errors;
+ghost use Rattle.std.specs.Prelude.{◌≡◌};
 
 use crate::notes::{Note, tell};
 use crate::serving::Serving;
-use crate::terms::take_term;
-use lb_base::faults::one_more;
 use lb_base::source::Failed;
 use std::alloc::{AllocError, Global};
 use std::rt::{Clock as HostTime, Files as HostDisk};
@@ -23,48 +19,16 @@ use synced_store::syncs::Synced;
 pub struct ToldStore<R, S> {
     rt: R,
     store: S,
-    /// What is served, which gets the number of files.
+    /// What is served, if anything is: it gets the number of files.
     serving: Option<Arc<Serving>>,
-    /// For how many milliseconds leases are to be granted, if any are.
-    term: Option<u64>,
-    /// How often the term couldn't be noted.
-    faults: u64,
 }
 
 impl<R, S> ToldStore<R, S> {
-    /// This store, whose loading is told by that runtime. Where leases are to be granted the term is noted
-    /// as it is loaded.
-    pub fn new(rt: R, store: S, serving: Option<Arc<Serving>>, term: Option<u64>) -> ToldStore<R, S>
-        ensures { result ≡ record { rt = rt; store = store; serving = serving; term = term; faults = 0 } }
+    /// This store, whose loading is told by that runtime.
+    pub fn new(rt: R, store: S, serving: Option<Arc<Serving>>) -> ToldStore<R, S>
+        ensures { result ≡ record { rt = rt; store = store; serving = serving } }
     {
-        ToldStore {
-            rt,
-            store,
-            serving,
-            term,
-            faults: 0,
-        }
-    }
-}
-
-impl<R: HostDisk + HostTime + Eprint, S> ToldStore<R, S> {
-    /// Notes the term, where leases are to be granted.
-    fn take_term(&mut self, alloc: Global, place: &str) -> Result<(), StoreError>
-        ensures store { self.new.store ≡ self.old.store }
-        ensures later { self.old.faults ≤ self.new.faults }
-        ensures cause { IsErrOf result errors.Failed → Rose self.old.faults self.new.faults }
-    {
-        let Some(term) = self.term else {
-            return Ok(());
-        };
-        match take_term(&self.rt, alloc, place, term) {
-            Ok(true) => Ok(()),
-            Ok(false) => {
-                self.faults = one_more(self.faults);
-                Err(StoreError::Failed)
-            }
-            Err(AllocError) => Err(StoreError::Memory),
-        }
+        ToldStore { rt, store, serving }
     }
 }
 
@@ -89,7 +53,7 @@ impl<R: HostDisk + HostTime + Eprint, S: Store> Store for ToldStore<R, S> {
 
     ghost spare = { λ s. S.spare s.store };
 
-    ghost faults = { λ s. min (S.faults s.store + s.faults) (2 ^ 64 - 1) };
+    ghost faults = { λ s. S.faults s.store };
 
     fn load(&mut self, alloc: Global, place: &str) -> Result<Vec<Kept>, StoreError> {
         tell(&self.rt, &Note::Loading { place });
@@ -97,14 +61,9 @@ impl<R: HostDisk + HostTime + Eprint, S: Store> Store for ToldStore<R, S> {
             Ok(records) => {
                 if let Some(serving) = &self.serving {
                     serving.note_files(files_in(records.as_slice()));
+                    serving.await_leases(&self.rt);
                 }
-                match self.take_term(alloc, place) {
-                    Ok(()) => Ok(records),
-                    Err(why) => {
-                        drop(records);
-                        Err(why)
-                    }
-                }
+                Ok(records)
             }
             Err(why) => Err(why),
         }
@@ -141,6 +100,6 @@ impl<R: HostDisk + HostTime + Eprint + Drop, S: Synced + Drop> Synced for ToldSt
     }
 
     fn fault_count(&self) -> u64 {
-        self.store.fault_count().saturating_add(self.faults)
+        self.store.fault_count()
     }
 }

@@ -55,14 +55,6 @@ fn served_place(alloc: Global, words: &[String]) -> Result<Option<String>, Alloc
     }
 }
 
-/// For how many milliseconds the words have leases granted; none where they have nothing served.
-fn granted_term(alloc: Global, words: &[String]) -> Result<Option<u64>, AllocError> {
-    match asked_of(alloc, words)? {
-        Some(Asked::Serve(options)) => Ok(Some(options.term)),
-        _ => Ok(None),
-    }
-}
-
 /// Whether the words have nothing flushed.
 fn is_unsynced(alloc: Global, words: &[String]) -> Result<bool, AllocError> {
     match asked_of(alloc, words)? {
@@ -71,22 +63,25 @@ fn is_unsynced(alloc: Global, words: &[String]) -> Result<bool, AllocError> {
     }
 }
 
-/// What is served at a place, for those who tell it.
-fn serving_at(alloc: Global, place: &Option<String>) -> Result<Option<Arc<Serving>>, AllocError> {
-    match place {
-        Some(place) => {
-            let place = String::from_str(alloc, place.as_str())?;
-            Ok(Some(Arc::new(alloc, Serving::new(place))?))
+/// What the words have served, for those who tell it and note its term.
+fn serving_of(alloc: Global, words: &[String]) -> Result<Option<Arc<Serving>>, AllocError> {
+    match asked_of(alloc, words)? {
+        Some(Asked::Serve(options)) => {
+            let serving = Serving::new(alloc, options.store.as_str(), options.term)?;
+            Ok(Some(Arc::new(alloc, serving)?))
         }
-        None => Ok(None),
+        _ => Ok(None),
     }
 }
 
-/// One owner more of what is served. Where there can be none more, it isn't told.
-fn shared(serving: &Option<Arc<Serving>>) -> Option<Arc<Serving>> {
-    match serving {
-        Some(serving) => Arc::try_clone(serving).ok(),
-        None => None,
+/// One owner more of what is served.
+fn shared(serving: &Option<Arc<Serving>>) -> Result<Option<Arc<Serving>>, AllocError> {
+    let Some(serving) = serving else {
+        return Ok(None);
+    };
+    match Arc::try_clone(serving) {
+        Ok(more) => Ok(Some(more)),
+        Err(_) => Err(AllocError),
     }
 }
 
@@ -116,6 +111,7 @@ fn tell_end<D: Synced + Checks + Drop>(
             }
         }
         Status::Memory => tell(rt, &Note::Memory),
+        Status::NoThread => tell(rt, &Note::NoThread),
         Status::Store => {
             if let Some(place) = place {
                 // A folder that can't be read was told of as it was opened.
@@ -128,16 +124,15 @@ fn tell_end<D: Synced + Checks + Drop>(
     }
 }
 
-/// What `main` needs before it runs: the folder that is served, if one is, what is told of it, and for how
-/// long leases are granted.
-fn served(
-    alloc: Global,
-    words: &[String],
-) -> Result<(Option<String>, Option<Arc<Serving>>, Option<u64>), AllocError> {
+/// What is served, if anything is: its folder, and what the store and the network know of it.
+type Served = (Option<String>, Option<Arc<Serving>>, Option<Arc<Serving>>);
+
+/// What `main` needs before it runs.
+fn served(alloc: Global, words: &[String]) -> Result<Served, AllocError> {
     let place = served_place(alloc, words)?;
-    let serving = serving_at(alloc, &place)?;
-    let term = granted_term(alloc, words)?;
-    Ok((place, serving, term))
+    let serving = serving_of(alloc, words)?;
+    let more = shared(&serving)?;
+    Ok((place, serving, more))
 }
 
 /// The clock of a server, or of a mount. A server's stands still while the host sleeps, so that its leases
@@ -165,13 +160,13 @@ fn run<H: Threads + Wait + Sync, D: Synced + Checks + Drop + Send>(
     stores: (D, D),
 ) -> ExitCode {
     let (store, again) = stores;
-    let Ok((place, serving, term)) = served(rt.alloc(), words) else {
+    let Ok((place, serving, more)) = served(rt.alloc(), words) else {
         return starved(&rt);
     };
     let Ok(unsynced) = is_unsynced(rt.alloc(), words) else {
         return starved(&rt);
     };
-    let mut store = ToldStore::new(rt, store, shared(&serving), term);
+    let mut store = ToldStore::new(rt, store, more);
     if unsynced {
         store.leave_unflushed();
     }

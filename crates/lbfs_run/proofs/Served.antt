@@ -25,6 +25,7 @@ cause o accepted accepted' net net' store store' records (Err errors.Network) ok
 cause o accepted accepted' net net' store store' records (Err errors.Store) ok network stored bad = stored refl
 cause o accepted accepted' net net' store store' records (Err (errors.BadRecord which)) ok network stored bad = bad which refl
 cause o accepted accepted' net net' store store' records (Err errors.Memory) ok network stored bad = tt
+cause o accepted accepted' net net' store store' records (Err errors.NoThread) ok network stored bad = tt
 
 pub network_rose : (o : ServeOptions) (accepted accepted' net net' store store' : ℕ) (records : Option (List Kept)) (held held' : Option (List ℕ)) (s : Status) (ended : Result Served ServeError)
     → ServeCause o accepted accepted' net net' store store' records ended → Tells s held held' (serve_output ended) → s ≡ status.Network → Rose net net'
@@ -39,6 +40,6 @@ store_failed o accepted accepted' net net' store store' records held held' s end
 store_failed o accepted accepted' net net' store store' records held held' s ended h (inr told) e = grind (arith, told, e)
 
 pub known : (held held' : Option (List ℕ)) (s : Status) (ended : Result Served ServeError) → Tells s held held' (serve_output ended)
-    → (s ≡ status.Done) ⊎ (s ≡ status.WriteFault) ⊎ (s ≡ status.Memory) ⊎ (s ≡ status.Network) ⊎ (s ≡ status.Store)
+    → (s ≡ status.Done) ⊎ (s ≡ status.WriteFault) ⊎ (s ≡ status.Memory) ⊎ (s ≡ status.Network) ⊎ (s ≡ status.Store) ⊎ (s ≡ status.NoThread)
 known held held' s (Err errors.Store) told = grind (arith, told)
 known held held' s ended told = grind (arith, told)

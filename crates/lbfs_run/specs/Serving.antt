@@ -29,6 +29,7 @@ serve_output (Err errors.Network) = (status.Network, [])
 serve_output (Err errors.Store) = (status.Store, fault_text)
 serve_output (Err (errors.BadRecord which)) = (status.Store, record_text which)
 serve_output (Err errors.Memory) = (status.Memory, [])
+serve_output (Err errors.NoThread) = (status.NoThread, [])
 
 -- why serving ended so: at least as many links were accepted as sessions were asked for; the network's count of faults rose; the
 -- store's did; this record is the first that breaks a rule
@@ -38,6 +39,7 @@ ServeCause o accepted accepted' net net' store store' records (Err errors.Networ
 ServeCause o accepted accepted' net net' store store' records (Err errors.Store) = Rose store store'
 ServeCause o accepted accepted' net net' store store' records (Err (errors.BadRecord which)) = IsBad records which
 ServeCause o accepted accepted' net net' store store' records (Err errors.Memory) = Unit {0}
+ServeCause o accepted accepted' net net' store store' records (Err errors.NoThread) = Unit {0}
 
 -- serving ended in one of these ways, with its cause, and that was written with its status
 abbrev pub ServeEnds : ServeOptions → (accepted accepted' net net' store store' : ℕ) → Option (List Kept) → (held held' : Option (List ℕ)) → Status → Type 0

@@ -57,6 +57,7 @@ fn serve_output(alloc: Global, ended: Result<Served, ServeError>) -> Result<Outp
         Err(ServeError::Store) => (Status::Store, Items::copy_of(alloc, b"store fault\n")?),
         Err(ServeError::BadRecord { which }) => (Status::Store, record_text(alloc, which)?),
         Err(ServeError::Memory) => (Status::Memory, Items::new(alloc)),
+        Err(ServeError::NoThread) => (Status::NoThread, Items::new(alloc)),
     };
     Ok(Output { status, text })
 }
@@ -105,7 +106,7 @@ where
     ensures write_fault { result.0 ≡ status.WriteFault → Rose (K.faults out.sink) (K.faults result.1.sink) }
     ensures network_fault { result.0 ≡ status.Network → Rose (N.faults out.network) (N.faults result.1.network) }
     ensures store_fault { result.0 ≡ status.Store → StoreFails (D.faults out.store) (D.faults result.1.store) (D.records out.store) (K.held out.sink) (K.held result.1.sink) }
-    ensures known { (result.0 ≡ status.Done) ⊎ (result.0 ≡ status.WriteFault) ⊎ (result.0 ≡ status.Memory) ⊎ (result.0 ≡ status.Network) ⊎ (result.0 ≡ status.Store) }
+    ensures known { (result.0 ≡ status.Done) ⊎ (result.0 ≡ status.WriteFault) ⊎ (result.0 ≡ status.Memory) ⊎ (result.0 ≡ status.Network) ⊎ (result.0 ≡ status.Store) ⊎ (result.0 ≡ status.NoThread) }
 {
     let Outside {
         source,

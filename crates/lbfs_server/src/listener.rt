@@ -33,7 +33,7 @@ pub enum Stop {
     /// The store could not be made sure of something that was told to it.
     Doubt,
     /// No thread could be had that makes changes which wait.
-    Memory,
+    NoThread,
 }
 
 /// Serves a session on its link and the link's twin: one thread takes records and puts out their
@@ -359,7 +359,7 @@ where
 /// of these. Where the ticker can't be started it doesn't listen: a change that waits might never be made.
 ///
 /// `Ok` comes once at least so many links were accepted, `Network` only where the network's count of
-/// faults rose, `Doubt` where the store could not be made sure of something, and `Memory` where no ticker
+/// faults rose, `Doubt` where the store could not be made sure of something, and `NoThread` where no ticker
 /// could be had.
 pub fn serve_links<
     'x,
@@ -413,7 +413,7 @@ where
             drop(ticks);
             let mut net = net;
             if is_alone {
-                return (Err(Stop::Memory), net, pass);
+                return (Err(Stop::NoThread), net, pass);
             }
             let (pass, served) = listen_all(
                 scope, rt, shared, pass, &mut net, clock, rest, work, port, sessions,

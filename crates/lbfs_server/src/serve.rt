@@ -7,6 +7,7 @@ ghost use Rattle.lbfs_server.specs.Ends.{CountsMore};
 ghost use Rattle.lbfs_server.specs.Serve.{IsServerOf, IsBad, IsFront, quiet_from};
 ghost use Rattle.lbfs_server.specs.declared.serve.ServeError.TheVariants as errors;
 ghost use Rattle.server_held.specs.Kept.{KeepsTree};
+ghost use Rattle.store.specs.declared.store.StoreError.TheVariants as store_errors;
 ghost use Rattle.server_law.specs.Facts.{Holds};
 
 use crate::gate::Gate;
@@ -51,6 +52,8 @@ pub enum ServeError {
     BadRecord { which: usize },
     /// Memory ran out.
     Memory,
+    /// No thread could be had that makes changes which wait.
+    NoThread,
 }
 
 /// A server of the tree of a store's records.
@@ -113,16 +116,18 @@ fn changes_in(long: u64) -> u64
     long.saturating_sub(1)
 }
 
-/// Why nothing more is served once a store could not be closed: `Store`, where its count of faults is
-/// above the one before. Of a store that comes back from other threads nothing else tells that.
-fn store_error(before: u64, after: u64) -> ServeError
+/// Why nothing more is served once a store could not be closed for a reason: want of memory, or `Store`. That
+/// its count of faults is above the one before is looked up: of a store that comes back from other threads
+/// nothing else tells it.
+fn close_error(why: StoreError, before: u64, after: u64) -> ServeError
     ensures store { result ≡ errors.Store → Rose before after }
+    ensures memory { why ≡ store_errors.Memory → result ≡ errors.Memory }
+    ensures failed { why ≡ store_errors.Failed → Rose before after → result ≡ errors.Store }
     ensures others { (result ≡ errors.Store) ⊎ (result ≡ errors.Memory) }
 {
-    if before < after || after == u64::MAX {
-        ServeError::Store
-    } else {
-        ServeError::Memory
+    match why {
+        StoreError::Failed if before < after || after == u64::MAX => ServeError::Store,
+        _ => ServeError::Memory,
     }
 }
 
@@ -184,14 +189,14 @@ where
     let (long, held) = shared.finish(rt, pass);
     let front = changes_in(long);
     let mut store = held.into_store();
-    if store.close().is_err() {
-        let error = store_error(before, store.fault_count());
+    if let Err(why) = store.close() {
+        let error = close_error(why, before, store.fault_count());
         return (Err(error), store, net);
     }
     match ended {
         Ok(()) => (Ok(Served { sessions, front }), store, net),
         Err(Stop::Network) => (Err(ServeError::Network), store, net),
-        Err(Stop::Memory) => (Err(ServeError::Memory), store, net),
+        Err(Stop::NoThread) => (Err(ServeError::NoThread), store, net),
         // Its close would have failed.
         Err(Stop::Doubt) => (Err(ServeError::Memory), store, net),
     }

@@ -167,10 +167,10 @@ pub fn session_out<W: Wait, H: Turns + Drop, Y: Syncs, G: Gate + Drop, L: Link +
     unreachable!()
 }
 
-/// Puts out what there is to say to a session until a change of it waits no more: where no other thread does,
-/// nobody else would tell it what came of that. Meanwhile no record of it is read; so it ends, too, where the
-/// client is asked for something, which the change may wait for. It answers how many calls the client hasn't
-/// answered, of which there were so many.
+/// Puts out what was taken for a session, and what there is to say to it behind that until a change of it waits
+/// no more: where no other thread does, nobody else would tell it what came of that. Meanwhile no record of it is
+/// read; so it ends, too, where the client is asked for something, which the change may wait for, or where the
+/// link was shut. It answers how many calls the client hasn't answered, of which there are so many then.
 fn give_awaited<W: Wait, H: Turns + Drop, Y: Syncs, G: Gate + Drop, L: Link + Drop>(
     rt: &W,
     shared: &Shared<H, Y, G, L>,
@@ -178,6 +178,7 @@ fn give_awaited<W: Wait, H: Turns + Drop, Y: Syncs, G: Gate + Drop, L: Link + Dr
     session: u32,
     asked: u64,
     link: &mut L,
+    taken: Taken,
 ) -> (Pass<H>, u64)
     requires { IsPassOf shared.now.post pass }
     ensures pass { Follows shared.now.post pass result.0 }
@@ -186,7 +187,11 @@ fn give_awaited<W: Wait, H: Turns + Drop, Y: Syncs, G: Gate + Drop, L: Link + Dr
 {
     let mut pass = pass;
     let mut asked = asked;
+    let mut taken = taken;
     for _turn in rt.forever() {
+        if !give_out(rt, shared, link, taken) {
+            return (pass, asked);
+        }
         let (next, owes) = shared.owes(rt, pass, session);
         pass = next;
         if !owes || asked > 0 {
@@ -196,9 +201,7 @@ fn give_awaited<W: Wait, H: Turns + Drop, Y: Syncs, G: Gate + Drop, L: Link + Dr
         let (next, out) = shared.take_out(rt, pass, session, &*link);
         pass = next;
         asked = out.calls();
-        if !give_out(rt, shared, link, out) {
-            return (pass, asked);
-        }
+        taken = out;
     }
     unreachable!()
 }
@@ -235,8 +238,7 @@ fn both_on<W: Wait, H: Turns + Drop, Y: Syncs, G: Gate + Drop, L: Link + Drop, C
                 let now = clock.now();
                 let (next, out) = shared.got(rt, read, session, bytes, prepared, now, &*link);
                 let open = asked.saturating_sub(answered).saturating_add(out.calls());
-                give_out(rt, shared, link, out);
-                let (next, open) = give_awaited(rt, shared, next, session, open, link);
+                let (next, open) = give_awaited(rt, shared, next, session, open, link, out);
                 pass = next;
                 asked = open;
             }

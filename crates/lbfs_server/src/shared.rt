@@ -511,17 +511,27 @@ impl<H: Turns + Drop, Y: Syncs, G: Gate + Drop, L: Link + Drop> Shared<H, Y, G, 
     }
 
     /// What was taken may go out, once the store is sure of what was made before. Where it can't be,
-    /// nothing is to go out on any link any more (`is_in_doubt`).
+    /// nothing is to go out on any link any more (`is_in_doubt`), not even nothing: a link ends by that.
     pub fn settle_taken<W: Wait>(&self, rt: &W, taken: Taken) -> Result<Sure, Failed>
         ensures settled { OnOk result (¬ (taken.messages.items ≡ []) → Y.settled self.now.syncs) }
         ensures same { IfOk result (λ sure. (sure.messages ≡ taken.messages) × (sure.stands ≡ taken.stands)) }
     {
+        if self.is_in_doubt() {
+            drop(taken);
+            return Err(Failed);
+        }
         let settled = taken.settle(rt, &self.syncs);
         if settled.is_err() {
-            self.in_doubt.store(true, Ordering::SeqCst);
-            self.tell_ticker(true);
+            self.note_doubt();
         }
         settled
+    }
+
+    /// The store is in doubt. Whoever sleeps is woken, since it has to end.
+    fn note_doubt(&self) {
+        self.in_doubt.store(true, Ordering::SeqCst);
+        self.bells.ring(u64::MAX);
+        self.tell_ticker(true);
     }
 
     /// Whether the store is in doubt.
@@ -529,8 +539,8 @@ impl<H: Turns + Drop, Y: Syncs, G: Gate + Drop, L: Link + Drop> Shared<H, Y, G, 
         self.in_doubt.load(Ordering::SeqCst)
     }
 
-    /// Waits until there is something to say to a session, or it is gone. Another may have taken it
-    /// by then.
+    /// Waits until there is something to say to a session, or it is gone, or the store is in doubt. Another
+    /// may have taken it by then.
     pub fn await_said<W: Wait>(&self, rt: &W, pass: Pass<H>, session: u32) -> Pass<H>
         requires { IsPassOf self.now.post pass }
         ensures { Follows self.now.post pass result }
@@ -540,10 +550,14 @@ impl<H: Turns + Drop, Y: Syncs, G: Gate + Drop, L: Link + Drop> Shared<H, Y, G, 
             let mut turn = self.post.enter(rt, pass);
             let quiet = quiet_bell(&self.bells, &*turn.value(), session);
             pass = turn.leave();
-            match quiet {
-                Some(rung) => self.bells.wait(rt, rung),
-                None => return pass,
+            let Some(rung) = quiet else {
+                return pass;
+            };
+            // Looked at behind the count: a doubt that comes later rings.
+            if self.is_in_doubt() {
+                return pass;
             }
+            self.bells.wait(rt, rung);
         }
         unreachable!()
     }

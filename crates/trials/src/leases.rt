@@ -23,6 +23,7 @@ fn put_served(served: Result<Served, ServeError>, out: &mut Out) {
             out.text(" journal");
             out.number(front);
         }
+        Err(ServeError::Store) => out.text(" store"),
         Err(_) => out.lack(),
     }
 }

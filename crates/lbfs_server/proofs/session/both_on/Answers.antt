@@ -1,5 +1,5 @@
 use Rattle.std.specs.Prelude.{Err}
-use Rattle.std.proofs.Common.{sym, ap, ◌∙◌, subst, arith}
+use Rattle.std.proofs.Common.{sym, ap, subst, arith}
 use Rattle.lbfs_server.proofs.Following.{follows_self, follows_trans}
 use Rattle.lbfs_server.proofs.Giving.{Taken, taken_none, taken_more, taken_spoilt}
 use Rattle.lbfs_server.proofs.session.both_on.Goals as goal
@@ -15,8 +15,8 @@ pub loop-turn-preserved : goal.loop-turn-preserved
 loop-turn-preserved g c =
     let given = c.in-Ok-next.ensures.given in record {
       pass = follows_trans c.args.shared.now.post c.args.pass c.got-next.result.0 c.give_awaited-next.result.0 (follows_trans c.args.shared.now.post c.args.pass c.loop-turn.pass c.got-next.result.0 c.loop-turn.invariant.pass (follows_trans c.args.shared.now.post c.loop-turn.pass c.read-read.result.0 c.got-next.result.0 c.read-read.ensures c.got-next.ensures)) c.give_awaited-next.ensures.pass;
-      taken = subst (λ z. Taken (g.L.Link.left c.args.link.now) z c.next-in-loop-turn.new.self) (sym (c.give_awaited-next.ensures.come ∙ c.give_out.ensures.come)) (taken_more (g.L.Link.left c.args.link.now) (g.L.Link.left c.loop-turn.link) (g.L.Link.left c.next-in-loop-turn.new.link) c.loop-turn.inbox c.next-in-loop-turn.new.self given.0 _ c.loop-turn.invariant.taken given.1 given.2);
-      later = omega (arith, c.loop-turn.invariant.later, c.in-Ok-next.ensures.later, c.give_out.ensures.later, c.give_awaited-next.ensures.later);
+      taken = subst (λ z. Taken (g.L.Link.left c.args.link.now) z c.next-in-loop-turn.new.self) (sym c.give_awaited-next.ensures.come) (taken_more (g.L.Link.left c.args.link.now) (g.L.Link.left c.loop-turn.link) (g.L.Link.left c.next-in-loop-turn.new.link) c.loop-turn.inbox c.next-in-loop-turn.new.self given.0 _ c.loop-turn.invariant.taken given.1 given.2);
+      later = omega (arith, c.loop-turn.invariant.later, c.in-Ok-next.ensures.later, c.give_awaited-next.ensures.later);
     }
 
 pub returns-in-Err-next-clause-spoilt : goal.returns-in-Err-next-clause-spoilt
