@@ -15,7 +15,7 @@ loop-chunk-preserved c =
     let chunks = c.as_slice-chunk-items.result.now in
     let k = c.loop-chunk.chunk-index in
     let bytes = c.chunk_bytes.result.now in
-    let left = chunks_left f chunks k _ bytes c.loop-chunk-test.true c.chunk_bytes.ensures in
+    let left = chunks_left f chunks k _ bytes c.loop-chunk-test.true (c.chunk_bytes.ensures ∙ ap f c.chunk-item.is) in
     leads_on c.args.self.now (map f chunks) c.loop-chunk.self c.item.new.self (bytes ∷ []) (map f (drop (k + 1) chunks))
     (subst (λ b. Puts c.loop-chunk.self (bytes ∷ []) b c.item.new.self) c.if-not-branch.false c.in_ok-item.ensures)
     (subst (Leads c.args.self.now (map f chunks) c.loop-chunk.self) left c.loop-chunk.invariant)
@@ -26,7 +26,7 @@ returns-then-not-branch c =
     let chunks = c.as_slice-chunk-items.result.now in
     let k = c.loop-chunk.chunk-index in
     let bytes = c.chunk_bytes.result.now in
-    let left = chunks_left f chunks k _ bytes c.loop-chunk-test.true c.chunk_bytes.ensures in
+    let left = chunks_left f chunks k _ bytes c.loop-chunk-test.true (c.chunk_bytes.ensures ∙ ap f c.chunk-item.is) in
     subst (λ (cs : List Chunk). Puts c.args.self.now (map f cs) false c.item.new.self) (c.as_slice-chunk-items.ensures ∙ c.in_ok-chunks.ensures)
     (leads_full c.args.self.now (map f chunks) c.loop-chunk.self c.item.new.self (bytes ∷ []) (map f (drop (k + 1) chunks))
     (subst (λ b. Puts c.loop-chunk.self (bytes ∷ []) b c.item.new.self) c.if-not-branch.true c.in_ok-item.ensures)
