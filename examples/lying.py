@@ -118,3 +118,23 @@ class Liar(Relay):
             name = got.opaque()
             told += opaque(self.names.get(name, name)) + u64(got.u64())
         return record(told + u32(0, got.u32()))
+
+
+class Misnumbers(Liar):
+    """A server that tells of each name in a listing an id that nothing has."""
+
+    def down(self, answer, state):
+        if not state.pop(word(answer, 0), False):
+            return answer
+        got = Reader(answer[4:])
+        front = got.take(24)
+        status = got.u32()
+        if status:
+            return answer
+        present = got.u32()
+        told = front + u32(status, present) + (got.take(84) if present else b"") + got.take(8)
+        while got.u32():
+            told += u32(1) + u64(got.u64() + 1_000_000)
+            name = got.opaque()
+            told += opaque(self.names.get(name, name)) + u64(got.u64())
+        return record(told + u32(0, got.u32()))

@@ -37,7 +37,7 @@ pub enum Note<'a> {
         port: u16,
         why: io::Error,
     },
-    #[error("127.0.0.1, port {port}: no server answers there")]
+    #[error("127.0.0.1, port {port}: no server answers there (is lbfs share, or ssh -L, running?)")]
     Unreached {
         port: u16,
     },

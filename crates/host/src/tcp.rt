@@ -191,6 +191,14 @@ fn here(port: u16) -> SocketAddr {
     SocketAddr::V4(SocketAddrV4::new(Ipv4Addr::LOCALHOST, port))
 }
 
+/// Tells where nobody can listen at a port, as where another server does.
+pub fn tell_taken<R: Net<Listener = TcpListener, Stream = TcpStream> + Eprint>(rt: &R, port: u16) {
+    match TcpListener::bind(rt, here(port)) {
+        Ok(listener) => drop(listener),
+        Err(why) => tell(rt, &Note::Listen { port, why }),
+    }
+}
+
 /// A link that gives its bytes at once.
 fn prompt<R: Drop>(stream: TcpStream, peer: Option<Arc<Peer<R>>>) -> io::Result<TcpLink<R>> {
     stream.set_nodelay(true)?;

@@ -17,7 +17,7 @@ use host::host_files::HostFiles;
 use host::notes::{Note, tell};
 use host::serving::Serving;
 use host::streams::{ToldReader, ToldWriter};
-use host::tcp::TcpNetwork;
+use host::tcp::{TcpNetwork, tell_taken};
 use host::time::{HostClock, HostRest};
 use host::told_store::ToldStore;
 use lb_base::streams::{StreamSink, StreamSource};
@@ -28,6 +28,7 @@ use program_words::front::{Front, front_of, share_words};
 use program_words::refusal::refusal;
 use program_words::words::asked_of;
 use std::alloc::{AllocError, Global};
+use std::fs::TryLockError;
 use std::io::ErrorKind;
 use std::process::ExitCode;
 use std::sync::{Arc, Wait};
@@ -96,6 +97,39 @@ fn tell_record<D: Synced + Checks + Drop>(rt: &HostRuntime, store: D, place: &st
     }
 }
 
+/// The port at which the words have a folder served; none where they ask for something else.
+fn served_port(alloc: Global, words: &[String]) -> Result<Option<u16>, AllocError> {
+    match asked_of(alloc, words)? {
+        Some(Asked::Serve(options)) => Ok(Some(options.port)),
+        _ => Ok(None),
+    }
+}
+
+/// Whether another server has a folder, which is locked then.
+fn is_locked(rt: &HostRuntime, place: &str) -> bool {
+    match fs::open(rt, place) {
+        Ok(folder) => matches!(folder.try_lock_shared(), Err(TryLockError::WouldBlock)),
+        Err(_) => false,
+    }
+}
+
+/// Tells what is left to tell of a store that failed as it was opened. A folder that can't be read, or is locked, was
+/// told of then; where it is locked its server may have the port too.
+fn tell_store<D: Synced + Checks + Drop>(
+    rt: &HostRuntime,
+    words: &[String],
+    store: D,
+    place: &str,
+) {
+    if is_locked(rt, place) {
+        if let Ok(Some(port)) = served_port(rt.alloc(), words) {
+            tell_taken(rt, port);
+        }
+    } else if fs::read_dir(rt, place).is_ok() {
+        tell_record(rt, store, place);
+    }
+}
+
 /// Tells what is left to tell of a run that has ended; a store is for the folder that was served.
 fn tell_end<D: Synced + Checks + Drop>(
     rt: &HostRuntime,
@@ -114,10 +148,7 @@ fn tell_end<D: Synced + Checks + Drop>(
         Status::NoThread => tell(rt, &Note::NoThread),
         Status::Store => {
             if let Some(place) = place {
-                // A folder that can't be read was told of as it was opened.
-                if fs::read_dir(rt, place.as_str()).is_ok() {
-                    tell_record(rt, store, place.as_str());
-                }
+                tell_store(rt, words, store, place.as_str());
             }
         }
         _ => {}

@@ -1,5 +1,5 @@
 -- What the tasks of a command came to.
-use Rattle.std.specs.Prelude.{ℕ, ◌+◌, ◌-◌, ◌^◌, ◌&&◌, ◌==◌, min, length, true}
+use Rattle.std.specs.Prelude.{ℕ, ◌+◌, ◌-◌, ◌^◌, ◌&&◌, ◌||◌, ◌==◌, Bool, min, length, nat_lt, true}
 use Rattle.shell_walks.specs.declared.visiting.Visited.{Visited}
 use Rattle.lbfs_shell.specs.declared.tally.Tally.{Tally}
 
@@ -13,3 +13,7 @@ capped_sum a b = min (a + b) (2 ^ 64 - 1)
 -- a task that has something to say of what it didn't do spoils it
 abbrev pub with_visit : Tally → Visited → Tally
 with_visit t v = record { files = capped_sum t.files v.files; bytes = capped_sum t.bytes v.bytes; is_fine = t.is_fine && (length v.note == 0) }
+
+-- the end line stands where something was done, or all was
+abbrev pub is_told : Tally → Bool
+is_told t = t.is_fine || nat_lt 0 t.files

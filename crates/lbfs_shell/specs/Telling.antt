@@ -1,5 +1,6 @@
 -- The lines that say how far a command is, and what it came to.
-use Rattle.std.specs.Prelude.{ℕ, ◌+◌, ◌-◌, ◌*◌, ◌^◌, ◌/◌, ◌%◌, ◌==◌, ◌&&◌, List, [], ◌∷◌, ◌++◌, min, nat_lt, codes, decimal, if◌then◌else◌}
+use Rattle.std.specs.Prelude.{ℕ, ◌+◌, ◌-◌, ◌*◌, ◌^◌, ◌/◌, ◌%◌, ◌==◌, ◌&&◌, List, [], ◌∷◌, ◌++◌, min, length, nat_lt, nat_le, codes, decimal, if◌then◌else◌}
+use Rattle.shell_words.specs.Quoting.{quoted}
 use Rattle.shell_walks.specs.Telling.{path_text}
 use Rattle.lbfs_shell.specs.declared.tally.Tally.{Tally}
 use Rattle.lbfs_shell.specs.declared.telling.Glance.{Glance}
@@ -52,11 +53,15 @@ files_text done left = decimal done ++ codes " of " ++ count_text (capped_sum do
 abbrev pub line_part : (wire spent : ℕ) → List ℕ
 line_part wire spent = size_text wire ++ codes " on the line, " ++ rate_text wire spent
 
+-- where no byte has gone over the line for two seconds, what is asked for waits: a close does while another client's lease lasts
+abbrev pub pace_text : Glance → List ℕ
+pace_text g =
+    if nat_le 2000 g.still then codes "waiting for the server (another client's lease?)"
+    else line_part g.wire g.spent ++ left_text g.tally.files g.left g.spent
+
 -- in the place of the line that stands there, and with nothing behind it
 abbrev pub progress_line : Glance → List ℕ
-progress_line g =
-    codes "\r" ++ files_text g.tally.files g.left ++ codes ", " ++ size_text g.tally.bytes ++ codes "; " ++ line_part g.wire g.spent
-    ++ left_text g.tally.files g.left g.spent ++ (27 ∷ 91 ∷ 75 ∷ [])
+progress_line g = codes "\r" ++ files_text g.tally.files g.left ++ codes ", " ++ size_text g.tally.bytes ++ codes "; " ++ pace_text g ++ (27 ∷ 91 ∷ 75 ∷ [])
 
 -- ---- what is said beside it
 
@@ -66,5 +71,9 @@ left_out_text n = codes "not begun: " ++ decimal n ++ codes " more\n"
 abbrev pub prompt_text : List (List ℕ) → List ℕ
 prompt_text place = codes "lbfs:" ++ path_text place ++ codes "> "
 
-abbrev pub line_text : ℕ → List ℕ
-line_text n = codes "line " ++ decimal n
+abbrev pub number_text : ℕ → List ℕ
+number_text n = codes "line " ++ decimal n
+
+-- a line by its number, and by its first word where one was read
+abbrev pub line_text : ℕ → (first : List ℕ) → List ℕ
+line_text n first = if length first == 0 then number_text n else number_text n ++ codes ": " ++ quoted first

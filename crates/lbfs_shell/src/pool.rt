@@ -202,6 +202,7 @@ impl Pool {
         screen: &P,
         wire: u64,
         spent: u64,
+        still: u64,
     ) {
         let mut jobs = self.jobs.lock(rt);
         if jobs.is_over {
@@ -212,6 +213,7 @@ impl Pool {
             left: jobs.left(),
             wire,
             spent,
+            still,
         };
         if let Ok(line) = progress_line(alloc, glance) {
             screen.say(line.as_slice());

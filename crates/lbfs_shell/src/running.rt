@@ -92,7 +92,7 @@ where
     ) else {
         return Err(ShellEnd::Memory);
     };
-    if !asked.quiet {
+    if !asked.quiet && tally.is_told() {
         let wire = out.dialler.bytes().saturating_sub(before);
         match end_line(alloc, tally, wire) {
             Ok(line) => out.screen.say(line.as_slice()),
@@ -213,25 +213,29 @@ where
     flow
 }
 
-/// What a line says; none where it says nothing.
-fn line_of(alloc: Global, text: &[u8]) -> Result<Option<Line>, ReadError> {
+/// What a line says; none where it says nothing. Its first word goes to `first`, as far as it was read.
+fn line_of(alloc: Global, text: &[u8], first: &mut Name) -> Result<Option<Line>, ReadError> {
     let words = words_of(alloc, text)?;
+    if let Some(word) = words.as_slice().first() {
+        *first = word.try_clone(alloc)?;
+    }
     match Line::read(words) {
         Ok(line) => Ok(line),
         Err(mistake) => Err(ReadError::Mistaken(mistake)),
     }
 }
 
-/// A mistake in a line is said.
+/// A mistake in a line whose first word is this, if any was read, is said.
 fn say_mistake<P: Screen>(
     alloc: Global,
     screen: &P,
     number: u64,
+    first: &[u8],
     mistake: Mistake,
 ) -> Result<Flow, ShellEnd>
     ensures { IfErr result (λ e. e ≡ ends.Memory) }
 {
-    let Ok(about) = line_text(alloc, number) else {
+    let Ok(about) = line_text(alloc, number, first) else {
         return Err(ShellEnd::Memory);
     };
     match note_line(alloc, about.as_slice(), mistake_words(mistake)) {
@@ -270,10 +274,13 @@ where
     ensures cause { IfErr result (λ e. SinkCause (K.faults sink.old) (K.faults sink.new) e) }
     ensures later { K.faults sink.old ≤ K.faults sink.new }
 {
-    match line_of(alloc, text) {
+    let mut first = Items::new(alloc);
+    match line_of(alloc, text, &mut first) {
         Ok(Some(line)) => run_command(rt, alloc, out, asked, seat, sink, &line),
         Ok(None) => Ok(Flow::Done),
-        Err(ReadError::Mistaken(mistake)) => say_mistake(alloc, &out.screen, number, mistake),
+        Err(ReadError::Mistaken(mistake)) => {
+            say_mistake(alloc, &out.screen, number, first.as_slice(), mistake)
+        }
         Err(ReadError::Memory) => Err(ShellEnd::Memory),
     }
 }

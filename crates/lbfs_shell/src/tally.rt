@@ -1,7 +1,7 @@
 //! What the tasks of a command came to so far.
 
 ghost use Rattle.std.specs.Prelude.{◌≡◌, true};
-ghost use Rattle.lbfs_shell.specs.Tally.{nothing_yet, with_visit, capped_sum};
+ghost use Rattle.lbfs_shell.specs.Tally.{nothing_yet, with_visit, capped_sum, is_told};
 
 use shell_walks::visiting::Visited;
 
@@ -37,5 +37,12 @@ impl Tally {
             bytes: self.bytes.saturating_add(visited.bytes),
             is_fine: self.is_fine && visited.note.is_empty(),
         }
+    }
+
+    /// Whether it is told at the end: where nothing was done, and why was said, it needn't be.
+    pub(crate) fn is_told(self) -> bool
+        ensures { result ≡ is_told self }
+    {
+        self.is_fine || self.files > 0
     }
 }

@@ -1,11 +1,12 @@
 //! The lines that say how far a command is, and what it came to: `specs/Telling.antt`.
 
 ghost use Rattle.std.specs.Prelude.{◌≡◌, ◌++◌, IfOk, OnOk, codes, decimal};
-ghost use Rattle.lbfs_shell.specs.Telling.{count_text, big_text, middle_text, size_text, end_line, rate_text, left_of, left_text, files_text, line_part, progress_line, left_out_text, prompt_text, line_text};
+ghost use Rattle.lbfs_shell.specs.Telling.{count_text, big_text, middle_text, size_text, end_line, rate_text, left_of, left_text, files_text, line_part, pace_text, progress_line, left_out_text, prompt_text, number_text, line_text};
 
 use crate::tally::Tally;
 use lb_base::items::{Bytes, Items, Name};
 use shell_walks::telling::path_text;
+use shell_words::quoting::quoted;
 use std::alloc::{AllocError, Global};
 use std::fmt::Write;
 
@@ -19,7 +20,12 @@ pub(crate) struct Glance {
     pub(crate) wire: u64,
     /// How many milliseconds it took.
     pub(crate) spent: u64,
+    /// For how many milliseconds no byte has gone over the line.
+    pub(crate) still: u64,
 }
+
+/// Behind how many such milliseconds it is said that the server is waited for.
+const STILL: u64 = 2_000;
 
 /// So many of something.
 fn count_text(alloc: Global, count: u64, what: &str) -> Result<Bytes, AllocError>
@@ -145,27 +151,32 @@ fn line_part(alloc: Global, wire: u64, spent: u64) -> Result<Bytes, AllocError>
     Ok(out)
 }
 
+/// What went over the line, how fast, and the seconds that are left; or that it waits.
+fn pace_text(alloc: Global, glance: Glance) -> Result<Bytes, AllocError>
+    ensures { IfOk result (λ text. text ≡ pace_text glance) }
+{
+    if glance.still >= STILL {
+        return Items::copy_of(alloc, b"waiting for the server (another client's lease?)");
+    }
+    let mut out = line_part(alloc, glance.wire, glance.spent)?;
+    let rest = left_text(alloc, glance.tally.files, glance.left, glance.spent)?;
+    out.extend_from_slice(rest.as_slice())?;
+    Ok(out)
+}
+
 /// How far a command is, in the place of the line that stands there.
 pub(crate) fn progress_line(alloc: Global, glance: Glance) -> Result<Bytes, AllocError>
     ensures { IfOk result (λ text. text ≡ progress_line glance) }
 {
-    let Glance {
-        tally,
-        left,
-        wire,
-        spent,
-    } = glance;
-    let files = files_text(alloc, tally.files, left)?;
-    let contents = size_text(alloc, tally.bytes)?;
-    let line = line_part(alloc, wire, spent)?;
-    let rest = left_text(alloc, tally.files, left, spent)?;
+    let files = files_text(alloc, glance.tally.files, glance.left)?;
+    let contents = size_text(alloc, glance.tally.bytes)?;
+    let pace = pace_text(alloc, glance)?;
     let mut out = Items::copy_of(alloc, b"\r")?;
     out.extend_from_slice(files.as_slice())?;
     out.extend_from_slice(b", ")?;
     out.extend_from_slice(contents.as_slice())?;
     out.extend_from_slice(b"; ")?;
-    out.extend_from_slice(line.as_slice())?;
-    out.extend_from_slice(rest.as_slice())?;
+    out.extend_from_slice(pace.as_slice())?;
     out.extend_from_slice(b"\x1b[K")?;
     Ok(out)
 }
@@ -200,10 +211,24 @@ pub(crate) fn prompt_text(alloc: Global, place: &[Name]) -> Result<Bytes, AllocE
 }
 
 /// The number of a line, as it is named.
-pub(crate) fn line_text(alloc: Global, number: u64) -> Result<Bytes, AllocError>
-    ensures { IfOk result (λ text. text ≡ line_text number) }
+fn number_text(alloc: Global, number: u64) -> Result<Bytes, AllocError>
+    ensures { IfOk result (λ text. text ≡ number_text number) }
 {
     let mut text = String::new(alloc);
     write!(text, "line {number}")?;
     Ok(Items::from_vec(text.into_bytes()))
+}
+
+/// A line as it is named: by its number, and by its first word, if one was read.
+pub(crate) fn line_text(alloc: Global, number: u64, first: &[u8]) -> Result<Bytes, AllocError>
+    ensures { IfOk result (λ text. text ≡ line_text number first.now) }
+{
+    let mut out = number_text(alloc, number)?;
+    if first.len() == 0 {
+        return Ok(out);
+    }
+    let word = quoted(alloc, first)?;
+    out.extend_from_slice(b": ")?;
+    out.extend_from_slice(word.as_slice())?;
+    Ok(out)
 }

@@ -24,14 +24,21 @@ pub(crate) fn watch<W: Wait, P: Screen, H, D: Dials, C: Clock, T: Rest>(
     let begun = out.clock.now();
     let before = out.dialler.bytes();
     let mut next = FIRST;
+    let mut last = 0;
+    let mut moved = 0;
     for _turn in rt.forever() {
         if pool.is_over(rt) {
             return;
         }
         let spent = out.clock.now().saturating_sub(begun);
+        let wire = out.dialler.bytes().saturating_sub(before);
+        if wire != last {
+            last = wire;
+            moved = spent;
+        }
         if spent >= next {
-            let wire = out.dialler.bytes().saturating_sub(before);
-            pool.show(rt, alloc, &out.screen, wire, spent);
+            let still = spent.saturating_sub(moved);
+            pool.show(rt, alloc, &out.screen, wire, spent, still);
             next = spent.saturating_add(AGAIN);
         }
         out.rest.rest();

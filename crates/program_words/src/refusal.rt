@@ -1,5 +1,5 @@
 //! What a person is told on standard error whose words are refused: what is wrong with them, and which
-//! words there are.
+//! words there are, or those of the command that was meant.
 
 use crate::asked::{KEEP_MOST, PORT_MOST, SEED_MOST};
 use crate::front::LINKS_MOST;
@@ -14,26 +14,89 @@ use std::alloc::{AllocError, Global};
 use std::fmt::Write;
 use trace_generator::BLOCKS_MOST;
 
+/// The words of a command, and what it does.
+#[derive(Clone, Copy)]
+struct Use {
+    name: &'static str,
+    /// All of them, its name first.
+    words: &'static str,
+    does: &'static str,
+}
+
+/// A command of this name, with these words.
+fn using(name: &'static str, words: &'static str, does: &'static str) -> Use {
+    Use { name, words, does }
+}
+
+/// All commands.
+fn uses() -> [Use; 10] {
+    [
+        using(
+            "replay",
+            "replay [--summary]",
+            "runs the trace on standard input",
+        ),
+        using(
+            "replay",
+            "replay --seed S --blocks N [--summary]",
+            "runs a trace of N blocks that is made from a seed",
+        ),
+        using("gen", "gen S N", "writes such a trace"),
+        using("cut", "cut", "lists the chunks of standard input"),
+        using("show", "show", "lists the RPC records of standard input"),
+        using(
+            "serve",
+            "serve --port P --term MS --sessions N --store DIR [--unsynced]",
+            "serves a folder, until N sessions have ended",
+        ),
+        using(
+            "mount",
+            "mount --port P --drift MS [--cache NAME] [--keep BYTES]",
+            "runs the commands on standard input on a served folder",
+        ),
+        using(
+            "check",
+            "check --store DIR",
+            "looks over a folder that isn't served",
+        ),
+        using(
+            "share",
+            "share DIR [--port P] [--term MS] [--unsynced]",
+            "serves a folder until it is ended, at port 7000 if none is given",
+        ),
+        using(
+            "shell",
+            "shell --port P [--links N] [--quiet] [COMMAND ..]",
+            "runs a command, or what is typed, on a served folder",
+        ),
+    ]
+}
+
 /// The words that there are.
-const USAGE: &str = "usage: lbfs COMMAND
-  replay [--summary]                    runs the trace on standard input
-  replay --seed S --blocks N [--summary]
-                                        runs a trace of N blocks that is made from a seed
-  gen S N                               writes such a trace
-  cut                                   lists the chunks of standard input
-  show                                  lists the RPC records of standard input
-  serve --port P --term MS --sessions N --store DIR [--unsynced]
-                                        serves a folder, until N sessions have ended
-  mount --port P --drift MS [--cache NAME] [--keep BYTES]
-                                        runs the commands on standard input on a served folder
-  check --store DIR                     looks over a folder that isn't served
-  share DIR [--port P] [--term MS] [--unsynced]
-                                        serves a folder until it is ended,
-                                        at port 7000 if none is given
-  shell --port P [--links N] [--quiet] [COMMAND ..]
-                                        runs a command, or what is typed, on a served folder
-docs/COMMANDS.md says what each reads, writes and ends with.
-";
+fn put_usage(text: &mut String) -> Result<(), AllocError> {
+    text.push_str("usage: lbfs COMMAND\n")?;
+    let uses = uses();
+    for it in uses.iter() {
+        write!(text, "  {}\n      {}\n", it.words, it.does)?;
+    }
+    text.push_str("docs/COMMANDS.md says what each reads, writes and ends with.\n")
+}
+
+/// The words of the command that is named first; all where none is.
+fn put_usage_of(text: &mut String, words: &[String]) -> Result<(), AllocError> {
+    let Some(word) = words.first() else {
+        return put_usage(text);
+    };
+    let mut is_named = false;
+    let uses = uses();
+    for it in uses.iter() {
+        if word.as_str() == it.name {
+            write!(text, "usage: lbfs {}\n", it.words)?;
+            is_named = true;
+        }
+    }
+    if is_named { Ok(()) } else { put_usage(text) }
+}
 
 /// An option whose value is a number, and between which numbers it lies.
 #[derive(Clone, Copy)]
@@ -127,11 +190,16 @@ fn put_reason(alloc: Global, text: &mut String, words: &[String]) -> Result<(), 
     }
 }
 
-/// What is told of words that ask for nothing: a line that says what is wrong with them, unless they are
-/// none or a call for help, and the words that there are. The one error is want of memory.
+/// What is told of words that ask for nothing: a line that says what is wrong with them, and the words of the
+/// command that was meant; where they are none, or a call for help, all words that there are. The one error is want
+/// of memory.
 pub fn refusal(alloc: Global, words: &[String]) -> Result<String, AllocError> {
     let mut text = String::new(alloc);
     put_reason(alloc, &mut text, words)?;
-    text.push_str(USAGE)?;
+    if text.is_empty() {
+        put_usage(&mut text)?;
+    } else {
+        put_usage_of(&mut text, words)?;
+    }
     Ok(text)
 }

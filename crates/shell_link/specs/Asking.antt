@@ -21,6 +21,8 @@ use Rattle.client_state.specs.declared.step.Ended.{Ended}
 use Rattle.client_state.specs.declared.step.Outcome.{Outcome}
 use Rattle.client_state.specs.declared.step.Outcome.TheVariants as outcome
 use Rattle.lbfs_client.specs.Client.{Takes, Hears}
+use Rattle.shell_link.specs.Hearing.{nothing_heard, Heeds, listed_as}
+use Rattle.shell_link.specs.declared.hearing.Heard.{Heard}
 use Rattle.shell_walks.specs.declared.remote.Answer.{Answer}
 use Rattle.shell_walks.specs.declared.remote.Answer.TheVariants as answer
 use Rattle.shell_walks.specs.declared.remote.Why.TheVariants as why
@@ -38,24 +40,34 @@ abbrev pub is_directory : Kind → Bool
 is_directory kind.Directory = true
 is_directory kind.File = false
 
-abbrev pub answer_of : Outcome → Answer
-answer_of (outcome.Opened file len sha1) = answer.Opened file
-answer_of (outcome.Closed file version len sha1) = answer.Closed version
-answer_of outcome.Done = answer.Done
-answer_of (outcome.Piece len sha1) = answer.Done
-answer_of (outcome.Names names) = answer.Names names
-answer_of (outcome.Seen id k version len) = answer.Seen (record { id = id; is_dir = is_directory k; version = version; len = len })
-answer_of outcome.Busy = answer.Failed why.Order
-answer_of outcome.NotOpen = answer.Failed why.Order
-answer_of outcome.AlreadyOpen = answer.Failed why.Order
-answer_of (outcome.TooBig size) = answer.Failed why.TooBig
-answer_of outcome.Lost = answer.Failed why.Lost
-answer_of (outcome.Changed first last) = answer.Failed why.Changed
-answer_of outcome.NoLink = answer.Failed why.NoLink
-answer_of (outcome.Refused status) = answer.Failed (why.Refused (status_number status))
-answer_of outcome.PeerMemory = answer.Failed why.PeerMemory
-answer_of (outcome.BadPeer fault) = answer.Failed (why.BadPeer (fault_number fault))
-answer_of outcome.Memory = answer.Failed why.Memory
+-- a file is made
+abbrev pub makes : Command → Bool
+makes (command.Named (path.Make spot)) = true
+makes c = false
+
+-- of a file that was made its id is told, where its CREATE told it
+abbrev pub done_as : (makes : Bool) → Option ℕ → Answer
+done_as true (Some file) = answer.Made file
+done_as m made = answer.Done
+
+abbrev pub answer_of : (makes : Bool) → Heard → Outcome → Answer
+answer_of m h (outcome.Opened file len sha1) = answer.Opened file
+answer_of m h (outcome.Closed file version len sha1) = answer.Closed version
+answer_of m h outcome.Done = done_as m h.made
+answer_of m h (outcome.Piece len sha1) = answer.Done
+answer_of m h (outcome.Names names) = answer.Names (listed_as names h.ids)
+answer_of m h (outcome.Seen id k version len) = answer.Seen (record { id = id; is_dir = is_directory k; version = version; len = len })
+answer_of m h outcome.Busy = answer.Failed why.Order
+answer_of m h outcome.NotOpen = answer.Failed why.Order
+answer_of m h outcome.AlreadyOpen = answer.Failed why.Order
+answer_of m h (outcome.TooBig size) = answer.Failed why.TooBig
+answer_of m h outcome.Lost = answer.Failed why.Lost
+answer_of m h (outcome.Changed first last) = answer.Failed why.Changed
+answer_of m h outcome.NoLink = answer.Failed why.NoLink
+answer_of m h (outcome.Refused status) = answer.Failed (why.Refused (status_number status))
+answer_of m h outcome.PeerMemory = answer.Failed why.PeerMemory
+answer_of m h (outcome.BadPeer fault) = answer.Failed (why.BadPeer (fault_number fault))
+answer_of m h outcome.Memory = answer.Failed why.Memory
 
 abbrev pub is_lost : Answer → Bool
 is_lost (answer.Failed why.Lost) = true
@@ -68,21 +80,22 @@ abbrev pub kept : Option Ended → Option Ended → Option Ended
 kept None later = later
 kept (Some e) later = Some e
 
--- The client takes the command; then it hears what comes, or is told that the connection is lost, until the command has ended.
-pub data Runs (old : State) (c : Command) : State → Option Ended → Type 0 where
-  takes : (s : State) (now : ℕ) (step : ClientStep) → Takes old c now s step → Runs old c s step.ended
-  hears : (s t : State) (m : Result Message WireFault) (now : ℕ) (step : ClientStep) → Runs old c s None → Hears s m now t step → Runs old c t step.ended
-  loses : (s : State) (ended : Option Ended) → Runs old c s ended → Runs old c (cut s).0 (kept ended (cut s).1.ended)
+-- The client takes the command; then it hears what comes, with what the shell heeds of that, or is told that the connection is lost, until the command has ended.
+pub data Runs (old : State) (c : Command) : Heard → State → Option Ended → Type 0 where
+  takes : (s : State) (now : ℕ) (step : ClientStep) → Takes old c now s step → Runs old c nothing_heard s step.ended
+  hears : (h g : Heard) (s t : State) (m : Result Message WireFault) (now : ℕ) (step : ClientStep) → Runs old c h s None → Heeds h m g → Hears s m now t step → Runs old c g t step.ended
+  loses : (h : Heard) (s : State) (ended : Option Ended) → Runs old c h s ended → Runs old c h (cut s).0 (kept ended (cut s).1.ended)
 
 -- where more was heard than can be counted, it ends as for want of memory
-abbrev pub told_of : Option Ended → Answer
-told_of (Some e) = answer_of e.outcome
-told_of None = answer.Failed why.Memory
+abbrev pub told_of : (makes : Bool) → Heard → Option Ended → Answer
+told_of m h (Some e) = answer_of m h e.outcome
+told_of m h None = answer.Failed why.Memory
 
 pub record Once (old : State) (c : Command) (a : Answer) (new : State) : Type 0 where
   pub ended : Option Ended
-  pub runs : Runs old c new ended
-  pub told : a ≡ told_of ended
+  pub heard : Heard
+  pub runs : Runs old c heard new ended
+  pub told : a ≡ told_of (makes c) heard ended
 
 -- messages went out, or the connection is lost
 abbrev pub Sends : State → Option Ended → State → Option Ended → Type 0
@@ -101,6 +114,7 @@ reads p = false
 
 abbrev pub rereads : Command → Bool
 rereads (command.Named p) = reads p
+rereads (command.Open file) = true
 rereads (command.Rewrite file) = true
 rereads c = false
 

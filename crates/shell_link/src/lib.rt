@@ -3,5 +3,6 @@
 //! what a command comes to is known: `specs/Asking.antt`, over the client's own steps.
 #![tactic(auto)]
 
+mod hearing;
 mod outcomes;
 pub mod session;

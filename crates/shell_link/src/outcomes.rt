@@ -1,8 +1,9 @@
 //! What a shell makes of how a command ended, and which commands may be asked again: `specs/Asking.antt`.
 
 ghost use Rattle.std.specs.Prelude.{◌≡◌, true, IfOk, IfSome};
-ghost use Rattle.shell_link.specs.Asking.{fault_number, is_directory, answer_of, is_lost, said_of, reads, rereads};
+ghost use Rattle.shell_link.specs.Asking.{fault_number, is_directory, done_as, answer_of, makes, is_lost, said_of, reads, rereads};
 
+use crate::hearing::{Heard, listed_as};
 use client_state::step::{BadPeer, Outcome};
 use command_text::command::Command;
 use command_text::path::{PathCommand, Spot};
@@ -32,15 +33,33 @@ fn is_directory(kind: Kind) -> bool
     matches!(kind, Kind::Directory)
 }
 
+/// Whether a command makes a file.
+pub(crate) fn makes(command: &Command) -> bool
+    ensures { result ≡ makes command.now }
+{
+    matches!(command, Command::Named(PathCommand::Make(_)))
+}
+
+/// What was done, and has nothing to tell but the id of a file that was made.
+fn done_as(makes: bool, made: Option<u64>) -> Answer
+    ensures { result ≡ done_as makes made }
+{
+    match made {
+        Some(file) if makes => Answer::Made(file),
+        _ => Answer::Done,
+    }
+}
+
 /// How a command ended, as a shell is told it.
-pub(crate) fn answer_of(outcome: Outcome) -> Answer
-    ensures { result ≡ answer_of outcome }
+pub(crate) fn answer_of(alloc: Global, makes: bool, heard: Heard, outcome: Outcome) -> Answer
+    ensures { result ≡ answer_of makes heard outcome }
 {
     match outcome {
         Outcome::Opened { file, .. } => Answer::Opened(file),
         Outcome::Closed { version, .. } => Answer::Closed(version),
-        Outcome::Done | Outcome::Piece { .. } => Answer::Done,
-        Outcome::Names(names) => Answer::Names(names),
+        Outcome::Done => done_as(makes, heard.made),
+        Outcome::Piece { .. } => Answer::Done,
+        Outcome::Names(names) => Answer::Names(listed_as(alloc, names, heard.ids)),
         Outcome::Seen {
             id,
             kind,
@@ -91,7 +110,7 @@ pub(crate) fn rereads(command: &Command) -> bool
 {
     match command {
         Command::Named(command) => reads(command),
-        Command::Rewrite(_) => true,
+        Command::Open(_) | Command::Rewrite(_) => true,
         _ => false,
     }
 }
@@ -138,6 +157,7 @@ pub(crate) fn again_of(alloc: Global, command: &Command) -> Option<Command>
             Ok(Some(command)) => Some(Command::Named(command)),
             _ => None,
         },
+        Command::Open(file) => Some(Command::Open(*file)),
         Command::Rewrite(file) => Some(Command::Rewrite(*file)),
         _ => None,
     }

@@ -5,10 +5,12 @@ ghost use Rattle.limits.specs.declared.TheConstants.{FILE_MOST};
 ghost use Rattle.client_state.specs.State.{State, start_with, local_bytes};
 ghost use Rattle.client_state.specs.Ending.{cut, joined};
 ghost use Rattle.command_text.specs.declared.command.Command.{Command};
-ghost use Rattle.shell_link.specs.Asking.{answer_of, told_of, kept, Sends, Runs, Once, Asks, AsksHinted, MayLearn, MayOffer, rereads, NotesNothing, Leaves};
+ghost use Rattle.shell_link.specs.Asking.{answer_of, makes, told_of, kept, Sends, Runs, Once, Asks, AsksHinted, MayLearn, MayOffer, rereads, NotesNothing, Leaves};
+ghost use Rattle.shell_link.specs.Hearing.{nothing_heard};
 ghost use Rattle.shell_link.specs.declared.session.TheConstants.{DRIFT};
 
-use crate::outcomes::{again_of, answer_of, is_lost, rereads, said_of};
+use crate::hearing::{Heard, heed, nothing_heard};
+use crate::outcomes::{again_of, answer_of, is_lost, makes, rereads, said_of};
 use client_state::step::{ClientStep, Ended, Outcome};
 use command_text::command::Command;
 use lb_base::items::{Bytes, Items};
@@ -124,22 +126,24 @@ fn begin<L: Link>(
     command: Command,
     now: u64,
 ) -> Option<Ended>
-    ensures { Runs client.old command client.new result }
+    ensures { Runs client.old command nothing_heard client.new result }
 {
     let step = client.command(alloc, command, now);
     send(alloc, client, line, step)
 }
 
-/// The client hears a message, and what it says goes out.
+/// What a message tells is heard, the client hears it, and what it says goes out.
 fn hear<L: Link>(
     alloc: Global,
     client: &mut Client,
     line: &mut Option<Line<L>>,
+    heard: &mut Heard,
     message: Result<Message, WireFault>,
     now: u64,
 ) -> Option<Ended>
-    ensures { (o : State) (k : Command) → Runs o k client.old None → Runs o k client.new result }
+    ensures { (o : State) (k : Command) → Runs o k heard.old client.old None → Runs o k heard.new client.new result }
 {
+    heed(heard, &message);
     let step = client.got(alloc, message, now);
     send(alloc, client, line, step)
 }
@@ -149,29 +153,31 @@ fn go_on<L: Link>(
     alloc: Global,
     client: &mut Client,
     line: &mut Option<Line<L>>,
+    heard: &mut Heard,
     now: u64,
 ) -> Option<Ended>
-    ensures { (o : State) (k : Command) → Runs o k client.old None → Runs o k client.new result }
+    ensures { (o : State) (k : Command) → Runs o k heard.old client.old None → Runs o k heard.new client.new result }
 {
     match next_message(alloc, client, line) {
-        Some(message) => hear(alloc, client, line, message, now),
+        Some(message) => hear(alloc, client, line, heard, message, now),
         None => lose(alloc, client, None),
     }
 }
 
 /// How a command ended, as a shell is told it.
-fn tell(mut ended: Ended) -> Answer
-    ensures { result ≡ answer_of ended.outcome }
+fn tell(alloc: Global, makes: bool, heard: Heard, mut ended: Ended) -> Answer
+    ensures { result ≡ answer_of makes heard ended.outcome }
 {
-    answer_of(mem::replace(&mut ended.outcome, Outcome::Done))
+    let outcome = mem::replace(&mut ended.outcome, Outcome::Done);
+    answer_of(alloc, makes, heard, outcome)
 }
 
 /// What is told where a command has ended, or where more was heard than can be counted.
-fn told(ended: Option<Ended>) -> Answer
-    ensures { result ≡ told_of ended }
+fn told(alloc: Global, makes: bool, heard: Heard, ended: Option<Ended>) -> Answer
+    ensures { result ≡ told_of makes heard ended }
 {
     match ended {
-        Some(ended) => tell(ended),
+        Some(ended) => tell(alloc, makes, heard, ended),
         None => Answer::Failed(Why::Memory),
     }
 }
@@ -186,14 +192,16 @@ fn run<L: Link, C: Clock>(
 ) -> Answer
     ensures { Once client.old command result client.new }
 {
+    let makes = makes(&command);
+    let mut heard = nothing_heard(alloc);
     let mut ended = begin(alloc, client, line, command, clock.now());
     for _turn in 0..u64::MAX {
         if ended.is_some() {
-            return told(ended);
+            return told(alloc, makes, heard, ended);
         }
-        ended = go_on(alloc, client, line, clock.now());
+        ended = go_on(alloc, client, line, &mut heard, clock.now());
     }
-    told(ended)
+    told(alloc, makes, heard, ended)
 }
 
 /// A line is shut, where there is one.

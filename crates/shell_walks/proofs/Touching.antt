@@ -1,15 +1,16 @@
 -- What tasks leave alone, and which come of them.
-use Rattle.std.proofs.Common.{◌≡◌, ◌⊎◌, refl, sym, subst, ap, ◌∙◌, ℕ, List, [], ◌∷◌, ◌++◌, Bool, true, false, cond, Option, Some, None, Result, Ok, Err, OnOk, inl, inr}
+use Rattle.std.proofs.Common.{◌≡◌, ◌⊎◌, refl, sym, subst, ap, ◌∙◌, ℕ, ◌+◌, List, [], ◌∷◌, ◌++◌, slice_get, Bool, true, false, cond, Option, Some, None, Result, Ok, Err, OnOk, inl, inr}
 use Rattle.command_text.specs.declared.command.Command.{Command}
 use Rattle.shell_words.specs.Local.{is_local, below}
 use Rattle.shell_walks.specs.Fetching.{Gets, GetsAfter, GetsIf, Fetches}
 use Rattle.shell_walks.specs.Storing.{opened_file}
-use Rattle.shell_walks.specs.Tasks.{put_more, put_tasks, get_more, get_tasks, is_among, remove_more, removals}
+use Rattle.shell_walks.specs.Tasks.{unlisted, known, put_more, put_tasks, put_known, get_more, get_tasks, is_among, remove_more, removals}
 use Rattle.shell_walks.specs.Visiting.{Touches, Touches.untouched, Touches.found, Touches.read, Touches.written, Touches.listed, Touches.made, Touches.tried, IsNamedIn, ComesOf, AllCome}
 use Rattle.shell_walks.specs.declared.fetching.Got.{Got}
 use Rattle.shell_walks.specs.declared.folder.Kind.{Kind}
 use Rattle.shell_walks.specs.declared.folder.LocalFault.{LocalFault}
 use Rattle.shell_walks.specs.declared.remote.Answer.{Answer}
+use Rattle.shell_walks.specs.declared.remote.Listed.{Listed}
 use Rattle.shell_walks.specs.declared.tasks.Storing.{Storing}
 use Rattle.shell_walks.specs.declared.tasks.Task.{Task}
 use Rattle.shell_walks.specs.declared.tasks.Task.TheVariants as task
@@ -26,15 +27,19 @@ put_of local path s s' name false is = tt
 
 pub puts_come : (local : List ℕ) (path : List (List ℕ)) (s s' : Storing) (names : List (List ℕ)) → AllCome (task.Put local path s) (put_tasks local path s' names)
 puts_come local path s s' [] = tt
-puts_come local path s s' (name ∷ names) = join (task.Put local path s) (put_more local path s' name) (put_tasks local path s' names) (put_of local path s s' name (is_local name) refl) (puts_come local path s s' names)
+puts_come local path s s' (name ∷ names) = join (task.Put local path s) (put_more local path (unlisted s') name) (put_tasks local path s' names) (put_of local path s (unlisted s') name (is_local name) refl) (puts_come local path s s' names)
 
-get_of : (path : List (List ℕ)) (local : List ℕ) (deep : Bool) (name : List ℕ) (b : Bool) → is_local name ≡ b → AllCome (task.Get path local deep) (cond b (task.Get (path ++ name ∷ []) (below local name) true ∷ []) [])
-get_of path local deep name true is = ((name, is, refl, refl), tt)
-get_of path local deep name false is = tt
+pub known_come : (local : List ℕ) (path : List (List ℕ)) (s s' : Storing) (l : Listed) (names : List (List ℕ)) → AllCome (task.Put local path s) (put_known local path s' l names)
+known_come local path s s' l [] = tt
+known_come local path s s' l (name ∷ names) = join (task.Put local path s) (put_more local path (known s' l.ids 0 l.names name) name) (put_known local path s' l names) (put_of local path s (known s' l.ids 0 l.names name) name (is_local name) refl) (known_come local path s s' l names)
 
-pub gets_come : (path : List (List ℕ)) (local : List ℕ) (deep : Bool) (names : List (List ℕ)) → AllCome (task.Get path local deep) (get_tasks path local names)
-gets_come path local deep [] = tt
-gets_come path local deep (name ∷ names) = join (task.Get path local deep) (get_more path local name) (get_tasks path local names) (get_of path local deep name (is_local name) refl) (gets_come path local deep names)
+get_of : (path : List (List ℕ)) (local : List ℕ) (deep : Bool) (id old : Option ℕ) (name : List ℕ) (b : Bool) → is_local name ≡ b → AllCome (task.Get path local deep old) (cond b (task.Get (path ++ name ∷ []) (below local name) true id ∷ []) [])
+get_of path local deep id old name true is = ((name, is, refl, refl), tt)
+get_of path local deep id old name false is = tt
+
+pub gets_come : (path : List (List ℕ)) (local : List ℕ) (deep : Bool) (old : Option ℕ) (ids : List ℕ) (at : ℕ) (names : List (List ℕ)) → AllCome (task.Get path local deep old) (get_tasks path local ids at names)
+gets_come path local deep old ids at [] = tt
+gets_come path local deep old ids at (name ∷ names) = join (task.Get path local deep old) (get_more path local (slice_get ids at) name) (get_tasks path local ids (at + 1) names) (get_of path local deep (slice_get ids at) old name (is_local name) refl) (gets_come path local deep old ids (at + 1) names)
 
 removal_of : (local : List ℕ) (path : List (List ℕ)) (s : Storing) (name : List ℕ) (b : Bool) → AllCome (task.Put local path s) (cond b [] (task.Remove (path ++ name ∷ []) ∷ []))
 removal_of local path s name true = tt
@@ -92,15 +97,15 @@ gets_if : {F : Type 0} {finds : F → List ℕ → Kind → F → Type 0} {reads
 gets_if asks content local old new host host' (Some file) opened g k = only_written local (content old file) k.wrote host host' k.written
 gets_if asks content local old new host host' None opened g k = untouched host' k.1
 
-fetches_touch : {F : Type 0} {finds : F → List ℕ → Kind → F → Type 0} {reads : F → List ℕ → Result (List ℕ) LocalFault → F → Type 0} {writes : F → List ℕ → List ℕ → Result Unit LocalFault → F → Type 0} {lists : F → List ℕ → Result (List (List ℕ)) LocalFault → F → Type 0} {makes tries : F → List ℕ → Result Unit LocalFault → F → Type 0} {R : Type 0} (asks : R → Command → Answer → R → Type 0) (content : R → ℕ → List ℕ) (path : List (List ℕ)) (local : List ℕ) (old new : R) (host host' : F) (g : Got) → Fetches asks content writes old host path local g new host' → Touches finds reads writes lists makes tries local host host'
-fetches_touch asks content path local old new host host' g k = gets_if asks content local k.between new host host' (opened_file k.opened) k.opened g k.goes_on
+fetches_touch : {F : Type 0} {finds : F → List ℕ → Kind → F → Type 0} {reads : F → List ℕ → Result (List ℕ) LocalFault → F → Type 0} {writes : F → List ℕ → List ℕ → Result Unit LocalFault → F → Type 0} {lists : F → List ℕ → Result (List (List ℕ)) LocalFault → F → Type 0} {makes tries : F → List ℕ → Result Unit LocalFault → F → Type 0} {R : Type 0} (asks : R → Command → Answer → R → Type 0) (content : R → ℕ → List ℕ) (id : Option ℕ) (path : List (List ℕ)) (local : List ℕ) (old new : R) (host host' : F) (g : Got) → Fetches asks content writes old host id path local g new host' → Touches finds reads writes lists makes tries local host host'
+fetches_touch asks content id path local old new host host' g k = gets_if asks content local k.between new host host' (opened_file k.opened) k.opened g k.goes_on
 
-gets_after : {F : Type 0} {finds : F → List ℕ → Kind → F → Type 0} {reads : F → List ℕ → Result (List ℕ) LocalFault → F → Type 0} {writes : F → List ℕ → List ℕ → Result Unit LocalFault → F → Type 0} {lists : F → List ℕ → Result (List (List ℕ)) LocalFault → F → Type 0} {makes tries : F → List ℕ → Result Unit LocalFault → F → Type 0} {R : Type 0} (asks : R → Command → Answer → R → Type 0) (content : R → ℕ → List ℕ) (path : List (List ℕ)) (local : List ℕ) (old new : R) (host host' : F) (may : Result Unit LocalFault) (g : Got) → GetsAfter asks content writes old host may path local g new host' → Touches finds reads writes lists makes tries local host host'
-gets_after asks content path local old new host host' (Ok u) g k = fetches_touch asks content path local old new host host' g k
-gets_after asks content path local old new host host' (Err fault) g k = untouched host' k.1
+gets_after : {F : Type 0} {finds : F → List ℕ → Kind → F → Type 0} {reads : F → List ℕ → Result (List ℕ) LocalFault → F → Type 0} {writes : F → List ℕ → List ℕ → Result Unit LocalFault → F → Type 0} {lists : F → List ℕ → Result (List (List ℕ)) LocalFault → F → Type 0} {makes tries : F → List ℕ → Result Unit LocalFault → F → Type 0} {R : Type 0} (asks : R → Command → Answer → R → Type 0) (content : R → ℕ → List ℕ) (id : Option ℕ) (path : List (List ℕ)) (local : List ℕ) (old new : R) (host host' : F) (may : Result Unit LocalFault) (g : Got) → GetsAfter asks content writes old host may id path local g new host' → Touches finds reads writes lists makes tries local host host'
+gets_after asks content id path local old new host host' (Ok u) g k = fetches_touch asks content id path local old new host host' g k
+gets_after asks content id path local old new host host' (Err fault) g k = untouched host' k.1
 
-pub gets_touch : {F : Type 0} {finds : F → List ℕ → Kind → F → Type 0} {reads : F → List ℕ → Result (List ℕ) LocalFault → F → Type 0} {writes : F → List ℕ → List ℕ → Result Unit LocalFault → F → Type 0} {lists : F → List ℕ → Result (List (List ℕ)) LocalFault → F → Type 0} {makes tries : F → List ℕ → Result Unit LocalFault → F → Type 0} {R : Type 0} (asks : R → Command → Answer → R → Type 0) (content : R → ℕ → List ℕ) (path : List (List ℕ)) (local : List ℕ) (old new : R) (host host' : F) (g : Got) → Gets asks content writes tries old host path local g new host' → Touches finds reads writes lists makes tries local host host'
-gets_touch asks content path local old new host host' g k = both local host k.between host' (only_tried local k.may host k.between k.trial) (gets_after asks content path local old new k.between host' k.may g k.goes_on)
+pub gets_touch : {F : Type 0} {finds : F → List ℕ → Kind → F → Type 0} {reads : F → List ℕ → Result (List ℕ) LocalFault → F → Type 0} {writes : F → List ℕ → List ℕ → Result Unit LocalFault → F → Type 0} {lists : F → List ℕ → Result (List (List ℕ)) LocalFault → F → Type 0} {makes tries : F → List ℕ → Result Unit LocalFault → F → Type 0} {R : Type 0} (asks : R → Command → Answer → R → Type 0) (content : R → ℕ → List ℕ) (id : Option ℕ) (path : List (List ℕ)) (local : List ℕ) (old new : R) (host host' : F) (g : Got) → Gets asks content writes tries old host id path local g new host' → Touches finds reads writes lists makes tries local host host'
+gets_touch asks content id path local old new host host' g k = both local host k.between host' (only_tried local k.may host k.between k.trial) (gets_after asks content id path local old new k.between host' k.may g k.goes_on)
 
 -- what holds whatever came of it, and more
 pub always_ok : {A E : Type 0} (r : Result A E) (P : Type 0) → P → OnOk r P

@@ -1,13 +1,14 @@
 -- The commands of a client that stand for a path, and what asking for one comes to, over what a client does at any command (`asks`).
-use Rattle.std.specs.Prelude.{◌≡◌, ℕ, ◌&&◌, List, Bool, true, false, length, nat_lt, Option, Some, None, if◌then◌else◌}
+use Rattle.std.specs.Prelude.{◌≡◌, ℕ, ◌==◌, ◌&&◌, List, Bool, true, false, length, nat_lt, Option, Some, None, if◌then◌else◌}
 use Rattle.command_text.specs.Paths.{spot_at}
 use Rattle.command_text.specs.declared.command.Command.{Command}
-use Rattle.command_text.specs.declared.command.Command.TheVariants.{Named}
+use Rattle.command_text.specs.declared.command.Command.TheVariants.{Named, Open}
 use Rattle.command_text.specs.declared.path.PathCommand.TheVariants as paths
 use Rattle.shell_walks.specs.declared.asking.Deed.{Deed}
 use Rattle.shell_walks.specs.declared.asking.Deed.TheVariants as deed
 use Rattle.shell_walks.specs.declared.remote.Answer.{Answer}
 use Rattle.shell_walks.specs.declared.remote.Answer.TheVariants as answer
+use Rattle.shell_walks.specs.declared.remote.Why.{Why}
 use Rattle.shell_walks.specs.declared.remote.Why.TheVariants as why
 
 abbrev pub command_at : Deed → List (List ℕ) → Command
@@ -37,3 +38,29 @@ rename_of from to =
 abbrev pub AsksOn : {R : Type 0} → (asks : R → Command → Answer → R → Type 0) → R → Option Command → Answer → R → Type 0
 AsksOn asks old (Some c) a new = asks old c a new
 AsksOn asks old None a new = (new ≡ old) × (a ≡ answer.Failed (why.Refused 22))
+
+-- ---- a file that is opened, with its content
+
+-- NFS3ERR_STALE
+abbrev pub is_gone_for : Why → Bool
+is_gone_for (why.Refused n) = n == 70
+is_gone_for w = false
+
+abbrev pub is_gone : Answer → Bool
+is_gone (answer.Failed w) = is_gone_for w
+is_gone a = false
+
+abbrev pub FindsIf : {R : Type 0} → (asks : R → Command → Answer → R → Type 0) → R → (is_gone : Bool) → List (List ℕ) → (told a : Answer) → R → Type 0
+FindsIf asks old true path told a new = AsksOn asks old (command_on deed.Find path) a new
+FindsIf asks old false path told a new = (new ≡ old) × (a ≡ told)
+
+-- by the id that a listing told, and where that is gone by its path
+pub record FindsListed {R : Type 0} (asks : R → Command → Answer → R → Type 0) (old : R) (id : ℕ) (path : List (List ℕ)) (a : Answer) (new : R) : Type 0 where
+  pub told : Answer
+  pub between : R
+  pub opens : asks old (Open id) told between
+  pub goes_on : FindsIf asks between (is_gone told) path told a new
+
+abbrev pub Finds : {R : Type 0} → (asks : R → Command → Answer → R → Type 0) → R → Option ℕ → List (List ℕ) → Answer → R → Type 0
+Finds asks old (Some id) path a new = FindsListed asks old id path a new
+Finds asks old None path a new = AsksOn asks old (command_on deed.Find path) a new

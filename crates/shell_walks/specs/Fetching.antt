@@ -2,7 +2,7 @@
 use Rattle.std.specs.Prelude.{◌≡◌, ℕ, List, length, Option, Some, None, Result, Ok, Err}
 use Rattle.command_text.specs.declared.command.Command.{Command}
 use Rattle.command_text.specs.declared.command.Command.TheVariants as command
-use Rattle.shell_walks.specs.Asking.{command_on, AsksOn}
+use Rattle.shell_walks.specs.Asking.{command_on, AsksOn, Finds}
 use Rattle.shell_walks.specs.Storing.{opened_file}
 use Rattle.shell_walks.specs.Telling.{fine, refused_told, why_of}
 use Rattle.shell_walks.specs.declared.asking.Deed.TheVariants as deed
@@ -29,23 +29,23 @@ GetsIf asks content writes old host (Some file) opened local g new host' = Keeps
 GetsIf asks content writes old host None opened local g new host' = (new ≡ old) × (host' ≡ host) × (g ≡ got.Refused (why_of opened))
 
 -- the file is opened, and kept where it was
-pub record Fetches {R F : Type 0} (asks : R → Command → Answer → R → Type 0) (content : R → ℕ → List ℕ) (writes : F → List ℕ → List ℕ → Result Unit LocalFault → F → Type 0) (old : R) (host : F) (path : List (List ℕ)) (local : List ℕ) (g : Got) (new : R) (host' : F) : Type 0 where
+pub record Fetches {R F : Type 0} (asks : R → Command → Answer → R → Type 0) (content : R → ℕ → List ℕ) (writes : F → List ℕ → List ℕ → Result Unit LocalFault → F → Type 0) (old : R) (host : F) (id : Option ℕ) (path : List (List ℕ)) (local : List ℕ) (g : Got) (new : R) (host' : F) : Type 0 where
   pub opened : Answer
   pub between : R
-  pub opens : AsksOn asks old (command_on deed.Find path) opened between
+  pub opens : Finds asks old id path opened between
   pub goes_on : GetsIf asks content writes between host (opened_file opened) opened local g new host'
 
 -- nothing is asked for where it can't be written here
-abbrev pub GetsAfter : {R F : Type 0} → (asks : R → Command → Answer → R → Type 0) → (content : R → ℕ → List ℕ) → (writes : F → List ℕ → List ℕ → Result Unit LocalFault → F → Type 0) → R → F → Result Unit LocalFault → List (List ℕ) → List ℕ → Got → R → F → Type 0
-GetsAfter asks content writes old host (Ok u) path local g new host' = Fetches asks content writes old host path local g new host'
-GetsAfter asks content writes old host (Err fault) path local g new host' = (new ≡ old) × (host' ≡ host) × (g ≡ got.Fault fault)
+abbrev pub GetsAfter : {R F : Type 0} → (asks : R → Command → Answer → R → Type 0) → (content : R → ℕ → List ℕ) → (writes : F → List ℕ → List ℕ → Result Unit LocalFault → F → Type 0) → R → F → Result Unit LocalFault → Option ℕ → List (List ℕ) → List ℕ → Got → R → F → Type 0
+GetsAfter asks content writes old host (Ok u) id path local g new host' = Fetches asks content writes old host id path local g new host'
+GetsAfter asks content writes old host (Err fault) id path local g new host' = (new ≡ old) × (host' ≡ host) × (g ≡ got.Fault fault)
 
 -- first it is tried whether it can be written
-pub record Gets {R F : Type 0} (asks : R → Command → Answer → R → Type 0) (content : R → ℕ → List ℕ) (writes : F → List ℕ → List ℕ → Result Unit LocalFault → F → Type 0) (tries : F → List ℕ → Result Unit LocalFault → F → Type 0) (old : R) (host : F) (path : List (List ℕ)) (local : List ℕ) (g : Got) (new : R) (host' : F) : Type 0 where
+pub record Gets {R F : Type 0} (asks : R → Command → Answer → R → Type 0) (content : R → ℕ → List ℕ) (writes : F → List ℕ → List ℕ → Result Unit LocalFault → F → Type 0) (tries : F → List ℕ → Result Unit LocalFault → F → Type 0) (old : R) (host : F) (id : Option ℕ) (path : List (List ℕ)) (local : List ℕ) (g : Got) (new : R) (host' : F) : Type 0 where
   pub may : Result Unit LocalFault
   pub between : F
   pub trial : tries host local may between
-  pub goes_on : GetsAfter asks content writes old between may path local g new host'
+  pub goes_on : GetsAfter asks content writes old between may id path local g new host'
 
 -- ---- cat
 

@@ -4,7 +4,7 @@ use Rattle.command_text.specs.declared.command.Command.{Command}
 use Rattle.command_text.specs.declared.command.Command.TheVariants as command
 use Rattle.command_text.specs.declared.content.Part.{Part}
 use Rattle.command_text.specs.declared.content.Part.TheVariants as part
-use Rattle.shell_walks.specs.Asking.{command_on, AsksOn}
+use Rattle.shell_walks.specs.Asking.{command_on, AsksOn, Finds}
 use Rattle.shell_walks.specs.Telling.{why_of}
 use Rattle.shell_walks.specs.declared.asking.Deed.TheVariants as deed
 use Rattle.shell_walks.specs.declared.folder.LocalFault.{LocalFault}
@@ -21,6 +21,10 @@ is_done a = false
 abbrev pub is_closed : Answer → Bool
 is_closed (answer.Closed version) = true
 is_closed a = false
+
+abbrev pub made_file : Answer → Option ℕ
+made_file (answer.Made file) = Some file
+made_file a = None
 
 abbrev pub opened_file : Answer → Option ℕ
 opened_file (answer.Opened file) = Some file
@@ -75,9 +79,13 @@ StoresIf asks old None bytes opened a new = (new ≡ old) × (a ≡ failed_as op
 
 -- ---- a file that is there is opened to be written anew, and nothing of it is fetched
 
+-- by its id
+abbrev pub RenewsId : {R : Type 0} → (asks : R → Command → Answer → R → Type 0) → R → (file : ℕ) → Answer → R → Type 0
+RenewsId asks old file a new = (b : Answer) × asks old (command.Rewrite file) b new × (a ≡ renewed_as file b)
+
 abbrev pub RenewsIf : {R : Type 0} → (asks : R → Command → Answer → R → Type 0) → R → (is_dir : Bool) → (file : ℕ) → Answer → R → Type 0
 RenewsIf asks old true file a new = (new ≡ old) × (a ≡ answer.Failed (why.Refused 21))
-RenewsIf asks old false file a new = (b : Answer) × asks old (command.Rewrite file) b new × (a ≡ renewed_as file b)
+RenewsIf asks old false file a new = RenewsId asks old file a new
 
 abbrev pub RenewsSeen : {R : Type 0} → (asks : R → Command → Answer → R → Type 0) → R → (looked a : Answer) → R → Type 0
 RenewsSeen asks old (answer.Seen seen) a new = RenewsIf asks old seen.is_dir seen.id a new
@@ -118,16 +126,27 @@ may_store answer.Done = true
 may_store (answer.Failed w) = is_there_for w
 may_store a = false
 
-abbrev pub MakesIf : {R : Type 0} → (asks : R → Command → Answer → R → Type 0) → R → (may_store : Bool) → List (List ℕ) → List ℕ → (made a : Answer) → R → Type 0
-MakesIf asks old true path bytes made a new = StoresAt asks old path bytes a new
-MakesIf asks old false path bytes made a new = (new ≡ old) × (a ≡ failed_as made)
+-- one whose id was told is opened by that to be written anew, and gets these bytes
+pub record StoresMade {R : Type 0} (asks : R → Command → Answer → R → Type 0) (old : R) (file : ℕ) (bytes : List ℕ) (a : Answer) (new : R) : Type 0 where
+  pub opened : Answer
+  pub between : R
+  pub opens : RenewsId asks old file opened between
+  pub goes_on : StoresIf asks between (opened_file opened) bytes opened a new
+
+abbrev pub MakesElse : {R : Type 0} → (asks : R → Command → Answer → R → Type 0) → R → (may_store : Bool) → List (List ℕ) → List ℕ → (made a : Answer) → R → Type 0
+MakesElse asks old true path bytes made a new = StoresAt asks old path bytes a new
+MakesElse asks old false path bytes made a new = (new ≡ old) × (a ≡ failed_as made)
+
+abbrev pub MakesIf : {R : Type 0} → (asks : R → Command → Answer → R → Type 0) → R → Option ℕ → List (List ℕ) → List ℕ → (made a : Answer) → R → Type 0
+MakesIf asks old (Some file) path bytes made a new = StoresMade asks old file bytes a new
+MakesIf asks old None path bytes made a new = MakesElse asks old (may_store made) path bytes made a new
 
 -- a file is made where there is none, and then gets these bytes
 pub record Makes {R : Type 0} (asks : R → Command → Answer → R → Type 0) (old : R) (path : List (List ℕ)) (bytes : List ℕ) (a : Answer) (new : R) : Type 0 where
   pub made : Answer
   pub between : R
   pub makes : AsksOn asks old (command_on deed.Make path) made between
-  pub goes_on : MakesIf asks between (may_store made) path bytes made a new
+  pub goes_on : MakesIf asks between (made_file made) path bytes made a new
 
 -- ---- what has these bytes already is left
 
@@ -154,22 +173,22 @@ PutsIf asks content old (Some file) path changed bytes opened a new = PutsOpen a
 PutsIf asks content old None path changed bytes opened a new = MakesUnless asks old (is_missing opened) path bytes opened a new
 
 -- with its content, where that is to be compared, and else without
-abbrev pub Opens : {R : Type 0} → (asks : R → Command → Answer → R → Type 0) → R → List (List ℕ) → (changed_only : Bool) → Answer → R → Type 0
-Opens asks old path true a new = AsksOn asks old (command_on deed.Find path) a new
-Opens asks old path false a new = Renews asks old path a new
+abbrev pub Opens : {R : Type 0} → (asks : R → Command → Answer → R → Type 0) → R → Option ℕ → List (List ℕ) → (changed_only : Bool) → Answer → R → Type 0
+Opens asks old id path true a new = Finds asks old id path a new
+Opens asks old id path false a new = Renews asks old path a new
 
 -- a file is opened, and gets these bytes; where there is none it is made first
-pub record Puts {R : Type 0} (asks : R → Command → Answer → R → Type 0) (content : R → ℕ → List ℕ) (old : R) (path : List (List ℕ)) (changed_only : Bool) (bytes : List ℕ) (a : Answer) (new : R) : Type 0 where
+pub record Puts {R : Type 0} (asks : R → Command → Answer → R → Type 0) (content : R → ℕ → List ℕ) (old : R) (id : Option ℕ) (path : List (List ℕ)) (changed_only : Bool) (bytes : List ℕ) (a : Answer) (new : R) : Type 0 where
   pub opened : Answer
   pub between : R
-  pub opens : Opens asks old path changed_only opened between
+  pub opens : Opens asks old id path changed_only opened between
   pub goes_on : PutsIf asks content between (opened_file opened) path changed_only bytes opened a new
 
 -- ---- a file of the host's
 
-abbrev pub PutsNew : {R : Type 0} → (asks : R → Command → Answer → R → Type 0) → (content : R → ℕ → List ℕ) → (fresh : Bool) → R → List (List ℕ) → (changed_only : Bool) → List ℕ → Answer → R → Type 0
-PutsNew asks content true old path changed bytes a new = Makes asks old path bytes a new
-PutsNew asks content false old path changed bytes a new = Puts asks content old path changed bytes a new
+abbrev pub PutsNew : {R : Type 0} → (asks : R → Command → Answer → R → Type 0) → (content : R → ℕ → List ℕ) → (fresh : Bool) → R → Option ℕ → List (List ℕ) → (changed_only : Bool) → List ℕ → Answer → R → Type 0
+PutsNew asks content true old id path changed bytes a new = Makes asks old path bytes a new
+PutsNew asks content false old id path changed bytes a new = Puts asks content old id path changed bytes a new
 
 -- what is compared may have been offered first
 abbrev pub Offers : {R : Type 0} → (offers : R → List ℕ → R → Type 0) → R → (changed_only : Bool) → List ℕ → R → Type 0
@@ -183,7 +202,7 @@ is_compared s = s.changed_only && not s.fresh
 pub record PutsBytes {R : Type 0} (asks : R → Command → Answer → R → Type 0) (content : R → ℕ → List ℕ) (offers : R → List ℕ → R → Type 0) (old : R) (path : List (List ℕ)) (storing : Storing) (bytes : List ℕ) (a : Answer) (new : R) : Type 0 where
   pub between : R
   pub may_offer : Offers offers old (is_compared storing) bytes between
-  pub puts : PutsNew asks content storing.fresh between path storing.changed_only bytes a new
+  pub puts : PutsNew asks content storing.fresh between storing.id path storing.changed_only bytes a new
 
 -- it was stored, or was compared and is the same
 abbrev pub is_kept : Storing → Answer → Bool

@@ -1,6 +1,7 @@
 -- The tasks for what is in a folder, or in a directory: one for each of its names, and for no other.
-use Rattle.std.specs.Prelude.{ℕ, List, [], ◌∷◌, ◌++◌, Bool, true, ◌||◌, false, bytes_eq, if◌then◌else◌}
+use Rattle.std.specs.Prelude.{ℕ, ◌+◌, List, [], ◌∷◌, ◌++◌, slice_get, Option, None, Bool, true, ◌||◌, false, bytes_eq, if◌then◌else◌}
 use Rattle.shell_words.specs.Local.{is_local, below}
+use Rattle.shell_walks.specs.declared.remote.Listed.{Listed}
 use Rattle.shell_walks.specs.declared.tasks.Storing.{Storing}
 use Rattle.shell_walks.specs.declared.tasks.Task.{Task}
 use Rattle.shell_walks.specs.declared.tasks.Task.TheVariants as task
@@ -9,17 +10,31 @@ use Rattle.shell_walks.specs.declared.tasks.Task.TheVariants as task
 abbrev pub put_more : (local : List ℕ) → (path : List (List ℕ)) → Storing → (name : List ℕ) → List Task
 put_more local path s name = if is_local name then task.Put (below local name) (path ++ name ∷ []) s ∷ [] else []
 
+-- where nothing is known of what is there
+abbrev pub unlisted : Storing → Storing
+unlisted s = record s { id = None }
+
 abbrev pub put_tasks : (local : List ℕ) → (path : List (List ℕ)) → Storing → (names : List (List ℕ)) → List Task
 put_tasks local path s [] = []
-put_tasks local path s (name ∷ names) = put_more local path s name ++ put_tasks local path s names
+put_tasks local path s (name ∷ names) = put_more local path (unlisted s) name ++ put_tasks local path s names
+
+-- where a listing told these names, from a place on, and an id at each: that of the first that is the name; one that isn't among them is new
+abbrev pub known : Storing → (ids : List ℕ) → (at : ℕ) → (names : List (List ℕ)) → (name : List ℕ) → Storing
+known s ids at [] name = record s { fresh = true; id = None }
+known s ids at (other ∷ names) name = if bytes_eq other name then record s { id = slice_get ids at } else known s ids (at + 1) names name
+
+abbrev pub put_known : (local : List ℕ) → (path : List (List ℕ)) → Storing → Listed → (names : List (List ℕ)) → List Task
+put_known local path s l [] = []
+put_known local path s l (name ∷ names) = put_more local path (known s l.ids 0 l.names name) name ++ put_known local path s l names
 
 -- and the other way round: so each local path is that of a name in the folder, which is one component
-abbrev pub get_more : (path : List (List ℕ)) → (local : List ℕ) → (name : List ℕ) → List Task
-get_more path local name = if is_local name then task.Get (path ++ name ∷ []) (below local name) true ∷ [] else []
+abbrev pub get_more : (path : List (List ℕ)) → (local : List ℕ) → Option ℕ → (name : List ℕ) → List Task
+get_more path local id name = if is_local name then task.Get (path ++ name ∷ []) (below local name) true id ∷ [] else []
 
-abbrev pub get_tasks : (path : List (List ℕ)) → (local : List ℕ) → (names : List (List ℕ)) → List Task
-get_tasks path local [] = []
-get_tasks path local (name ∷ names) = get_more path local name ++ get_tasks path local names
+-- with the id that the listing told at the same place
+abbrev pub get_tasks : (path : List (List ℕ)) → (local : List ℕ) → (ids : List ℕ) → (at : ℕ) → (names : List (List ℕ)) → List Task
+get_tasks path local ids at [] = []
+get_tasks path local ids at (name ∷ names) = get_more path local (slice_get ids at) name ++ get_tasks path local ids (at + 1) names
 
 -- ---- what a folder hasn't
 

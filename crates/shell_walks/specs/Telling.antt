@@ -24,7 +24,7 @@ notes note = record { text = []; note = note }
 abbrev pub status_words : ℕ → List ℕ
 status_words n =
     if n == 2 then codes "no such file or directory"
-    else if n == 5 then codes "the server's store failed"
+    else if n == 5 then codes "the server's store failed (it says why; its disk may be full)"
     else if n == 13 then codes "the server takes no such name"
     else if n == 17 then codes "it is there already"
     else if n == 20 then codes "not a directory"
@@ -59,6 +59,7 @@ abbrev pub fault_text : LocalFault → List ℕ
 fault_text fault.Missing = codes "no such file or folder here"
 fault_text fault.Exists = codes "it is here already"
 fault_text fault.IsFolder = codes "it is a folder here"
+fault_text fault.NotDeep = codes "it is a folder here (put -r stores folders)"
 fault_text fault.NotFolder = codes "it is no folder here"
 fault_text fault.Denied = codes "permission denied here"
 fault_text fault.Full = codes "the disk here is full"
@@ -77,7 +78,9 @@ mistake_text mistake.OpenQuote = codes "a quote isn't closed"
 mistake_text mistake.Unknown = codes "there is no such command (help lists them)"
 mistake_text mistake.BadOption = codes "there is no such option"
 mistake_text mistake.NoVersions = codes "storing over one version alone isn't there yet: servers have no call for it"
-mistake_text mistake.TooFew = codes "a word is wanting"
+mistake_text mistake.NoPath = codes "PATH is wanting"
+mistake_text mistake.NoSecondPath = codes "a second PATH is wanting"
+mistake_text mistake.NoLocal = codes "LOCAL is wanting"
 mistake_text mistake.TooMany = codes "there is a word too many"
 mistake_text mistake.LongName = codes "a name is too long"
 mistake_text mistake.LongPath = codes "a path has too many names"
@@ -131,7 +134,7 @@ done_told path answer.Done = fine []
 done_told path a = refused_told path (why_of a)
 
 abbrev pub names_told : List (List ℕ) → Answer → Told
-names_told path (answer.Names names) = fine (names_text names)
+names_told path (answer.Names l) = fine (names_text l.names)
 names_told path a = refused_told path (why_of a)
 
 abbrev pub stat_told : List (List ℕ) → Answer → Told

@@ -19,7 +19,7 @@ pub data Touches {F : Type 0} (finds : F → List ℕ → Kind → F → Type 0)
 -- a task of the server's tree alone touches nothing
 abbrev pub TouchesFor : {F : Type 0} → (finds : F → List ℕ → Kind → F → Type 0) → (reads : F → List ℕ → Result (List ℕ) LocalFault → F → Type 0) → (writes : F → List ℕ → List ℕ → Result Unit LocalFault → F → Type 0) → (lists : F → List ℕ → Result (List (List ℕ)) LocalFault → F → Type 0) → (makes tries : F → List ℕ → Result Unit LocalFault → F → Type 0) → Task → F → F → Type 0
 TouchesFor finds reads writes lists makes tries (task.Put local path s) old new = Touches finds reads writes lists makes tries local old new
-TouchesFor finds reads writes lists makes tries (task.Get path local deep) old new = Touches finds reads writes lists makes tries local old new
+TouchesFor finds reads writes lists makes tries (task.Get path local deep id) old new = Touches finds reads writes lists makes tries local old new
 TouchesFor finds reads writes lists makes tries (task.Remove path) old new = new ≡ old
 
 -- ---- the tasks that come
@@ -31,7 +31,7 @@ IsNamedIn local path local' path' = (name : List ℕ) × (is_local name ≡ true
 abbrev pub ComesOf : Task → Task → Type 0
 ComesOf (task.Put local path s) (task.Put local' path' s') = ((local' ≡ local) × (path' ≡ path)) ⊎ IsNamedIn local path local' path'
 ComesOf (task.Put local path s) (task.Remove path') = (name : List ℕ) × (path' ≡ path ++ name ∷ [])
-ComesOf (task.Get path local deep) (task.Get path' local' deep') = IsNamedIn local path local' path'
+ComesOf (task.Get path local deep id) (task.Get path' local' deep' id') = IsNamedIn local path local' path'
 ComesOf t t' = ⊥
 
 abbrev pub AllCome : Task → List Task → Type 0

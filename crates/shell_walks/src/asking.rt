@@ -2,9 +2,9 @@
 
 ghost use Rattle.std.specs.Prelude.{◌≡◌, ◌<◌, length, IfOk};
 ghost use Rattle.command_text.specs.Paths.{spot_at};
-ghost use Rattle.shell_walks.specs.Asking.{command_at, command_on, AsksOn, rename_of};
+ghost use Rattle.shell_walks.specs.Asking.{command_at, command_on, AsksOn, Finds, FindsListed, is_gone, rename_of};
 
-use crate::remote::{Answer, Remote, Why};
+use crate::remote::{Answer, Remote, Seen, Why};
 use command_text::command::Command;
 use command_text::path::{Path, PathCommand, Spot};
 use lb_base::items::Name;
@@ -32,6 +32,9 @@ pub enum Deed {
 
 /// The status of what can't be done with the root: NFS3ERR_INVAL.
 const INVAL: u32 = 22;
+
+/// The status of an id that nothing has any more: NFS3ERR_STALE.
+const STALE: u32 = 70;
 
 /// The last name of a path, in the directory of those before it. It takes no memory.
 fn spot_at(mut names: Path) -> Spot
@@ -86,6 +89,61 @@ pub fn ask_on<R: Remote>(
     match command_on(deed, path) {
         Some(command) => Ok(remote.ask(alloc, command)),
         None => Ok(Answer::Failed(Why::Refused(INVAL))),
+    }
+}
+
+/// What a name stands for, if it stands for anything.
+pub(crate) fn seen_of(answer: &Answer) -> Option<Seen> {
+    match answer {
+        Answer::Seen(seen) => Some(*seen),
+        _ => None,
+    }
+}
+
+/// Whether the answer is this status.
+pub(crate) fn is_status(answer: &Answer, status: u32) -> bool {
+    match answer {
+        Answer::Failed(Why::Refused(told)) => *told == status,
+        _ => false,
+    }
+}
+
+/// Whether there is no file of that id any more.
+fn is_gone(answer: &Answer) -> bool
+    ensures { result ≡ is_gone answer.now }
+{
+    matches!(answer, Answer::Failed(Why::Refused(STALE)))
+}
+
+/// Opens the file that a listing told, and where that is gone the one that has the path.
+fn open_listed<R: Remote>(
+    alloc: Global,
+    remote: &mut R,
+    id: u64,
+    path: &[Name],
+) -> Result<Answer, AllocError>
+    ensures { IfOk result (λ answer. FindsListed R.asks remote.old id path.now answer remote.new) }
+{
+    let answer = remote.ask(alloc, Command::Open(id));
+    if is_gone(&answer) {
+        drop(answer);
+        return ask_on(alloc, remote, Deed::Find, path);
+    }
+    Ok(answer)
+}
+
+/// Opens a file, with its content: by the id that a listing told, which takes no look-ups, and else by its path.
+pub fn open<R: Remote>(
+    alloc: Global,
+    remote: &mut R,
+    id: Option<u64>,
+    path: &[Name],
+) -> Result<Answer, AllocError>
+    ensures { IfOk result (λ answer. Finds R.asks remote.old id path.now answer remote.new) }
+{
+    match id {
+        Some(id) => open_listed(alloc, remote, id, path),
+        None => ask_on(alloc, remote, Deed::Find, path),
     }
 }
 

@@ -4,7 +4,7 @@ ghost use Rattle.std.specs.Prelude.{◌≡◌, length, IfOk};
 ghost use Rattle.shell_walks.specs.Fetching.{got_of, Keeps, Fetches, Gets, CatsOpen, Cats};
 ghost use Rattle.shell_walks.specs.Telling.{fine};
 
-use crate::asking::{Deed, ask_on};
+use crate::asking::{Deed, ask_on, open};
 use crate::folder::{Folder, LocalFault};
 use crate::remote::{Remote, Why};
 use crate::storing::opened_file;
@@ -57,12 +57,13 @@ fn fetch<R: Remote, F: Folder>(
     alloc: Global,
     remote: &mut R,
     folder: &mut F,
+    id: Option<u64>,
     path: &[Name],
     local: &str,
 ) -> Result<Got, AllocError>
-    ensures { IfOk result (λ got. Fetches R.asks R.content F.writes remote.old folder.old path.now local.now got remote.new folder.new) }
+    ensures { IfOk result (λ got. Fetches R.asks R.content F.writes remote.old folder.old id path.now local.now got remote.new folder.new) }
 {
-    let opened = ask_on(alloc, remote, Deed::Find, path)?;
+    let opened = open(alloc, remote, id, path)?;
     match opened_file(&opened) {
         Some(file) => Ok(keep(alloc, remote, folder, file, local)),
         None => Ok(Got::Refused(why_of(&opened))),
@@ -74,13 +75,14 @@ pub fn get<R: Remote, F: Folder>(
     alloc: Global,
     remote: &mut R,
     folder: &mut F,
+    id: Option<u64>,
     path: &[Name],
     local: &str,
 ) -> Result<Got, AllocError>
-    ensures { IfOk result (λ got. Gets R.asks R.content F.writes F.tries remote.old folder.old path.now local.now got remote.new folder.new) }
+    ensures { IfOk result (λ got. Gets R.asks R.content F.writes F.tries remote.old folder.old id path.now local.now got remote.new folder.new) }
 {
     match folder.try_write(alloc, local) {
-        Ok(()) => fetch(alloc, remote, folder, path, local),
+        Ok(()) => fetch(alloc, remote, folder, id, path, local),
         Err(fault) => Ok(Got::Fault(fault)),
     }
 }

@@ -17,6 +17,8 @@ pub enum LocalFault {
     Exists,
     /// It is a folder.
     IsFolder,
+    /// It is a folder, and a file alone was to be stored.
+    NotDeep,
     /// It is no folder.
     NotFolder,
     /// It may not be read, or written.

@@ -10,6 +10,7 @@ pub mod asking;
 pub mod dials;
 pub mod fetching;
 pub mod folder;
+mod placing;
 pub mod remote;
 pub mod removing;
 pub mod screen;

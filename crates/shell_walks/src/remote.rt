@@ -47,19 +47,30 @@ pub struct Seen {
     pub len: u64,
 }
 
+/// What a listing told of a directory.
+#[derive(Drop)]
+pub struct Listed {
+    /// Its names, in its order.
+    pub names: Items<Name>,
+    /// The id of each, in the same order; no id where they aren't known.
+    pub ids: Items<u64>,
+}
+
 /// How a command ended.
 #[derive(Drop)]
 pub enum Answer {
     /// It was done, and has nothing to tell.
     Done,
+    /// A file was made, and has this id.
+    Made(u64),
     /// The file with this id is open.
     Opened(u64),
     /// The file was stored, and has this version.
     Closed(u64),
     /// What the name stands for.
     Seen(Seen),
-    /// The names in a directory, in its order.
-    Names(Items<Name>),
+    /// What is in a directory.
+    Names(Listed),
     /// It wasn't done.
     Failed(Why),
 }

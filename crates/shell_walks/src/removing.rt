@@ -66,12 +66,12 @@ fn list<R: Remote>(
     path: Path,
 ) -> Result<(), AllocError> {
     match ask_on(alloc, remote, Deed::List, path.as_slice())? {
-        Answer::Names(names) => {
+        Answer::Names(listed) => {
             doomed.push(Doomed {
                 path: copy_of(alloc, path.as_slice())?,
                 emptied: true,
             })?;
-            open_up(alloc, doomed, path, names.as_slice())
+            open_up(alloc, doomed, path, listed.names.as_slice())
         }
         answer => note(alloc, removal, path.as_slice(), why_of(&answer)),
     }

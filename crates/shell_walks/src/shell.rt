@@ -2,10 +2,10 @@
 
 ghost use Rattle.std.specs.Prelude.{◌≡◌};
 
-use crate::asking::{Deed, ask_on, ask_rename};
+use crate::asking::{Deed, ask_on, ask_rename, seen_of};
 use crate::fetching::cat;
 use crate::folder::{Folder, Kind, LocalFault};
-use crate::remote::{Answer, Remote, Seen, Why};
+use crate::remote::{Answer, Remote, Why};
 use crate::removing::remove_all;
 use crate::tasks::{Storing, Task, longer};
 use crate::telling::{
@@ -81,14 +81,6 @@ fn operand(line: &Line, at: usize) -> &[u8] {
     }
 }
 
-/// What a name stands for, if it stands for anything.
-fn seen_of(answer: &Answer) -> Option<Seen> {
-    match answer {
-        Answer::Seen(seen) => Some(*seen),
-        _ => None,
-    }
-}
-
 /// What a path stands for is looked at.
 fn is_directory<R: Remote>(
     alloc: Global,
@@ -127,9 +119,9 @@ fn put_long<R: Remote>(
 /// `ls -l`.
 fn list_long<R: Remote>(alloc: Global, remote: &mut R, path: &[Name]) -> Result<Told, AllocError> {
     match ask_on(alloc, remote, Deed::List, path)? {
-        Answer::Names(names) => {
+        Answer::Names(listed) => {
             let mut told = fine(alloc, Items::new(alloc));
-            for name in names.as_slice() {
+            for name in listed.names.as_slice() {
                 put_long(alloc, remote, &mut told, path, name.as_slice())?;
             }
             Ok(told)
@@ -429,7 +421,12 @@ impl Shell {
             )?));
         }
         match self.local_target(alloc, host, word, last.as_slice())? {
-            NamedLocal::Path(local) => Ok(Went::Works(Task::Get { path, local, deep })),
+            NamedLocal::Path(local) => Ok(Went::Works(Task::Get {
+                path,
+                local,
+                deep,
+                id: None,
+            })),
             NamedLocal::Mistaken(told) => Ok(Went::Told(told)),
         }
     }
@@ -470,7 +467,7 @@ impl Shell {
         };
         let fault = match host.kind(local.as_str(), true) {
             Kind::Missing => LocalFault::Missing,
-            Kind::Folder if !deep => LocalFault::IsFolder,
+            Kind::Folder if !deep => LocalFault::NotDeep,
             _ => return Ok(NamedLocal::Path(local)),
         };
         let told = of_word(alloc, local.as_str().as_bytes(), fault_words(fault))?;
@@ -522,6 +519,7 @@ impl Shell {
             deletes: false,
             fresh: false,
             inner: false,
+            id: None,
         };
         self.stores(alloc, remote, local, named, storing)
     }
@@ -545,6 +543,7 @@ impl Shell {
             deletes: line.has_option,
             fresh: false,
             inner: false,
+            id: None,
         };
         self.stores(alloc, remote, local, named, storing)
     }

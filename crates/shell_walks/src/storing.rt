@@ -2,9 +2,9 @@
 
 ghost use Rattle.std.specs.Prelude.{◌≡◌, ◌∷◌, [], IfOk, bytes_eq};
 ghost use Rattle.command_text.specs.declared.content.Part.TheVariants as part;
-ghost use Rattle.shell_walks.specs.Storing.{is_done, is_closed, opened_file, failed_as, closed_as, left_as, renewed_as, Replaces, Settles, Stores, RenewsIf, RenewsSeen, Renews, StoresAt, is_missing, may_store, Makes, StoresChanged, PutsOpen, MakesUnless, Opens, Puts};
+ghost use Rattle.shell_walks.specs.Storing.{is_done, is_closed, made_file, opened_file, failed_as, closed_as, left_as, renewed_as, Replaces, Settles, Stores, RenewsId, RenewsIf, RenewsSeen, Renews, StoresAt, StoresMade, is_missing, may_store, MakesElse, Makes, StoresChanged, PutsOpen, MakesUnless, Opens, Puts};
 
-use crate::asking::{Deed, ask_on};
+use crate::asking::{Deed, ask_on, open};
 use crate::remote::{Answer, Remote, Seen, Why};
 use crate::telling::why_of;
 use command_text::command::Command;
@@ -24,6 +24,16 @@ pub fn is_closed(answer: &Answer) -> bool
     ensures { result ≡ is_closed answer.now }
 {
     matches!(answer, Answer::Closed(_))
+}
+
+/// The file that was made.
+fn made_file(answer: &Answer) -> Option<u64>
+    ensures { result ≡ made_file answer.now }
+{
+    match answer {
+        Answer::Made(file) => Some(*file),
+        _ => None,
+    }
 }
 
 /// The file that was opened.
@@ -132,6 +142,13 @@ fn store<R: Remote>(
     Ok(answer)
 }
 
+/// A file is opened by its id to be written anew.
+fn renew_id<R: Remote>(alloc: Global, remote: &mut R, file: u64) -> Answer
+    ensures { RenewsId R.asks remote.old file result remote.new }
+{
+    renewed_as(file, remote.ask(alloc, Command::Rewrite(file)))
+}
+
 /// What was told of a path to be a file is opened to be written anew.
 fn renew_seen<R: Remote>(alloc: Global, remote: &mut R, seen: Seen) -> Answer
     ensures { RenewsIf R.asks remote.old seen.is_dir seen.id result remote.new }
@@ -139,7 +156,7 @@ fn renew_seen<R: Remote>(alloc: Global, remote: &mut R, seen: Seen) -> Answer
     if seen.is_dir {
         return Answer::Failed(Why::Refused(ISDIR));
     }
-    renewed_as(seen.id, remote.ask(alloc, Command::Rewrite(seen.id)))
+    renew_id(alloc, remote, seen.id)
 }
 
 /// What a path was told to stand for is opened to be written anew.
@@ -177,6 +194,22 @@ fn store_at<R: Remote>(
     }
 }
 
+/// These bytes become the content of a file that was made, which is opened by its id.
+fn store_made<R: Remote>(
+    alloc: Global,
+    remote: &mut R,
+    file: u64,
+    bytes: Bytes,
+) -> Result<Answer, AllocError>
+    ensures { IfOk result (λ answer. StoresMade R.asks remote.old file bytes answer remote.new) }
+{
+    let opened = renew_id(alloc, remote, file);
+    match opened_file(&opened) {
+        Some(file) => store(alloc, remote, file, bytes),
+        None => Ok(failed_as(&opened)),
+    }
+}
+
 /// Whether there is no such file.
 fn is_missing(answer: &Answer) -> bool
     ensures { result ≡ is_missing answer.now }
@@ -184,11 +217,28 @@ fn is_missing(answer: &Answer) -> bool
     matches!(answer, Answer::Failed(Why::Refused(2)))
 }
 
-/// Whether a file is there behind a command that makes it: it was made, or was there.
+/// Whether a file is there behind a command that makes it and tells no id: it was made, or was there.
 fn may_store(answer: &Answer) -> bool
     ensures { result ≡ may_store answer.now }
 {
     matches!(answer, Answer::Done | Answer::Failed(Why::Refused(17)))
+}
+
+/// A file of which no id is told gets these bytes, where there is one.
+fn make_else<R: Remote>(
+    alloc: Global,
+    remote: &mut R,
+    path: &[Name],
+    bytes: Bytes,
+    made: Answer,
+) -> Result<Answer, AllocError>
+    ensures { IfOk result (λ answer. MakesElse R.asks remote.old (may_store made) path.now bytes made answer remote.new) }
+{
+    if may_store(&made) {
+        store_at(alloc, remote, path, bytes)
+    } else {
+        Ok(failed_as(&made))
+    }
 }
 
 /// A file is made, where there is none, and these bytes become its content.
@@ -201,10 +251,9 @@ pub fn make<R: Remote>(
     ensures { IfOk result (λ answer. Makes R.asks remote.old path.now bytes answer remote.new) }
 {
     let made = ask_on(alloc, remote, Deed::Make, path)?;
-    if may_store(&made) {
-        store_at(alloc, remote, path, bytes)
-    } else {
-        Ok(failed_as(&made))
+    match made_file(&made) {
+        Some(file) => store_made(alloc, remote, file, bytes),
+        None => make_else(alloc, remote, path, bytes, made),
     }
 }
 
@@ -261,13 +310,14 @@ fn make_unless<R: Remote>(
 fn open_for<R: Remote>(
     alloc: Global,
     remote: &mut R,
+    id: Option<u64>,
     path: &[Name],
     changed_only: bool,
 ) -> Result<Answer, AllocError>
-    ensures { IfOk result (λ opened. Opens R.asks remote.old path.now changed_only opened remote.new) }
+    ensures { IfOk result (λ opened. Opens R.asks remote.old id path.now changed_only opened remote.new) }
 {
     if changed_only {
-        ask_on(alloc, remote, Deed::Find, path)
+        open(alloc, remote, id, path)
     } else {
         renew(alloc, remote, path)
     }
@@ -277,13 +327,14 @@ fn open_for<R: Remote>(
 pub fn put<R: Remote>(
     alloc: Global,
     remote: &mut R,
+    id: Option<u64>,
     path: &[Name],
     changed_only: bool,
     bytes: Bytes,
 ) -> Result<Answer, AllocError>
-    ensures { IfOk result (λ answer. Puts R.asks R.content remote.old path.now changed_only bytes answer remote.new) }
+    ensures { IfOk result (λ answer. Puts R.asks R.content remote.old id path.now changed_only bytes answer remote.new) }
 {
-    let opened = open_for(alloc, remote, path, changed_only)?;
+    let opened = open_for(alloc, remote, id, path, changed_only)?;
     match opened_file(&opened) {
         Some(file) => put_open(alloc, remote, file, changed_only, bytes),
         None => make_unless(alloc, remote, path, bytes, opened),

@@ -1,9 +1,10 @@
 //! What `get`, `put` and `sync` do, in tasks: each is about one path, and those for what is in a directory
 //! come from it. `specs/Tasks.antt` says which.
 
-ghost use Rattle.std.specs.Prelude.{◌≡◌, ◌++◌, ◌∷◌, [], IfOk, OnOk};
-ghost use Rattle.shell_walks.specs.Tasks.{put_more, put_tasks, get_more, get_tasks, is_among, remove_more, removals};
+ghost use Rattle.std.specs.Prelude.{◌≡◌, ◌++◌, ◌∷◌, [], IfOk, OnOk, slice_get};
+ghost use Rattle.shell_walks.specs.Tasks.{unlisted, known, put_more, put_tasks, put_known, get_more, get_tasks, is_among, remove_more, removals};
 
+use crate::remote::Listed;
 use command_text::path::Path;
 use command_text::words::is;
 use lb_base::items::{Items, Name};
@@ -24,6 +25,8 @@ pub struct Storing {
     pub fresh: bool,
     /// Whether it was found in a folder, where symbolic links aren't followed.
     pub inner: bool,
+    /// The id that a listing told of what is there, if one did.
+    pub id: Option<u64>,
 }
 
 /// A task.
@@ -40,6 +43,8 @@ pub enum Task {
         path: Path,
         local: LocalPath,
         deep: bool,
+        /// The id that a listing told of it, if one did.
+        id: Option<u64>,
     },
     /// What has a path is removed, with all that is in it.
     Remove(Path),
@@ -81,7 +86,43 @@ fn put_more(
     }
 }
 
-/// The tasks of the names in a folder that is stored.
+/// How what has a name is stored where nothing is known of what is there.
+fn unlisted(storing: Storing) -> Storing
+    ensures { result ≡ unlisted storing }
+{
+    Storing {
+        id: None,
+        ..storing
+    }
+}
+
+/// The id that a listing told at a place, if it told one.
+fn id_at(ids: &[u64], at: usize) -> Option<u64>
+    ensures { result ≡ slice_get ids.now at }
+{
+    ids.get(at).copied()
+}
+
+/// How what has a name is stored in a directory that has these: what isn't among them is new.
+fn known(storing: Storing, ids: &[u64], names: &[Name], name: &[u8]) -> Storing
+    ensures { result ≡ known storing ids.now 0 names.now name.now }
+{
+    for (at, other) in names.iter().enumerate() {
+        if is(other.as_slice(), name) {
+            return Storing {
+                id: id_at(ids, at),
+                ..storing
+            };
+        }
+    }
+    Storing {
+        fresh: true,
+        id: None,
+        ..storing
+    }
+}
+
+/// The tasks of the names in a folder that is stored, where nothing is known of what is there.
 pub fn put_tasks(
     alloc: Global,
     local: &str,
@@ -93,7 +134,34 @@ pub fn put_tasks(
 {
     let mut tasks = Items::new(alloc);
     for name in names {
-        put_more(alloc, &mut tasks, local, path, storing, name.as_slice())?;
+        put_more(
+            alloc,
+            &mut tasks,
+            local,
+            path,
+            unlisted(storing),
+            name.as_slice(),
+        )?;
+    }
+    Ok(tasks)
+}
+
+/// The same in a directory of which a listing is known.
+pub fn put_known(
+    alloc: Global,
+    local: &str,
+    path: &[Name],
+    storing: Storing,
+    listed: &Listed,
+    names: &[Name],
+) -> Result<Items<Task>, AllocError>
+    ensures { IfOk result (λ tasks. tasks ≡ put_known local.now path.now storing listed.now names.now) }
+{
+    let mut tasks = Items::new(alloc);
+    for name in names {
+        let ids = listed.ids.as_slice();
+        let here = known(storing, ids, listed.names.as_slice(), name.as_slice());
+        put_more(alloc, &mut tasks, local, path, here, name.as_slice())?;
     }
     Ok(tasks)
 }
@@ -105,9 +173,10 @@ fn get_more(
     tasks: &mut Items<Task>,
     path: &[Name],
     local: &str,
+    id: Option<u64>,
     name: &[u8],
 ) -> Result<(), AllocError>
-    ensures { OnOk result (tasks.new ≡ tasks.old ++ get_more path.now local.now name.now) }
+    ensures { OnOk result (tasks.new ≡ tasks.old ++ get_more path.now local.now id name.now) }
 {
     match local_name(name) {
         Some(text) => {
@@ -117,6 +186,7 @@ fn get_more(
                 path,
                 local,
                 deep: true,
+                id,
             })?;
             Ok(())
         }
@@ -129,13 +199,21 @@ pub fn get_tasks(
     alloc: Global,
     path: &[Name],
     local: &str,
+    ids: &[u64],
     names: &[Name],
 ) -> Result<Items<Task>, AllocError>
-    ensures { IfOk result (λ tasks. tasks ≡ get_tasks path.now local.now names.now) }
+    ensures { IfOk result (λ tasks. tasks ≡ get_tasks path.now local.now ids.now 0 names.now) }
 {
     let mut tasks = Items::new(alloc);
-    for name in names {
-        get_more(alloc, &mut tasks, path, local, name.as_slice())?;
+    for (at, name) in names.iter().enumerate() {
+        get_more(
+            alloc,
+            &mut tasks,
+            path,
+            local,
+            id_at(ids, at),
+            name.as_slice(),
+        )?;
     }
     Ok(tasks)
 }

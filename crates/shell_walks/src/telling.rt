@@ -38,7 +38,7 @@ fn status_words(status: u32) -> &'static [u8]
 {
     match status {
         2 => b"no such file or directory",
-        5 => b"the server's store failed",
+        5 => b"the server's store failed (it says why; its disk may be full)",
         13 => b"the server takes no such name",
         17 => b"it is there already",
         20 => b"not a directory",
@@ -119,6 +119,7 @@ pub fn fault_words(fault: LocalFault) -> &'static [u8]
         LocalFault::Missing => b"no such file or folder here",
         LocalFault::Exists => b"it is here already",
         LocalFault::IsFolder => b"it is a folder here",
+        LocalFault::NotDeep => b"it is a folder here (put -r stores folders)",
         LocalFault::NotFolder => b"it is no folder here",
         LocalFault::Denied => b"permission denied here",
         LocalFault::Full => b"the disk here is full",
@@ -145,7 +146,9 @@ pub fn mistake_words(mistake: Mistake) -> &'static [u8]
         Mistake::NoVersions => {
             b"storing over one version alone isn't there yet: servers have no call for it"
         }
-        Mistake::TooFew => b"a word is wanting",
+        Mistake::NoPath => b"PATH is wanting",
+        Mistake::NoSecondPath => b"a second PATH is wanting",
+        Mistake::NoLocal => b"LOCAL is wanting",
         Mistake::TooMany => b"there is a word too many",
         Mistake::LongName => b"a name is too long",
         Mistake::LongPath => b"a path has too many names",
@@ -311,7 +314,7 @@ pub fn names_told(alloc: Global, path: &[Name], answer: &Answer) -> Result<Told,
     ensures { IfOk result (λ told. told ≡ names_told path.now answer.now) }
 {
     match answer {
-        Answer::Names(names) => Ok(fine(alloc, names_text(alloc, names.as_slice())?)),
+        Answer::Names(listed) => Ok(fine(alloc, names_text(alloc, listed.names.as_slice())?)),
         answer => refused_told(alloc, path, why_of(answer)),
     }
 }

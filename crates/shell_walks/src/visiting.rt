@@ -1,21 +1,22 @@
 //! What a task does, and which tasks come from it. What it asks of the client are the walks of `storing`,
 //! `fetching` and `removing`; which tasks come of a folder, or of a directory, says `tasks`.
 
-ghost use Rattle.std.specs.Prelude.{◌≡◌, ℕ, ◌≤◌, List, [], Bool, length, IfOk, OnOk};
+ghost use Rattle.std.specs.Prelude.{◌≡◌, ℕ, ◌≤◌, List, [], Bool, Option, length, IfOk, OnOk};
 ghost use Rattle.limits.specs.declared.TheConstants.{FILE_MOST};
 ghost use Rattle.shell_walks.specs.Storing.{Counts, CountsRead, Offers, PutsBytes, is_compared, is_kept};
 ghost use Rattle.shell_walks.specs.Visiting.{AllCome, Touches, TouchesFor};
 ghost use Rattle.shell_walks.specs.declared.tasks.Storing.{Storing as StoringOf};
 ghost use Rattle.shell_walks.specs.declared.tasks.Task.TheVariants as tasks;
 
-use crate::asking::{Deed, ask_on};
+use crate::asking::{Deed, ask_on, is_status, seen_of};
 use crate::fetching::{Got, get};
 use crate::folder::{Folder, Kind, LocalFault};
-use crate::remote::{Answer, Remote, Seen, Why};
+use crate::placing::{Place, make_place_over, place_news};
+use crate::remote::{Answer, Listed, Remote, Why};
 use crate::removing::{Removal, remove_all};
 use crate::storing::{is_closed, is_done, make, put};
-use crate::tasks::{Storing, Task, get_tasks, put_removals, put_tasks};
-use crate::telling::{MADE, REMOVED, STORED, fault_words, note_line, path_line, put_why, why_of};
+use crate::tasks::{Storing, Task, get_tasks, put_known, put_removals, put_tasks};
+use crate::telling::{STORED, fault_words, note_line, path_line, put_why, why_of};
 use lb_base::items::{Bytes, Items, Name};
 use shell_words::local::{LocalPath, is_component, local_name};
 use shell_words::path::copy_of;
@@ -39,9 +40,7 @@ pub struct Visited {
     pub is_off: bool,
 }
 
-/// NFS3ERR_EXIST, NFS3ERR_NOTDIR, NFS3ERR_ISDIR.
-const EXIST: u32 = 17;
-
+/// NFS3ERR_NOTDIR, NFS3ERR_ISDIR.
 const NOTDIR: u32 = 20;
 
 const ISDIR: u32 = 21;
@@ -122,22 +121,6 @@ fn bad_names(alloc: Global, names: &[Name]) -> Result<Bytes, AllocError> {
     Ok(note)
 }
 
-/// What a name stands for, if it stands for anything.
-fn seen_of(answer: &Answer) -> Option<Seen> {
-    match answer {
-        Answer::Seen(seen) => Some(*seen),
-        _ => None,
-    }
-}
-
-/// Whether the answer is this status.
-fn is_status(answer: &Answer, status: u32) -> bool {
-    match answer {
-        Answer::Failed(Why::Refused(told)) => *told == status,
-        _ => false,
-    }
-}
-
 /// A copy of bytes that are to be compared is offered, where there is memory for one: what is written anew isn't
 /// fetched.
 fn offer_copy<R: Remote>(alloc: Global, remote: &mut R, compared: bool, bytes: &[u8])
@@ -182,7 +165,7 @@ fn put_bytes<R: Remote>(
     if storing.fresh {
         make(alloc, remote, path, bytes)
     } else {
-        put(alloc, remote, path, storing.changed_only, bytes)
+        put(alloc, remote, storing.id, path, storing.changed_only, bytes)
     }
 }
 
@@ -213,6 +196,7 @@ fn put_over<R: Remote>(
             storing: Storing {
                 deletes: false,
                 fresh: true,
+                id: None,
                 ..storing
             },
         })?;
@@ -283,68 +267,6 @@ fn put_file<R: Remote, F: Folder>(
     }
 }
 
-/// Whether a directory is there for a folder, and whether it is new; or why there is none.
-#[derive(Clone, Copy)]
-enum Place {
-    New,
-    /// New, in the place of a file that went.
-    Instead,
-    There,
-    None(Why),
-}
-
-/// What stands where a directory can't be made.
-fn place_there<R: Remote>(
-    alloc: Global,
-    remote: &mut R,
-    path: &[Name],
-) -> Result<Place, AllocError> {
-    let looked = ask_on(alloc, remote, Deed::Look, path)?;
-    match seen_of(&looked) {
-        Some(seen) if seen.is_dir => Ok(Place::There),
-        Some(_) => Ok(Place::None(Why::Refused(NOTDIR))),
-        None => Ok(Place::None(why_of(&looked))),
-    }
-}
-
-/// A directory is made for a folder, where there is none.
-fn make_place<R: Remote>(
-    alloc: Global,
-    remote: &mut R,
-    path: &[Name],
-) -> Result<Place, AllocError> {
-    if path.is_empty() {
-        return Ok(Place::There);
-    }
-    let made = ask_on(alloc, remote, Deed::MakeDir, path)?;
-    if is_done(&made) {
-        Ok(Place::New)
-    } else if is_status(&made, EXIST) {
-        place_there(alloc, remote, path)
-    } else {
-        Ok(Place::None(why_of(&made)))
-    }
-}
-
-/// The same, where a file that stands there may go.
-fn make_place_over<R: Remote>(
-    alloc: Global,
-    remote: &mut R,
-    path: &[Name],
-    deletes: bool,
-) -> Result<Place, AllocError> {
-    match make_place(alloc, remote, path)? {
-        Place::None(Why::Refused(NOTDIR)) if deletes => {
-            drop(ask_on(alloc, remote, Deed::Remove, path)?);
-            match make_place(alloc, remote, path)? {
-                Place::New => Ok(Place::Instead),
-                place => Ok(place),
-            }
-        }
-        place => Ok(place),
-    }
-}
-
 /// The tasks that remove what the folder hasn't come behind those that there are.
 fn with_removals(
     alloc: Global,
@@ -369,29 +291,9 @@ fn with_note(visit: Visited, note: &[u8]) -> Result<Visited, AllocError>
     Ok(visit)
 }
 
-/// The same, where the directory can be listed.
-fn put_missing<R: Remote>(
+/// What is in a folder of the host is to be stored, in a directory of which nothing is known.
+fn put_names(
     alloc: Global,
-    remote: &mut R,
-    path: &[Name],
-    held: &[Name],
-    visit: Visited,
-) -> Result<Visited, AllocError>
-    ensures { (local : List ℕ) (s : StoringOf) → AllCome (tasks.Put local path.now s) visit.more → IfOk result (λ v. AllCome (tasks.Put local path.now s) v.more) }
-{
-    match ask_on(alloc, remote, Deed::List, path)? {
-        Answer::Names(names) => with_removals(alloc, visit, path, held, names.as_slice()),
-        answer => {
-            let said = refused(alloc, path, why_of(&answer))?;
-            with_note(visit, said.note.as_slice())
-        }
-    }
-}
-
-/// What is in a folder of the host, whose directory is there, is to be stored.
-fn put_names<R: Remote>(
-    alloc: Global,
-    remote: &mut R,
     local: &str,
     path: &[Name],
     storing: Storing,
@@ -401,34 +303,69 @@ fn put_names<R: Remote>(
 {
     let more = put_tasks(alloc, local, path, storing, names)?;
     let note = bad_names(alloc, names)?;
+    Ok(leads(alloc, more, note))
+}
+
+/// The same, of which a listing is known; what the folder hasn't is to go, where it may.
+fn put_over_listed(
+    alloc: Global,
+    local: &str,
+    path: &[Name],
+    storing: Storing,
+    names: &[Name],
+    listed: &Listed,
+) -> Result<Visited, AllocError>
+    ensures { (s : StoringOf) → IfOk result (λ v. AllCome (tasks.Put local.now path.now s) v.more) }
+{
+    let more = put_known(alloc, local, path, storing, listed, names)?;
+    let note = bad_names(alloc, names)?;
     let visit = leads(alloc, more, note);
-    if storing.deletes && !storing.fresh {
-        put_missing(alloc, remote, path, names, visit)
+    if storing.deletes {
+        with_removals(alloc, visit, path, names, listed.names.as_slice())
     } else {
         Ok(visit)
     }
 }
 
-/// What a sync says of a directory that was made.
-fn place_news(
+/// The same, which can't be listed: that is said where what the folder hasn't is to go.
+fn put_over_unlisted(
     alloc: Global,
+    local: &str,
     path: &[Name],
     storing: Storing,
-    place: Place,
-) -> Result<Bytes, AllocError> {
-    let mut news = Items::new(alloc);
-    if !storing.changed_only {
-        return Ok(news);
+    names: &[Name],
+    why: Why,
+) -> Result<Visited, AllocError>
+    ensures { (s : StoringOf) → IfOk result (λ v. AllCome (tasks.Put local.now path.now s) v.more) }
+{
+    let visit = put_names(alloc, local, path, storing, names)?;
+    if storing.deletes {
+        let said = refused(alloc, path, why)?;
+        with_note(visit, said.note.as_slice())
+    } else {
+        Ok(visit)
     }
-    if matches!(place, Place::Instead) {
-        let line = path_line(alloc, path, REMOVED)?;
-        news.extend_from_slice(line.as_slice())?;
+}
+
+/// What is in a folder of the host, whose directory is there, is to be stored: where it is compared, the directory
+/// is listed first, so that each file is opened by its id.
+fn put_within<R: Remote>(
+    alloc: Global,
+    remote: &mut R,
+    local: &str,
+    path: &[Name],
+    storing: Storing,
+    names: &[Name],
+) -> Result<Visited, AllocError>
+    ensures { (s : StoringOf) → IfOk result (λ v. AllCome (tasks.Put local.now path.now s) v.more) }
+{
+    if !is_compared(storing) {
+        return put_names(alloc, local, path, storing, names);
     }
-    if matches!(place, Place::New | Place::Instead) {
-        let line = path_line(alloc, path, MADE)?;
-        news.extend_from_slice(line.as_slice())?;
+    match ask_on(alloc, remote, Deed::List, path)? {
+        Answer::Names(listed) => put_over_listed(alloc, local, path, storing, names, &listed),
+        answer => put_over_unlisted(alloc, local, path, storing, names, why_of(&answer)),
     }
-    Ok(news)
 }
 
 /// This is said of what was done.
@@ -441,7 +378,23 @@ fn with_news(visit: Visited, news: Bytes) -> Visited
     visit
 }
 
-/// The directory of a folder is made, and then what is in it is to be stored.
+/// What is in a directory that a listing told, where what is stored is compared.
+fn listing_of<R: Remote>(
+    alloc: Global,
+    remote: &mut R,
+    path: &[Name],
+    storing: Storing,
+) -> Result<Option<Listed>, AllocError> {
+    if storing.id.is_none() || !is_compared(storing) {
+        return Ok(None);
+    }
+    match ask_on(alloc, remote, Deed::List, path)? {
+        Answer::Names(listed) => Ok(Some(listed)),
+        _ => Ok(None),
+    }
+}
+
+/// The directory of a folder is made, unless it is there, and then what is in it is to be stored.
 fn put_listed<R: Remote>(
     alloc: Global,
     remote: &mut R,
@@ -452,6 +405,13 @@ fn put_listed<R: Remote>(
 ) -> Result<Visited, AllocError>
     ensures { IfOk result (λ v. AllCome (tasks.Put local.now path.now storing) v.more) }
 {
+    if let Some(listed) = listing_of(alloc, remote, path, storing)? {
+        let within = Storing {
+            inner: true,
+            ..storing
+        };
+        return put_over_listed(alloc, local, path, within, names, &listed);
+    }
     let place = make_place_over(alloc, remote, path, storing.deletes)?;
     if let Place::None(why) = place {
         return refused(alloc, path, why);
@@ -462,7 +422,7 @@ fn put_listed<R: Remote>(
         inner: true,
         ..storing
     };
-    let visit = put_names(alloc, remote, local, path, within, names)?;
+    let visit = put_within(alloc, remote, local, path, within, names)?;
     Ok(with_news(visit, news))
 }
 
@@ -479,7 +439,7 @@ fn put_folder<R: Remote, F: Folder>(
     ensures touches { Touches F.finds F.reads F.writes F.lists F.makes F.tries local.now folder.old folder.new }
 {
     if !storing.deep {
-        return faulty(alloc, local, LocalFault::IsFolder);
+        return faulty(alloc, local, LocalFault::NotDeep);
     }
     match folder.names(alloc, local) {
         Ok(names) => put_listed(alloc, remote, local, path, storing, names.as_slice()),
@@ -526,11 +486,12 @@ fn get_names(
     alloc: Global,
     path: &[Name],
     local: &str,
-    names: &[Name],
+    listed: &Listed,
 ) -> Result<Visited, AllocError>
-    ensures { (deep : Bool) → IfOk result (λ v. AllCome (tasks.Get path.now local.now deep) v.more) }
+    ensures { (deep : Bool) (id : Option ℕ) → IfOk result (λ v. AllCome (tasks.Get path.now local.now deep id) v.more) }
 {
-    let more = get_tasks(alloc, path, local, names)?;
+    let names = listed.names.as_slice();
+    let more = get_tasks(alloc, path, local, listed.ids.as_slice(), names)?;
     let note = bad_names(alloc, names)?;
     Ok(leads(alloc, more, note))
 }
@@ -541,13 +502,13 @@ fn get_listed<F: Folder>(
     folder: &mut F,
     path: &[Name],
     local: &str,
-    names: &[Name],
+    listed: &Listed,
 ) -> Result<Visited, AllocError>
-    ensures come { (deep : Bool) → IfOk result (λ v. AllCome (tasks.Get path.now local.now deep) v.more) }
+    ensures come { (deep : Bool) (id : Option ℕ) → IfOk result (λ v. AllCome (tasks.Get path.now local.now deep id) v.more) }
     ensures touches { Touches F.finds F.reads F.writes F.lists F.makes F.tries local.now folder.old folder.new }
 {
     match make_local(folder, local) {
-        Ok(()) => get_names(alloc, path, local, names),
+        Ok(()) => get_names(alloc, path, local, listed),
         Err(fault) => faulty(alloc, local, fault),
     }
 }
@@ -579,11 +540,11 @@ fn get_directory<R: Remote, F: Folder>(
     path: &[Name],
     local: &str,
 ) -> Result<Visited, AllocError>
-    ensures come { (deep : Bool) → IfOk result (λ v. AllCome (tasks.Get path.now local.now deep) v.more) }
+    ensures come { (deep : Bool) (id : Option ℕ) → IfOk result (λ v. AllCome (tasks.Get path.now local.now deep id) v.more) }
     ensures touches { Touches F.finds F.reads F.writes F.lists F.makes F.tries local.now folder.old folder.new }
 {
     match ask_on(alloc, remote, Deed::List, path)? {
-        Answer::Names(names) => get_listed(alloc, folder, path, local, names.as_slice()),
+        Answer::Names(listed) => get_listed(alloc, folder, path, local, &listed),
         answer => unlisted(alloc, remote, path, local, why_of(&answer)),
     }
 }
@@ -598,7 +559,7 @@ fn settle_get<R: Remote, F: Folder>(
     deep: bool,
     got: Got,
 ) -> Result<Visited, AllocError>
-    ensures come { IfOk result (λ v. AllCome (tasks.Get path.now local.now deep) v.more) }
+    ensures come { (id : Option ℕ) → IfOk result (λ v. AllCome (tasks.Get path.now local.now deep id) v.more) }
     ensures touches { Touches F.finds F.reads F.writes F.lists F.makes F.tries local.now folder.old folder.new }
 {
     match got {
@@ -616,14 +577,15 @@ fn get_file<R: Remote, F: Folder>(
     alloc: Global,
     remote: &mut R,
     folder: &mut F,
+    id: Option<u64>,
     path: &[Name],
     local: &str,
     deep: bool,
 ) -> Result<Visited, AllocError>
-    ensures come { IfOk result (λ v. AllCome (tasks.Get path.now local.now deep) v.more) }
+    ensures come { IfOk result (λ v. AllCome (tasks.Get path.now local.now deep id) v.more) }
     ensures touches { OnOk result (Touches F.finds F.reads F.writes F.lists F.makes F.tries local.now folder.old folder.new) }
 {
-    let got = get(alloc, remote, folder, path, local)?;
+    let got = get(alloc, remote, folder, id, path, local)?;
     settle_get(alloc, remote, folder, path, local, deep, got)
 }
 
@@ -632,15 +594,16 @@ fn get_over<R: Remote, F: Folder>(
     alloc: Global,
     remote: &mut R,
     folder: &mut F,
+    id: Option<u64>,
     path: &[Name],
     local: &str,
     deep: bool,
 ) -> Result<Visited, AllocError>
-    ensures come { IfOk result (λ v. AllCome (tasks.Get path.now local.now deep) v.more) }
+    ensures come { IfOk result (λ v. AllCome (tasks.Get path.now local.now deep id) v.more) }
     ensures touches { OnOk result (Touches F.finds F.reads F.writes F.lists F.makes F.tries local.now folder.old folder.new) }
 {
     offer_local(alloc, remote, folder, local);
-    get_file(alloc, remote, folder, path, local, deep)
+    get_file(alloc, remote, folder, id, path, local, deep)
 }
 
 /// Something is fetched where a folder is: a directory, into it. A file has no place there.
@@ -648,17 +611,18 @@ fn get_into<R: Remote, F: Folder>(
     alloc: Global,
     remote: &mut R,
     folder: &mut F,
+    id: Option<u64>,
     path: &[Name],
     local: &str,
     deep: bool,
 ) -> Result<Visited, AllocError>
-    ensures come { IfOk result (λ v. AllCome (tasks.Get path.now local.now deep) v.more) }
+    ensures come { IfOk result (λ v. AllCome (tasks.Get path.now local.now deep id) v.more) }
     ensures touches { OnOk result (Touches F.finds F.reads F.writes F.lists F.makes F.tries local.now folder.old folder.new) }
 {
     if deep {
         return get_directory(alloc, remote, folder, path, local);
     }
-    get_file(alloc, remote, folder, path, local, deep)
+    get_file(alloc, remote, folder, id, path, local, deep)
 }
 
 /// Something is fetched.
@@ -666,20 +630,21 @@ fn visit_get<R: Remote, F: Folder>(
     alloc: Global,
     remote: &mut R,
     folder: &mut F,
+    id: Option<u64>,
     path: &[Name],
     local: &str,
     deep: bool,
 ) -> Result<Visited, AllocError>
-    ensures come { IfOk result (λ v. AllCome (tasks.Get path.now local.now deep) v.more) }
+    ensures come { IfOk result (λ v. AllCome (tasks.Get path.now local.now deep id) v.more) }
     ensures touches { OnOk result (Touches F.finds F.reads F.writes F.lists F.makes F.tries local.now folder.old folder.new) }
 {
     if deep && path.is_empty() {
         return get_directory(alloc, remote, folder, path, local);
     }
     match folder.kind(local, true) {
-        Kind::Folder => get_into(alloc, remote, folder, path, local, deep),
-        Kind::File => get_over(alloc, remote, folder, path, local, deep),
-        _ => get_file(alloc, remote, folder, path, local, deep),
+        Kind::Folder => get_into(alloc, remote, folder, id, path, local, deep),
+        Kind::File => get_over(alloc, remote, folder, id, path, local, deep),
+        _ => get_file(alloc, remote, folder, id, path, local, deep),
     }
 }
 
@@ -719,10 +684,16 @@ pub fn visit<R: Remote, F: Folder>(
             path.as_slice(),
             storing,
         ),
-        Task::Get { path, local, deep } => visit_get(
+        Task::Get {
+            path,
+            local,
+            deep,
+            id,
+        } => visit_get(
             alloc,
             remote,
             folder,
+            id,
             path.as_slice(),
             local.as_str(),
             deep,

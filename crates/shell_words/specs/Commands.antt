@@ -66,6 +66,13 @@ most_of verb.Mv = 2
 most_of verb.Sync = 2
 most_of v = 1
 
+-- which one is wanting, where there are so many, fewer than it has
+abbrev pub wanting : Verb → ℕ → Mistake
+wanting verb.Put n = mistake.NoLocal
+wanting verb.Sync n = if n == 0 then mistake.NoLocal else mistake.NoPath
+wanting verb.Mv n = if n == 1 then mistake.NoSecondPath else mistake.NoPath
+wanting v n = mistake.NoPath
+
 -- a word that begins with - is an option, unless it is - alone; -- ends them
 abbrev pub kind_of : List ℕ → Start
 kind_of word =
@@ -92,7 +99,7 @@ operands_at start.Known words = Err mistake.BadOption
 abbrev pub counted : Verb → (has_option : Bool) → Result (List (List ℕ)) Mistake → Result Line Mistake
 counted v o (Err m) = Err m
 counted v o (Ok operands) =
-    if nat_lt (length operands) (least_of v) then Err mistake.TooFew
+    if nat_lt (length operands) (least_of v) then Err (wanting v (length operands))
     else if nat_lt (most_of v) (length operands) then Err mistake.TooMany
     else Ok (record { verb = v; has_option = o; operands = operands })
 

@@ -1,7 +1,7 @@
 //! The commands of a shell: `command_of` of `specs/Commands.antt`.
 
 ghost use Rattle.std.specs.Prelude.{◌≡◌, ◌<◌, length};
-ghost use Rattle.shell_words.specs.Commands.{verb_of, is_option_of, is_later_of, least_of, most_of, kind_of, start_of, operands_at, counted, line_at, line_of, some_line, first_verb, command_of};
+ghost use Rattle.shell_words.specs.Commands.{verb_of, is_option_of, is_later_of, least_of, most_of, wanting, kind_of, start_of, operands_at, counted, line_at, line_of, some_line, first_verb, command_of};
 
 use crate::mistake::Mistake;
 use command_text::words::is;
@@ -158,6 +158,18 @@ impl Verb {
     }
 }
 
+/// What a command wants that has so many operands, fewer than it takes.
+fn wanting(verb: Verb, count: usize) -> Mistake
+    ensures { result ≡ wanting verb count }
+{
+    match verb {
+        Verb::Put => Mistake::NoLocal,
+        Verb::Sync if count == 0 => Mistake::NoLocal,
+        Verb::Mv if count == 1 => Mistake::NoSecondPath,
+        _ => Mistake::NoPath,
+    }
+}
+
 /// What a word is that isn't the command's option.
 fn kind_of(word: &[u8]) -> Start
     ensures { result ≡ kind_of word.now }
@@ -217,7 +229,7 @@ fn counted(
     match operands {
         Ok(operands) => {
             if operands.len() < verb.least() {
-                Err(Mistake::TooFew)
+                Err(wanting(verb, operands.len()))
             } else if verb.most() < operands.len() {
                 Err(Mistake::TooMany)
             } else {

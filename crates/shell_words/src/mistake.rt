@@ -18,8 +18,12 @@ pub enum Mistake {
     BadOption,
     /// `put --if-version`: no server has a call for it yet.
     NoVersions,
-    /// A word is wanting.
-    TooFew,
+    /// The command wants a path of the server's.
+    NoPath,
+    /// It wants a second one.
+    NoSecondPath,
+    /// It wants a file or a folder of the host's.
+    NoLocal,
     /// There is a word too many.
     TooMany,
     /// A name has more bytes than any may have.

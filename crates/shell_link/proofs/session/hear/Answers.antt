@@ -5,5 +5,5 @@ use Rattle.shell_link.proofs.session.hear.Goals as goal
 
 pub returns : goal.returns
 returns g c =
-    let heard : Hears c.args.client.now c.args.message c.args.now c.got-step.new.self c.got-step.result = record { exact = c.got-step.ensures.exact; missed = c.got-step.ensures.missed } in
-    λ o k r. sent _ _ _ _ _ _ (hears _ _ _ _ _ r heard) c.send.ensures
+    let took : Hears c.args.client.now c.args.message c.args.now c.got-step.new.self c.got-step.result = record { exact = c.got-step.ensures.exact; missed = c.got-step.ensures.missed } in
+    λ o k r. sent _ _ _ _ _ _ _ (hears _ _ _ _ _ _ _ r c.heed.ensures took) c.send.ensures

@@ -9,6 +9,6 @@ returns-in_err-answer-clause-touches g c = stayed _ _ _ refl
 
 pub returns-in_default : goal.returns-in_default
 returns-in_default g c = record {
-  come = λ deep. IfOk-weaker c.unlisted.result _ _ (λ v h. none_come (task.Get c.args.path.now c.args.local.now deep) v.more h) c.unlisted.ensures;
+  come = λ deep id. IfOk-weaker c.unlisted.result _ _ (λ v h. none_come (task.Get c.args.path.now c.args.local.now deep id) v.more h) c.unlisted.ensures;
   touches = stayed _ _ _ refl;
 }

@@ -3,8 +3,5 @@ use Rattle.shell_walks.specs.declared.tasks.Task.TheVariants as task
 use Rattle.shell_walks.proofs.Touching.{puts_come, same_come}
 use Rattle.shell_walks.proofs.visiting.put_names.Goals as goal
 
-pub returns-then-not-storing : goal.returns-then-not-storing
-returns-then-not-storing g c = λ s. c.put_missing.ensures c.args.local.now s (same_come (task.Put c.args.local.now c.args.path.now s) _ _ (c.leads-visit.ensures.more ∙ c.in_ok-more.ensures) (puts_come c.args.local.now c.args.path.now s c.args.storing c.args.names.now))
-
-pub returns-else-storing : goal.returns-else-storing
-returns-else-storing g c = λ s. same_come (task.Put c.args.local.now c.args.path.now s) _ _ (c.leads-visit.ensures.more ∙ c.in_ok-more.ensures) (puts_come c.args.local.now c.args.path.now s c.args.storing c.args.names.now)
+pub returns : goal.returns
+returns c = λ s. same_come (task.Put c.args.local.now c.args.path.now s) _ _ (c.leads.ensures.more ∙ c.in_ok-more.ensures) (puts_come c.args.local.now c.args.path.now s c.args.storing c.args.names.now)
