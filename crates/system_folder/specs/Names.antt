@@ -1,5 +1,5 @@
 -- The names of the files of a store's folder.
-use Rattle.std.specs.Prelude.{ℕ, List, [], ◌∷◌, ◌++◌, ◌<◌, ◌^◌, Option, Some, None, ◌==◌, if◌then◌else◌, bytes_eq, codes, decimal}
+use Rattle.std.specs.Prelude.{ℕ, Bool, List, [], ◌∷◌, ◌++◌, ◌<◌, ◌^◌, length, nat_lt, ◌&&◌, ◌||◌, Option, Some, None, ◌==◌, if◌then◌else◌, bytes_eq, codes, decimal}
 use Rattle.command_text.specs.Fields.{number_of}
 use Rattle.log_store.specs.declared.which.Which.{Which}
 use Rattle.log_store.specs.declared.which.Which.TheVariants as which
@@ -29,6 +29,14 @@ which_of name = if bytes_eq name (codes "head") then Some which.Head else letter
 -- a content as a file is made with it: of the first version, and without bytes
 abbrev pub made_bytes : List ℕ
 made_bytes = 0 ∷ 0 ∷ 0 ∷ 0 ∷ 0 ∷ 0 ∷ 0 ∷ 1 ∷ []
+
+-- the bytes of a file of which a cut of power left none
+abbrev pub are_lost : List ℕ → Bool
+are_lost bytes = nat_lt (length bytes) 8 || bytes_eq bytes (0 ∷ 0 ∷ 0 ∷ 0 ∷ 0 ∷ 0 ∷ 0 ∷ 0 ∷ [])
+
+-- the bytes of a content whose file has these, by whether its second name is there
+abbrev pub as_read : Bool → List ℕ → List ℕ
+as_read is_made bytes = if is_made && are_lost bytes then made_bytes else bytes
 
 -- the second name of a content's file, which has the content as a file is made with it
 abbrev pub made_name : ℕ → List ℕ

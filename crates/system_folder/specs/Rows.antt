@@ -2,7 +2,7 @@
 use Rattle.std.specs.Prelude.{◌≡◌, [], ◌∷◌, true, false, Some, None, codes, ◌++◌}
 use Rattle.std.proofs.Common.{refl}
 use Rattle.log_store.specs.declared.which.Which.TheVariants as which
-use Rattle.system_folder.specs.Names.{which_of}
+use Rattle.system_folder.specs.Names.{which_of, as_read, made_bytes}
 use Rattle.system_folder.specs.Strangers.{begins_log, begins_reserve, begins_list}
 
 which_row : which_of (codes "c120") ≡ Some (which.Content 120)
@@ -18,6 +18,16 @@ beside_row = refl
 -- the second name of a content's file is that of no record
 made_row : which_of (codes "m120") ≡ None
 made_row = refl
+
+-- bytes that a cut of power left are read where the second name is there, and a version that was stored stays
+lost_row : as_read true (0 ∷ 0 ∷ []) ≡ made_bytes
+lost_row = refl
+
+kept_row : as_read true (0 ∷ 0 ∷ 0 ∷ 0 ∷ 0 ∷ 0 ∷ 0 ∷ 2 ∷ []) ≡ 0 ∷ 0 ∷ 0 ∷ 0 ∷ 0 ∷ 0 ∷ 0 ∷ 2 ∷ []
+kept_row = refl
+
+short_content_row : as_read false (0 ∷ 0 ∷ []) ≡ 0 ∷ 0 ∷ []
+short_content_row = refl
 
 -- a text isn't a log, nor what is reserved
 text_row : begins_log (codes "a diary of mine, ") ≡ false

@@ -25,6 +25,14 @@ pub fn unless_gone(done: io::Result<()>) -> io::Result<()> {
     }
 }
 
+/// Whether there is no room: on the disk, or of what the server's user may have there.
+pub fn is_full(why: &Error) -> bool {
+    matches!(
+        why.kind(),
+        ErrorKind::StorageFull | ErrorKind::QuotaExceeded
+    )
+}
+
 /// Opens a file for reading, if it is there. One that is no regular file isn't opened: it might be waited for.
 pub fn open_regular<R: Files<File = File>>(rt: &R, path: &str) -> io::Result<Option<File>> {
     match fs::metadata(rt, path) {

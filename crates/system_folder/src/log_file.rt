@@ -2,6 +2,7 @@
 //! writes its bytes alone. Its frames stand one behind the other from the file's beginning; what stands behind
 //! the last is zeros, or frames of an earlier round, whose numbers are lower.
 
+use crate::disk_files::is_full;
 use crate::needs::{Need, Needs};
 use log_store::edit::Edit;
 use log_store::entry::put_entry;
@@ -78,7 +79,7 @@ fn fill(file: &mut File) -> io::Result<()> {
         match file.write_all(&zeros) {
             Ok(()) => {}
             // An entry past the room asks for more.
-            Err(error) if error.kind() == ErrorKind::StorageFull => return Ok(()),
+            Err(error) if is_full(&error) => return Ok(()),
             Err(error) => return Err(error),
         }
     }

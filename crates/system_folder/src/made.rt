@@ -1,8 +1,8 @@
 //! A content as a file is made with it, of the first version and without bytes. Its file has a second name (`mID`), which
 //! says so, whatever a cut of power leaves of its bytes: once both names are on the disk there is nothing else to flush.
 
-ghost use Rattle.std.specs.Prelude.{◌≡◌, ◌⊎◌, ◌≤◌, ◌++◌, true, length, OnOk, IfOk, string_bytes};
-ghost use Rattle.system_folder.specs.Names.{made_bytes, made_name};
+ghost use Rattle.std.specs.Prelude.{◌≡◌, ◌++◌, Bool, true, OnOk, IfOk, string_bytes};
+ghost use Rattle.system_folder.specs.Names.{are_lost, as_read, made_bytes, made_name};
 
 use crate::disk_files::is_missing;
 use log_store::which::{FileName, Which};
@@ -40,20 +40,35 @@ pub fn put_made_name(path: &mut String, id: u64) -> Result<(), AllocError>
     write!(path, "m{id}")
 }
 
-/// The bytes of a content by what its own file has, and whether its second name is there: those of one as it was made, unless
-/// there are more. The one error is want of memory.
-pub fn unless_made<R: Files<File = File>>(
-    rt: &R,
-    bytes: Vec<u8>,
-    made: &str,
-) -> Result<Vec<u8>, AllocError>
-    ensures { IfOk result (λ r. (r.items ≡ bytes.items) ⊎ ((length bytes.items ≤ 8) × (r.items ≡ made_bytes))) }
+/// Whether these are the bytes of a file of which a cut of power left none: fewer than a content has, or zeros.
+fn are_lost(bytes: &[u8]) -> bool
+    ensures { result ≡ are_lost bytes.now }
 {
-    if MADE.len() < bytes.len() || bytes.as_slice() == MADE.as_slice() || is_missing(rt, made) {
+    bytes.len() < MADE.len() || bytes == [0; 8].as_slice()
+}
+
+/// The bytes of a content whose file has these, by whether its second name is there. The one error is want of memory.
+fn as_read(bytes: Vec<u8>, is_made: bool) -> Result<Vec<u8>, AllocError>
+    ensures { IfOk result (λ r. r.items ≡ as_read is_made bytes.items) }
+{
+    if !is_made || !are_lost(&bytes) {
         return Ok(bytes);
     }
     let mut bytes = bytes;
     bytes.clear();
     bytes.extend_from_slice(&MADE)?;
     Ok(bytes)
+}
+
+/// The bytes of a content by what its own file has, and whether its second name is there (`as_read`). The one error is want
+/// of memory.
+pub fn unless_made<R: Files<File = File>>(
+    rt: &R,
+    bytes: Vec<u8>,
+    made: &str,
+) -> Result<Vec<u8>, AllocError>
+    ensures { IfOk result (λ r. (is_made : Bool) × (r.items ≡ as_read is_made bytes.items)) }
+{
+    let is_made = !is_missing(rt, made);
+    as_read(bytes, is_made)
 }

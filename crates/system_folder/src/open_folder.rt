@@ -1,7 +1,8 @@
 //! A folder of the host that is open, by the system's calls: what `disk_folder` counts the faults of.
 
 use crate::disk_files::{
-    READ_MOST, has_room, is_missing, more_room, open_regular, read_file, unless_gone, write_file,
+    READ_MOST, has_room, is_full, is_missing, more_room, open_regular, read_file, unless_gone,
+    write_file,
 };
 use crate::log_file::LogFile;
 use crate::made::{MADE, are_made, content_id, unless_made};
@@ -258,6 +259,21 @@ impl<R: Files<File = File> + AllocGlobal + Clone + Drop> OpenFolder<R> {
                 self.kept.bytes = len;
             }
         }
+        if self.reserve {
+            let _tried = self.shorten_reserve();
+        }
+    }
+
+    /// The reserve has no more than a large one: a run that was killed as it tried whether there is room left what
+    /// it tried.
+    fn shorten_reserve(&self) -> io::Result<()> {
+        let mut options = OpenOptions::new();
+        options.write(true);
+        let file = options.open(&self.rt, self.paths.at())?;
+        if LARGE_RESERVE.bytes < file.metadata()?.len() {
+            file.set_len(LARGE_RESERVE.bytes)?;
+        }
+        Ok(())
     }
 
     /// What carrying out a record's bytes needs at most.
@@ -400,7 +416,7 @@ impl<R: Files<File = File> + AllocGlobal + Clone + Drop> OpenFolder<R> {
         body: &[u8],
     ) -> io::Result<File> {
         match write_file(&self.rt, self.paths.at(), front, body) {
-            Err(why) if why.kind() == ErrorKind::StorageFull => {
+            Err(why) if is_full(&why) => {
                 let path = String::from_str(self.alloc, self.paths.at())?;
                 if !self.make_room(name)? {
                     return Err(why);
@@ -414,10 +430,7 @@ impl<R: Files<File = File> + AllocGlobal + Clone + Drop> OpenFolder<R> {
     /// Makes room for a file that finds none: the log gives back what it has beyond its own, and a record's file
     /// may have the reserve's.
     fn make_room(&mut self, name: FileName) -> io::Result<bool> {
-        let mut is_more = false;
-        if let Some(log) = &mut self.log {
-            is_more = log.note_scarce()?;
-        }
+        let mut is_more = self.note_scarce()?;
         if self.may_take(name) {
             self.remove_reserve()?;
             self.paths.name_file(name)?;
@@ -537,16 +550,28 @@ impl<R: Files<File = File> + AllocGlobal + Clone + Drop> OpenFolder<R> {
             self.take_reserve()?;
         }
         self.paths.name_log()?;
-        match &mut self.log {
-            Some(log) => match log.append(edits, need, self.kept) {
-                Err(why) if why.kind() == ErrorKind::StorageFull => {
-                    let _is_more = log.note_scarce()?;
-                    Err(why)
-                }
-                done => done,
-            },
+        let done = match &mut self.log {
+            Some(log) => log.append(edits, need, self.kept),
             None => Err(Error::from(ErrorKind::NotFound)),
+        };
+        match done {
+            Err(why) if is_full(&why) => {
+                let _is_more = self.note_scarce()?;
+                Err(why)
+            }
+            done => done,
         }
+    }
+
+    /// Room is scarce: the log gives back what it has beyond its own. Where that fails a flush may have failed. Whether
+    /// any went.
+    fn note_scarce(&mut self) -> io::Result<bool> {
+        let Some(log) = &mut self.log else {
+            return Ok(false);
+        };
+        let done = log.note_scarce();
+        self.lost = self.lost || done.is_err();
+        done
     }
 
     /// The log has so many entries; the first call makes its file anew.
@@ -638,7 +663,7 @@ impl<R: Files<File = File> + AllocGlobal + Clone + Drop> OpenFolder<R> {
                     self.kept.bytes = len;
                     return Ok(());
                 }
-                Err(why) if why.kind() == ErrorKind::StorageFull => {}
+                Err(why) if is_full(&why) => {}
                 Err(why) => return Err(why),
             }
         }
@@ -679,7 +704,7 @@ impl<R: Files<File = File> + AllocGlobal + Clone + Drop> OpenFolder<R> {
             self.paths.name_spare(number)?;
             match write_file(&self.rt, self.paths.at(), &[], &[]) {
                 Ok(file) => drop(file),
-                Err(why) if why.kind() == ErrorKind::StorageFull => return Ok(()),
+                Err(why) if is_full(&why) => return Ok(()),
                 Err(why) => return Err(why),
             }
             self.kept.files = number.saturating_add(1);
