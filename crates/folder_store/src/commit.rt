@@ -59,7 +59,13 @@ pub struct Commit<R> {
     given: AtomicU64,
     /// Whether it isn't known what the folder holds: a flush failed, or a change was neither made nor left.
     doubt: AtomicBool,
-    /// Who flushes has this; those who wait for it meanwhile have their changes flushed by the next.
+    /// How many of the changes are known to be on the disk.
+    sure: AtomicU64,
+    /// Whether one flushes.
+    is_flushing: AtomicBool,
+    /// How many flushes have ended; who waits for one sleeps on it.
+    ended: AtomicU64,
+    /// Who flushes has this.
     settling: Mutex<Settling<LogFlush>>,
 }
 
@@ -71,12 +77,18 @@ impl<R: Drop> Drop for Commit<R> {
             path,
             given,
             doubt,
+            sure,
+            is_flushing,
+            ended,
             settling,
         } = self;
         drop(rt);
         drop(path);
         drop(given);
         drop(doubt);
+        drop(sure);
+        drop(is_flushing);
+        drop(ended);
         drop(settling);
     }
 }
@@ -89,6 +101,9 @@ impl<R: Eprint> Commit<R> {
             path,
             given: AtomicU64::new(0),
             doubt: AtomicBool::new(false),
+            sure: AtomicU64::new(0),
+            is_flushing: AtomicBool::new(false),
+            ended: AtomicU64::new(0),
             settling: Mutex::new(Settling::new(LogFlush {
                 log,
                 flushed: 0,
@@ -122,21 +137,46 @@ impl<R: Eprint> Commit<R> {
         self.note_doubt();
     }
 
-    /// Waits until all is sure that was given before the call.
+    /// Waits until all is sure that was given before the call. Where nobody flushes the caller does. Those who come
+    /// meanwhile sleep, and not for a lock, which the next who flushes might have before them: once the flush has
+    /// ended all whose changes it made sure go on at once, and one of the others flushes for all of these.
     fn settle<W: Wait>(&self, rt: &W) -> Result<(), Failed> {
         let wanted = self.given.load(Ordering::SeqCst);
-        let mut settling = self.settling.lock(rt);
-        if self.is_in_doubt() {
-            return Err(Failed);
+        for _turn in rt.forever() {
+            let ended = self.ended.load(Ordering::SeqCst);
+            if self.is_in_doubt() {
+                return Err(Failed);
+            }
+            if wanted <= self.sure.load(Ordering::SeqCst) {
+                return Ok(());
+            }
+            if !self.is_flushing.swap(true, Ordering::SeqCst) {
+                return self.flush(rt);
+            }
+            self.ended.park(rt, (ended & 0xffff_ffff) as u32);
         }
+        unreachable!()
+    }
+
+    /// Flushes all that was given, for whoever waits; then another may.
+    fn flush<W: Wait>(&self, rt: &W) -> Result<(), Failed> {
+        let mut settling = self.settling.lock(rt);
         let given = self.given.load(Ordering::SeqCst);
-        match settling.settle(wanted, given) {
-            Ok(()) => Ok(()),
+        let done = match settling.settle(given, given) {
+            Ok(()) => {
+                self.sure.store(given, Ordering::SeqCst);
+                Ok(())
+            }
             Err(Fault) => {
                 self.fail(&settling.flusher().why);
                 Err(Failed)
             }
-        }
+        };
+        drop(settling);
+        self.is_flushing.store(false, Ordering::SeqCst);
+        self.ended.fetch_add(1, Ordering::SeqCst);
+        self.ended.wake_all();
+        done
     }
 }
 
