@@ -32,6 +32,18 @@ fn feed(alloc: Global, cutter: &mut Cutter, chunks: &mut Vec<Chunk>, piece: &[u8
     }
 }
 
+/// Whether two chunks are the same, by their digests too.
+fn is_same(one: &Chunk, other: &Chunk) -> bool {
+    let is_there = one.start == other.start && one.len == other.len;
+    is_there && one.digest.as_slice() == other.digest.as_slice()
+}
+
+/// Whether two lists have the same chunks.
+fn are_same(some: &[Chunk], others: &[Chunk]) -> bool {
+    let mut pairs = some.iter().zip(others.iter());
+    some.len() == others.len() && pairs.all(|(one, other)| is_same(one, other))
+}
+
 /// Whether the content has these chunks where it comes in three pieces, of which the second has
 /// `middle` bytes from the place on.
 fn is_cut_so(
@@ -53,7 +65,7 @@ fn is_cut_so(
     if let Some(last) = cutter.finish() {
         out.push(&mut chunks, last);
     }
-    is_all && chunks.as_slice() == wanted
+    is_all && are_same(chunks.as_slice(), wanted)
 }
 
 /// How many ways to cut the content into pieces about these places give its chunks.
