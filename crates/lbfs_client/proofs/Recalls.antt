@@ -38,7 +38,8 @@ same_file (Some f) = refl
 
 same_walk : (w : Walk) → noting w None ≡ w
 same_walk walk.Joins = refl
-same_walk (walk.Renews file content) = ap (λ (f : Option ℕ). walk.Renews f content) (same_file file)
+same_walk (walk.Reads place bytes) = refl
+same_walk (walk.Renews file bytes) = ap (λ (f : Option ℕ). walk.Renews f bytes) (same_file file)
 same_walk (walk.Closes file) = refl
 same_walk (walk.Gets name) = refl
 

@@ -7,11 +7,11 @@ use Rattle.wire.specs.declared.message.Message.{Message}
 use Rattle.client_state.specs.State.{State}
 use Rattle.client_state.specs.declared.step.Ended.{Ended}
 use Rattle.client_state.specs.declared.step.Outcome.TheVariants as outcome
-use Rattle.lbfs_client.specs.Lines.{opening}
+use Rattle.lbfs_client.specs.Lines.{opening, renewing, file_of}
 use Rattle.lbfs_client.specs.declared.line.Place.{Place}
 use Rattle.lbfs_client.specs.Client.{Goes}
 use Rattle.lbfs_client.specs.Host.{Host, HasRead}
-use Rattle.lbfs_client.specs.Mounting.{Mount, Leads, Commands, Begins, PutsRead, PutLine, GetLine, Wants, JoinLine}
+use Rattle.lbfs_client.specs.Mounting.{Mount, Leads, Commands, Begins, PutsRead, PutLine, GoesOn, GetLine, Wants, JoinLine}
 use Rattle.lbfs_client.specs.Walks.{says, answer_of, answer_to}
 use Rattle.lbfs_client.specs.declared.said.Said.{Said}
 use Rattle.lbfs_client.specs.declared.walk.Walk.{Walk}
@@ -34,13 +34,29 @@ begins_is (Err e) h c w next k now c1 ended before sent m' none goes p = tt
 
 -- ---- put
 
-pub put_busy : (h : Host) (c : State) (w : Option Walk) (name : List ℕ) (place : Place) (now : ℕ) (said : Said) → is_some w ≡ true → said ≡ says [] (Some (answer_of outcome.Busy)) → PutLine (mount_of h c w) w name place now (mount_of h c w) said
-put_busy h c None name place now said is e = cc
-put_busy h c (Some w) name place now said is e = (refl, e)
+pub none_of : (w : Option Walk) → is_some w ≡ false → w ≡ None
+none_of None is = refl
+none_of (Some w) is = cc
 
-pub put_free : (h : Host) (c : State) (w : Option Walk) (name : List ℕ) (place : Place) (now : ℕ) (h1 : Host) (read : Result (List ℕ) FilesError) (m' : Mount) (said : Said) → is_some w ≡ false → HasRead h name read h1 → PutsRead (mount_of h1 c w) place read now m' said → PutLine (mount_of h c w) w name place now m' said
-put_free h c None name place now h1 read m' said is reads p = record { host = h1; read = read; reads = reads; goes_on = p }
-put_free h c (Some w) name place now h1 read m' said is reads p = cc
+pub put_busy : (h : Host) (w : Option Walk) (name : List ℕ) (place : Place) (said : Said) → is_some w ≡ true → said ≡ says [] (Some (answer_of outcome.Busy)) → PutLine h w name place h w said
+put_busy h None name place said is e = cc
+put_busy h (Some w) name place said is e = (refl, refl, e)
+
+pub put_free : (h : Host) (w : Option Walk) (name : List ℕ) (place : Place) (h1 : Host) (read : Result (List ℕ) FilesError) (w' : Option Walk) (said : Said) → is_some w ≡ false → HasRead h name read h1 → PutsRead place read w' said → PutLine h w name place h1 w' said
+put_free h None name place h1 read w' said is reads p = record { read = read; reads = reads; goes_on = p }
+put_free h (Some w) name place h1 read w' said is reads p = cc
+
+-- a put that waits goes on
+other_walk : (h : Host) (c : State) (w v : Option Walk) (next : Walk) (k : Command) (now : ℕ) (m' : Mount) (said : Said) → Begins (mount_of h c w) next k now m' said → Begins (mount_of h c v) next k now m' said
+other_walk h c w v next k now m' said p = record { client = p.client; ended = p.ended; sent = p.sent; goes = p.goes; leads = p.leads }
+
+pub goes_on_is : (h : Host) (c : State) (w : Option Walk) (held : Walk) (place : Place) (bytes : List ℕ) (file : Option ℕ) (kept : List ℕ) (k : Command) (now : ℕ) (m' : Mount) (said : Said) → held ≡ walk.Reads place bytes → file ≡ file_of place → kept ≡ bytes → k ≡ renewing place
+    → Begins (mount_of h c w) (walk.Renews file kept) k now m' said → GoesOn (mount_of h c (Some held)) (Some held) now m' said
+goes_on_is h c w held place bytes file kept k now m' said is its same by p = subst (λ (x : Walk). GoesOn (mount_of h c (Some x)) (Some x) now m' said) (sym is)
+    (other_walk h c w (Some (walk.Reads place bytes)) (walk.Renews (file_of place) bytes) (renewing place) now m' said
+    (subst (λ (x : Command). Begins (mount_of h c w) (walk.Renews (file_of place) bytes) x now m' said) by
+    (subst (λ (xs : List ℕ). Begins (mount_of h c w) (walk.Renews (file_of place) xs) k now m' said) same
+    (subst (λ (f : Option ℕ). Begins (mount_of h c w) (walk.Renews f kept) k now m' said) its p))))
 
 -- ---- get
 

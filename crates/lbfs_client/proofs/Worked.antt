@@ -17,7 +17,7 @@ use Rattle.lbfs_client.specs.declared.line.MountLine.TheVariants as line
 use Rattle.lbfs_client.specs.declared.line.Place.TheVariants as place
 use Rattle.lbfs_client.specs.Client.{Takes, Goes}
 use Rattle.lbfs_client.specs.Host.{Host}
-use Rattle.lbfs_client.specs.Mounting.{Mount, Runs, PutsRead, joined_step}
+use Rattle.lbfs_client.specs.Mounting.{Mount, Runs, PutsRead, Continues, joined_step}
 use Rattle.lbfs_client.specs.Walks.{says, answer_of, Stores.at_close, Renewed, noted, Closed, Fetched}
 use Rattle.lbfs_client.specs.declared.walk.Walk.TheVariants as walk
 
@@ -45,9 +45,15 @@ idle = record { host = quiet; client = start; walk = None }
 open_row : Runs idle (line.Plain (command.Open 2)) 0 idle (says [] (Some (answer_of outcome.NoLink)))
 open_row = (refl, refl, record { step = (command_step start (command.Open 2) 0).1; takes = exactly start (command.Open 2) 0 refl; is_said = refl })
 
--- a put says the outcome of its rewrite, and one whose file of the host isn't there opens nothing
-put_row : PutsRead idle (place.File 2) (Ok (codes "abc")) 0 idle (says [] (Some (answer_of outcome.NoLink)))
-put_row = record {
+-- a put waits with what it read, and then says the outcome of its rewrite; one whose file of the host isn't there opens nothing
+abbrev waiting : Mount
+waiting = record idle { walk = Some (walk.Reads (place.File 2) (codes "abc")) }
+
+put_row : PutsRead (place.File 2) (Ok (codes "abc")) waiting.walk (says [] None)
+put_row = (refl, refl)
+
+continued_row : Continues waiting 0 idle (says [] (Some (answer_of outcome.NoLink)))
+continued_row = record {
   client = start;
   ended = (command_step start (command.Rewrite 2) 0).1.ended;
   sent = [];
@@ -55,11 +61,15 @@ put_row = record {
   leads = (refl, (refl, (refl, refl)));
 }
 
-fault_row : PutsRead idle (place.File 2) (Err errors.Failed) 0 idle (says [] (Some answer.LocalFault))
+fault_row : PutsRead (place.File 2) (Err errors.Failed) None (says [] (Some answer.LocalFault))
 fault_row = (refl, refl)
 
-large_row : PutsRead idle (place.File 2) (Err (errors.TooBig 67108865)) 0 idle (says [] (Some (answer_of (outcome.TooBig 67108865))))
+large_row : PutsRead (place.File 2) (Err (errors.TooBig 67108865)) None (says [] (Some (answer_of (outcome.TooBig 67108865))))
 large_row = (refl, refl)
+
+-- with no put that waits nothing goes on
+none_row : Continues idle 0 idle (says [] None)
+none_row = (refl, refl)
 
 -- a join waits for a connection, and is done with it
 join_row : Runs idle line.Join 0 (record idle { walk = Some walk.Joins }) (says [] None)
@@ -100,7 +110,7 @@ content_row : local_bytes closing.opened 2 ≡ codes "abc"
 content_row = refl
 
 -- a put of a name notes the file that its path led to, and keeps it
-noted_row : noted (noted (Some (walk.Renews None content)) (Some 2)) None ≡ Some (walk.Renews (Some 2) content)
+noted_row : noted (noted (Some (walk.Renews None (codes "abc"))) (Some 2)) None ≡ Some (walk.Renews (Some 2) (codes "abc"))
 noted_row = refl
 
 -- one whose rewrite was refused says so, and stores nothing

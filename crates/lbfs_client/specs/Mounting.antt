@@ -45,7 +45,8 @@ SaysEnd m o send m' said = (m' ≡ m) × (said ≡ says send (Some (answer_of o)
 abbrev pub Walks : Mount → Option Walk → Outcome → (now : ℕ) → List Message → Mount → Said → Type 0
 Walks m None o now send m' said = SaysEnd m o send m' said
 Walks m (Some walk.Joins) o now send m' said = SaysEnd m o send m' said
-Walks m (Some (walk.Renews file content)) o now send m' said = (m'.host ≡ m.host) × Renewed m.client file content o now send m'.client m'.walk said
+Walks m (Some (walk.Reads place bytes)) o now send m' said = SaysEnd m o send m' said
+Walks m (Some (walk.Renews file bytes)) o now send m' said = (m'.host ≡ m.host) × Renewed m.client file (part.Bytes bytes ∷ []) o now send m'.client m'.walk said
 Walks m (Some (walk.Closes file)) o now send m' said = (m'.host ≡ m.host) × (m'.walk ≡ None) × Closed m.client file o now send m'.client said
 Walks m (Some (walk.Gets name)) o now send m' said = (m'.walk ≡ None) × Fetched m.host m.client name o now send m'.host m'.client said
 
@@ -76,21 +77,20 @@ unread_answer errors.Failed = answer.LocalFault
 unread_answer (errors.TooBig len) = answer_of (outcome.TooBig len)
 unread_answer errors.Memory = answer_of outcome.Memory
 
--- the file of the host was read first
-abbrev pub PutsRead : Mount → Place → Result (List ℕ) FilesError → (now : ℕ) → Mount → Said → Type 0
-PutsRead m place (Ok bytes) now m' said = Begins m (walk.Renews (file_of place) (part.Bytes bytes ∷ [])) (renewing place) now m' said
-PutsRead m place (Err e) now m' said = (m' ≡ m) × (said ≡ says [] (Some (unread_answer e)))
+-- a put reads the file of the host first, and the line waits until it is to go on
+abbrev pub PutsRead : Place → Result (List ℕ) FilesError → Option Walk → Said → Type 0
+PutsRead place (Ok bytes) w said = (w ≡ Some (walk.Reads place bytes)) × (said ≡ says [] None)
+PutsRead place (Err e) w said = (w ≡ None) × (said ≡ says [] (Some (unread_answer e)))
 
-pub record ReadsFirst (m : Mount) (name : List ℕ) (place : Place) (now : ℕ) (m' : Mount) (said : Said) : Type 0 where
-  pub host : Host
+pub record ReadsFirst (old : Host) (name : List ℕ) (place : Place) (new : Host) (w : Option Walk) (said : Said) : Type 0 where
   pub read : Result (List ℕ) FilesError
-  pub reads : HasRead m.host name read host
-  pub goes_on : PutsRead (record m { host = host }) place read now m' said
+  pub reads : HasRead old name read new
+  pub goes_on : PutsRead place read w said
 
 -- while another such line is under way, none begins
-abbrev pub PutLine : Mount → Option Walk → (name : List ℕ) → Place → (now : ℕ) → Mount → Said → Type 0
-PutLine m (Some w) name place now m' said = SaysEnd m outcome.Busy [] m' said
-PutLine m None name place now m' said = ReadsFirst m name place now m' said
+abbrev pub PutLine : (old : Host) → Option Walk → (name : List ℕ) → Place → (new : Host) → Option Walk → Said → Type 0
+PutLine old (Some w) name place new w' said = (new ≡ old) × (w' ≡ Some w) × (said ≡ says [] (Some (answer_of outcome.Busy)))
+PutLine old None name place new w' said = ReadsFirst old name place new w' said
 
 abbrev pub GetLine : Mount → Option Walk → Place → (name : List ℕ) → (now : ℕ) → Mount → Said → Type 0
 GetLine m (Some w) place name now m' said = SaysEnd m outcome.Busy [] m' said
@@ -107,10 +107,23 @@ JoinLine linked None new said = Wants linked new said
 
 abbrev pub Runs : Mount → MountLine → (now : ℕ) → Mount → Said → Type 0
 Runs m (line.Plain c) now m' said = (m'.host ≡ m.host) × (m'.walk ≡ m.walk) × Commands m.client c now m'.client said
-Runs m (line.Put name place) now m' said = PutLine m m.walk name place now m' said
+Runs m (line.Put name place) now m' said = (m'.client ≡ m.client) × PutLine m.host m.walk name place m'.host m'.walk said
 Runs m (line.Get place name) now m' said = GetLine m m.walk place name now m' said
 Runs m line.Join now m' said = (m'.host ≡ m.host) × (m'.client ≡ m.client) × JoinLine m.client.linked m.walk m'.walk said
 Runs m line.Skipped now m' said = (m' ≡ m) × (said ≡ says [] None)
+
+-- A put whose file of the host was read goes on: its file is written anew, and gets these bytes. With no such line nothing is done.
+abbrev pub GoesOn : Mount → Option Walk → (now : ℕ) → Mount → Said → Type 0
+GoesOn m (Some (walk.Reads place bytes)) now m' said = Begins m (walk.Renews (file_of place) bytes) (renewing place) now m' said
+GoesOn m w now m' said = (m' ≡ m) × (said ≡ says [] None)
+
+abbrev pub Continues : Mount → (now : ℕ) → Mount → Said → Type 0
+Continues m now m' said = GoesOn m m.walk now m' said
+
+-- the bytes that it waits with
+abbrev pub read_bytes : Option Walk → Option (List ℕ)
+read_bytes (Some (walk.Reads place bytes)) = Some bytes
+read_bytes w = None
 
 -- ---- what comes from the other end, and that nothing more comes
 

@@ -112,7 +112,7 @@ Renewed c file content o now send c' w said = PutsIf c content (renewed_file fil
 
 -- what a line has left to do notes the file that was found in a step, where it waits for one
 abbrev pub noting : Walk → (found : Option ℕ) → Walk
-noting (walk.Renews file content) found = walk.Renews (file_with file found) content
+noting (walk.Renews file bytes) found = walk.Renews (file_with file found) bytes
 noting w found = w
 
 abbrev pub noted : Option Walk → (found : Option ℕ) → Option Walk

@@ -2,10 +2,11 @@
 //! what they come to.
 
 ghost use Rattle.std.specs.Prelude.{◌≡◌, IfOk, IfErr, None, true, false};
+ghost use Rattle.std.specs.Option.{option_copied};
 ghost use Rattle.lbfs_client.specs.Caching.{Loads, Saves, within};
 ghost use Rattle.lbfs_client.specs.Hinting.{LearnsIn, OffersIf, closing_of};
 ghost use Rattle.client_state.specs.State.{start_with};
-ghost use Rattle.lbfs_client.specs.Mounting.{Runs, Receives, Stops, joined_step};
+ghost use Rattle.lbfs_client.specs.Mounting.{Runs, Continues, Receives, Stops, joined_step, read_bytes};
 
 use crate::answer::Answer;
 use crate::caching::{self, load_read, save_kept};
@@ -13,10 +14,11 @@ use crate::fetching::read;
 use crate::hinting::{closing, offer_read};
 use crate::line::MountLine;
 use crate::local::LocalName;
-use crate::running::{joined, run};
+use crate::running::{go_on, joined, read_bytes, run};
 use crate::said::Said;
 use crate::walk::Walk;
 use crate::walking::{receive, stop};
+use cut_bytes::CutBytes;
 use links::files::Files;
 use open_close::client::Client;
 use record_ends::end::End;
@@ -71,8 +73,8 @@ impl<F: Files> Mounted<F> {
     }
 
     /// A line of the script, at a reading of the client's clock in milliseconds: what is to be sent,
-    /// and the line to write where it has ended. The one error is want of memory, which is the end
-    /// of the mount.
+    /// and the line to write where it has ended. A put whose file of the host was read waits for `go_on`. The
+    /// one error is want of memory, which is the end of the mount.
     pub fn line(&mut self, alloc: Global, line: MountLine, now: u64) -> Result<Said, AllocError>
         ensures { IfOk result (λ said. Runs self.old line now self.new said) }
     {
@@ -82,6 +84,35 @@ impl<F: Files> Mounted<F> {
             &mut self.client,
             &mut self.walk,
             line,
+            now,
+        )
+    }
+
+    /// The bytes of a put's file of the host, which was read: the line waits with them until it is to go on
+    /// (`go_on`), so that they can be cut and hashed where nobody waits for the client. None where no such line
+    /// is under way. It takes no memory.
+    pub fn read_bytes(&self) -> Option<&CutBytes>
+        ensures { option_copied result ≡ read_bytes self.now.walk }
+    {
+        read_bytes(&self.walk)
+    }
+
+    /// A put that waits goes on, with what was found of its bytes ahead, if anything was; the rest is as for a
+    /// line.
+    pub fn go_on(
+        &mut self,
+        alloc: Global,
+        found: Option<CutBytes>,
+        now: u64,
+    ) -> Result<Said, AllocError>
+        ensures { IfOk result (λ said. Continues self.old now self.new said) }
+    {
+        go_on(
+            alloc,
+            &mut self.files,
+            &mut self.client,
+            &mut self.walk,
+            found,
             now,
         )
     }

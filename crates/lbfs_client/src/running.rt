@@ -1,9 +1,9 @@
 //! What a line of the script comes to: `Runs` of `specs/Mounting.antt`, over the fields of a mounted
 //! client; and what becomes of it once a connection is joined.
 
-ghost use Rattle.std.specs.Prelude.{◌≡◌, IfOk, [], ◌∷◌};
-ghost use Rattle.command_text.specs.declared.content.Part.TheVariants as part;
-ghost use Rattle.lbfs_client.specs.Mounting.{Commands, Begins, unread_answer, PutsRead, PutLine, GetLine, JoinLine, Runs, is_joining, joined_walk};
+ghost use Rattle.std.specs.Prelude.{◌≡◌, IfOk, Some, None};
+ghost use Rattle.std.specs.Option.{option_copied};
+ghost use Rattle.lbfs_client.specs.Mounting.{Commands, Begins, unread_answer, PutsRead, PutLine, GoesOn, read_bytes, GetLine, JoinLine, Runs, is_joining, joined_walk};
 ghost use Rattle.client_state.specs.Ending.{joined};
 
 use crate::answer::Answer;
@@ -15,11 +15,12 @@ use crate::said::{Said, says, says_step, sends};
 use crate::walk::Walk;
 use crate::walking::lead;
 use command_text::command::Command;
-use command_text::content::{Content, Part};
+use cut_bytes::CutBytes;
 use lb_base::items::{Bytes, Items};
 use links::files::{Files, FilesError};
 use open_close::client::Client;
 use register_model::op::Outcome;
+use shared_bytes::SharedBytes;
 use std::alloc::{AllocError, Global};
 
 /// A command that is all of its line.
@@ -61,15 +62,6 @@ fn begin<F: Files>(
     }
 }
 
-/// A content of these bytes.
-fn content_of(alloc: Global, bytes: Bytes) -> Result<Content, AllocError>
-    ensures { IfOk result (λ content. content ≡ part.Bytes bytes ∷ []) }
-{
-    let mut content = Items::new(alloc);
-    content.push(Part::Bytes(bytes))?;
-    Ok(content)
-}
-
 /// What is said where a file of the host wasn't read.
 pub(crate) fn unread_answer(error: FilesError) -> Answer
     ensures { result ≡ unread_answer error }
@@ -82,22 +74,20 @@ pub(crate) fn unread_answer(error: FilesError) -> Answer
 }
 
 /// A file of the host was read for a put, or wasn't.
-fn put_read<F: Files>(
+fn put_read(
     alloc: Global,
-    files: &mut F,
-    client: &mut Client,
     walk: &mut Option<Walk>,
     place: Place,
     read: Result<Bytes, FilesError>,
-    now: u64,
 ) -> Result<Said, AllocError>
-    ensures { IfOk result (λ said. PutsRead (record { host = record { files = F.files files.old; faults = F.faults files.old }; client = client.old; walk = walk.old }) place read now (record { host = record { files = F.files files.new; faults = F.faults files.new }; client = client.new; walk = walk.new }) said) }
+    requires { walk.old ≡ None }
+    ensures { IfOk result (λ said. PutsRead place read walk.new said) }
 {
     match read {
         Ok(bytes) => {
-            let content = content_of(alloc, bytes)?;
-            let next = Walk::Renews(place.file(), content);
-            begin(alloc, files, client, walk, next, place.renewing(), now)
+            let bytes = SharedBytes::new(alloc, bytes)?;
+            *walk = Some(Walk::Reads(place, CutBytes::whole(bytes)));
+            Ok(sends(Items::new(alloc)))
         }
         Err(error) => {
             drop(place);
@@ -110,20 +100,92 @@ fn put_read<F: Files>(
 fn put<F: Files>(
     alloc: Global,
     files: &mut F,
-    client: &mut Client,
     walk: &mut Option<Walk>,
     name: &LocalName,
     place: Place,
-    now: u64,
 ) -> Result<Said, AllocError>
-    ensures { IfOk result (λ said. PutLine (record { host = record { files = F.files files.old; faults = F.faults files.old }; client = client.old; walk = walk.old }) walk.old name.now place now (record { host = record { files = F.files files.new; faults = F.faults files.new }; client = client.new; walk = walk.new }) said) }
+    ensures { IfOk result (λ said. PutLine (record { files = F.files files.old; faults = F.faults files.old }) walk.old name.now place (record { files = F.files files.new; faults = F.faults files.new }) walk.new said) }
 {
     if walk.is_some() {
         drop(place);
         return says(alloc, Items::new(alloc), &Answer::Ended(Outcome::Busy));
     }
     let bytes = read(alloc, files, name);
-    put_read(alloc, files, client, walk, place, bytes, now)
+    put_read(alloc, walk, place, bytes)
+}
+
+/// A put that waits goes on, with what was found of its bytes ahead.
+fn go_on_with<F: Files>(
+    alloc: Global,
+    files: &mut F,
+    client: &mut Client,
+    walk: &mut Option<Walk>,
+    held: Walk,
+    found: Option<CutBytes>,
+    now: u64,
+) -> Result<Said, AllocError>
+    requires { walk.old ≡ None }
+    ensures { IfOk result (λ said. GoesOn (record { host = record { files = F.files files.old; faults = F.faults files.old }; client = client.old; walk = Some held }) (Some held) now (record { host = record { files = F.files files.new; faults = F.faults files.new }; client = client.new; walk = walk.new }) said) }
+{
+    match held {
+        Walk::Reads(place, bytes) => {
+            let next = Walk::Renews(place.file(), with_found(bytes, found));
+            begin(alloc, files, client, walk, next, place.renewing(), now)
+        }
+        Walk::Joins => {
+            *walk = Some(Walk::Joins);
+            Ok(sends(Items::new(alloc)))
+        }
+        Walk::Renews(file, bytes) => {
+            *walk = Some(Walk::Renews(file, bytes));
+            Ok(sends(Items::new(alloc)))
+        }
+        Walk::Closes(file) => {
+            *walk = Some(Walk::Closes(file));
+            Ok(sends(Items::new(alloc)))
+        }
+        Walk::Gets(name) => {
+            *walk = Some(Walk::Gets(name));
+            Ok(sends(Items::new(alloc)))
+        }
+    }
+}
+
+/// Bytes, with what was found of them ahead, if anything was.
+fn with_found(bytes: CutBytes, found: Option<CutBytes>) -> CutBytes
+    ensures { result ≡ bytes }
+{
+    match found {
+        Some(found) => bytes.with(found),
+        None => bytes,
+    }
+}
+
+/// A put whose file of the host was read goes on, where one waits for that.
+pub(crate) fn go_on<F: Files>(
+    alloc: Global,
+    files: &mut F,
+    client: &mut Client,
+    walk: &mut Option<Walk>,
+    found: Option<CutBytes>,
+    now: u64,
+) -> Result<Said, AllocError>
+    ensures { IfOk result (λ said. GoesOn (record { host = record { files = F.files files.old; faults = F.faults files.old }; client = client.old; walk = walk.old }) walk.old now (record { host = record { files = F.files files.new; faults = F.faults files.new }; client = client.new; walk = walk.new }) said) }
+{
+    match walk.take() {
+        Some(held) => go_on_with(alloc, files, client, walk, held, found, now),
+        None => Ok(sends(Items::new(alloc))),
+    }
+}
+
+/// The bytes of a put that waits to go on.
+pub(crate) fn read_bytes(walk: &Option<Walk>) -> Option<&CutBytes>
+    ensures { option_copied result ≡ read_bytes walk.now }
+{
+    match walk {
+        Some(Walk::Reads(_place, bytes)) => Some(bytes),
+        _ => None,
+    }
 }
 
 /// `get PLACE LOCAL`.
@@ -175,7 +237,7 @@ pub(crate) fn run<F: Files>(
     match line {
         MountLine::Plain(command) => plain(alloc, client, command, now),
         MountLine::Put { local, place } => {
-            let said = put(alloc, files, client, walk, &local, place, now);
+            let said = put(alloc, files, walk, &local, place);
             drop(local);
             said
         }

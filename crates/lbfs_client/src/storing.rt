@@ -1,15 +1,16 @@
 //! What a `put` does to its open file, and how a file is abandoned: `specs/Walks.antt`.
 
-ghost use Rattle.std.specs.Prelude.{◌≡◌, IfOk, None};
+ghost use Rattle.std.specs.Prelude.{◌≡◌, IfOk, None, [], ◌∷◌};
+ghost use Rattle.command_text.specs.declared.content.Part.TheVariants as part;
 ghost use Rattle.lbfs_client.specs.Walks.{Stores, Abandons, Closed, Closes, Puts, renewed_file, Renewed};
 
 use crate::answer::Answer;
-use crate::commanding::{go, has_done, is_closed};
+use crate::commanding::{go, go_put, has_done, is_closed};
 use crate::said::{Said, answer_of, says, says_end, sends};
 use crate::walk::Walk;
 use client_state::step::{Ended, Outcome};
 use command_text::command::Command;
-use command_text::content::Content;
+use cut_bytes::CutBytes;
 use lb_base::items::Items;
 use open_close::client::Client;
 use std::alloc::{AllocError, Global};
@@ -21,18 +22,13 @@ fn store(
     alloc: Global,
     client: &mut Client,
     file: u64,
-    content: Content,
+    bytes: CutBytes,
     now: u64,
     send: &mut Items<Message>,
 ) -> Result<Option<Ended>, AllocError>
-    ensures { IfOk result (λ ended. Stores client.old file content now send.old client.new ended send.new) }
+    ensures { IfOk result (λ ended. Stores client.old file (part.Bytes bytes ∷ []) now send.old client.new ended send.new) }
 {
-    let write = Command::Write {
-        file,
-        offset: 0,
-        content,
-    };
-    let written = go(alloc, client, write, now, send)?;
+    let written = go_put(alloc, client, file, bytes, now, send)?;
     if !has_done(&written) {
         return Ok(written);
     }
@@ -102,14 +98,14 @@ fn put(
     client: &mut Client,
     walk: &mut Option<Walk>,
     file: u64,
-    content: Content,
+    bytes: CutBytes,
     now: u64,
     mut send: Items<Message>,
 ) -> Result<Said, AllocError>
     requires { walk.old ≡ None }
-    ensures { IfOk result (λ said. Puts client.old file content now send client.new walk.new said) }
+    ensures { IfOk result (λ said. Puts client.old file (part.Bytes bytes ∷ []) now send client.new walk.new said) }
 {
-    let ended = store(alloc, client, file, content, now, &mut send)?;
+    let ended = store(alloc, client, file, bytes, now, &mut send)?;
     let said = closes(alloc, client, walk, file, &ended, now, send);
     drop(ended);
     said
@@ -131,18 +127,18 @@ pub(crate) fn renewed(
     client: &mut Client,
     walk: &mut Option<Walk>,
     file: Option<u64>,
-    content: Content,
+    bytes: CutBytes,
     outcome: &Outcome,
     now: u64,
     send: Items<Message>,
 ) -> Result<Said, AllocError>
     requires { walk.old ≡ None }
-    ensures { IfOk result (λ said. Renewed client.old file content outcome.now now send client.new walk.new said) }
+    ensures { IfOk result (λ said. Renewed client.old file (part.Bytes bytes ∷ []) outcome.now now send client.new walk.new said) }
 {
     match renewed_file(file, outcome) {
-        Some(file) => put(alloc, client, walk, file, content, now, send),
+        Some(file) => put(alloc, client, walk, file, bytes, now, send),
         None => {
-            drop(content);
+            drop(bytes);
             says_end(alloc, send, outcome)
         }
     }

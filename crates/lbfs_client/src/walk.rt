@@ -4,14 +4,17 @@
 ghost use Rattle.std.specs.Prelude.{◌≡◌};
 ghost use Rattle.lbfs_client.specs.Walks.{file_with, noting};
 
+use crate::line::Place;
 use crate::local::LocalName;
-use command_text::content::Content;
+use cut_bytes::CutBytes;
 
 /// What the line under way has left to do, once the operation under way has ended.
 #[derive(Drop)]
 pub enum Walk {
-    /// `put`: its file is being written anew, this one if it is known, and gets this content then.
-    Renews(Option<u64>, Content),
+    /// `put`: these bytes of a file of the host were read, and are to be this file's once the line goes on.
+    Reads(Place, CutBytes),
+    /// `put`: its file is being written anew, this one if it is known, and gets these bytes then.
+    Renews(Option<u64>, CutBytes),
     /// `put`: the file with this id is being closed.
     Closes(u64),
     /// `get`: its file is being opened, and its bytes go into this file of the host then.
@@ -36,7 +39,8 @@ impl Walk {
         ensures { result ≡ noting self found }
     {
         match self {
-            Walk::Renews(file, content) => Walk::Renews(file_with(file, found), content),
+            Walk::Reads(place, bytes) => Walk::Reads(place, bytes),
+            Walk::Renews(file, bytes) => Walk::Renews(file_with(file, found), bytes),
             Walk::Closes(file) => Walk::Closes(file),
             Walk::Gets(name) => Walk::Gets(name),
             Walk::Joins => Walk::Joins,

@@ -40,9 +40,11 @@ fn walk_with<F: Files>(
             *walk = Some(Walk::Joins);
             says_end(alloc, send, outcome)
         }
-        Walk::Renews(file, content) => renewed(
-            alloc, client, walk, file, content, outcome, now, send,
-        ),
+        Walk::Reads(place, bytes) => {
+            *walk = Some(Walk::Reads(place, bytes));
+            says_end(alloc, send, outcome)
+        }
+        Walk::Renews(file, bytes) => renewed(alloc, client, walk, file, bytes, outcome, now, send),
         Walk::Closes(file) => closed(alloc, client, file, outcome, now, send),
         Walk::Gets(name) => {
             let said = fetched(alloc, files, client, &name, outcome, now, send);

@@ -7,4 +7,4 @@ pub returns-then-not-has_done : goal.returns-then-not-has_done
 returns-then-not-has_done c = at_write c.in_ok-written.ensures (sym c.has_done.ensures ∙ c.if-not-has_done.true)
 
 pub returns : goal.returns
-returns c = IfOk-weaker c.go-2.result _ _ (λ ended p. at_close _ _ _ c.in_ok-written.ensures (sym c.has_done.ensures ∙ c.if-not-has_done.false) p) c.go-2.ensures
+returns c = IfOk-weaker c.go.result _ _ (λ ended p. at_close _ _ _ c.in_ok-written.ensures (sym c.has_done.ensures ∙ c.if-not-has_done.false) p) c.go.ensures
