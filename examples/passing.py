@@ -32,6 +32,8 @@ class Passing:
         self.to, self.holds, self.lies, self.held, self.links = to, holds, lies, [], []
         self.bytes = {UP: 0, DOWN: 0}
         self.counts = {is_recall: 0, is_given_up: 0, is_farewell: 0}
+        # of each record that went up, in order, whether it answers a RECALL
+        self.ups = []
         self.changed = threading.Condition()
         # records that two threads give to one stream go out one after the other
         self.giving = threading.Lock()
@@ -87,6 +89,8 @@ class Passing:
         """Counts a record, and says whether it is passed on now."""
         with self.changed:
             self.bytes[way] += len(record)
+            if way == UP:
+                self.ups.append(is_given_up(way, record))
             for kind in self.counts:
                 self.counts[kind] += kind(way, record)
             held = self.holds(way, record)

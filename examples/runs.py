@@ -64,6 +64,12 @@ class Run:
             os.killpg(self.process.pid, signal.SIGKILL)
         self.process.wait()
 
+    def worked(self):
+        """Processor seconds that it has had."""
+        with open(f"/proc/{self.process.pid}/stat") as it:
+            fields = it.read().rpartition(")")[2].split()
+        return (int(fields[11]) + int(fields[12])) / os.sysconf("SC_CLK_TCK")
+
     def told(self, word):
         """What the kernel tells of it by this word."""
         with open(f"/proc/{self.process.pid}/status") as it:

@@ -5,7 +5,7 @@ use Rattle.std.proofs.Math.Logic.{∥∥₁_map}
 use Rattle.record_ends.specs.declared.end.End.{End}
 use Rattle.lbfs_client.specs.Caching.{Saves, within}
 use Rattle.lbfs_client.specs.Host.{Host}
-use Rattle.lbfs_client.specs.Mounting.{Mount, joined_step}
+use Rattle.lbfs_client.specs.Mounting.{Mount, Continues, joined_step}
 use Rattle.lbfs_client.specs.declared.answer.Answer.{Answer}
 use Rattle.lbfs_client.specs.declared.line.MountLine.{MountLine}
 use Rattle.lbfs_client.proofs.Bounds.{is_bounded}
@@ -37,6 +37,10 @@ known_first starved drift most listed m m' same zero begun = ∣ (λ fed. same_c
 pub known_runs : (starved starved' : Bool) (drift most most' listed listed' : ℕ) (m m' : Mount) (l : MountLine) (now : ℕ) → (starved' ≡ false → starved ≡ false) → most' ≡ most → listed' ≡ 0
     → (starved' ≡ false → Turns most (λ n said. RunsHinted m l now n said) now m') → ∥ (starved ≡ false → Course drift most listed m) ∥₁ → ∥ (starved' ≡ false → Course drift most' listed' m') ∥₁
 known_runs starved starved' drift most most' listed listed' m m' l now was a b turn h = ∥∥₁_map h (λ (k : Known starved drift most listed m) fed. same_course drift most most' 0 listed' m' m' a b refl (Course.runs listed m l now m' (k (was fed)) (turn fed)))
+
+pub known_goes_on : (starved starved' : Bool) (drift most most' listed listed' : ℕ) (m m' : Mount) (now : ℕ) → (starved' ≡ false → starved ≡ false) → most' ≡ most → listed' ≡ listed
+    → (starved' ≡ false → Turns most (λ n said. Continues m now n said) now m') → ∥ (starved ≡ false → Course drift most listed m) ∥₁ → ∥ (starved' ≡ false → Course drift most' listed' m') ∥₁
+known_goes_on starved starved' drift most most' listed listed' m m' now was a b turn h = ∥∥₁_map h (λ (k : Known starved drift most listed m) fed. same_course drift most most' listed listed' m' m' a b refl (Course.goes_on listed m now m' (k (was fed)) (turn fed)))
 
 pub known_joins : (starved starved' : Bool) (drift most most' listed listed' : ℕ) (m m' : Mount) (now : ℕ) → (starved' ≡ false → starved ≡ false) → most' ≡ most → listed' ≡ listed
     → (starved' ≡ false → Turns most (λ n said. joined_step m ≡ (n, said)) now m') → ∥ (starved ≡ false → Course drift most listed m) ∥₁ → ∥ (starved' ≡ false → Course drift most' listed' m') ∥₁

@@ -1,5 +1,5 @@
 -- What a mounted client says of an operation that ended is the line of an answer.
-use Rattle.std.proofs.Common.{◌≡◌, ℕ, List, [], Bool, true, false, refl, sym, subst}
+use Rattle.std.proofs.Common.{◌≡◌, ℕ, List, [], ◌∷◌, Bool, true, false, refl, sym, subst}
 use Rattle.std.specs.Prelude.{Option, Some, None, Result, Ok, Err, IfOk}
 use Rattle.links.specs.declared.files.FilesError.{FilesError}
 use Rattle.record_ends.specs.declared.end.End.{End}
@@ -15,12 +15,13 @@ use Rattle.client_state.specs.declared.step.Outcome.{Outcome}
 use Rattle.client_state.specs.declared.step.Outcome.TheVariants as outcome
 use Rattle.command_text.specs.declared.command.Command.{Command}
 use Rattle.command_text.specs.declared.content.Part.{Part}
+use Rattle.command_text.specs.declared.content.Part.TheVariants as part
 use Rattle.lbfs_client.specs.declared.answer.Answer.{Answer}
 use Rattle.lbfs_client.specs.declared.line.MountLine.{MountLine}
 use Rattle.lbfs_client.specs.declared.line.MountLine.TheVariants as line
 use Rattle.lbfs_client.specs.declared.line.Place.{Place}
 use Rattle.lbfs_client.specs.Host.{Host}
-use Rattle.lbfs_client.specs.Mounting.{Mount, Walks, Leads, Begins, PutsRead, PutLine, GetLine, Wants, JoinLine, Runs, Hearing, Receives, Loses, Stops, is_joining, joined_if, joined_step, unread_answer}
+use Rattle.lbfs_client.specs.Mounting.{Mount, Walks, Leads, Begins, PutsRead, PutLine, GoesOn, Continues, GetLine, Wants, JoinLine, Runs, Hearing, Receives, Loses, Stops, is_joining, joined_if, joined_step, unread_answer}
 use Rattle.lbfs_client.specs.Walks.{says, answer_of, answer_to, is_closed, opened_file, renewed_file, noted, ClosedIf, Closes, PutsIf, KeepsIf, kept_answer}
 use Rattle.lbfs_client.specs.declared.said.Said.{Said}
 use Rattle.lbfs_client.specs.declared.walk.Walk.{Walk}
@@ -57,7 +58,8 @@ keeps_told h c None name o now send h' c' said (kept, (same, is)) = told send (S
 walks_told : (m : Mount) (w : Option Walk) (o : Outcome) (now : ℕ) (send : List Message) (m' : Mount) (said : Said) → Walks m w o now send m' said → IsTold said.line
 walks_told m None o now send m' said p = told send (Some (answer_of o)) said p.1
 walks_told m (Some walk.Joins) o now send m' said p = told send (Some (answer_of o)) said p.1
-walks_told m (Some (walk.Renews file content)) o now send m' said p = puts_told m.client content (renewed_file file o) o now send m'.client m'.walk said p.1
+walks_told m (Some (walk.Reads place bytes)) o now send m' said p = told send (Some (answer_of o)) said p.1
+walks_told m (Some (walk.Renews file bytes)) o now send m' said p = puts_told m.client (part.Bytes bytes ∷ []) (renewed_file file o) o now send m'.client m'.walk said p.1
 walks_told m (Some (walk.Closes file)) o now send m' said p = closed_told m.client file (is_closed o) o now send m'.client said p.2
 walks_told m (Some (walk.Gets name)) o now send m' said p = keeps_told m.host m.client (opened_file o) name o now send m'.host m'.client said p.1
 
@@ -70,13 +72,13 @@ leads_told m (Some e) now send m' said p = walks_told m m.walk e.outcome now sen
 begins_told : (m : Mount) (w : Walk) (command : Command) (now : ℕ) (m' : Mount) (said : Said) → Begins m w command now m' said → IsTold said.line
 begins_told m w command now m' said p = leads_told (record m { client = p.client; walk = Some w }) p.ended now p.sent m' said p.leads
 
-read_told : (m : Mount) (place : Place) (read : Result (List ℕ) FilesError) (now : ℕ) (m' : Mount) (said : Said) → PutsRead m place read now m' said → IsTold said.line
-read_told m place (Ok bytes) now m' said p = begins_told m _ _ now m' said p
-read_told m place (Err e) now m' said p = told [] (Some (unread_answer e)) said p.1
+read_told : (place : Place) (read : Result (List ℕ) FilesError) (w : Option Walk) (said : Said) → PutsRead place read w said → IsTold said.line
+read_told place (Ok bytes) w said p = told [] None said p.1
+read_told place (Err e) w said p = told [] (Some (unread_answer e)) said p.1
 
-put_told : (m : Mount) (w : Option Walk) (name : List ℕ) (place : Place) (now : ℕ) (m' : Mount) (said : Said) → PutLine m w name place now m' said → IsTold said.line
-put_told m (Some w) name place now m' said p = told [] (Some (answer_of outcome.Busy)) said p.1
-put_told m None name place now m' said p = read_told (record m { host = p.host }) place p.read now m' said p.goes_on
+put_told : (h : Host) (w : Option Walk) (name : List ℕ) (place : Place) (h' : Host) (w' : Option Walk) (said : Said) → PutLine h w name place h' w' said → IsTold said.line
+put_told h (Some w) name place h' w' said p = told [] (Some (answer_of outcome.Busy)) said p.2
+put_told h None name place h' w' said p = read_told place p.read w' said p.goes_on
 
 get_told : (m : Mount) (w : Option Walk) (place : Place) (name : List ℕ) (now : ℕ) (m' : Mount) (said : Said) → GetLine m w place name now m' said → IsTold said.line
 get_told m (Some w) place name now m' said p = told [] (Some (answer_of outcome.Busy)) said p.1
@@ -92,10 +94,23 @@ join_told linked None w' said p = wants_told linked w' said p
 
 pub runs_told : (m : Mount) (l : MountLine) (now : ℕ) (m' : Mount) (said : Said) → Runs m l now m' said → IsTold said.line
 runs_told m (line.Plain c) now m' said p = told p.2.step.send (answer_to p.2.step.ended) said p.2.is_said
-runs_told m (line.Put name place) now m' said p = put_told m m.walk name place now m' said p
+runs_told m (line.Put name place) now m' said p = put_told m.host m.walk name place m'.host m'.walk said p.1
 runs_told m (line.Get place name) now m' said p = get_told m m.walk place name now m' said p
 runs_told m line.Join now m' said p = join_told m.client.linked m.walk m'.walk said p.2
 runs_told m line.Skipped now m' said p = told [] None said p.1
+
+-- ---- a put goes on
+
+goes_on_told : (m : Mount) (w : Option Walk) (now : ℕ) (m' : Mount) (said : Said) → GoesOn m w now m' said → IsTold said.line
+goes_on_told m None now m' said p = told [] None said p.1
+goes_on_told m (Some walk.Joins) now m' said p = told [] None said p.1
+goes_on_told m (Some (walk.Reads place bytes)) now m' said p = begins_told m _ _ now m' said p
+goes_on_told m (Some (walk.Renews file bytes)) now m' said p = told [] None said p.1
+goes_on_told m (Some (walk.Closes file)) now m' said p = told [] None said p.1
+goes_on_told m (Some (walk.Gets name)) now m' said p = told [] None said p.1
+
+pub continues_told : (m : Mount) (now : ℕ) (m' : Mount) (said : Said) → Continues m now m' said → IsTold said.line
+continues_told m now m' said p = goes_on_told m m.walk now m' said p
 
 -- ---- what comes, and that nothing more comes
 
@@ -128,6 +143,10 @@ joined_told m m' said is = subst (λ (r : Mount × Said). IsTold r.1.line) is (j
 pub runs_all : {E : Type 0} (r : Result Said E) (m : Mount) (l : MountLine) (now : ℕ) (m' : Mount) → IfOk r (λ said. Runs m l now m' said) → IfOk r (λ said. IsTold said.line)
 runs_all (Ok said) m l now m' p = runs_told m l now m' said p
 runs_all (Err e) m l now m' p = tt
+
+pub continues_all : {E : Type 0} (r : Result Said E) (m : Mount) (now : ℕ) (m' : Mount) → IfOk r (λ said. Continues m now m' said) → IfOk r (λ said. IsTold said.line)
+continues_all (Ok said) m now m' p = continues_told m now m' said p
+continues_all (Err e) m now m' p = tt
 
 -- after hints, too
 pub hinted_all : {E : Type 0} (r : Result Said E) (m h : Mount) (l : MountLine) (now : ℕ) (m' : Mount) → Hints m h → IfOk r (λ said. Runs h l now m' said) → IfOk r (λ said. RunsHinted m l now m' said)

@@ -1,11 +1,11 @@
--- What the client of a mount goes through, from its beginning to its end: turns, each a line, a connection, a record or the end of a link.
+-- What the client of a mount goes through, from its beginning to its end: turns, each a line, a put that goes on, a connection, a record or the end of a link.
 use Rattle.std.specs.Prelude.{◌≡◌, ℕ, List, Option, None, Result, Ok, Err, Bool, false}
 use Rattle.record_ends.specs.declared.end.End.{End}
 use Rattle.client_state.specs.State.{start_with}
 use Rattle.lbfs_client.specs.Bounded.{IsBounded, IsCache}
 use Rattle.lbfs_client.specs.Caching.{Loads, Saves, within}
 use Rattle.lbfs_client.specs.Host.{Host}
-use Rattle.lbfs_client.specs.Mounting.{Mount, joined_step}
+use Rattle.lbfs_client.specs.Mounting.{Mount, Continues, joined_step}
 use Rattle.lbfs_client.specs.declared.answer.Answer.{Answer}
 use Rattle.lbfs_client.specs.declared.line.MountLine.{MountLine}
 use Rattle.lbfs_mount.specs.Turns.{Hears, Loses, RunsHinted, Turns, counted}
@@ -25,6 +25,7 @@ pub data Begun (drift : ℕ) (m : Mount) : Type 0 where
 pub data Course (drift most : ℕ) : (listed : ℕ) → Mount → Type 0 where
   begins : (m : Mount) → Begun drift m → Course drift most 0 m
   runs : (listed : ℕ) (m : Mount) (l : MountLine) (now : ℕ) (m' : Mount) → Course drift most listed m → Turns most (λ n said. RunsHinted m l now n said) now m' → Course drift most 0 m'
+  goes_on : (listed : ℕ) (m : Mount) (now : ℕ) (m' : Mount) → Course drift most listed m → Turns most (λ n said. Continues m now n said) now m' → Course drift most listed m'
   joins : (listed : ℕ) (m : Mount) (now : ℕ) (m' : Mount) → Course drift most listed m → Turns most (λ n said. joined_step m ≡ (n, said)) now m' → Course drift most listed m'
   hears : (listed : ℕ) (m : Mount) (bytes : List ℕ) (now : ℕ) (m' : Mount) → Course drift most listed m → Hears most listed m bytes now m' → Course drift most (counted listed bytes) m'
   stops : (listed : ℕ) (m : Mount) (end : End) (now : ℕ) (m' : Mount) → Course drift most listed m → Loses most m end now m' → Course drift most listed m'

@@ -3,13 +3,14 @@
 
 ghost use Rattle.std.specs.Prelude.{◌≡◌, ◌⊎◌, ◌+◌, ◌-◌, ◌^◌, ◌++◌, ◌||◌, [], min, Some, None, is_some, IfOk, OnErr, true, false};
 ghost use Rattle.std.specs.Option.{option_or};
-ghost use Rattle.lbfs_client.specs.Mounting.{joined_step};
+ghost use Rattle.lbfs_client.specs.Mounting.{Continues, joined_step};
 ghost use Rattle.lbfs_mount.specs.Outlet.{HearsOut, LeavesOut, LosesOut, SaysOut, SaysOutOf, SendsOut, TurnsOut, outlet, stands, text_of};
 ghost use Rattle.lbfs_mount.specs.Turns.{GoesOut, Hears, Hints, MayLearn, MayOffer, IsTold, Loses, RunsHinted, Sends, SendsOf, Turns, bounded_if, counted, wants_link};
 
 use crate::answer_line::AnswerLine;
 use crate::giving::{add, close, close_unless, give_farewell, give_waits, may_wait};
 use command_text::command::Command;
+use cut_bytes::CutBytes;
 use lb_base::items::{Bytes, Items};
 use lbfs_client::line::MountLine;
 use lbfs_client::mounted::Mounted;
@@ -17,6 +18,7 @@ use lbfs_client::said::Said;
 use links::files::Files;
 use links::link::Link;
 use record_ends::end::End;
+use shared_bytes::SharedBytes;
 use std::alloc::{AllocError, Global};
 use wire::message::Message;
 
@@ -277,6 +279,27 @@ impl<F: Files + Drop, L: Link + Drop> Desk<F, L> {
         self.stored = self.mounted.closing().or(self.stored);
         self.settle(alloc, said, false, now);
         wants
+    }
+
+    /// An owner of the bytes that a put has read of a file of the host, and with which it waits to go on, if one
+    /// does.
+    pub(crate) fn read_bytes(&self) -> Option<SharedBytes> {
+        match self.mounted.read_bytes() {
+            Some(bytes) => bytes.share().ok(),
+            None => None,
+        }
+    }
+
+    /// A put that waits goes on, with what was found of its bytes ahead, if anything was.
+    pub(crate) fn go_on(&mut self, alloc: Global, found: Option<CutBytes>, now: u64)
+        ensures turn { self.new.starved ≡ false → Turns self.old.most (λ m said. Continues self.old.mounted now m said) now self.new.mounted }
+        ensures out { self.new.starved ≡ false → TurnsOut L.held L.faults self.old.most (λ m said. Continues self.old.mounted now m said) now self.new.mounted (outlet self.old.link self.old.waits self.old.line) (outlet self.new.link self.new.waits self.new.line) (λ m. false) }
+        ensures fed { self.new.starved ≡ false → self.old.starved ≡ false }
+        ensures number { (self.new.connection ≡ self.old.connection) × (self.new.most ≡ self.old.most) × (self.new.listed ≡ self.old.listed) }
+    {
+        let said = self.mounted.go_on(alloc, found, now);
+        self.stored = self.mounted.closing().or(self.stored);
+        self.settle(alloc, said, false, now);
     }
 
     /// A connection is joined, on this link. Its number is what the thread that takes its records is

@@ -8,11 +8,13 @@ ghost use Rattle.lbfs_mount.specs.Course.{Begun, Course};
 use crate::answer_line::AnswerLine;
 use crate::desk::{Desk, Left};
 use crate::turns::Turns;
+use cut_bytes::CutBytes;
 use lbfs_client::line::MountLine;
 use lbfs_client::mounted::Mounted;
 use links::files::Files;
 use links::link::Link;
 use record_ends::end::End;
+use shared_bytes::SharedBytes;
 use std::alloc::{AllocError, Global};
 
 /// A desk whose client took its turns, unless memory ran out.
@@ -72,6 +74,14 @@ impl<F: Files + Drop, L: Link + Drop> Turns for KeptDesk<F, L> {
 
     fn run(&mut self, alloc: Global, line: MountLine, now: u64) -> bool {
         self.desk.run(alloc, line, now)
+    }
+
+    fn read_bytes(&self) -> Option<SharedBytes> {
+        self.desk.read_bytes()
+    }
+
+    fn go_on(&mut self, alloc: Global, found: Option<CutBytes>, now: u64) {
+        self.desk.go_on(alloc, found, now);
     }
 
     fn join(&mut self, alloc: Global, link: L, now: u64) -> u64 {

@@ -12,11 +12,13 @@ use crate::script::Script;
 use crate::shared::ScriptTurns;
 use crate::turns::Turns;
 use command_text::line_error::LineError;
+use cut_bytes::CutBytes;
 use lb_base::sink::{GiveError, Sink, give_all};
 use lb_base::source::{ReadError, Source};
 use lbfs_client::line::{MountLine, is_skipped};
 use links::clock::Clock;
 use links::network::Network;
+use shared_bytes::SharedBytes;
 use std::sync::Wait;
 use std::thread::{Scope, Threads};
 
@@ -51,6 +53,19 @@ pub(crate) fn write_answer<K: Sink>(sink: &mut K, answer: &AnswerLine) -> Result
     written_as(given)
 }
 
+/// A line goes on that waits with these bytes. They are cut and hashed first, between two turns, so that a
+/// thread that takes one meanwhile, as by a RECALL that is to be answered, doesn't wait for that. Where memory
+/// was wanting the client does it itself.
+fn go_on<'e, R: Wait, D: Turns + Drop, C: Clock>(
+    rt: &'e R,
+    turns: &ScriptTurns<'e, D>,
+    clock: &'e C,
+    bytes: SharedBytes,
+) {
+    let found = CutBytes::cut(turns.alloc(), bytes).ok();
+    turns.go_on(rt, found, clock.now());
+}
+
 /// A line runs to its end.
 fn run_line<
     's,
@@ -72,7 +87,11 @@ where
     ensures why { IfErr result (λ e. Unjoined (IsFaulty N.L.faults dialler.new.unpaired) (N.faults dialler.old.net) (N.faults dialler.new.net) e) }
     ensures later { N.faults dialler.old.net ≤ N.faults dialler.new.net }
 {
-    if turns.run(rt, line, clock.now()) {
+    let (wants, bytes) = turns.run(rt, line, clock.now());
+    if let Some(bytes) = bytes {
+        go_on(rt, turns, clock, bytes);
+    }
+    if wants {
         connect(scope, rt, turns, dialler, clock)?;
     }
     match turns.await_line(rt) {

@@ -8,8 +8,10 @@
 use crate::answer_line::AnswerLine;
 use crate::desk::Left;
 use crate::turns::Turns;
+use cut_bytes::CutBytes;
 use lbfs_client::line::MountLine;
 use record_ends::end::End;
+use shared_bytes::SharedBytes;
 use std::alloc::{AllocError, Global};
 use std::sync::{Condvar, Mutex, Wait};
 
@@ -97,9 +99,27 @@ impl<'e, D: Turns + Drop> ScriptTurns<'e, D> {
         self.shared.alloc
     }
 
-    /// A turn in which a line begins. It answers whether a connection is to be joined for it.
-    pub(crate) fn run<W: Wait>(&self, rt: &W, line: MountLine, now: u64) -> bool {
-        self.shared.desk.lock(rt).run(self.shared.alloc, line, now)
+    /// A turn in which a line begins. It answers whether a connection is to be joined for it, and the bytes with
+    /// which it waits to go on, if it does.
+    pub(crate) fn run<W: Wait>(
+        &self,
+        rt: &W,
+        line: MountLine,
+        now: u64,
+    ) -> (bool, Option<SharedBytes>) {
+        let mut desk = self.shared.desk.lock(rt);
+        let wants = desk.run(self.shared.alloc, line, now);
+        let bytes = desk.read_bytes();
+        drop(desk);
+        (wants, bytes)
+    }
+
+    /// A turn in which a line that waits goes on, with what was found of its bytes ahead, if anything was.
+    pub(crate) fn go_on<W: Wait>(&self, rt: &W, found: Option<CutBytes>, now: u64) {
+        self.shared
+            .desk
+            .lock(rt)
+            .go_on(self.shared.alloc, found, now);
     }
 
     /// A turn that takes the line of what ended, once there is one. The error says that memory ran

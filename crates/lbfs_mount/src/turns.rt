@@ -4,8 +4,10 @@
 
 use crate::answer_line::AnswerLine;
 use crate::desk::Left;
+use cut_bytes::CutBytes;
 use lbfs_client::line::MountLine;
 use record_ends::end::End;
+use shared_bytes::SharedBytes;
 use std::alloc::{AllocError, Global};
 
 /// What a turn asks; `Desk` says what each call does.
@@ -21,6 +23,12 @@ pub(crate) trait Turns {
 
     /// A line of the script begins. It answers whether a connection is to be joined for it.
     fn run(&mut self, alloc: Global, line: MountLine, now: u64) -> bool;
+
+    /// An owner of the bytes with which a put waits to go on, if one does.
+    fn read_bytes(&self) -> Option<SharedBytes>;
+
+    /// A put that waits goes on, with what was found of its bytes ahead, if anything was.
+    fn go_on(&mut self, alloc: Global, found: Option<CutBytes>, now: u64);
 
     /// A connection is joined, on this link. It answers the connection's number.
     fn join(&mut self, alloc: Global, link: Self::L, now: u64) -> u64;
