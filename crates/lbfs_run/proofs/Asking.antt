@@ -1,11 +1,14 @@
 -- What follows from which words were asked.
 use Rattle.std.proofs.Common.{◌≡◌, ◌⊎◌, inl, ℕ, ◌≤◌, List, [], Bool, true, false, Option, Some, None, refl, sym, ap, ◌∙◌, subst, arith, rules}
-use Rattle.std.specs.Prelude.{is_some}
+use Rattle.std.specs.Prelude.{is_some, IfSome}
 use Rattle.std.specs.Io.KnownBytes.{Appends}
 use Rattle.lb_base.specs.Known.{AppendsPrefix}
 use Rattle.store.specs.declared.record.Kept.{Kept}
 use Rattle.exit_status.specs.declared.status.Status.{Status}
+use Rattle.exit_status.specs.declared.status.Status.TheVariants as status
+use Rattle.lbfs_client.specs.Host.{Host}
 use Rattle.lbfs_mount.specs.Cached.{IsNotice, WritesAll}
+use Rattle.lbfs_mount.specs.Course.{IsSaved}
 use Rattle.program_words.specs.declared.asked.Command.{Command}
 use Rattle.program_words.specs.declared.asked.Asked.{Asked}
 use Rattle.program_words.specs.declared.asked.Asked.TheVariants as ask
@@ -85,6 +88,12 @@ same_mount a o p e f = ap (mount_in o) (sym e ∙ f)
 
 pub mounts_by : (ends : Bool → Type 0) (o p : MountOptions) → o ≡ p → ends (is_some o.cache) → ends (is_some p.cache)
 mounts_by ends o p e h = subst (λ (x : MountOptions). ends (is_some x.cache)) e h
+
+pub saved_by : {D : Type 0} (host : Host) (o p : MountOptions) → o ≡ p → (D → IfSome o.cache (λ name. ∥ IsSaved o.drift o.keep name host ∥₁)) → D → IfSome p.cache (λ name. ∥ IsSaved p.drift p.keep name host ∥₁)
+saved_by {D} host o p e h = subst (λ (x : MountOptions). D → IfSome x.cache (λ name. ∥ IsSaved x.drift x.keep name host ∥₁)) e h
+
+pub memory_not_done : ◌≡◌ {A = Status} status.Memory status.Done → ⊥
+memory_not_done e = cc
 
 -- ---- what stays
 

@@ -1,10 +1,14 @@
 -- How a mount ended, from what was answered.
 use Rattle.std.proofs.Common.{◌≡◌, ◌⊎◌, ℕ, ◌≤◌, List, Bool, Option, Result, Ok, Err, refl, inl, inr, subst, arith}
-use Rattle.std.specs.Prelude.{OnOk, IsErrOf}
+use Rattle.std.specs.Prelude.{OnOk, IsErrOf, IfSome, Some, None}
+use Rattle.std.specs.Borrow.{Bor}
+use Rattle.std.specs.Option.{option_copied}
 use Rattle.lb_base.specs.Causes.{Rose}
 use Rattle.exit_status.specs.declared.status.Status.{Status}
 use Rattle.exit_status.specs.declared.status.Status.TheVariants as status
 use Rattle.lbfs_mount.specs.Cached.{IsBadLineAll, IsDoneAll, WritesAll}
+use Rattle.lbfs_client.specs.Host.{Host}
+use Rattle.lbfs_mount.specs.Course.{IsSaved}
 use Rattle.lbfs_mount.specs.Mounts.{IsTooLong}
 use Rattle.lbfs_mount.specs.declared.mount_error.MountError.{MountError}
 use Rattle.lbfs_mount.specs.declared.mount_error.MountError.TheVariants as errors
@@ -59,3 +63,22 @@ pub known : (held held' : Option (List ℕ)) (s : Status) (ended : Result Unit M
     → (s ≡ status.Done) ⊎ (s ≡ status.ReadFault) ⊎ (s ≡ status.WriteFault) ⊎ (s ≡ status.Refused) ⊎ (s ≡ status.Memory) ⊎ (s ≡ status.Network)
 known held held' s (Err errors.ReadFault) told = grind (arith, told)
 known held held' s ended told = grind (arith, told)
+
+-- a mount that didn't end well isn't told as done
+not_done : (held held' : Option (List ℕ)) (s : Status) (e : MountError) → Tells s held held' (mount_output (Err e)) → s ≡ status.Done → ⊥
+not_done held held' s errors.ReadFault told done = grind (arith, told, done)
+not_done held held' s errors.WriteFault told done = grind (arith, told, done)
+not_done held held' s (errors.BadLine n) told done = grind (arith, told, done)
+not_done held held' s errors.Network told done = grind (arith, told, done)
+not_done held held' s errors.Memory told done = grind (arith, told, done)
+not_done held held' s errors.TooLong told done = grind (arith, told, done)
+
+-- its cache file was written, by the name that was asked for
+pub saved_named : (drift keep : ℕ) (host : Host) (held held' : Option (List ℕ)) (s : Status) (given : Option (Bor (List ℕ))) (cache : Option (List ℕ)) (ended : Result Unit MountError) → option_copied given ≡ cache
+    → OnOk ended (IfSome given (λ name. ∥ IsSaved drift keep name.now host ∥₁)) → Tells s held held' (mount_output ended) → s ≡ status.Done → IfSome cache (λ name. ∥ IsSaved drift keep name host ∥₁)
+saved_named drift keep host held held' s given cache (Err e) is saved told done = absurd (not_done held held' s e told done)
+saved_named drift keep host held held' s given cache (Ok u) is saved told done = subst (λ (o : Option (List ℕ)). IfSome o (λ name. ∥ IsSaved drift keep name host ∥₁)) is (by given saved)
+  where
+    by : (o : Option (Bor (List ℕ))) → IfSome o (λ name. ∥ IsSaved drift keep name.now host ∥₁) → IfSome (option_copied o) (λ name. ∥ IsSaved drift keep name host ∥₁)
+    by None h = tt
+    by (Some b) h = h

@@ -1,9 +1,11 @@
 //! `mount`: the lines of the source are run on the tree of a server, one by one. `specs/Mounting.antt`
 //! states how that ends, and what is written then.
 
-ghost use Rattle.std.specs.Prelude.{◌≡◌, ◌≤◌, ◌⊎◌, [], IfOk, IsErrOf, is_some};
+ghost use Rattle.std.specs.Prelude.{◌≡◌, ◌≤◌, ◌⊎◌, [], IfOk, IfSome, IsErrOf, is_some};
+ghost use Rattle.std.specs.Option.{option_copied};
 ghost use Rattle.lb_base.specs.Causes.{Rose};
 ghost use Rattle.exit_status.specs.declared.status.Status.TheVariants as status;
+ghost use Rattle.lbfs_mount.specs.Course.{IsSaved};
 ghost use Rattle.lbfs_mount.specs.Mounts.{IsFaulty};
 ghost use Rattle.lbfs_mount.specs.declared.mount_error.MountError.TheVariants as errors;
 ghost use Rattle.lbfs_run.specs.Mounting.{MountEnds, mount_output};
@@ -73,7 +75,8 @@ fn tell_mounted<K: Sink>(alloc: Global, ended: Result<(), MountError>, sink: &mu
 
 /// The name of a cache file, where there is one.
 fn cache_name(cache: &Option<StorePath>) -> Option<&str>
-    ensures { is_some result ≡ is_some cache.now }
+    ensures some { is_some result ≡ is_some cache.now }
+    ensures name { option_copied result ≡ cache.now }
 {
     match cache {
         Some(path) => Some(path.as_str()),
@@ -101,6 +104,7 @@ pub(crate) fn run_mount<
 where
     N::L: Drop + Send,
     ensures mounts { MountEnds (is_some options.cache) (S.left out.source) (S.left result.1.source) (K.held out.sink) (K.held result.1.sink) (S.faults out.source) (S.faults result.1.source) (K.faults out.sink) (N.faults out.network) (N.faults result.1.network) (IsFaulty N.L.faults result.2) result.0 }
+    ensures saved { result.0 ≡ status.Done → IfSome options.cache (λ name. ∥ IsSaved options.drift options.keep name (record { files = F.files result.1.files; faults = F.faults result.1.files }) ∥₁) }
     ensures unstored { result.1.store ≡ out.store }
     ensures read_later { S.faults out.source ≤ S.faults result.1.source }
     ensures write_later { K.faults out.sink ≤ K.faults result.1.sink }

@@ -1,7 +1,7 @@
 //! A run of the program over its outside. `asked_of` of `program_words` states what words ask for, and
 //! `plain` what `replay`, `gen`, `cut` and `show` come to; the rest stands in `specs/`.
 
-ghost use Rattle.std.specs.Prelude.{◌≡◌, ℕ, ◌≤◌, ◌⊎◌, List, [], ◌∷◌, Option, Some, true, false, codes, is_some};
+ghost use Rattle.std.specs.Prelude.{◌≡◌, ℕ, ◌≤◌, ◌⊎◌, List, [], ◌∷◌, Option, Some, true, false, codes, is_some, IfSome};
 ghost use Rattle.lb_base.specs.Causes.{Rose};
 ghost use Rattle.trace_generator.specs.Lines.{generated_text};
 ghost use Rattle.trace_generator.specs.declared.TheConstants.{BLOCKS_MOST};
@@ -18,6 +18,7 @@ ghost use Rattle.program_words.specs.declared.asked.Asked.TheVariants as ask;
 ghost use Rattle.exit_status.specs.declared.status.Status.TheVariants as status;
 ghost use Rattle.lbfs_run.specs.Output.{IsWhole};
 ghost use Rattle.lbfs_run.specs.PlainEnds.{IsAnswered, IsAnsweredFrom, IsBegun, IsBegunFrom, IsBroken, IsBrokenFrom, IsPlainEnd, IsReplayed, IsRun};
+ghost use Rattle.lbfs_mount.specs.Course.{IsSaved};
 ghost use Rattle.lbfs_mount.specs.Mounts.{IsFaulty};
 ghost use Rattle.lbfs_run.specs.Checking.{CheckEnds};
 ghost use Rattle.lbfs_run.specs.Ends.{StoreFails, takes_input};
@@ -133,6 +134,7 @@ where
     ensures serves { (o : ServeOptions) → asked ≡ Some (ask.Serve o) → ServeEnds o (N.accepted out.network) (N.accepted result.1.network) (N.faults out.network) (N.faults result.1.network) (D.faults out.store) (D.faults result.1.store) (D.records out.store) (K.held out.sink) (K.held result.1.sink) result.0 }
     ensures unfiled { (o : ServeOptions) → asked ≡ Some (ask.Serve o) → result.1.files ≡ out.files }
     ensures mounts { (o : MountOptions) → asked ≡ Some (ask.Mount o) → MountEnds (is_some o.cache) (S.left out.source) (S.left result.1.source) (K.held out.sink) (K.held result.1.sink) (S.faults out.source) (S.faults result.1.source) (K.faults out.sink) (N.faults out.network) (N.faults result.1.network) (IsFaulty N.L.faults result.2) result.0 }
+    ensures saved { (o : MountOptions) → asked ≡ Some (ask.Mount o) → result.0 ≡ status.Done → IfSome o.cache (λ name. ∥ IsSaved o.drift o.keep name (record { files = F.files result.1.files; faults = F.faults result.1.files }) ∥₁) }
     ensures unstored { (o : MountOptions) → asked ≡ Some (ask.Mount o) → result.1.store ≡ out.store }
     ensures checks { (o : CheckOptions) → asked ≡ Some (ask.Check o) → CheckEnds (D.faults out.store) (D.faults result.1.store) (D.records out.store) (K.held out.sink) (K.held result.1.sink) result.0 }
     ensures unchanged { (o : CheckOptions) → asked ≡ Some (ask.Check o) → (D.records result.1.store ≡ D.records out.store) × (result.1.files ≡ out.files) × (result.1.network ≡ out.network) }
@@ -165,7 +167,8 @@ where
 /// `serve` ends in one of the ways of `ServeEnds`, `mount` in one of `MountEnds`, and `check` in one of
 /// `CheckEnds`, each with its cause and what was written (`serves`, `mounts`, `checks`). `serve` touches
 /// neither the source nor the files, `mount` not the store, and `check` changes nothing (`unread`,
-/// `unfiled`, `unstored`, `unchanged`).
+/// `unfiled`, `unstored`, `unchanged`). With `Done` a mount's cache file is written, of what a client kept
+/// that had the drift and the bound of the words (`saved`).
 ///
 /// Of all words: with `ReadFault` the source failed and its faults rose, with `WriteFault` the sink's, with
 /// `Network` (7) the network's, or `mount` dialled a link that has no twin, which is then given back with
@@ -212,6 +215,7 @@ where
     ensures serves { (o : ServeOptions) → asked_of (words_as_bytes words.now) ≡ Some (ask.Serve o) → ServeEnds o (N.accepted out.network) (N.accepted result.1.network) (N.faults out.network) (N.faults result.1.network) (D.faults out.store) (D.faults result.1.store) (D.records out.store) (K.held out.sink) (K.held result.1.sink) result.0 }
     ensures unfiled { (o : ServeOptions) → asked_of (words_as_bytes words.now) ≡ Some (ask.Serve o) → result.1.files ≡ out.files }
     ensures mounts { (o : MountOptions) → asked_of (words_as_bytes words.now) ≡ Some (ask.Mount o) → MountEnds (is_some o.cache) (S.left out.source) (S.left result.1.source) (K.held out.sink) (K.held result.1.sink) (S.faults out.source) (S.faults result.1.source) (K.faults out.sink) (N.faults out.network) (N.faults result.1.network) (IsFaulty N.L.faults result.2) result.0 }
+    ensures saved { (o : MountOptions) → asked_of (words_as_bytes words.now) ≡ Some (ask.Mount o) → result.0 ≡ status.Done → IfSome o.cache (λ name. ∥ IsSaved o.drift o.keep name (record { files = F.files result.1.files; faults = F.faults result.1.files }) ∥₁) }
     ensures unstored { (o : MountOptions) → asked_of (words_as_bytes words.now) ≡ Some (ask.Mount o) → result.1.store ≡ out.store }
     ensures checks { (o : CheckOptions) → asked_of (words_as_bytes words.now) ≡ Some (ask.Check o) → CheckEnds (D.faults out.store) (D.faults result.1.store) (D.records out.store) (K.held out.sink) (K.held result.1.sink) result.0 }
     ensures unchanged { (o : CheckOptions) → asked_of (words_as_bytes words.now) ≡ Some (ask.Check o) → (D.records result.1.store ≡ D.records out.store) × (result.1.files ≡ out.files) × (result.1.network ≡ out.network) }

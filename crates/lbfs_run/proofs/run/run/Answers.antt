@@ -8,7 +8,7 @@ use Rattle.program_words.specs.Words.{asked_of, command_in, command_of, is_alone
 use Rattle.lbfs_run.specs.Ends.{takes_input}
 use Rattle.lbfs_run.specs.Words.{words_as_bytes}
 use Rattle.std.specs.Prelude.{is_some}
-use Rattle.lbfs_run.proofs.Asking.{answered_by, taken_by, broken_by, broken_off_by, starved_by, starved_off_by, nothing, none_written}
+use Rattle.lbfs_run.proofs.Asking.{answered_by, taken_by, broken_by, broken_off_by, starved_by, starved_off_by, memory_not_done, nothing, none_written}
 use Rattle.lbfs_run.proofs.run.run.Goals as goal
 
 pub returns-in-Ok-clause-headline : goal.returns-in-Ok-clause-headline
@@ -125,10 +125,18 @@ returns-in-Ok-clause-mounts g c =
     let is : c.in-Ok.asked ≡ asked_of (words_as_bytes c.args.words.now) = c.in-Ok.ensures.asked in
     λ o e. c.run_asked.ensures.mounts o (is ∙ e)
 
+pub returns-in-Ok-clause-saved : goal.returns-in-Ok-clause-saved
+returns-in-Ok-clause-saved g c =
+    let is : c.in-Ok.asked ≡ asked_of (words_as_bytes c.args.words.now) = c.in-Ok.ensures.asked in
+    λ o e. c.run_asked.ensures.saved o (is ∙ e)
+
 pub returns-in-Ok-clause-unstored : goal.returns-in-Ok-clause-unstored
 returns-in-Ok-clause-unstored g c =
     let is : c.in-Ok.asked ≡ asked_of (words_as_bytes c.args.words.now) = c.in-Ok.ensures.asked in
     λ o e. c.run_asked.ensures.unstored o (is ∙ e)
+
+pub returns-in-Err-clause-saved : goal.returns-in-Err-clause-saved
+returns-in-Err-clause-saved g c = λ o e done. absurd (memory_not_done done)
 
 pub returns-in-Err-clause-serves : goal.returns-in-Err-clause-serves
 returns-in-Err-clause-serves g c =

@@ -5,7 +5,7 @@ use Rattle.program_words.specs.Words.{command_in, is_alone}
 use Rattle.lbfs_mount.specs.Mounts.{IsFaulty}
 use Rattle.lbfs_run.specs.Ends.{takes_input}
 use Rattle.lbfs_run.specs.Mounting.{MountEnds}
-use Rattle.lbfs_run.proofs.Asking.{answered_by, taken_by, broken_by, broken_off_by, starved_by, starved_off_by, not_serve, not_mount, not_check, not_both, check_not_serve, check_not_mount, not_some, no_command, no_both, same_mount, same_serve, mounts_by, serves_by, stays}
+use Rattle.lbfs_run.proofs.Asking.{answered_by, taken_by, broken_by, broken_off_by, starved_by, starved_off_by, not_serve, not_mount, not_check, not_both, check_not_serve, check_not_mount, not_some, no_command, no_both, same_mount, same_serve, saved_by, mounts_by, serves_by, stays}
 use Rattle.lbfs_run.proofs.run.run_asked.Goals as goal
 
 pub returns-in-Some-Command-clause-replayed : goal.returns-in-Some-Command-clause-replayed
@@ -106,6 +106,11 @@ returns-in-Some-Command-clause-mounts g c =
     let is : c.args.asked ≡ Some (ask.Command c.in-Some-Command.command) = c.in-Some-Command.is ∙ ap Some c.in-Some-Command.field-0-is in
     λ o e. not_mount c.args.asked c.in-Some-Command.command o is e
 
+pub returns-in-Some-Command-clause-saved : goal.returns-in-Some-Command-clause-saved
+returns-in-Some-Command-clause-saved g c =
+    let is : c.args.asked ≡ Some (ask.Command c.in-Some-Command.command) = c.in-Some-Command.is ∙ ap Some c.in-Some-Command.field-0-is in
+    λ o e. not_mount c.args.asked c.in-Some-Command.command o is e
+
 pub returns-in-Some-Command-clause-unstored : goal.returns-in-Some-Command-clause-unstored
 returns-in-Some-Command-clause-unstored g c =
     let is : c.args.asked ≡ Some (ask.Command c.in-Some-Command.command) = c.in-Some-Command.is ∙ ap Some c.in-Some-Command.field-0-is in
@@ -203,6 +208,11 @@ returns-in-Some-Serve-clause-unfiled g c =
 
 pub returns-in-Some-Serve-clause-mounts : goal.returns-in-Some-Serve-clause-mounts
 returns-in-Some-Serve-clause-mounts g c =
+    let is : c.args.asked ≡ Some (ask.Serve c.in-Some-Serve.options) = c.in-Some-Serve.is ∙ ap Some c.in-Some-Serve.field-0-is in
+    λ o e. not_both c.args.asked c.in-Some-Serve.options o is e
+
+pub returns-in-Some-Serve-clause-saved : goal.returns-in-Some-Serve-clause-saved
+returns-in-Some-Serve-clause-saved g c =
     let is : c.args.asked ≡ Some (ask.Serve c.in-Some-Serve.options) = c.in-Some-Serve.is ∙ ap Some c.in-Some-Serve.field-0-is in
     λ o e. not_both c.args.asked c.in-Some-Serve.options o is e
 
@@ -321,6 +331,11 @@ returns-in-Some-Mount-clause-mounts g c =
     λ o e. mounts_by (λ b. MountEnds b (g.S.Source.left c.args.out.source) (g.S.Source.left c.run_mount.result.1.source) (g.K.Sink.held c.args.out.sink) (g.K.Sink.held c.run_mount.result.1.sink) (g.S.Source.faults c.args.out.source) (g.S.Source.faults c.run_mount.result.1.source) (g.K.Sink.faults c.args.out.sink) (g.N.Network.faults c.args.out.network) (g.N.Network.faults c.run_mount.result.1.network) (IsFaulty g.N.L.Link.faults c.run_mount.result.2) c.run_mount.result.0)
     c.in-Some-Mount.options o (same_mount c.args.asked c.in-Some-Mount.options o is e) c.run_mount.ensures.mounts
 
+pub returns-in-Some-Mount-clause-saved : goal.returns-in-Some-Mount-clause-saved
+returns-in-Some-Mount-clause-saved g c =
+    let is : c.args.asked ≡ Some (ask.Mount c.in-Some-Mount.options) = c.in-Some-Mount.is ∙ ap Some c.in-Some-Mount.field-0-is in
+    λ o e. saved_by _ c.in-Some-Mount.options o (same_mount c.args.asked c.in-Some-Mount.options o is e) c.run_mount.ensures.saved
+
 pub returns-in-Some-Mount-clause-unstored : goal.returns-in-Some-Mount-clause-unstored
 returns-in-Some-Mount-clause-unstored g c =
     λ o e. c.run_mount.ensures.unstored
@@ -426,6 +441,11 @@ returns-in-None-clause-mounts g c =
     let is : c.args.asked ≡ None = c.in-None.is in
     λ o e. not_some c.args.asked (ask.Mount o) is e
 
+pub returns-in-None-clause-saved : goal.returns-in-None-clause-saved
+returns-in-None-clause-saved g c =
+    let is : c.args.asked ≡ None = c.in-None.is in
+    λ o e. not_some c.args.asked (ask.Mount o) is e
+
 pub returns-in-None-clause-unstored : goal.returns-in-None-clause-unstored
 returns-in-None-clause-unstored g c =
     let is : c.args.asked ≡ None = c.in-None.is in
@@ -524,6 +544,11 @@ returns-in-Some-Check-clause-unfiled g c =
 
 pub returns-in-Some-Check-clause-mounts : goal.returns-in-Some-Check-clause-mounts
 returns-in-Some-Check-clause-mounts g c =
+    let is : c.args.asked ≡ Some (ask.Check c.in-Some-Check.options) = c.in-Some-Check.is ∙ ap Some c.in-Some-Check.field-0-is in
+    λ o e. check_not_mount c.args.asked c.in-Some-Check.options o is e
+
+pub returns-in-Some-Check-clause-saved : goal.returns-in-Some-Check-clause-saved
+returns-in-Some-Check-clause-saved g c =
     let is : c.args.asked ≡ Some (ask.Check c.in-Some-Check.options) = c.in-Some-Check.is ∙ ap Some c.in-Some-Check.field-0-is in
     λ o e. check_not_mount c.args.asked c.in-Some-Check.options o is e
 
