@@ -25,11 +25,12 @@ def is_farewell(way, record):
 
 class Passing:
     """Passes connections on to a port. `holds` says which records aren't passed on until `release`; of each kind of record
-    that is counted there is one number, by the functions above. One that `lies` answers RECALLs itself, so that a mount goes
+    that is counted there is one number, by the functions above; `sees`, where there is one, is called with each. One that `lies` answers RECALLs itself, so that a mount goes
     on by its notes, which is what must not be."""
 
     def __init__(self, to, holds=lambda way, record: False, lies=False):
         self.to, self.holds, self.lies, self.held, self.links = to, holds, lies, [], []
+        self.sees = None
         self.bytes = {UP: 0, DOWN: 0}
         self.counts = {is_recall: 0, is_given_up: 0, is_farewell: 0}
         # of each record that went up, in order, whether it answers a RECALL
@@ -91,6 +92,8 @@ class Passing:
             self.bytes[way] += len(record)
             if way == UP:
                 self.ups.append(is_given_up(way, record))
+            if self.sees:
+                self.sees(way, record)
             for kind in self.counts:
                 self.counts[kind] += kind(way, record)
             held = self.holds(way, record)
