@@ -79,6 +79,13 @@ class Run:
         """The lines that it wrote on standard error so far."""
         return os.pread(self.errors.fileno(), 1 << 20, 0).decode().splitlines()
 
+    def says(self, lines):
+        """What it wrote there once it has so many lines, or has ended; a server's port is had before it says so."""
+        until = time.monotonic() + PATIENCE
+        while len(self.said()) < lines and self.process.poll() is None and time.monotonic() < until:
+            time.sleep(0.005)
+        return self.said()
+
 
 class Server(Run):
     """A server of a folder, for so many sessions, which listens or has ended. A lease lasts one millisecond where nothing
