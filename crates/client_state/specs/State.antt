@@ -27,7 +27,6 @@ use Rattle.client_state.specs.declared.task.StoreCall.{StoreCall}
 use Rattle.client_state.specs.declared.task.Task.{Task}
 use Rattle.client_state.specs.declared.task.Way.TheVariants as way
 use Rattle.client_state.specs.declared.task.Way.{Way}
-use Rattle.wire.specs.declared.message.TheConstants.{LBFS_SPOKEN}
 
 pub record State : Type 0 where
   -- whether a connection is joined
@@ -52,9 +51,11 @@ pub record State : Type 0 where
   pub sent : ℕ
   -- how far its clock and the server's may drift apart while a lease lasts
   pub drift : ℕ
+  -- the version of LBFS that its calls are of
+  pub lbfs : ℕ
 
-abbrev pub start_with : (drift : ℕ) → State
-start_with drift = record { linked = false; next_xid = 1; next_temp = 1; opened = []; task = None; forgotten = []; cache = []; index = no_index; clock = 0; sent = 0; drift = drift }
+abbrev pub start_with : (drift lbfs : ℕ) → State
+start_with drift lbfs = record { linked = false; next_xid = 1; next_temp = 1; opened = []; task = None; forgotten = []; cache = []; index = no_index; clock = 0; sent = 0; drift = drift; lbfs = lbfs }
 
 -- ---- what is kept
 
@@ -131,7 +132,7 @@ abbrev pub calls_of : State → List Pending
 calls_of s = pending s.task ++ s.forgotten
 
 abbrev pub waiting_of : State → Waiting
-waiting_of s = record { side = side.Client; lbfs = LBFS_SPOKEN; calls = calls_of s }
+waiting_of s = record { side = side.Client; lbfs = s.lbfs; calls = calls_of s }
 
 -- whether one of these has this xid, and those that have not
 abbrev pub has_call : List Pending → (xid : ℕ) → Bool

@@ -25,10 +25,9 @@ use Rattle.client_state.specs.declared.task.StoreCall.{StoreCall}
 use Rattle.client_state.specs.declared.task.Task.{Task}
 use Rattle.client_state.specs.declared.task.Way.TheVariants as way
 use Rattle.client_state.specs.declared.task.Way.{Way}
-use Rattle.wire.specs.declared.message.TheConstants.{LBFS_SPOKEN}
 
 abbrev pub state_of : ClientState → State
-state_of s = record { linked = s.linked; next_xid = s.next_xid; next_temp = s.next_temp; opened = s.opened.entries; task = s.task; forgotten = drop s.own s.waiting.calls; cache = s.cache; index = s.index; clock = s.clock; sent = s.sent; drift = s.drift }
+state_of s = record { linked = s.linked; next_xid = s.next_xid; next_temp = s.next_temp; opened = s.opened.entries; task = s.task; forgotten = drop s.own s.waiting.calls; cache = s.cache; index = s.index; clock = s.clock; sent = s.sent; drift = s.drift; lbfs = s.waiting.lbfs }
 
 -- the state, and all calls that wait
 abbrev pub whole_of : ClientState → State × List Pending
@@ -166,7 +165,7 @@ abbrev pub IsKeptBounded : ℕ × Kept → Type 0
 IsKeptBounded e = IsContentBounded e.1.content
 
 pub record IsBase (s : ClientState) : Type 0 where
-  pub side : (s.waiting.side ≡ side.Client) × (s.waiting.lbfs ≡ LBFS_SPOKEN)
+  pub side : s.waiting.side ≡ side.Client
   pub own : s.own ≤ length s.waiting.calls
   pub next : 0 < s.next_xid
   -- each close takes an xid for its temporary file's number

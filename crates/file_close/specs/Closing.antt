@@ -13,22 +13,21 @@ use Rattle.transfer_rules.specs.Chunks.{all_came}
 use Rattle.client_state.specs.declared.task.Store.{Store}
 use Rattle.client_state.specs.declared.task.StoreCall.{StoreCall}
 use Rattle.client_state.specs.declared.task.Way.TheVariants as way
-use Rattle.wire.specs.declared.message.TheConstants.{LBFS_SPOKEN}
 pub use Rattle.file_close.specs.declared.calls.Names.{Names}
 
--- ---- the calls
+-- ---- the calls, each in a version of LBFS
 
-abbrev pub make_call : (xid temp file : ℕ) → Message
-make_call xid temp file = message.Call xid (body.Lb (lb.MkTmpFile (record { lbfs = LBFS_SPOKEN; fd = temp; handle = handle_bytes file })))
+abbrev pub make_call : (lbfs xid temp file : ℕ) → Message
+make_call lbfs xid temp file = message.Call xid (body.Lb (lb.MkTmpFile (record { lbfs = lbfs; fd = temp; handle = handle_bytes file })))
 
-abbrev pub cond_call : (xid temp : ℕ) → Chunk → Message
-cond_call xid temp c = message.Call xid (body.Lb (lb.CondWrite (record { lbfs = LBFS_SPOKEN; fd = temp; offset = c.start; count = c.len; digest = c.digest })))
+abbrev pub cond_call : (lbfs xid temp : ℕ) → Chunk → Message
+cond_call lbfs xid temp c = message.Call xid (body.Lb (lb.CondWrite (record { lbfs = lbfs; fd = temp; offset = c.start; count = c.len; digest = c.digest })))
 
-abbrev pub temp_call : (xid temp : ℕ) → List ℕ → Chunk → Message
-temp_call xid temp content c = message.Call xid (body.Lb (lb.TmpWrite (record { lbfs = LBFS_SPOKEN; fd = temp; offset = c.start; bytes = chunk_bytes content c })))
+abbrev pub temp_call : (lbfs xid temp : ℕ) → List ℕ → Chunk → Message
+temp_call lbfs xid temp content c = message.Call xid (body.Lb (lb.TmpWrite (record { lbfs = lbfs; fd = temp; offset = c.start; bytes = chunk_bytes content c })))
 
-abbrev pub commit_call : (xid temp file size : ℕ) → Message
-commit_call xid temp file size = message.Call xid (body.Lb (lb.CommitTmp (record { lbfs = LBFS_SPOKEN; fd = temp; handle = handle_bytes file; size = size; base = None })))
+abbrev pub commit_call : (lbfs xid temp file size : ℕ) → Message
+commit_call lbfs xid temp file size = message.Call xid (body.Lb (lb.CommitTmp (record { lbfs = lbfs; fd = temp; handle = handle_bytes file; size = size; base = None })))
 
 -- ---- the chunks are named
 
@@ -39,23 +38,23 @@ store_of temp content = record { temp = temp; chunks = chunks_of content; named 
 abbrev pub names_from : Store → ℕ → Names
 names_from st next = record { store = st; next_xid = next; send = [] }
 
--- the chunk is named, if it is there
-abbrev pub names_next : Names → Option Chunk → Names
-names_next n None = n
-names_next n (Some c) = record {
+-- the chunk is named, if it is there, in a version of LBFS
+abbrev pub names_next : (lbfs : ℕ) → Names → Option Chunk → Names
+names_next lbfs n None = n
+names_next lbfs n (Some c) = record {
   store = record n.store { named = n.store.named + 1; under = n.store.under ++ record { xid = n.next_xid; index = n.store.named; way = way.Named } ∷ [] };
   next_xid = n.next_xid + 1;
-  send = n.send ++ cond_call n.next_xid n.store.temp c ∷ [];
+  send = n.send ++ cond_call lbfs n.next_xid n.store.temp c ∷ [];
 }
 
 -- so many chunks, or as many as there are
-abbrev pub names_more : ℕ → Names → Names
-names_more zero n = n
-names_more (suc k) n = names_more k (names_next n (slice_get n.store.chunks n.store.named))
+abbrev pub names_more : (lbfs : ℕ) → ℕ → Names → Names
+names_more lbfs zero n = n
+names_more lbfs (suc k) n = names_more lbfs k (names_next lbfs n (slice_get n.store.chunks n.store.named))
 
 -- all CONDWRITEs that may be under way beside the calls that are
-abbrev pub names_all : Store → (next : ℕ) → Names
-names_all st next = names_more (calls_most - length st.under) (names_from st next)
+abbrev pub names_all : (lbfs : ℕ) → Store → (next : ℕ) → Names
+names_all lbfs st next = names_more lbfs (calls_most - length st.under) (names_from st next)
 
 -- all chunks are stored
 abbrev pub is_stored : Store → Bool

@@ -28,7 +28,7 @@ use Rattle.file_close.specs.Closing.{make_call, temp_call, commit_call, Names, s
 
 -- a close begins with a temporary file of the next number
 abbrev pub asks_temp : State → (file : ℕ) → (may_ask : Bool) → State × ClientStep
-asks_temp s file true = (record s { next_xid = s.next_xid + 1; next_temp = s.next_temp + 1; task = Some (record { file = file; stage = stage.Making s.next_xid s.next_temp }) }, sends_one (make_call s.next_xid s.next_temp file) 0)
+asks_temp s file true = (record s { next_xid = s.next_xid + 1; next_temp = s.next_temp + 1; task = Some (record { file = file; stage = stage.Making s.next_xid s.next_temp }) }, sends_one (make_call s.lbfs s.next_xid s.next_temp file) 0)
 asks_temp s file false = (s, ends outcome.NoLink 0 0)
 
 abbrev pub closes : State → (file : ℕ) → Local → State × ClientStep
@@ -38,12 +38,12 @@ closes s file l = asks_temp s file (may_ask s)
 
 -- CONDWRITEs go out, or COMMITTMP where all chunks are stored: the file then has an entry in the cache for the content that it gets, and what was noted of it goes
 abbrev pub goes_if : State → (file : ℕ) → (content : List ℕ) → Names → (is_stored : Bool) → State × ClientStep
-goes_if s file content n true = (record s { next_xid = n.next_xid + 1; cache = without_note (reserved s.cache file) file; task = Some (record { file = file; stage = stage.Committing n.next_xid }); sent = s.clock }, sends (n.send ++ commit_call n.next_xid n.store.temp file (length content) ∷ []) (record no_counts { cond_writes = length n.send }))
+goes_if s file content n true = (record s { next_xid = n.next_xid + 1; cache = without_note (reserved s.cache file) file; task = Some (record { file = file; stage = stage.Committing n.next_xid }); sent = s.clock }, sends (n.send ++ commit_call s.lbfs n.next_xid n.store.temp file (length content) ∷ []) (record no_counts { cond_writes = length n.send }))
 goes_if s file content n false = (record s { next_xid = n.next_xid; task = Some (record { file = file; stage = stage.Storing n.store }) }, sends n.send (record no_counts { cond_writes = length n.send }))
 
 abbrev pub goes_on : State → (file : ℕ) → (content : List ℕ) → Store → State × ClientStep
 goes_on s file content st =
-    let n : Names = names_all st s.next_xid in
+    let n : Names = names_all s.lbfs st s.next_xid in
     goes_if s file content n (is_stored n.store)
 
 abbrev pub told_temp : State → (calls : List Pending) → (file xid temp : ℕ) → (content : List ℕ) → Answer Unit Unit → State × ClientStep
@@ -53,7 +53,7 @@ told_temp s calls file xid temp content (Done u) = goes_on s file content (store
 -- the bytes of a chunk that the server doesn't know go out in the place of its name
 abbrev pub sends_whole : State → (file xid : ℕ) → (content : List ℕ) → Store → StoreCall → Option Chunk → State × ClientStep
 sends_whole s file xid content st c None = unknown s xid
-sends_whole s file xid content st c (Some k) = (record s { next_xid = s.next_xid + 1; task = Some (record { file = file; stage = stage.Storing (with_whole st c s.next_xid) }) }, sends (temp_call s.next_xid st.temp content k ∷ []) (record no_counts { temp_writes = 1; bytes = length (chunk_bytes content k) }))
+sends_whole s file xid content st c (Some k) = (record s { next_xid = s.next_xid + 1; task = Some (record { file = file; stage = stage.Storing (with_whole st c s.next_xid) }) }, sends (temp_call s.lbfs s.next_xid st.temp content k ∷ []) (record no_counts { temp_writes = 1; bytes = length (chunk_bytes content k) }))
 
 -- the answer to a CONDWRITE, which is no longer under way
 abbrev pub named_if : State → (calls : List Pending) → (file xid : ℕ) → (content : List ℕ) → Store → StoreCall → Answer Unit Unit → (wants_bytes : Bool) → State × ClientStep

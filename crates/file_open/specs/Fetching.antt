@@ -34,12 +34,12 @@ use Rattle.file_open.specs.Shape.{Broken, broken_of}
 
 -- an attempt begins: its first GETHASH goes out, after so many bytes of a READ came
 abbrev pub tries_anew : State → (file tries bytes : ℕ) → State × ClientStep
-tries_anew s file tries bytes = (record s { next_xid = s.next_xid + 1; task = Some (record { file = file; stage = stage.Hashing tries s.next_xid }); sent = s.clock }, sends_one (hash_call s.next_xid file 0) bytes)
+tries_anew s file tries bytes = (record s { next_xid = s.next_xid + 1; task = Some (record { file = file; stage = stage.Hashing tries s.next_xid }); sent = s.clock }, sends_one (hash_call s.lbfs s.next_xid file 0) bytes)
 
 -- a content that is kept is asked for by its version, and else the file by its chunks
 abbrev pub asks_kept : State → (file : ℕ) → (kept : Option Content) → State × ClientStep
 asks_kept s file None = tries_anew s file 1 0
-asks_kept s file (Some c) = (record s { next_xid = s.next_xid + 1; task = Some (record { file = file; stage = stage.Asking s.next_xid }); sent = s.clock }, sends_one (lease_call s.next_xid file) 0)
+asks_kept s file (Some c) = (record s { next_xid = s.next_xid + 1; task = Some (record { file = file; stage = stage.Asking s.next_xid }); sent = s.clock }, sends_one (lease_call s.lbfs s.next_xid file) 0)
 
 -- the file's entry comes first in the cache, and is there for what the answers bring
 abbrev pub asks_file : State → (file : ℕ) → (may_ask : Bool) → State × ClientStep
@@ -102,7 +102,7 @@ reads_on s calls file xid f bytes =
 -- the further chunks are asked for, from the end of the last one on, or all are told
 abbrev pub lists_on : State → (calls : List Pending) → (file xid : ℕ) → Fetch → (eof : Bool) → State × ClientStep
 lists_on s calls file xid f true = reads_on s calls file xid (listed f) 0
-lists_on s calls file xid f false = (record s { next_xid = s.next_xid + 1; task = Some (record { file = file; stage = stage.Listing s.next_xid f }); sent = s.clock }, sends_one (hash_call s.next_xid file (end_of f.chunks)) 0)
+lists_on s calls file xid f false = (record s { next_xid = s.next_xid + 1; task = Some (record { file = file; stage = stage.Listing s.next_xid f }); sent = s.clock }, sends_one (hash_call s.lbfs s.next_xid file (end_of f.chunks)) 0)
 
 abbrev pub told_shape : State → (calls : List Pending) → (file xid : ℕ) → Fetch → Hashes → Broken → State × ClientStep
 told_shape s calls file xid f h None = lists_on s calls file xid (with_hashes f h) h.eof

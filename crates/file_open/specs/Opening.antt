@@ -20,18 +20,17 @@ use Rattle.client_state.specs.declared.task.Fetch.{Fetch}
 use Rattle.client_state.specs.declared.task.ReadCall.{ReadCall}
 use Rattle.file_open.specs.Caching.{from_index}
 use Rattle.file_open.specs.Shape.{with_pairs}
-use Rattle.wire.specs.declared.message.TheConstants.{LBFS_SPOKEN}
 pub use Rattle.file_open.specs.declared.calls.Reads.{Reads}
 
 -- ---- the calls
 
--- for the version of a file whose content is kept
-abbrev pub lease_call : (xid file : ℕ) → Message
-lease_call xid file = message.Call xid (body.Lb (lb.GetLease (record { lbfs = LBFS_SPOKEN; handle = handle_bytes file })))
+-- in a version of LBFS, for the version of a file whose content is kept
+abbrev pub lease_call : (lbfs xid file : ℕ) → Message
+lease_call lbfs xid file = message.Call xid (body.Lb (lb.GetLease (record { lbfs = lbfs; handle = handle_bytes file })))
 
 -- for the chunks from a place on
-abbrev pub hash_call : (xid file offset : ℕ) → Message
-hash_call xid file offset = message.Call xid (body.Lb (lb.GetHash (record { lbfs = LBFS_SPOKEN; handle = handle_bytes file; offset = offset; count = 4294967295 })))
+abbrev pub hash_call : (lbfs xid file offset : ℕ) → Message
+hash_call lbfs xid file offset = message.Call xid (body.Lb (lb.GetHash (record { lbfs = lbfs; handle = handle_bytes file; offset = offset; count = 4294967295 })))
 
 abbrev pub read_call : (xid file : ℕ) → Chunk → Message
 read_call xid file c = message.Call xid (body.Nfs (nfs.Read (record { handle = handle_bytes file; offset = c.start; count = c.len })))

@@ -18,7 +18,7 @@ use Rattle.file_open.specs.Opening.{lease_call}
 
 -- the file's version is asked for, and nothing else
 abbrev pub asks_version : State → (file : ℕ) → State × ClientStep
-asks_version s file = (record s { next_xid = s.next_xid + 1; task = Some (record { file = file; stage = stage.Rewriting s.next_xid }); sent = s.clock }, sends_one (lease_call s.next_xid file) 0)
+asks_version s file = (record s { next_xid = s.next_xid + 1; task = Some (record { file = file; stage = stage.Rewriting s.next_xid }); sent = s.clock }, sends_one (lease_call s.lbfs s.next_xid file) 0)
 
 -- the file's entry comes first in the cache, and what is kept there stays
 abbrev pub asks_anew : State → (file : ℕ) → (may_ask : Bool) → State × ClientStep

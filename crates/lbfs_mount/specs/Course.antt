@@ -2,6 +2,7 @@
 use Rattle.std.specs.Prelude.{◌≡◌, ℕ, List, Option, None, Result, Ok, Err, Bool, false}
 use Rattle.record_ends.specs.declared.end.End.{End}
 use Rattle.client_state.specs.State.{start_with}
+use Rattle.wire.specs.declared.message.TheConstants.{LBFS_SPOKEN}
 use Rattle.lbfs_client.specs.Bounded.{IsBounded, IsCache}
 use Rattle.lbfs_client.specs.Caching.{Loads, Saves, within}
 use Rattle.lbfs_client.specs.Host.{Host}
@@ -14,7 +15,7 @@ use Rattle.lbfs_mount.specs.declared.mount_error.MountError.TheVariants as error
 
 -- no connection, no file, and no line; clocks may drift apart so far while a lease lasts
 abbrev pub nothing_done : (drift : ℕ) → Host → Mount
-nothing_done drift host = record { host = host; client = start_with drift; walk = None }
+nothing_done drift host = record { host = host; client = start_with drift LBFS_SPOKEN; walk = None }
 
 -- a mount begins so, or with the items of a cache file
 pub data Begun (drift : ℕ) (m : Mount) : Type 0 where

@@ -56,7 +56,7 @@ steps s [] = []
 steps s (e ∷ es) = (step s e).1 ∷ steps (step s e).0 es
 
 abbrev begins : State
-begins = joined (start_with 100)
+begins = joined (start_with 100 1)
 
 -- ---- answers by hand; files have nothing in them
 
@@ -103,10 +103,10 @@ abbrev opens_as : (rests_on : ℕ) → ClientStep
 opens_as rests_on = ends (outcome.Opened 2 0 (sha1 [])) rests_on 0
 
 abbrev asks : (xid : ℕ) → ClientStep
-asks xid = sends_one (lease_call xid 2) 0
+asks xid = sends_one (lease_call 1 xid 2) 0
 
 abbrev fetches : (xid : ℕ) → ClientStep
-fetches xid = sends_one (hash_call xid 2 0) 0
+fetches xid = sends_one (hash_call 1 xid 2 0) 0
 
 abbrev gives_up : (xid : ℕ) → ClientStep
 gives_up xid = sends_one (message.Answer xid (body.Back back.RecallAnswer)) 0
@@ -170,7 +170,7 @@ behind_look_ups = refl
 abbrev closes : List Event
 closes = Does 2000 (command.Open 2) ∷ Does 2000 (command.Close 2) ∷ made 2100 2 ∷ []
 
-commits : steps noted closes ≡ (opens_as 0 ∷ sends_one (make_call 2 1 2) 0 ∷ sends (commit_call 3 1 2 0 ∷ []) no_counts ∷ [])
+commits : steps noted closes ≡ (opens_as 0 ∷ sends_one (make_call 1 2 1 2) 0 ∷ sends (commit_call 1 3 1 2 0 ∷ []) no_counts ∷ [])
 unfolding calls_most fronted closed_ends next_end
 commits = refl
 
@@ -199,7 +199,7 @@ unfolding calls_most fronted
 recalled = refl
 
 -- in the middle of a fetch too, which goes on; what a later answer grants is noted anew, and nothing else
-in_a_fetch : (steps begins (Does 1000 (command.Open 2) ∷ first_is 1500 1 1 60000 ∷ recalls 1550 7 2 ∷ []) ≡ (fetches 1 ∷ sends_one (hash_call 2 2 2048) 0 ∷ gives_up 7 ∷ [])) × ((after begins (Does 1000 (command.Open 2) ∷ first_is 1500 1 1 60000 ∷ recalls 1550 7 2 ∷ piece_is 1600 2 1 2048 [] 0 ∷ [])).cache ≡ keeps None None)
+in_a_fetch : (steps begins (Does 1000 (command.Open 2) ∷ first_is 1500 1 1 60000 ∷ recalls 1550 7 2 ∷ []) ≡ (fetches 1 ∷ sends_one (hash_call 1 2 2 2048) 0 ∷ gives_up 7 ∷ [])) × ((after begins (Does 1000 (command.Open 2) ∷ first_is 1500 1 1 60000 ∷ recalls 1550 7 2 ∷ piece_is 1600 2 1 2048 [] 0 ∷ [])).cache ≡ keeps None None)
 unfolding calls_most fronted
 in_a_fetch = (refl, refl)
 

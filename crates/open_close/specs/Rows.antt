@@ -47,7 +47,7 @@ use Rattle.client_state.specs.Ending.{joined, cut}
 
 -- clocks may drift apart by 100 ms
 abbrev start : State
-start = start_with 100
+start = start_with 100 1
 
 -- ---- a run
 
@@ -95,11 +95,11 @@ chunk_of start bytes size = record { start = start; len = size; digest = sha1 by
 
 -- ---- opens
 
-one_chunk : steps (joined start) (Does (command.Open 2) ∷ hashes_are 1 1 3 (pair_of (codes "abc") 3 ∷ []) true ∷ Does (command.Open 3) ∷ bytes_are 2 1 (codes "abc") ∷ Does (command.Open 2) ∷ Does (command.Read 2 1 9) ∷ []) ≡ (sends_one (hash_call 1 2 0) 0 ∷ sends_reads (read_call 2 2 (chunk_of 0 (codes "abc") 3) ∷ []) 0 ∷ ends outcome.Busy 0 0 ∷ ends (outcome.Opened 2 3 (sha1 (codes "abc"))) 1 3 ∷ ends outcome.AlreadyOpen 0 0 ∷ ends (outcome.Piece 2 (sha1 (codes "bc"))) 0 0 ∷ [])
+one_chunk : steps (joined start) (Does (command.Open 2) ∷ hashes_are 1 1 3 (pair_of (codes "abc") 3 ∷ []) true ∷ Does (command.Open 3) ∷ bytes_are 2 1 (codes "abc") ∷ Does (command.Open 2) ∷ Does (command.Read 2 1 9) ∷ []) ≡ (sends_one (hash_call 1 1 2 0) 0 ∷ sends_reads (read_call 2 2 (chunk_of 0 (codes "abc") 3) ∷ []) 0 ∷ ends outcome.Busy 0 0 ∷ ends (outcome.Opened 2 3 (sha1 (codes "abc"))) 1 3 ∷ ends outcome.AlreadyOpen 0 0 ∷ ends (outcome.Piece 2 (sha1 (codes "bc"))) 0 0 ∷ [])
 unfolding calls_most sha1 digest_bytes hash_after compress rounds schedule first_words
 one_chunk = refl
 
-no_chunk : steps (joined start) (Does (command.Open 2) ∷ hashes_are 1 1 0 [] true ∷ []) ≡ (sends_one (hash_call 1 2 0) 0 ∷ ends (outcome.Opened 2 0 (sha1 [])) 1 0 ∷ [])
+no_chunk : steps (joined start) (Does (command.Open 2) ∷ hashes_are 1 1 0 [] true ∷ []) ≡ (sends_one (hash_call 1 1 2 0) 0 ∷ ends (outcome.Opened 2 0 (sha1 [])) 1 0 ∷ [])
 unfolding calls_most
 no_chunk = refl
 
@@ -107,7 +107,7 @@ no_link : steps start (Does (command.Open 2) ∷ Does (command.Close 2) ∷ []) 
 no_link = refl
 
 -- two pieces: the second is asked for from the end of the first one's chunks on, and the READs wait for it
-two_pieces : steps (joined start) (Does (command.Open 2) ∷ hashes_are 1 5 2048 (pair_of (codes "a") 2048 ∷ []) false ∷ hashes_are 2 5 2048 [] true ∷ []) ≡ (sends_one (hash_call 1 2 0) 0 ∷ sends_one (hash_call 2 2 2048) 0 ∷ sends_reads (read_call 3 2 (chunk_of 0 (codes "a") 2048) ∷ []) 0 ∷ [])
+two_pieces : steps (joined start) (Does (command.Open 2) ∷ hashes_are 1 5 2048 (pair_of (codes "a") 2048 ∷ []) false ∷ hashes_are 2 5 2048 [] true ∷ []) ≡ (sends_one (hash_call 1 1 2 0) 0 ∷ sends_one (hash_call 1 2 2 2048) 0 ∷ sends_reads (read_call 3 2 (chunk_of 0 (codes "a") 2048) ∷ []) 0 ∷ [])
 unfolding calls_most
 two_pieces = refl
 
@@ -120,12 +120,12 @@ abbrev shape_of : (size : ℕ) → List Pair → (eof : Bool) → List ClientSte
 shape_of size pairs eof = steps (joined start) (Does (command.Open 2) ∷ hashes_are 1 5 size pairs eof ∷ [])
 
 abbrev broken : (got wanted : ℕ) → List ClientStep
-broken got wanted = sends_one (hash_call 1 2 0) 0 ∷ ends (outcome.BadPeer (bad.Shape got wanted)) 0 0 ∷ []
+broken got wanted = sends_one (hash_call 1 1 2 0) 0 ∷ ends (outcome.BadPeer (bad.Shape got wanted)) 0 0 ∷ []
 
 shapes : (shape_of 67108865 [] true ∷ shape_of 3 (pair_of [] 0 ∷ []) true ∷ shape_of 65537 (pair_of [] 65537 ∷ []) true ∷ shape_of 2050 (pair_of [] 2047 ∷ pair_of [] 3 ∷ []) true ∷ shape_of 2050 (pair_of [] 2047 ∷ []) false ∷ shape_of 5 (pair_of [] 4 ∷ []) true ∷ shape_of 2048 (pair_of [] 2049 ∷ []) false ∷ shape_of 2048 [] false ∷ []) ≡ (broken 67108865 67108864 ∷ broken 0 1 ∷ broken 65537 65536 ∷ broken 2047 2048 ∷ broken 2047 2048 ∷ broken 4 5 ∷ broken 2049 2048 ∷ broken 0 1 ∷ [])
 shapes = refl
 
-other_size : steps (joined start) (Does (command.Open 2) ∷ hashes_are 1 5 2050 (pair_of (codes "a") 2048 ∷ []) false ∷ hashes_are 2 5 2051 (pair_of (codes "b") 3 ∷ []) true ∷ []) ≡ (sends_one (hash_call 1 2 0) 0 ∷ sends_one (hash_call 2 2 2048) 0 ∷ ends (outcome.BadPeer (bad.Shape 2051 2050)) 0 0 ∷ [])
+other_size : steps (joined start) (Does (command.Open 2) ∷ hashes_are 1 5 2050 (pair_of (codes "a") 2048 ∷ []) false ∷ hashes_are 2 5 2051 (pair_of (codes "b") 3 ∷ []) true ∷ []) ≡ (sends_one (hash_call 1 1 2 0) 0 ∷ sends_one (hash_call 1 2 2 2048) 0 ∷ ends (outcome.BadPeer (bad.Shape 2051 2050)) 0 0 ∷ [])
 other_size = refl
 
 -- ---- an attempt with two READs under way, the third of four
@@ -145,14 +145,14 @@ unfolding calls_most sha1 digest_bytes hash_after compress rounds schedule first
 any_order = refl
 
 -- Bytes that don't fit end the attempt where another version shows. The next begins at once, and the answer to the other READ is dropped, once.
-ended_attempt : steps (fetching 3) (bytes_are 5 9 (codes "x") ∷ bytes_are 6 5 (codes "c") ∷ bytes_are 6 5 (codes "c") ∷ []) ≡ (sends_one (hash_call 7 2 0) 1 ∷ nothing_done ∷ ends (outcome.BadPeer (bad.UnknownXid 6)) 0 0 ∷ [])
+ended_attempt : steps (fetching 3) (bytes_are 5 9 (codes "x") ∷ bytes_are 6 5 (codes "c") ∷ bytes_are 6 5 (codes "c") ∷ []) ≡ (sends_one (hash_call 1 7 2 0) 1 ∷ nothing_done ∷ ends (outcome.BadPeer (bad.UnknownXid 6)) 0 0 ∷ [])
 ended_attempt = refl
 
 ended_state : after (fetching 3) (bytes_are 5 9 (codes "x") ∷ []) ≡ record (fetching 3) { next_xid = 8; task = Some (record { file = 2; stage = stage.Hashing 4 7 }); forgotten = read_pending (record { xid = 6; index = 1 }) ∷ [] }
 ended_state = refl
 
 -- the fourth attempt is the last
-changed : steps (fetching 4) (bytes_are 5 9 (codes "x") ∷ bytes_are 6 5 (codes "c") ∷ Does (command.Open 2) ∷ []) ≡ (ends (outcome.Changed 5 9) 0 1 ∷ nothing_done ∷ sends_one (hash_call 7 2 0) 0 ∷ [])
+changed : steps (fetching 4) (bytes_are 5 9 (codes "x") ∷ bytes_are 6 5 (codes "c") ∷ Does (command.Open 2) ∷ []) ≡ (ends (outcome.Changed 5 9) 0 1 ∷ nothing_done ∷ sends_one (hash_call 1 7 2 0) 0 ∷ [])
 changed = refl
 
 -- where no other version shows they are the peer's fault
@@ -161,7 +161,7 @@ unfolding sha1 digest_bytes hash_after compress rounds schedule first_words
 peers_fault = refl
 
 -- pieces of two versions end an attempt too
-two_versions : steps (joined start) (Does (command.Open 2) ∷ hashes_are 1 5 4096 (pair_of (codes "a") 2048 ∷ []) false ∷ hashes_are 2 6 1 (pair_of (codes "b") 1 ∷ []) true ∷ hashes_are 3 6 0 [] true ∷ []) ≡ (sends_one (hash_call 1 2 0) 0 ∷ sends_one (hash_call 2 2 2048) 0 ∷ sends_one (hash_call 3 2 0) 0 ∷ ends (outcome.Opened 2 0 (sha1 [])) 3 0 ∷ [])
+two_versions : steps (joined start) (Does (command.Open 2) ∷ hashes_are 1 5 4096 (pair_of (codes "a") 2048 ∷ []) false ∷ hashes_are 2 6 1 (pair_of (codes "b") 1 ∷ []) true ∷ hashes_are 3 6 0 [] true ∷ []) ≡ (sends_one (hash_call 1 1 2 0) 0 ∷ sends_one (hash_call 1 2 2 2048) 0 ∷ sends_one (hash_call 1 3 2 0) 0 ∷ ends (outcome.Opened 2 0 (sha1 [])) 3 0 ∷ [])
 unfolding calls_most
 two_versions = refl
 
@@ -188,22 +188,22 @@ abbrev ab : Chunk
 ab = chunk_of 0 (codes "ab") 2
 
 -- the server doesn't know the chunk, so its bytes go out
-stored : steps opened (Does (command.Close 2) ∷ made 1 ∷ Gets (message.Answer 2 (body.Lb (lb.CondWriteAnswer (Failed status.HashNotFound tt)))) ∷ Gets (message.Answer 3 (body.Lb (lb.TmpWriteAnswer (Done tt)))) ∷ committed 4 2 ∷ []) ≡ (sends_one (make_call 1 1 2) 0 ∷ sends (cond_call 2 1 ab ∷ []) (record no_counts { cond_writes = 1 }) ∷ sends (temp_call 3 1 (codes "ab") ab ∷ []) (record no_counts { temp_writes = 1; bytes = 2 }) ∷ sends (commit_call 4 1 2 2 ∷ []) no_counts ∷ ends (outcome.Closed 2 2 2 (sha1 (codes "ab"))) 4 0 ∷ [])
+stored : steps opened (Does (command.Close 2) ∷ made 1 ∷ Gets (message.Answer 2 (body.Lb (lb.CondWriteAnswer (Failed status.HashNotFound tt)))) ∷ Gets (message.Answer 3 (body.Lb (lb.TmpWriteAnswer (Done tt)))) ∷ committed 4 2 ∷ []) ≡ (sends_one (make_call 1 1 1 2) 0 ∷ sends (cond_call 1 2 1 ab ∷ []) (record no_counts { cond_writes = 1 }) ∷ sends (temp_call 1 3 1 (codes "ab") ab ∷ []) (record no_counts { temp_writes = 1; bytes = 2 }) ∷ sends (commit_call 1 4 1 2 2 ∷ []) no_counts ∷ ends (outcome.Closed 2 2 2 (sha1 (codes "ab"))) 4 0 ∷ [])
 unfolding calls_most closed_ends next_end
 stored = refl
 
 -- the server knows it
-known : steps opened (Does (command.Close 2) ∷ made 1 ∷ Gets (message.Answer 2 (body.Lb (lb.CondWriteAnswer (Done tt)))) ∷ Gets (message.Answer 3 (body.Lb (lb.CommitTmpAnswer (Failed status.Stale tt)))) ∷ Does (command.Read 2 0 9) ∷ []) ≡ (sends_one (make_call 1 1 2) 0 ∷ sends (cond_call 2 1 ab ∷ []) (record no_counts { cond_writes = 1 }) ∷ sends (commit_call 3 1 2 2 ∷ []) no_counts ∷ ends (outcome.Refused status.Stale) 3 0 ∷ ends (outcome.Piece 2 (sha1 (codes "ab"))) 0 0 ∷ [])
+known : steps opened (Does (command.Close 2) ∷ made 1 ∷ Gets (message.Answer 2 (body.Lb (lb.CondWriteAnswer (Done tt)))) ∷ Gets (message.Answer 3 (body.Lb (lb.CommitTmpAnswer (Failed status.Stale tt)))) ∷ Does (command.Read 2 0 9) ∷ []) ≡ (sends_one (make_call 1 1 1 2) 0 ∷ sends (cond_call 1 2 1 ab ∷ []) (record no_counts { cond_writes = 1 }) ∷ sends (commit_call 1 3 1 2 2 ∷ []) no_counts ∷ ends (outcome.Refused status.Stale) 3 0 ∷ ends (outcome.Piece 2 (sha1 (codes "ab"))) 0 0 ∷ [])
 unfolding calls_most closed_ends next_end
 known = refl
 
 -- a content with nothing in it has no chunk
-empty : steps opened (Does (command.Trunc 2 0) ∷ Does (command.Close 2) ∷ made 1 ∷ committed 2 2 ∷ Does (command.Close 2) ∷ []) ≡ (ends outcome.Done 0 0 ∷ sends_one (make_call 1 1 2) 0 ∷ sends (commit_call 2 1 2 0 ∷ []) no_counts ∷ ends (outcome.Closed 2 2 0 (sha1 [])) 2 0 ∷ ends outcome.NotOpen 0 0 ∷ [])
+empty : steps opened (Does (command.Trunc 2 0) ∷ Does (command.Close 2) ∷ made 1 ∷ committed 2 2 ∷ Does (command.Close 2) ∷ []) ≡ (ends outcome.Done 0 0 ∷ sends_one (make_call 1 1 1 2) 0 ∷ sends (commit_call 1 2 1 2 0 ∷ []) no_counts ∷ ends (outcome.Closed 2 2 0 (sha1 [])) 2 0 ∷ ends outcome.NotOpen 0 0 ∷ [])
 unfolding calls_most closed_ends next_end
 empty = refl
 
 -- a lost connection ends the close, and the file stays open; xids and numbers of temporary files begin anew
-lost : steps opened (Does (command.Close 2) ∷ Cut ∷ Does (command.Close 2) ∷ Does (command.Abandon 2) ∷ []) ≡ (sends_one (make_call 1 1 2) 0 ∷ ends outcome.Lost 0 0 ∷ ends outcome.NoLink 0 0 ∷ ends outcome.Done 0 0 ∷ [])
+lost : steps opened (Does (command.Close 2) ∷ Cut ∷ Does (command.Close 2) ∷ Does (command.Abandon 2) ∷ []) ≡ (sends_one (make_call 1 1 1 2) 0 ∷ ends outcome.Lost 0 0 ∷ ends outcome.NoLink 0 0 ∷ ends outcome.Done 0 0 ∷ [])
 lost = refl
 
 -- ---- what is kept
@@ -223,19 +223,19 @@ abbrev opens_as : (file xid : ℕ) → ClientStep
 opens_as file xid = ends (outcome.Opened file 1 (sha1 (codes "a"))) xid 0
 
 -- a content that is kept is opened again in its version; one of another version, or that was dropped meanwhile, is fetched
-kept_again : steps seen (Does (command.Open 2) ∷ leased_are 3 1 ∷ []) ≡ (sends_one (lease_call 3 2) 0 ∷ opens_as 2 3 ∷ [])
+kept_again : steps seen (Does (command.Open 2) ∷ leased_are 3 1 ∷ []) ≡ (sends_one (lease_call 1 3 2) 0 ∷ opens_as 2 3 ∷ [])
 unfolding calls_most fronted key_of sha1 digest_bytes hash_after compress rounds schedule first_words
 kept_again = refl
 
-other_version : steps seen (Does (command.Open 2) ∷ leased_are 3 2 ∷ []) ≡ (sends_one (lease_call 3 2) 0 ∷ sends_one (hash_call 4 2 0) 0 ∷ [])
+other_version : steps seen (Does (command.Open 2) ∷ leased_are 3 2 ∷ []) ≡ (sends_one (lease_call 1 3 2) 0 ∷ sends_one (hash_call 1 4 2 0) 0 ∷ [])
 unfolding calls_most fronted key_of sha1 digest_bytes hash_after compress rounds schedule first_words
 other_version = refl
 
-dropped_meanwhile : steps seen (Does (command.Open 2) ∷ Evicts 2 ∷ leased_are 3 1 ∷ []) ≡ (sends_one (lease_call 3 2) 0 ∷ nothing_done ∷ sends_one (hash_call 4 2 0) 0 ∷ [])
+dropped_meanwhile : steps seen (Does (command.Open 2) ∷ Evicts 2 ∷ leased_are 3 1 ∷ []) ≡ (sends_one (lease_call 1 3 2) 0 ∷ nothing_done ∷ sends_one (hash_call 1 4 2 0) 0 ∷ [])
 unfolding calls_most fronted key_of sha1 digest_bytes hash_after compress rounds schedule first_words
 dropped_meanwhile = refl
 
-not_kept : steps seen (Evicts 2 ∷ Does (command.Open 2) ∷ []) ≡ (nothing_done ∷ sends_one (hash_call 3 2 0) 0 ∷ [])
+not_kept : steps seen (Evicts 2 ∷ Does (command.Open 2) ∷ []) ≡ (nothing_done ∷ sends_one (hash_call 1 3 2 0) 0 ∷ [])
 unfolding calls_most fronted key_of sha1 digest_bytes hash_after compress rounds schedule first_words
 not_kept = refl
 
@@ -244,9 +244,9 @@ abbrev opens_other : List Event
 opens_other = Does (command.Open 3) ∷ hashes_are 3 1 1 (pair_of (codes "a") 1 ∷ []) true ∷ []
 
 abbrev reads_it : List ClientStep
-reads_it = sends_one (hash_call 3 3 0) 0 ∷ sends_reads (read_call 4 3 (chunk_of 0 (codes "a") 1) ∷ []) 0 ∷ []
+reads_it = sends_one (hash_call 1 3 3 0) 0 ∷ sends_reads (read_call 4 3 (chunk_of 0 (codes "a") 1) ∷ []) 0 ∷ []
 
-from_kept : steps seen opens_other ≡ (sends_one (hash_call 3 3 0) 0 ∷ opens_as 3 3 ∷ [])
+from_kept : steps seen opens_other ≡ (sends_one (hash_call 1 3 3 0) 0 ∷ opens_as 3 3 ∷ [])
 unfolding calls_most fronted key_of sha1 digest_bytes hash_after compress rounds schedule first_words
 from_kept = refl
 
@@ -256,7 +256,7 @@ unfolding calls_most fronted key_of sha1 digest_bytes hash_after compress rounds
 from_none = refl
 
 -- equal chunks of one fetch are each read, since their places enter behind it
-equal_chunks : steps (joined start) (Does (command.Open 2) ∷ hashes_are 1 1 4096 (pair_of (codes "a") 2048 ∷ pair_of (codes "a") 2048 ∷ []) true ∷ []) ≡ (sends_one (hash_call 1 2 0) 0 ∷ sends_reads (read_call 2 2 (chunk_of 0 (codes "a") 2048) ∷ read_call 3 2 (chunk_of 2048 (codes "a") 2048) ∷ []) 0 ∷ [])
+equal_chunks : steps (joined start) (Does (command.Open 2) ∷ hashes_are 1 1 4096 (pair_of (codes "a") 2048 ∷ pair_of (codes "a") 2048 ∷ []) true ∷ []) ≡ (sends_one (hash_call 1 1 2 0) 0 ∷ sends_reads (read_call 2 2 (chunk_of 0 (codes "a") 2048) ∷ read_call 3 2 (chunk_of 2048 (codes "a") 2048) ∷ []) 0 ∷ [])
 unfolding calls_most fronted key_of sha1 digest_bytes hash_after compress rounds schedule first_words
 equal_chunks = refl
 
@@ -264,7 +264,7 @@ equal_chunks = refl
 abbrev storing : List Event
 storing = Does (command.Close 2) ∷ made 1 ∷ Gets (message.Answer 2 (body.Lb (lb.CondWriteAnswer (Done tt)))) ∷ committed 3 2 ∷ []
 
-stored_again : steps (after opened storing) (Does (command.Open 2) ∷ leased_are 4 2 ∷ []) ≡ (sends_one (lease_call 4 2) 0 ∷ ends (outcome.Opened 2 2 (sha1 (codes "ab"))) 4 0 ∷ [])
+stored_again : steps (after opened storing) (Does (command.Open 2) ∷ leased_are 4 2 ∷ []) ≡ (sends_one (lease_call 1 4 2) 0 ∷ ends (outcome.Opened 2 2 (sha1 (codes "ab"))) 4 0 ∷ [])
 unfolding calls_most fronted closed_ends next_end
 stored_again = refl
 
@@ -280,7 +280,7 @@ refused_close = refl
 -- ---- a file that is written anew
 
 -- its version is asked for and nothing else, and it is open with nothing in it; what is under way, and what is open, comes before
-rewritten : steps (joined start) (Does (command.Rewrite 2) ∷ Does (command.Rewrite 3) ∷ leased_are 1 5 ∷ Does (command.Read 2 0 9) ∷ Does (command.Rewrite 2) ∷ Does (command.Open 2) ∷ []) ≡ (sends_one (lease_call 1 2) 0 ∷ ends outcome.Busy 0 0 ∷ ends outcome.Done 1 0 ∷ ends (outcome.Piece 0 (sha1 [])) 0 0 ∷ ends outcome.AlreadyOpen 0 0 ∷ ends outcome.AlreadyOpen 0 0 ∷ [])
+rewritten : steps (joined start) (Does (command.Rewrite 2) ∷ Does (command.Rewrite 3) ∷ leased_are 1 5 ∷ Does (command.Read 2 0 9) ∷ Does (command.Rewrite 2) ∷ Does (command.Open 2) ∷ []) ≡ (sends_one (lease_call 1 1 2) 0 ∷ ends outcome.Busy 0 0 ∷ ends outcome.Done 1 0 ∷ ends (outcome.Piece 0 (sha1 [])) 0 0 ∷ ends outcome.AlreadyOpen 0 0 ∷ ends outcome.AlreadyOpen 0 0 ∷ [])
 rewritten = refl
 
 -- it is open in the version that was told, and has an entry in the cache
@@ -294,7 +294,7 @@ unfolding calls_most fronted key_of sha1 digest_bytes hash_after compress rounds
 rewritten_kept = (refl, refl)
 
 -- what is written is stored, fewer bytes than the file had as well
-rewritten_closed : steps opened (Does (command.Abandon 2) ∷ Does (command.Rewrite 2) ∷ leased_are 1 1 ∷ Does (command.Write 2 0 (part.Bytes (codes "b") ∷ [])) ∷ Does (command.Close 2) ∷ made 2 ∷ Gets (message.Answer 3 (body.Lb (lb.CondWriteAnswer (Done tt)))) ∷ committed 4 2 ∷ []) ≡ (ends outcome.Done 0 0 ∷ sends_one (lease_call 1 2) 0 ∷ ends outcome.Done 1 0 ∷ ends outcome.Done 0 0 ∷ sends_one (make_call 2 1 2) 0 ∷ sends (cond_call 3 1 (chunk_of 0 (codes "b") 1) ∷ []) (record no_counts { cond_writes = 1 }) ∷ sends (commit_call 4 1 2 1 ∷ []) no_counts ∷ ends (outcome.Closed 2 2 1 (sha1 (codes "b"))) 4 0 ∷ [])
+rewritten_closed : steps opened (Does (command.Abandon 2) ∷ Does (command.Rewrite 2) ∷ leased_are 1 1 ∷ Does (command.Write 2 0 (part.Bytes (codes "b") ∷ [])) ∷ Does (command.Close 2) ∷ made 2 ∷ Gets (message.Answer 3 (body.Lb (lb.CondWriteAnswer (Done tt)))) ∷ committed 4 2 ∷ []) ≡ (ends outcome.Done 0 0 ∷ sends_one (lease_call 1 1 2) 0 ∷ ends outcome.Done 1 0 ∷ ends outcome.Done 0 0 ∷ sends_one (make_call 1 2 1 2) 0 ∷ sends (cond_call 1 3 1 (chunk_of 0 (codes "b") 1) ∷ []) (record no_counts { cond_writes = 1 }) ∷ sends (commit_call 1 4 1 2 1 ∷ []) no_counts ∷ ends (outcome.Closed 2 2 1 (sha1 (codes "b"))) 4 0 ∷ [])
 unfolding calls_most closed_ends next_end
 rewritten_closed = refl
 
@@ -302,7 +302,7 @@ rewritten_closed = refl
 abbrev rewrite_fails : Status → List ClientStep
 rewrite_fails s = steps (joined start) (Does (command.Rewrite 2) ∷ Gets (message.Answer 1 (body.Lb (lb.GetLeaseAnswer (Failed s tt)))) ∷ Does (command.Read 2 0 9) ∷ [])
 
-refused_rewrites : (rewrite_fails status.IsDir ∷ rewrite_fails status.Stale ∷ steps start (Does (command.Rewrite 2) ∷ []) ∷ steps (joined start) (Does (command.Rewrite 2) ∷ Cut ∷ Does (command.Read 2 0 9) ∷ []) ∷ []) ≡ ((sends_one (lease_call 1 2) 0 ∷ ends (outcome.Refused status.IsDir) 1 0 ∷ ends outcome.NotOpen 0 0 ∷ []) ∷ (sends_one (lease_call 1 2) 0 ∷ ends (outcome.Refused status.Stale) 1 0 ∷ ends outcome.NotOpen 0 0 ∷ []) ∷ (ends outcome.NoLink 0 0 ∷ []) ∷ (sends_one (lease_call 1 2) 0 ∷ ends outcome.Lost 0 0 ∷ ends outcome.NotOpen 0 0 ∷ []) ∷ [])
+refused_rewrites : (rewrite_fails status.IsDir ∷ rewrite_fails status.Stale ∷ steps start (Does (command.Rewrite 2) ∷ []) ∷ steps (joined start) (Does (command.Rewrite 2) ∷ Cut ∷ Does (command.Read 2 0 9) ∷ []) ∷ []) ≡ ((sends_one (lease_call 1 1 2) 0 ∷ ends (outcome.Refused status.IsDir) 1 0 ∷ ends outcome.NotOpen 0 0 ∷ []) ∷ (sends_one (lease_call 1 1 2) 0 ∷ ends (outcome.Refused status.Stale) 1 0 ∷ ends outcome.NotOpen 0 0 ∷ []) ∷ (ends outcome.NoLink 0 0 ∷ []) ∷ (sends_one (lease_call 1 1 2) 0 ∷ ends outcome.Lost 0 0 ∷ ends outcome.NotOpen 0 0 ∷ []) ∷ [])
 refused_rewrites = refl
 
 -- ---- which places enter the index
@@ -312,7 +312,7 @@ enters_at s (Gets m) = entering s (Ok m)
 enters_at s e = None
 
 -- those of all chunks once the last has come, and none at another answer or at a call: so a step can't say there that places are wanting
-at_the_end : (enters_at (fetching 3) (bytes_are 6 9 (codes "c")) ∷ enters_at (after (fetching 3) (bytes_are 6 9 (codes "c") ∷ [])) (bytes_are 5 5 (codes "ab")) ∷ enters_at (fetching 3) (bytes_are 5 9 (codes "x")) ∷ enters_at (fetching 3) (Gets (hash_call 1 2 0)) ∷ []) ≡ (None ∷ Some (record { looked = []; file = 2; chunks = chunks }) ∷ None ∷ None ∷ [])
+at_the_end : (enters_at (fetching 3) (bytes_are 6 9 (codes "c")) ∷ enters_at (after (fetching 3) (bytes_are 6 9 (codes "c") ∷ [])) (bytes_are 5 5 (codes "ab")) ∷ enters_at (fetching 3) (bytes_are 5 9 (codes "x")) ∷ enters_at (fetching 3) (Gets (hash_call 1 1 2 0)) ∷ []) ≡ (None ∷ Some (record { looked = []; file = 2; chunks = chunks }) ∷ None ∷ None ∷ [])
 unfolding calls_most sha1 digest_bytes hash_after compress rounds schedule first_words
 at_the_end = refl
 
@@ -351,7 +351,7 @@ abbrev walking : (xid : ℕ) → Walk → State
 walking xid w = record (joined start) { next_xid = xid + 1; task = Some (record { file = 0; stage = stage.Walking xid w }) }
 
 -- each name is looked up in the one before it, and the file of the last is fetched as one of its id
-opens_path : steps (joined start) (named (path.Find (below (codes "f"))) ∷ found_is 1 2 ∷ found_is 2 5 ∷ hashes_are 3 1 0 [] true ∷ []) ≡ (calls 1 (nfs.Lookup (place 1 (codes "d"))) ∷ calls 2 (nfs.Lookup (place 2 (codes "f"))) ∷ finds 5 (sends_one (hash_call 3 5 0) 0) ∷ ends (outcome.Opened 5 0 (sha1 [])) 3 0 ∷ [])
+opens_path : steps (joined start) (named (path.Find (below (codes "f"))) ∷ found_is 1 2 ∷ found_is 2 5 ∷ hashes_are 3 1 0 [] true ∷ []) ≡ (calls 1 (nfs.Lookup (place 1 (codes "d"))) ∷ calls 2 (nfs.Lookup (place 2 (codes "f"))) ∷ finds 5 (sends_one (hash_call 1 3 5 0) 0) ∷ ends (outcome.Opened 5 0 (sha1 [])) 3 0 ∷ [])
 unfolding calls_most
 opens_path = refl
 
@@ -360,7 +360,7 @@ looks_up : (after (joined start) (named (path.Find (below (codes "f"))) ∷ []) 
 looks_up = (refl, refl)
 
 -- so does a rewrite, which then asks for the version of the file that was found
-rewrites_path : steps (joined start) (named (path.Rewrite (below (codes "f"))) ∷ found_is 1 2 ∷ found_is 2 5 ∷ leased_are 3 1 ∷ Does (command.Read 5 0 9) ∷ []) ≡ (calls 1 (nfs.Lookup (place 1 (codes "d"))) ∷ calls 2 (nfs.Lookup (place 2 (codes "f"))) ∷ finds 5 (sends_one (lease_call 3 5) 0) ∷ ends outcome.Done 3 0 ∷ ends (outcome.Piece 0 (sha1 [])) 0 0 ∷ [])
+rewrites_path : steps (joined start) (named (path.Rewrite (below (codes "f"))) ∷ found_is 1 2 ∷ found_is 2 5 ∷ leased_are 3 1 ∷ Does (command.Read 5 0 9) ∷ []) ≡ (calls 1 (nfs.Lookup (place 1 (codes "d"))) ∷ calls 2 (nfs.Lookup (place 2 (codes "f"))) ∷ finds 5 (sends_one (lease_call 1 3 5) 0) ∷ ends outcome.Done 3 0 ∷ ends (outcome.Piece 0 (sha1 [])) 0 0 ∷ [])
 rewrites_path = refl
 
 rewrites_open_path : steps opened (named (path.Rewrite (at_root (codes "f"))) ∷ found_is 1 2 ∷ []) ≡ (calls 1 (nfs.Lookup (place 1 (codes "f"))) ∷ finds 2 (ends outcome.AlreadyOpen 0 0) ∷ [])
@@ -371,7 +371,7 @@ already_open : steps opened (named (path.Find (at_root (codes "f"))) ∷ found_i
 already_open = refl
 
 -- a content that is kept is asked for by its version
-opens_kept : steps seen (named (path.Find (at_root (codes "f"))) ∷ found_is 3 2 ∷ leased_are 4 1 ∷ []) ≡ (calls 3 (nfs.Lookup (place 1 (codes "f"))) ∷ finds 2 (sends_one (lease_call 4 2) 0) ∷ opens_as 2 4 ∷ [])
+opens_kept : steps seen (named (path.Find (at_root (codes "f"))) ∷ found_is 3 2 ∷ leased_are 4 1 ∷ []) ≡ (calls 3 (nfs.Lookup (place 1 (codes "f"))) ∷ finds 2 (sends_one (lease_call 1 4 2) 0) ∷ opens_as 2 4 ∷ [])
 unfolding calls_most fronted key_of sha1 digest_bytes hash_after compress rounds schedule first_words
 opens_kept = refl
 

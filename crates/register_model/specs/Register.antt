@@ -13,8 +13,9 @@ use Rattle.register_model.specs.declared.op.Outcome.TheVariants as outcome
 use Rattle.register_model.specs.declared.op.Op.{Op}
 use Rattle.register_model.specs.declared.op.Opening.{Opening}
 
--- the files that were there at first, the operations in the order of their begins, and the number of steps
+-- the version of LBFS that the clients speak, the files that were there at first, the operations in the order of their begins, and the number of steps
 pub record History : Type 0 where
+  pub lbfs : ℕ
   pub opening : List Opening
   pub ops : List Op
   pub steps : ℕ

@@ -59,6 +59,7 @@ op client w file begin end point o value traffic = record { client = client; wor
 -- an open that got "abc"
 abbrev pub one_open : History
 one_open = record {
+  lbfs = 1;
   opening = record { file = 2; content = codes "abc" } ∷ [];
   ops =
       op 1 word.Open 2 3 (Some 7) (Some 4) (outcome.Opened 3 sha1_abc) (codes "abc") (sent 0 0 1 3)
@@ -72,9 +73,15 @@ pub text_of_one_open : history_text one_open ≡ codes "lbfs-history 1\n"
 unfolding digits encode_with
 text_of_one_open = refl
 
+-- of clients that speak another version
+pub text_of_another_version : history_text (record { lbfs = 4; opening = []; ops = []; steps = 7 }) ≡ codes "lbfs-history 4\nend ops 0 steps 7\n"
+unfolding digits encode_with
+text_of_another_version = refl
+
 -- an open and a close of an empty file
 abbrev pub one_close : History
 one_close = record {
+  lbfs = 1;
   opening = record { file = 2; content = [] } ∷ [];
   ops =
       op 1 word.Open 2 3 (Some 5) (Some 4) (outcome.Opened 0 sha1_none) [] (sent 0 0 0 0)
@@ -93,6 +100,7 @@ text_of_one_close = refl
 -- an open of no file
 abbrev pub gone : History
 gone = record {
+  lbfs = 1;
   opening = record { file = 2; content = codes "abc" } ∷ [];
   ops =
       op 1 word.Open 9 3 (Some 5) (Some 4) (outcome.Refused 70) [] (sent 0 0 0 0)
@@ -109,6 +117,7 @@ text_of_gone = refl
 -- an open that has not ended
 abbrev pub going : History
 going = record {
+  lbfs = 1;
   opening = record { file = 2; content = codes "abc" } ∷ [];
   ops =
       op 1 word.Open 9 3 None None outcome.Running [] (sent 0 0 0 0)
@@ -125,6 +134,7 @@ text_of_going = refl
 -- opens with no link, of no file, one that is under way and one beside it
 abbrev pub no_link : History
 no_link = record {
+  lbfs = 1;
   opening = record { file = 2; content = codes "abc" } ∷ [];
   ops =
       op 1 word.Open 2 1 (Some 1) None outcome.NoLink [] (sent 0 0 0 0)
@@ -147,6 +157,7 @@ text_of_no_link = refl
 -- a close that was lost, and was made after its end
 abbrev pub lost : History
 lost = record {
+  lbfs = 1;
   opening = record { file = 2; content = codes "a" } ∷ [];
   ops =
       op 1 word.Open 2 3 (Some 7) (Some 4) (outcome.Opened 1 sha1_a) (codes "a") (sent 0 0 1 1)
@@ -167,6 +178,7 @@ text_of_lost = refl
 -- opens that get their content from the index or over the link, with what was kept forgotten between
 abbrev pub indexed : History
 indexed = record {
+  lbfs = 1;
   opening = record { file = 2; content = codes "a" } ∷ record { file = 3; content = codes "a" } ∷ [];
   ops =
       op 1 word.Open 2 3 (Some 7) (Some 4) (outcome.Opened 1 sha1_a) (codes "a") (sent 0 0 1 1)
@@ -199,6 +211,7 @@ open_over_a_wrong_place = refl
 -- one client's operations in turn, each with another outcome
 abbrev pub told : History
 told = record {
+  lbfs = 1;
   opening = record { file = 2; content = codes "a" } ∷ [];
   ops =
       op 1 word.Open 2 1 (Some 1) None outcome.NoLink [] (sent 0 0 0 0)
@@ -237,6 +250,7 @@ text_of_told = refl
 -- a file is made, and another is renamed over it
 abbrev pub renamed : History
 renamed = record {
+  lbfs = 1;
   opening = record { file = 3; content = codes "a" } ∷ [];
   ops =
       op 1 word.Make 4 3 (Some 7) (Some 6) outcome.Done [] (sent 0 0 0 0)
@@ -474,6 +488,7 @@ ended_so w o traffic = op 1 w 2 1 (Some 1) None o [] traffic
 -- a file of three chunks is opened, written in its first chunk, and closed
 abbrev pub written : History
 written = record {
+  lbfs = 1;
   opening = [];
   ops =
       ended_so word.Open (outcome.Opened 9000 sha1_a) (sent 0 0 3 9000)
@@ -492,6 +507,7 @@ summary_of_written = refl
 -- a file of two chunks is opened and abandoned
 abbrev pub left : History
 left = record {
+  lbfs = 1;
   opening = [];
   ops =
       ended_so word.Open (outcome.Opened 9000 sha1_a) (sent 0 0 2 9000)
@@ -522,6 +538,7 @@ of_no_file = refl
 -- order of their begins, and not of their points
 abbrev pub lives : History
 lives = record {
+  lbfs = 1;
   opening = record { file = 2; content = codes "a" } ∷ [];
   ops =
       op 1 word.Make 4 3 (Some 7) (Some 6) outcome.Done (codes "x") (sent 0 0 0 0)

@@ -105,9 +105,13 @@ op_lines n (o ∷ os) = op_line n o ++ op_lines (n + 1) os
 abbrev pub end_line : History → List ℕ
 end_line h = codes "end ops" ++ number (length h.ops) ++ codes " steps" ++ number h.steps ++ codes "\n"
 
--- the whole text: the first line names the format and its version
+-- the first line, with the version of LBFS that the clients speak
+abbrev pub first_line : History → List ℕ
+first_line h = codes "lbfs-history" ++ number h.lbfs ++ codes "\n"
+
+-- the whole text
 abbrev pub history_text : History → List ℕ
-history_text h = codes "lbfs-history 1\n" ++ op_lines 1 h.ops ++ end_line h
+history_text h = first_line h ++ op_lines 1 h.ops ++ end_line h
 
 -- how many operations were done
 abbrev pub done_text : Endings → List ℕ

@@ -6,9 +6,10 @@ use crate::op::{Op, Opening};
 use lb_base::items::Items;
 use std::marker::Model;
 
-/// What the clients of a run did: the files that were there at first, the operations in the order
-/// of their begins, and the number of steps.
+/// What the clients of a run did: the version of LBFS that they speak, the files that were there at
+/// first, the operations in the order of their begins, and the number of steps.
 pub struct History {
+    lbfs: u32,
     opening: Items<Opening>,
     ops: Items<Op>,
     steps: u64,
@@ -19,6 +20,7 @@ pub struct History {
 impl Drop for History {
     fn drop(self) {
         let History {
+            lbfs: _,
             opening,
             ops,
             steps: _,
@@ -33,19 +35,27 @@ impl Model for History {
 
     ghost Value = { register.History };
 
-    ghost view = { λ h. record { opening = h.opening; ops = h.ops; steps = h.steps } };
+    ghost view = { λ h. record { lbfs = h.lbfs; opening = h.opening; ops = h.ops; steps = h.steps } };
 }
 
 impl History {
-    /// The history of these operations.
-    pub fn new(opening: Items<Opening>, ops: Items<Op>, steps: u64) -> History
-        ensures { result ≡ record { opening = opening; ops = ops; steps = steps } }
+    /// The history of these operations, by clients that speak this version of LBFS.
+    pub fn new(lbfs: u32, opening: Items<Opening>, ops: Items<Op>, steps: u64) -> History
+        ensures { result ≡ record { lbfs = lbfs; opening = opening; ops = ops; steps = steps } }
     {
         History {
+            lbfs,
             opening,
             ops,
             steps,
         }
+    }
+
+    /// The version of LBFS that the clients speak.
+    pub fn lbfs(&self) -> u32
+        ensures { result ≡ self.now.lbfs }
+    {
+        self.lbfs
     }
 
     /// The files that were there before the first step.

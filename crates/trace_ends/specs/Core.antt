@@ -44,6 +44,8 @@ pub record Core : Type 0 where
   pub server : server.State
   -- how far a client's clock and the server's may drift apart while a lease lasts, in milliseconds
   pub drift : ℕ
+  -- the version of LBFS that the clients speak
+  pub lbfs : ℕ
   -- the clients, by their numbers
   pub seats : List Seat
   -- the sessions that were ever made, by their numbers

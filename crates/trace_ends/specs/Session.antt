@@ -19,9 +19,9 @@ pub record Seat : Type 0 where
   pub session : Option ℕ
   pub place : Option ℕ
 
--- one that takes its clock and the server's to drift apart so far, in milliseconds, while a lease lasts
-abbrev pub new_seat : (drift : ℕ) → Seat
-new_seat drift = record { client = client.start_with drift; session = None; place = None }
+-- one that takes its clock and the server's to drift apart so far, in milliseconds, while a lease lasts, and speaks this version of LBFS
+abbrev pub new_seat : (drift lbfs : ℕ) → Seat
+new_seat drift lbfs = record { client = client.start_with drift lbfs; session = None; place = None }
 
 -- a client may get the items of a cache file before it first joins, and once: they are the first that it keeps
 abbrev pub may_warm : Seat → Bool

@@ -20,6 +20,8 @@ pub struct Core {
     pub server: Server,
     /// How far a client's clock and the server's may drift apart while a lease lasts, in milliseconds.
     pub drift: u64,
+    /// The version of LBFS that the clients speak.
+    pub lbfs: u32,
     /// The clients, by their numbers.
     pub seats: Vec<Seat>,
     /// The sessions that were ever made, by their numbers.
@@ -38,6 +40,7 @@ impl Drop for Core {
         let Core {
             server,
             drift: _,
+            lbfs: _,
             seats,
             sessions,
             steps: _,
@@ -60,11 +63,17 @@ pub fn count_on(steps: u64, more: u64) -> Result<u64, AllocError>
 }
 
 /// Adds so many clients, none of which has joined.
-fn seat_more(alloc: Global, seats: &mut Vec<Seat>, drift: u64, count: u64) -> Result<(), AllocError>
-    ensures { OnOk result (seats.new.items ≡ seats.old.items ++ replicate count (new_seat drift)) }
+fn seat_more(
+    alloc: Global,
+    seats: &mut Vec<Seat>,
+    drift: u64,
+    lbfs: u32,
+    count: u64,
+) -> Result<(), AllocError>
+    ensures { OnOk result (seats.new.items ≡ seats.old.items ++ replicate count (new_seat drift lbfs)) }
 {
     for _i in 0..count {
-        seats.push(Seat::new(alloc, drift)?)?;
+        seats.push(Seat::new(alloc, drift, lbfs)?)?;
     }
     Ok(())
 }
@@ -72,12 +81,13 @@ fn seat_more(alloc: Global, seats: &mut Vec<Seat>, drift: u64, count: u64) -> Re
 impl Core {
     /// No file, no client and no session. The one error is want of memory.
     pub fn new(alloc: Global) -> Result<Core, AllocError>
-        ensures { IfOk result (λ core. core_of core ≡ record { server = empty; drift = 0; seats = []; sessions = []; steps = 0; ops = []; entries = [] }) }
+        ensures { IfOk result (λ core. core_of core ≡ record { server = empty; drift = 0; lbfs = 1; seats = []; sessions = []; steps = 0; ops = []; entries = [] }) }
     {
         let server = Server::new(alloc, 0)?;
         Ok(Core {
             server,
             drift: 0,
+            lbfs: 1,
             seats: Vec::new(alloc),
             sessions: Vec::new(alloc),
             steps: 0,
@@ -108,13 +118,20 @@ impl Core {
         self.drift = drift;
     }
 
+    /// The clients that come speak this version of LBFS.
+    pub fn set_lbfs(&mut self, lbfs: u32)
+        ensures { core_of self.new ≡ record (core_of self.old) { lbfs = lbfs } }
+    {
+        self.lbfs = lbfs;
+    }
+
     /// Puts `count` clients in the place of those that are there, none of which has joined. The one error
     /// is want of memory.
     pub fn seat_all(&mut self, alloc: Global, count: u64) -> Result<(), AllocError>
-        ensures { OnOk result (core_of self.new ≡ record (core_of self.old) { seats = replicate count (new_seat self.old.drift) }) }
+        ensures { OnOk result (core_of self.new ≡ record (core_of self.old) { seats = replicate count (new_seat self.old.drift self.old.lbfs) }) }
     {
         self.seats.clear();
-        seat_more(alloc, &mut self.seats, self.drift, count)
+        seat_more(alloc, &mut self.seats, self.drift, self.lbfs, count)
     }
 
     /// The operations and the number of steps. The ends are let go.
@@ -124,6 +141,7 @@ impl Core {
         let Core {
             server,
             drift: _,
+            lbfs: _,
             seats,
             sessions,
             steps,

@@ -10,6 +10,8 @@ use Rattle.trace_replay.specs.Trail.{Moment, hashed_of}
 use Rattle.trace_replay.specs.World.{World}
 
 pub record Book : Type 0 where
+  -- the version of LBFS that the clients speak
+  pub lbfs : ℕ
   pub opening : List Opening
   pub ops : List Op
   -- how many steps there were
@@ -20,10 +22,10 @@ pub record Book : Type 0 where
   pub moments : List Moment
 
 abbrev pub book_of : World → List Moment → Book
-book_of w ms = record { opening = w.opening; ops = w.core.ops; steps = w.core.steps; journal = w.core.server.journal; entries = w.core.entries; moments = ms }
+book_of w ms = record { lbfs = w.core.lbfs; opening = w.opening; ops = w.core.ops; steps = w.core.steps; journal = w.core.server.journal; entries = w.core.entries; moments = ms }
 
 abbrev pub history : Book → History
-history book = record { opening = book.opening; ops = book.ops; steps = book.steps }
+history book = record { lbfs = book.lbfs; opening = book.opening; ops = book.ops; steps = book.steps }
 
 -- what a file is at a moment, before the step of this number
 abbrev pub value_at : Book → (file moment : ℕ) → Value

@@ -30,7 +30,6 @@ use Rattle.trace_replay.specs.Traffic.{until}
 use Rattle.trace_replay.specs.Book.{Book, Collides, value_at, version_at}
 use Rattle.trace_replay.specs.OwnCalls.{WaitsFor, TakesCall}
 use Rattle.trace_replay.specs.Naming.{tree_at, IsInside, HasFound, IsSeen, IsRootSeen, IsListed, ListsTooLong, NameDone, IsRefused}
-use Rattle.wire.specs.declared.message.TheConstants.{LBFS_SPOKEN}
 
 -- ---- local contents
 
@@ -204,7 +203,7 @@ pub record IsRenewed (book : Book) (o : Op) : Type 0 where
   pub inside : IsInside o o.begin step
   pub there : IsSome (value_at book o.file step)
   pub xid : ℕ
-  pub taken : TakesCall book o.client step xid (body.Lb (lb.GetLease (record { lbfs = LBFS_SPOKEN; handle = handle_bytes o.file })))
+  pub taken : TakesCall book o.client step xid (body.Lb (lb.GetLease (record { lbfs = book.lbfs; handle = handle_bytes o.file })))
 
 -- or it ended at once, and its file was there then
 abbrev pub IsRenewedNow : Book → Op → Type 0

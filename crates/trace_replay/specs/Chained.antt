@@ -132,9 +132,10 @@ pub record IsDelivered (sent : List ℕ) (came : ℕ) (k : Core) (d : Delivery) 
 
 -- ---- lines
 
--- a line says for how long leases are granted, or how far clocks may drift apart; it opens with clients, or with a file or directory; something happens; an
+-- a line says which version of LBFS clients speak, for how long leases are granted, or how far clocks may drift apart; it opens with clients, or with a file or directory; something happens; an
 -- index or what a client keeps is changed; or bytes come
 pub data Part : Type 0 where
+  Speaks : (lbfs : ℕ) → Part
   Grants : (term : ℕ) → Part
   Drifts : (drift : ℕ) → Part
   Clients : (count : ℕ) → Part
@@ -149,6 +150,7 @@ rounds_of zero session server at = []
 rounds_of (suc k) session server at = Brings (record { side = Up; session = session; amount = amount.All; now = server }) ∷ Brings (record { side = Down; session = session; amount = amount.All; now = at }) ∷ rounds_of k session server at
 
 abbrev pub parts_by : Option Line → List Part
+parts_by (Some (line.Version lbfs)) = Speaks lbfs ∷ []
 parts_by (Some (line.Term term)) = Grants term ∷ []
 parts_by (Some (line.Drift drift)) = Drifts drift ∷ []
 parts_by (Some (line.Clients count)) = Clients count ∷ []
@@ -190,9 +192,10 @@ IsOpenedWith k s b after = (dir : ℕ) × (place_for k.server.tree s ≡ Some di
 
 -- which moments a part has, where the ends were so before, and are so after
 abbrev pub HasMoments : (past : List Moment) → Came → Core → Part → (own : List Moment) → (after : Core) → Type 0
+HasMoments past came k (Speaks lbfs) own after = (own ≡ []) × (after ≡ record k { lbfs = lbfs })
 HasMoments past came k (Grants term) own after = (own ≡ []) × (after ≡ record k { server = with_term k.server term })
 HasMoments past came k (Drifts drift) own after = (own ≡ []) × (after ≡ record k { drift = drift })
-HasMoments past came k (Clients count) own after = (own ≡ []) × (after ≡ record k { seats = replicate count (new_seat k.drift) })
+HasMoments past came k (Clients count) own after = (own ≡ []) × (after ≡ record k { seats = replicate count (new_seat k.drift k.lbfs) })
 HasMoments past came k (Opens s b) own after = (own ≡ []) × IsOpenedWith k s b after
 HasMoments past came k (Tells e) own after = (own ≡ record { before = k; event = e } ∷ []) × (after ≡ (happens k e).core)
 HasMoments past came k (Changes l) own after = (own ≡ []) × (after ≡ changed_by k l)

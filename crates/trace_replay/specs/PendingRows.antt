@@ -166,7 +166,7 @@ asks_nobody h = by (h 0 (lease 3 2 1000 None) refl refl refl (omega arith) refl 
 
 -- a settling takes the second change of a file, or one within the quiet after the start
 abbrev settled : State → Moment
-settled s = record { before = record { server = s; seats = []; sessions = []; steps = 0; drift = 0; ops = []; entries = [] }; event = Settles 100 }
+settled s = record { before = record { server = s; seats = []; sessions = []; steps = 0; drift = 0; lbfs = 1; ops = []; entries = [] }; event = Settles 100 }
 
 second_made : (book : Book) → TakesReady book (settled (state (close 2 2 ∷ close 3 2 ∷ []) [])) 100 (close 3 2) → ⊥
 second_made book t = by t.place t.there t.first

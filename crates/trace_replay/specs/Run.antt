@@ -80,6 +80,10 @@ free_in t name (Some dir) = if can_open t dir name then Some dir else None
 abbrev pub place_for : Tree → Spot → Option ℕ
 place_for t s = free_in t s.name (led_to t.nodes ROOT s.dirs)
 
+-- the clients that come speak this version of LBFS
+abbrev pub with_version : World → (lbfs : ℕ) → World
+with_version w lbfs = record w { stage = stage.Term; core = record w.core { lbfs = lbfs } }
+
 -- the server grants leases of so many milliseconds
 abbrev pub with_leases : World → (term : ℕ) → World
 with_leases w term = record w { stage = stage.Drift; core = record w.core { server = with_term w.core.server term } }
@@ -90,7 +94,7 @@ with_drift w drift = record w { stage = stage.Clients; core = record w.core { dr
 
 -- so many clients, none of which has joined
 abbrev pub with_clients : World → (count : ℕ) → World
-with_clients w count = record w { stage = stage.Files; core = record w.core { seats = replicate count (new_seat w.core.drift) } }
+with_clients w count = record w { stage = stage.Files; core = record w.core { seats = replicate count (new_seat w.core.drift w.core.lbfs) } }
 
 -- ---- what a line asks for
 
@@ -167,7 +171,7 @@ event_asks k l = adjust_asks k l
 
 -- First comes the header, then the files, and then the events.
 abbrev pub asks_at : World → Stage → Line → Result Turn LineFault
-asks_at w stage.Version line.Version = Ok (turn.At stage.Term)
+asks_at w stage.Version (line.Version v) = Ok (turn.Version v)
 asks_at w stage.Term (line.Term t) = Ok (turn.Term t)
 asks_at w stage.Drift (line.Drift d) = Ok (turn.Drift d)
 asks_at w stage.Clients (line.Clients n) = Ok (turn.Clients n)
@@ -200,7 +204,7 @@ at_events w = record w { stage = stage.Events }
 
 abbrev pub turned : World → Turn → World
 turned w turn.Skip = w
-turned w (turn.At s) = record w { stage = s }
+turned w (turn.Version v) = with_version w v
 turned w (turn.Term t) = with_leases w t
 turned w (turn.Drift d) = with_drift w d
 turned w (turn.Clients n) = with_clients w n

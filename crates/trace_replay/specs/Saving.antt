@@ -40,7 +40,6 @@ use Rattle.trace_replay.specs.Trail.{Moment, step_of, client_of, taken_by}
 use Rattle.trace_replay.specs.Traffic.{is_in}
 use Rattle.trace_replay.specs.Book.{Book, version_at}
 use Rattle.trace_replay.specs.OwnCalls.{TakesCall}
-use Rattle.wire.specs.declared.message.TheConstants.{LBFS_SPOKEN}
 
 -- ---- the server knows a chunk
 
@@ -110,7 +109,7 @@ lease_told xid l = message.Answer xid (body.Lb (lb.GetLeaseAnswer (Done l)))
 -- In a step of the operation, before this moment, the server took its GETLEASE of this number; the file had this version then.
 pub record LeasedAt (book : Book) (o : Op) (m : Moment) (xid version : ℕ) : Type 0 where
   pub step : ℕ
-  pub taken : TakesCall book o.client step xid (body.Lb (lb.GetLease (record { lbfs = LBFS_SPOKEN; handle = handle_bytes o.file })))
+  pub taken : TakesCall book o.client step xid (body.Lb (lb.GetLease (record { lbfs = book.lbfs; handle = handle_bytes o.file })))
   pub within : o.begin ≤ step
   pub before : step < step_of m
   pub version_is : version_at book o.file step ≡ version
@@ -121,15 +120,15 @@ TellsLease book m o = (xid : ℕ) (l : Leased) → is_in o (step_of m) (client_o
 
 -- ---- a client has the content
 
--- what an open asks first: which version its file has, where a content of it is kept, and else its chunks
-abbrev pub first_call : (xid file : ℕ) → (kept : Option Content) → Message
-first_call xid file None = hash_call xid file 0
-first_call xid file (Some c) = lease_call xid file
+-- what an open asks first, in a version of LBFS: which version its file has, where a content of it is kept, and else its chunks
+abbrev pub first_call : (lbfs xid file : ℕ) → (kept : Option Content) → Message
+first_call lbfs xid file None = hash_call lbfs xid file 0
+first_call lbfs xid file (Some c) = lease_call lbfs xid file
 
 -- a client that is told to open a file answers that by itself, and sends nothing, or asks so
 abbrev pub AsksFirst : Moment → Type 0
 AsksFirst m = (client now file : ℕ) (seat : Seat) → m.event ≡ Does client now (command.Open file) → numbered m.before.seats client ≡ Some seat
-    → ((happens m.before m.event).up ≡ []) ⊎ ((xid : ℕ) × ((happens m.before m.event).up ≡ first_call xid file (content_of seat.client.cache file) ∷ []))
+    → ((happens m.before m.event).up ≡ []) ⊎ ((xid : ℕ) × ((happens m.before m.event).up ≡ first_call m.before.lbfs xid file (content_of seat.client.cache file) ∷ []))
 
 -- the answer to a LOOKUP that found something
 abbrev pub found_told : (xid : ℕ) → Found → Message
@@ -149,9 +148,9 @@ anew_in None = false
 anew_in (Some t) = anew_at t.stage
 
 -- what is asked first of the file that was found: what an open of its id asks, or a rewrite of it
-abbrev pub found_call : (anew : Bool) → (xid file : ℕ) → (kept : Option Content) → Message
-found_call true xid file kept = lease_call xid file
-found_call false xid file kept = first_call xid file kept
+abbrev pub found_call : (anew : Bool) → (lbfs xid file : ℕ) → (kept : Option Content) → Message
+found_call true lbfs xid file kept = lease_call lbfs xid file
+found_call false lbfs xid file kept = first_call lbfs xid file kept
 
 -- the reading of its client's clock at an event of a client
 abbrev pub reading_at : Event → ℕ
@@ -165,19 +164,19 @@ abbrev pub AsksFound : Moment → Type 0
 AsksFound m = (xid : ℕ) (f : Found) (seat : Seat) → numbered m.before.seats (client_of m.before m.event) ≡ Some seat → Contains (taken_by m.before (client_of m.before m.event) m.event) (found_told xid f)
     → ((happens m.before m.event).up ≡ [])
     ⊎ (((x : ℕ) × (call : Nfs) × ((happens m.before m.event).up ≡ message.Call x (body.Nfs call) ∷ []))
-    ⊎ ((x file : ℕ) × (file_of f.handle ≡ Some file) × (fresh_content seat.client.cache file (reading_at m.event) ≡ None) × ((happens m.before m.event).up ≡ found_call (anew_in seat.client.task) x file (content_of seat.client.cache file) ∷ [])))
+    ⊎ ((x file : ℕ) × (file_of f.handle ≡ Some file) × (fresh_content seat.client.cache file (reading_at m.event) ≡ None) × ((happens m.before m.event).up ≡ found_call (anew_in seat.client.task) m.before.lbfs x file (content_of seat.client.cache file) ∷ [])))
 
 -- An open that is told a version ends in that step by the content that is kept in it, if there is one: nothing is sent for its bytes, and it counts
--- nothing. Else it asks for the file's chunks.
-abbrev pub EndsBy : Op → (step : ℕ) → (sent : List Message) → (kept : Option (List ℕ)) → Type 0
-EndsBy o step sent (Some bytes) = (o.outcome ≡ told.Opened (length bytes) (sha1 bytes)) × (o.end ≡ Some step) × (o.value ≡ bytes) × (sent ≡ []) × (o.traffic ≡ no_traffic)
-EndsBy o step sent None = (xid : ℕ) × (sent ≡ hash_call xid o.file 0 ∷ [])
+-- nothing. Else it asks for the file's chunks, in a version of LBFS.
+abbrev pub EndsBy : (lbfs : ℕ) → Op → (step : ℕ) → (sent : List Message) → (kept : Option (List ℕ)) → Type 0
+EndsBy lbfs o step sent (Some bytes) = (o.outcome ≡ told.Opened (length bytes) (sha1 bytes)) × (o.end ≡ Some step) × (o.value ≡ bytes) × (sent ≡ []) × (o.traffic ≡ no_traffic)
+EndsBy lbfs o step sent None = (xid : ℕ) × (sent ≡ hash_call lbfs xid o.file 0 ∷ [])
 
 -- it is so of an open at whose moment its client takes the answer to a GETLEASE
 abbrev pub UsesKept : Moment → Op → Type 0
 UsesKept m o = (xid : ℕ) (l : Leased) (seat : Seat) → o.word ≡ word.Open → is_in o (step_of m) (client_of m.before m.event) ≡ true → numbered m.before.seats (client_of m.before m.event) ≡ Some seat
     → Contains (taken_by m.before (client_of m.before m.event) m.event) (lease_told xid l)
-    → EndsBy o (step_of m) (happens m.before m.event).up (content_in l.version (content_of seat.client.cache o.file))
+    → EndsBy m.before.lbfs o (step_of m) (happens m.before m.event).up (content_in l.version (content_of seat.client.cache o.file))
 
 -- a client that has nothing under way, to which a content of a file is fresh that isn't open
 pub record IsFreshIn (m : Moment) (client now file : ℕ) (c : Content) : Type 0 where
@@ -189,14 +188,14 @@ pub record IsFreshIn (m : Moment) (client now file : ℕ) (c : Content) : Type 0
 
 -- If it is told to open it, the open ends in that step by that content: nobody is asked, whether it is joined or not.
 abbrev pub OpensAtOnce : Moment → Op → Type 0
-OpensAtOnce m o = (client now file : ℕ) (c : Content) → m.event ≡ Does client now (command.Open file) → o.begin ≡ step_of m → IsFreshIn m client now file c → EndsBy o (step_of m) (happens m.before m.event).up (Some c.bytes)
+OpensAtOnce m o = (client now file : ℕ) (c : Content) → m.event ≡ Does client now (command.Open file) → o.begin ≡ step_of m → IsFreshIn m client now file c → EndsBy m.before.lbfs o (step_of m) (happens m.before m.event).up (Some c.bytes)
 
 -- ---- a client wants no content
 
 -- a client that is told to write a file anew answers that by itself, and sends nothing, or asks for the file's version alone, whatever it keeps
 abbrev pub AsksVersion : Moment → Type 0
 AsksVersion m = (client now file : ℕ) (seat : Seat) → m.event ≡ Does client now (command.Rewrite file) → numbered m.before.seats client ≡ Some seat
-    → ((happens m.before m.event).up ≡ []) ⊎ ((xid : ℕ) × ((happens m.before m.event).up ≡ lease_call xid file ∷ []))
+    → ((happens m.before m.event).up ≡ []) ⊎ ((xid : ℕ) × ((happens m.before m.event).up ≡ lease_call m.before.lbfs xid file ∷ []))
 
 -- A rewrite that is told it is done in that step, sends nothing, and counts nothing.
 abbrev pub EndsAnew : Op → (step : ℕ) → (sent : List Message) → Type 0

@@ -24,6 +24,7 @@ holds pairs = record {
     sessions = [];
     steps = 0;
     drift = 0;
+    lbfs = 1;
     ops = [];
     entries = [];
   };
@@ -44,9 +45,9 @@ unfolding key_of sha1 digest_bytes hash_after compress rounds schedule first_wor
 known_by = refl
 
 -- a file of which a content is kept is asked for by its version
-pub first_calls : first_call 7 2 None ∷ first_call 7 2 (Some (record { version = 1; bytes = codes "abc" })) ∷ [] ≡ hash_call 7 2 0 ∷ lease_call 7 2 ∷ []
+pub first_calls : first_call 1 7 2 None ∷ first_call 1 7 2 (Some (record { version = 1; bytes = codes "abc" })) ∷ [] ≡ hash_call 1 7 2 0 ∷ lease_call 1 7 2 ∷ []
 first_calls = refl
 
 -- what comes down session 1 is dropped by a client that has session 2
-pub left_alone : (bytes : List ℕ) → heard_hashed 1 0 bytes (Some (record (new_seat 0) { session = Some 2 })) ≡ []
+pub left_alone : (bytes : List ℕ) → heard_hashed 1 0 bytes (Some (record (new_seat 0 1) { session = Some 2 })) ≡ []
 left_alone bytes = refl

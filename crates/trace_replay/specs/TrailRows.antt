@@ -86,7 +86,7 @@ opened = record (begun 1 word.Open 2 [] 3) { end = Some 9 }
 
 -- a client asks for the chunks of file 2 from an offset on
 abbrev asks : (step client offset : ℕ) → Said
-asks step client offset = record { step = step; client = client; message = hash_call step 2 offset }
+asks step client offset = record { step = step; client = client; message = hash_call 1 step 2 offset }
 
 -- a further piece begins no attempt, nor does what another client sends, or this one before its begin and behind its end
 pub attempts_counted : attempts_of opened (asks 2 1 0 ∷ asks 3 1 0 ∷ asks 5 1 4096 ∷ asks 7 2 0 ∷ asks 9 1 0 ∷ asks 10 1 0 ∷ []) ≡ 2
@@ -103,11 +103,11 @@ other = record { start = 2048; len = 2952; digest = 2 ∷ [] }
 -- an attempt was told two chunks, found the first by the index and sent a READ for the second; then another began
 abbrev read_twice : List Deal
 read_twice =
-    Sent (hash_call 1 2 0)
+    Sent (hash_call 1 1 2 0)
     ∷ Took (message.Answer 1 (body.Lb (lb.GetHashAnswer (Done (record { version = 1; term = 0; size = 5000; pairs = record { digest = 1 ∷ []; size = 2048 } ∷ record { digest = 2 ∷ []; size = 2952 } ∷ []; eof = true })))))
     ∷ Found (0, 2048)
     ∷ Sent (read_call 2 2 other)
-    ∷ Sent (hash_call 3 2 0)
+    ∷ Sent (hash_call 1 3 2 0)
     ∷ []
 
 pub attempts_read : fetches_in read_twice ≡ no_fetch ∷ record { told = one ∷ other ∷ []; reads = (2048, 2952) ∷ []; found = (0, 2048) ∷ []; bytes = 0 } ∷ no_fetch ∷ []
@@ -152,15 +152,15 @@ read_shows xid version = Took (message.Answer xid (body.Nfs (nfs.ReadAnswer (Don
 -- the first attempt met version 5 by a further piece, the second one version 6 by a READ's attributes, and the third was told no other yet
 abbrev given_up_twice : List Deal
 given_up_twice =
-    Sent (hash_call 1 2 0)
+    Sent (hash_call 1 1 2 0)
     ∷ told_version 1 4
-    ∷ Sent (hash_call 2 2 4096)
+    ∷ Sent (hash_call 1 2 2 4096)
     ∷ told_version 2 5
-    ∷ Sent (hash_call 3 2 0)
+    ∷ Sent (hash_call 1 3 2 0)
     ∷ told_version 3 5
     ∷ Sent (read_call 4 2 one)
     ∷ read_shows 4 6
-    ∷ Sent (hash_call 5 2 0)
+    ∷ Sent (hash_call 1 5 2 0)
     ∷ told_version 5 6
     ∷ []
 
@@ -170,7 +170,7 @@ attempts_met = refl
 -- ---- what a close names
 
 -- CONDWRITEs name chunks, in order, and TMPWRITEs none
-pub chunks_named : named_in (Sent (cond_call 3 1 one) ∷ Sent (cond_call 4 1 other) ∷ Sent (temp_call 5 1 [] other) ∷ []) ≡ one ∷ other ∷ []
+pub chunks_named : named_in (Sent (cond_call 1 3 1 one) ∷ Sent (cond_call 1 4 1 other) ∷ Sent (temp_call 1 5 1 [] other) ∷ []) ≡ one ∷ other ∷ []
 chunks_named = refl
 
 -- ---- what a close sends whole
@@ -189,11 +189,11 @@ abbrev unknown : (xid : ℕ) → Deal
 unknown xid = Took (message.Answer xid (body.Lb (lb.CondWriteAnswer (Failed status.HashNotFound tt))))
 
 -- of two chunks the server doesn't know the second, whose CONDWRITE has the number 4
-pub one_is_paid : PaysAll value owes_nothing (Sent (cond_call 3 1 front) ∷ Sent (cond_call 4 1 back) ∷ unknown 4 ∷ Sent (temp_call 5 1 value back) ∷ [])
+pub one_is_paid : PaysAll value owes_nothing (Sent (cond_call 1 3 1 front) ∷ Sent (cond_call 1 4 1 back) ∷ unknown 4 ∷ Sent (temp_call 1 5 1 value back) ∷ [])
 one_is_paid = (tt, tt, (tt, tt, (tt, refl, ((refl, refl), tt, refl))))
 
 -- the other one's bytes don't do
-pub other_is_not : Pays value (Some back) (Sent (temp_call 5 1 value front)) → ⊥
+pub other_is_not : Pays value (Some back) (Sent (temp_call 1 5 1 value front)) → ⊥
 other_is_not = λ h. absurd (omega (arith, h.0))
 
 -- ---- the value of a close
@@ -203,7 +203,8 @@ abbrev holds : (linked : Bool) → Core
 holds linked = record {
   server = server.empty;
   drift = 0;
-  seats = record (new_seat 0) { client = record (client.start_with 0) { linked = linked; opened = (2, record { version = 1; bytes = codes "abc" }) ∷ [] } } ∷ [];
+  lbfs = 1;
+  seats = record (new_seat 0 1) { client = record (client.start_with 0 1) { linked = linked; opened = (2, record { version = 1; bytes = codes "abc" }) ∷ [] } } ∷ [];
   sessions = [];
   steps = 4;
   ops = [];

@@ -36,7 +36,7 @@ is_delivery l = false
 -- which lines may come after a turn: once an event came, events alone
 abbrev pub stage_after : Stage → Turn → Stage
 stage_after s turn.Skip = s
-stage_after s (turn.At next) = next
+stage_after s (turn.Version lbfs) = stage.Term
 stage_after s (turn.Term term) = stage.Drift
 stage_after s (turn.Drift drift) = stage.Clients
 stage_after s (turn.Clients count) = stage.Files

@@ -28,13 +28,13 @@ start = record {
   stage = stage.Version;
   opening = [];
   size = 0;
-  core = record { server = server.empty; drift = 0; seats = []; sessions = []; steps = 0; ops = []; entries = [] };
+  core = record { server = server.empty; drift = 0; lbfs = 1; seats = []; sessions = []; steps = 0; ops = []; entries = [] };
   wires = [];
 }
 
 -- the history that a world has come to
 abbrev pub history_of : World → History
-history_of w = record { opening = w.opening; ops = w.core.ops; steps = w.core.steps }
+history_of w = record { lbfs = w.core.lbfs; opening = w.opening; ops = w.core.ops; steps = w.core.steps }
 
 -- ---- what is sent
 

@@ -3,7 +3,7 @@
 /// Which lines may come next.
 #[derive(Clone, Copy)]
 pub enum Stage {
-    /// The line with the format's version.
+    /// The line with the version of LBFS.
     Version,
     /// The line with the lease term.
     Term,

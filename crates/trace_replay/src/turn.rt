@@ -33,8 +33,8 @@ use trace_text::refusal::{Limit, LineFault};
 pub enum Turn {
     /// Nothing: the line is skipped.
     Skip,
-    /// Nothing but that other lines come next.
-    At(Stage),
+    /// The clients that come speak this version of LBFS.
+    Version(u32),
     /// The server grants leases of so many milliseconds.
     Term(u64),
     /// The clients that come take their clocks and the server's to drift apart by so many milliseconds.
@@ -95,7 +95,7 @@ pub fn stage_after(stage: Stage, turn: &Turn) -> Stage
 {
     match turn {
         Turn::Skip | Turn::Dir { .. } | Turn::File { .. } => stage,
-        Turn::At(next) => *next,
+        Turn::Version(_) => Stage::Term,
         Turn::Term(_) => Stage::Drift,
         Turn::Drift(_) => Stage::Clients,
         Turn::Clients(_) => Stage::Files,
@@ -120,7 +120,7 @@ fn header_asks(stage: Stage, line: &Line) -> Result<Turn, LineFault>
     ensures { (w : World) → result ≡ asks_at w stage line.now }
 {
     match (stage, line) {
-        (Stage::Version, Line::Version) => Ok(Turn::At(Stage::Term)),
+        (Stage::Version, Line::Version(lbfs)) => Ok(Turn::Version(*lbfs)),
         (Stage::Term, Line::Term(term)) => Ok(Turn::Term(*term)),
         (Stage::Drift, Line::Drift(drift)) => Ok(Turn::Drift(*drift)),
         (Stage::Clients, Line::Clients(count)) => Ok(Turn::Clients(*count)),

@@ -2,10 +2,15 @@
 use Rattle.std.specs.Prelude.{ℕ, ◌+◌, ◌-◌, ◌*◌, ◌^◌, List, [], ◌∷◌, length, Bool, ◌&&◌, ◌==◌, nat_le, nat_lt, Option, Some, None, codes, bytes_eq, if◌then◌else◌}
 use Rattle.std.specs.List.{list_all}
 use Rattle.command_text.specs.Fields.{◌>>=◌, number_of, number_within, is_lower_digit}
+use Rattle.trace_text.specs.declared.line.TheConstants.{LBFS_TRACED}
 use Rattle.trace_text.specs.declared.line.Amount.{Amount}
 use Rattle.trace_text.specs.declared.line.Amount.TheVariants as amount
 use Rattle.trace_text.specs.declared.line.Who.{Who}
 use Rattle.trace_text.specs.declared.line.Who.TheVariants as who
+
+-- a version of LBFS of which there are traces
+abbrev pub lbfs_of : List ℕ → Option ℕ
+lbfs_of word = number_within 1 LBFS_TRACED word
 
 -- a reading of a clock
 abbrev pub reading_of : List ℕ → Option ℕ

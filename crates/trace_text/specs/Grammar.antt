@@ -7,12 +7,12 @@ use Rattle.command_text.specs.Fields.{◌>>=◌, number_of, number_within, conte
 use Rattle.command_text.specs.Paths.{spot_of}
 use Rattle.trace_text.specs.declared.line.Line.{Line}
 use Rattle.trace_text.specs.declared.line.Line.TheVariants.{Version, Term, Drift, Clients, Dir, File, Join, Do, Up, Down, Pass, Settle, Cut, Hang, Forge, Clear, Evict, Warm, Skipped}
-use Rattle.trace_text.specs.Fields.{reading_of, amount_of, who_of, key_of}
+use Rattle.trace_text.specs.Fields.{lbfs_of, reading_of, amount_of, who_of, key_of}
 use Rattle.command_text.specs.Parts.{words_of}
 
--- lbfs-trace 1
+-- lbfs-trace V
 abbrev pub version_of : List (List ℕ) → Option Line
-version_of (version ∷ []) = if bytes_eq version (codes "1") then Some Version else None
+version_of (version ∷ []) = lbfs_of version >>= λ v. Some (Version v)
 version_of words = None
 
 -- term T

@@ -29,7 +29,7 @@ abbrev b_in_a : Spot
 b_in_a = record { dirs = codes "a" ∷ []; name = codes "b" }
 
 -- a whole trace
-trace : said (lines_of (codes "lbfs-trace 1\nterm 60000\ndrift 100\nclients 1\nfile a t:abc\njoin 1 0 0\ndo 1 0 open #2\npass 1 4 0 0\n")) ≡ (Some Version ∷ Some (Term 60000) ∷ Some (Drift 100) ∷ Some (Clients 1) ∷ Some (File (root_name (codes "a")) (Bytes (codes "abc") ∷ [])) ∷ Some (Join 1 0 0) ∷ Some (Do 1 0 (Open 2)) ∷ Some (Pass 1 4 0 0) ∷ [])
+trace : said (lines_of (codes "lbfs-trace 1\nterm 60000\ndrift 100\nclients 1\nfile a t:abc\njoin 1 0 0\ndo 1 0 open #2\npass 1 4 0 0\n")) ≡ (Some (Version 1) ∷ Some (Term 60000) ∷ Some (Drift 100) ∷ Some (Clients 1) ∷ Some (File (root_name (codes "a")) (Bytes (codes "abc") ∷ [])) ∷ Some (Join 1 0 0) ∷ Some (Do 1 0 (Open 2)) ∷ Some (Pass 1 4 0 0) ∷ [])
 trace = refl
 
 -- lines at the edges of the grammar

@@ -13,6 +13,9 @@ use command_text::parts::Words;
 use command_text::path::Spot;
 use std::alloc::Global;
 
+/// There are traces of the versions of LBFS from 1 to this one.
+pub const LBFS_TRACED: u64 = 1;
+
 /// How many bytes of a queue are delivered.
 #[derive(Clone, Copy)]
 pub enum Amount {
@@ -36,8 +39,9 @@ pub enum Who {
 /// any numbers of 64 bits: whether there is such a client or session is the business of the world.
 #[derive(Drop)]
 pub enum Line {
-    /// `lbfs-trace 1`: the first line.
-    Version,
+    /// `lbfs-trace V`: the first line, with the version of LBFS that the clients speak, 1 to
+    /// [`LBFS_TRACED`].
+    Version(u32),
     /// `term T`: how long a lease holds, 1 to 3,600,000.
     Term(u64),
     /// `drift E`: how far clocks drift apart, 0 to 3,600,000.
