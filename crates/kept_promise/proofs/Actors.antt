@@ -158,7 +158,7 @@ heard_at book k qs n now bytes mid kept f = by (also_numbered qs k.sessions n f.
 pub heard_reads : FitLaws → (book : Book) (k : Core) (qs : List Queue) (n now : ℕ) (bytes : List ℕ) (mid : List Queue) → IsKept book k qs → (h : Heard k qs n now bytes mid) → parse_of (client.waiting_of h.seat.client) bytes ≡ Ok (told_message h.told)
 heard_reads laws book k qs n now bytes mid kept h =
     let s = kept.sessions n h.session h.queue h.at h.queue_is in
-    let fits = (subst (AllTolds (λ u. ToldFits u)) h.first s.downs_fit).0 in
+    let fits = subst (λ (v : ℕ). ToldFits v h.told) (sym (kept.seats h.session.owner s.seat s.owner).speaks) (subst (AllTolds (ToldFits book.lbfs)) h.first s.downs_fit).0 in
     let same : s.seat ≡ h.seat = some_is s.seat h.seat (sym s.owner ∙ h.owner) in
     ap (λ (b : List ℕ). parse_of (client.waiting_of h.seat.client) b) h.bytes_is
     ∙ subst (λ (c : Seat). parse_of (client.waiting_of c.client) (message_spell (told_message h.told)) ≡ Ok (told_message h.told)) same (laws.again (client.waiting_of s.seat.client) (told_message h.told) fits.0.0 (expected n k.server.waiting h.queue h.session.hung s.seat.client 0 h.told (s.talk h.uncut).balanced (ap (λ (l : List Told). slice_get l 0) h.first) fits.1))
@@ -177,27 +177,27 @@ heard_gives laws book k qs n now bytes mid kept h = ap (given_from n bytes) h.ow
 -- ---- what the server reads
 
 -- the first call on its way fits
-pub serves_fits : (book : Book) (k : Core) (qs : List Queue) (n now : ℕ) (bytes : List ℕ) (mid : List Queue) → IsKept book k qs → (f : FindsAsk qs n bytes mid) → CallFits f.1.xid f.1.call
+pub serves_fits : (book : Book) (k : Core) (qs : List Queue) (n now : ℕ) (bytes : List ℕ) (mid : List Queue) → IsKept book k qs → (f : FindsAsk qs n bytes mid) → CallFits f.1.lbfs f.1.xid f.1.call
 serves_fits book k qs n now bytes mid kept f =
     let x = also_numbered qs k.sessions n f.0 (sym kept.made.1) f.3 in
     let s = kept.sessions n x.0 f.0 x.1 f.3 in
-    (subst (AllAsks (λ a. CallFits a.xid a.call)) f.4 s.ups_fit).0
+    (subst (AllAsks (λ a. CallFits a.lbfs a.xid a.call)) f.4 s.ups_fit).0
 
 -- a call is expected whatever answers the server waits for
-pub ask_expected : (k : Core) (n xid : ℕ) (c : Call) → IsExpected server_waiting (call_message xid c) → IsExpected (server_waits k n) (call_message xid c)
-ask_expected k n xid (Lease file) e = e
-ask_expected k n xid _ e = e
+pub ask_expected : (k : Core) (n lbfs xid : ℕ) (c : Call) → IsExpected server_waiting (call_message lbfs xid c) → IsExpected (server_waits k n) (call_message lbfs xid c)
+ask_expected k n lbfs xid (Lease file) e = e
+ask_expected k n lbfs xid _ e = e
 
 -- a record that reaches it is read as the first call on its way
 pub serves_read : FitLaws → (book : Book) (k : Core) (qs : List Queue) (n now : ℕ) (bytes : List ℕ) (mid : List Queue) → IsKept book k qs → (f : FindsAsk qs n bytes mid) → parse_of (server_waits k n) bytes ≡ Ok (ask_message f.1)
 serves_read laws book k qs n now bytes mid kept f =
-    let c = laws.calls f.1.xid f.1.call (serves_fits book k qs n now bytes mid kept f) in
-    ap (parse_of (server_waits k n)) f.5 ∙ laws.again (server_waits k n) (ask_message f.1) c.0.0 (ask_expected k n f.1.xid f.1.call c.1)
+    let c = laws.calls f.1.lbfs f.1.xid f.1.call (serves_fits book k qs n now bytes mid kept f) in
+    ap (parse_of (server_waits k n)) f.5 ∙ laws.again (server_waits k n) (ask_message f.1) c.0.0 (ask_expected k n f.1.lbfs f.1.xid f.1.call c.1)
 
 -- and by who waits for nothing
 pub serves_read_plain : FitLaws → (book : Book) (k : Core) (qs : List Queue) (n now : ℕ) (bytes : List ℕ) (mid : List Queue) → IsKept book k qs → (f : FindsAsk qs n bytes mid) → parse_of server_waiting bytes ≡ Ok (ask_message f.1)
 serves_read_plain laws book k qs n now bytes mid kept f =
-    let c = laws.calls f.1.xid f.1.call (serves_fits book k qs n now bytes mid kept f) in
+    let c = laws.calls f.1.lbfs f.1.xid f.1.call (serves_fits book k qs n now bytes mid kept f) in
     ap (parse_of server_waiting) f.5 ∙ laws.again server_waiting (ask_message f.1) c.0.0 c.1
 
 -- the session on which something comes to the server

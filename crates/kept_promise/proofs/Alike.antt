@@ -317,7 +317,7 @@ adjusted_steps k (adjustment.Warm c content) = by (numbered k.seats c)
 
 pub rises_next : (past : List Moment) (w : World) (t : Turn) → Allows w t → Rises past w → Rises (past ++ turn_moments w t) (turned w t)
 rises_next past w turn.Skip f h = rises_same past w h
-rises_next past w (turn.At s) f h = rises_early past w (record w { stage = s }) (λ n. n) (λ n. n) (h.early (ap is_early f)) h
+rises_next past w (turn.Version v) f h = rises_early past w (turned w (turn.Version v)) (λ n. n) (λ n. n) (h.early (ap is_early f.0)) h
 rises_next past w (turn.Term n) f h = rises_early past w (turned w (turn.Term n)) (λ n. n) (λ n. n) (h.early (ap is_early f.0)) h
 rises_next past w (turn.Drift n) f h = rises_early past w (turned w (turn.Drift n)) (λ n. n) (λ n. n) (h.early (ap is_early f)) h
 rises_next past w (turn.Clients m) f h = rises_early past w (turned w (turn.Clients m)) (λ n. n) (λ n. n) (h.early f) h

@@ -25,7 +25,7 @@ use Rattle.kept_promise.proofs.OpsAfter.{OpsAfter, Becomes, ops_after_event}
 
 -- what an operation comes to whose client is told this, to which a file is fresh
 abbrev pub EndsFor : Command → (file : ℕ) → Moment → Op → Content → Type 0
-EndsFor (command.Open f) file m o c = f ≡ file → EndsBy o (step_of m) (happens m.before m.event).up (Some c.bytes)
+EndsFor (command.Open f) file m o c = f ≡ file → EndsBy m.before.lbfs o (step_of m) (happens m.before m.event).up (Some c.bytes)
 EndsFor (command.Rewrite f) file m o c = f ≡ file → EndsAnew o (step_of m) (happens m.before m.event).up
 EndsFor d file m o c = Unit {0}
 
@@ -92,14 +92,14 @@ module _ (k : Core) (number now : ℕ) (seat : Seat) (here : numbered k.seats nu
   value : client.local_bytes (client.with_local seat.client.opened file (record { version = c.version; bytes = c.bytes })) file ≡ c.bytes
   value = ap (λ (o : Option Local). unwrap_or (option_map (λ (z : Local). z.bytes) o) []) (local_at_itself seat.client.opened file (record { version = c.version; bytes = c.bytes }))
 
-  opened : EndsBy (made (command.Open file) (command_step seat.client (command.Open file) now)) (k.steps + 1) (command_step seat.client (command.Open file) now).1.send (Some c.bytes)
-  opened = subst (λ (z : client.State × ClientStep). EndsBy (made (command.Open file) z) (k.steps + 1) z.1.send (Some c.bytes)) (sym (opens_as seat.client file now c free shut fresh)) (refl, refl, value, refl, refl)
+  opened : EndsBy k.lbfs (made (command.Open file) (command_step seat.client (command.Open file) now)) (k.steps + 1) (command_step seat.client (command.Open file) now).1.send (Some c.bytes)
+  opened = subst (λ (z : client.State × ClientStep). EndsBy k.lbfs (made (command.Open file) z) (k.steps + 1) z.1.send (Some c.bytes)) (sym (opens_as seat.client file now c free shut fresh)) (refl, refl, value, refl, refl)
 
   renewed : EndsAnew (made (command.Rewrite file) (command_step seat.client (command.Rewrite file) now)) (k.steps + 1) (command_step seat.client (command.Rewrite file) now).1.send
   renewed = subst (λ (z : client.State × ClientStep). EndsAnew (made (command.Rewrite file) z) (k.steps + 1) z.1.send) (sym (renews_as seat.client file now c free shut fresh)) (refl, refl, refl, refl)
 
   new_ends : (d : Command) → EndsFor d file (moment k (Does number now d)) (made d (command_step seat.client d now)) c
-  new_ends (command.Open f) = λ is. subst (λ (ms : List Message). EndsBy (made (command.Open f) (command_step seat.client (command.Open f) now)) (k.steps + 1) ms (Some c.bytes)) (sym (up (command.Open f))) (subst (λ (n : ℕ). EndsBy (made (command.Open n) (command_step seat.client (command.Open n) now)) (k.steps + 1) (command_step seat.client (command.Open n) now).1.send (Some c.bytes)) (sym is) opened)
+  new_ends (command.Open f) = λ is. subst (λ (ms : List Message). EndsBy k.lbfs (made (command.Open f) (command_step seat.client (command.Open f) now)) (k.steps + 1) ms (Some c.bytes)) (sym (up (command.Open f))) (subst (λ (n : ℕ). EndsBy k.lbfs (made (command.Open n) (command_step seat.client (command.Open n) now)) (k.steps + 1) (command_step seat.client (command.Open n) now).1.send (Some c.bytes)) (sym is) opened)
   new_ends (command.Rewrite f) = λ is. subst (EndsAnew (made (command.Rewrite f) (command_step seat.client (command.Rewrite f) now)) (k.steps + 1)) (sym (up (command.Rewrite f))) (subst (λ (n : ℕ). EndsAnew (made (command.Rewrite n) (command_step seat.client (command.Rewrite n) now)) (k.steps + 1) (command_step seat.client (command.Rewrite n) now).1.send) (sym is) renewed)
   new_ends d = tt
 

@@ -92,7 +92,7 @@ fetch_next book taken j x f h sound fact is same = by (nat_le (length (chunks_of
     is_there = is.is ∙ ap (λ o. hashes_of h.term is.file (range_from o)) offset
 
     told_is : told_chunks is.file.content (range_from (end_of (take i cs))) ≡ take 1024 (drop i cs)
-    told_is = ap (λ c. told_chunks c (range_from (end_of (take i cs)))) one ∙ tells_next v i [] fact.within fact.short
+    told_is = ap (λ c. told_chunks c (range_from (end_of (take i cs)))) one ∙ tells_next 0 v i [] fact.within fact.short
 
     chunks_is : with_pairs f.chunks h.pairs ≡ take (i + 1024) cs
     chunks_is = ap (λ l. with_pairs l h.pairs) fact.chunks ∙ ap (λ (z : Hashes). with_pairs (take i cs) z.pairs) is_there ∙ ap (λ l. with_pairs (take i cs) (map pair_of l)) told_is ∙ pairs_tell v i fact.within
@@ -101,7 +101,7 @@ fetch_next book taken j x f h sound fact is same = by (nat_le (length (chunks_of
     eof_is = ap (λ (z : Hashes). z.eof) is_there ∙ ap (λ c. is_end (length c) (end_of (take i cs)) (told_chunks is.file.content (range_from (end_of (take i cs))))) one ∙ ap (is_end (length v) (end_of (take i cs))) told_is ∙ tells_end v i fact.within
 
     breaks : broken_of f h ≡ None
-    breaks = ap (broken_of f) is_there ∙ nothing_broken h.term is.file f v i [] one fact.short fact.size fact.chunks fact.within
+    breaks = ap (broken_of f) is_there ∙ nothing_broken 0 h.term is.file f v i [] one fact.short fact.size fact.chunks fact.within
 
     hashes : (k : ℕ) (c : Chunk) → slice_get (with_pairs f.chunks h.pairs) k ≡ Some c → Contains (hashed_of book.moments) (chunk_bytes v c)
     hashes k c e = elim (of_both (take i cs) (take 1024 (drop i cs)) k c (sym (ap (λ l. slice_get l k) (chunks_is ∙ take_split i 1024 cs)) ∙ e)) [

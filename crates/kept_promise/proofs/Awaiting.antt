@@ -267,9 +267,9 @@ abbrev number_of : Message → ℕ
 number_of (message.Call x b) = x
 number_of m = 0
 
-number_is : (x : ℕ) (c : Call) → number_of (call_message x c) ≡ x
-number_is x (Walks w) = refl
-number_is x _ = refl
+number_is : (lbfs x : ℕ) (c : Call) → number_of (call_message lbfs x c) ≡ x
+number_is lbfs x (Walks w) = refl
+number_is lbfs x _ = refl
 
 -- a call that is taken, and may change a file
 ask_before : FitLaws → (all past rest : List Moment) (opening : List Opening) (k : Core) (qs : List Queue) (n now : ℕ) (bytes : List ℕ) (mid after : List Queue) → (s : Step all past rest opening k qs (Serves n now bytes) mid after) → (f : FindsAsk qs n bytes mid) → AllAwaited all past opening k qs → (xid : ℕ) (b : Body) → parse_of server_waiting bytes ≡ Ok (message.Call xid b) → change_number f.1.call ≡ 1
@@ -285,7 +285,7 @@ ask_before fits all past rest opening k qs n now bytes mid after s f h xid b rea
     same_read r p q e f = cc
 
     xid_is : (a : Ask) → ask_message a ≡ message.Call xid b → a.xid ≡ xid
-    xid_is a e = sym (number_is a.xid a.call) ∙ ap number_of e
+    xid_is a e = sym (number_is a.lbfs a.xid a.call) ∙ ap number_of e
 
     number : f.1.xid ≡ xid
     number = xid_is f.1 (same_read (parse_of server_waiting bytes) (ask_message f.1) (message.Call xid b) (serves_read_plain fits (book_at opening k all) k qs n now bytes mid s.kept f) read)

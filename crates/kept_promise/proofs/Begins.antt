@@ -190,7 +190,8 @@ pub record Starts (book : Book) (k : Core) (qs : List Queue) (c n : ℕ) (x : Se
   pub right : IsRight (onward book 1 (book.ops ++ new ∷ [])) new
   pub asked : IsAsked (Some (record { place = length book.ops; file = file; stage = s })) a
   pub commit : (contents : ℕ → List ℕ) → IsCommit (onward book 1 (book.ops ++ new ∷ [])) closing x.cut (Some (record { place = length book.ops; file = file; stage = s })) contents a
-  pub fits : CallFits a.xid a.call
+  pub fits : CallFits a.lbfs a.xid a.call
+  pub speaks : a.lbfs ≡ book.lbfs
   pub under : TempUnder temp a.call
   pub piece : (f : ℕ → List ℕ) → IsPiece (hashed_of book.moments) f a
   pub cached : Cached book cache
@@ -250,7 +251,8 @@ kept_begins book k qs c n x q seat new cache sent temp file s a closing value se
         shut = λ cut. absurd (false_and_true x.cut g.uncut cut);
         lost = λ hung. absurd_hung hung;
         stands_is = h.stands_is;
-        ups_fit = all_unless (λ (u : Ask). CallFits u.xid u.call) x.hung q.ups (a ∷ []) h.ups_fit (w.fits, tt);
+        ups_fit = all_unless (λ (u : Ask). CallFits u.lbfs u.xid u.call) x.hung q.ups (a ∷ []) h.ups_fit (w.fits, tt);
+        ups_speak = all_unless (λ (u : Ask). u.lbfs ≡ book.lbfs) x.hung q.ups (a ∷ []) h.ups_speak (w.speaks, tt);
         downs_fit = h.downs_fit;
         talk = λ u. record {
           floor = talk.floor;
@@ -282,6 +284,7 @@ kept_begins book k qs c n x q seat new cache sent temp file s a closing value se
         session = λ m e. let same : n ≡ m = some_is n m (sym g.newest ∙ e) in (y, ap (numbered sessions) (sym same) ∙ session_around.there, g.owner);
         linked = λ e. (n, y, g.newest, session_around.there, g.uncut);
         unlinked = λ e. absurd (false_and_true seat.client.linked e g.linked);
+        speaks = seat_was.speaks;
         matched = inr (j, refl);
         task = λ i e. subst (IsOf more c) (some_is j i e) new_job;
         trying = λ i m z e f. let same = some_is j i e in subst (λ (v : Job). Trying more v m) same (w.trying m z (ap (λ (v : Job). v.stage) same ∙ f));

@@ -38,7 +38,6 @@ use Rattle.server_core.specs.declared.event.Sent.{Sent}
 use Rattle.kept_promise.proofs.Rights.{WasThere}
 use Rattle.kept_promise.proofs.Gone.{IsStill, IsNone, still_or_none, close_gone}
 use Rattle.kept_promise.proofs.OrderSteps.{up_untold}
-use Rattle.wire.specs.declared.message.TheConstants.{LBFS_SPOKEN}
 
 -- the answers on their way once one was told
 abbrev pub downs_then : Session → Queue → Ask → Reply → List Told
@@ -46,7 +45,7 @@ downs_then x q a r = unless x.cut q.downs (record { xid = a.xid; reply = r } ∷
 
 -- ---- what is answered with no change of the temporary files
 
-pub same_temps : (book : Book) (k : Core) (n : ℕ) (x : Session) (q : Queue) (a : Ask) (r : Reply) (h : IsSession book k.seats k.server n x q) → IsShelf k.server.temps → (x.cut ≡ false → Wanted (onward book 1 book.ops) (job h.seat) a.xid r) → (x.cut ≡ false → (us : List Ask) → q.ups ≡ a ∷ us → Held k.server.temps n us (downs_then x q a r) (locals_of h.seat.client) (job h.seat)) → reply_program r ≡ call_program a.call → ToldFits (record { xid = a.xid; reply = r })
+pub same_temps : (book : Book) (k : Core) (n : ℕ) (x : Session) (q : Queue) (a : Ask) (r : Reply) (h : IsSession book k.seats k.server n x q) → IsShelf k.server.temps → (x.cut ≡ false → Wanted (onward book 1 book.ops) (job h.seat) a.xid r) → (x.cut ≡ false → (us : List Ask) → q.ups ≡ a ∷ us → Held k.server.temps n us (downs_then x q a r) (locals_of h.seat.client) (job h.seat)) → reply_program r ≡ call_program a.call → ToldFits book.lbfs (record { xid = a.xid; reply = r })
     → (x.cut ≡ false → AnswerOf (onward book 1 book.ops) (x.taken ++ record { xid = a.xid; step = book.steps + 1 } ∷ []) x.closing (job h.seat) a.xid r) → Answers book k n x q a k.server.temps r h
 same_temps book k n x q a r h shelf wanted held program fits answer = record {
   shelf = shelf;
@@ -63,7 +62,7 @@ same_temps book k n x q a r h shelf wanted held program fits answer = record {
 
 -- ---- what is answered with one put in
 
-pub put_temp : (book : Book) (k : Core) (n : ℕ) (x : Session) (q : Queue) (a : Ask) (r : Reply) (m : ℕ) (t : Temp) (h : IsSession book k.seats k.server n x q) → IsShelf k.server.temps → t.fd < 4294967296 → (x.cut ≡ false → Wanted (onward book 1 book.ops) (job h.seat) a.xid r) → (x.cut ≡ false → (us : List Ask) → q.ups ≡ a ∷ us → Held (with_temp k.server.temps t) n us (downs_then x q a r) (locals_of h.seat.client) (job h.seat)) → reply_program r ≡ call_program a.call → ToldFits (record { xid = a.xid; reply = r })
+pub put_temp : (book : Book) (k : Core) (n : ℕ) (x : Session) (q : Queue) (a : Ask) (r : Reply) (m : ℕ) (t : Temp) (h : IsSession book k.seats k.server n x q) → IsShelf k.server.temps → t.fd < 4294967296 → (x.cut ≡ false → Wanted (onward book 1 book.ops) (job h.seat) a.xid r) → (x.cut ≡ false → (us : List Ask) → q.ups ≡ a ∷ us → Held (with_temp k.server.temps t) n us (downs_then x q a r) (locals_of h.seat.client) (job h.seat)) → reply_program r ≡ call_program a.call → ToldFits book.lbfs (record { xid = a.xid; reply = r })
     → (x.cut ≡ false → AnswerOf (onward book 1 book.ops) (x.taken ++ record { xid = a.xid; step = book.steps + 1 } ∷ []) x.closing (job h.seat) a.xid r)
     → m < 4294967296 → key_of t.session t.fd ≡ key_of n m → AreParts (hashed_of book.moments) (h.contents m) t.pieces → (x.cut ≡ false → m < h.seat.client.next_temp) → Answers book k n x q a (with_temp k.server.temps t) r h
 put_temp book k n x q a r m t h shelf number wanted held program fits answer small keyed parts under = record {
@@ -115,8 +114,12 @@ abbrev pub session_in : (book : Book) (k : Core) (qs : List Queue) (n now : ℕ)
 session_in book k qs n now x q a us g = g.kept.sessions n x q g.at g.is
 
 -- the first call fits
-pub first_fits : (book : Book) (k : Core) (qs : List Queue) (n now : ℕ) (x : Session) (q : Queue) (a : Ask) (us : List Ask) → (g : Given book k qs n now x q a us) → CallFits a.xid a.call
-first_fits book k qs n now x q a us g = (subst (AllAsks (λ b. CallFits b.xid b.call)) g.first (session_in book k qs n now x q a us g).ups_fit).0
+pub first_fits : (book : Book) (k : Core) (qs : List Queue) (n now : ℕ) (x : Session) (q : Queue) (a : Ask) (us : List Ask) → (g : Given book k qs n now x q a us) → CallFits a.lbfs a.xid a.call
+first_fits book k qs n now x q a us g = (subst (AllAsks (λ b. CallFits b.lbfs b.xid b.call)) g.first (session_in book k qs n now x q a us g).ups_fit).0
+
+-- and is of the version that the clients speak
+pub first_speaks : (book : Book) (k : Core) (qs : List Queue) (n now : ℕ) (x : Session) (q : Queue) (a : Ask) (us : List Ask) → (g : Given book k qs n now x q a us) → a.lbfs ≡ book.lbfs
+first_speaks book k qs n now x q a us g = (subst (AllAsks (λ b. b.lbfs ≡ book.lbfs)) g.first (session_in book k qs n now x q a us g).ups_speak).0
 
 abbrev pub rest_of : List Queue → (n : ℕ) → Queue → List Ask → List Queue
 rest_of qs n q us = with_numbered qs n (record q { ups = us })
@@ -158,8 +161,8 @@ rest_above book k qs n now x q a us g uncut i b at e =
     above n (c ∷ cs) top r zero b at = subst (λ (z : Ask). n ≤ z.xid) (some_is c b at) r.0
     above n (c ∷ cs) top r (suc i) b at = let le = above (c.xid + 1) cs top r.1 i b at in let f = r.0 in omega (arith, le, f)
 
-hash_wanted : (book : Book) (o : Option Job) (xid term : ℕ) (t : Tree) (f p : ℕ) → Wanted book o xid (hash_reply term t f p)
-hash_wanted book o xid term t f p = tt
+hash_wanted : (book : Book) (o : Option Job) (xid lbfs term : ℕ) (t : Tree) (f p : ℕ) → Wanted book o xid (hash_reply lbfs term t f p)
+hash_wanted book o xid lbfs term t f p = tt
 
 read_wanted : (book : Book) (o : Option Job) (xid : ℕ) (t : Tree) (f : ℕ) (d : Chunk) → Wanted book o xid (read_reply t f d)
 read_wanted book o xid t f d = tt
@@ -175,40 +178,40 @@ term_fits : (book : Book) (s : server.State) (f : ℕ) → IsServer book s → t
 term_fits book s f h = term_small s.leasing.term s.waiting (file_in (node_of s.tree (handle_bytes f))) h.leases
 
 -- what a GETHASH leaves of the index
-abbrev pub hash_index : server.State → (f o : ℕ) → Indexed
-hash_index s f o = with_told s.index (chunks_told (node_of s.tree (handle_bytes f)) (hash_range f o))
+abbrev pub hash_index : server.State → (lbfs f o : ℕ) → Indexed
+hash_index s lbfs f o = with_told s.index (chunks_told (node_of s.tree (handle_bytes f)) (hash_range lbfs f o))
 
-pub serve_hash : FitLaws → (book : Book) (k : Core) (qs : List Queue) (n now : ℕ) (x : Session) (q : Queue) (xid f o : ℕ) (us : List Ask) → Given book k qs n now x q (record { xid = xid; call = Hash f o }) us → Leads book (rest_of qs n q us) (answered k n (told_leasing k.server n now f) x (record { xid = xid; call = Hash f o }) k.server.temps (hash_index k.server f o) (hash_reply (told_term k.server f) k.server.tree f o))
-serve_hash laws book k qs n now x q xid f o us g =
-    let a : Ask = record { xid = xid; call = Hash f o } in
+pub serve_hash : FitLaws → (book : Book) (k : Core) (qs : List Queue) (n now : ℕ) (x : Session) (q : Queue) (lbfs xid f o : ℕ) (us : List Ask) → Given book k qs n now x q (record { lbfs = lbfs; xid = xid; call = Hash f o }) us → Leads book (rest_of qs n q us) (answered k n (told_leasing k.server n now f) x (record { lbfs = lbfs; xid = xid; call = Hash f o }) k.server.temps (hash_index k.server lbfs f o) (hash_reply lbfs (told_term k.server f) k.server.tree f o))
+serve_hash laws book k qs n now x q lbfs xid f o us g =
+    let a : Ask = record { lbfs = lbfs; xid = xid; call = Hash f o } in
     let h = session_in book k qs n now x q a us g in
     let fits = first_fits book k qs n now x q a us g in
     let term = told_term k.server f in
-    leads_with book k qs n now (told_leasing k.server n now f) x q a us k.server.temps (hash_index k.server f o) (hash_reply term k.server.tree f o) g g.kept.server.leases (same_temps book k n x q a (hash_reply term k.server.tree f o) h g.kept.shelf (λ uncut. hash_wanted (onward book 1 book.ops) (job h.seat) xid term k.server.tree f o) (λ uncut vs e. held_still book k qs n now x q a us g (hash_reply term k.server.tree f o) tt tt uncut vs e) refl (hash_reply_fits laws book k.server xid term f o g.kept.server fits.0 (term_fits book k.server f g.kept.server) fits.1) (λ uncut. hash_told laws book k qs n now x q xid term f o us h.seat g.kept h.owner (h.here uncut).0 (h.talk uncut) g.first fits g.noted))
+    leads_with book k qs n now (told_leasing k.server n now f) x q a us k.server.temps (hash_index k.server lbfs f o) (hash_reply lbfs term k.server.tree f o) g g.kept.server.leases (same_temps book k n x q a (hash_reply lbfs term k.server.tree f o) h g.kept.shelf (λ uncut. hash_wanted (onward book 1 book.ops) (job h.seat) xid lbfs term k.server.tree f o) (λ uncut vs e. held_still book k qs n now x q a us g (hash_reply lbfs term k.server.tree f o) tt tt uncut vs e) refl (hash_reply_fits laws book k.server lbfs xid term f o g.kept.server fits.0 (term_fits book k.server f g.kept.server) fits.1) (λ uncut. hash_told laws book k qs n now x q lbfs xid term f o us h.seat g.kept h.owner (h.here uncut).0 (h.talk uncut) g.first fits (first_speaks book k qs n now x q a us g) g.noted))
 
-pub serve_read : FitLaws → (book : Book) (k : Core) (qs : List Queue) (n now : ℕ) (x : Session) (q : Queue) (xid f : ℕ) (d : Chunk) (us : List Ask) → Given book k qs n now x q (record { xid = xid; call = Read f d }) us → Leads book (rest_of qs n q us) (answered k n (later k.server.leasing now) x (record { xid = xid; call = Read f d }) k.server.temps k.server.index (read_reply k.server.tree f d))
-serve_read laws book k qs n now x q xid f d us g =
-    let a : Ask = record { xid = xid; call = Read f d } in
+pub serve_read : FitLaws → (book : Book) (k : Core) (qs : List Queue) (n now : ℕ) (x : Session) (q : Queue) (lbfs xid f : ℕ) (d : Chunk) (us : List Ask) → Given book k qs n now x q (record { lbfs = lbfs; xid = xid; call = Read f d }) us → Leads book (rest_of qs n q us) (answered k n (later k.server.leasing now) x (record { lbfs = lbfs; xid = xid; call = Read f d }) k.server.temps k.server.index (read_reply k.server.tree f d))
+serve_read laws book k qs n now x q lbfs xid f d us g =
+    let a : Ask = record { lbfs = lbfs; xid = xid; call = Read f d } in
     let h = session_in book k qs n now x q a us g in
     let fits = first_fits book k qs n now x q a us g in
-    leads_by book k qs n now x q a us k.server.temps k.server.index (read_reply k.server.tree f d) g (same_temps book k n x q a (read_reply k.server.tree f d) h g.kept.shelf (λ uncut. read_wanted (onward book 1 book.ops) (job h.seat) xid k.server.tree f d) (λ uncut vs e. held_still book k qs n now x q a us g (read_reply k.server.tree f d) tt tt uncut vs e) refl (read_reply_fits laws book k.server xid f d g.kept.server fits.0 fits.1) (λ uncut. read_told book k qs n now x q xid f d us h.seat g.kept h.owner (h.talk uncut) g.first fits.1 g.noted))
+    leads_by book k qs n now x q a us k.server.temps k.server.index (read_reply k.server.tree f d) g (same_temps book k n x q a (read_reply k.server.tree f d) h g.kept.shelf (λ uncut. read_wanted (onward book 1 book.ops) (job h.seat) xid k.server.tree f d) (λ uncut vs e. held_still book k qs n now x q a us g (read_reply k.server.tree f d) tt tt uncut vs e) refl (read_reply_fits laws book k.server xid f d g.kept.server fits.0 fits.1) (λ uncut. read_told book k qs n now x q lbfs xid f d us h.seat g.kept h.owner (h.talk uncut) g.first fits.1 g.noted))
 
 lease_wanted : (book : Book) (o : Option Job) (xid term : ℕ) (t : Tree) (f : ℕ) → Wanted book o xid (lease_reply term t f)
 lease_wanted book o xid term t f = tt
 
-pub serve_lease : FitLaws → (book : Book) (k : Core) (qs : List Queue) (n now : ℕ) (x : Session) (q : Queue) (xid f : ℕ) (us : List Ask) → Given book k qs n now x q (record { xid = xid; call = Lease f }) us → Leads book (rest_of qs n q us) (answered k n (told_leasing k.server n now f) x (record { xid = xid; call = Lease f }) k.server.temps k.server.index (lease_reply (told_term k.server f) k.server.tree f))
-serve_lease laws book k qs n now x q xid f us g =
-    let a : Ask = record { xid = xid; call = Lease f } in
+pub serve_lease : FitLaws → (book : Book) (k : Core) (qs : List Queue) (n now : ℕ) (x : Session) (q : Queue) (lbfs xid f : ℕ) (us : List Ask) → Given book k qs n now x q (record { lbfs = lbfs; xid = xid; call = Lease f }) us → Leads book (rest_of qs n q us) (answered k n (told_leasing k.server n now f) x (record { lbfs = lbfs; xid = xid; call = Lease f }) k.server.temps k.server.index (lease_reply (told_term k.server f) k.server.tree f))
+serve_lease laws book k qs n now x q lbfs xid f us g =
+    let a : Ask = record { lbfs = lbfs; xid = xid; call = Lease f } in
     let h = session_in book k qs n now x q a us g in
     let fits = first_fits book k qs n now x q a us g in
     let term = told_term k.server f in
-    leads_with book k qs n now (told_leasing k.server n now f) x q a us k.server.temps k.server.index (lease_reply term k.server.tree f) g g.kept.server.leases (same_temps book k n x q a (lease_reply term k.server.tree f) h g.kept.shelf (λ uncut. lease_wanted (onward book 1 book.ops) (job h.seat) xid term k.server.tree f) (λ uncut vs e. held_still book k qs n now x q a us g (lease_reply term k.server.tree f) tt tt uncut vs e) refl (lease_reply_fits laws book k.server xid term f g.kept.server fits.0 (term_fits book k.server f g.kept.server) fits.1) (λ uncut. lease_told laws book k qs n now x q xid term f us h.seat g.kept h.owner (h.here uncut).0 (h.talk uncut) g.first fits g.noted))
+    leads_with book k qs n now (told_leasing k.server n now f) x q a us k.server.temps k.server.index (lease_reply term k.server.tree f) g g.kept.server.leases (same_temps book k n x q a (lease_reply term k.server.tree f) h g.kept.shelf (λ uncut. lease_wanted (onward book 1 book.ops) (job h.seat) xid term k.server.tree f) (λ uncut vs e. held_still book k qs n now x q a us g (lease_reply term k.server.tree f) tt tt uncut vs e) refl (lease_reply_fits laws book k.server xid term f g.kept.server fits.0 (term_fits book k.server f g.kept.server) fits.1) (λ uncut. lease_told laws book k qs n now x q lbfs xid term f us h.seat g.kept h.owner (h.here uncut).0 (h.talk uncut) g.first fits (first_speaks book k qs n now x q a us g) g.noted))
 
 -- the answer to a walk's call is all that is sent
-walk_sent : FitLaws → (book : Book) (k : Core) (qs : List Queue) (n now : ℕ) (x : Session) (q : Queue) (xid : ℕ) (w : Walk) (us : List Ask) → Given book k qs n now x q (record { xid = xid; call = Walks w }) us → is_making w ≡ false
-    → (happens k (Serves n now (message_spell (ask_message (record { xid = xid; call = Walks w }))))).down ≡ record { session = n; message = message.Answer xid (body.Nfs (name_answer (walk_reply k.server.tree w))) } ∷ []
-walk_sent laws book k qs n now x q xid w us g none =
-    let a : Ask = record { xid = xid; call = Walks w } in
+walk_sent : FitLaws → (book : Book) (k : Core) (qs : List Queue) (n now : ℕ) (x : Session) (q : Queue) (lbfs xid : ℕ) (w : Walk) (us : List Ask) → Given book k qs n now x q (record { lbfs = lbfs; xid = xid; call = Walks w }) us → is_making w ≡ false
+    → (happens k (Serves n now (message_spell (ask_message (record { lbfs = lbfs; xid = xid; call = Walks w }))))).down ≡ record { session = n; message = message.Answer xid (body.Nfs (name_answer (walk_reply k.server.tree w))) } ∷ []
+walk_sent laws book k qs n now x q lbfs xid w us g none =
+    let a : Ask = record { lbfs = lbfs; xid = xid; call = Walks w } in
     let h = session_in book k qs n now x q a us g in
     let fits = first_fits book k qs n now x q a us g in
     let standing : stands k.server n ≡ true = h.stands_is ∙ ap not g.unhung in
@@ -218,35 +221,35 @@ walk_sent laws book k qs n now x q xid w us g none =
     ∙ ap (λ (r : server.State × ServerStep). r.1.send) (called_walk (at k.server now) n xid w fits.1 none)
 
 -- what names stand for
-pub serve_walk : FitLaws → (book : Book) (k : Core) (qs : List Queue) (n now : ℕ) (x : Session) (q : Queue) (xid : ℕ) (w : Walk) (us : List Ask) → Given book k qs n now x q (record { xid = xid; call = Walks w }) us → is_making w ≡ false → Leads book (rest_of qs n q us) (answered k n (later k.server.leasing now) x (record { xid = xid; call = Walks w }) k.server.temps k.server.index (Walked (walk_reply k.server.tree w)))
-serve_walk laws book k qs n now x q xid w us g none =
-    let a : Ask = record { xid = xid; call = Walks w } in
+pub serve_walk : FitLaws → (book : Book) (k : Core) (qs : List Queue) (n now : ℕ) (x : Session) (q : Queue) (lbfs xid : ℕ) (w : Walk) (us : List Ask) → Given book k qs n now x q (record { lbfs = lbfs; xid = xid; call = Walks w }) us → is_making w ≡ false → Leads book (rest_of qs n q us) (answered k n (later k.server.leasing now) x (record { lbfs = lbfs; xid = xid; call = Walks w }) k.server.temps k.server.index (Walked (walk_reply k.server.tree w)))
+serve_walk laws book k qs n now x q lbfs xid w us g none =
+    let a : Ask = record { lbfs = lbfs; xid = xid; call = Walks w } in
     let r : Reply = Walked (walk_reply k.server.tree w) in
     let h = session_in book k qs n now x q a us g in
     let fits = first_fits book k qs n now x q a us g in
-    leads_by book k qs n now x q a us k.server.temps k.server.index (Walked (walk_reply k.server.tree w)) g (same_temps book k n x q a (Walked (walk_reply k.server.tree w)) h g.kept.shelf (λ uncut. tt) (λ uncut vs e. held_still book k qs n now x q a us g (Walked (walk_reply k.server.tree w)) tt tt uncut vs e) (ap (λ p. program.Nfs p) (reply_its k.server.tree w fits.1 none)) (laws.names xid k.server.tree w (walk_reply k.server.tree w) fits.0 g.kept.server.bounded fits.1 (reply_told k.server.tree w fits.1 none)) (λ uncut. walk_told book k qs n now x q xid w us h.seat g.kept h.owner (h.here uncut).0 (h.talk uncut) g.first fits none g.noted sent))
+    leads_by book k qs n now x q a us k.server.temps k.server.index (Walked (walk_reply k.server.tree w)) g (same_temps book k n x q a (Walked (walk_reply k.server.tree w)) h g.kept.shelf (λ uncut. tt) (λ uncut vs e. held_still book k qs n now x q a us g (Walked (walk_reply k.server.tree w)) tt tt uncut vs e) (ap (λ p. program.Nfs p) (reply_its k.server.tree w fits.1 none)) (laws.names book.lbfs xid k.server.tree w (walk_reply k.server.tree w) fits.0 g.kept.server.bounded fits.1 (reply_told k.server.tree w fits.1 none)) (λ uncut. walk_told book k qs n now x q lbfs xid w us h.seat g.kept h.owner (h.here uncut).0 (h.talk uncut) g.first fits none g.noted sent))
   where
     answer : Sent
     answer = record { session = n; message = message.Answer xid (body.Nfs (name_answer (walk_reply k.server.tree w))) }
 
-    sent : Contains (happens k (Serves n now (message_spell (ask_message (record { xid = xid; call = Walks w }))))).down answer
-    sent = subst (λ (l : List Sent). Contains l answer) (sym (walk_sent laws book k qs n now x q xid w us g none)) (Contains-push [] answer)
+    sent : Contains (happens k (Serves n now (message_spell (ask_message (record { lbfs = lbfs; xid = xid; call = Walks w }))))).down answer
+    sent = subst (λ (l : List Sent). Contains l answer) (sym (walk_sent laws book k qs n now x q lbfs xid w us g none)) (Contains-push [] answer)
 
 -- an answer that has nothing to tell
 pub serve_plain : FitLaws → (book : Book) (k : Core) (qs : List Queue) (n now : ℕ) (x : Session) (q : Queue) (a : Ask) (us : List Ask) (index : Indexed) (r : Reply) → (g : Given book k qs n now x q a us) → (x.cut ≡ false → Wanted (onward book 1 book.ops) (job (session_in book k qs n now x q a us g).seat) a.xid r) → (x.cut ≡ false → (vs : List Ask) → q.ups ≡ a ∷ vs → Held k.server.temps n vs (downs_then x q a r) (locals_of (session_in book k qs n now x q a us g).seat.client) (job (session_in book k qs n now x q a us g).seat))
     → reply_program r ≡ call_program a.call → IsPlain r → a.xid < 4294967296 → (x.cut ≡ false → AnswerOf (onward book 1 book.ops) (x.taken ++ record { xid = a.xid; step = book.steps + 1 } ∷ []) x.closing (job (session_in book k qs n now x q a us g).seat) a.xid r) → Leads book (rest_of qs n q us) (answered k n (later k.server.leasing now) x a k.server.temps index r)
-serve_plain laws book k qs n now x q a us index r g wanted held program plain lt answer = leads_by book k qs n now x q a us k.server.temps index r g (same_temps book k n x q a r (session_in book k qs n now x q a us g) g.kept.shelf wanted held program (laws.plain a.xid r lt plain) answer)
+serve_plain laws book k qs n now x q a us index r g wanted held program plain lt answer = leads_by book k qs n now x q a us k.server.temps index r g (same_temps book k n x q a r (session_in book k qs n now x q a us g) g.kept.shelf wanted held program (laws.plain book.lbfs a.xid r lt plain) answer)
 
-pub serve_make : FitLaws → (book : Book) (k : Core) (qs : List Queue) (n now : ℕ) (x : Session) (q : Queue) (xid m f : ℕ) (us : List Ask) → Given book k qs n now x q (record { xid = xid; call = Make m f }) us → Leads book (rest_of qs n q us) (served k n x xid (makes (at k.server now) n xid m (node_of k.server.tree (handle_bytes f))))
-serve_make laws book k qs n now x q xid m f us g = by (node_of k.server.tree (handle_bytes f)) refl
+pub serve_make : FitLaws → (book : Book) (k : Core) (qs : List Queue) (n now : ℕ) (x : Session) (q : Queue) (lbfs xid m f : ℕ) (us : List Ask) → Given book k qs n now x q (record { lbfs = lbfs; xid = xid; call = Make m f }) us → Leads book (rest_of qs n q us) (served k n x xid (makes (at k.server now) n xid m (node_of k.server.tree (handle_bytes f))))
+serve_make laws book k qs n now x q lbfs xid m f us g = by (node_of k.server.tree (handle_bytes f)) refl
   where
     a : Ask
-    a = record { xid = xid; call = Make m f }
+    a = record { lbfs = lbfs; xid = xid; call = Make m f }
 
     h : IsSession book k.seats k.server n x q
     h = session_in book k qs n now x q a us g
 
-    fits : CallFits xid (Make m f)
+    fits : CallFits lbfs xid (Make m f)
     fits = first_fits book k qs n now x q a us g
 
     ts : List Told
@@ -257,7 +260,7 @@ serve_make laws book k qs n now x q xid m f us g = by (node_of k.server.tree (ha
     none uncut =
         let p = place_at book k qs n now x q a us g uncut in
         let held = subst (Held k.server.temps n (a ∷ us) q.downs (locals_of h.seat.client)) p.1 (held_at book k qs n now x q a us g uncut) in
-        (subst (HeldIn k.server.temps n (a ∷ us) q.downs (locals_of h.seat.client p.0.file)) p.2 held).0 (0, m, f, refl)
+        (subst (HeldIn k.server.temps n (a ∷ us) q.downs (locals_of h.seat.client p.0.file)) p.2 held).0 (0, m, f, lbfs, refl)
 
     node : x.cut ≡ false → IsStill k.server f ⊎ IsNone book k.server f
     node uncut =
@@ -300,7 +303,7 @@ serve_make laws book k qs n now x q xid m f us g = by (node_of k.server.tree (ha
         subst (λ (l : List Ask). Held (with_temp k.server.temps t) n l ts (locals_of h.seat.client) (job h.seat)) same
         (subst (Held (with_temp k.server.temps t) n us ts (locals_of h.seat.client)) (sym p.1)
         (subst (HeldIn (with_temp k.server.temps t) n us ts (locals_of h.seat.client p.0.file)) (sym p.2)
-        ((λ u. absurd (rest_above book k qs n now x q a us g uncut u.0 (record { xid = xid; call = Make u.1 u.2 }) u.3 refl)), (λ u d. (t, one_put k.server.temps n m t fits.1 session number (λ o lt apart. none uncut o lt), empty)), λ d. absurd (unrefused uncut d))))
+        ((λ u. absurd (rest_above book k qs n now x q a us g uncut u.0 (record { lbfs = u.3; xid = xid; call = Make u.1 u.2 }) u.4 refl)), (λ u d. (t, one_put k.server.temps n m t fits.1 session number (λ o lt apart. none uncut o lt), empty)), λ d. absurd (unrefused uncut d))))
       where
         tails : {b c : Ask} {us vs : List Ask} → b ∷ us ≡ c ∷ vs → us ≡ vs
         tails e = cc
@@ -309,7 +312,7 @@ serve_make laws book k qs n now x q xid m f us g = by (node_of k.server.tree (ha
     faults (Some e) t is = refuses e (λ uncut. nothing_there e (sym (room_there k.server.temps n m fits.1 g.kept.shelf (none uncut)) ∙ is))
     faults None t is =
         let w : Temp = record { session = n; fd = m; target = t; pieces = [] } in
-        leads_by book k qs n now x q a us (with_temp k.server.temps w) k.server.index (Made (Done tt)) g (put_temp book k n x q a (Made (Done tt)) m w h g.kept.shelf fits.1 made (held w refl refl refl) refl (laws.plain xid (Made (Done tt)) fits.0 tt) (λ uncut. tt) fits.1 refl tt (λ uncut. (subst (AllAsks (λ b. TempUnder h.seat.client.next_temp b.call)) g.first (h.temps_below uncut).0).0))
+        leads_by book k qs n now x q a us (with_temp k.server.temps w) k.server.index (Made (Done tt)) g (put_temp book k n x q a (Made (Done tt)) m w h g.kept.shelf fits.1 made (held w refl refl refl) refl (laws.plain book.lbfs xid (Made (Done tt)) fits.0 tt) (λ uncut. tt) fits.1 refl tt (λ uncut. (subst (AllAsks (λ b. TempUnder h.seat.client.next_temp b.call)) g.first (h.temps_below uncut).0).0))
 
     by : (nd : Result Node Status) → node_of k.server.tree (handle_bytes f) ≡ nd → Leads book (rest_of qs n q us) (served k n x xid (makes (at k.server now) n xid m nd))
     by (Err e) is = refuses e (λ uncut. elim (node uncut) [
@@ -334,17 +337,17 @@ serve_make laws book k qs n now x q xid m f us g = by (node_of k.server.tree (ha
         not_gone q = absurd cc
     by (Ok (file z)) is = faults (room_fault k.server.temps n m) z.id refl
 
-pub serve_send : FitLaws → (book : Book) (k : Core) (qs : List Queue) (n now : ℕ) (x : Session) (q : Queue) (xid m start : ℕ) (bytes : List ℕ) (us : List Ask) → Given book k qs n now x q (record { xid = xid; call = Send m start bytes }) us
-    → Leads book (rest_of qs n q us) (served k n x xid (writes_unless (at k.server now) n xid (record { lbfs = LBFS_SPOKEN; fd = m; offset = start; bytes = bytes }) (temp_at k.server.temps n m) (piece_fault (temp_at k.server.temps n m) start (length bytes))))
-serve_send laws book k qs n now x q xid m start bytes us g = by (temp_at k.server.temps n m) (piece_fault (temp_at k.server.temps n m) start (length bytes)) refl refl
+pub serve_send : FitLaws → (book : Book) (k : Core) (qs : List Queue) (n now : ℕ) (x : Session) (q : Queue) (lbfs xid m start : ℕ) (bytes : List ℕ) (us : List Ask) → Given book k qs n now x q (record { lbfs = lbfs; xid = xid; call = Send m start bytes }) us
+    → Leads book (rest_of qs n q us) (served k n x xid (writes_unless (at k.server now) n xid (record { lbfs = lbfs; fd = m; offset = start; bytes = bytes }) (temp_at k.server.temps n m) (piece_fault (temp_at k.server.temps n m) start (length bytes))))
+serve_send laws book k qs n now x q lbfs xid m start bytes us g = by (temp_at k.server.temps n m) (piece_fault (temp_at k.server.temps n m) start (length bytes)) refl refl
   where
     a : Ask
-    a = record { xid = xid; call = Send m start bytes }
+    a = record { lbfs = lbfs; xid = xid; call = Send m start bytes }
 
     h : IsSession book k.seats k.server n x q
     h = session_in book k qs n now x q a us g
 
-    fits : CallFits xid (Send m start bytes)
+    fits : CallFits lbfs xid (Send m start bytes)
     fits = first_fits book k qs n now x q a us g
 
     -- where its client is there, the bytes of a chunk are put into the one temporary file, which had not held them
@@ -360,7 +363,7 @@ serve_send laws book k qs n now x q xid m start bytes us g = by (temp_at k.serve
         let chunk = p.2 in
         let c = chunk.0 in
         let at_chunk = ap (λ (l : List Chunk). slice_get l s.call.index) (sym is.chunks) ∙ chunk.1 in
-        let taken = holds_taken v xid m start bytes us q.downs s.store t.pieces is.place s.call c is.short is.there is.same is.inside s.way at_chunk is.unique (λ u. rest_above book k qs n now x q a us g uncut u.0 (record { xid = xid; call = Send u.1 u.2 u.3 }) u.4 refl) held.2 in
+        let taken = holds_taken v lbfs xid m start bytes us q.downs s.store t.pieces is.place s.call c is.short is.there is.same is.inside s.way at_chunk is.unique (λ u. rest_above book k qs n now x q a us g uncut u.0 (record { lbfs = u.4; xid = xid; call = Send u.1 u.2 u.3 }) u.5 refl) held.2 in
         let found : temp_at k.server.temps n m ≡ Some t = ap (λ (z : ℕ). temp_at k.server.temps n z) (sym p.1) ∙ one.3 in
         let count : length bytes ≡ c.len = ap (λ (l : List ℕ). length l) chunk.3 ∙ (chunks_are_named v s.call.index c at_chunk).1 in
         let none : piece_fault (temp_at k.server.temps n m) start (length bytes) ≡ None = ap (λ (o : Option Temp). piece_fault o start (length bytes)) found ∙ ap (λ (z : ℕ). range_fault t.pieces z (length bytes)) chunk.2 ∙ ap (range_fault t.pieces c.start) count ∙ taken.0 in
@@ -370,7 +373,7 @@ serve_send laws book k qs n now x q xid m start bytes us g = by (temp_at k.serve
     plain : (o : Option Status) → (x.cut ≡ false → ⊥) → Leads book (rest_of qs n q us) (answered k n (later k.server.leasing now) x a k.server.temps k.server.index (Stored (done_unless o)))
     plain o never = serve_plain laws book k qs n now x q a us k.server.index (Stored (done_unless o)) g (λ uncut. absurd (never uncut)) (λ uncut. absurd (never uncut)) refl tt fits.0 (λ uncut. tt)
 
-    by : (t : Option Temp) (o : Option Status) → temp_at k.server.temps n m ≡ t → piece_fault (temp_at k.server.temps n m) start (length bytes) ≡ o → Leads book (rest_of qs n q us) (served k n x xid (writes_unless (at k.server now) n xid (record { lbfs = LBFS_SPOKEN; fd = m; offset = start; bytes = bytes }) t o))
+    by : (t : Option Temp) (o : Option Status) → temp_at k.server.temps n m ≡ t → piece_fault (temp_at k.server.temps n m) start (length bytes) ≡ o → Leads book (rest_of qs n q us) (served k n x xid (writes_unless (at k.server now) n xid (record { lbfs = lbfs; fd = m; offset = start; bytes = bytes }) t o))
     by None o found fault = plain o (λ uncut. let w = goes uncut in nothing_there w.0 (sym found ∙ w.1))
     by (Some t) (Some s) found fault = plain (Some s) (λ uncut. nothing_there s (sym (goes uncut).2 ∙ fault))
     by (Some t) None found fault =
@@ -379,7 +382,7 @@ serve_send laws book k qs n now x q xid m start bytes us g = by (temp_at k.serve
         let parts : AreParts (hashed_of book.moments) (h.contents m) t.pieces = subst (λ (u : Temp). AreParts (hashed_of book.moments) (h.contents m) u.pieces) e.4 held.0 in
         let keyed : key_of t.session t.fd ≡ key_of n m = ap (λ (u : Temp). key_of u.session u.fd) (sym e.4) ∙ held.1 ∙ e.3 in
         let small : t.fd < 4294967296 = subst (λ (u : Temp). u.fd < 4294967296) e.4 (g.kept.shelf.1 e.0 e.1 e.2).1 in
-        leads_by book k qs n now x q a us (with_temp k.server.temps (with_piece t start bytes)) k.server.index (Stored (Done tt)) g (put_temp book k n x q a (Stored (Done tt)) m (with_piece t start bytes) h g.kept.shelf small (λ uncut. ((place_at book k qs n now x q a us g uncut).0, refl)) (λ uncut vs e2. after uncut vs e2 t found) refl (laws.plain xid (Stored (Done tt)) fits.0 tt) (λ uncut. tt) fits.1 keyed (parts_put (hashed_of book.moments) (h.contents m) t.pieces start bytes parts (inl (subst (AllAsks (IsPiece (hashed_of book.moments) h.contents)) g.first h.pieces).0)) (λ uncut. (subst (AllAsks (λ b. TempUnder h.seat.client.next_temp b.call)) g.first (h.temps_below uncut).0).0))
+        leads_by book k qs n now x q a us (with_temp k.server.temps (with_piece t start bytes)) k.server.index (Stored (Done tt)) g (put_temp book k n x q a (Stored (Done tt)) m (with_piece t start bytes) h g.kept.shelf small (λ uncut. ((place_at book k qs n now x q a us g uncut).0, refl)) (λ uncut vs e2. after uncut vs e2 t found) refl (laws.plain book.lbfs xid (Stored (Done tt)) fits.0 tt) (λ uncut. tt) fits.1 keyed (parts_put (hashed_of book.moments) (h.contents m) t.pieces start bytes parts (inl (subst (AllAsks (IsPiece (hashed_of book.moments) h.contents)) g.first h.pieces).0)) (λ uncut. (subst (AllAsks (λ b. TempUnder h.seat.client.next_temp b.call)) g.first (h.temps_below uncut).0).0))
       where
         tails : {b c : Ask} {us vs : List Ask} → b ∷ us ≡ c ∷ vs → us ≡ vs
         tails e = cc

@@ -86,10 +86,10 @@ makes_call (Walks w) = is_making w
 makes_call c = false
 
 -- each call on its way that doesn't is so
-pub is_of_files : (a : Ask) → CallFits a.xid a.call → makes_call a.call ≡ false → IsOfFiles (ask_message a)
+pub is_of_files : (a : Ask) → CallFits a.lbfs a.xid a.call → makes_call a.call ≡ false → IsOfFiles (ask_message a)
 is_of_files a fits none = by a.call fits none
   where
-    by : (c : Call) → CallFits a.xid c → makes_call c ≡ false → IsOfFiles (ask_message (record { xid = a.xid; call = c }))
+    by : (c : Call) → CallFits a.lbfs a.xid c → makes_call c ≡ false → IsOfFiles (ask_message (record { lbfs = a.lbfs; xid = a.xid; call = c }))
     by (Walks w) fits none = walk_of_files a.xid w.dir w.left w.goal fits.1.ahead none
     by _ fits none = tt
 

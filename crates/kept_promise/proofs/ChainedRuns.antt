@@ -10,7 +10,7 @@ use Rattle.trace_text.specs.declared.line.Who.{Who}
 use Rattle.trace_text.specs.declared.line.Who.TheVariants as who
 use Rattle.trace_ends.specs.Core.{with_client}
 use Rattle.trace_ends.specs.Session.{Seat}
-use Rattle.trace_replay.specs.Chained.{Side, Up, Down, bytes_sent, Came, nothing_came, Delivery, brought, is_side, more_came, came_with, came_after, records_in, event_at, IsChain, IsDelivered, Part, Grants, Drifts, Clients, Opens, Tells, Changes, Brings, rounds_of, parts_by, parts_of, client_with, is_shut, HasMoments, IsRunOf, IsChained}
+use Rattle.trace_replay.specs.Chained.{Side, Up, Down, bytes_sent, Came, nothing_came, Delivery, brought, is_side, more_came, came_with, came_after, records_in, event_at, IsChain, IsDelivered, Part, Speaks, Grants, Drifts, Clients, Opens, Tells, Changes, Brings, rounds_of, parts_by, parts_of, client_with, is_shut, HasMoments, IsRunOf, IsChained}
 use Rattle.trace_replay.specs.Run.{place_for, directory_asks, file_asks}
 use Rattle.trace_replay.specs.declared.stage.Stage.{Stage}
 use Rattle.trace_replay.specs.declared.stage.Stage.TheVariants as stage
@@ -420,7 +420,7 @@ goes_idle past came w v rest ps last core wires h go = subst (λ (k : Core). IsR
 line_goes : (past : List Moment) (came : Came) (w : World) (dir : ℕ) (l : Line) (rest : List Moment) (ps : List Part) (last : Core) → ((s : Spot) → (l ≡ line.Dir s → ⊥)) → ((s : Spot) (c : List Bytes) → (l ≡ line.File s c → ⊥)) → AreOnWay past came w
     → Onward ps rest last (past ++ turn_moments w (turn_of dir l)) (turned w (turn_of dir l)) → IsRunOf past came w.core (parts_by (Some l) ++ ps) (turn_moments w (turn_of dir l) ++ rest) last
 line_goes past came w dir line.Skipped rest ps last d f h go = goes_idle past came w w rest ps last refl refl h go
-line_goes past came w dir line.Version rest ps last d f h go = goes_idle past came w _ rest ps last refl refl h go
+line_goes past came w dir (line.Version v) rest ps last d f h go = goes_none past came w _ (Speaks v) rest ps last (refl, refl) (on_way_same past came w _ refl refl h) go
 line_goes past came w dir (line.Term n) rest ps last d f h go = goes_none past came w _ (Grants n) rest ps last (refl, refl) (on_way_same past came w _ refl refl h) go
 line_goes past came w dir (line.Drift n) rest ps last d f h go = goes_none past came w _ (Drifts n) rest ps last (refl, refl) (on_way_same past came w _ refl refl h) go
 line_goes past came w dir (line.Clients n) rest ps last d f h go = goes_none past came w _ (Clients n) rest ps last (refl, refl) (on_way_same past came w _ refl refl h) go

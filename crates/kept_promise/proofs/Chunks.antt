@@ -12,7 +12,6 @@ use Rattle.file_open.specs.Shape.{broken_inner}
 use Rattle.kept_promise.proofs.Common.{nat_lt, nat_le, ◌==◌, ◌&&◌, ◌||◌, cond, filter, slice_get, list_any, insert_entry, nat_cmp, nat_tests, take-append-drop, length-drop, take_all, sha1, chunks_of, chunk_bytes, end_from, end_of, Chunk, Pair, meets, told_chunks, pair_of, is_end, broken_if, broken_pair, broken_pairs, broken_sum, broken_of, chunks_from, with_pairs, slots_bytes, Fetch}
 use Rattle.kept_promise.proofs.Statements.{AreInRow, ChunksInRow, ChunksAreLong, ChunksAreNamed, TellsNext, TellsEnd, PairsTell, NothingBroken, ReadGives, SlotsAreWhole, PiecesOf, PiecesAreWhole, PieceGoesIn}
 use Rattle.kept_promise.proofs.Lists.{some_is, nothing_there}
-use Rattle.wire.specs.declared.message.TheConstants.{LBFS_SPOKEN}
 
 -- ---- a row of chunks, from a place to the content's end
 
@@ -176,7 +175,7 @@ meets_others x s n (c ∷ cs) (suc i) r some most =
     ∙ meets_others x (c.start + c.len) n cs i r.1 some most
 
 pub tells_next : TellsNext
-tells_next = λ x i handle le most. ap (λ (ks : List Chunk). take 1024 ks) (meets_others x 0 4294967295 (chunks_of x) i (row_of x) (omega arith) (omega (arith, most)))
+tells_next = λ lbfs x i handle le most. ap (λ (ks : List Chunk). take 1024 ks) (meets_others x 0 4294967295 (chunks_of x) i (row_of x) (omega arith) (omega (arith, most)))
 
 row_all : (x : List ℕ) (s : ℕ) (cs : List Chunk) → Row x s cs → end_from s cs ≡ length x
 row_all x s [] r = r
@@ -355,10 +354,10 @@ tests_pass f version term size pairs eof most few same ps sum =
     rw (a, b, c, ps, sum) refl
 
 pub nothing_broken : NothingBroken
-nothing_broken = λ term g f x i handle content most size chunks le.
+nothing_broken = λ lbfs term g f x i handle content most size chunks le.
     let cs : List Chunk = chunks_of x in
     let offset : ℕ = end_of (take i cs) in
-    let told : told_chunks g.content (record { lbfs = LBFS_SPOKEN; handle = handle; offset = offset; count = 4294967295 }) ≡ take 1024 (drop i cs) = ap (λ (ys : List ℕ). told_chunks ys (record { lbfs = LBFS_SPOKEN; handle = handle; offset = offset; count = 4294967295 })) content ∙ tells_next x i handle le most in
+    let told : told_chunks g.content (record { lbfs = lbfs; handle = handle; offset = offset; count = 4294967295 }) ≡ take 1024 (drop i cs) = ap (λ (ys : List ℕ). told_chunks ys (record { lbfs = lbfs; handle = handle; offset = offset; count = 4294967295 })) content ∙ tells_next lbfs x i handle le most in
     let len : length g.content ≡ length x = ap length content in
     let end : is_end (length x) offset (take 1024 (drop i cs)) ≡ nat_le (length cs) (i + 1024) = tells_end x i le in
     let row : Row x offset (drop i cs) = row_drop x 0 cs i (row_of x) le in

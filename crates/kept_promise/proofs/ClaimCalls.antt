@@ -64,7 +64,7 @@ none_counted [] e f = tt
 none_counted (Replies x ∷ us) e f = ((λ q. nothing_there f q), none_counted us e f)
 none_counted (Asks a ∷ us) e f = (by a.call refl, none_counted us (omega (arith, e)) f)
   where
-    by : (c : Call) → a.call ≡ c → stored_by (call_message a.xid c) ≡ Some f → ⊥
+    by : (c : Call) → a.call ≡ c → stored_by (call_message a.lbfs a.xid c) ≡ Some f → ⊥
     by (Commit temp file size) is q = let one = ap (λ (d : Call). change_number d) is in omega (arith, e, one)
     by (Lease g) is q = nothing_there f q
     by (Hash g o) is q = nothing_there f q
@@ -80,7 +80,7 @@ none_committed book closing cut j contents uncut apart [] h f = tt
 none_committed book closing cut j contents uncut apart (Replies x ∷ us) h f = ((λ q. nothing_there f q), none_committed book closing cut j contents uncut apart us h f)
 none_committed book closing cut j contents uncut apart (Asks a ∷ us) h f = (by a.call h.0, none_committed book closing cut j contents uncut apart us h.1 f)
   where
-    by : (c : Call) → CommitOf book closing cut j contents a.xid c → stored_by (call_message a.xid c) ≡ Some f → ⊥
+    by : (c : Call) → CommitOf book closing cut j contents a.xid c → stored_by (call_message a.lbfs a.xid c) ≡ Some f → ⊥
     by (Commit temp file size) is q = apart is.0.place file a.xid (is.0.waited uncut)
     by (Lease g) is q = nothing_there f q
     by (Hash g o) is q = nothing_there f q

@@ -340,7 +340,7 @@ module _ (v : Timed) (w : World) (times : Times) (rest : List Moment) where
       on_line v w (turn_of dir x) times rest to h.header (ap is_on is) (λ c ns k. subst (λ (z : Stage). IsAt z (timed_turn v (turn_of dir x, times)) c ns) (sym is) k) h.fresh h.reads h.moments then_ clock noted on
 
   stage_line : (s : Stage) → v.world.stage ≡ s → (x : Line) (dir : ℕ) → asks_at v.world s x ≡ asking (turn_of dir x) → times_with v.times (timing_of (owners_of v.world) x) ≡ taking times → StepsOn dir x s
-  stage_line stage.Version is line.Version dir a e to then_ clock noted h = ((then_ clock noted h).0, λ q. off stage.Version v.world.stage is refl q)
+  stage_line stage.Version is (line.Version b) dir a e to then_ clock noted h = ((then_ clock noted h).0, λ q. off stage.Version v.world.stage is refl q)
   stage_line stage.Term is (line.Term n) dir a e to then_ clock noted h =
       ((then_ clock noted (h.0, h.1, ap (λ (z : Times). z.term) (sym (times_are (record v.times { term = n }) times e)))).0, λ q. off stage.Term v.world.stage is refl q)
   stage_line stage.Drift is (line.Drift d) dir a e to then_ clock noted h =

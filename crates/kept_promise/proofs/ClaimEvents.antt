@@ -65,7 +65,7 @@ module _ (laws : FitLaws) (all past rest : List Moment) (opening : List Opening)
 
           kind : (v : Up) → m.ups ≡ v ∷ us → bytes ≡ message_spell (up_message v) → Claimed (noted ++ []) now (happens k (Serves n now bytes)).core after
           kind (Asks a) first is_bytes =
-              let fits = subst (λ (l : List Up). AllAsks (λ b. CallFits b.xid b.call) (asks_in l)) first (s.plain.kept.sessions n x.0 (queue_of m) x.1 (there_plain ms n m is)).ups_fit in
+              let fits = subst (λ (l : List Up). AllAsks (λ b. CallFits b.lbfs b.xid b.call) (asks_in l)) first (s.plain.kept.sessions n x.0 (queue_of m) x.1 (there_plain ms n m is)).ups_fit in
               ask_taken_claimed n now bytes s clock noted (noted ++ []) le (grows_to noted []) x.0 m a us x.1 is first mid_is up (serves_as (ask_message a) is_bytes (parsed_at laws k n a fits.0)) h
           kind (Replies xid) first is_bytes =
               let waited = subst (λ (l : List Up). AreAwaited k.server n (map up_message l) (downs_of m.downs)) first (h.talks n m is).awaited in

@@ -124,9 +124,9 @@ first_claimed tree h given = record {
     none_at zero m e = nothing_there m e
     none_at (suc n) m e = nothing_there m e
 
-    new_at : (i : ℕ) (seat : Seat) → numbered (first_core tree h).seats i ≡ Some seat → seat ≡ new_seat h.drift
+    new_at : (i : ℕ) (seat : Seat) → numbered (first_core tree h).seats i ≡ Some seat → seat ≡ new_seat h.drift h.lbfs
     new_at zero seat e = nothing_there seat e
-    new_at (suc i) seat e = of_replicate h.count (new_seat h.drift) i seat e
+    new_at (suc i) seat e = of_replicate h.count (new_seat h.drift h.lbfs) i seat e
 
 -- ---- the induction
 

@@ -50,7 +50,6 @@ use Rattle.kept_promise.proofs.ClaimCalls.{one_tail, none_committed, NotCommitti
 use Rattle.kept_promise.proofs.ClaimTold.{lease_promised, hash_promised}
 use Rattle.kept_promise.proofs.ClaimServer.{Dropped, awaited_dropped, ServerTurn, At, server_claimed}
 use Rattle.kept_promise.proofs.ClaimServed.{made_is, pairs_are, finish, none_told, promised_as, still_behind}
-use Rattle.wire.specs.declared.message.TheConstants.{LBFS_SPOKEN}
 
 -- ---- a message is taken off its way
 
@@ -174,15 +173,15 @@ hash_stage (stage.Rewriting y) a g x e is = nothing_there g e
 hash_stage (stage.Committing y) a g x e is = nothing_there g e
 hash_stage st a g x e is = nothing_there x is
 
-call_is : (xid : ℕ) (c : Call) → (b : Body) × (call_message xid c ≡ message.Call xid b)
-call_is xid (Lease f) = (_, refl)
-call_is xid (Hash f o) = (_, refl)
-call_is xid (Read f c) = (_, refl)
-call_is xid (Make temp f) = (_, refl)
-call_is xid (Name temp c) = (_, refl)
-call_is xid (Send temp start bytes) = (_, refl)
-call_is xid (Commit temp f size) = (_, refl)
-call_is xid (Walks w) = (_, refl)
+call_is : (lbfs xid : ℕ) (c : Call) → (b : Body) × (call_message lbfs xid c ≡ message.Call xid b)
+call_is lbfs xid (Lease f) = (_, refl)
+call_is lbfs xid (Hash f o) = (_, refl)
+call_is lbfs xid (Read f c) = (_, refl)
+call_is lbfs xid (Make temp f) = (_, refl)
+call_is lbfs xid (Name temp c) = (_, refl)
+call_is lbfs xid (Send temp start bytes) = (_, refl)
+call_is lbfs xid (Commit temp f size) = (_, refl)
+call_is lbfs xid (Walks w) = (_, refl)
 
 -- once it is known what the server did
 step_tails : (more : List Noted) (now : ℕ) (k l : Core) (i j : ℕ) (way : Way) (sent : ℕ) (u : Task) (ds : List Down) (r : server.State) → l.server ≡ r → l.drift ≡ k.drift → AllTails (IsPromised more now (record k { server = r }) i j way sent u) ds → AllTails (IsPromised more now l i j way sent u) ds
@@ -227,7 +226,7 @@ ask_taken_claimed {all = all} {opening = opening} {k = k} {ms = ms} n now bytes 
         by (suc j) e = omega arith
 
     moves : Moves k.server r
-    moves = let b = call_is a.xid a.call in subst (λ (z : Message). Moves k.server (server_step k.server (event.Got n z now))) (sym b.1) (call_moves k.server false n a.xid b.0 now)
+    moves = let b = call_is a.lbfs a.xid a.call in subst (λ (z : Message). Moves k.server (server_step k.server (event.Got n z now))) (sym b.1) (call_moves k.server false n a.xid b.0 now)
 
     promises : (sent : Sends t) (i : ℕ) (seat : Seat) (u : Task) (j : ℕ) (z : At k ms then_ t (mixes_after then_ t sent) j (downs_on j (sent_downs t sent))) → numbered k.seats i ≡ Some seat → seat.client.task ≡ Some u → seat.session ≡ Some j → z.x.cut ≡ false
         → AllTails (IsPromised more now t.core i j (way_of z.y z.p) seat.client.sent u) (downs_on j (sent_downs t sent))
@@ -239,10 +238,10 @@ ask_taken_claimed {all = all} {opening = opening} {k = k} {ms = ms} n now bytes 
         sent_as : (q : server.State × ServerStep) → r ≡ q → downs_of ds ≡ sent_on j q.1.send
         sent_as q e = sent_is t sent j ∙ ap (λ (w : server.State × ServerStep). sent_on j w.1.send) e
 
-        untold_ : (c : Call) → a.call ≡ c → IsLeaseless (call_is a.xid c).0 → AllTails (IsPromised more now t.core i j (way_of z.y z.p) seat.client.sent u) ds
+        untold_ : (c : Call) → a.call ≡ c → IsLeaseless (call_is a.lbfs a.xid c).0 → AllTails (IsPromised more now t.core i j (way_of z.y z.p) seat.client.sent u) ds
         untold_ c e none =
-            let b = call_is a.xid c in
-            let eq : ask_message a ≡ message.Call a.xid b.0 = ap (call_message a.xid) e ∙ b.1 in
+            let b = call_is a.lbfs a.xid c in
+            let eq : ask_message a ≡ message.Call a.xid b.0 = ap (call_message a.lbfs a.xid) e ∙ b.1 in
             let q : server.State × ServerStep = server_step k.server (event.Got n (message.Call a.xid b.0) now) in
             none_told more now t.core i j (way_of z.y z.p) seat.client.sent u ds (sent_on j q.1.send) (sent_as q (ap (λ (w : Message). server_step k.server (event.Got n w now)) eq)) (on_grantless j q.1.send (call_grantless k.server n a.xid b.0 now none))
 
@@ -278,8 +277,8 @@ ask_taken_claimed {all = all} {opening = opening} {k = k} {ms = ms} n now bytes 
             let all_ = subst (λ (l : List Up). AllAsks (IsAsked (job o.session.seat)) (asks_in l)) first talk.asked in
             subst (λ (q : Seat). CallOf (job q) a.xid c) o.seat_is (subst (λ (d : Call). CallOf (job o.session.seat) a.xid d) e all_.0)
 
-        fits_ : (same : j ≡ n) → (c : Call) → a.call ≡ c → CallFits a.xid c
-        fits_ same c e = let all_ = subst (λ (l : List Up). AllAsks (λ b. CallFits b.xid b.call) (asks_in l)) first (own_ same).session.ups_fit in subst (CallFits a.xid) e all_.0
+        fits_ : (same : j ≡ n) → (c : Call) → a.call ≡ c → CallFits a.lbfs a.xid c
+        fits_ same c e = let all_ = subst (λ (l : List Up). AllAsks (λ b. CallFits b.lbfs b.xid b.call) (asks_in l)) first (own_ same).session.ups_fit in subst (CallFits a.lbfs a.xid) e all_.0
 
         lease_case : (f : ℕ) → a.call ≡ Lease f → AllTails (IsPromised more now t.core i j (way_of z.y z.p) seat.client.sent u) ds
         lease_case f e = split (same_or_not j n)
@@ -288,7 +287,7 @@ ask_taken_claimed {all = all} {opening = opening} {k = k} {ms = ms} n now bytes 
             q = tells_lease (at k.server now) n a.xid (node_of k.server.tree (handle_bytes f))
 
             eq : r ≡ q
-            eq = ap (λ (c : Call). server_step k.server (event.Got n (call_message a.xid c) now)) e ∙ ap (λ (b : Bool). got_if_under k.server false b n (call_message a.xid (Lease f)) now) up
+            eq = ap (λ (c : Call). server_step k.server (event.Got n (call_message a.lbfs a.xid c) now)) e ∙ ap (λ (b : Bool). got_if_under k.server false b n (call_message a.lbfs a.xid (Lease f)) now) up
 
             split : (j ≡ n) ⊎ (j ≡ n → ⊥) → AllTails (IsPromised more now t.core i j (way_of z.y z.p) seat.client.sent u) ds
             split (inr apart) = none_told more now t.core i j (way_of z.y z.p) seat.client.sent u ds [] (sent_as q eq ∙ elsewhere n j _ apart) tt
@@ -315,13 +314,13 @@ ask_taken_claimed {all = all} {opening = opening} {k = k} {ms = ms} n now bytes 
         hash_case f o e = split (same_or_not j n)
           where
             range : HashRange
-            range = record { lbfs = LBFS_SPOKEN; handle = handle_bytes f; offset = o; count = 4294967295 }
+            range = record { lbfs = a.lbfs; handle = handle_bytes f; offset = o; count = 4294967295 }
 
             q : server.State × ServerStep
             q = tells_hashes (at k.server now) n a.xid range (node_of k.server.tree (handle_bytes f))
 
             eq : r ≡ q
-            eq = ap (λ (c : Call). server_step k.server (event.Got n (call_message a.xid c) now)) e ∙ ap (λ (b : Bool). got_if_under k.server false b n (call_message a.xid (Hash f o)) now) up
+            eq = ap (λ (c : Call). server_step k.server (event.Got n (call_message a.lbfs a.xid c) now)) e ∙ ap (λ (b : Bool). got_if_under k.server false b n (call_message a.lbfs a.xid (Hash f o)) now) up
 
             split : (j ≡ n) ⊎ (j ≡ n → ⊥) → AllTails (IsPromised more now t.core i j (way_of z.y z.p) seat.client.sent u) ds
             split (inr apart) = none_told more now t.core i j (way_of z.y z.p) seat.client.sent u ds [] (sent_as q eq ∙ elsewhere n j _ apart) tt

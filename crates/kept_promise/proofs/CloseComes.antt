@@ -49,39 +49,39 @@ named_front v ms ns b h = subst (λ (l : List (List ℕ)). Contains l b) (sym (j
     joined (m ∷ ms) = ap (λ l. part_of_named v m ++ l) (joined ms) ∙ sym (append_assoc (part_of_named v m) (parts_named v ms) (parts_named v ns))
 
 pub comes_on : (book : Book) (k : Core) (qs : List Queue) (n : ℕ) (x : Session) (q : Queue) (t : Told) (ts : List Told) (j : Job) (g : Here book k qs n x q t ts j) (st : Store) → j.file < 18446744073709551616 → Ready book k qs n x q t ts j g st → Filled book k qs n x q t ts j g q.ups st → Makes book k qs n x q t ts j g (goes_on (idle (client_at book k qs n x q t ts j g)) j.file (local_of g) st)
-comes_on book k qs n x q t ts j g st fits w filled = by (is_stored (named st (client_at book k qs n x q t ts j g).next_xid).store) refl
+comes_on book k qs n x q t ts j g st fits w filled = by (is_stored (named (client_at book k qs n x q t ts j g).lbfs st (client_at book k qs n x q t ts j g).next_xid).store) refl
   where
-    by : (b : Bool) → is_stored (named st (client_at book k qs n x q t ts j g).next_xid).store ≡ b → Makes book k qs n x q t ts j g (goes_if (idle (client_at book k qs n x q t ts j g)) j.file (local_of g) (named st (client_at book k qs n x q t ts j g).next_xid) b)
+    by : (b : Bool) → is_stored (named (client_at book k qs n x q t ts j g).lbfs st (client_at book k qs n x q t ts j g).next_xid).store ≡ b → Makes book k qs n x q t ts j g (goes_if (idle (client_at book k qs n x q t ts j g)) j.file (local_of g) (named (client_at book k qs n x q t ts j g).lbfs st (client_at book k qs n x q t ts j g).next_xid) b)
     by true e noted =
         let c = client_at book k qs n x q t ts j g in
         inl (record {
-          to = stage.Committing (named st c.next_xid).next_xid;
-          next = (named st c.next_xid).next_xid + 1;
+          to = stage.Committing (named c.lbfs st c.next_xid).next_xid;
+          next = (named c.lbfs st c.next_xid).next_xid + 1;
           forgotten = c.forgotten;
           cache = without_note (reserved c.cache j.file) j.file;
           index = c.index;
           sent = c.clock;
-          asks = committing st c.next_xid j.file (length (local_of g));
-          shows = goes_committing book k qs n x q t ts j g st fits w filled (λ b h. noted b (named_front (local_of g) (named st c.next_xid).send _ b h)) e;
+          asks = committing c.lbfs st c.next_xid j.file (length (local_of g));
+          shows = goes_committing book k qs n x q t ts j g st fits w filled (λ b h. noted b (named_front (local_of g) (named c.lbfs st c.next_xid).send _ b h)) e;
           cached = cached_unnoted book (reserved c.cache j.file) j.file (cached_reserved book c.cache j.file (seat_kept g));
           state_is = refl;
-          send_is = committing_sent st c.next_xid j.file (length (local_of g));
+          send_is = committing_sent c.lbfs st c.next_xid j.file (length (local_of g));
           ended_is = refl;
         })
     by false e noted =
         let c = client_at book k qs n x q t ts j g in
         inl (record {
-          to = stage.Storing (named st c.next_xid).store;
-          next = (named st c.next_xid).next_xid;
+          to = stage.Storing (named c.lbfs st c.next_xid).store;
+          next = (named c.lbfs st c.next_xid).next_xid;
           forgotten = c.forgotten;
           cache = c.cache;
           index = c.index;
           sent = c.sent;
-          asks = naming st c.next_xid;
+          asks = naming c.lbfs st c.next_xid;
           shows = goes_storing book k qs n x q t ts j g st w filled noted e;
           cached = seat_kept g;
           state_is = refl;
-          send_is = naming_sent st c.next_xid;
+          send_is = naming_sent c.lbfs st c.next_xid;
           ended_is = refl;
         })
 
@@ -185,7 +185,7 @@ comes_named book k qs n x q t ts j g st u a fits waits found by_name same is = b
           cache = s.cache;
           index = s.index;
           sent = s.sent;
-          asks = sending (answered st t.xid) s.next_xid (local_of g) c;
+          asks = sending s.lbfs (answered st t.xid) s.next_xid (local_of g) c;
           shows = goes_whole book k qs n x q t ts j g (answered st t.xid) u c ready inside at (filled_named book k qs n x q t ts j g st u c waits found by_name none) (ready_named book k qs n x q t ts j g st u waits found by_name);
           cached = seat_kept g;
           state_is = refl;

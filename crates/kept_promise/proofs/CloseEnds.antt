@@ -143,7 +143,7 @@ module _ (book : Book) (k : Core) (qs : List Queue) (n : ℕ) (x : Session) (q :
 
       key_same : (a : Ask) (v : Walk) → a.call ≡ Walks v → stage.Walking t.xid w ≡ stage.Walking a.xid v → ask_key a ≡ told_key t
       key_same a v e s =
-          ap (λ (c : Call). ask_key (record { xid = a.xid; call = c })) e
+          ap (λ (c : Call). ask_key (record { lbfs = a.lbfs; xid = a.xid; call = c })) e
           ∙ ap (λ (y : ℕ). key y (program.Nfs (nfs_proc (next_call v)))) (sym (xid_is a.xid v s))
           ∙ ap (λ (z : Walk). key t.xid (program.Nfs (nfs_proc (next_call z)))) (sym (walk_is a.xid v s))
           ∙ ap (key t.xid) answers
@@ -163,7 +163,7 @@ pub quiet_after : (book : Book) (k : Core) (qs : List Queue) (n : ℕ) (x : Sess
 quiet_after book k qs n x q t ts j g answers waits =
     let h = session_at book k qs n x q t ts j g in
     record {
-      ups = commits_apart book x.closing x.cut (job h.seat) j h.contents q.ups g.uncut g.job_is (λ i a temp file size at e s. twice_up book k qs n x q t ts j g i a at (ap (λ (c : Call). ask_key (record { xid = a.xid; call = c })) e ∙ commit_key t a.xid answers (xid_is a.xid s)), λ i a w at e s. not_committing a.xid w (sym waits ∙ s)) h.commits;
+      ups = commits_apart book x.closing x.cut (job h.seat) j h.contents q.ups g.uncut g.job_is (λ i a temp file size at e s. twice_up book k qs n x q t ts j g i a at (ap (λ (c : Call). ask_key (record { lbfs = a.lbfs; xid = a.xid; call = c })) e ∙ commit_key t a.xid answers (xid_is a.xid s)), λ i a w at e s. not_committing a.xid w (sym waits ∙ s)) h.commits;
       waiting = waiting_apart book x.closing x.cut (job h.seat) j (own n k.server.waiting) g.uncut g.job_is (λ i d content at e s. twice_there book k qs n x q t ts j g i d at (ap (λ (z : Wanted). key d.xid (wanted_program z)) e ∙ commit_key t d.xid answers (xid_is d.xid s)), λ i d a w at e f s. not_committing d.xid w (sym waits ∙ s)) h.pending;
     }
   where

@@ -29,7 +29,7 @@ no_down book k qs n x q t ts j g z = let h = session_at book k qs n x q t ts j g
 
 pub filled_made : (book : Book) (k : Core) (qs : List Queue) (n : ℕ) (x : Session) (q : Queue) (t : Told) (ts : List Told) (j : Job) (g : Here book k qs n x q t ts j) (temp : ℕ) → j.stage ≡ stage.Making t.xid temp → (u : Unit {0}) → t.reply ≡ Made (Done u) → Filled book k qs n x q t ts j g q.ups (store_of temp (local_of g))
 filled_made book k qs n x q t ts j g temp waits u done up =
-    let f = (held_now book k qs n x q t ts j g (stage.Making t.xid temp) waits up).1 (λ (u : UpMake q.ups t.xid). no_up book k qs n x q t ts j g u.0 (record { xid = t.xid; call = Make u.1 u.2 }) u.3 refl) refused in
+    let f = (held_now book k qs n x q t ts j g (stage.Making t.xid temp) waits up).1 (λ (u : UpMake q.ups t.xid). no_up book k qs n x q t ts j g u.0 (record { lbfs = u.3; xid = t.xid; call = Make u.1 u.2 }) u.4 refl) refused in
     (f.0, f.1, subst (Holds (local_of g) q.ups ts (store_of temp (local_of g))) (sym f.2) (holds_first (local_of g) q.ups ts temp))
   where
     apart : (s : Status) (v : Unit {0}) → ◌≡◌ {A = Reply} (Made (Done u)) (Made (Failed s v)) → ⊥
@@ -49,14 +49,14 @@ pub filled_answered : (book : Book) (k : Core) (qs : List Queue) (n : ℕ) (x : 
 filled_answered book k qs n x q t ts j g st u waits found whole none up =
     let f = held_now book k qs n x q t ts j g (stage.Storing st) waits up in
     let s = stored_at book k qs n x q t ts j g st u way.Whole waits found whole in
-    (f.0, f.1, holds_answered (local_of g) q.ups ts st f.0.pieces t.xid s.place u s.there s.same whole (λ i w at e. alone (local_of g) st t.xid u s i w at e) (λ (z : UpSend q.ups t.xid). no_up book k qs n x q t ts j g z.0 (record { xid = t.xid; call = Send z.1 z.2 z.3 }) z.4 refl) (holds_heard (local_of g) q.ups t ts st f.0.pieces none f.2))
+    (f.0, f.1, holds_answered (local_of g) q.ups ts st f.0.pieces t.xid s.place u s.there s.same whole (λ i w at e. alone (local_of g) st t.xid u s i w at e) (λ (z : UpSend q.ups t.xid). no_up book k qs n x q t ts j g z.0 (record { lbfs = z.4; xid = t.xid; call = Send z.1 z.2 z.3 }) z.5 refl) (holds_heard (local_of g) q.ups t ts st f.0.pieces none f.2))
 
 pub filled_named : (book : Book) (k : Core) (qs : List Queue) (n : ℕ) (x : Session) (q : Queue) (t : Told) (ts : List Told) (j : Job) (g : Here book k qs n x q t ts j) (st : Store) (u : StoreCall) (c : Chunk) → j.stage ≡ stage.Storing st → store_at st.under t.xid ≡ Some u → u.way ≡ way.Named → TellsNone t.reply
-    → Filled book k qs n x q t ts j g (q.ups ++ sending (answered st t.xid) (seat_at g).client.next_xid (local_of g) c) (with_whole (answered st t.xid) u (seat_at g).client.next_xid)
+    → Filled book k qs n x q t ts j g (q.ups ++ sending (seat_at g).client.lbfs (answered st t.xid) (seat_at g).client.next_xid (local_of g) c) (with_whole (answered st t.xid) u (seat_at g).client.next_xid)
 filled_named book k qs n x q t ts j g st u c waits found by_name none up =
     let f = held_now book k qs n x q t ts j g (stage.Storing st) waits up in
     let s = stored_at book k qs n x q t ts j g st u way.Named waits found by_name in
-    (f.0, f.1, holds_whole (local_of g) q.ups ts st f.0.pieces t.xid s.place (seat_at g).client.next_xid st.temp c.start (chunk_bytes (local_of g) c) u s.there s.same by_name (λ i w at e. alone (local_of g) st t.xid u s i w at e) (λ i w at. store_older book k qs n x q t ts j g st i w waits at) (no_down book k qs n x q t ts j g) (holds_heard (local_of g) q.ups t ts st f.0.pieces none f.2))
+    (f.0, f.1, holds_whole (local_of g) q.ups ts st f.0.pieces t.xid s.place (seat_at g).client.lbfs (seat_at g).client.next_xid st.temp c.start (chunk_bytes (local_of g) c) u s.there s.same by_name (λ i w at e. alone (local_of g) st t.xid u s i w at e) (λ i w at. store_older book k qs n x q t ts j g st i w waits at) (no_down book k qs n x q t ts j g) (holds_heard (local_of g) q.ups t ts st f.0.pieces none f.2))
 
 -- the server knew the chunk
 pub filled_known : (book : Book) (k : Core) (qs : List Queue) (n : ℕ) (x : Session) (q : Queue) (t : Told) (ts : List Told) (j : Job) (g : Here book k qs n x q t ts j) (st : Store) (u : StoreCall) → j.stage ≡ stage.Storing st → store_at st.under t.xid ≡ Some u → u.way ≡ way.Named → t.reply ≡ known_reply → Filled book k qs n x q t ts j g q.ups (answered st t.xid)

@@ -9,7 +9,7 @@ use Rattle.client_state.specs.declared.task.Stage.TheVariants as stage
 use Rattle.client_state.specs.declared.task.Way.TheVariants as way
 use Rattle.register_model.specs.declared.op.Word.TheVariants as words
 use Rattle.kept_promise.proofs.Common.{nat_tests, slice_get, not, cond, ◌==◌, ◌&&◌, nat_le, chunks_of, chunk_bytes, Chunk, Pending, Program, Temp, store_pending, without_call, names_from, names_all, store_of, is_stored, store_at, without_store, answered, with_whole, commit_call, calls_most, is_none, Names, Stage, Store, StoreCall, Task, Way, Op, Contains, Contains-append_left, Contains-append_right, Contains-push, Message, call_message, hashed_of, Core, Seat, Session, Book, unless, Call, Call.Name, Call.Send, Call.Commit, Ask, Told, Queue, ask_message, reply_program}
-use Rattle.kept_promise.proofs.Statements.{CallFits, AreInRow, PiecesOf, SameShape}
+use Rattle.kept_promise.proofs.Statements.{IsSpoken, CallFits, AreInRow, PiecesOf, SameShape}
 use Rattle.kept_promise.proofs.Lists.{some_is, nothing_there, of_appended, at_end, there_at, false_and_true, all_append, all_at, all_in, all_map, all_unless}
 use Rattle.kept_promise.proofs.Keys.{times, times_append, there_by}
 use Rattle.kept_promise.proofs.Messages.{Job, job, stage_word, AllAsks, AllTolds, IsAsked, IsCommit, IsNamed, PieceOf, IsPiece, TempUnder, IsOwed, IsStoring, CloseOf}
@@ -20,7 +20,7 @@ use Rattle.kept_promise.proofs.Heard.{ask_pending, told_pending, change_once, co
 use Rattle.kept_promise.proofs.Moves.{without_moves}
 use Rattle.kept_promise.proofs.StepCases.{some_call}
 use Rattle.kept_promise.proofs.Naming.{Ran, names_run, named_rising, named_bound, named_all, named_count, named_inside, named_times, named_note, named_commits}
-use Rattle.kept_promise.proofs.Steps.{tolds_below, Again, Here, session_at, Quiet, on, job_op, GoesOn, GoesInOrder, close_unnamed}
+use Rattle.kept_promise.proofs.Steps.{speaks_at, spoken_at, tolds_below, Again, Here, session_at, Quiet, on, job_op, GoesOn, GoesInOrder, close_unnamed}
 use Rattle.kept_promise.proofs.Shelf.{OneTemp}
 use Rattle.kept_promise.proofs.Orderly.{IsStore, locals_of, InPlace, IsInPlace, IsWanted, UpCommit, DownKnown, known_reply, Holds, HeldIn}
 use Rattle.kept_promise.proofs.Ordered.{IsFetching, IsFetched, AllFetching, AllFetched, fetching_place, fetched_wanted}
@@ -139,11 +139,11 @@ pendings_both (u ∷ us) vs = ap (λ l. store_pending u ∷ l) (pendings_both us
 -- ---- chunks are named
 
 -- the CONDWRITEs
-naming_fits : (content : List ℕ) (temp : ℕ) (xid i : ℕ) (c : Chunk) → length content ≤ 67108864 → temp < 4294967296 → xid < 4294967296 → slice_get (chunks_of content) i ≡ Some c → CallFits xid (Name temp c)
-naming_fits content temp xid i c short t less at =
+naming_fits : (lbfs : ℕ) → IsSpoken lbfs → (content : List ℕ) (temp : ℕ) (xid i : ℕ) (c : Chunk) → length content ≤ 67108864 → temp < 4294967296 → xid < 4294967296 → slice_get (chunks_of content) i ≡ Some c → CallFits lbfs xid (Name temp c)
+naming_fits lbfs spoken content temp xid i c short t less at =
     let named = chunks_are_named content i c at in
     let whole = named.2 in
-    (less, t, omega (arith, whole, short), len_at (chunks_of content) 0 (length content) i (chunks_in_row content) at, ap length named.0 ∙ sha1_len (chunk_bytes content c))
+    (less, t, omega (arith, whole, short), len_at (chunks_of content) 0 (length content) i (chunks_in_row content) at, ap length named.0 ∙ sha1_len (chunk_bytes content c), spoken)
   where
     len_at : (cs : List Chunk) (from to i : ℕ) → AreInRow from cs to → slice_get cs i ≡ Some c → c.len ≤ 65536
     len_at [] from to i r e = nothing_there c e
@@ -151,18 +151,18 @@ naming_fits content temp xid i c short t less at =
     len_at (d ∷ ds) from to (suc i) r e = len_at ds (d.start + d.len) to i r.3 e
 
 -- what the chunks that are named make of it
-abbrev pub named : Store → (next : ℕ) → Names
-named st next = names_all st next
+abbrev pub named : (lbfs : ℕ) → Store → (next : ℕ) → Names
+named lbfs st next = names_all lbfs st next
 
-abbrev pub run_of : (st : Store) (next : ℕ) → Ran (names_from st next) (calls_most - length st.under) (named st next)
-run_of st next = names_run (calls_most - length st.under) (names_from st next)
+abbrev pub run_of : (lbfs : ℕ) (st : Store) (next : ℕ) → Ran lbfs (names_from st next) (calls_most - length st.under) (named lbfs st next)
+run_of lbfs st next = names_run lbfs (calls_most - length st.under) (names_from st next)
 
 -- the calls that name them
-abbrev pub naming : (st : Store) (next : ℕ) → List Ask
-naming st next = (run_of st next).asks
+abbrev pub naming : (lbfs : ℕ) (st : Store) (next : ℕ) → List Ask
+naming lbfs st next = (run_of lbfs st next).asks
 
-pub naming_sent : (st : Store) (next : ℕ) → (named st next).send ≡ map ask_message (naming st next)
-naming_sent st next = (run_of st next).send_is
+pub naming_sent : (lbfs : ℕ) (st : Store) (next : ℕ) → (named lbfs st next).send ≡ map ask_message (naming lbfs st next)
+naming_sent lbfs st next = (run_of lbfs st next).send_is
 
 -- ---- chunks that are named are noted
 
@@ -173,21 +173,21 @@ NamesNoted {book} {k} {qs} {n} {x} {q} {t} {ts} {j} g ms = (b : List ℕ) → Co
 part_named : (v : List ℕ) (us : List Ask) (m temp : ℕ) (a : Ask) (c : Chunk) → slice_get us m ≡ Some a → a.call ≡ Name temp c → Contains (parts_named v (map ask_message us)) (chunk_bytes v c)
 part_named v [] m temp a c at e = nothing_there a at
 part_named v (u ∷ us) (suc m) temp a c at e = Contains-append_right (part_of_named v (ask_message u)) (parts_named v (map ask_message us)) (chunk_bytes v c) (part_named v us m temp a c at e)
-part_named v (u ∷ us) zero temp a c at e = subst (λ (d : Call). Contains (part_of_named v (call_message u.xid d) ++ parts_named v (map ask_message us)) (chunk_bytes v c)) (sym (ap (λ (z : Ask). z.call) (some_is u a at) ∙ e)) (Contains-append_left (chunk_bytes v c ∷ []) (parts_named v (map ask_message us)) (chunk_bytes v c) (Contains-push [] (chunk_bytes v c)))
+part_named v (u ∷ us) zero temp a c at e = subst (λ (d : Call). Contains (part_of_named v (call_message u.lbfs u.xid d) ++ parts_named v (map ask_message us)) (chunk_bytes v c)) (sym (ap (λ (z : Ask). z.call) (some_is u a at) ∙ e)) (Contains-append_left (chunk_bytes v c ∷ []) (parts_named v (map ask_message us)) (chunk_bytes v c) (Contains-push [] (chunk_bytes v c)))
 
 -- so each CONDWRITE is of a part that was hashed
-names_pieces : (book : Book) (k : Core) (qs : List Queue) (n : ℕ) (x : Session) (q : Queue) (t : Told) (ts : List Told) (j : Job) (g : Here book k qs n x q t ts j) (st : Store) → Ready book k qs n x q t ts j g st → NamesNoted g (named st (seat_at g).client.next_xid).send → AllAsks (IsPiece (hashed_of book.moments) (contents_at g)) (naming st (seat_at g).client.next_xid)
+names_pieces : (book : Book) (k : Core) (qs : List Queue) (n : ℕ) (x : Session) (q : Queue) (t : Told) (ts : List Told) (j : Job) (g : Here book k qs n x q t ts j) (st : Store) → Ready book k qs n x q t ts j g st → NamesNoted g (named (seat_at g).client.lbfs st (seat_at g).client.next_xid).send → AllAsks (IsPiece (hashed_of book.moments) (contents_at g)) (naming (seat_at g).client.lbfs st (seat_at g).client.next_xid)
 names_pieces book k qs n x q t ts j g st w noted = all_at (IsPiece (hashed_of book.moments) (contents_at g)) r.asks one
   where
-    r : Ran (names_from st (seat_at g).client.next_xid) (calls_most - length st.under) (named st (seat_at g).client.next_xid)
-    r = run_of st (seat_at g).client.next_xid
+    r : Ran (seat_at g).client.lbfs (names_from st (seat_at g).client.next_xid) (calls_most - length st.under) (named (seat_at g).client.lbfs st (seat_at g).client.next_xid)
+    r = run_of (seat_at g).client.lbfs st (seat_at g).client.next_xid
 
     one : (m : ℕ) (a : Ask) → slice_get r.asks m ≡ Some a → IsPiece (hashed_of book.moments) (contents_at g) a
     one m a at =
-        let h = name_noted st.temp st.chunks (seat_at g).client.next_xid st.named r.notes r.asks (named st (seat_at g).client.next_xid).next_xid m a r.named at in
+        let h = name_noted (seat_at g).client.lbfs st.temp st.chunks (seat_at g).client.next_xid st.named r.notes r.asks (named (seat_at g).client.lbfs st (seat_at g).client.next_xid).next_xid m a r.named at in
         let call : a.call ≡ Name st.temp h.1 = ap (λ (z : Ask). z.call) h.5 in
         let is = chunks_are_named (local_of g) h.0.index h.1 (ap (λ (l : List Chunk). slice_get l h.0.index) (sym w.storing.chunks) ∙ h.4) in
-        let own : IsNamed (hashed_of book.moments) (local_of g) h.1 = record { digest = is.0; len = is.1; there = noted (chunk_bytes (local_of g) h.1) (subst (λ (l : List Message). Contains (parts_named (local_of g) l) (chunk_bytes (local_of g) h.1)) (sym (naming_sent st (seat_at g).client.next_xid)) (part_named (local_of g) r.asks m st.temp a h.1 at call)) } in
+        let own : IsNamed (hashed_of book.moments) (local_of g) h.1 = record { digest = is.0; len = is.1; there = noted (chunk_bytes (local_of g) h.1) (subst (λ (l : List Message). Contains (parts_named (local_of g) l) (chunk_bytes (local_of g) h.1)) (sym (naming_sent (seat_at g).client.lbfs st (seat_at g).client.next_xid)) (part_named (local_of g) r.asks m st.temp a h.1 at call)) } in
         subst (PieceOf (hashed_of book.moments) (contents_at g)) (sym call) (subst (λ (l : List ℕ). IsNamed (hashed_of book.moments) l h.1) (sym w.content) own)
 
 -- the answers that are on their way are to calls that were sent
@@ -231,15 +231,15 @@ idle_is_stored n st notes is some le off = by st.under notes refl refl
 
 pub goes_storing : (book : Book) (k : Core) (qs : List Queue) (n : ℕ) (x : Session) (q : Queue) (t : Told) (ts : List Told) (j : Job) (g : Here book k qs n x q t ts j) (st : Store) → Ready book k qs n x q t ts j g st
     → (let c = (seat_at g).client in
-    Filled book k qs n x q t ts j g q.ups st → NamesNoted g (named st c.next_xid).send → is_stored (named st c.next_xid).store ≡ false → GoesOn book k qs n x q t ts j g (stage.Storing (named st c.next_xid).store) (named st c.next_xid).next_xid c.forgotten (naming st c.next_xid))
+    Filled book k qs n x q t ts j g q.ups st → NamesNoted g (named c.lbfs st c.next_xid).send → is_stored (named c.lbfs st c.next_xid).store ≡ false → GoesOn book k qs n x q t ts j g (stage.Storing (named c.lbfs st c.next_xid).store) (named c.lbfs st c.next_xid).next_xid c.forgotten (naming c.lbfs st c.next_xid))
 goes_storing book k qs n x q t ts j g st w filled noted off =
     let h = session_at book k qs n x q t ts j g in
     let c = h.seat.client in
-    let r = run_of st c.next_xid in
-    let more = named st c.next_xid in
+    let r = run_of c.lbfs st c.next_xid in
+    let more = named c.lbfs st c.next_xid in
     let seat_was = g.kept.seats x.owner h.seat h.owner in
-    let counts = named_count st.temp st.chunks c.next_xid st.named r.notes r.asks more.next_xid r.named in
-    let inside = named_inside st.temp st.chunks c.next_xid st.named r.notes r.asks more.next_xid w.storing.named r.named in
+    let counts = named_count c.lbfs st.temp st.chunks c.next_xid st.named r.notes r.asks more.next_xid r.named in
+    let inside = named_inside c.lbfs st.temp st.chunks c.next_xid st.named r.notes r.asks more.next_xid w.storing.named r.named in
     let few = ap (λ (l : List Chunk). length l) w.storing.chunks in
     let short = subst (λ (l : List ℕ). length l ≤ 67108864) w.content (h.lengths st.temp) in
     let most = chunks_few (local_of g) short in
@@ -258,40 +258,41 @@ goes_storing book k qs n x q t ts j g st w filled noted off =
           let a = ap (λ (z : Store). times y (map f (map store_pending z.under ++ c.forgotten))) r.store_is in
           let b = times_map_append f y (map store_pending (st.under ++ r.notes)) c.forgotten in
           let d = pend_both f y st.under r.notes in
-          let e = named_times f y st.temp st.chunks c.next_xid st.named r.notes r.asks more.next_xid r.named in
+          let e = named_times f y c.lbfs st.temp st.chunks c.next_xid st.named r.notes r.asks more.next_xid r.named in
           let p = w.pend f y in
           omega (arith, a, b, d, e, p);
-      rising = named_rising st.temp st.chunks c.next_xid st.named r.notes r.asks more.next_xid r.named;
-      asked = named_all (IsAsked (Some (on j (stage.Storing more.store)))) st.temp st.chunks c.next_xid st.named r.notes r.asks more.next_xid (λ z i d at le lt. tt) r.named;
-      fits = named_all (λ a. CallFits a.xid a.call) st.temp st.chunks c.next_xid st.named r.notes r.asks more.next_xid (λ z i d at le lt. naming_fits (local_of g) st.temp z i d short (omega (arith, temp_less, next_ok, all_ok)) (omega (arith, lt, one, two, three, room, inside, few, most)) (ap (λ (l : List Chunk). slice_get l i) (sym w.storing.chunks) ∙ at)) r.named;
-      commits = named_all (IsCommit book x.closing x.cut (Some (on j (stage.Storing more.store))) h.contents) st.temp st.chunks c.next_xid st.named r.notes r.asks more.next_xid (λ z i d at le lt. tt) r.named;
+      rising = named_rising c.lbfs st.temp st.chunks c.next_xid st.named r.notes r.asks more.next_xid r.named;
+      asked = named_all (IsAsked (Some (on j (stage.Storing more.store)))) c.lbfs st.temp st.chunks c.next_xid st.named r.notes r.asks more.next_xid (λ z i d at le lt. tt) r.named;
+      fits = named_all (λ a. CallFits a.lbfs a.xid a.call) c.lbfs st.temp st.chunks c.next_xid st.named r.notes r.asks more.next_xid (λ z i d at le lt. naming_fits c.lbfs (spoken_at book k qs n x q t ts j g) (local_of g) st.temp z i d short (omega (arith, temp_less, next_ok, all_ok)) (omega (arith, lt, one, two, three, room, inside, few, most)) (ap (λ (l : List Chunk). slice_get l i) (sym w.storing.chunks) ∙ at)) r.named;
+      speak = named_all (λ a. a.lbfs ≡ book.lbfs) c.lbfs st.temp st.chunks c.next_xid st.named r.notes r.asks more.next_xid (λ z i d at le lt. speaks_at book k qs n x q t ts j g) r.named;
+      commits = named_all (IsCommit book x.closing x.cut (Some (on j (stage.Storing more.store))) h.contents) c.lbfs st.temp st.chunks c.next_xid st.named r.notes r.asks more.next_xid (λ z i d at le lt. tt) r.named;
       pieces = names_pieces book k qs n x q t ts j g st w noted;
-      under = named_all (λ a. TempUnder c.next_temp a.call) st.temp st.chunks c.next_xid st.named r.notes r.asks more.next_xid (λ z i d at le lt. w.temp) r.named;
-      few = let z = named_commits st.temp st.chunks c.next_xid st.named r.notes r.asks more.next_xid r.named in omega (arith, z);
+      under = named_all (λ a. TempUnder c.next_temp a.call) c.lbfs st.temp st.chunks c.next_xid st.named r.notes r.asks more.next_xid (λ z i d at le lt. w.temp) r.named;
+      few = let z = named_commits c.lbfs st.temp st.chunks c.next_xid st.named r.notes r.asks more.next_xid r.named in omega (arith, z);
       fetch = tt;
       busy = subst (λ m. 0 < m) (sym (map_count more.store.under)) (idle_is_stored more st r.notes r.store_is (λ lt d at. r.some (omega (arith, lt)) d at) inside off);
-      closes = subst (λ (z : Store). CloseOf book x.closing h.contents c.next_temp (on j (stage.Storing more.store)) (local_of g) (stage.Storing z)) (sym r.store_is) (owed_on w.owed, w.content, w.temp, record { chunks = w.storing.chunks; named = inside; inside = λ m u at. elim (of_both st.under r.notes m u at) [ inl old ↦ let lt = w.storing.inside old.0 u old.1 in omega (arith, lt) | inr new ↦ named_note st.temp st.chunks c.next_xid st.named r.notes r.asks more.next_xid new.0 u r.named new.1 ] });
+      closes = subst (λ (z : Store). CloseOf book x.closing h.contents c.next_temp (on j (stage.Storing more.store)) (local_of g) (stage.Storing z)) (sym r.store_is) (owed_on w.owed, w.content, w.temp, record { chunks = w.storing.chunks; named = inside; inside = λ m u at. elim (of_both st.under r.notes m u at) [ inl old ↦ let lt = w.storing.inside old.0 u old.1 in omega (arith, lt) | inr new ↦ named_note c.lbfs st.temp st.chunks c.next_xid st.named r.notes r.asks more.next_xid new.0 u r.named new.1 ] });
       trying = λ m y e. absurd cc;
       xids = subst (λ (z : Store). HasXids more.next_xid (stage.Storing z)) (sym r.store_is) (omega (arith, one, two, three, room));
       bounded = omega (arith, one, two, three, room, inside, few, most);
       orderly = subst (λ (z : Store). GoesInOrder book k qs n x q t ts j g (stage.Storing z) more.next_xid c.forgotten r.asks) (sym r.store_is) (λ cache index reading. record {
-        asks = all_unless (IsInPlace (Some (on j (stage.Storing after))) (locals_of c)) x.hung q.ups r.asks stays.0 (all_at (IsInPlace (Some (on j (stage.Storing after))) (locals_of c)) r.asks (λ i a at. names_in_place a (name_noted st.temp st.chunks c.next_xid st.named r.notes r.asks more.next_xid i a r.named at)));
+        asks = all_unless (IsInPlace (Some (on j (stage.Storing after))) (locals_of c)) x.hung q.ups r.asks stays.0 (all_at (IsInPlace (Some (on j (stage.Storing after))) (locals_of c)) r.asks (λ i a at. names_in_place a (name_noted c.lbfs st.temp st.chunks c.next_xid st.named r.notes r.asks more.next_xid i a r.named at)));
         tolds = stays.1;
-        holds = λ up. subst (λ (b : Bool). HeldIn k.server.temps n (unless b q.ups r.asks) ts (local_of g) (stage.Storing after)) (sym up) (let f = filled up in (f.0, f.1, holds_named (local_of g) q.ups r.asks ts st f.0.pieces c.next_xid more.next_xid r.notes r.named w.storing.inside (known_below book k qs n x q t ts j g) f.2));
+        holds = λ up. subst (λ (b : Bool). HeldIn k.server.temps n (unless b q.ups r.asks) ts (local_of g) (stage.Storing after)) (sym up) (let f = filled up in (f.0, f.1, holds_named (local_of g) q.ups r.asks ts st f.0.pieces c.lbfs c.next_xid more.next_xid r.notes r.named w.storing.inside (known_below book k qs n x q t ts j g) f.2));
         tree = λ i e z. known_on book j i (stage.Storing after) w.known e;
       });
     }
   where
     after : Store
-    after = record st { named = st.named + length (run_of st (seat_at g).client.next_xid).notes; under = st.under ++ (run_of st (seat_at g).client.next_xid).notes }
+    after = record st { named = st.named + length (run_of (seat_at g).client.lbfs st (seat_at g).client.next_xid).notes; under = st.under ++ (run_of (seat_at g).client.lbfs st (seat_at g).client.next_xid).notes }
 
     stays : AllAsks (IsInPlace (Some (on j (stage.Storing after))) (locals_of (seat_at g).client)) q.ups × AllTolds (IsWanted book (Some (on j (stage.Storing after)))) ts
-    stays = stays_in_order book k qs n x q t ts j g st after w refl refl (λ y u e. store_front st.under (run_of st (seat_at g).client.next_xid).notes y u e)
+    stays = stays_in_order book k qs n x q t ts j g st after w refl refl (λ y u e. store_front st.under (run_of (seat_at g).client.lbfs st (seat_at g).client.next_xid).notes y u e)
 
-    names_in_place : (a : Ask) → (u : StoreCall) × (c : Chunk) × (store_at (run_of st (seat_at g).client.next_xid).notes a.xid ≡ Some u) × (u.way ≡ way.Named) × (slice_get st.chunks u.index ≡ Some c) × (a ≡ record { xid = a.xid; call = Name st.temp c }) × ((seat_at g).client.next_xid ≤ a.xid) → IsInPlace (Some (on j (stage.Storing after))) (locals_of (seat_at g).client) a
+    names_in_place : (a : Ask) → (u : StoreCall) × (c : Chunk) × (store_at (run_of (seat_at g).client.lbfs st (seat_at g).client.next_xid).notes a.xid ≡ Some u) × (u.way ≡ way.Named) × (slice_get st.chunks u.index ≡ Some c) × (a ≡ record { lbfs = (seat_at g).client.lbfs; xid = a.xid; call = Name st.temp c }) × ((seat_at g).client.next_xid ≤ a.xid) → IsInPlace (Some (on j (stage.Storing after))) (locals_of (seat_at g).client) a
     names_in_place a h =
         let le = h.6 in
-        let found : store_at (st.under ++ (run_of st (seat_at g).client.next_xid).notes) a.xid ≡ Some h.0 = store_behind st.under (run_of st (seat_at g).client.next_xid).notes a.xid (λ i z at e. let lt = w.older i z at in omega (arith, lt, le, e)) ∙ h.2 in
+        let found : store_at (st.under ++ (run_of (seat_at g).client.lbfs st (seat_at g).client.next_xid).notes) a.xid ≡ Some h.0 = store_behind st.under (run_of (seat_at g).client.lbfs st (seat_at g).client.next_xid).notes a.xid (λ i z at e. let lt = w.older i z at in omega (arith, lt, le, e)) ∙ h.2 in
         let call : Call.Name st.temp h.1 ≡ a.call = ap (λ (z : Ask). z.call) (sym h.5) in
         let s : IsStore (Some (on j (stage.Storing after))) a.xid way.Named = record { of = on j (stage.Storing after); is = refl; store = after; at = refl; call = h.0; found = found; way = h.3 } in
         subst (InPlace (Some (on j (stage.Storing after))) (locals_of (seat_at g).client) a.xid) call (s, refl, h.4)
@@ -303,16 +304,16 @@ goes_storing book k qs n x q t ts j g st w filled noted off =
     map_count [] = refl
     map_count (u ∷ us) = ap suc (map_count us)
 
-    owed_on : IsOwed book x.closing j (local_of g) → IsOwed book x.closing (on j (stage.Storing (named st (seat_at g).client.next_xid).store)) (local_of g)
+    owed_on : IsOwed book x.closing j (local_of g) → IsOwed book x.closing (on j (stage.Storing (named (seat_at g).client.lbfs st (seat_at g).client.next_xid).store)) (local_of g)
     owed_on o = record { known = o.known; op = o.op; there = o.there; unmade = o.unmade; word_is = o.word_is; value_is = o.value_is; small = o.small }
 
 -- ---- all chunks are stored, and the commit goes out
 
-abbrev pub committing : (st : Store) (next file : ℕ) → (size : ℕ) → List Ask
-committing st next file size = naming st next ++ record { xid = (named st next).next_xid; call = Commit (named st next).store.temp file size } ∷ []
+abbrev pub committing : (lbfs : ℕ) (st : Store) (next file : ℕ) → (size : ℕ) → List Ask
+committing lbfs st next file size = naming lbfs st next ++ record { lbfs = lbfs; xid = (named lbfs st next).next_xid; call = Commit (named lbfs st next).store.temp file size } ∷ []
 
-pub committing_sent : (st : Store) (next file size : ℕ) → (named st next).send ++ commit_call (named st next).next_xid (named st next).store.temp file size ∷ [] ≡ map ask_message (committing st next file size)
-committing_sent st next file size = ap (λ l. l ++ commit_call (named st next).next_xid (named st next).store.temp file size ∷ []) (naming_sent st next) ∙ sym (map_one (naming st next) (record { xid = (named st next).next_xid; call = Commit (named st next).store.temp file size }))
+pub committing_sent : (lbfs : ℕ) (st : Store) (next file size : ℕ) → (named lbfs st next).send ++ commit_call lbfs (named lbfs st next).next_xid (named lbfs st next).store.temp file size ∷ [] ≡ map ask_message (committing lbfs st next file size)
+committing_sent lbfs st next file size = ap (λ l. l ++ commit_call lbfs (named lbfs st next).next_xid (named lbfs st next).store.temp file size ∷ []) (naming_sent lbfs st next) ∙ sym (map_one (naming lbfs st next) (record { lbfs = lbfs; xid = (named lbfs st next).next_xid; call = Commit (named lbfs st next).store.temp file size }))
   where
     map_one : (us : List Ask) (a : Ask) → map ask_message (us ++ a ∷ []) ≡ map ask_message us ++ ask_message a ∷ []
     map_one [] a = refl
@@ -332,17 +333,17 @@ commits_more us a e = let both = commits_both us (a ∷ []) in let one = change_
 
 pub goes_committing : (book : Book) (k : Core) (qs : List Queue) (n : ℕ) (x : Session) (q : Queue) (t : Told) (ts : List Told) (j : Job) (g : Here book k qs n x q t ts j) (st : Store) → j.file < 18446744073709551616 → Ready book k qs n x q t ts j g st
     → (let c = (seat_at g).client in
-    Filled book k qs n x q t ts j g q.ups st → NamesNoted g (named st c.next_xid).send → is_stored (named st c.next_xid).store ≡ true → GoesOn book k qs n x q t ts j g (stage.Committing (named st c.next_xid).next_xid) ((named st c.next_xid).next_xid + 1) c.forgotten (committing st c.next_xid j.file (length (local_of g))))
+    Filled book k qs n x q t ts j g q.ups st → NamesNoted g (named c.lbfs st c.next_xid).send → is_stored (named c.lbfs st c.next_xid).store ≡ true → GoesOn book k qs n x q t ts j g (stage.Committing (named c.lbfs st c.next_xid).next_xid) ((named c.lbfs st c.next_xid).next_xid + 1) c.forgotten (committing c.lbfs st c.next_xid j.file (length (local_of g))))
 goes_committing book k qs n x q t ts j g st fits_file w filled noted on_ =
     let h = session_at book k qs n x q t ts j g in
     let c = h.seat.client in
-    let r = run_of st c.next_xid in
-    let more = named st c.next_xid in
+    let r = run_of c.lbfs st c.next_xid in
+    let more = named c.lbfs st c.next_xid in
     let s : Stage = stage.Committing more.next_xid in
-    let a : Ask = record { xid = more.next_xid; call = Commit more.store.temp j.file (length (local_of g)) } in
+    let a : Ask = record { lbfs = c.lbfs; xid = more.next_xid; call = Commit more.store.temp j.file (length (local_of g)) } in
     let seat_was = g.kept.seats x.owner h.seat h.owner in
-    let counts = named_count st.temp st.chunks c.next_xid st.named r.notes r.asks more.next_xid r.named in
-    let inside = named_inside st.temp st.chunks c.next_xid st.named r.notes r.asks more.next_xid w.storing.named r.named in
+    let counts = named_count c.lbfs st.temp st.chunks c.next_xid st.named r.notes r.asks more.next_xid r.named in
+    let inside = named_inside c.lbfs st.temp st.chunks c.next_xid st.named r.notes r.asks more.next_xid w.storing.named r.named in
     let few = ap (λ (l : List Chunk). length l) w.storing.chunks in
     let short = subst (λ (l : List ℕ). length l ≤ 67108864) w.content (h.lengths st.temp) in
     let most = chunks_few (local_of g) short in
@@ -361,19 +362,20 @@ goes_committing book k qs n x q t ts j g st fits_file w filled noted on_ =
     record {
       quiet = w.quiet;
       word = sym w.word;
-      again = again_committing c.next_xid j more.next_xid (named_bound st.temp st.chunks c.next_xid st.named r.notes r.asks more.next_xid r.named);
+      again = again_committing c.next_xid j more.next_xid (named_bound c.lbfs st.temp st.chunks c.next_xid st.named r.notes r.asks more.next_xid r.named);
       moves = λ f y.
-          let e = named_times f y st.temp st.chunks c.next_xid st.named r.notes r.asks more.next_xid r.named in
+          let e = named_times f y c.lbfs st.temp st.chunks c.next_xid st.named r.notes r.asks more.next_xid r.named in
           let p = w.pend f y in
           let d = ap (λ (l : List StoreCall). times y (map f (map store_pending l))) idle.0 in
           let m = ap (λ (l : List StoreCall). times y (map f (map store_pending l))) idle.1 in
           let u = times_map_append (λ (b : Ask). f (ask_pending b)) y r.asks (a ∷ []) in
           let v = times_append y (f (ask_pending a) ∷ []) (map f c.forgotten) in
           omega (arith, e, p, d, m, u, v);
-      rising = rising_append c.next_xid r.asks (a ∷ []) more.next_xid (more.next_xid + 1) (named_rising st.temp st.chunks c.next_xid st.named r.notes r.asks more.next_xid r.named) (omega arith, omega arith);
-      asked = all_append (IsAsked (Some (on j s))) r.asks (a ∷ []) (named_all (IsAsked (Some (on j s))) st.temp st.chunks c.next_xid st.named r.notes r.asks more.next_xid (λ z i d at le lt. tt) r.named) (tt, tt);
-      fits = all_append (λ (b : Ask). CallFits b.xid b.call) r.asks (a ∷ []) (named_all (λ b. CallFits b.xid b.call) st.temp st.chunks c.next_xid st.named r.notes r.asks more.next_xid (λ z i d at le lt. naming_fits (local_of g) st.temp z i d short (omega (arith, temp_less, next_ok, all_ok)) (omega (arith, lt, bound)) (ap (λ (l : List Chunk). slice_get l i) (sym w.storing.chunks) ∙ at)) r.named) ((omega (arith, bound), omega (arith, same_temp, temp_less, next_ok, all_ok), fits_file, short), tt);
-      commits = all_append (IsCommit book x.closing x.cut (Some (on j s)) h.contents) r.asks (a ∷ []) (named_all (IsCommit book x.closing x.cut (Some (on j s)) h.contents) st.temp st.chunks c.next_xid st.named r.notes r.asks more.next_xid (λ z i d at le lt. tt) r.named) (
+      rising = rising_append c.next_xid r.asks (a ∷ []) more.next_xid (more.next_xid + 1) (named_rising c.lbfs st.temp st.chunks c.next_xid st.named r.notes r.asks more.next_xid r.named) (omega arith, omega arith);
+      asked = all_append (IsAsked (Some (on j s))) r.asks (a ∷ []) (named_all (IsAsked (Some (on j s))) c.lbfs st.temp st.chunks c.next_xid st.named r.notes r.asks more.next_xid (λ z i d at le lt. tt) r.named) (tt, tt);
+      fits = all_append (λ (b : Ask). CallFits b.lbfs b.xid b.call) r.asks (a ∷ []) (named_all (λ b. CallFits b.lbfs b.xid b.call) c.lbfs st.temp st.chunks c.next_xid st.named r.notes r.asks more.next_xid (λ z i d at le lt. naming_fits c.lbfs (spoken_at book k qs n x q t ts j g) (local_of g) st.temp z i d short (omega (arith, temp_less, next_ok, all_ok)) (omega (arith, lt, bound)) (ap (λ (l : List Chunk). slice_get l i) (sym w.storing.chunks) ∙ at)) r.named) ((omega (arith, bound), omega (arith, same_temp, temp_less, next_ok, all_ok), fits_file, short, spoken_at book k qs n x q t ts j g), tt);
+      speak = all_append (λ (b : Ask). b.lbfs ≡ book.lbfs) r.asks (a ∷ []) (named_all (λ b. b.lbfs ≡ book.lbfs) c.lbfs st.temp st.chunks c.next_xid st.named r.notes r.asks more.next_xid (λ z i d at le lt. speaks_at book k qs n x q t ts j g) r.named) (speaks_at book k qs n x q t ts j g, tt);
+      commits = all_append (IsCommit book x.closing x.cut (Some (on j s)) h.contents) r.asks (a ∷ []) (named_all (IsCommit book x.closing x.cut (Some (on j s)) h.contents) c.lbfs st.temp st.chunks c.next_xid st.named r.notes r.asks more.next_xid (λ z i d at le lt. tt) r.named) (
         (
           record {
             place = j.place;
@@ -392,8 +394,8 @@ goes_committing book k qs n x q t ts j g st fits_file w filled noted on_ =
         tt,
       );
       pieces = all_append (IsPiece (hashed_of book.moments) h.contents) r.asks (a ∷ []) (names_pieces book k qs n x q t ts j g st w noted) (tt, tt);
-      under = all_append (λ (b : Ask). TempUnder c.next_temp b.call) r.asks (a ∷ []) (named_all (λ b. TempUnder c.next_temp b.call) st.temp st.chunks c.next_xid st.named r.notes r.asks more.next_xid (λ z i d at le lt. w.temp) r.named) (subst (λ (m : ℕ). m < c.next_temp) (sym same_temp) w.temp, tt);
-      few = commits_more r.asks a (named_commits st.temp st.chunks c.next_xid st.named r.notes r.asks more.next_xid r.named);
+      under = all_append (λ (b : Ask). TempUnder c.next_temp b.call) r.asks (a ∷ []) (named_all (λ b. TempUnder c.next_temp b.call) c.lbfs st.temp st.chunks c.next_xid st.named r.notes r.asks more.next_xid (λ z i d at le lt. w.temp) r.named) (subst (λ (m : ℕ). m < c.next_temp) (sym same_temp) w.temp, tt);
+      few = commits_more r.asks a (named_commits c.lbfs st.temp st.chunks c.next_xid st.named r.notes r.asks more.next_xid r.named);
       fetch = tt;
       busy = omega arith;
       closes = (w.owed.op, w.owed.there, w.owed.word_is, w.owed.value_is);
@@ -401,9 +403,9 @@ goes_committing book k qs n x q t ts j g st fits_file w filled noted on_ =
       xids = bound;
       bounded = bound;
       orderly = λ cache index reading. record {
-        asks = all_unless (IsInPlace (Some (on j s)) (locals_of c)) x.hung q.ups (r.asks ++ a ∷ []) (fetching_place (Some (on j s)) (locals_of c) q.ups (idle_ups idle.0)) (all_append (IsInPlace (Some (on j s)) (locals_of c)) r.asks (a ∷ []) (subst (AllAsks (IsInPlace (Some (on j s)) (locals_of c))) (sym (no_asks st.temp st.chunks c.next_xid st.named r.notes r.asks more.next_xid idle.1 r.named)) tt) ((on j s, refl, refl, refl, refl), tt));
+        asks = all_unless (IsInPlace (Some (on j s)) (locals_of c)) x.hung q.ups (r.asks ++ a ∷ []) (fetching_place (Some (on j s)) (locals_of c) q.ups (idle_ups idle.0)) (all_append (IsInPlace (Some (on j s)) (locals_of c)) r.asks (a ∷ []) (subst (AllAsks (IsInPlace (Some (on j s)) (locals_of c))) (sym (no_asks (seat_at g).client.lbfs st.temp st.chunks c.next_xid st.named r.notes r.asks more.next_xid idle.1 r.named)) tt) ((on j s, refl, refl, refl, refl), tt));
         tolds = fetched_wanted book (Some (on j s)) ts (idle_downs idle.0);
-        holds = λ up. subst (λ (b : Bool). HeldIn k.server.temps n (unless b q.ups (r.asks ++ a ∷ [])) ts (local_of g) s) (sym up) (λ u. full (filled up) idle.0 idle.1 u, λ gone. absurd (gone (length (q.ups ++ r.asks), more.store.temp, j.file, length (local_of g), ap (λ (l : List Ask). slice_get l (length (q.ups ++ r.asks))) (sym (append_assoc q.ups r.asks (a ∷ []))) ∙ at_end (q.ups ++ r.asks) a)));
+        holds = λ up. subst (λ (b : Bool). HeldIn k.server.temps n (unless b q.ups (r.asks ++ a ∷ [])) ts (local_of g) s) (sym up) (λ u. full (filled up) idle.0 idle.1 u, λ gone. absurd (gone (length (q.ups ++ r.asks), more.store.temp, j.file, length (local_of g), c.lbfs, ap (λ (l : List Ask). slice_get l (length (q.ups ++ r.asks))) (sym (append_assoc q.ups r.asks (a ∷ []))) ∙ at_end (q.ups ++ r.asks) a)));
         tree = λ i e z. known_on book j i s w.known e;
       };
     }
@@ -414,29 +416,29 @@ goes_committing book k qs n x q t ts j g st fits_file w filled noted on_ =
     idle_downs : st.under ≡ [] → AllFetched ts
     idle_downs none = all_map (IsWanted book (Some (on j (stage.Storing st)))) (λ u. IsFetched u.reply) (λ u h. idle_reply book (on j (stage.Storing st)) st u.xid u.reply refl none h) ts w.wants
 
-    no_commit : (us : List Ask) → AllFetching us → (i : ℕ) (y m f size : ℕ) → slice_get us i ≡ Some (record { xid = y; call = Commit m f size }) → ⊥
-    no_commit us h i y m f size at = all_in (λ (b : Ask). IsFetching b.call) us i (record { xid = y; call = Commit m f size }) h at
+    no_commit : (us : List Ask) → AllFetching us → (i : ℕ) (v y m f size : ℕ) → slice_get us i ≡ Some (record { lbfs = v; xid = y; call = Commit m f size }) → ⊥
+    no_commit us h i v y m f size at = all_in (λ (b : Ask). IsFetching b.call) us i (record { lbfs = v; xid = y; call = Commit m f size }) h at
 
     -- the temporary file holds all
-    full : (f : (z : Temp) × OneTemp k.server.temps n st.temp z × Holds (local_of g) q.ups ts st z.pieces) → st.under ≡ [] → (run_of st (seat_at g).client.next_xid).notes ≡ [] → (u : UpCommit (q.ups ++ committing st (seat_at g).client.next_xid j.file (length (local_of g))) (named st (seat_at g).client.next_xid).next_xid) → (z : Temp) × OneTemp k.server.temps n u.1 z × SameShape z.pieces (PiecesOf (local_of g) (λ c. true) (chunks_of (local_of g)))
+    full : (f : (z : Temp) × OneTemp k.server.temps n st.temp z × Holds (local_of g) q.ups ts st z.pieces) → st.under ≡ [] → (run_of (seat_at g).client.lbfs st (seat_at g).client.next_xid).notes ≡ [] → (u : UpCommit (q.ups ++ committing (seat_at g).client.lbfs st (seat_at g).client.next_xid j.file (length (local_of g))) (named (seat_at g).client.lbfs st (seat_at g).client.next_xid).next_xid) → (z : Temp) × OneTemp k.server.temps n u.1 z × SameShape z.pieces (PiecesOf (local_of g) (λ c. true) (chunks_of (local_of g)))
     full f none ended u =
-        let r = run_of st (seat_at g).client.next_xid in
-        let same_temp : (named st (seat_at g).client.next_xid).store.temp ≡ st.temp = ap (λ (z : Store). z.temp) r.store_is in
-        let nothing = no_asks st.temp st.chunks (seat_at g).client.next_xid st.named r.notes r.asks (named st (seat_at g).client.next_xid).next_xid ended r.named in
-        let at = ap (λ (l : List Ask). slice_get (q.ups ++ (l ++ record { xid = (named st (seat_at g).client.next_xid).next_xid; call = Commit (named st (seat_at g).client.next_xid).store.temp j.file (length (local_of g)) } ∷ [])) u.0) (sym nothing) ∙ u.4 in
-        elim (of_appended q.ups (record { xid = (named st (seat_at g).client.next_xid).next_xid; call = Commit (named st (seat_at g).client.next_xid).store.temp j.file (length (local_of g)) }) u.0 _ at) [
+        let r = run_of (seat_at g).client.lbfs st (seat_at g).client.next_xid in
+        let same_temp : (named (seat_at g).client.lbfs st (seat_at g).client.next_xid).store.temp ≡ st.temp = ap (λ (z : Store). z.temp) r.store_is in
+        let nothing = no_asks (seat_at g).client.lbfs st.temp st.chunks (seat_at g).client.next_xid st.named r.notes r.asks (named (seat_at g).client.lbfs st (seat_at g).client.next_xid).next_xid ended r.named in
+        let at = ap (λ (l : List Ask). slice_get (q.ups ++ (l ++ record { lbfs = (seat_at g).client.lbfs; xid = (named (seat_at g).client.lbfs st (seat_at g).client.next_xid).next_xid; call = Commit (named (seat_at g).client.lbfs st (seat_at g).client.next_xid).store.temp j.file (length (local_of g)) } ∷ [])) u.0) (sym nothing) ∙ u.5 in
+        elim (of_appended q.ups (record { lbfs = (seat_at g).client.lbfs; xid = (named (seat_at g).client.lbfs st (seat_at g).client.next_xid).next_xid; call = Commit (named (seat_at g).client.lbfs st (seat_at g).client.next_xid).store.temp j.file (length (local_of g)) }) u.0 _ at) [
           | inl last ↦
               let m : u.1 ≡ st.temp = commit_temp (ap (λ (z : Ask). z.call) last.1) ∙ same_temp in
               (f.0, subst (λ (z : ℕ). OneTemp k.server.temps n z f.0) (sym m) f.1, holds_all (local_of g) q.ups ts st f.0.pieces none (all_named none ended) f.2)
-          | inr old ↦ absurd (no_commit q.ups (idle_ups none) u.0 _ u.1 u.2 u.3 old)
+          | inr old ↦ absurd (no_commit q.ups (idle_ups none) u.0 u.4 _ u.1 u.2 u.3 old)
         ]
       where
         commit_temp : {m f s p h z : ℕ} → Commit m f s ≡ Commit p h z → m ≡ p
         commit_temp e = cc
 
-        all_named : st.under ≡ [] → (run_of st (seat_at g).client.next_xid).notes ≡ [] → length (chunks_of (local_of g)) ≤ st.named
+        all_named : st.under ≡ [] → (run_of (seat_at g).client.lbfs st (seat_at g).client.next_xid).notes ≡ [] → length (chunks_of (local_of g)) ≤ st.named
         all_named a b =
-            let r = run_of st (seat_at g).client.next_xid in
+            let r = run_of (seat_at g).client.lbfs st (seat_at g).client.next_xid in
             let e = ap is_stored (sym r.store_is) ∙ on_ in
             let few = ap (λ (l : List Chunk). length l) w.storing.chunks in
             let none = ap (λ (l : List StoreCall). length l) b in
@@ -449,18 +451,18 @@ goes_committing book k qs n x q t ts j g st fits_file w filled noted on_ =
 
 -- ---- the bytes of a chunk go out
 
-abbrev pub sending : (st : Store) (next : ℕ) (content : List ℕ) → Chunk → List Ask
-sending st next content c = record { xid = next; call = Send st.temp c.start (chunk_bytes content c) } ∷ []
+abbrev pub sending : (lbfs : ℕ) (st : Store) (next : ℕ) (content : List ℕ) → Chunk → List Ask
+sending lbfs st next content c = record { lbfs = lbfs; xid = next; call = Send st.temp c.start (chunk_bytes content c) } ∷ []
 
 pub goes_whole : (book : Book) (k : Core) (qs : List Queue) (n : ℕ) (x : Session) (q : Queue) (t : Told) (ts : List Told) (j : Job) (g : Here book k qs n x q t ts j) (st : Store) (u : StoreCall) (d : Chunk) → Ready book k qs n x q t ts j g st → u.index < st.named → slice_get st.chunks u.index ≡ Some d
     → (let c = (seat_at g).client in
-    Filled book k qs n x q t ts j g (q.ups ++ sending st c.next_xid (local_of g) d) (with_whole st u c.next_xid) → c.next_xid + 1 + 80001 + names_in st.under ≤ 4294967296 + 2 * st.named → GoesOn book k qs n x q t ts j g (stage.Storing (with_whole st u c.next_xid)) (c.next_xid + 1) c.forgotten (sending st c.next_xid (local_of g) d))
+    Filled book k qs n x q t ts j g (q.ups ++ sending c.lbfs st c.next_xid (local_of g) d) (with_whole st u c.next_xid) → c.next_xid + 1 + 80001 + names_in st.under ≤ 4294967296 + 2 * st.named → GoesOn book k qs n x q t ts j g (stage.Storing (with_whole st u c.next_xid)) (c.next_xid + 1) c.forgotten (sending c.lbfs st c.next_xid (local_of g) d))
 goes_whole book k qs n x q t ts j g st u d w inside at filled room =
     let h = session_at book k qs n x q t ts j g in
     let c = h.seat.client in
     let note : StoreCall = record { xid = c.next_xid; index = u.index; way = way.Whole } in
     let s : Stage = stage.Storing (with_whole st u c.next_xid) in
-    let a : Ask = record { xid = c.next_xid; call = Send st.temp d.start (chunk_bytes (local_of g) d) } in
+    let a : Ask = record { lbfs = c.lbfs; xid = c.next_xid; call = Send st.temp d.start (chunk_bytes (local_of g) d) } in
     let seat_was = g.kept.seats x.owner h.seat h.owner in
     let few = ap (λ (l : List Chunk). length l) w.storing.chunks in
     let short = subst (λ (l : List ℕ). length l ≤ 67108864) w.content (h.lengths st.temp) in
@@ -474,7 +476,7 @@ goes_whole book k qs n x q t ts j g st u d w inside at filled room =
     let chunk = chunks_are_named (local_of g) u.index d there in
     let whole = chunk.2 in
     let len = chunk.1 in
-    let fits = naming_fits (local_of g) st.temp c.next_xid u.index d short (omega (arith, temp_less, next_ok, all_ok)) (omega (arith, room, named_le, few, most)) there in
+    let fits = naming_fits c.lbfs (spoken_at book k qs n x q t ts j g) (local_of g) st.temp c.next_xid u.index d short (omega (arith, temp_less, next_ok, all_ok)) (omega (arith, room, named_le, few, most)) there in
     let len_ok = fits.3 in
     record {
       quiet = w.quiet;
@@ -487,7 +489,8 @@ goes_whole book k qs n x q t ts j g st u d w inside at filled room =
           omega (arith, b, e, p);
       rising = (omega arith, omega arith);
       asked = (tt, tt);
-      fits = ((fits.0, fits.1, fits.2, omega (arith, len, len_ok)), tt);
+      fits = ((fits.0, fits.1, fits.2, omega (arith, len, len_ok), spoken_at book k qs n x q t ts j g), tt);
+      speak = (speaks_at book k qs n x q t ts j g, tt);
       commits = (tt, tt);
       pieces = (subst (λ (l : List ℕ). chunk_bytes (local_of g) d ≡ Rattle.std.specs.Prelude.take (length (chunk_bytes (local_of g) d)) (Rattle.std.specs.Prelude.drop d.start l)) (sym w.content) (ap (λ m. Rattle.std.specs.Prelude.take m (Rattle.std.specs.Prelude.drop d.start (local_of g))) (sym len)), tt);
       under = (w.temp, tt);

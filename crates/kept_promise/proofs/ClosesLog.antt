@@ -113,13 +113,13 @@ joined_one a b c x e = ap (λ l. l ++ x ∷ []) e ∙ by a
     by [] = refl
     by (y ∷ a) = ap (λ l. y ∷ l) (by a)
 
-names_go : (v : List ℕ) (log : List Deal) (w : Store) (next : ℕ) → named_in log ≡ take w.named w.chunks → Naming v log w.chunks (owing_at (asked_of w.chunks w.under)) (names_all w next)
-names_go v log w next h = names_keep (Naming v log w.chunks (owing_at (asked_of w.chunks w.under))) more (calls_most - length w.under) (names_from w next) (record { chunks = refl; named = append-nil (named_in log) ∙ h; pays = refl; owes = refl; made = refl; commits = refl })
+names_go : (lbfs : ℕ) (v : List ℕ) (log : List Deal) (w : Store) (next : ℕ) → named_in log ≡ take w.named w.chunks → Naming v log w.chunks (owing_at (asked_of w.chunks w.under)) (names_all lbfs w next)
+names_go lbfs v log w next h = names_keep lbfs (Naming v log w.chunks (owing_at (asked_of w.chunks w.under))) more (calls_most - length w.under) (names_from w next) (record { chunks = refl; named = append-nil (named_in log) ∙ h; pays = refl; owes = refl; made = refl; commits = refl })
   where
-    more : (n : Names) (c : Chunk) → Naming v log w.chunks (owing_at (asked_of w.chunks w.under)) n → slice_get n.store.chunks n.store.named ≡ Some c → Naming v log w.chunks (owing_at (asked_of w.chunks w.under)) (Rattle.kept_promise.proofs.Common.names_next n (Some c))
+    more : (n : Names) (c : Chunk) → Naming v log w.chunks (owing_at (asked_of w.chunks w.under)) n → slice_get n.store.chunks n.store.named ≡ Some c → Naming v log w.chunks (owing_at (asked_of w.chunks w.under)) (Rattle.kept_promise.proofs.Common.names_next lbfs n (Some c))
     more n c h e =
         let cs : List Chunk = w.chunks in
-        let m : Message = cond_call n.next_xid n.store.temp c in
+        let m : Message = cond_call lbfs n.next_xid n.store.temp c in
         let start : Owing = owing_at (asked_of w.chunks w.under) in
         let all : map Sent (n.send ++ m ∷ []) ≡ map Sent n.send ++ Sent m ∷ [] = sent_more n.send m in
         let there : slice_get cs n.store.named ≡ Some c = ap (λ (l : List Chunk). slice_get l n.store.named) (sym h.chunks) ∙ e in
@@ -200,8 +200,8 @@ leaves_cases log s file v st x b h value = record {
   );
   names = λ w at known none is.
       let r = ready log file x v (client.local_bytes s.opened file) st w h value at in
-      let go = names_go v log w s.next_xid r.0.named in
-      let n = names_all w s.next_xid in
+      let go = names_go s.lbfs v log w s.next_xid r.0.named in
+      let n = names_all s.lbfs w s.next_xid in
       let log2 : List Deal = log ++ Took (message.Answer x b) ∷ map Sent n.send in
       let now : HasNamed v log2 n.store.named 1 0 w.chunks = went v log x b n.send w.chunks w.named n.store.named 1 0 0 r.0 (ready_pays v log x b w n.send r known go.pays) none go.named go.made go.commits in
       let asked : Asked log2 (asked_of w.chunks n.store.under) = ready_asked v log x b w n.send (asked_of w.chunks n.store.under) r known go.owes in (
@@ -210,9 +210,9 @@ leaves_cases log s file v st x b h value = record {
       );
   commits = λ w at known none is.
       let r = ready log file x v (client.local_bytes s.opened file) st w h value at in
-      let go = names_go v log w s.next_xid r.0.named in
-      let n = names_all w s.next_xid in
-      let m : Message = commit_call n.next_xid n.store.temp file (length (client.local_bytes s.opened file)) in
+      let go = names_go s.lbfs v log w s.next_xid r.0.named in
+      let n = names_all s.lbfs w s.next_xid in
+      let m : Message = commit_call s.lbfs n.next_xid n.store.temp file (length (client.local_bytes s.opened file)) in
       let start : Owing = owing_at (asked_of w.chunks w.under) in
       let all = sent_more n.send m in
       let two = made_join (map Sent n.send) (Sent m ∷ []) in
@@ -232,10 +232,10 @@ leaves_cases log s file v st x b h value = record {
   whole = λ old c k at unknown none found name chunk.
       let had : HasNamed v log old.named 1 0 old.chunks × (old.chunks ≡ chunks_of v) × Asked log (asked_of old.chunks old.under) = subst (ClosesBy log file v) at h in
       let owing : Owing = owing_from owes_nothing log in
-      let m : Message = temp_call s.next_xid old.temp (client.local_bytes s.opened file) k in
+      let m : Message = temp_call s.lbfs s.next_xid old.temp (client.local_bytes s.opened file) k in
       let log2 : List Deal = log ++ Took (message.Answer x b) ∷ Sent m ∷ [] in
       let mine : asked_at owing.asked x ≡ Some k = ap (λ l. asked_at l x) had.2 ∙ asked_found old.chunks old.under x c k found name chunk in
-      let pays : PaysAll v owing (Took (message.Answer x b) ∷ Sent m ∷ []) = subst (λ z. PaysAll v owing (Took (message.Answer x b) ∷ Sent (temp_call s.next_xid old.temp z k) ∷ [])) (value (ap stage_word at)) (whole_pays v owing x b s.next_xid old.temp k (pays_end v owes_nothing log had.0.paid) unknown mine) in
+      let pays : PaysAll v owing (Took (message.Answer x b) ∷ Sent m ∷ []) = subst (λ z. PaysAll v owing (Took (message.Answer x b) ∷ Sent (temp_call s.lbfs s.next_xid old.temp z k) ∷ [])) (value (ap stage_word at)) (whole_pays v owing x b s.lbfs s.next_xid old.temp k (pays_end v owes_nothing log had.0.paid) unknown mine) in
       let now : HasNamed v log2 old.named 1 0 old.chunks = went v log x b (m ∷ []) old.chunks old.named old.named 1 0 0 had.0 pays none (append-nil (named_in log) ∙ had.0.named) refl refl in
       let asked : Asked log2 (asked_of old.chunks (without_store old.under x ++ record { xid = s.next_xid; index = c.index; way = way.Whole } ∷ [])) =
       ap (λ (o : Owing). o.asked) (owing_join owes_nothing log (Took (message.Answer x b) ∷ Sent m ∷ []))
@@ -289,10 +289,10 @@ closes_laws all = record {
   walked = λ log file v x w h. h;
   none = λ w file v u un same log names. none w file v u log names;
   now = λ log file v len digest names. tt;
-  asks = λ log names x file v. tt;
-  opens = λ log names x file v. tt;
-  renews = λ log names x file v. tt;
-  closes = λ x temp file v. (record { named = refl; paid = (tt, tt, refl); made = refl; commits = refl; came = refl }, refl);
+  asks = λ log names lbfs x file v. tt;
+  opens = λ log names lbfs x file v. tt;
+  renews = λ log names lbfs x file v. tt;
+  closes = λ lbfs x temp file v. (record { named = refl; paid = (tt, tt, refl); made = refl; commits = refl; came = refl }, refl);
   moves = λ log file other v w u gets. by_getting (λ z. CloseNamed log z file v u → CloseNamed log z other v u) (λ h. h) (λ h. h) (λ h. h) w gets;
   other = λ log file v st u of p un same. other log file v st u of p;
   heard = λ book more taken j o p s x b all_is a log h. closes_heard book more taken j o p s x b a log h;

@@ -28,7 +28,7 @@ use Rattle.kept_promise.proofs.Rights.{IsRight, WasThere}
 use Rattle.kept_promise.proofs.History.{onward, MakesNone, makes_none, grows_added}
 use Rattle.kept_promise.proofs.Turns.{around_with, also_numbered}
 use Rattle.kept_promise.proofs.PathNames.{HasNames, IsSmall, begun_named, begun_small, walk_calls_short}
-use Rattle.kept_promise.proofs.Facts.{IsMatched, IsKept}
+use Rattle.kept_promise.proofs.Facts.{spoken_by, IsMatched, IsKept}
 use Rattle.kept_promise.proofs.Leading.{Leads, IsNoted, KeptDoes, ups_put_in, ups_put}
 use Rattle.kept_promise.proofs.Hangs.{leads_quiet}
 use Rattle.kept_promise.proofs.Cuts.{cut_core}
@@ -153,8 +153,8 @@ linked book k qs c seat g is =
     }
 
 -- what it asks is a first call
-pub hash_first : (next file : ℕ) → First next (stage.Hashing 1 next) (record { xid = next; call = Hash file 0 })
-hash_first next file = record {
+pub hash_first : (lbfs next file : ℕ) → First next (stage.Hashing 1 next) (record { lbfs = lbfs; xid = next; call = Hash file 0 })
+hash_first lbfs next file = record {
   xid = refl;
   pending = refl;
   hash = λ y o lt e. nothing_there o (sym (ap (λ b. cond b (Some 0) None) (ne_eqb next y (λ s. omega (arith, lt, s)))) ∙ e);
@@ -164,14 +164,14 @@ hash_first next file = record {
   lease = λ y lt e. nothing_there y e;
 }
 
-pub lease_first : (next file : ℕ) → First next (stage.Asking next) (record { xid = next; call = Lease file })
-lease_first next file = record { xid = refl; pending = refl; hash = λ y o lt e. nothing_there o e; read = λ y. refl; commit = λ y e. absurd cc; walk = λ y w lt e. absurd cc; lease = λ y lt e. (let same = some_is next y e in omega (arith, lt, same)) }
+pub lease_first : (lbfs next file : ℕ) → First next (stage.Asking next) (record { lbfs = lbfs; xid = next; call = Lease file })
+lease_first lbfs next file = record { xid = refl; pending = refl; hash = λ y o lt e. nothing_there o e; read = λ y. refl; commit = λ y e. absurd cc; walk = λ y w lt e. absurd cc; lease = λ y lt e. (let same = some_is next y e in omega (arith, lt, same)) }
 
-pub renew_first : (next file : ℕ) → First next (stage.Rewriting next) (record { xid = next; call = Lease file })
-renew_first next file = record { xid = refl; pending = refl; hash = λ y o lt e. nothing_there o e; read = λ y. refl; commit = λ y e. absurd cc; walk = λ y w lt e. absurd cc; lease = λ y lt e. (let same = some_is next y e in omega (arith, lt, same)) }
+pub renew_first : (lbfs next file : ℕ) → First next (stage.Rewriting next) (record { lbfs = lbfs; xid = next; call = Lease file })
+renew_first lbfs next file = record { xid = refl; pending = refl; hash = λ y o lt e. nothing_there o e; read = λ y. refl; commit = λ y e. absurd cc; walk = λ y w lt e. absurd cc; lease = λ y lt e. (let same = some_is next y e in omega (arith, lt, same)) }
 
-make_first : (next temp file : ℕ) → First next (stage.Making next temp) (record { xid = next; call = Make temp file })
-make_first next temp file = record { xid = refl; pending = refl; hash = λ y o lt e. nothing_there o e; read = λ y. refl; commit = λ y e. absurd cc; walk = λ y w lt e. absurd cc; lease = λ y lt e. nothing_there y e }
+make_first : (lbfs next temp file : ℕ) → First next (stage.Making next temp) (record { lbfs = lbfs; xid = next; call = Make temp file })
+make_first lbfs next temp file = record { xid = refl; pending = refl; hash = λ y o lt e. nothing_there o e; read = λ y. refl; commit = λ y e. absurd cc; walk = λ y w lt e. absurd cc; lease = λ y lt e. nothing_there y e }
 
 begun_right : (more : Book) (c : ℕ) (w : Word) (file : ℕ) (value : List ℕ) (step : ℕ) → Rattle.kept_promise.proofs.Rights.is_remote w ≡ true → more.steps ≡ step → IsRight more (begun c w file value step)
 begun_right more c w file value step remote now = record {
@@ -251,11 +251,11 @@ leads_begins book k qs c seat w file value cache sent temp s a acts g l send end
 open_begins : (book : Book) (k : Core) (qs : List Queue) (c : ℕ) (seat : Seat) (file : ℕ) → file < 18446744073709551616 → (g : Idle book k qs c seat) → Linked book k qs c seat → seat.client.next_xid < 4293967297 → Answers book k qs c seat words.Open file [] (tries_anew (record seat.client { cache = reserved seat.client.cache file }) file 1 0)
 open_begins book k qs c seat file fits g l room =
     let s = seat.client in
-    let a : Ask = record { xid = s.next_xid; call = Hash file 0 } in
+    let a : Ask = record { lbfs = s.lbfs; xid = s.next_xid; call = Hash file 0 } in
     let was = (g.kept.seats c seat g.here).next in
     let steps = g.kept.steps in
     leads_begins book k qs c seat words.Open file [] (reserved s.cache file) s.clock s.next_temp (stage.Hashing 1 s.next_xid) a (tries_anew (record s { cache = reserved s.cache file }) file 1 0).1 g l refl refl refl refl (λ closing is. record {
-      first = hash_first s.next_xid file;
+      first = hash_first s.lbfs s.next_xid file;
       of_client = refl;
       word = refl;
       of_file = refl;
@@ -264,7 +264,8 @@ open_begins book k qs c seat file fits g l room =
       right = begun_right (onward book 1 (book.ops ++ begun c words.Open file [] (k.steps + 1) ∷ [])) c words.Open file [] (k.steps + 1) refl (ap (λ z. z + 1) steps);
       asked = λ i o e w. (ap (λ (z : Job). z.file) (sym (some_is (record { place = length book.ops; file = file; stage = stage.Hashing 1 s.next_xid }) i e)) ∙ refl_file, sym (some_is 0 o (hash_now i o e w)));
       commit = λ contents. tt;
-      fits = (omega (arith, room), fits, omega arith);
+      fits = (omega (arith, room), fits, omega arith, spoken_by book k qs c seat g.kept g.here);
+      speaks = (g.kept.seats c seat g.here).speaks;
       under = tt;
       piece = λ f. tt;
       cached = cached_reserved book s.cache file (g.kept.seats c seat g.here).kept;
@@ -299,11 +300,11 @@ lease_begins : (book : Book) (k : Core) (qs : List Queue) (c : ℕ) (seat : Seat
     → Answers book k qs c seat words.Open file [] (asks_kept (record seat.client { cache = reserved seat.client.cache file }) file (Some v))
 lease_begins book k qs c seat file v fits g l room =
     let s = seat.client in
-    let a : Ask = record { xid = s.next_xid; call = Lease file } in
+    let a : Ask = record { lbfs = s.lbfs; xid = s.next_xid; call = Lease file } in
     let was = (g.kept.seats c seat g.here).next in
     let steps = g.kept.steps in
     leads_begins book k qs c seat words.Open file [] (reserved s.cache file) s.clock s.next_temp (stage.Asking s.next_xid) a (asks_kept (record s { cache = reserved s.cache file }) file (Some v)).1 g l refl refl refl refl (λ closing is. record {
-      first = lease_first s.next_xid file;
+      first = lease_first s.lbfs s.next_xid file;
       of_client = refl;
       word = refl;
       of_file = refl;
@@ -312,7 +313,8 @@ lease_begins book k qs c seat file v fits g l room =
       right = begun_right (onward book 1 (book.ops ++ begun c words.Open file [] (k.steps + 1) ∷ [])) c words.Open file [] (k.steps + 1) refl (ap (λ z. z + 1) steps);
       asked = λ i e w. ap (λ (z : Job). z.file) (sym (some_is (record { place = length book.ops; file = file; stage = stage.Asking s.next_xid }) i e));
       commit = λ contents. tt;
-      fits = (omega (arith, room), fits);
+      fits = (omega (arith, room), fits, spoken_by book k qs c seat g.kept g.here);
+      speaks = (g.kept.seats c seat g.here).speaks;
       under = tt;
       piece = λ f. tt;
       cached = cached_reserved book s.cache file (g.kept.seats c seat g.here).kept;
@@ -335,11 +337,11 @@ renew_begins : (book : Book) (k : Core) (qs : List Queue) (c : ℕ) (seat : Seat
     → Answers book k qs c seat words.Rewrite file [] (asks_version (record seat.client { cache = reserved seat.client.cache file }) file)
 renew_begins book k qs c seat file fits g l room =
     let s = seat.client in
-    let a : Ask = record { xid = s.next_xid; call = Lease file } in
+    let a : Ask = record { lbfs = s.lbfs; xid = s.next_xid; call = Lease file } in
     let was = (g.kept.seats c seat g.here).next in
     let steps = g.kept.steps in
     leads_begins book k qs c seat words.Rewrite file [] (reserved s.cache file) s.clock s.next_temp (stage.Rewriting s.next_xid) a (asks_version (record s { cache = reserved s.cache file }) file).1 g l refl refl refl refl (λ closing is. record {
-      first = renew_first s.next_xid file;
+      first = renew_first s.lbfs s.next_xid file;
       of_client = refl;
       word = refl;
       of_file = refl;
@@ -348,7 +350,8 @@ renew_begins book k qs c seat file fits g l room =
       right = begun_right (onward book 1 (book.ops ++ begun c words.Rewrite file [] (k.steps + 1) ∷ [])) c words.Rewrite file [] (k.steps + 1) refl (ap (λ z. z + 1) steps);
       asked = λ i e w. ap (λ (z : Job). z.file) (sym (some_is (record { place = length book.ops; file = file; stage = stage.Rewriting s.next_xid }) i e));
       commit = λ contents. tt;
-      fits = (omega (arith, room), fits);
+      fits = (omega (arith, room), fits, spoken_by book k qs c seat g.kept g.here);
+      speaks = (g.kept.seats c seat g.here).speaks;
       under = tt;
       piece = λ f. tt;
       cached = cached_reserved book s.cache file (g.kept.seats c seat g.here).kept;
@@ -507,8 +510,8 @@ renewed_new book k qs c seat file fits acts g = subst (λ (t : Option Task). Ans
 
 -- ---- a walk
 
-pub walk_first : (next : ℕ) (w : Walk) → First next (stage.Walking next w) (record { xid = next; call = Walks w })
-walk_first next w = record { xid = refl; pending = refl; hash = λ y o lt e. nothing_there o e; read = λ y. refl; commit = λ y e. absurd cc; walk = λ y v lt e. (let same = xid_is next y w v e in omega (arith, lt, same)); lease = λ y lt e. nothing_there y e }
+pub walk_first : (lbfs next : ℕ) (w : Walk) → First next (stage.Walking next w) (record { lbfs = lbfs; xid = next; call = Walks w })
+walk_first lbfs next w = record { xid = refl; pending = refl; hash = λ y o lt e. nothing_there o e; read = λ y. refl; commit = λ y e. absurd cc; walk = λ y v lt e. (let same = xid_is next y w v e in omega (arith, lt, same)); lease = λ y lt e. nothing_there y e }
   where
     xid_is : (x y : ℕ) (w v : Walk) → stage.Walking x w ≡ stage.Walking y v → x ≡ y
     xid_is x y w v e = cc
@@ -543,13 +546,13 @@ walk_begins : (book : Book) (k : Core) (qs : List Queue) (c : ℕ) (seat : Seat)
 walk_begins book k qs c seat p names g l room =
     let s = seat.client in
     let w = walk_begun p in
-    let a : Ask = record { xid = s.next_xid; call = Walks w } in
+    let a : Ask = record { lbfs = s.lbfs; xid = s.next_xid; call = Walks w } in
     let was = (g.kept.seats c seat g.here).next in
     let steps = g.kept.steps in
     let short = walk_calls_short w (begun_named p names) in
     let new = begun c (path_word p) 0 [] (k.steps + 1) in
     leads_begins book k qs c seat (path_word p) 0 [] s.cache s.sent s.next_temp (stage.Walking s.next_xid w) a (asks_next s w).1 g l refl refl refl refl (λ closing is. record {
-      first = walk_first s.next_xid w;
+      first = walk_first s.lbfs s.next_xid w;
       of_client = refl;
       word = begun_word p;
       of_file = refl;
@@ -561,6 +564,7 @@ walk_begins book k qs c seat p names g l room =
           let may : changes (path_word p) ≡ true = ap changes (begun_word p) ∙ creates_changes w.left w.goal making in
           record { place = length book.ops; known = is ∙ changing_closing (path_word p) l.session.closing (length book.ops) may; op = new; there = at_end book.ops new; unmade = (may, refl, refl); word_is = begun_word p; file_is = refl; waited = λ u. refl };
       fits = (omega (arith, room), begun_small p names);
+      speaks = (g.kept.seats c seat g.here).speaks;
       under = tt;
       piece = λ f. tt;
       cached = (g.kept.seats c seat g.here).kept;
@@ -595,7 +599,7 @@ walked_new book k qs c seat p names g = subst (λ (t : Option Task). Answers boo
 close_begins : (book : Book) (k : Core) (qs : List Queue) (c : ℕ) (seat : Seat) (file : ℕ) (v : Local) → (g : Idle book k qs c seat) → Linked book k qs c seat → client.local_at seat.client.opened file ≡ Some v → seat.client.next_xid < 4293967297 → Answers book k qs c seat words.Close file (client.local_bytes seat.client.opened file) (asks_temp seat.client file true)
 close_begins book k qs c seat file v g l at room =
     let s = seat.client in
-    let a : Ask = record { xid = s.next_xid; call = Make s.next_temp file } in
+    let a : Ask = record { lbfs = s.lbfs; xid = s.next_xid; call = Make s.next_temp file } in
     let was = (g.kept.seats c seat g.here).next in
     let le = was.1 in
     let steps = g.kept.steps in
@@ -604,7 +608,7 @@ close_begins book k qs c seat file v g l at room =
     let new = begun c words.Close file value (k.steps + 1) in
     let bytes : value ≡ v.bytes = ap (λ (o : Option Local). Rattle.std.specs.Prelude.unwrap_or (Rattle.std.specs.Prelude.option_map (λ z. z.bytes) o) []) at in
     leads_begins book k qs c seat words.Close file value s.cache s.sent (s.next_temp + 1) (stage.Making s.next_xid s.next_temp) a (asks_temp s file true).1 g l refl refl refl refl (λ closing is. record {
-      first = make_first s.next_xid s.next_temp file;
+      first = make_first s.lbfs s.next_xid s.next_temp file;
       of_client = refl;
       word = refl;
       of_file = refl;
@@ -613,7 +617,8 @@ close_begins book k qs c seat file v g l at room =
       right = begun_right (onward book 1 (book.ops ++ new ∷ [])) c words.Close file value (k.steps + 1) refl (ap (λ z. z + 1) steps);
       asked = tt;
       commit = λ contents. tt;
-      fits = (omega (arith, room), omega (arith, room, le), file_small book k qs file g.kept known.0);
+      fits = (omega (arith, room), omega (arith, room, le), file_small book k qs file g.kept known.0, spoken_by book k qs c seat g.kept g.here);
+      speaks = (g.kept.seats c seat g.here).speaks;
       under = omega arith;
       piece = λ f. tt;
       cached = (g.kept.seats c seat g.here).kept;
@@ -626,7 +631,7 @@ close_begins book k qs c seat file v g l at room =
       bounded = (omega (arith, room), omega (arith, le));
       closing_is = inr is;
       place = λ d e. (_, e, refl, refl);
-      begins = (file, refl);
+      begins = (file, s.lbfs, refl);
       tree = λ e. known.0;
     })
 

@@ -32,15 +32,14 @@ use Rattle.kept_promise.proofs.Leading.{Leads}
 use Rattle.server_core.specs.declared.change.Wanted.TheVariants as what
 use Rattle.server_law.proofs.TreeCalls.{entries_more, sizes_more}
 use Rattle.kept_promise.proofs.Rights.{WasThere}
-use Rattle.wire.specs.declared.message.TheConstants.{LBFS_SPOKEN}
 
 -- ---- it is refused
 
 -- the commit's close is unmade, and its client waits
-pub refusal_told : (book : Book) (k : Core) (qs : List Queue) (n now : ℕ) (x : Session) (q : Queue) (xid m f size : ℕ) (us : List Ask) (s : Status) → (g : Given book k qs n now x q (record { xid = xid; call = Commit m f size }) us) → x.cut ≡ false
-    → AnswerOf (onward book 1 book.ops) (x.taken ++ record { xid = xid; step = book.steps + 1 } ∷ []) x.closing (job (session_in book k qs n now x q (record { xid = xid; call = Commit m f size }) us g).seat) xid (Changed (Failed s tt))
-refusal_told book k qs n now x q xid m f size us s g uncut = λ j is at.
-    let h = session_in book k qs n now x q (record { xid = xid; call = Commit m f size }) us g in
+pub refusal_told : (book : Book) (k : Core) (qs : List Queue) (n now : ℕ) (x : Session) (q : Queue) (lbfs xid m f size : ℕ) (us : List Ask) (s : Status) → (g : Given book k qs n now x q (record { lbfs = lbfs; xid = xid; call = Commit m f size }) us) → x.cut ≡ false
+    → AnswerOf (onward book 1 book.ops) (x.taken ++ record { xid = xid; step = book.steps + 1 } ∷ []) x.closing (job (session_in book k qs n now x q (record { lbfs = lbfs; xid = xid; call = Commit m f size }) us g).seat) xid (Changed (Failed s tt))
+refusal_told book k qs n now x q lbfs xid m f size us s g uncut = λ j is at.
+    let h = session_in book k qs n now x q (record { lbfs = lbfs; xid = xid; call = Commit m f size }) us g in
     let p = (subst (AllAsks (IsCommit book x.closing x.cut (job h.seat) h.contents)) g.first h.commits).0.0 in
     let same : p.place ≡ j.place = ap (λ (z : Job). z.place) (some_is _ j (sym (p.waited uncut) ∙ is)) in
     (p.op, ap (λ (i : ℕ). slice_get book.ops i) (sym same) ∙ p.there, p.unmade, p.known ∙ ap (λ i. Some i) same)
@@ -49,18 +48,18 @@ tails : {b c : Ask} {us vs : List Ask} → b ∷ us ≡ c ∷ vs → us ≡ vs
 tails e = cc
 
 -- with the temporary file gone, or with all as they were
-refused_with : FitLaws → (book : Book) (k : Core) (qs : List Queue) (n now : ℕ) (x : Session) (q : Queue) (xid m f size : ℕ) (us : List Ask) (s : Status) (temps : List (ℕ × Temp)) → (g : Given book k qs n now x q (record { xid = xid; call = Commit m f size }) us) → ((i : ℕ) (e : ℕ × Temp) → slice_get temps i ≡ Some e → (j : ℕ) × (slice_get k.server.temps j ≡ Some e))
-    → IsShelf temps → ((o : ℕ) → (o ≡ n → ⊥) → SameFound k.server.temps temps o) → (x.cut ≡ false → Wanted (onward book 1 book.ops) (job (session_in book k qs n now x q (record { xid = xid; call = Commit m f size }) us g).seat) xid (Changed (Failed s tt)))
-    → (x.cut ≡ false → Held temps n us q.downs (locals_of (session_in book k qs n now x q (record { xid = xid; call = Commit m f size }) us g).seat.client) (job (session_in book k qs n now x q (record { xid = xid; call = Commit m f size }) us g).seat))
-    → Leads book (rest_of qs n q us) (answered k n (later k.server.leasing now) x (record { xid = xid; call = Commit m f size }) temps k.server.index (Changed (Failed s tt)))
-refused_with laws book k qs n now x q xid m f size us s temps g were shelf found wanted held =
-    let a : Ask = record { xid = xid; call = Commit m f size } in
+refused_with : FitLaws → (book : Book) (k : Core) (qs : List Queue) (n now : ℕ) (x : Session) (q : Queue) (lbfs xid m f size : ℕ) (us : List Ask) (s : Status) (temps : List (ℕ × Temp)) → (g : Given book k qs n now x q (record { lbfs = lbfs; xid = xid; call = Commit m f size }) us) → ((i : ℕ) (e : ℕ × Temp) → slice_get temps i ≡ Some e → (j : ℕ) × (slice_get k.server.temps j ≡ Some e))
+    → IsShelf temps → ((o : ℕ) → (o ≡ n → ⊥) → SameFound k.server.temps temps o) → (x.cut ≡ false → Wanted (onward book 1 book.ops) (job (session_in book k qs n now x q (record { lbfs = lbfs; xid = xid; call = Commit m f size }) us g).seat) xid (Changed (Failed s tt)))
+    → (x.cut ≡ false → Held temps n us q.downs (locals_of (session_in book k qs n now x q (record { lbfs = lbfs; xid = xid; call = Commit m f size }) us g).seat.client) (job (session_in book k qs n now x q (record { lbfs = lbfs; xid = xid; call = Commit m f size }) us g).seat))
+    → Leads book (rest_of qs n q us) (answered k n (later k.server.leasing now) x (record { lbfs = lbfs; xid = xid; call = Commit m f size }) temps k.server.index (Changed (Failed s tt)))
+refused_with laws book k qs n now x q lbfs xid m f size us s temps g were shelf found wanted held =
+    let a : Ask = record { lbfs = lbfs; xid = xid; call = Commit m f size } in
     let h = session_in book k qs n now x q a us g in
     let fits = first_fits book k qs n now x q a us g in
     leads_by book k qs n now x q a us temps k.server.index (Changed (Failed s tt)) g (record {
       program = refl;
-      fits = laws.plain xid (Changed (Failed s tt)) fits.0 tt;
-      answer = λ uncut. refusal_told book k qs n now x q xid m f size us s g uncut;
+      fits = laws.plain book.lbfs xid (Changed (Failed s tt)) fits.0 tt;
+      answer = λ uncut. refusal_told book k qs n now x q lbfs xid m f size us s g uncut;
       pieces = λ i o e lt is key. let w = were i e is in h.temps w.0 o e lt w.1 key;
       below = λ uncut i o e lt is key. let w = were i e is in (h.temps_below uncut).1 w.0 o e lt w.1 key;
       others = λ o i p e apart lt is key. were i e is;
@@ -85,18 +84,18 @@ pending_with : (book : Book) (closing : Option ℕ) (cut : Bool) (o : Option Job
 pending_with book closing cut o x f v bytes same p = record { place = p.place; known = p.known; op = p.op; there = p.there; unmade = p.unmade; word_is = p.word_is; file_is = p.file_is; size_is = p.size_is ∙ same.0; value_is = or_both book _ _ _ (λ a b. a ∙ sym b) p.value_is same.1; waited = p.waited }
 
 -- a commit comes to wait
-leads_waits : (book : Book) (k : Core) (qs : List Queue) (n now : ℕ) (x : Session) (q : Queue) (xid m f size : ℕ) (us : List Ask) (temps : List (ℕ × Temp)) (content : List ℕ) → (g : Given book k qs n now x q (record { xid = xid; call = Commit m f size }) us)
+leads_waits : (book : Book) (k : Core) (qs : List Queue) (n now : ℕ) (x : Session) (q : Queue) (lbfs xid m f size : ℕ) (us : List Ask) (temps : List (ℕ × Temp)) (content : List ℕ) → (g : Given book k qs n now x q (record { lbfs = lbfs; xid = xid; call = Commit m f size }) us)
     → ((i : ℕ) (e : ℕ × Temp) → slice_get temps i ≡ Some e → (j : ℕ) × (slice_get k.server.temps j ≡ Some e))
-    → SameBytes book ((session_in book k qs n now x q (record { xid = xid; call = Commit m f size }) us g).contents m) content
+    → SameBytes book ((session_in book k qs n now x q (record { lbfs = lbfs; xid = xid; call = Commit m f size }) us g).contents m) content
     → Roomy k.server content → WasThere book f → IsShelf temps → ((o : ℕ) → (o ≡ n → ⊥) → SameFound k.server.temps temps o)
-    → (x.cut ≡ false → Held temps n us q.downs (locals_of (session_in book k qs n now x q (record { xid = xid; call = Commit m f size }) us g).seat.client) (job (session_in book k qs n now x q (record { xid = xid; call = Commit m f size }) us g).seat))
+    → (x.cut ≡ false → Held temps n us q.downs (locals_of (session_in book k qs n now x q (record { lbfs = lbfs; xid = xid; call = Commit m f size }) us g).seat.client) (job (session_in book k qs n now x q (record { lbfs = lbfs; xid = xid; call = Commit m f size }) us g).seat))
     → Leads book (rest_of qs n q us) (served k n x xid (comes (record (at k.server now) { temps = temps }) (change_of n xid f (what.Content content))))
-leads_waits book k qs n now x q xid m f size us temps content g were same room known shelf found held =
-    let h = session_in book k qs n now x q (record { xid = xid; call = Commit m f size }) us g in
+leads_waits book k qs n now x q lbfs xid m f size us temps content g were same room known shelf found held =
+    let h = session_in book k qs n now x q (record { lbfs = lbfs; xid = xid; call = Commit m f size }) us g in
     let d : Change = change_of n xid f (what.Content content) in
     let first = (subst (AllAsks (IsCommit book x.closing x.cut (job h.seat) h.contents)) g.first h.commits).0.0 in
     let more = onward book 1 book.ops in
-    leads_coming book k qs n now x q (record { xid = xid; call = Commit m f size }) us temps d g (record {
+    leads_coming book k qs n now x q (record { lbfs = lbfs; xid = xid; call = Commit m f size }) us temps d g (record {
       session_is = refl;
       xid_is = refl;
       key_is = refl;
@@ -123,9 +122,9 @@ not_full a b c d e = by (nat_lt a b) refl e
     by false same e = (grind (arith, nat_tests, same), grind (arith, nat_tests, e))
 
 -- where its client is there, a commit finds its temporary file whole, and its file in the tree
-pub record IsReady (book : Book) (k : Core) (qs : List Queue) (n now : ℕ) (x : Session) (q : Queue) (xid m f size : ℕ) (us : List Ask) (g : Given book k qs n now x q (record { xid = xid; call = Commit m f size }) us) : Type 0 where
+pub record IsReady (book : Book) (k : Core) (qs : List Queue) (n now : ℕ) (x : Session) (q : Queue) (lbfs xid m f size : ℕ) (us : List Ask) (g : Given book k qs n now x q (record { lbfs = lbfs; xid = xid; call = Commit m f size }) us) : Type 0 where
   pub job_ : Job
-  pub is : job (session_in book k qs n now x q (record { xid = xid; call = Commit m f size }) us g).seat ≡ Some job_
+  pub is : job (session_in book k qs n now x q (record { lbfs = lbfs; xid = xid; call = Commit m f size }) us g).seat ≡ Some job_
   pub stage_is : job_.stage ≡ stage.Committing xid
   pub temp : Temp
   pub found : temp_at k.server.temps n m ≡ Some temp
@@ -134,7 +133,7 @@ pub record IsReady (book : Book) (k : Core) (qs : List Queue) (n now : ℕ) (x :
   pub target : IsStill k.server f ⊎ IsNone book k.server f
   pub small : nat_lt size_most size ≡ false
   pub alone : has_waiting k.server.waiting n ≡ false
-  pub left : Held (without_temp k.server.temps n m) n us q.downs (locals_of (session_in book k qs n now x q (record { xid = xid; call = Commit m f size }) us g).seat.client) (job (session_in book k qs n now x q (record { xid = xid; call = Commit m f size }) us g).seat)
+  pub left : Held (without_temp k.server.temps n m) n us q.downs (locals_of (session_in book k qs n now x q (record { lbfs = lbfs; xid = xid; call = Commit m f size }) us g).seat.client) (job (session_in book k qs n now x q (record { lbfs = lbfs; xid = xid; call = Commit m f size }) us g).seat)
 
 none_waits : (n : ℕ) (ws : List Change) → length (own n ws) ≡ 0 → has_waiting ws n ≡ false
 none_waits n [] e = refl
@@ -144,14 +143,14 @@ none_waits n (w ∷ ws) e = by (w.session == n) e (none_waits n ws)
     by true e later = absurd (omega (arith, e))
     by false e later = later e
 
-is_ready : (book : Book) (k : Core) (qs : List Queue) (n now : ℕ) (x : Session) (q : Queue) (xid m f size : ℕ) (us : List Ask) → (g : Given book k qs n now x q (record { xid = xid; call = Commit m f size }) us) → x.cut ≡ false → IsReady book k qs n now x q xid m f size us g
-is_ready book k qs n now x q xid m f size us g uncut =
-    let a : Ask = record { xid = xid; call = Commit m f size } in
+is_ready : (book : Book) (k : Core) (qs : List Queue) (n now : ℕ) (x : Session) (q : Queue) (lbfs xid m f size : ℕ) (us : List Ask) → (g : Given book k qs n now x q (record { lbfs = lbfs; xid = xid; call = Commit m f size }) us) → x.cut ≡ false → IsReady book k qs n now x q lbfs xid m f size us g
+is_ready book k qs n now x q lbfs xid m f size us g uncut =
+    let a : Ask = record { lbfs = lbfs; xid = xid; call = Commit m f size } in
     let h = session_in book k qs n now x q a us g in
     let p = place_at book k qs n now x q a us g uncut in
     let v = locals_of h.seat.client p.0.file in
     let held = subst (HeldIn k.server.temps n (a ∷ us) q.downs v) p.2 (subst (Held k.server.temps n (a ∷ us) q.downs (locals_of h.seat.client)) p.1 (held_at book k qs n now x q a us g uncut)) in
-    let t = held.0 (0, m, f, size, refl) in
+    let t = held.0 (0, m, f, size, lbfs, refl) in
     let sized_is : size ≡ length (h.contents m) = (subst (AllAsks (IsCommit book x.closing x.cut (job h.seat) h.contents)) g.first h.commits).0.1 in
     let short = h.lengths m in
     let there = still_or_none book k.server f g.kept.server (subst (λ (z : ℕ). WasThere book z) p.3 ((h.orderly uncut).tree p.0 p.1 (ap stage_word p.2))) (first_fits book k qs n now x q a us g).2 in
@@ -169,14 +168,14 @@ is_ready book k qs n now x q xid m f size us g uncut =
       target = there;
       small = (let le : size ≤ 67108864 = omega (arith, sized_is, short) in grind (arith, nat_tests, le));
       alone = none_waits n k.server.waiting (omega (arith, single, first));
-      left = subst (Held (without_temp k.server.temps n m) n us q.downs (locals_of h.seat.client)) (sym p.1) (subst (HeldIn (without_temp k.server.temps n m) n us q.downs v) (sym p.2) (λ u. absurd (rest_above book k qs n now x q a us g uncut u.0 (record { xid = xid; call = Commit u.1 u.2 u.3 }) u.4 refl), λ u. one_out k.server.temps n m t.0 g.kept.shelf t.1));
+      left = subst (Held (without_temp k.server.temps n m) n us q.downs (locals_of h.seat.client)) (sym p.1) (subst (HeldIn (without_temp k.server.temps n m) n us q.downs v) (sym p.2) (λ u. absurd (rest_above book k qs n now x q a us g uncut u.0 (record { lbfs = u.4; xid = xid; call = Commit u.1 u.2 u.3 }) u.5 refl), λ u. one_out k.server.temps n m t.0 g.kept.shelf t.1));
     }
 
 -- it is refused for want of room
-no_room : FitLaws → (book : Book) (k : Core) (qs : List Queue) (n now : ℕ) (x : Session) (q : Queue) (xid m f size : ℕ) (us : List Ask) → (g : Given book k qs n now x q (record { xid = xid; call = Commit m f size }) us) → (content : List ℕ) → x.cut ≡ false → SameBytes book ((session_in book k qs n now x q (record { xid = xid; call = Commit m f size }) us g).contents m) content → is_full k.server (length content) ≡ true
-    → Wanted (onward book 1 book.ops) (job (session_in book k qs n now x q (record { xid = xid; call = Commit m f size }) us g).seat) xid (Changed (Failed status.NoSpc tt))
-no_room laws book k qs n now x q xid m f size us g content uncut is full =
-    let a : Ask = record { xid = xid; call = Commit m f size } in
+no_room : FitLaws → (book : Book) (k : Core) (qs : List Queue) (n now : ℕ) (x : Session) (q : Queue) (lbfs xid m f size : ℕ) (us : List Ask) → (g : Given book k qs n now x q (record { lbfs = lbfs; xid = xid; call = Commit m f size }) us) → (content : List ℕ) → x.cut ≡ false → SameBytes book ((session_in book k qs n now x q (record { lbfs = lbfs; xid = xid; call = Commit m f size }) us g).contents m) content → is_full k.server (length content) ≡ true
+    → Wanted (onward book 1 book.ops) (job (session_in book k qs n now x q (record { lbfs = lbfs; xid = xid; call = Commit m f size }) us g).seat) xid (Changed (Failed status.NoSpc tt))
+no_room laws book k qs n now x q lbfs xid m f size us g content uncut is full =
+    let a : Ask = record { lbfs = lbfs; xid = xid; call = Commit m f size } in
     let h = session_in book k qs n now x q a us g in
     let p = place_at book k qs n now x q a us g uncut in
     let of = (g.kept.seats x.owner h.seat h.owner).task p.0 p.1 in
@@ -201,7 +200,7 @@ no_room laws book k qs n now x q xid m f size us g content uncut is full =
           bytes = message_spell (ask_message a);
           event_is = refl;
           xid = xid;
-          call = record { lbfs = LBFS_SPOKEN; fd = m; handle = handle_bytes f; size = size; base = None };
+          call = record { lbfs = lbfs; fd = m; handle = handle_bytes f; size = size; base = None };
           parsed = parsed laws a (first_fits book k qs n now x q a us g);
           size = (subst (AllAsks (IsCommit book x.closing x.cut (job h.seat) h.contents)) g.first h.commits).0.1 ∙ value;
           after = omega (arith, begun, steps);
@@ -219,27 +218,27 @@ no_room laws book k qs n now x q xid m f size us g content uncut is full =
     )
 
 -- it is refused since its file is gone
-target_gone : (book : Book) (k : Core) (qs : List Queue) (n now : ℕ) (x : Session) (q : Queue) (xid m f size : ℕ) (us : List Ask) → (g : Given book k qs n now x q (record { xid = xid; call = Commit m f size }) us) → x.cut ≡ false → value_at book f (book.steps + 1) ≡ None
-    → Wanted (onward book 1 book.ops) (job (session_in book k qs n now x q (record { xid = xid; call = Commit m f size }) us g).seat) xid (Changed (Failed status.Stale tt))
-target_gone book k qs n now x q xid m f size us g uncut gone =
-    let a : Ask = record { xid = xid; call = Commit m f size } in
+target_gone : (book : Book) (k : Core) (qs : List Queue) (n now : ℕ) (x : Session) (q : Queue) (lbfs xid m f size : ℕ) (us : List Ask) → (g : Given book k qs n now x q (record { lbfs = lbfs; xid = xid; call = Commit m f size }) us) → x.cut ≡ false → value_at book f (book.steps + 1) ≡ None
+    → Wanted (onward book 1 book.ops) (job (session_in book k qs n now x q (record { lbfs = lbfs; xid = xid; call = Commit m f size }) us g).seat) xid (Changed (Failed status.Stale tt))
+target_gone book k qs n now x q lbfs xid m f size us g uncut gone =
+    let a : Ask = record { lbfs = lbfs; xid = xid; call = Commit m f size } in
     let h = session_in book k qs n now x q a us g in
     let p = place_at book k qs n now x q a us g uncut in
     let w = close_gone book k qs x.owner h.seat p.0 g.kept h.owner p.1 (ap stage_word p.2) (ap is_naming p.2) (ap (λ (z : ℕ). value_at book z (book.steps + 1)) p.3 ∙ gone) in
     (p.0, w.0, p.1, p.2, w.1, w.2, inr (w.3, refl))
 
-pub serve_commit : FitLaws → (book : Book) (k : Core) (qs : List Queue) (n now : ℕ) (x : Session) (q : Queue) (xid m f size : ℕ) (us : List Ask) → Given book k qs n now x q (record { xid = xid; call = Commit m f size }) us
-    → Leads book (rest_of qs n q us) (served k n x xid (commits (at k.server now) n xid (record { lbfs = LBFS_SPOKEN; fd = m; handle = handle_bytes f; size = size; base = None }) (temp_at k.server.temps n m)))
-serve_commit laws book k qs n now x q xid m f size us g = by (temp_at k.server.temps n m) refl
+pub serve_commit : FitLaws → (book : Book) (k : Core) (qs : List Queue) (n now : ℕ) (x : Session) (q : Queue) (lbfs xid m f size : ℕ) (us : List Ask) → Given book k qs n now x q (record { lbfs = lbfs; xid = xid; call = Commit m f size }) us
+    → Leads book (rest_of qs n q us) (served k n x xid (commits (at k.server now) n xid (record { lbfs = lbfs; fd = m; handle = handle_bytes f; size = size; base = None }) (temp_at k.server.temps n m)))
+serve_commit laws book k qs n now x q lbfs xid m f size us g = by (temp_at k.server.temps n m) refl
   where
     a : Ask
-    a = record { xid = xid; call = Commit m f size }
+    a = record { lbfs = lbfs; xid = xid; call = Commit m f size }
 
     h : IsSession book k.seats k.server n x q
     h = session_in book k qs n now x q a us g
 
-    ready : x.cut ≡ false → IsReady book k qs n now x q xid m f size us g
-    ready uncut = is_ready book k qs n now x q xid m f size us g uncut
+    ready : x.cut ≡ false → IsReady book k qs n now x q lbfs xid m f size us g
+    ready uncut = is_ready book k qs n now x q lbfs xid m f size us g uncut
 
     left : List (ℕ × Temp)
     left = without_temp k.server.temps n m
@@ -248,16 +247,16 @@ serve_commit laws book k qs n now x q xid m f size us g = by (temp_at k.server.t
     others o apart p lt = other_out k.server.temps n m o p (first_fits book k qs n now x q a us g).1 lt apart
 
     fails : (s : Status) → (x.cut ≡ false → ⊥) → Leads book (rest_of qs n q us) (answered k n (later k.server.leasing now) x a k.server.temps k.server.index (Changed (Failed s tt)))
-    fails s never = refused_with laws book k qs n now x q xid m f size us s k.server.temps g (λ i e is. (i, is)) g.kept.shelf (λ o apart p lt. refl) (λ uncut. absurd (never uncut)) (λ uncut. absurd (never uncut))
+    fails s never = refused_with laws book k qs n now x q lbfs xid m f size us s k.server.temps g (λ i e is. (i, is)) g.kept.shelf (λ o apart p lt. refl) (λ uncut. absurd (never uncut)) (λ uncut. absurd (never uncut))
 
     ends : (s : Status) → (x.cut ≡ false → Wanted (onward book 1 book.ops) (job h.seat) xid (Changed (Failed s tt))) → Leads book (rest_of qs n q us) (answered k n (later k.server.leasing now) x a left k.server.index (Changed (Failed s tt)))
-    ends s wanted = refused_with laws book k qs n now x q xid m f size us s left g (λ i e is. of_removed _ k.server.temps i e is) (shelf_out k.server.temps n m g.kept.shelf) others wanted (λ uncut. (ready uncut).left)
+    ends s wanted = refused_with laws book k qs n now x q lbfs xid m f size us s left g (λ i e is. of_removed _ k.server.temps i e is) (shelf_out k.server.temps n m g.kept.shelf) others wanted (λ uncut. (ready uncut).left)
 
     has_room : (id : ℕ) (content : List ℕ) (w full : Bool) → has_waiting k.server.waiting n ≡ w → is_full (record (at k.server now) { temps = left }) (length content) ≡ full → id ≡ f → WasThere book f → SameBytes book (h.contents m) content
         → Leads book (rest_of qs n q us) (served k n x xid (if w then answers (record (at k.server now) { temps = left }) n xid (lb.CommitTmpAnswer (Failed status.Jukebox tt)) else if full then answers (record (at k.server now) { temps = left }) n xid (lb.CommitTmpAnswer (Failed status.NoSpc tt)) else comes (record (at k.server now) { temps = left }) (change_of n xid id (what.Content content))))
     has_room id content true full waits e same known is = ends status.Jukebox (λ uncut. absurd (false_and_true (has_waiting k.server.waiting n) (ready uncut).alone waits))
-    has_room id content false true waits e same known is = ends status.NoSpc (λ uncut. no_room laws book k qs n now x q xid m f size us g content uncut is e)
-    has_room id content false false waits e same known is = subst (λ (i : ℕ). Leads book (rest_of qs n q us) (served k n x xid (comes (record (at k.server now) { temps = left }) (change_of n xid i (what.Content content))))) (sym same) (leads_waits book k qs n now x q xid m f size us left content g (λ i u w. of_removed _ k.server.temps i u w) is (not_full changes_most (k.server.tree.changes + server.entries_held k.server.waiting + 1) tree_most (server.bytes_held k.server + length content) e) known (shelf_out k.server.temps n m g.kept.shelf) others (λ uncut. (ready uncut).left))
+    has_room id content false true waits e same known is = ends status.NoSpc (λ uncut. no_room laws book k qs n now x q lbfs xid m f size us g content uncut is e)
+    has_room id content false false waits e same known is = subst (λ (i : ℕ). Leads book (rest_of qs n q us) (served k n x xid (comes (record (at k.server now) { temps = left }) (change_of n xid i (what.Content content))))) (sym same) (leads_waits book k qs n now x q lbfs xid m f size us left content g (λ i u w. of_removed _ k.server.temps i u w) is (not_full changes_most (k.server.tree.changes + server.entries_held k.server.waiting + 1) tree_most (server.bytes_held k.server + length content) e) known (shelf_out k.server.temps n m g.kept.shelf) others (λ uncut. (ready uncut).left))
 
     whole : (id : ℕ) (t : Temp) (o : Option (List ℕ)) → temp_at k.server.temps n m ≡ Some t → assembled t size ≡ o → id ≡ f → WasThere book f → ((c : List ℕ) → o ≡ Some c → SameBytes book (h.contents m) c) → Leads book (rest_of qs n q us) (served k n x xid (commits_whole (record (at k.server now) { temps = left }) n xid id o))
     whole id t None found none same known is = ends status.Inval (λ uncut. let r = ready uncut in nothing_there r.content (sym none ∙ ap (λ (z : Temp). assembled z size) (some_is t r.temp (sym found ∙ r.found)) ∙ r.whole))
@@ -281,9 +280,9 @@ serve_commit laws book k qs n now x q xid m f size us g = by (temp_at k.server.t
 
         not_root : (z : File) → ◌≡◌ {A = Result Node Status} (Ok directory) (Ok (file z)) → ⊥
         not_root z q = absurd cc
-    nodes t found (is_gone none e) = subst (λ (nd : Result Node Status). Leads book (rest_of qs n q us) (served k n x xid (commits_to (record (at k.server now) { temps = left }) n xid size t nd))) (sym e) (ends status.Stale (λ uncut. target_gone book k qs n now x q xid m f size us g uncut (subst (FileIs book f) none (g.kept.server.held f))))
+    nodes t found (is_gone none e) = subst (λ (nd : Result Node Status). Leads book (rest_of qs n q us) (served k n x xid (commits_to (record (at k.server now) { temps = left }) n xid size t nd))) (sym e) (ends status.Stale (λ uncut. target_gone book k qs n now x q lbfs xid m f size us g uncut (subst (FileIs book f) none (g.kept.server.held f))))
     nodes t found (is_file z there e) = subst (λ (nd : Result Node Status). Leads book (rest_of qs n q us) (served k n x xid (commits_to (record (at k.server now) { temps = left }) n xid size t nd))) (sym e) (sized (nat_lt size_most size) z.id t refl found (subst (FileIs book f) there (g.kept.server.held f)).0 (is_there book f z (subst (FileIs book f) there (g.kept.server.held f))))
 
-    by : (o : Option Temp) → temp_at k.server.temps n m ≡ o → Leads book (rest_of qs n q us) (served k n x xid (commits (at k.server now) n xid (record { lbfs = LBFS_SPOKEN; fd = m; handle = handle_bytes f; size = size; base = None }) o))
+    by : (o : Option Temp) → temp_at k.server.temps n m ≡ o → Leads book (rest_of qs n q us) (served k n x xid (commits (at k.server now) n xid (record { lbfs = lbfs; fd = m; handle = handle_bytes f; size = size; base = None }) o))
     by None found = fails status.BadFd (λ uncut. let r = ready uncut in nothing_there r.temp (sym found ∙ r.found))
     by (Some t) found = nodes t found (looked k.server.tree f (first_fits book k qs n now x q a us g).2)

@@ -52,7 +52,7 @@ nothing_waits fits w all ms n x m kept carry fit rested at is alone =
     let still = both_true (is_none v.0.up) (is_none v.0.down) (sym (ap is_still_at v.1) ∙ alone.still) in
     let s = kept.sessions n x (queue_of m) at (there_plain ms n m is) in
     let ups : m.ups ≡ [] = none_mapped up_message m.ups (none_mapped message_spell (map up_message m.ups) (nothing_comes v.0.server_end (map message_spell (map up_message m.ups)) (ups_short fits m.ups s.ups_fit mix.ups) c.up_sound r.0 (ap (λ l. v.0.server_end.rest ++ l) (sym (is_empty v.0.up still.0)) ∙ c.up))) in
-    let downs : m.downs ≡ [] = none_mapped down_message m.downs (none_mapped message_spell (map down_message m.downs) (nothing_comes v.0.client_end (map message_spell (map down_message m.downs)) (downs_short m.downs s.downs_fit mix.downs) c.down_sound r.1 (ap (λ l. v.0.client_end.rest ++ l) (sym (is_empty v.0.down still.1)) ∙ c.down))) in
+    let downs : m.downs ≡ [] = none_mapped down_message m.downs (none_mapped message_spell (map down_message m.downs) (nothing_comes v.0.client_end (map message_spell (map down_message m.downs)) (downs_short w.core.lbfs m.downs s.downs_fit mix.downs) c.down_sound r.1 (ap (λ l. v.0.client_end.rest ++ l) (sym (is_empty v.0.down still.1)) ∙ c.down))) in
     let changes : own n w.core.server.waiting ≡ [] = own_none n w.core.server.waiting alone.waiting in
     ap (λ us. map ask_key (asks_in us) ++ (map change_key (own n w.core.server.waiting) ++ map told_key (tolds_in m.downs))) ups ∙ ap (λ cs. map change_key cs ++ map told_key (tolds_in m.downs)) changes ∙ ap (λ ds. map told_key (tolds_in ds)) downs
 

@@ -13,7 +13,7 @@ use Rattle.kept_promise.proofs.Lists.{some_is, nothing_there, same_or_not, of_re
 use Rattle.kept_promise.proofs.Messages.{Job, job, job_of, IsCommit, CommitOf, IsPending, WaitsFor}
 use Rattle.kept_promise.proofs.Rights.{IsRight, is_remote, Caused}
 use Rattle.kept_promise.proofs.History.{Goes, Still, Becomes, onward, grows_same, goes_same, still_same, goes_becomes, still_becomes}
-use Rattle.kept_promise.proofs.Later.{commit_later, waits_later, pieces_later, parts_later, cached_later, same_view, Spares}
+use Rattle.kept_promise.proofs.Later.{speak_later, serves_later, commit_later, waits_later, pieces_later, parts_later, cached_later, same_view, Spares}
 use Rattle.kept_promise.proofs.Turns.{Around, around_with, also_numbered, turned_core, kept_turn}
 use Rattle.kept_promise.proofs.Rests.{kept_rest}
 use Rattle.kept_promise.proofs.Facts.{IsSeat, IsMatched, IsKept}
@@ -69,7 +69,7 @@ cut_kept book more k qs c n x q seat ended after kept here at is owner newest go
       seat_around = subst (λ (z : ℕ). Around k.seats seats z d) (sym owner) seated;
       owner = refl;
       goes = goes;
-      server = record { held = λ f. file_still book more None ended f (the_files.file_at k.server.tree f) g still (kept.server.held f); fresh = fresh_still book more None ended k.server.tree g still kept.server.fresh; bounded = kept.server.bounded; zero = kept.server.zero; rooted = kept.server.rooted; wants = kept.server.wants; changes = kept.server.changes; bytes = kept.server.bytes; lengths = kept.server.lengths; targets = λ i z e. there_later book more None ended z.file g (kept.server.targets i z e); xids = kept.server.xids; leases = kept.server.leases };
+      server = record { held = λ f. file_still book more None ended f (the_files.file_at k.server.tree f) g still (kept.server.held f); fresh = fresh_still book more None ended k.server.tree g still kept.server.fresh; bounded = kept.server.bounded; zero = kept.server.zero; rooted = kept.server.rooted; wants = kept.server.wants; changes = kept.server.changes; bytes = kept.server.bytes; lengths = kept.server.lengths; targets = λ i z e. there_later book more None ended z.file g (kept.server.targets i z e); xids = kept.server.xids; leases = kept.server.leases; serves = serves_later book more None ended g kept.server.serves };
       sessions_made = refl;
       view = λ m apart. same_view m k.server;
       elsewhere = inr newest;
@@ -84,6 +84,7 @@ cut_kept book more k qs c n x q seat ended after kept here at is owner newest go
         lost = h.lost;
         stands_is = h.stands_is;
         ups_fit = h.ups_fit;
+        ups_speak = speak_later book more None ended q.ups g h.ups_speak;
         downs_fit = tt;
         talk = λ e. absurd cc;
         contents = h.contents;
@@ -102,6 +103,7 @@ cut_kept book more k qs c n x q seat ended after kept here at is owner newest go
         session = λ m e. let same : n ≡ m = some_is n m (sym newest ∙ e) in (y, ap (numbered sessions) (sym same) ∙ around.there, owner);
         linked = λ e. absurd cc;
         unlinked = λ e. (refl, refl);
+        speaks = was.speaks ∙ sym g.lbfs;
         matched = inl (refl, refl);
         task = λ j e. nothing_there j e;
         trying = λ j i z e f. nothing_there j e;
@@ -184,7 +186,7 @@ pub idle_kept : (book : Book) (k : Core) (qs : List Queue) → IsKept book k qs 
 idle_kept book k qs kept =
     subst (λ (z : Core). IsKept (onward book 1 book.ops) z qs) (core_is book k qs k.server k.seats k.sessions kept)
     (kept_rest book (onward book 1 book.ops) k qs k.server (goes_same book 1 kept.sound)
-    (record { held = λ f. file_still book (onward book 1 book.ops) None None f (the_files.file_at k.server.tree f) (grows_same book 1) (still_same book 1 kept.sound) (kept.server.held f); fresh = fresh_still book (onward book 1 book.ops) None None k.server.tree (grows_same book 1) (still_same book 1 kept.sound) kept.server.fresh; bounded = kept.server.bounded; zero = kept.server.zero; rooted = kept.server.rooted; wants = kept.server.wants; changes = kept.server.changes; bytes = kept.server.bytes; lengths = kept.server.lengths; targets = λ i c e. there_later book (onward book 1 book.ops) None None c.file (grows_same book 1) (kept.server.targets i c e); xids = kept.server.xids; leases = kept.server.leases })
+    (record { held = λ f. file_still book (onward book 1 book.ops) None None f (the_files.file_at k.server.tree f) (grows_same book 1) (still_same book 1 kept.sound) (kept.server.held f); fresh = fresh_still book (onward book 1 book.ops) None None k.server.tree (grows_same book 1) (still_same book 1 kept.sound) kept.server.fresh; bounded = kept.server.bounded; zero = kept.server.zero; rooted = kept.server.rooted; wants = kept.server.wants; changes = kept.server.changes; bytes = kept.server.bytes; lengths = kept.server.lengths; targets = λ i c e. there_later book (onward book 1 book.ops) None None c.file (grows_same book 1) (kept.server.targets i c e); xids = kept.server.xids; leases = kept.server.leases; serves = kept.server.serves })
     refl (λ m. same_view m k.server) kept.home kept.running kept.journal kept.shelf kept)
 
 pub leads_idle : (book : Book) (k : Core) (qs : List Queue) → IsKept book k qs → Leads book qs (idles k)

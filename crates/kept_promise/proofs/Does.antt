@@ -48,6 +48,7 @@ session_cleared book seats s n x q h free = record {
   lost = h.lost;
   stands_is = h.stands_is;
   ups_fit = h.ups_fit;
+  ups_speak = h.ups_speak;
   downs_fit = h.downs_fit;
   talk = λ u. let t = h.talk u in record { floor = t.floor; under = tt; rising = t.rising; numbered = (t.numbered.0, refl); asked = t.asked; answers = answers_free book [] x.closing (job h.seat) q.downs free; fetch = λ j e. nothing_there j (sym free ∙ e); balanced = t.balanced; busy = t.busy };
   contents = h.contents;
@@ -65,6 +66,7 @@ session_cleared book seats s n x q h free = record {
 
 pub kept_cleared : (book : Book) (k : Core) (qs : List Queue) (n : ℕ) (x : Session) (seat : Seat) → IsKept book k qs → numbered k.sessions n ≡ Some x → numbered k.seats x.owner ≡ Some seat → job seat ≡ None → IsKept book (record k { sessions = with_numbered k.sessions n (cleared x) }) qs
 kept_cleared book k qs n x seat h at here free = record {
+  lbfs = h.lbfs;
   ops = h.ops;
   steps = h.steps;
   journal = h.journal;
@@ -84,6 +86,7 @@ kept_cleared book k qs n x seat h at here free = record {
     session = λ m g. let w = s.session m g in let v = moved m w.0 w.1 in (v.0, v.1, v.2 ∙ w.2);
     linked = λ g. let w = s.linked g in let v = moved w.0 w.1 w.3 in (w.0, v.0, w.2, v.1, v.3 ∙ w.4);
     unlinked = s.unlinked;
+    speaks = s.speaks;
     matched = s.matched;
     task = s.task;
     trying = s.trying;
@@ -231,8 +234,8 @@ not_running w o i e = absurd i
 own_pointless : (k : Core) (c : ℕ) (w : Word) (file : ℕ) (value : List ℕ) (s : client.State) (o : Outcome) → IsOwn w o → (own_op k c w file value s o).point ≡ None
 own_pointless k c w file value s o own = by (own_op k c w file value s o).point refl
   where
-    r : IsRight (record { opening = []; ops = []; steps = k.steps + 1; journal = []; entries = []; moments = [] }) (own_op k c w file value s o)
-    r = own_right (record { opening = []; ops = []; steps = k.steps + 1; journal = []; entries = []; moments = [] }) (k.steps + 1) c w file value s o own refl
+    r : IsRight (record { lbfs = 0; opening = []; ops = []; steps = k.steps + 1; journal = []; entries = []; moments = [] }) (own_op k c w file value s o)
+    r = own_right (record { lbfs = 0; opening = []; ops = []; steps = k.steps + 1; journal = []; entries = []; moments = [] }) (k.steps + 1) c w file value s o own refl
 
     by : (p : Option ℕ) → (own_op k c w file value s o).point ≡ p → p ≡ None
     by None e = refl

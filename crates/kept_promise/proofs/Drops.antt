@@ -115,6 +115,7 @@ kept_dropped book ops k qs n x q t ts seats after kept at is first uncut i there
       rising = omega arith;
       asked = tt;
       fits = tt;
+      speak = tt;
       commits = tt;
       pieces = tt;
       under = tt;
@@ -135,6 +136,7 @@ seat_dropped book sessions i seat xid linked h = record {
   session = h.session;
   linked = h.linked;
   unlinked = λ e. absurd (false_and_true seat.client.linked e linked);
+  speaks = h.speaks;
   matched = h.matched;
   task = h.task;
   trying = h.trying;

@@ -331,7 +331,7 @@ taken_sent fits all past opening k qs mid n now bytes xid b kept f sent read may
     call : ask_message f.1 ≡ message.Call xid b
     call =
         let x = also_numbered qs k.sessions n f.0 (sym kept.made.1) f.3 in
-        let fit = (subst (AllAsks (λ u. CallFits u.xid u.call)) f.4 (kept.sessions n x.0 f.0 x.1 f.3).ups_fit).0 in
+        let fit = (subst (AllAsks (λ u. CallFits u.lbfs u.xid u.call)) f.4 (kept.sessions n x.0 f.0 x.1 f.3).ups_fit).0 in
         same_read (parse_of server_waiting bytes) (ask_message f.1) (message.Call xid b) (ap (parse_of server_waiting) f.5 ∙ parsed fits f.1 fit) read
 
 -- the call of what an event makes

@@ -1,5 +1,5 @@
 -- What holds in each world of a run: of each session with its owner, of each client, and of all together.
-use Rattle.std.proofs.Common.{◌≡◌, ℕ, suc, ◌+◌, ◌*◌, ◌<◌, ◌≤◌, List, [], ◌∷◌, ◌⊎◌, Option, Some, None, Bool, true, false, length, map, arith}
+use Rattle.std.proofs.Common.{◌≡◌, ℕ, suc, ◌+◌, ◌*◌, ◌<◌, ◌≤◌, List, [], ◌∷◌, ◌⊎◌, Option, Some, None, Bool, true, false, length, map, sym, subst, arith}
 use Rattle.client_cache.specs.Cache.{Entries, content_of as kept_of}
 use Rattle.client_cache.specs.declared.kept.Content.{Content}
 use Rattle.server_core.specs.State as server
@@ -10,7 +10,7 @@ use Rattle.client_state.specs.declared.task.Way.TheVariants as way
 use Rattle.register_model.specs.declared.op.Outcome.TheVariants as told
 use Rattle.kept_promise.proofs.Common.{slice_get, not, MessageFits, Pending, stands, Temp, key_of, Change, File, Local, Stage, StoreCall, Op, Core, Seat, Session, numbered, hashed_of, Book, HadContent, Or, value_at, version_at, Call, Call.Commit, Call.Walks, Ask, Queue, told_message, cond, changes, Leasing, taken_at}
 use Rattle.kept_promise.proofs.PathNames.{IsWalkSmall, walk_calls, is_creating}
-use Rattle.kept_promise.proofs.Statements.{ToldFits, CallFits}
+use Rattle.kept_promise.proofs.Statements.{IsSpoken, ToldFits, CallFits}
 use Rattle.kept_promise.proofs.Keys.{times, own, on_way, pending_key, IsOurs}
 use Rattle.kept_promise.proofs.Messages.{Job, job, stage_word, goal_word, AllAsks, AllTolds, AllUnder, Rising, IsAsked, IsAnswer, IsTrying, HasFetch, IsCommit, IsPiece, WaitsFor, walk_for, TempUnder, AreParts, CloseOf, content_wanted}
 use Rattle.kept_promise.proofs.Rights.{WasThere, IsSound}
@@ -85,8 +85,10 @@ pub record IsSession (book : Book) (seats : List Seat) (s : server.State) (n : �
   pub shut : x.cut ≡ true → q.downs ≡ []
   pub lost : x.hung ≡ true → q.ups ≡ []
   pub stands_is : stands s n ≡ not x.hung
-  pub ups_fit : AllAsks (λ a. CallFits a.xid a.call) q.ups
-  pub downs_fit : AllTolds (λ t. ToldFits t) q.downs
+  pub ups_fit : AllAsks (λ a. CallFits a.lbfs a.xid a.call) q.ups
+  -- each call is of the version that the clients speak, and each answer is laid out in it
+  pub ups_speak : AllAsks (λ a. a.lbfs ≡ book.lbfs) q.ups
+  pub downs_fit : AllTolds (ToldFits book.lbfs) q.downs
   pub talk : x.cut ≡ false → IsTalk book n s.waiting x q seat
   -- what each temporary file of the session is to be
   pub contents : ℕ → List ℕ
@@ -129,6 +131,7 @@ pub record IsSeat (book : Book) (sessions : List Session) (i : ℕ) (seat : Seat
   pub session : (n : ℕ) → seat.session ≡ Some n → (x : Session) × (numbered sessions n ≡ Some x) × (x.owner ≡ i)
   pub linked : seat.client.linked ≡ true → (n : ℕ) × (x : Session) × (seat.session ≡ Some n) × (numbered sessions n ≡ Some x) × (x.cut ≡ false)
   pub unlinked : seat.client.linked ≡ false → (seat.client.task ≡ None) × (seat.client.forgotten ≡ [])
+  pub speaks : seat.client.lbfs ≡ book.lbfs
   pub matched : IsMatched seat
   pub task : (j : Job) → job seat ≡ Some j → IsOf book i j
   pub trying : IsTrying book (job seat)
@@ -184,10 +187,13 @@ pub record IsServer (book : Book) (s : server.State) : Type 0 where
   pub targets : (i : ℕ) (c : Change) → slice_get s.waiting i ≡ Some c → WasThere book c.file
   pub xids : (i : ℕ) (c : Change) → slice_get s.waiting i ≡ Some c → c.xid < 4294967296
   pub leases : HasTerm s.leasing
+  -- the version that the clients speak is one that is served
+  pub serves : IsSpoken book.lbfs
 
 -- ---- all of it
 
 pub record IsKept (book : Book) (k : Core) (qs : List Queue) : Type 0 where
+  pub lbfs : book.lbfs ≡ k.lbfs
   pub ops : book.ops ≡ k.ops
   pub steps : book.steps ≡ k.steps
   pub journal : book.journal ≡ k.server.journal
@@ -207,3 +213,7 @@ pub record IsKept (book : Book) (k : Core) (qs : List Queue) : Type 0 where
   pub shelf : IsShelf k.server.temps
   -- no temporary file is of a session that was never made
   pub unborn : (n m i : ℕ) (e : ℕ × Temp) → length k.sessions < n → m < 4294967296 → slice_get k.server.temps i ≡ Some e → e.0 ≡ key_of n m → ⊥
+
+-- the version that a client speaks is one that is served
+pub spoken_by : (book : Book) (k : Core) (qs : List Queue) (i : ℕ) (seat : Seat) → IsKept book k qs → numbered k.seats i ≡ Some seat → IsSpoken seat.client.lbfs
+spoken_by book k qs i seat kept at = subst IsSpoken (sym (kept.seats i seat at).speaks) kept.server.serves

@@ -120,7 +120,7 @@ holds_known_heard v us ts st ps x p u there same named alone h = record {
 -- ---- lists of calls on their way, and more
 
 pub send_front : (us more : List Ask) (x : ℕ) → UpSend us x → UpSend (us ++ more) x
-send_front us more x (i, m, s, b, e) = (i, m, s, b, front us i e)
+send_front us more x (i, m, s, b, v, e) = (i, m, s, b, v, front us i e)
   where
     front : {a : Ask} (us : List Ask) (i : ℕ) → slice_get us i ≡ Some a → slice_get (us ++ more) i ≡ Some a
     front {a} [] i e = nothing_there a e
@@ -134,7 +134,7 @@ of_two (z ∷ us) more zero a e = inl (0, e)
 of_two (z ∷ us) more (suc i) a e = elim (of_two us more i a e) [ inl h ↦ inl (suc h.0, h.1) | inr h ↦ inr h ]
 
 pub send_two : (us more : List Ask) (x : ℕ) → UpSend (us ++ more) x → UpSend us x ⊎ UpSend more x
-send_two us more x (i, m, s, b, e) = elim (of_two us more i (record { xid = x; call = Send m s b }) e) [ inl h ↦ inl (h.0, m, s, b, h.1) | inr h ↦ inr (h.0, m, s, b, h.1) ]
+send_two us more x (i, m, s, b, v, e) = elim (of_two us more i (record { lbfs = v; xid = x; call = Send m s b }) e) [ inl h ↦ inl (h.0, m, s, b, v, h.1) | inr h ↦ inr (h.0, m, s, b, v, h.1) ]
 
 -- ---- the bytes of a chunk go out in the place of its name
 
@@ -148,9 +148,9 @@ call_front [] ys k y e = nothing_there y e
 call_front (x ∷ xs) ys zero y e = e
 call_front (x ∷ xs) ys (suc k) y e = call_front xs ys k y e
 
-pub holds_whole : (v : List ℕ) (us : List Ask) (ts : List Told) (st : Store) (ps : List (ℕ × List ℕ)) (x p next m s : ℕ) (b : List ℕ) (u : StoreCall) → slice_get st.under p ≡ Some u → u.xid ≡ x → u.way ≡ way.Named → ((k : ℕ) (w : StoreCall) → slice_get st.under k ≡ Some w → w.xid ≡ x → w ≡ u) → ((k : ℕ) (w : StoreCall) → slice_get st.under k ≡ Some w → w.xid < next)
-    → (DownKnown ts x → ⊥) → Holds v us ts st ps → Holds v (us ++ record { xid = next; call = Send m s b } ∷ []) ts (with_whole (answered st x) u next) ps
-holds_whole v us ts st ps x p next m s b u there same named alone below unknown h = record {
+pub holds_whole : (v : List ℕ) (us : List Ask) (ts : List Told) (st : Store) (ps : List (ℕ × List ℕ)) (x p lbfs next m s : ℕ) (b : List ℕ) (u : StoreCall) → slice_get st.under p ≡ Some u → u.xid ≡ x → u.way ≡ way.Named → ((k : ℕ) (w : StoreCall) → slice_get st.under k ≡ Some w → w.xid ≡ x → w ≡ u) → ((k : ℕ) (w : StoreCall) → slice_get st.under k ≡ Some w → w.xid < next)
+    → (DownKnown ts x → ⊥) → Holds v us ts st ps → Holds v (us ++ record { lbfs = lbfs; xid = next; call = Send m s b } ∷ []) ts (with_whole (answered st x) u next) ps
+holds_whole v us ts st ps x p lbfs next m s b u there same named alone below unknown h = record {
   has = h.has;
   pieces_is = h.pieces_is;
   later = h.later;
@@ -171,7 +171,7 @@ holds_whole v us ts st ps x p next m s b u there same named alone below unknown 
     ]
   ];
   taken = λ k w c at by_way gone. elim (of_appended left note k w at) [
-    | inl new ↦ λ ch. absurd (gone (subst (λ (z : StoreCall). UpSend (us ++ more) z.xid) (sym new.1) (length us, m, s, b, at_end us (record { xid = next; call = Send m s b }))))
+    | inl new ↦ λ ch. absurd (gone (subst (λ (z : StoreCall). UpSend (us ++ more) z.xid) (sym new.1) (length us, m, s, b, lbfs, at_end us (record { lbfs = lbfs; xid = next; call = Send m s b }))))
     | inr old ↦ λ ch. let f = was_under st.under x k w old in h.taken f.0 w c f.1 by_way (λ u. gone (send_front us more w.xid u)) ch
   ];
   apart = λ k l y w a d e. elim (of_appended left note k y a) [
@@ -195,7 +195,7 @@ holds_whole v us ts st ps x p next m s b u there same named alone below unknown 
     note = record { xid = next; index = u.index; way = way.Whole }
 
     more : List Ask
-    more = record { xid = next; call = Send m s b } ∷ []
+    more = record { lbfs = lbfs; xid = next; call = Send m s b } ∷ []
 
     at_last : (us : List StoreCall) (u : StoreCall) → slice_get (us ++ u ∷ []) (length us) ≡ Some u
     at_last us u = at_end us u
@@ -204,46 +204,46 @@ holds_whole v us ts st ps x p next m s b u there same named alone below unknown 
     not_named e = absurd cc
 
     only : (y : ℕ) → y < next → UpSend more y → ⊥
-    only y lt (zero, m2, s2, b2, e) = let same : next ≡ y = ap (λ (z : Ask). z.xid) (some_is (record { xid = next; call = Send m s b }) _ e) in omega (arith, same, lt)
-    only y lt (suc i, m2, s2, b2, e) = nothing_there _ e
+    only y lt (zero, m2, s2, b2, v2, e) = let same : next ≡ y = ap (λ (z : Ask). z.xid) (some_is (record { lbfs = lbfs; xid = next; call = Send m s b }) _ e) in omega (arith, same, lt)
+    only y lt (suc i, m2, s2, b2, v2, e) = nothing_there _ e
 
 -- ---- chunks are named
 
 -- no bytes are among the calls that name chunks
-no_sends : (temp : ℕ) (chunks : List Chunk) (x i : ℕ) (us : List StoreCall) (b : List Ask) (y : ℕ) → Named temp chunks x i us b y → (z : ℕ) → UpSend b z → ⊥
-no_sends temp chunks x i [] [] y s z u = nothing_there _ u.4
-no_sends temp chunks x i (n ∷ ns) (a ∷ b) y s z (zero, m, st, bs, e) = not_send (sym (s.1.2) ∙ some_is a _ e)
+no_sends : (lbfs temp : ℕ) (chunks : List Chunk) (x i : ℕ) (us : List StoreCall) (b : List Ask) (y : ℕ) → Named lbfs temp chunks x i us b y → (z : ℕ) → UpSend b z → ⊥
+no_sends lbfs temp chunks x i [] [] y s z u = nothing_there _ u.5
+no_sends lbfs temp chunks x i (n ∷ ns) (a ∷ b) y s z (zero, m, st, bs, v, e) = not_send (sym (s.1.2) ∙ some_is a _ e)
   where
-    not_send : ◌≡◌ {A = Ask} (record { xid = x; call = Name temp s.1.0 }) (record { xid = z; call = Send m st bs }) → ⊥
+    not_send : ◌≡◌ {A = Ask} (record { lbfs = lbfs; xid = x; call = Name temp s.1.0 }) (record { lbfs = v; xid = z; call = Send m st bs }) → ⊥
     not_send e = calls (ap (λ (q : Ask). q.call) e)
       where
         calls : Name temp s.1.0 ≡ Send m st bs → ⊥
         calls e = absurd cc
-no_sends temp chunks x i (n ∷ ns) (a ∷ b) y s z (suc k, m, st, bs, e) = no_sends temp chunks (x + 1) (i + 1) ns b y s.2 z (k, m, st, bs, e)
-no_sends temp chunks x i _ _ y s z u = absurd s
+no_sends lbfs temp chunks x i (n ∷ ns) (a ∷ b) y s z (suc k, m, st, bs, v, e) = no_sends lbfs temp chunks (x + 1) (i + 1) ns b y s.2 z (k, m, st, bs, v, e)
+no_sends lbfs temp chunks x i _ _ y s z u = absurd s
 
 -- which notes there are
-pub note_is : (temp : ℕ) (chunks : List Chunk) (x i : ℕ) (us : List StoreCall) (b : List Ask) (y k : ℕ) (u : StoreCall) → Named temp chunks x i us b y → slice_get us k ≡ Some u → u ≡ record { xid = x + k; index = i + k; way = way.Named }
-note_is temp chunks x i [] b y k u s at = nothing_there u at
-note_is temp chunks x i (v ∷ us) (a ∷ b) y zero u s at = sym (some_is v u at) ∙ s.0 ∙ (let p : x ≡ x + 0 = omega arith in ap (λ (z : ℕ). record { xid = z; index = i; way = way.Named }) p) ∙ (let p : i ≡ i + 0 = omega arith in ap (λ (z : ℕ). record { xid = x + 0; index = z; way = way.Named }) p)
-note_is temp chunks x i (v ∷ us) (a ∷ b) y (suc k) u s at = note_is temp chunks (x + 1) (i + 1) us b y k u s.2 at ∙ (let p : x + 1 + k ≡ x + suc k = omega arith in ap (λ (z : ℕ). record { xid = z; index = i + 1 + k; way = way.Named }) p) ∙ (let p : i + 1 + k ≡ i + suc k = omega arith in ap (λ (z : ℕ). record { xid = x + suc k; index = z; way = way.Named }) p)
-note_is temp chunks x i (v ∷ us) [] y k u s at = absurd s
+pub note_is : (lbfs temp : ℕ) (chunks : List Chunk) (x i : ℕ) (us : List StoreCall) (b : List Ask) (y k : ℕ) (u : StoreCall) → Named lbfs temp chunks x i us b y → slice_get us k ≡ Some u → u ≡ record { xid = x + k; index = i + k; way = way.Named }
+note_is lbfs temp chunks x i [] b y k u s at = nothing_there u at
+note_is lbfs temp chunks x i (v ∷ us) (a ∷ b) y zero u s at = sym (some_is v u at) ∙ s.0 ∙ (let p : x ≡ x + 0 = omega arith in ap (λ (z : ℕ). record { xid = z; index = i; way = way.Named }) p) ∙ (let p : i ≡ i + 0 = omega arith in ap (λ (z : ℕ). record { xid = x + 0; index = z; way = way.Named }) p)
+note_is lbfs temp chunks x i (v ∷ us) (a ∷ b) y (suc k) u s at = note_is lbfs temp chunks (x + 1) (i + 1) us b y k u s.2 at ∙ (let p : x + 1 + k ≡ x + suc k = omega arith in ap (λ (z : ℕ). record { xid = z; index = i + 1 + k; way = way.Named }) p) ∙ (let p : i + 1 + k ≡ i + suc k = omega arith in ap (λ (z : ℕ). record { xid = x + suc k; index = z; way = way.Named }) p)
+note_is lbfs temp chunks x i (v ∷ us) [] y k u s at = absurd s
 
 note_there : (us : List StoreCall) (k : ℕ) → k < length us → (u : StoreCall) × (slice_get us k ≡ Some u)
 note_there [] k lt = absurd (omega (arith, lt))
 note_there (u ∷ us) zero lt = (u, refl)
 note_there (u ∷ us) (suc k) lt = note_there us k (omega (arith, lt))
 
-pub holds_named : (v : List ℕ) (us asks : List Ask) (ts : List Told) (st : Store) (ps : List (ℕ × List ℕ)) (next y : ℕ) (notes : List StoreCall) → Named st.temp st.chunks next st.named notes asks y → ((k : ℕ) (w : StoreCall) → slice_get st.under k ≡ Some w → w.index < st.named) → ((z : ℕ) → DownKnown ts z → z < next)
+pub holds_named : (v : List ℕ) (us asks : List Ask) (ts : List Told) (st : Store) (ps : List (ℕ × List ℕ)) (lbfs next y : ℕ) (notes : List StoreCall) → Named lbfs st.temp st.chunks next st.named notes asks y → ((k : ℕ) (w : StoreCall) → slice_get st.under k ≡ Some w → w.index < st.named) → ((z : ℕ) → DownKnown ts z → z < next)
     → Holds v us ts st ps → Holds v (us ++ asks) ts (record st { named = st.named + length notes; under = st.under ++ notes }) ps
-holds_named v us asks ts st ps next y notes s inside below h = record {
+holds_named v us asks ts st ps lbfs next y notes s inside below h = record {
   has = h.has;
   pieces_is = h.pieces_is;
   later = λ i c at le. h.later i c at (omega (arith, le));
   done = λ i c at lt free. done i c at lt free (nat_lt i st.named) refl;
   known = λ k w c at by_name z ch. elim (of_calls st.under notes k w at) [
     | inl old ↦ h.known old.0 w c old.1 by_name z ch
-    | inr new ↦ let lt = below w.xid z in let i = ap (λ (q : StoreCall). q.xid) (note_is st.temp st.chunks next st.named notes asks y new.0 w s new.1) in absurd (omega (arith, lt, i))
+    | inr new ↦ let lt = below w.xid z in let i = ap (λ (q : StoreCall). q.xid) (note_is lbfs st.temp st.chunks next st.named notes asks y new.0 w s new.1) in absurd (omega (arith, lt, i))
   ];
   by_name = λ k w c at by_name unknown ch. elim (of_calls st.under notes k w at) [
     | inl old ↦ h.by_name old.0 w c old.1 by_name unknown ch
@@ -252,25 +252,25 @@ holds_named v us asks ts st ps next y notes s inside below h = record {
   up = λ k w c at sent ch. elim (of_calls st.under notes k w at) [
     | inl old ↦ elim (send_two us asks w.xid sent) [
       | inl was ↦ h.up old.0 w c old.1 was ch
-      | inr now ↦ absurd (no_sends st.temp st.chunks next st.named notes asks y s w.xid now)
+      | inr now ↦ absurd (no_sends lbfs st.temp st.chunks next st.named notes asks y s w.xid now)
     ]
     | inr new ↦ fresh new.0 w c new.1 ch
   ];
   taken = λ k w c at by_way gone ch. elim (of_calls st.under notes k w at) [
     | inl old ↦ h.taken old.0 w c old.1 by_way (λ u. gone (send_front us asks w.xid u)) ch
-    | inr new ↦ absurd (not_whole (ap (λ (z : StoreCall). z.way) (sym (note_is st.temp st.chunks next st.named notes asks y new.0 w s new.1)) ∙ by_way))
+    | inr new ↦ absurd (not_whole (ap (λ (z : StoreCall). z.way) (sym (note_is lbfs st.temp st.chunks next st.named notes asks y new.0 w s new.1)) ∙ by_way))
   ];
   apart = λ k m u w a b e. elim (of_calls st.under notes k u a) [
     | inl one ↦ elim (of_calls st.under notes m w b) [
       | inl two ↦ h.apart one.0 two.0 u w one.1 two.1 e
-      | inr two ↦ let lt = inside one.0 u one.1 in let i = ap (λ (z : StoreCall). z.index) (note_is st.temp st.chunks next st.named notes asks y two.0 w s two.1) in absurd (omega (arith, lt, i, e))
+      | inr two ↦ let lt = inside one.0 u one.1 in let i = ap (λ (z : StoreCall). z.index) (note_is lbfs st.temp st.chunks next st.named notes asks y two.0 w s two.1) in absurd (omega (arith, lt, i, e))
     ]
     | inr one ↦
-        let i = note_is st.temp st.chunks next st.named notes asks y one.0 u s one.1 in
+        let i = note_is lbfs st.temp st.chunks next st.named notes asks y one.0 u s one.1 in
         elim (of_calls st.under notes m w b) [
           | inl two ↦ let lt = inside two.0 w two.1 in let x = ap (λ (z : StoreCall). z.index) i in absurd (omega (arith, lt, x, e))
           | inr two ↦
-              let l = note_is st.temp st.chunks next st.named notes asks y two.0 w s two.1 in
+              let l = note_is lbfs st.temp st.chunks next st.named notes asks y two.0 w s two.1 in
               let x = ap (λ (z : StoreCall). z.index) i in
               let z = ap (λ (z : StoreCall). z.index) l in
               let same : one.0 ≡ two.0 = omega (arith, x, z, e) in
@@ -283,7 +283,7 @@ holds_named v us asks ts st ps next y notes s inside below h = record {
     not_whole e = absurd cc
 
     fresh : (k : ℕ) (w : StoreCall) (c : Chunk) → slice_get notes k ≡ Some w → slice_get (chunks_of v) w.index ≡ Some c → h.has c ≡ false
-    fresh k w c at ch = let i = ap (λ (z : StoreCall). z.index) (note_is st.temp st.chunks next st.named notes asks y k w s at) in h.later w.index c ch (omega (arith, i))
+    fresh k w c at ch = let i = ap (λ (z : StoreCall). z.index) (note_is lbfs st.temp st.chunks next st.named notes asks y k w s at) in h.later w.index c ch (omega (arith, i))
 
     done : (i : ℕ) (c : Chunk) → slice_get (chunks_of v) i ≡ Some c → i < st.named + length notes → ((k : ℕ) (u : StoreCall) → slice_get (st.under ++ notes) k ≡ Some u → u.index ≡ i → ⊥) → (b : Bool) → nat_lt i st.named ≡ b → h.has c ≡ true
     done i c at lt free true less = h.done i c at (grind (arith, nat_tests, less)) (λ k u f. free k u (call_front st.under notes k u f))
@@ -292,7 +292,7 @@ holds_named v us asks ts st ps next y notes s inside below h = record {
         let k : (d : ℕ) × (st.named + d ≡ i) = split st.named i le in
         let at_k = k.1 in
         let u = note_there notes k.0 (omega (arith, lt, at_k)) in
-        let is = ap (λ (z : StoreCall). z.index) (note_is st.temp st.chunks next st.named notes asks y k.0 u.0 s u.1) in
+        let is = ap (λ (z : StoreCall). z.index) (note_is lbfs st.temp st.chunks next st.named notes asks y k.0 u.0 s u.1) in
         absurd (free (length st.under + k.0) u.0 (behind st.under notes k.0 u.0 u.1) (is ∙ at_k))
       where
         split : (a b : ℕ) → a ≤ b → (d : ℕ) × (a + d ≡ b)

@@ -11,7 +11,6 @@ use Rattle.kept_promise.proofs.Shelf.{IsShelf, NoTemp, none_counted}
 use Rattle.kept_promise.proofs.Shelves.{fault_alike, put_alike}
 use Rattle.kept_promise.proofs.Orderly.{UpSend, known_reply, DownKnown, Holds}
 use Rattle.kept_promise.proofs.Ordered.{known_more}
-use Rattle.wire.specs.declared.message.TheConstants.{LBFS_SPOKEN}
 
 -- ---- a first temporary file
 
@@ -65,8 +64,8 @@ pub chunk_goes : (v : List ℕ) (has : Chunk → Bool) (i : ℕ) (c : Chunk) →
 chunk_goes v has i c short at none = piece_goes_in v has (with_chunk has c) i c short at none (chunk_here has c) (λ k d b apart. chunk_else v has i k c d at b apart)
 
 -- the name of a chunk that is not held is not refused
-pub name_free : (v : List ℕ) (has : Chunk → Bool) (i : ℕ) (c : Chunk) (t : Temp) (m : ℕ) → length v ≤ 67108864 → slice_get (chunks_of v) i ≡ Some c → has c ≡ false → SameShape t.pieces (PiecesOf v has (chunks_of v)) → cond_fault (record { lbfs = LBFS_SPOKEN; fd = m; offset = c.start; count = c.len; digest = c.digest }) (Some t) ≡ None
-name_free v has i c t m short at none is =
+pub name_free : (lbfs : ℕ) (v : List ℕ) (has : Chunk → Bool) (i : ℕ) (c : Chunk) (t : Temp) (m : ℕ) → length v ≤ 67108864 → slice_get (chunks_of v) i ≡ Some c → has c ≡ false → SameShape t.pieces (PiecesOf v has (chunks_of v)) → cond_fault (record { lbfs = lbfs; fd = m; offset = c.start; count = c.len; digest = c.digest }) (Some t) ≡ None
+name_free lbfs v has i c t m short at none is =
     let s = chunk_sizes v i c at in
     let pos = s.0 in
     let most = s.1 in
@@ -78,12 +77,12 @@ name_free v has i c t m short at none is =
 
 -- ---- what is held once its bytes were taken
 
-pub holds_taken : (v : List ℕ) (xid m s : ℕ) (b : List ℕ) (us : List Ask) (ts : List Told) (st : Store) (ps : List (ℕ × List ℕ)) (k : ℕ) (u : StoreCall) (c : Chunk) → length v ≤ 67108864 → slice_get st.under k ≡ Some u → u.xid ≡ xid → u.index < st.named → u.way ≡ way.Whole → slice_get (chunks_of v) u.index ≡ Some c
+pub holds_taken : (v : List ℕ) (lbfs xid m s : ℕ) (b : List ℕ) (us : List Ask) (ts : List Told) (st : Store) (ps : List (ℕ × List ℕ)) (k : ℕ) (u : StoreCall) (c : Chunk) → length v ≤ 67108864 → slice_get st.under k ≡ Some u → u.xid ≡ xid → u.index < st.named → u.way ≡ way.Whole → slice_get (chunks_of v) u.index ≡ Some c
     → ((i : ℕ) (w : StoreCall) → slice_get st.under i ≡ Some w → w.xid ≡ xid → i ≡ k)
-    → (UpSend us xid → ⊥) → Holds v (record { xid = xid; call = Send m s b } ∷ us) ts st ps → (range_fault ps c.start c.len ≡ None) × Holds v us ts st (insert_entry nat_cmp ps c.start (chunk_bytes v c))
-holds_taken v xid m s b us ts st ps k u c short at same inside whole chunk unique none h =
-    let a : Ask = record { xid = xid; call = Send m s b } in
-    let up : UpSend (a ∷ us) u.xid = (0, m, s, b, ap (λ (z : ℕ). Some (record { xid = z; call = Send m s b })) (sym same)) in
+    → (UpSend us xid → ⊥) → Holds v (record { lbfs = lbfs; xid = xid; call = Send m s b } ∷ us) ts st ps → (range_fault ps c.start c.len ≡ None) × Holds v us ts st (insert_entry nat_cmp ps c.start (chunk_bytes v c))
+holds_taken v lbfs xid m s b us ts st ps k u c short at same inside whole chunk unique none h =
+    let a : Ask = record { lbfs = lbfs; xid = xid; call = Send m s b } in
+    let up : UpSend (a ∷ us) u.xid = (0, m, s, b, lbfs, ap (λ (z : ℕ). Some (record { lbfs = lbfs; xid = z; call = Send m s b })) (sym same)) in
     let goes = chunk_goes v h.has u.index c short chunk (h.up k u c at up chunk) in (
       fault_alike ps (PiecesOf v h.has (chunks_of v)) c.start c.len h.pieces_is ∙ goes.0,
       record {
@@ -93,7 +92,7 @@ holds_taken v xid m s b us ts st ps k u c short at same inside whole chunk uniqu
         done = λ i d is lt free. chunk_else v h.has u.index i c d chunk is (λ e. free k u at (sym e)) ∙ h.done i d is lt free;
         by_name = λ i w d is by_name unknown ch. chunk_else v h.has u.index w.index c d chunk ch (λ e. ways u w (h.apart i k w u is at e) whole by_name) ∙ h.by_name i w d is by_name unknown ch;
         known = λ i w d is by_name z ch. chunk_else v h.has u.index w.index c d chunk ch (λ e. ways u w (h.apart i k w u is at e) whole by_name) ∙ h.known i w d is by_name z ch;
-        up = λ i w d is sent ch. chunk_else v h.has u.index w.index c d chunk ch (λ e. none (subst (λ (z : ℕ). UpSend us z) (ap (λ (z : StoreCall). z.xid) (h.apart i k w u is at e) ∙ same) sent)) ∙ h.up i w d is (suc sent.0, sent.1, sent.2, sent.3, sent.4) ch;
+        up = λ i w d is sent ch. chunk_else v h.has u.index w.index c d chunk ch (λ e. none (subst (λ (z : ℕ). UpSend us z) (ap (λ (z : StoreCall). z.xid) (h.apart i k w u is at e) ∙ same) sent)) ∙ h.up i w d is (suc sent.0, sent.1, sent.2, sent.3, sent.4, sent.5) ch;
         taken = λ i w d is by_way gone ch. by i w d is by_way gone ch (same_or_not w.index u.index);
         apart = h.apart;
       },
@@ -113,18 +112,18 @@ holds_taken v xid m s b us ts st ps k u c short at same inside whole chunk uniqu
     by i w d is by_way gone ch (inr apart) =
         chunk_else v h.has u.index w.index c d chunk ch apart ∙ h.taken i w d is by_way (λ sent. still i w is apart gone sent) ch
       where
-        still : (i : ℕ) (w : StoreCall) → slice_get st.under i ≡ Some w → (w.index ≡ u.index → ⊥) → (UpSend us w.xid → ⊥) → UpSend (record { xid = xid; call = Send m s b } ∷ us) w.xid → ⊥
-        still i w is apart gone (zero, m2, s2, b2, e) =
-            let x : xid ≡ w.xid = ap (λ (z : Ask). z.xid) (some_is (record { xid = xid; call = Send m s b }) _ e) in
+        still : (i : ℕ) (w : StoreCall) → slice_get st.under i ≡ Some w → (w.index ≡ u.index → ⊥) → (UpSend us w.xid → ⊥) → UpSend (record { lbfs = lbfs; xid = xid; call = Send m s b } ∷ us) w.xid → ⊥
+        still i w is apart gone (zero, m2, s2, b2, v2, e) =
+            let x : xid ≡ w.xid = ap (λ (z : Ask). z.xid) (some_is (record { lbfs = lbfs; xid = xid; call = Send m s b }) _ e) in
             apart (ap (λ (z : StoreCall). z.index) (some_same i k w u is at (unique i w is (sym x))))
-        still i w is apart gone (suc n, m2, s2, b2, e) = gone (n, m2, s2, b2, e)
+        still i w is apart gone (suc n, m2, s2, b2, v2, e) = gone (n, m2, s2, b2, v2, e)
 
 -- ---- what is held once its bytes were known
 
-pub holds_known : (v : List ℕ) (xid m : ℕ) (bytes : List ℕ) (us : List Ask) (ts : List Told) (st : Store) (ps : List (ℕ × List ℕ)) (k : ℕ) (u : StoreCall) (c : Chunk) → length v ≤ 67108864 → slice_get st.under k ≡ Some u → u.xid ≡ xid → u.index < st.named → u.way ≡ way.Named → slice_get (chunks_of v) u.index ≡ Some c
+pub holds_known : (v : List ℕ) (lbfs xid m : ℕ) (bytes : List ℕ) (us : List Ask) (ts : List Told) (st : Store) (ps : List (ℕ × List ℕ)) (k : ℕ) (u : StoreCall) (c : Chunk) → length v ≤ 67108864 → slice_get st.under k ≡ Some u → u.xid ≡ xid → u.index < st.named → u.way ≡ way.Named → slice_get (chunks_of v) u.index ≡ Some c
     → ((i : ℕ) (w : StoreCall) → slice_get st.under i ≡ Some w → w.xid ≡ xid → i ≡ k) → length bytes ≡ c.len
-    → (UpSend us xid → ⊥) → (DownKnown ts xid → ⊥) → Holds v (record { xid = xid; call = Name m c } ∷ us) ts st ps → Holds v us (ts ++ record { xid = xid; reply = known_reply } ∷ []) st (insert_entry nat_cmp ps c.start bytes)
-holds_known v xid m bytes us ts st ps k u c short at same inside named chunk unique count none unknown h = record {
+    → (UpSend us xid → ⊥) → (DownKnown ts xid → ⊥) → Holds v (record { lbfs = lbfs; xid = xid; call = Name m c } ∷ us) ts st ps → Holds v us (ts ++ record { xid = xid; reply = known_reply } ∷ []) st (insert_entry nat_cmp ps c.start bytes)
+holds_known v lbfs xid m bytes us ts st ps k u c short at same inside named chunk unique count none unknown h = record {
   has = with_chunk h.has c;
   pieces_is = subst (SameShape (insert_entry nat_cmp ps c.start bytes)) goes.1 (put_alike ps (PiecesOf v h.has (chunks_of v)) c.start bytes (chunk_bytes v c) (count ∙ sym (chunks_are_named v u.index c chunk).1) h.pieces_is);
   later = λ i d is le. chunk_else v h.has u.index i c d chunk is (λ e. omega (arith, e, le, inside)) ∙ h.later i d is le;
@@ -134,7 +133,7 @@ holds_known v xid m bytes us ts st ps k u c short at same inside named chunk uni
     | inl e ↦ ap (with_chunk h.has c) (some_is d c (sym ch ∙ ap (slice_get (chunks_of v)) e ∙ chunk)) ∙ chunk_here h.has c
     | inr apart ↦ chunk_else v h.has u.index w.index c d chunk ch apart ∙ h.known i w d is by_name (before i w is apart z) ch
   ];
-  up = λ i w d is sent ch. chunk_else v h.has u.index w.index c d chunk ch (λ e. none (subst (λ (z : ℕ). UpSend us z) (xid_of i w is e) sent)) ∙ h.up i w d is (suc sent.0, sent.1, sent.2, sent.3, sent.4) ch;
+  up = λ i w d is sent ch. chunk_else v h.has u.index w.index c d chunk ch (λ e. none (subst (λ (z : ℕ). UpSend us z) (xid_of i w is e) sent)) ∙ h.up i w d is (suc sent.0, sent.1, sent.2, sent.3, sent.4, sent.5) ch;
   taken = λ i w d is by_way gone ch. chunk_else v h.has u.index w.index c d chunk ch (λ e. ways (h.apart i k w u is at e) by_way) ∙ h.taken i w d is by_way (λ sent. still w gone sent) ch;
   apart = h.apart;
 }
@@ -161,9 +160,9 @@ holds_known v xid m bytes us ts st ps k u c short at same inside named chunk uni
         not_named : way.Whole ≡ way.Named → ⊥
         not_named e = absurd cc
 
-    still : (w : StoreCall) → (UpSend us w.xid → ⊥) → UpSend (record { xid = xid; call = Name m c } ∷ us) w.xid → ⊥
-    still w gone (zero, m2, s2, b2, e) = not_sent (ap (λ (z : Ask). z.call) (some_is (record { xid = xid; call = Name m c }) _ e))
+    still : (w : StoreCall) → (UpSend us w.xid → ⊥) → UpSend (record { lbfs = lbfs; xid = xid; call = Name m c } ∷ us) w.xid → ⊥
+    still w gone (zero, m2, s2, b2, v2, e) = not_sent (ap (λ (z : Ask). z.call) (some_is (record { lbfs = lbfs; xid = xid; call = Name m c }) _ e))
       where
         not_sent : Name m c ≡ Send m2 s2 b2 → ⊥
         not_sent e = absurd cc
-    still w gone (suc n, m2, s2, b2, e) = gone (n, m2, s2, b2, e)
+    still w gone (suc n, m2, s2, b2, v2, e) = gone (n, m2, s2, b2, v2, e)

@@ -67,9 +67,9 @@ replicated zero i x y e = nothing_there y e
 replicated (suc n) zero x y e = sym (some_is x y e)
 replicated (suc n) (suc i) x y e = replicated n i x y e
 
-pub seat_first : (drift count c : ℕ) (seat : Seat) → numbered (replicate count (new_seat drift)) c ≡ Some seat → seat ≡ new_seat drift
-seat_first drift count zero seat e = nothing_there seat e
-seat_first drift count (suc c) seat e = replicated count c (new_seat drift) seat e
+pub seat_first : (drift lbfs count c : ℕ) (seat : Seat) → numbered (replicate count (new_seat drift lbfs)) c ≡ Some seat → seat ≡ new_seat drift lbfs
+seat_first drift lbfs count zero seat e = nothing_there seat e
+seat_first drift lbfs count (suc c) seat e = replicated count c (new_seat drift lbfs) seat e
 
 pub followed_first : (tree : Tree) (count : Header) → IsFollowed [] (first_core tree count)
 unfolding calls_most
@@ -78,11 +78,11 @@ followed_first tree count = record {
     count = refl;
     rising = λ i j o q lt a b. nothing_there o a;
     each = λ i d o a b. nothing_there d a;
-    locals = λ c seat at f. ap (λ (x : Seat). local_of x.client f) (seat_first count.drift count.count c seat at);
+    locals = λ c seat at f. ap (λ (x : Seat). local_of x.client f) (seat_first count.drift count.lbfs count.count c seat at);
   };
-  joined = λ c seat at. ap (λ (x : Seat). x.client.linked) (seat_first count.drift count.count c seat at);
-  next = λ c seat at. let n = ap (λ (x : Seat). x.client.next_xid) (seat_first count.drift count.count c seat at) in omega (arith, n);
-  calls = λ c seat at. ap (λ (x : Seat). x.client.next_xid) (seat_first count.drift count.count c seat at);
+  joined = λ c seat at. ap (λ (x : Seat). x.client.linked) (seat_first count.drift count.lbfs count.count c seat at);
+  next = λ c seat at. let n = ap (λ (x : Seat). x.client.next_xid) (seat_first count.drift count.lbfs count.count c seat at) in omega (arith, n);
+  calls = λ c seat at. ap (λ (x : Seat). x.client.next_xid) (seat_first count.drift count.lbfs count.count c seat at);
   few = λ i d at. nothing_there d at;
   ways = λ c seat j d at is there. nothing_there d there;
 }

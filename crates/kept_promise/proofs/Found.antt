@@ -200,9 +200,9 @@ piece_none s calls file xid f p (Some c) = chunk (slice_get f.chunks c.index)
 -- ---- an answer to a close
 
 goes_none : (s : State) (file : ℕ) (content : List ℕ) (st : Store) → FindsNone (goes_on s file content st)
-goes_none s file content st = by (is_stored (names_all st s.next_xid).store)
+goes_none s file content st = by (is_stored (names_all s.lbfs st s.next_xid).store)
   where
-    by : (b : Bool) → FindsNone (goes_if s file content (names_all st s.next_xid) b)
+    by : (b : Bool) → FindsNone (goes_if s file content (names_all s.lbfs st s.next_xid) b)
     by true = refl
     by false = refl
 

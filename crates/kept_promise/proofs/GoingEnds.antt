@@ -163,7 +163,7 @@ module _ (laws : FitLaws) (book : Book) (k : Core) (qs : List Queue) (now : ℕ)
       let answer : Sent = record { session = n; message = message.Answer c.xid (body.Nfs (name_answer r)) } in
       subst (λ (s : CoreStep). Contains s.down answer) (sym step_is) (subst (λ (m : Nfs). Contains {X = Sent} (record { session = n; message = message.Answer c.xid (body.Nfs m) } ∷ []) answer) (sym same) (Contains-push [] answer))
 
-  fits : (r : NameReply) → IsBounded settled.0 → settled.1.answer ≡ name_answer r → ToldFits (record { xid = c.xid; reply = Walked r })
+  fits : (r : NameReply) → IsBounded settled.0 → settled.1.answer ≡ name_answer r → ToldFits book.lbfs (record { xid = c.xid; reply = Walked r })
   fits r bounded same = (subst (λ (m : Nfs). MessageFits (message.Answer c.xid (body.Nfs m))) same (laws.settled c.xid t held a (kept.server.xids out.out.place c out.out.there) kept.server.bounded bounded), tt)
 
   -- ---- its session
@@ -242,6 +242,7 @@ module _ (laws : FitLaws) (book : Book) (k : Core) (qs : List Queue) (now : ℕ)
         targets = λ i d z. let y = out.out.others i d z in there_later book more None None d.file grows (was.targets y.0 d y.1);
         xids = λ i d z. let y = out.out.others i d z in was.xids y.0 d y.1;
         leases = was.leases;
+        serves = was.serves;
       })
 
   unmade_at : x.cut ≡ false → (j : Job) (o : Op) → job h.seat ≡ Some j → slice_get book.ops j.place ≡ Some o → UnmadeBy true x.closing j o
@@ -316,6 +317,7 @@ module _ (laws : FitLaws) (book : Book) (k : Core) (qs : List Queue) (now : ℕ)
           targets = λ i d z. let y = out.out.others i d z in there_later book more (Some p.place) None d.file g (kept.server.targets y.0 d y.1);
           xids = λ i d z. let y = out.out.others i d z in kept.server.xids y.0 d y.1;
           leases = kept.server.leases;
+          serves = kept.server.serves;
         };
         journal_is = ap (λ (l : List Entry). l ++ es) kept.journal;
         made_here = λ z f. p.known ∙ f;

@@ -67,9 +67,9 @@ use Rattle.kept_promise.proofs.Leading.{Leads}
 use Rattle.kept_promise.proofs.Unused.{unused_same}
 
 -- what waits is of the procedure that was asked for
-wanted_is : (w : Walk) (a : Asked) (xid n : ℕ) → AsksFor w a → change_key (coming n xid a) ≡ ask_key (record { xid = xid; call = Walks w })
-wanted_is w (asked.Remove r) xid n h = sym (ap (λ (l : List (List ℕ)). key xid (program.Nfs (nfs_proc (call_at w.dir l w.goal)))) h.0 ∙ ap (λ (g : Goal). key xid (program.Nfs (nfs_proc (call_at w.dir [] g)))) h.1)
-wanted_is w (asked.Rename r) xid n h = sym (ap (λ (l : List (List ℕ)). key xid (program.Nfs (nfs_proc (call_at w.dir l w.goal)))) h.0 ∙ ap (λ (g : Goal). key xid (program.Nfs (nfs_proc (call_at w.dir [] g)))) h.1)
+wanted_is : (w : Walk) (a : Asked) (lbfs xid n : ℕ) → AsksFor w a → change_key (coming n xid a) ≡ ask_key (record { lbfs = lbfs; xid = xid; call = Walks w })
+wanted_is w (asked.Remove r) lbfs xid n h = sym (ap (λ (l : List (List ℕ)). key xid (program.Nfs (nfs_proc (call_at w.dir l w.goal)))) h.0 ∙ ap (λ (g : Goal). key xid (program.Nfs (nfs_proc (call_at w.dir [] g)))) h.1)
+wanted_is w (asked.Rename r) lbfs xid n h = sym (ap (λ (l : List (List ℕ)). key xid (program.Nfs (nfs_proc (call_at w.dir l w.goal)))) h.0 ∙ ap (λ (g : Goal). key xid (program.Nfs (nfs_proc (call_at w.dir [] g)))) h.1)
 
 word_wanted : (w : Walk) (a : Asked) → AsksFor w a → goal_word w.goal ≡ asked_word a
 word_wanted w (asked.Remove r) h = ap goal_word h.1
@@ -95,14 +95,14 @@ names_file (Some x) a = ap (λ (z : Bool). if z then Some x.file else None) (ap 
 
 -- ---- a call is taken
 
-module _ (laws : FitLaws) (book : Book) (k : Core) (qs : List Queue) (n now : ℕ) (x : Session) (q : Queue) (xid : ℕ) (w : Walk) (us : List Ask) (g : Given book k qs n now x q (record { xid = xid; call = Walks w }) us) (going : is_going w ≡ true) where
+module _ (laws : FitLaws) (book : Book) (k : Core) (qs : List Queue) (n now : ℕ) (x : Session) (q : Queue) (lbfs xid : ℕ) (w : Walk) (us : List Ask) (g : Given book k qs n now x q (record { lbfs = lbfs; xid = xid; call = Walks w }) us) (going : is_going w ≡ true) where
   abbrev a : Ask
-  a = record { xid = xid; call = Walks w }
+  a = record { lbfs = lbfs; xid = xid; call = Walks w }
 
   abbrev h : IsSession book k.seats k.server n x q
   h = session_in book k qs n now x q a us g
 
-  fits : CallFits xid (Walks w)
+  fits : CallFits lbfs xid (Walks w)
   fits = first_fits book k qs n now x q a us g
 
   abbrev t : Tree
@@ -164,11 +164,11 @@ module _ (laws : FitLaws) (book : Book) (k : Core) (qs : List Queue) (n now : �
       ∙ ap (λ (l : List Op). plain_step k.server.journal l (k.entries ++ []) (name_answer r)) (pointed_none k.ops x.closing (k.steps + 1))
       ∙ ap (λ (l : List ℕ). plain_step k.server.journal k.ops l (name_answer r)) (append-nil k.entries)
 
-  serve_refused : (s : Status) (r : NameReply) → comes_by t held busy w.dir w.goal ≡ (t, Answered (said (name_answer r))) → RefusedAs t w s → refusal_of (name_answer r) ≡ Some s → walk_told w (name_answer r) ≡ leading.Ends (walk_end.Refused s) → nfs_proc (name_answer r) ≡ nfs_proc (next_call w) → ToldFits (record { xid = xid; reply = Walked r }) → Leads book (rest_of qs n q us) (happens k (Serves n now (message_spell (ask_message a))))
+  serve_refused : (s : Status) (r : NameReply) → comes_by t held busy w.dir w.goal ≡ (t, Answered (said (name_answer r))) → RefusedAs t w s → refusal_of (name_answer r) ≡ Some s → walk_told w (name_answer r) ≡ leading.Ends (walk_end.Refused s) → nfs_proc (name_answer r) ≡ nfs_proc (next_call w) → ToldFits book.lbfs (record { xid = xid; reply = Walked r }) → Leads book (rest_of qs n q us) (happens k (Serves n now (message_spell (ask_message a))))
   serve_refused s r is why refuses leads procs fit =
       subst (Leads book (rest_of qs n q us)) (sym (answered_is t (said (name_answer r)) is ∙ refused_step r))
       (leads_by book k qs n now x q a us k.server.temps k.server.index (Walked r) g (same_temps book k n x q a (Walked r) h g.kept.shelf (λ uncut. tt) (λ uncut vs e. held_still book k qs n now x q a us g (Walked r) tt tt uncut vs e) (ap (λ p. program.Nfs p) procs) fit
-      (λ uncut. walk_came book (onward book 1 book.ops) k qs n now x q xid w us h.seat r g.kept h.owner (h.here uncut).0 (h.talk uncut) g.first g.noted (sent t (said (name_answer r)) r is refl) refl refl
+      (λ uncut. walk_came book (onward book 1 book.ops) k qs n now x q lbfs xid w us h.seat r g.kept h.owner (h.here uncut).0 (h.talk uncut) g.first g.noted (sent t (said (name_answer r)) r is refl) refl refl
       (λ j o at is there. (o, there, refl, refl, inr (inl (record { making = making; why = s; why_is = why; refuses = refuses; leads = leads; unmade = unmade uncut j o at there })))))))
 
   step_now : k.steps + 1 ≤ book.steps + 1
@@ -210,6 +210,7 @@ module _ (laws : FitLaws) (book : Book) (k : Core) (qs : List Queue) (n now : �
         targets = λ i c f. there_later book more None None c.file grows (g.kept.server.targets i c f);
         xids = g.kept.server.xids;
         leases = g.kept.server.leases;
+        serves = g.kept.server.serves;
       }
 
   -- the step, with these entries more
@@ -219,7 +220,7 @@ module _ (laws : FitLaws) (book : Book) (k : Core) (qs : List Queue) (n now : �
       ∙ ap (λ (l : List Op). entered_step k n leasing x a after (k.server.journal ++ entries_of_names done) l (k.entries ++ replicate (count_of done.first done.second) (k.steps + 1)) (Walked r)) (pointed_none k.ops x.closing (k.steps + 1))
       ∙ ap (λ (m : ℕ). entered_step k n leasing x a after (k.server.journal ++ entries_of_names done) k.ops (k.entries ++ replicate m (k.steps + 1)) (Walked r)) (count_is n done.first done.second)
 
-  serve_now : (done : TreeChange) (r : NameReply) (after : Tree) → comes_by t held busy w.dir w.goal ≡ (after, Answered (record { answer = name_answer r; first = done.first; second = done.second })) → step_by t held w.dir w.goal ≡ (after, Ok done) → IsName done.first → IsName done.second → walk_told w (name_answer r) ≡ leading.Ends walk_end.Done → nfs_proc (name_answer r) ≡ nfs_proc (next_call w) → ((f : ℕ) → the_files.file_at after f ≡ the_files.file_at t f) → ((f : ℕ) → with_id t.nodes f ≡ None → with_id after.nodes f ≡ None) → IsRooted after.nodes → after.next ≡ t.next → ToldFits (record { xid = xid; reply = Walked r })
+  serve_now : (done : TreeChange) (r : NameReply) (after : Tree) → comes_by t held busy w.dir w.goal ≡ (after, Answered (record { answer = name_answer r; first = done.first; second = done.second })) → step_by t held w.dir w.goal ≡ (after, Ok done) → IsName done.first → IsName done.second → walk_told w (name_answer r) ≡ leading.Ends walk_end.Done → nfs_proc (name_answer r) ≡ nfs_proc (next_call w) → ((f : ℕ) → the_files.file_at after f ≡ the_files.file_at t f) → ((f : ℕ) → with_id t.nodes f ≡ None → with_id after.nodes f ≡ None) → IsRooted after.nodes → after.next ≡ t.next → ToldFits book.lbfs (record { xid = xid; reply = Walked r })
       → Leads book (rest_of qs n q us) (happens k (Serves n now (message_spell (ask_message a))))
   serve_now done r after is step first second leads procs files none root next fit =
       let d : Finished = record { answer = name_answer r; first = done.first; second = done.second } in
@@ -238,7 +239,7 @@ module _ (laws : FitLaws) (book : Book) (k : Core) (qs : List Queue) (n now : �
         made_here = λ p f. nothing_there p f;
         program = ap (λ p. program.Nfs p) procs;
         fits = fit;
-        answer = λ uncut. walk_came book more k qs n now x q xid w us h.seat r g.kept h.owner (h.here uncut).0 (h.talk uncut) g.first g.noted (sent after d r is refl) refl refl
+        answer = λ uncut. walk_came book more k qs n now x q lbfs xid w us h.seat r g.kept h.owner (h.here uncut).0 (h.talk uncut) g.first g.noted (sent after d r is refl) refl refl
             (λ j o at on there. (
               o,
               there,
@@ -286,7 +287,7 @@ module _ (laws : FitLaws) (book : Book) (k : Core) (qs : List Queue) (n now : �
       record {
         session_is = refl;
         xid_is = refl;
-        key_is = wanted_is w b xid n asks;
+        key_is = wanted_is w b lbfs xid n asks;
         number = ap (λ (z : Bool). cond {A = ℕ} z 1 0) (going_creates w.left w.goal going);
         were = λ i u at. (i, at);
         wants = (refl, two, subst IsWalkSmall (walk_is w b asks) fits.1);
@@ -305,7 +306,7 @@ module _ (laws : FitLaws) (book : Book) (k : Core) (qs : List Queue) (n now : �
 
   -- ---- any of them
 
-  going_fits : (after : Tree) (d : Finished) (r : NameReply) → comes_by t held busy w.dir w.goal ≡ (after, Answered d) → IsBounded after → d.answer ≡ name_answer r → ToldFits (record { xid = xid; reply = Walked r })
+  going_fits : (after : Tree) (d : Finished) (r : NameReply) → comes_by t held busy w.dir w.goal ≡ (after, Answered d) → IsBounded after → d.answer ≡ name_answer r → ToldFits book.lbfs (record { xid = xid; reply = Walked r })
   going_fits after d r is bounded same = (subst (λ (m : Nfs). MessageFits (message.Answer xid (body.Nfs m))) same (laws.goings xid t held busy w after d fits.0 g.kept.server.bounded bounded is going), tt)
 
   serve_so : ComesSo t held busy w → Leads book (rest_of qs n q us) (happens k (Serves n now (message_spell (ask_message a))))
@@ -313,5 +314,5 @@ module _ (laws : FitLaws) (book : Book) (k : Core) (qs : List Queue) (n now : �
   serve_so (done_now done r after is step first second leads procs files none root next) = serve_now done r after is step first second leads procs files none (root g.kept.server.rooted) next (going_fits after (record { answer = name_answer r; first = done.first; second = done.second }) r is (stays after done step).0 refl)
   serve_so (waits b f is asks there room_left free two) = serve_waits b f is asks there room_left two
 
-  pub serve_going : Leads book (rest_of qs n q us) (happens k (Serves n now (message_spell (ask_message (record { xid = xid; call = Walks w })))))
+  pub serve_going : Leads book (rest_of qs n q us) (happens k (Serves n now (message_spell (ask_message (record { lbfs = lbfs; xid = xid; call = Walks w })))))
   serve_going = serve_so (comes_so t held busy w g.kept.server.bounded fits.1 going)

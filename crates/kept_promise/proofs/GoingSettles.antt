@@ -22,7 +22,7 @@ use Rattle.kept_promise.proofs.Keys.{times, times_append, own, on_way, key, chan
 use Rattle.kept_promise.proofs.PathNames.{is_making, makes_later}
 use Rattle.kept_promise.proofs.Messages.{walk_for, walk_is, Job, job, AnswerOf, IsAnswer, IsGoing, CloseOf, WalkCame, WalkTold, AllTolds}
 use Rattle.kept_promise.proofs.History.{Goes}
-use Rattle.kept_promise.proofs.Later.{pieces_later, parts_later, has_fetch_later, seat_later}
+use Rattle.kept_promise.proofs.Later.{speak_later, fit_later, pieces_later, parts_later, has_fetch_later, seat_later}
 use Rattle.kept_promise.proofs.Taken.{tolds_at, times_map_append}
 use Rattle.kept_promise.proofs.Turns.{around_same, around_with, turned_core, kept_turn}
 use Rattle.kept_promise.proofs.Ordered.{orderly_later, orderly_told, TellsNone}
@@ -82,7 +82,7 @@ pub record ShowsTold (book more : Book) (k : Core) (c : Change) (x : Session) (q
   pub journal_is : more.journal ≡ s.journal
   pub made_here : (p : ℕ) → made ≡ Some p → x.closing ≡ Some p
   pub key_is : told_key (record { xid = c.xid; reply = r }) ≡ change_key c
-  pub fits : ToldFits (record { xid = c.xid; reply = r })
+  pub fits : ToldFits book.lbfs (record { xid = c.xid; reply = r })
   pub answers : x.cut ≡ false → AllTolds (IsAnswer more x.taken x.closing (job h.seat)) q.downs
   pub answer : x.cut ≡ false → AnswerOf more x.taken x.closing (job h.seat) c.xid r
   pub closes : x.cut ≡ false → (j : Job) → job h.seat ≡ Some j → CloseOf more x.closing h.contents h.seat.client.next_temp j (client.local_bytes h.seat.client.opened j.file) j.stage
@@ -164,7 +164,8 @@ module _ (book more : Book) (k : Core) (qs : List Queue) (now : ℕ) (c : Change
           lost = h.lost;
           stands_is = h.stands_is;
           ups_fit = h.ups_fit;
-          downs_fit = all_unless (λ (u : Told). ToldFits u) x.cut q.downs (t ∷ []) h.downs_fit (shows.fits, tt);
+          ups_speak = speak_later book more made None q.ups g h.ups_speak;
+          downs_fit = fit_later book more made None (unless x.cut q.downs (t ∷ [])) g (all_unless (λ (u : Told). ToldFits book.lbfs u) x.cut q.downs (t ∷ []) h.downs_fit (shows.fits, tt));
           talk = λ uncut. subst (λ (b : Bool). IsTalk more n cs x (record q { downs = unless b q.downs (t ∷ []) }) h.seat) (sym uncut) (talks uncut (h.talk uncut));
           contents = h.contents;
           lengths = h.lengths;
@@ -192,7 +193,7 @@ pub record ShowsSettled (book more : Book) (k : Core) (now : ℕ) (c : Change) (
   pub journal_is : more.journal ≡ journal
   pub made_here : (p : ℕ) → made ≡ Some p → x.closing ≡ Some p
   pub key_is : told_key (record { xid = c.xid; reply = Walked r }) ≡ change_key c
-  pub fits : ToldFits (record { xid = c.xid; reply = Walked r })
+  pub fits : ToldFits book.lbfs (record { xid = c.xid; reply = Walked r })
   pub answer : x.cut ≡ false → AnswerOf more x.taken x.closing (job h.seat) c.xid (Walked r)
   pub running : (p : ℕ) (o : Op) → slice_get more.ops p ≡ Some o → o.outcome ≡ told.Running → (e : Seat) × (j : Job) × (numbered k.seats o.client ≡ Some e) × (job e ≡ Some j) × (j.place ≡ p)
 

@@ -2,12 +2,14 @@
 use Rattle.std.proofs.Common.{IsSome, ◌⊎◌, inl, inr, ◌≡◌, ℕ, zero, suc, ◌+◌, ◌<◌, ◌≤◌, List, length, Option, Some, Bool, true, false, refl, sym, ap, ◌∙◌, subst, arith}
 use Rattle.std.proofs.lemmas.Slice.Eq.{bytes_eq-Decides}
 use Rattle.register_model.specs.declared.op.Outcome.{Outcome}
+use Rattle.hash_calls.specs.declared.message.Lb.TheVariants as lb
+use Rattle.wire.specs.declared.message.Body.TheVariants as body
 use Rattle.register_model.specs.declared.op.Outcome.TheVariants as told
 use Rattle.register_model.specs.declared.op.Word.TheVariants as words
 use Rattle.trace_replay.specs.Book.{first_version}
 use Rattle.register_model.specs.Register.{changes, IsFit}
 use Rattle.trace_replay.specs.OwnCalls.{WaitsFor, TakesCall}
-use Rattle.kept_promise.proofs.Common.{step_of, Body, slice_get, bytes_eq, Contains, sha1, Entry, File, Value, content_of, Op, Opening, Word, Moment, hashed_of, Book, Or, Collides, history, value_at, version_at, Tried}
+use Rattle.kept_promise.proofs.Common.{handle_bytes, step_of, Body, slice_get, bytes_eq, Contains, sha1, Entry, File, Value, content_of, Op, Opening, Word, Moment, hashed_of, Book, Or, Collides, history, value_at, version_at, Tried}
 use Rattle.kept_promise.proofs.Lists.{false_and_true}
 use Rattle.kept_promise.proofs.Marks.{Mark, marks, latest_mark, left_by, value_is, count_is}
 use Rattle.kept_promise.proofs.Rights.{IsEnteredIf, WasThere, gets_file, Caused, WasWalk, RefusedBy, DoneBy, IsRight, IsUnmade, IsMade, IsHeld, IsFitted}
@@ -35,6 +37,7 @@ follows_same book made ended k o = record { client = refl; word = refl; file = �
 
 -- each operation is still there, and what files are at moments up to now is as it was
 pub record Grows (book more : Book) (made ended : Option ℕ) : Type 0 where
+  pub lbfs : more.lbfs ≡ book.lbfs
   pub opening : more.opening ≡ book.opening
   pub happened : (m : Moment) → Contains book.moments m → Contains more.moments m
   pub hashed : (b : List ℕ) → Contains (hashed_of book.moments) b → Contains (hashed_of more.moments) b
@@ -153,7 +156,7 @@ done_later book more made ended o words.Rewrite g (inl h) = let le = h.past in l
   value = h.value;
   value_is = value_later book more made ended o.file h.step g (omega (arith, le)) ∙ h.value_is;
   xid = h.xid;
-  taken = takes_later book more made ended o.client o.client h.step h.xid _ g refl h.taken;
+  taken = subst (λ (v : ℕ). TakesCall more o.client h.step h.xid (body.Lb (lb.GetLease (record { lbfs = v; handle = handle_bytes o.file })))) (sym g.lbfs) (takes_later book more made ended o.client o.client h.step h.xid (body.Lb (lb.GetLease (record { lbfs = book.lbfs; handle = handle_bytes o.file }))) g refl h.taken);
   known = there_later book more made ended o.file g h.known;
 })
 done_later book more made ended o _ g h = h

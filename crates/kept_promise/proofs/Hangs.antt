@@ -103,6 +103,7 @@ server_hung book s n kept held fresh = record {
   targets = λ i c e. let r = left_there n s.waiting i c e in there_later book (onward book 1 book.ops) None None c.file (grows_same book 1) (kept.targets r.0.0 c r.0.1);
   xids = λ i c e. let r = left_there n s.waiting i c e in kept.xids r.0.0 c r.0.1;
   leases = kept.leases;
+  serves = kept.serves;
 }
 
 -- what a hung session and its owner still say to each other
@@ -177,6 +178,7 @@ hung_now book k qs n x q kept at is unhung =
         lost = λ hung. refl;
         stands_is = stands_gone n k.server.sessions;
         ups_fit = tt;
+        ups_speak = tt;
         downs_fit = h.downs_fit;
         talk = λ uncut. talk_hung book k.server n x q c (h.talk uncut);
         contents = h.contents;

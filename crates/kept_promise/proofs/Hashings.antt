@@ -18,7 +18,7 @@ use Rattle.kept_promise.proofs.Growth.{version_later, tried_later}
 use Rattle.kept_promise.proofs.Facts.{HasXids, IsSession, IsOf, IsKept}
 use Rattle.kept_promise.proofs.Heard.{Moves}
 use Rattle.kept_promise.proofs.Moves.{told_there, moves_retries}
-use Rattle.kept_promise.proofs.Steps.{Here, session_at, Quiet, job_op, GoesOn, on, opens_in_order, open_unnamed}
+use Rattle.kept_promise.proofs.Steps.{speaks_at, spoken_at, Here, session_at, Quiet, job_op, GoesOn, on, opens_in_order, open_unnamed}
 use Rattle.kept_promise.proofs.Attempts.{tried_again}
 use Rattle.kept_promise.proofs.Comes.{client_at, Comes, open_op, stops_open}
 use Rattle.kept_promise.proofs.Rights.{WasThere}
@@ -41,8 +41,8 @@ same_call x y v o e = by (x == y) e
     by true e = sym (some_is v o e)
     by false e = nothing_there o e
 
-abbrev pub hash_ask : (xid file offset : ℕ) → Ask
-hash_ask xid file offset = record { xid = xid; call = Hash file offset }
+abbrev pub hash_ask : (lbfs xid file offset : ℕ) → Ask
+hash_ask lbfs xid file offset = record { lbfs = lbfs; xid = xid; call = Hash file offset }
 
 -- no walk waits for one
 lb_not_nfs : (p : NfsProc) (q : LbProc) → program.Nfs p ≡ program.Lb q → ⊥
@@ -61,9 +61,9 @@ unwalking_at xid y p e = absurd (lb_not_nfs p lb_proc.GetHash (by e))
 -- a GETHASH goes out
 pub goes_hash : (book : Book) (k : Core) (qs : List Queue) (n : ℕ) (x : Session) (q : Queue) (t : Told) (ts : List Told) (j : Job) (g : Here book k qs n x q t ts j) (s : Stage) (offset : ℕ) (forgotten : List Pending) → (let c = client_at book k qs n x q t ts j g in
     Quiet k n q → stage_word s ≡ stage_word j.stage → ((y : ℕ) → hash_offset s y ≡ cond (c.next_xid == y) (Some offset) None) → ((y : ℕ) → s ≡ stage.Committing y → ⊥) → ((y : ℕ) → lease_xid s ≡ Some y → ⊥) → ((f : Fetch) → s ≡ stage.Reading f → ⊥) → client.pending_in s ≡ client.lb_pending lb_proc.GetHash c.next_xid
-    → Moves (client.calls_of c) (client.pending_in s ++ forgotten) t (hash_ask c.next_xid j.file offset ∷ []) → j.file < 18446744073709551616 → offset ≤ 67108864 → FetchOf book x.taken (on j s) s
+    → Moves (client.calls_of c) (client.pending_in s ++ forgotten) t (hash_ask c.lbfs c.next_xid j.file offset ∷ []) → j.file < 18446744073709551616 → offset ≤ 67108864 → FetchOf book x.taken (on j s) s
     → CloseOf book x.closing (session_at book k qs n x q t ts j g).contents c.next_temp (on j s) (client.local_bytes c.opened j.file) s
-    → ((m y : ℕ) → s ≡ stage.Hashing m y → Trying book (on j s) m) → HasXids (c.next_xid + 1) s → c.next_xid + 1 ≤ 4294967296 → stage_word j.stage ≡ words.Open → GoesOn book k qs n x q t ts j g s (c.next_xid + 1) forgotten (hash_ask c.next_xid j.file offset ∷ []))
+    → ((m y : ℕ) → s ≡ stage.Hashing m y → Trying book (on j s) m) → HasXids (c.next_xid + 1) s → c.next_xid + 1 ≤ 4294967296 → stage_word j.stage ≡ words.Open → GoesOn book k qs n x q t ts j g s (c.next_xid + 1) forgotten (hash_ask c.lbfs c.next_xid j.file offset ∷ []))
 goes_hash book k qs n x q t ts j g s offset forgotten quiet word waits uncommitting unasking unreading pends moves small le fetch closes trying xids bound opens =
     let c = client_at book k qs n x q t ts j g in
     record {
@@ -79,7 +79,8 @@ goes_hash book k qs n x q t ts j g s offset forgotten quiet word waits uncommitt
       moves = moves;
       rising = (omega arith, omega arith);
       asked = (λ i o e w. let same = some_is (on j s) i e in (sym (ap (λ (z : Job). z.file) same), same_call c.next_xid c.next_xid offset o (sym (waits c.next_xid) ∙ subst (λ (z : Job). hash_offset z.stage c.next_xid ≡ Some o) (sym same) w)), tt);
-      fits = ((omega (arith, bound), small, le), tt);
+      fits = ((omega (arith, bound), small, le, spoken_at book k qs n x q t ts j g), tt);
+      speak = (speaks_at book k qs n x q t ts j g, tt);
       commits = (tt, tt);
       pieces = (tt, tt);
       under = (tt, tt);
@@ -90,7 +91,7 @@ goes_hash book k qs n x q t ts j g s offset forgotten quiet word waits uncommitt
       trying = trying;
       xids = xids;
       bounded = bound;
-      orderly = opens_in_order book k qs n x q t ts j g s (c.next_xid + 1) forgotten (hash_ask c.next_xid j.file offset ∷ []) opens (word ∙ opens) (tt, tt);
+      orderly = opens_in_order book k qs n x q t ts j g s (c.next_xid + 1) forgotten (hash_ask c.lbfs c.next_xid j.file offset ∷ []) opens (word ∙ opens) (tt, tt);
     }
 
 -- ---- another version
@@ -125,11 +126,11 @@ comes_changed book k qs n x q t ts j g f last version bytes fact word quiet lt l
     forgotten : List Pending
     forgotten = client.without_call (client.calls_of c) t.xid
 
-    moves : Moves (client.calls_of c) (client.pending_in s ++ forgotten) t (hash_ask c.next_xid j.file 0 ∷ [])
+    moves : Moves (client.calls_of c) (client.pending_in s ++ forgotten) t (hash_ask c.lbfs c.next_xid j.file 0 ∷ [])
     moves =
         let b = (h.talk g.uncut).balanced in
         let there = told_there n k.server.waiting q x.hung c.next_xid (client.calls_of c) 0 t b (ap (λ (l : List Told). slice_get l 0) g.first) in
-        moves_retries (client.calls_of c) there.0 t (hash_ask c.next_xid j.file 0) there.1 (b.once t.xid)
+        moves_retries (client.calls_of c) there.0 t (hash_ask c.lbfs c.next_xid j.file 0) there.1 (b.once t.xid)
 
     began : fact.told.moment ≤ book.steps
     began = fact.told.past
@@ -174,7 +175,7 @@ comes_changed book k qs n x q t ts j g f last version bytes fact word quiet lt l
       cache = c.cache;
       index = c.index;
       sent = c.clock;
-      asks = hash_ask c.next_xid j.file 0 ∷ [];
+      asks = hash_ask c.lbfs c.next_xid j.file 0 ∷ [];
       shows = goes_hash book k qs n x q t ts j g s 0 forgotten quiet (sym word) (λ y. refl) (λ y e. absurd cc) (λ y e. nothing_there y e) (λ f e. absurd cc) refl moves small (omega arith) tt tt
           (λ m y e. subst (λ v. Trying book (on j s) v) (ap tries_of e) (tried_again book x.taken j s f last fact lt le (λ same. apart (sym is ∙ same)))) (xids (grind (arith, nat_tests, less))) (let b = left.2 in let z = left.0 in omega (arith, b)) word;
       cached = (g.kept.seats x.owner h.seat h.owner).kept;

@@ -66,7 +66,8 @@ pub record Hearing (book : Book) (ops : List Op) (k : Core) (n : ℕ) (x : Sessi
   pub moves : Moves (client.calls_of h.seat.client) (client.calls_of c) t asks
   pub rising : Rising h.seat.client.next_xid asks c.next_xid
   pub asked : AllAsks (IsAsked (job_of place c.task)) asks
-  pub fits : AllAsks (λ a. CallFits a.xid a.call) asks
+  pub fits : AllAsks (λ a. CallFits a.lbfs a.xid a.call) asks
+  pub speak : AllAsks (λ a. a.lbfs ≡ book.lbfs) asks
   pub commits : AllAsks (IsCommit (onward book 1 ops) x.closing x.cut (job_of place c.task) h.contents) asks
   pub pieces : AllAsks (IsPiece (hashed_of book.moments) h.contents) asks
   pub under : AllAsks (λ a. TempUnder c.next_temp a.call) asks
@@ -197,8 +198,9 @@ kept_heard book ops k qs n x q t ts c place asks made ended seats after kept at 
         shut = λ cut. absurd (false_and_true x.cut uncut cut);
         lost = λ hung. hung_ups x.hung hung (h.lost hung);
         stands_is = h.stands_is;
-        ups_fit = all_unless (λ (a : Ask). CallFits a.xid a.call) x.hung q.ups asks h.ups_fit shows.fits;
-        downs_fit = first_down (λ u. ToldFits u) h.downs_fit;
+        ups_fit = all_unless (λ (a : Ask). CallFits a.lbfs a.xid a.call) x.hung q.ups asks h.ups_fit shows.fits;
+        ups_speak = all_unless (λ (a : Ask). a.lbfs ≡ book.lbfs) x.hung q.ups asks h.ups_speak shows.speak;
+        downs_fit = first_down (ToldFits book.lbfs) h.downs_fit;
         talk = λ u.
             let talk = h.talk uncut in
             record {

@@ -40,9 +40,9 @@ use Rattle.kept_promise.proofs.Statements.{ToldFits}
 
 -- ---- the answer comes whole
 
-heard : FitLaws → (book : Book) (k : Core) (qs : List Queue) (n : ℕ) (x : Session) (q : Queue) (t : Told) (ts : List Told) → (h : IsSession book k.seats k.server n x q) → q.downs ≡ t ∷ ts → x.cut ≡ false → parse_of (client.waiting_of h.seat.client) (message_spell (told_message t)) ≡ Ok (told_message t)
-heard laws book k qs n x q t ts h first uncut =
-    let fits = (subst (AllTolds (λ u. ToldFits u)) first h.downs_fit).0 in
+heard : FitLaws → (book : Book) (k : Core) (qs : List Queue) (n : ℕ) (x : Session) (q : Queue) (t : Told) (ts : List Told) → (h : IsSession book k.seats k.server n x q) → q.downs ≡ t ∷ ts → x.cut ≡ false → h.seat.client.lbfs ≡ book.lbfs → parse_of (client.waiting_of h.seat.client) (message_spell (told_message t)) ≡ Ok (told_message t)
+heard laws book k qs n x q t ts h first uncut speaks =
+    let fits = subst (λ (v : ℕ). ToldFits v t) (sym speaks) (subst (AllTolds (ToldFits book.lbfs)) first h.downs_fit).0 in
     laws.again (client.waiting_of h.seat.client) (told_message t) fits.0.0 (expected n k.server.waiting q x.hung h.seat.client 0 t (h.talk uncut).balanced (ap (λ (l : List Told). slice_get l 0) first) fits.1)
 
 -- ---- what is hashed at it
@@ -244,7 +244,7 @@ module _ (laws : FitLaws) (book : Book) (k : Core) (qs : List Queue) (n now : �
   uncut = uncut_by x.cut q.downs t ts first h.shut
 
   read : parse_of (client.waiting_of h.seat.client) (bytes_of t) ≡ Ok (told_message t)
-  read = heard laws book k qs n x q t ts h first uncut
+  read = heard laws book k qs n x q t ts h first uncut (kept.seats x.owner h.seat h.owner).speaks
 
   abbrev parts : Parts
   parts = record (parts_of h.seat) { clock = now }

@@ -17,11 +17,11 @@ use Rattle.kept_promise.proofs.Growth.{Follows, follows_same, Grows, or_later, v
 
 -- so many steps later, with these operations
 abbrev pub onward : Book → (steps : ℕ) → List Op → Book
-onward book n ops = record { opening = book.opening; ops = ops; steps = book.steps + n; journal = book.journal; entries = book.entries; moments = book.moments }
+onward book n ops = record { lbfs = book.lbfs; opening = book.opening; ops = ops; steps = book.steps + n; journal = book.journal; entries = book.entries; moments = book.moments }
 
 -- one step later, in which changes were made that the journal tells so
 abbrev pub entered : Book → List Op → List Entry → Book
-entered book ops es = record { opening = book.opening; ops = ops; steps = book.steps + 1; journal = book.journal ++ es; entries = book.entries ++ replicate (length es) (book.steps + 1); moments = book.moments }
+entered book ops es = record { lbfs = book.lbfs; opening = book.opening; ops = ops; steps = book.steps + 1; journal = book.journal ++ es; entries = book.entries ++ replicate (length es) (book.steps + 1); moments = book.moments }
 
 pub record Goes (book more : Book) (made ended : Option ℕ) : Type 0 where
   pub grows : Grows book more made ended
@@ -86,7 +86,7 @@ past_grown book n i p sound at = let r = sound.past i p at in let le = r.1 in (r
 -- ---- nothing of it changes
 
 pub grows_same : (book : Book) (n : ℕ) → Grows book (onward book n book.ops) None None
-grows_same book n = record { opening = refl; happened = λ m h. h; hashed = λ b h. h; passes = omega arith; steps_kept = λ j p e. e; entries_new = λ j p e. inl e; journal_kept = λ j e at. at; values = λ f p le. refl; each = λ k o at. (o, at, follows_same book None None k o) }
+grows_same book n = record { lbfs = refl; opening = refl; happened = λ m h. h; hashed = λ b h. h; passes = omega arith; steps_kept = λ j p e. e; entries_new = λ j p e. inl e; journal_kept = λ j e at. at; values = λ f p le. refl; each = λ k o at. (o, at, follows_same book None None k o) }
 
 pub goes_same : (book : Book) (n : ℕ) → IsSound book → Goes book (onward book n book.ops) None None
 goes_same book n sound = record {
@@ -124,7 +124,7 @@ no_mark book f p new h = by (changes new.word) refl
     by false c = unchanging f p new c
 
 pub grows_added : (book : Book) (new : Op) → MakesNone book new → Grows book (onward book 1 (book.ops ++ new ∷ [])) None None
-grows_added book new h = record { opening = refl; happened = λ m h. h; hashed = λ b h. h; passes = omega arith; steps_kept = λ j p e. e; entries_new = λ j p e. inl e; journal_kept = λ j e at. at; values = λ f p le. marks_appended f p book.ops new (no_mark book f p new h); each = λ k o at. (o, kept_appended book.ops new k o at, follows_same book None None k o) }
+grows_added book new h = record { lbfs = refl; opening = refl; happened = λ m h. h; hashed = λ b h. h; passes = omega arith; steps_kept = λ j p e. e; entries_new = λ j p e. inl e; journal_kept = λ j e at. at; values = λ f p le. marks_appended f p book.ops new (no_mark book f p new h); each = λ k o at. (o, kept_appended book.ops new k o at, follows_same book None None k o) }
 
 pub goes_added : (book : Book) (new : Op) → MakesNone book new → IsRight (onward book 1 (book.ops ++ new ∷ [])) new → IsSound book → Goes book (onward book 1 (book.ops ++ new ∷ [])) None None
 goes_added book new h right sound = record {
@@ -182,7 +182,7 @@ each_replaced book j o r made ended at f k q is = elim (else_replaced book.ops j
 ]
 
 pub grows_becomes : (book : Book) (n : ℕ) (made ended : Option ℕ) (j : ℕ) (o r : Op) → slice_get book.ops j ≡ Some o → Becomes book made ended j o r → Grows book (onward book n (slice_set book.ops j r)) made ended
-grows_becomes book n made ended j o r at b = record { opening = refl; happened = λ m h. h; hashed = λ b h. h; passes = omega arith; steps_kept = λ j p e. e; entries_new = λ j p e. inl e; journal_kept = λ j e at. at; values = λ f p le. alike_becomes book n made ended j o r at b f p; each = each_replaced book j o r made ended at b.follows }
+grows_becomes book n made ended j o r at b = record { lbfs = refl; opening = refl; happened = λ m h. h; hashed = λ b h. h; passes = omega arith; steps_kept = λ j p e. e; entries_new = λ j p e. inl e; journal_kept = λ j e at. at; values = λ f p le. alike_becomes book n made ended j o r at b f p; each = each_replaced book j o r made ended at b.follows }
 
 pub goes_becomes : (book : Book) (n : ℕ) (made ended : Option ℕ) (j : ℕ) (o r : Op) → slice_get book.ops j ≡ Some o → Becomes book made ended j o r → IsRight (onward book n (slice_set book.ops j r)) r → IsSound book → Goes book (onward book n (slice_set book.ops j r)) made ended
 goes_becomes book n made ended j o r at b right sound = record {
@@ -306,6 +306,7 @@ steps_new book n j p at = elim (of_more book.entries (replicate n (book.steps + 
 
 pub grows_named : (book : Book) (es : List Entry) → Grows book (entered book book.ops es) None None
 grows_named book es = record {
+  lbfs = refl;
   opening = refl;
   happened = λ m h. h;
   hashed = λ b h. h;
@@ -386,6 +387,7 @@ follows_made book f j o own u = record {
 
 pub grows_made : (book : Book) (es : List Entry) (f j : ℕ) (o : Op) → (o.word ≡ words.Close → f ≡ o.file) → slice_get book.ops j ≡ Some o → IsUnmade o → Grows book (made_book book es j f o) (Some j) None
 grows_made book es f j o own at u = record {
+  lbfs = refl;
   opening = refl;
   happened = λ m h. h;
   hashed = λ b h. h;

@@ -101,21 +101,21 @@ idle_reply book j st y _ was none h = tt
 -- ---- names that go out
 
 -- each is noted
-pub name_noted : (temp : ℕ) (chunks : List Chunk) (x i : ℕ) (us : List StoreCall) (b : List Ask) (y k : ℕ) (a : Ask) → Notes temp chunks x i us b y → slice_get b k ≡ Some a → (u : StoreCall) × (c : Chunk) × (store_at us a.xid ≡ Some u) × (u.way ≡ way.Named) × (slice_get chunks u.index ≡ Some c) × (a ≡ record { xid = a.xid; call = Name temp c }) × (x ≤ a.xid)
-name_noted temp chunks x i us [] y k a s at = nothing_there a at
-name_noted temp chunks x i [] (z ∷ b) y k a s at = absurd s
-name_noted temp chunks x i (u ∷ us) (z ∷ b) y zero a s at =
+pub name_noted : (lbfs temp : ℕ) (chunks : List Chunk) (x i : ℕ) (us : List StoreCall) (b : List Ask) (y k : ℕ) (a : Ask) → Notes lbfs temp chunks x i us b y → slice_get b k ≡ Some a → (u : StoreCall) × (c : Chunk) × (store_at us a.xid ≡ Some u) × (u.way ≡ way.Named) × (slice_get chunks u.index ≡ Some c) × (a ≡ record { lbfs = lbfs; xid = a.xid; call = Name temp c }) × (x ≤ a.xid)
+name_noted lbfs temp chunks x i us [] y k a s at = nothing_there a at
+name_noted lbfs temp chunks x i [] (z ∷ b) y k a s at = absurd s
+name_noted lbfs temp chunks x i (u ∷ us) (z ∷ b) y zero a s at =
     let same : z ≡ a = some_is z a at in
     let id : u.xid ≡ a.xid = ap (λ (v : StoreCall). v.xid) s.0 ∙ ap (λ (v : Ask). v.xid) (sym s.1.2) ∙ ap (λ (v : Ask). v.xid) same in
     let ax : a.xid ≡ x = ap (λ (v : Ask). v.xid) (sym same) ∙ ap (λ (v : Ask). v.xid) s.1.2 in
-    (u, s.1.0, ap (λ t. cond t (Some u) (store_at us a.xid)) (eq-eqb u.xid a.xid id), ap (λ (v : StoreCall). v.way) s.0, ap (λ (v : StoreCall). slice_get chunks v.index) s.0 ∙ s.1.1, sym same ∙ s.1.2 ∙ ap (λ (n : ℕ). record { xid = n; call = Name temp s.1.0 }) (sym ax), omega (arith, ax))
-name_noted temp chunks x i (u ∷ us) (z ∷ b) y (suc k) a s at =
-    let h = name_noted temp chunks (x + 1) (i + 1) us b y k a s.2 at in
+    (u, s.1.0, ap (λ t. cond t (Some u) (store_at us a.xid)) (eq-eqb u.xid a.xid id), ap (λ (v : StoreCall). v.way) s.0, ap (λ (v : StoreCall). slice_get chunks v.index) s.0 ∙ s.1.1, sym same ∙ s.1.2 ∙ ap (λ (n : ℕ). record { lbfs = lbfs; xid = n; call = Name temp s.1.0 }) (sym ax), omega (arith, ax))
+name_noted lbfs temp chunks x i (u ∷ us) (z ∷ b) y (suc k) a s at =
+    let h = name_noted lbfs temp chunks (x + 1) (i + 1) us b y k a s.2 at in
     let le = h.6 in
     let ux : u.xid ≡ x = ap (λ (v : StoreCall). v.xid) s.0 in
     (h.0, h.1, ap (λ t. cond t (Some u) (store_at us a.xid)) (ne_eqb u.xid a.xid (λ e. omega (arith, e, ux, le))) ∙ h.2, h.3, h.4, h.5, omega (arith, le))
 
-pub no_asks : (temp : ℕ) (chunks : List Chunk) (x i : ℕ) (us : List StoreCall) (b : List Ask) (y : ℕ) → us ≡ [] → Notes temp chunks x i us b y → b ≡ []
-no_asks temp chunks x i [] [] y e s = refl
-no_asks temp chunks x i [] (a ∷ b) y e s = absurd s
-no_asks temp chunks x i (u ∷ us) b y e s = absurd cc
+pub no_asks : (lbfs temp : ℕ) (chunks : List Chunk) (x i : ℕ) (us : List StoreCall) (b : List Ask) (y : ℕ) → us ≡ [] → Notes lbfs temp chunks x i us b y → b ≡ []
+no_asks lbfs temp chunks x i [] [] y e s = refl
+no_asks lbfs temp chunks x i [] (a ∷ b) y e s = absurd s
+no_asks lbfs temp chunks x i (u ∷ us) b y e s = absurd cc

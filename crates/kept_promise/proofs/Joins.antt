@@ -120,12 +120,13 @@ joined_now book k qs c n seat kept number at unlinked =
     let late_q : n ≡ suc (length qs) = omega (arith, late, kept.made.1) in
     let none : own n s.waiting ≡ [] = own_none n s.waiting (λ i d e same. let z = kept.home i d e in let w = numbered_within k.sessions d.session z.0 z.1 in omega (arith, w, same, late)) in
     record {
+      lbfs = kept.lbfs;
       ops = refl;
       steps = refl;
       journal = kept.journal;
       entries = refl;
       sound = (goes_same book 2 kept.sound).sound;
-      server = record { held = λ f. file_still book more None None f (the_files.file_at s.tree f) g (still_same book 2 kept.sound) (kept.server.held f); fresh = fresh_still book more None None s.tree g (still_same book 2 kept.sound) kept.server.fresh; bounded = kept.server.bounded; zero = kept.server.zero; rooted = kept.server.rooted; wants = kept.server.wants; changes = kept.server.changes; bytes = kept.server.bytes; lengths = kept.server.lengths; targets = λ i c e. there_later book more None None c.file g (kept.server.targets i c e); xids = kept.server.xids; leases = kept.server.leases };
+      server = record { held = λ f. file_still book more None None f (the_files.file_at s.tree f) g (still_same book 2 kept.sound) (kept.server.held f); fresh = fresh_still book more None None s.tree g (still_same book 2 kept.sound) kept.server.fresh; bounded = kept.server.bounded; zero = kept.server.zero; rooted = kept.server.rooted; wants = kept.server.wants; changes = kept.server.changes; bytes = kept.server.bytes; lengths = kept.server.lengths; targets = λ i c e. there_later book more None None c.file g (kept.server.targets i c e); xids = kept.server.xids; leases = kept.server.leases; serves = kept.server.serves };
       made = (let a = count_more k.sessions (new_session c) in omega (arith, a, made), count_more qs no_queue ∙ ap suc kept.made.1 ∙ sym (count_more k.sessions (new_session c)));
       sessions = λ m z p f h. elim (of_new k.sessions (new_session c) m z f) [
         | inl new ↦ elim (of_new qs no_queue m p h) [
@@ -184,6 +185,7 @@ joined_now book k qs c n seat kept number at unlinked =
           lost = λ hung. absurd cc;
           stands_is = stands_new n k.server.sessions;
           ups_fit = tt;
+          ups_speak = tt;
           downs_fit = tt;
           talk = λ uncut. new_talk more (with_session k.server n) n c seat free none;
           contents = λ i. [];
@@ -220,6 +222,7 @@ joined_now book k qs c n seat kept number at unlinked =
           session = λ i e. let same : n ≡ i = some_is n i e in (new_session c, ap (numbered (k.sessions ++ new_session c ∷ [])) (sym same) ∙ at_new k.sessions (new_session c) n late, refl);
           linked = λ e. (n, new_session c, refl, at_new k.sessions (new_session c) n late, refl);
           unlinked = λ e. absurd cc;
+          speaks = was.speaks;
           matched = inl (unmatched seat free was.matched, free);
           task = λ j e. nothing_there j (sym jobs ∙ e);
           trying = λ j i x e f. nothing_there j (sym jobs ∙ e);

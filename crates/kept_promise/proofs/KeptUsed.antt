@@ -17,6 +17,7 @@ use Rattle.trace_replay.specs.Saving.{lease_told, EndsBy, UsesKept, TellsLease, 
 use Rattle.hash_calls.specs.declared.call.Leased.{Leased}
 use Rattle.client_state.specs.declared.task.Stage.TheVariants as stage
 use Rattle.kept_promise.proofs.Common.{value_of, Contains, Contains-push_cases, no_counts, slice_get, option_map, unwrap_or, Done, Message, Pending, got_step, took, uses_kept, idle, hash_call, ClientStep, Local, Stage, Op, Word, Opening, TakenCall, op_after, counted, no_traffic, Core, Seat, Event, Event.Hears, numbered, session_of, happens, Moment, step_of, client_of, owner_in, taken_by, is_in, local_at_itself, deals_of, CountsOwn, Book, Queue, told_message}
+use Rattle.kept_promise.proofs.SameVersion.{same_version}
 use Rattle.kept_promise.proofs.Lists.{some_is, nothing_there, of_appended, of_replaced, true_and_false}
 use Rattle.kept_promise.proofs.Messages.{stage_word}
 use Rattle.kept_promise.proofs.Fits.{FitLaws}
@@ -41,7 +42,7 @@ use Rattle.kept_promise.proofs.AtOnceRuns.{AreAtOnce, at_once_event}
 
 -- what an operation of this word comes to by the answer to its GETLEASE
 abbrev pub EndsOf : Word → Moment → Op → Leased → Type 0
-EndsOf words.Open m o l = (seat : Seat) → numbered m.before.seats (client_of m.before m.event) ≡ Some seat → EndsBy o (step_of m) (happens m.before m.event).up (content_in l.version (content_of seat.client.cache o.file))
+EndsOf words.Open m o l = (seat : Seat) → numbered m.before.seats (client_of m.before m.event) ≡ Some seat → EndsBy m.before.lbfs o (step_of m) (happens m.before m.event).up (content_in l.version (content_of seat.client.cache o.file))
 EndsOf words.Rewrite m o l = EndsAnew o (step_of m) (happens m.before m.event).up
 EndsOf w m o l = Unit {0}
 
@@ -81,12 +82,12 @@ went_on m n q c taken acts (inl none) shut le running h x l mine there =
     file : (op_after q c taken (n + 1) acts).file ≡ q.file
     file = file_stays q c taken (n + 1) acts none
 
-    by : (kept : Option (List ℕ)) → EndsBy q (step_of m) (happens m.before m.event).up kept → EndsBy (op_after q c taken (n + 1) acts) (step_of m) (happens m.before m.event).up kept
+    by : (kept : Option (List ℕ)) → EndsBy m.before.lbfs q (step_of m) (happens m.before m.event).up kept → EndsBy m.before.lbfs (op_after q c taken (n + 1) acts) (step_of m) (happens m.before m.event).up kept
     by (Some bytes) e = nothing_there (step_of m) (sym running ∙ e.1)
-    by None e = (e.0, e.1 ∙ ap (λ f. hash_call e.0 f 0 ∷ []) (sym (file_stays q c taken (n + 1) acts none)))
+    by None e = (e.0, e.1 ∙ ap (λ f. hash_call m.before.lbfs e.0 f 0 ∷ []) (sym (file_stays q c taken (n + 1) acts none)))
 
     each : (w : Word) → EndsOf w m q l → EndsOf w m (op_after q c taken (n + 1) acts) l
-    each words.Open e = λ seat here. subst (λ f. EndsBy (op_after q c taken (n + 1) acts) (step_of m) (happens m.before m.event).up (content_in l.version (content_of seat.client.cache f))) (sym file) (by (content_in l.version (content_of seat.client.cache q.file)) (e seat here))
+    each words.Open e = λ seat here. subst (λ f. EndsBy m.before.lbfs (op_after q c taken (n + 1) acts) (step_of m) (happens m.before m.event).up (content_in l.version (content_of seat.client.cache f))) (sym file) (by (content_in l.version (content_of seat.client.cache q.file)) (e seat here))
     each words.Rewrite e = nothing_there (step_of m) (sym running ∙ e.1)
     each w e = tt
 
@@ -131,12 +132,12 @@ noted_after q c file version (Some until) taken step acts = by acts.ended
 
 -- what it comes to
 kept_ends : (q : Op) (s : client.State) (calls : List Pending) (file x version step : ℕ) (taken : List TakenCall) → q.file ≡ file → q.traffic ≡ no_traffic → (kept : Option (List ℕ))
-    → EndsBy (op_after q (uses_kept s calls file x version kept).0 taken step (uses_kept s calls file x version kept).1) step (uses_kept s calls file x version kept).1.send kept
+    → EndsBy s.lbfs (op_after q (uses_kept s calls file x version kept).0 taken step (uses_kept s calls file x version kept).1) step (uses_kept s calls file x version kept).1.send kept
 kept_ends q s calls file x version step taken file_is none (Some bytes) = (refl, refl, value, refl, ap (λ t. counted t (record no_counts { bytes = 0 })) none)
   where
     value : client.local_bytes (client.with_local s.opened file (record { version = version; bytes = bytes })) file ≡ bytes
     value = ap (λ (o : Option Local). unwrap_or (option_map (λ (z : Local). z.bytes) o) []) (local_at_itself s.opened file (record { version = version; bytes = bytes }))
-kept_ends q s calls file x version step taken file_is none None = (s.next_xid, ap (λ f. hash_call s.next_xid f 0 ∷ []) (sym file_is))
+kept_ends q s calls file x version step taken file_is none None = (s.next_xid, ap (λ f. hash_call s.lbfs s.next_xid f 0 ∷ []) (sym file_is))
 
 -- ---- an answer is heard
 
@@ -185,13 +186,14 @@ used_hears fits all past opening k qs after n now bytes mid kept h left known p 
             let same_seat : h.seat ≡ seat = some_is h.seat seat (sym h.owner ∙ ap (numbered k.seats) (sym (ap owner_in h.at)) ∙ here) in
             let bare = (subst (OpensBy (deals_of w.old past) w.old.file w.old.value) asking (known.opens.jobs h.session.owner h.seat w.of w.old h.owner w.job_is at_place)).0 in
             let none = bare_counts past w.old (word ∙ ap stage_word asking) own bare sum in
-            subst (λ ms. EndsBy (op_after w.old r.0 taken (k.steps + 1) r.1) (k.steps + 1) ms (content_in l.version (content_of seat.client.cache (op_after w.old r.0 taken (k.steps + 1) r.1).file))) (sym up)
-            (subst (λ f. EndsBy (op_after w.old r.0 taken (k.steps + 1) r.1) (k.steps + 1) r.1.send (content_in l.version (content_of seat.client.cache f))) (sym (file_stays w.old r.0 taken (k.steps + 1) r.1 w.finds ∙ w.file))
-            (subst (λ (c : Seat). EndsBy (op_after w.old r.0 taken (k.steps + 1) r.1) (k.steps + 1) r.1.send (content_in l.version (content_of c.client.cache w.of.file))) same_seat
-            (subst (λ (z : client.State × ClientStep). EndsBy (op_after w.old z.0 taken (k.steps + 1) z.1) (k.steps + 1) z.1.send (content_in l.version (content_of h.seat.client.cache w.of.file))) (sym (became (stage.Asking x) asking))
+            subst (λ ms. EndsBy k.lbfs (op_after w.old r.0 taken (k.steps + 1) r.1) (k.steps + 1) ms (content_in l.version (content_of seat.client.cache (op_after w.old r.0 taken (k.steps + 1) r.1).file))) (sym up)
+            (subst (λ f. EndsBy k.lbfs (op_after w.old r.0 taken (k.steps + 1) r.1) (k.steps + 1) r.1.send (content_in l.version (content_of seat.client.cache f))) (sym (file_stays w.old r.0 taken (k.steps + 1) r.1 w.finds ∙ w.file))
+            (subst (λ (c : Seat). EndsBy k.lbfs (op_after w.old r.0 taken (k.steps + 1) r.1) (k.steps + 1) r.1.send (content_in l.version (content_of c.client.cache w.of.file))) same_seat
+            (subst (λ (z : client.State × ClientStep). EndsBy k.lbfs (op_after w.old z.0 taken (k.steps + 1) z.1) (k.steps + 1) z.1.send (content_in l.version (content_of h.seat.client.cache w.of.file))) (sym (became (stage.Asking x) asking))
             (let z : client.State × ClientStep = uses_kept (idle (at_clock h.seat.client now)) (client.calls_of h.seat.client) w.of.file x l.version (content_in l.version (content_of h.seat.client.cache w.of.file)) in
-            subst (λ (o : Op). EndsBy o (k.steps + 1) z.1.send (content_in l.version (content_of h.seat.client.cache w.of.file))) (sym (noted_after w.old z.0 w.of.file l.version (note_until h.seat.client.sent l.term z.0.drift) taken (k.steps + 1) z.1))
-            (kept_ends w.old (idle (at_clock h.seat.client now)) (client.calls_of h.seat.client) w.of.file x l.version (k.steps + 1) taken w.file none (content_in l.version (content_of h.seat.client.cache w.of.file)))))))
+            subst (λ (o : Op). EndsBy k.lbfs o (k.steps + 1) z.1.send (content_in l.version (content_of h.seat.client.cache w.of.file))) (sym (noted_after w.old z.0 w.of.file l.version (note_until h.seat.client.sent l.term z.0.drift) taken (k.steps + 1) z.1))
+            (subst (λ (v : ℕ). EndsBy v (op_after w.old z.0 taken (k.steps + 1) z.1) (k.steps + 1) z.1.send (content_in l.version (content_of h.seat.client.cache w.of.file))) (kept.seats h.session.owner h.seat h.owner).speaks
+            (kept_ends w.old (idle (at_clock h.seat.client now)) (client.calls_of h.seat.client) w.of.file x l.version (k.steps + 1) taken w.file none (content_in l.version (content_of h.seat.client.cache w.of.file))))))))
 
         -- a rewrite
         renewed : w.of.stage ≡ stage.Rewriting x → EndsOf words.Rewrite m (op_after w.old r.0 taken (k.steps + 1) r.1) l
@@ -221,7 +223,7 @@ used_event fits all past rest opening k qs e mid after s known said h = record {
   ];
   leased = λ z there p o at. elim (Contains-push_cases past (moment k e) z there) [
     | inl old ↦ elim (h.by z old) [
-      | inl lt ↦ leased_stays (book_at opening k all) (book_at opening (happens k e).core all) k qs e z s.kept lt w.0 refl (λ y c. c) (h.leased z old) (h.shut z old) p o at
+      | inl lt ↦ leased_stays (book_at opening k all) (book_at opening (happens k e).core all) k qs e z s.kept lt w.0 refl (same_version k e) (λ y c. c) (h.leased z old) (h.shut z old) p o at
       | inr silent ↦ none_leased (book_at opening (happens k e).core all) z o silent.0
     ]
     | inr new ↦ subst (λ (y : Moment). TellsLease (book_at opening (happens k e).core all) y o) new (leased_now fits all past rest opening k qs e mid after s w.0 p o at)

@@ -105,6 +105,7 @@ session_kin book seats after s index n x q kin h =
       lost = h.lost;
       stands_is = h.stands_is;
       ups_fit = h.ups_fit;
+      ups_speak = h.ups_speak;
       downs_fit = h.downs_fit;
       talk = λ uncut. talk_kin book n s index x q h.seat e.0 (h.talk uncut);
       contents = h.contents;
@@ -121,10 +122,10 @@ session_kin book seats after s index n x q kin h =
     }
 
 seat_kin : (book : Book) (sessions : List Session) (i : ℕ) (c : Seat) (p : Parts) → Cached book p.cache → IsSeat book sessions i c → IsSeat book sessions i (with_parts c p)
-seat_kin book sessions i c p cached h = record { session = h.session; linked = h.linked; unlinked = h.unlinked; matched = h.matched; task = h.task; trying = h.trying; xids = h.xids; next = h.next; opened = h.opened; kept = cached }
+seat_kin book sessions i c p cached h = record { session = h.session; linked = h.linked; unlinked = h.unlinked; speaks = h.speaks; matched = h.matched; task = h.task; trying = h.trying; xids = h.xids; next = h.next; opened = h.opened; kept = cached }
 
 server_kin : (book : Book) (s : server.State) (index : Indexed) → IsServer book s → IsServer book (with_index s index)
-server_kin book s index h = record { held = h.held; fresh = h.fresh; bounded = h.bounded; zero = h.zero; rooted = h.rooted; wants = h.wants; changes = h.changes; bytes = h.bytes; lengths = h.lengths; targets = h.targets; xids = h.xids; leases = h.leases }
+server_kin book s index h = record { held = h.held; fresh = h.fresh; bounded = h.bounded; zero = h.zero; rooted = h.rooted; wants = h.wants; changes = h.changes; bytes = h.bytes; lengths = h.lengths; targets = h.targets; xids = h.xids; leases = h.leases; serves = h.serves }
 
 -- the two ends, with such clients and another index of the server
 abbrev pub kin_core : Core → Indexed → List Seat → Core
@@ -133,6 +134,7 @@ kin_core k index seats = record k { server = with_index k.server index; seats = 
 -- where each content that is kept is still what its file had in its version
 pub kept_kin : (book : Book) (k : Core) (qs : List Queue) (index : Indexed) (seats : List Seat) → Kin k.seats seats → ((i : ℕ) (e : Seat) → numbered seats i ≡ Some e → Cached book e.client.cache) → IsKept book k qs → IsKept book (kin_core k index seats) qs
 kept_kin book k qs index seats kin cached h = record {
+  lbfs = h.lbfs;
   ops = h.ops;
   steps = h.steps;
   journal = h.journal;

@@ -33,12 +33,11 @@ use Rattle.kept_promise.proofs.Facts.{IsSession}
 use Rattle.kept_promise.proofs.Serves.{answered, parsed, contains_at}
 use Rattle.kept_promise.proofs.Calls.{downs_then, put_temp, served, Given, session_in, first_fits, rest_of, leads_by, held_still, held_at, place_at, rest_above, serve_plain}
 use Rattle.kept_promise.proofs.Leading.{Leads}
-use Rattle.wire.specs.declared.message.TheConstants.{LBFS_SPOKEN}
 
 -- ---- bytes that are known
 
-abbrev pub name_piece : (temp : ℕ) → Chunk → CondPiece
-name_piece m d = record { lbfs = LBFS_SPOKEN; fd = m; offset = d.start; count = d.len; digest = d.digest }
+abbrev pub name_piece : (lbfs temp : ℕ) → Chunk → CondPiece
+name_piece lbfs m d = record { lbfs = lbfs; fd = m; offset = d.start; count = d.len; digest = d.digest }
 
 -- those of a place are as many as it has
 bytes_many : (f : Option File) (p : Place) (bytes : List ℕ) → bytes_of f p ≡ Some bytes → length bytes ≡ p.count
@@ -72,32 +71,32 @@ digest_is digest (Some b) bytes e = by (bytes_eq (sha1 b) digest) refl e
 -- ---- a name on its way
 
 -- it has no answer yet
-not_known : (book : Book) (k : Core) (qs : List Queue) (n now : ℕ) (x : Session) (q : Queue) (xid m : ℕ) (d : Chunk) (us : List Ask) → (g : Given book k qs n now x q (record { xid = xid; call = Name m d }) us) → x.cut ≡ false → DownKnown q.downs xid → ⊥
-not_known book k qs n now x q xid m d us g uncut z =
-    let seat = (session_in book k qs n now x q (record { xid = xid; call = Name m d }) us g).seat in
-    let talk = (session_in book k qs n now x q (record { xid = xid; call = Name m d }) us g).talk uncut in
+not_known : (book : Book) (k : Core) (qs : List Queue) (n now : ℕ) (x : Session) (q : Queue) (lbfs xid m : ℕ) (d : Chunk) (us : List Ask) → (g : Given book k qs n now x q (record { lbfs = lbfs; xid = xid; call = Name m d }) us) → x.cut ≡ false → DownKnown q.downs xid → ⊥
+not_known book k qs n now x q lbfs xid m d us g uncut z =
+    let seat = (session_in book k qs n now x q (record { lbfs = lbfs; xid = xid; call = Name m d }) us g).seat in
+    let talk = (session_in book k qs n now x q (record { lbfs = lbfs; xid = xid; call = Name m d }) us g).talk uncut in
     let y = key xid (program.Lb lb_proc.CondWrite) in
     let a = talk.balanced.most y in
     let b = talk.balanced.once xid in
     let c = keys_once xid (program.Lb lb_proc.CondWrite) (client.calls_of seat.client) in
     let e1 = ap (λ (l : List Ask). times y (map ask_key l ++ (map change_key (own n k.server.waiting) ++ map told_key q.downs))) g.first in
-    let e2 = times_append y (map ask_key (record { xid = xid; call = Name m d } ∷ us)) (map change_key (own n k.server.waiting) ++ map told_key q.downs) in
+    let e2 = times_append y (map ask_key (record { lbfs = lbfs; xid = xid; call = Name m d } ∷ us)) (map change_key (own n k.server.waiting) ++ map told_key q.downs) in
     let e3 = times_head y (map ask_key us) in
     let e4 = times_append y (map change_key (own n k.server.waiting)) (map told_key q.downs) in
     let e5 = there_by told_key q.downs z.0 (record { xid = xid; reply = known_reply }) z.1 in
     omega (arith, a, b, c, e1, e2, e3, e4, e5)
 
 -- where its client is there, the name is that of a chunk under way, and the one temporary file has not held it
-pub record IsInOrder (book : Book) (k : Core) (qs : List Queue) (n now : ℕ) (x : Session) (q : Queue) (xid m : ℕ) (d : Chunk) (us : List Ask) (g : Given book k qs n now x q (record { xid = xid; call = Name m d }) us) : Type 0 where
-  pub store : IsStore (job (session_in book k qs n now x q (record { xid = xid; call = Name m d }) us g).seat) xid way.Named
+pub record IsInOrder (book : Book) (k : Core) (qs : List Queue) (n now : ℕ) (x : Session) (q : Queue) (lbfs xid m : ℕ) (d : Chunk) (us : List Ask) (g : Given book k qs n now x q (record { lbfs = lbfs; xid = xid; call = Name m d }) us) : Type 0 where
+  pub store : IsStore (job (session_in book k qs n now x q (record { lbfs = lbfs; xid = xid; call = Name m d }) us g).seat) xid way.Named
   pub temp : Temp
   pub found : temp_at k.server.temps n m ≡ Some temp
-  pub free : cond_fault (name_piece m d) (Some temp) ≡ None
-  pub filled : (bytes : List ℕ) → length bytes ≡ d.len → Held (with_temp k.server.temps (with_piece temp d.start bytes)) n us (q.downs ++ record { xid = xid; reply = known_reply } ∷ []) (locals_of (session_in book k qs n now x q (record { xid = xid; call = Name m d }) us g).seat.client) (job (session_in book k qs n now x q (record { xid = xid; call = Name m d }) us g).seat)
+  pub free : cond_fault (name_piece lbfs m d) (Some temp) ≡ None
+  pub filled : (bytes : List ℕ) → length bytes ≡ d.len → Held (with_temp k.server.temps (with_piece temp d.start bytes)) n us (q.downs ++ record { xid = xid; reply = known_reply } ∷ []) (locals_of (session_in book k qs n now x q (record { lbfs = lbfs; xid = xid; call = Name m d }) us g).seat.client) (job (session_in book k qs n now x q (record { lbfs = lbfs; xid = xid; call = Name m d }) us g).seat)
 
-in_order : (book : Book) (k : Core) (qs : List Queue) (n now : ℕ) (x : Session) (q : Queue) (xid m : ℕ) (d : Chunk) (us : List Ask) → (g : Given book k qs n now x q (record { xid = xid; call = Name m d }) us) → x.cut ≡ false → IsInOrder book k qs n now x q xid m d us g
-in_order book k qs n now x q xid m d us g uncut =
-    let a : Ask = record { xid = xid; call = Name m d } in
+in_order : (book : Book) (k : Core) (qs : List Queue) (n now : ℕ) (x : Session) (q : Queue) (lbfs xid m : ℕ) (d : Chunk) (us : List Ask) → (g : Given book k qs n now x q (record { lbfs = lbfs; xid = xid; call = Name m d }) us) → x.cut ≡ false → IsInOrder book k qs n now x q lbfs xid m d us g
+in_order book k qs n now x q lbfs xid m d us g uncut =
+    let a : Ask = record { lbfs = lbfs; xid = xid; call = Name m d } in
     let h = session_in book k qs n now x q a us g in
     let p = place_at book k qs n now x q a us g uncut in
     let s = p.0 in
@@ -107,36 +106,36 @@ in_order book k qs n now x q xid m d us g uncut =
     let chunk = ap (λ (l : List Chunk). slice_get l s.call.index) (sym is.chunks) ∙ p.2 in
     let t : Temp = held.0 in
     let one : OneTemp k.server.temps n s.store.temp t = held.1 in
-    let unknown : DownKnown q.downs xid → ⊥ = not_known book k qs n now x q xid m d us g uncut in
+    let unknown : DownKnown q.downs xid → ⊥ = not_known book k qs n now x q lbfs xid m d us g uncut in
     let none = held.2.by_name is.place s.call d is.there s.way (λ z. unknown (subst (λ (y : ℕ). DownKnown q.downs y) is.same z)) chunk in
     let ts : List Told = q.downs ++ record { xid = xid; reply = known_reply } ∷ [] in
     record {
       store = s;
       temp = t;
       found = ap (λ (z : ℕ). temp_at k.server.temps n z) (sym p.1) ∙ one.3;
-      free = name_free v held.2.has s.call.index d t m is.short chunk none held.2.pieces_is;
+      free = name_free lbfs v held.2.has s.call.index d t m is.short chunk none held.2.pieces_is;
       filled = λ bytes count.
           let w : Temp = with_piece t d.start bytes in
-          let fills = holds_known v xid m bytes us q.downs s.store t.pieces is.place s.call d is.short is.there is.same is.inside s.way chunk is.unique count (λ u. rest_above book k qs n now x q a us g uncut u.0 (record { xid = xid; call = Send u.1 u.2 u.3 }) u.4 refl) unknown held.2 in
+          let fills = holds_known v lbfs xid m bytes us q.downs s.store t.pieces is.place s.call d is.short is.there is.same is.inside s.way chunk is.unique count (λ u. rest_above book k qs n now x q a us g uncut u.0 (record { lbfs = u.4; xid = xid; call = Send u.1 u.2 u.3 }) u.5 refl) unknown held.2 in
           subst (Held (with_temp k.server.temps w) n us ts (locals_of h.seat.client)) (sym s.is) (subst (HeldIn (with_temp k.server.temps w) n us ts v) (sym s.at) (w, one_put k.server.temps n s.store.temp w one.0 one.1 one.2 one.4, fills));
     }
 
 -- ---- a name is taken
 
-pub serve_name : FitLaws → (book : Book) (k : Core) (qs : List Queue) (n now : ℕ) (x : Session) (q : Queue) (xid m : ℕ) (d : Chunk) (us : List Ask) → Given book k qs n now x q (record { xid = xid; call = Name m d }) us
-    → Leads book (rest_of qs n q us) (served k n x xid (names (at k.server now) n xid (name_piece m d) (temp_at k.server.temps n m)))
-serve_name laws book k qs n now x q xid m d us g = by (temp_at k.server.temps n m) (cond_fault c (temp_at k.server.temps n m)) refl refl
+pub serve_name : FitLaws → (book : Book) (k : Core) (qs : List Queue) (n now : ℕ) (x : Session) (q : Queue) (lbfs xid m : ℕ) (d : Chunk) (us : List Ask) → Given book k qs n now x q (record { lbfs = lbfs; xid = xid; call = Name m d }) us
+    → Leads book (rest_of qs n q us) (served k n x xid (names (at k.server now) n xid (name_piece lbfs m d) (temp_at k.server.temps n m)))
+serve_name laws book k qs n now x q lbfs xid m d us g = by (temp_at k.server.temps n m) (cond_fault c (temp_at k.server.temps n m)) refl refl
   where
     a : Ask
-    a = record { xid = xid; call = Name m d }
+    a = record { lbfs = lbfs; xid = xid; call = Name m d }
 
     c : CondPiece
-    c = name_piece m d
+    c = name_piece lbfs m d
 
     h : IsSession book k.seats k.server n x q
     h = session_in book k qs n now x q a us g
 
-    fits : CallFits xid (Name m d)
+    fits : CallFits lbfs xid (Name m d)
     fits = first_fits book k qs n now x q a us g
 
     known : Option (List ℕ)
@@ -145,8 +144,8 @@ serve_name laws book k qs n now x q xid m d us g = by (temp_at k.server.temps n 
     index : Indexed
     index = found k.server.index (digest_key d.digest)
 
-    order : x.cut ≡ false → IsInOrder book k qs n now x q xid m d us g
-    order uncut = in_order book k qs n now x q xid m d us g uncut
+    order : x.cut ≡ false → IsInOrder book k qs n now x q lbfs xid m d us g
+    order uncut = in_order book k qs n now x q lbfs xid m d us g uncut
 
     no_fault : x.cut ≡ false → cond_fault c (temp_at k.server.temps n m) ≡ None
     no_fault uncut = let o = order uncut in ap (cond_fault c) o.found ∙ o.free
@@ -180,7 +179,7 @@ serve_name laws book k qs n now x q xid m d us g = by (temp_at k.server.temps n 
         let keyed : key_of t.session t.fd ≡ key_of n m = ap (λ (u : Temp). key_of u.session u.fd) (sym e.4) ∙ held.1 ∙ e.3 in
         let small : t.fd < 4294967296 = subst (λ (u : Temp). u.fd < 4294967296) e.4 (g.kept.shelf.1 e.0 e.1 e.2).1 in
         let w : Temp = with_piece t d.start bytes in
-        leads_by book k qs n now x q a us (with_temp k.server.temps w) index (Named (Done tt)) g (put_temp book k n x q a (Named (Done tt)) m w h g.kept.shelf small (λ uncut. ((order uncut).store, inl refl)) (λ uncut vs e2. after uncut vs e2 count) refl (laws.plain xid (Named (Done tt)) fits.0 tt) (λ uncut. tt) fits.1 keyed (parts_put (hashed_of book.moments) (h.contents m) t.pieces d.start bytes pieces (parts bytes none is count)) (λ uncut. (subst (AllAsks (λ b. TempUnder h.seat.client.next_temp b.call)) g.first (h.temps_below uncut).0).0))
+        leads_by book k qs n now x q a us (with_temp k.server.temps w) index (Named (Done tt)) g (put_temp book k n x q a (Named (Done tt)) m w h g.kept.shelf small (λ uncut. ((order uncut).store, inl refl)) (λ uncut vs e2. after uncut vs e2 count) refl (laws.plain book.lbfs xid (Named (Done tt)) fits.0 tt) (λ uncut. tt) fits.1 keyed (parts_put (hashed_of book.moments) (h.contents m) t.pieces d.start bytes pieces (parts bytes none is count)) (λ uncut. (subst (AllAsks (λ b. TempUnder h.seat.client.next_temp b.call)) g.first (h.temps_below uncut).0).0))
       where
         tails : {b c : Ask} {us vs : List Ask} → b ∷ us ≡ c ∷ vs → us ≡ vs
         tails e = cc

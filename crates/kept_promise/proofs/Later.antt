@@ -12,10 +12,11 @@ use Rattle.kept_promise.proofs.Keys.{times, own, on_way, change_key, ask_key, to
 use Rattle.kept_promise.proofs.Lists.{some_is, all_map}
 use Rattle.nfs3_calls.specs.declared.message.Nfs.{Nfs}
 use Rattle.path_calls.specs.declared.walk.Walk.{Walk}
-use Rattle.kept_promise.proofs.Messages.{WalkTold, Job, job, lease_body, hash_body, AllAsks, IsTold, IsServed, IsTried, Trying, RefusedTold, HashTold, LeaseTold, PieceOf, IsPiece, IsPartOf, AreParts, ReadTold, CommitTold, TriedBy, AnswerOf, IsAnswer, IsFetch, IsReading, FetchOf, HasFetch, IsPending, CommitOf, IsCommit, IsOwed, CloseOf, TempUnder, WalkCame, UnmadeBy, PointedBy, IsCreating, IsNameOwed, goal_word, stage_word, walk_for, IsGoing, WaitsFor, IsTakenFor}
+use Rattle.kept_promise.proofs.Messages.{WalkTold, Job, job, lease_body, hash_body, AllAsks, AllTolds, IsTold, IsServed, IsTried, Trying, RefusedTold, HashTold, LeaseTold, PieceOf, IsPiece, IsPartOf, AreParts, ReadTold, CommitTold, TriedBy, AnswerOf, IsAnswer, IsFetch, IsReading, FetchOf, HasFetch, IsPending, CommitOf, IsCommit, IsOwed, CloseOf, TempUnder, WalkCame, UnmadeBy, PointedBy, IsCreating, IsNameOwed, goal_word, stage_word, walk_for, IsGoing, WaitsFor, IsTakenFor}
 use Rattle.kept_promise.proofs.Growth.{Grows, takes_later, value_later, version_later, or_later, held_later, tried_later, tried_wider, made_later, there_later, Follows}
 use Rattle.kept_promise.proofs.Orderly.{Orderly}
 use Rattle.kept_promise.proofs.Ordered.{SameFound, orderly_later}
+use Rattle.kept_promise.proofs.Statements.{IsSpoken, ToldFits}
 use Rattle.kept_promise.proofs.Facts.{commits_in, Cached, IsBalanced, IsTalk, IsSession, IsOf, IsSeat, is_naming}
 use Rattle.kept_promise.proofs.Rights.{gets_file}
 use Rattle.kept_promise.proofs.PathNames.{is_creating}
@@ -52,7 +53,7 @@ is_tried_later book more made ended taken j x n g h =
     let r = g.each j.place h.op h.there in
     let le = h.past in
     let p = g.passes in
-    record { moment = h.moment; was = h.was; past = omega (arith, le, p); op = r.0; there = r.1; count = h.count; tries_is = h.tries_is; tried = subst (λ (b : ℕ). Tried more j.file b h.count h.moment) (sym r.2.begin) (tried_later book more made ended j.file h.op.begin h.count h.moment g (omega (arith, le)) h.tried); call = served_later book more made ended taken j x (hash_body j.file 0) g h.call }
+    record { moment = h.moment; was = h.was; past = omega (arith, le, p); op = r.0; there = r.1; count = h.count; tries_is = h.tries_is; tried = subst (λ (b : ℕ). Tried more j.file b h.count h.moment) (sym r.2.begin) (tried_later book more made ended j.file h.op.begin h.count h.moment g (omega (arith, le)) h.tried); call = subst (λ v. IsServed more taken j x (hash_body v j.file 0)) (sym g.lbfs) (served_later book more made ended taken j x (hash_body book.lbfs j.file 0) g h.call) }
 
 pub trying_later : (book more : Book) (made ended : Option ℕ) (j : Job) (n : ℕ) → Grows book more made ended → Trying book j n → Trying more j n
 trying_later book more made ended j n g h =
@@ -84,7 +85,7 @@ hash_later book more made ended taken j x o (Done a) g h = record {
 
 lease_later : (book more : Book) (made ended : Option ℕ) (taken : List TakenCall) (j : Job) (x : ℕ) (a : Answer Leased Unit) → Grows book more made ended → LeaseTold book taken j x a → LeaseTold more taken j x a
 lease_later book more made ended taken j x (Failed s u) g h = refused_told_later book more made ended taken j x s g h
-lease_later book more made ended taken j x (Done a) g h = record { value = h.value; told = told_later book more made ended taken j x (Some h.value) a.version g h.told; call = served_later book more made ended taken j x (lease_body j.file) g h.call; known = there_later book more made ended j.file g h.known }
+lease_later book more made ended taken j x (Done a) g h = record { value = h.value; told = told_later book more made ended taken j x (Some h.value) a.version g h.told; call = subst (λ v. IsServed more taken j x (lease_body v j.file)) (sym g.lbfs) (served_later book more made ended taken j x (lease_body book.lbfs j.file) g h.call); known = there_later book more made ended j.file g h.known }
 
 read_later : (book more : Book) (made ended : Option ℕ) (taken : List TakenCall) (j : Job) (x first : ℕ) (c : Chunk) (a : Answer Piece (Option Attr)) → Grows book more made ended → ReadTold book taken j x first c a → ReadTold more taken j x first c a
 read_later book more made ended taken j x first c (Failed s a) g h = refused_told_later book more made ended taken j x s g h
@@ -274,6 +275,16 @@ talk_later book more made ended n w v x q seat g spares e h = record {
   busy = h.busy;
 }
 
+-- the version that the clients speak is the same
+pub speak_later : (book more : Book) (made ended : Option ℕ) (us : List Ask) → Grows book more made ended → AllAsks (λ a. a.lbfs ≡ book.lbfs) us → AllAsks (λ a. a.lbfs ≡ more.lbfs) us
+speak_later book more made ended us g h = subst (λ v. AllAsks (λ a. a.lbfs ≡ v) us) (sym g.lbfs) h
+
+pub fit_later : (book more : Book) (made ended : Option ℕ) (ts : List Told) → Grows book more made ended → AllTolds (ToldFits book.lbfs) ts → AllTolds (ToldFits more.lbfs) ts
+fit_later book more made ended ts g h = subst (λ (v : ℕ). AllTolds (ToldFits v) ts) (sym g.lbfs) h
+
+pub serves_later : (book more : Book) (made ended : Option ℕ) → Grows book more made ended → IsSpoken book.lbfs → IsSpoken more.lbfs
+serves_later book more made ended g h = subst IsSpoken (sym g.lbfs) h
+
 -- a session whose owner is as it was, or is elsewhere
 pub session_later : (book more : Book) (made ended : Option ℕ) (seats others : List Seat) (s r : server.State) (n : ℕ) (x : Session) (q : Queue) (c d : Seat) → Grows book more made ended → numbered seats x.owner ≡ Some c → numbered others x.owner ≡ Some d → (x.cut ≡ false → d ≡ c) → Spares x.closing made → SameView n s r
     → IsSession book seats s n x q → IsSession more others r n x q
@@ -289,7 +300,8 @@ session_later book more made ended seats others s r n x q c d g was is same spar
       lost = h.lost;
       stands_is = view.stands_is ∙ h.stands_is;
       ups_fit = h.ups_fit;
-      downs_fit = h.downs_fit;
+      ups_speak = speak_later book more made ended q.ups g h.ups_speak;
+      downs_fit = fit_later book more made ended q.downs g h.downs_fit;
       talk = λ at. subst (λ (z : Seat). IsTalk more n r.waiting x q z) (sym (there at)) (talk_later book more made ended n s.waiting r.waiting x q h.seat g spares view.waiting (h.talk at));
       contents = h.contents;
       lengths = h.lengths;
@@ -353,6 +365,7 @@ seat_later book more made ended sessions after i c g stays apart h = record {
   session = λ n e. let x = h.session n e in let y = stays n x.0 x.1 in (y.0, y.1, y.2 ∙ x.2);
   linked = λ e. let l = h.linked e in let x = h.session l.0 l.2 in let y = stays l.0 l.1 l.3 in let same : l.1 ≡ x.0 = some_is l.1 x.0 (sym l.3 ∙ x.1) in (l.0, y.0, l.2, y.1, y.3 (ap (λ (z : Session). z.owner) same ∙ x.2) ∙ l.4);
   unlinked = h.unlinked;
+  speaks = h.speaks ∙ sym g.lbfs;
   matched = h.matched;
   task = λ j e. of_later book more made ended i j g apart (h.task j e);
   trying = λ j n x e s. trying_later book more made ended j n g (h.trying j n x e s);

@@ -15,6 +15,7 @@ use Rattle.trace_ends.specs.Session.{taken_of as session_taken}
 use Rattle.trace_replay.specs.Saving.{lease_told, LeasedAt, TellsLease}
 use Rattle.trace_replay.specs.Book.{first_version}
 use Rattle.kept_promise.proofs.Common.{◌==◌, Contains, Contains-push_cases, Way, answered, slice_get, Answer, Done, Body, Message, Pending, got_step, took, took_if, told_stored, told_way, idle, ClientStep, Ended, Stage, Store, StoreCall, Task, store_at, Op, Opening, TakenCall, op_after, Core, Seat, Event, Event.Hears, CoreStep, numbered, session_of, acted, happens, Moment, step_of, client_of, owner_in, wanted_if, taken_by, is_in, Book, version_at, changed_before, content_of, filter, Queue, Reply, Reply.Versioned, told_message, reply_body}
+use Rattle.kept_promise.proofs.SameVersion.{same_version}
 use Rattle.kept_promise.proofs.Lists.{some_is, of_appended, of_replaced, true_and_false}
 use Rattle.kept_promise.proofs.Messages.{Job, job, lease_xid, lease_body, AllTolds, IsLeased, LeaseTold, AnswerOf, IsAnswer}
 use Rattle.kept_promise.proofs.Fits.{FitLaws}
@@ -156,16 +157,16 @@ heard_lease fits all opening k qs after n now bytes mid kept h left p o at x l m
 -- ---- what it tells
 
 -- the same of a book that has the same moments, of what the operation has become
-leased_as : (book more : Book) (o r : Op) (m : Moment) (x version n : ℕ) → ((z : Moment) → Contains book.moments z → Contains more.moments z) → r.client ≡ o.client → r.file ≡ o.file → r.begin ≡ o.begin → ((f q : ℕ) → q ≤ n → version_at more f q ≡ version_at book f q) → step_of m ≤ n + 1 → LeasedAt book o m x version → LeasedAt more r m x version
-leased_as book more o r m x version n there client_is file_is begin_is versions le h = record {
+leased_as : (book more : Book) (o r : Op) (m : Moment) (x version n : ℕ) → more.lbfs ≡ book.lbfs → ((z : Moment) → Contains book.moments z → Contains more.moments z) → r.client ≡ o.client → r.file ≡ o.file → r.begin ≡ o.begin → ((f q : ℕ) → q ≤ n → version_at more f q ≡ version_at book f q) → step_of m ≤ n + 1 → LeasedAt book o m x version → LeasedAt more r m x version
+leased_as book more o r m x version n speak there client_is file_is begin_is versions le h = record {
   step = h.step;
-  taken = record { moment = t.moment; there = there t.moment t.there; step_is = t.step_is; session = t.session; now = t.now; bytes = t.bytes; event_is = t.event_is; parsed = t.parsed ∙ ap (λ f. Ok (message.Call x (lease_body f))) (sym file_is); waits = subst (λ c. WaitsFor t.moment c t.session x) (sym client_is) t.waits };
+  taken = record { moment = t.moment; there = there t.moment t.there; step_is = t.step_is; session = t.session; now = t.now; bytes = t.bytes; event_is = t.event_is; parsed = t.parsed ∙ ap (λ f. Ok (message.Call x (lease_body book.lbfs f))) (sym file_is) ∙ ap (λ (v : ℕ). Ok (message.Call x (lease_body v r.file))) (sym speak); waits = subst (λ c. WaitsFor t.moment c t.session x) (sym client_is) t.waits };
   within = subst (λ b. b ≤ h.step) (sym begin_is) h.within;
   before = h.before;
   version_is = ap (λ f. version_at more f h.step) file_is ∙ versions o.file h.step (let lt = h.before in omega (arith, lt, le)) ∙ h.version_is;
 }
   where
-    t : TakesCall book o.client h.step x (lease_body o.file)
+    t : TakesCall book o.client h.step x (lease_body book.lbfs o.file)
     t = h.taken
 
 begin_stays : (o : Op) (c : client.State) (taken : List TakenCall) (step : ℕ) (acts : ClientStep) → (op_after o c taken step acts).begin ≡ o.begin
@@ -182,8 +183,8 @@ client_stays o c taken step acts = by acts.ended
     by None = refl
     by (Some e) = refl
 
-leased_after : (book more : Book) (o : Op) (c : client.State) (taken : List TakenCall) (n : ℕ) (acts : ClientStep) (m : Moment) (x version : ℕ) → acts.found ≡ None → ((z : Moment) → Contains book.moments z → Contains more.moments z) → ((f q : ℕ) → q ≤ n → version_at more f q ≡ version_at book f q) → step_of m ≤ n + 1 → LeasedAt book o m x version → LeasedAt more (op_after o c taken (n + 1) acts) m x version
-leased_after book more o c taken n acts m x version none there versions le = leased_as book more o (op_after o c taken (n + 1) acts) m x version n there (client_stays o c taken (n + 1) acts) (file_stays o c taken (n + 1) acts none) (begin_stays o c taken (n + 1) acts) versions le
+leased_after : (book more : Book) (o : Op) (c : client.State) (taken : List TakenCall) (n : ℕ) (acts : ClientStep) (m : Moment) (x version : ℕ) → acts.found ≡ None → more.lbfs ≡ book.lbfs → ((z : Moment) → Contains book.moments z → Contains more.moments z) → ((f q : ℕ) → q ≤ n → version_at more f q ≡ version_at book f q) → step_of m ≤ n + 1 → LeasedAt book o m x version → LeasedAt more (op_after o c taken (n + 1) acts) m x version
+leased_after book more o c taken n acts m x version none speak there versions le = leased_as book more o (op_after o c taken (n + 1) acts) m x version n speak there (client_stays o c taken (n + 1) acts) (file_stays o c taken (n + 1) acts none) (begin_stays o c taken (n + 1) acts) versions le
 
 -- such an answer is told to one that has its file
 abbrev pub HasFile : Moment → Op → Type 0
@@ -213,7 +214,7 @@ leased_by book k taken closing j m o x l (Versioned a) ops steps at file asking 
         let past = h.told.past in
         record {
           step = h.told.moment;
-          taken = subst (λ f. TakesCall book o.client h.told.moment x (lease_body f)) (sym file) (subst (λ s. TakesCall book o.client s x (lease_body j.file)) moment_is (subst (λ (z : Op). TakesCall book z.client h.call.moment x (lease_body j.file)) (own h.call.op h.call.there) h.call.takes));
+          taken = subst (λ f. TakesCall book o.client h.told.moment x (lease_body book.lbfs f)) (sym file) (subst (λ s. TakesCall book o.client s x (lease_body book.lbfs j.file)) moment_is (subst (λ (z : Op). TakesCall book z.client h.call.moment x (lease_body book.lbfs j.file)) (own h.call.op h.call.there) h.call.takes));
           within = subst (λ (z : Op). z.begin ≤ h.told.moment) (own h.told.op h.told.there) h.told.after;
           before = (omega (arith, past, steps));
           version_is = ap (λ f. version_at book f h.told.moment) file ∙ h.told.version_is;
@@ -254,7 +255,7 @@ leased_hears fits all past rest opening k qs n now bytes mid after s told grown 
         let answer = subst (λ z. AnswerOf (book_at opening k all) h.session.taken h.session.closing (Some w.of) z h.told.reply) xid answer in
         let old = leased_by (book_at opening k all) k h.session.taken h.session.closing w.of (moment k (Hears n now bytes)) w.old x l h.told.reply refl (omega arith) (ap (slice_get k.ops) w.place ∙ w.was) w.file w.asking (body_is h.told.xid (reply_body h.told.reply) same) answer in
         subst (λ z. LeasedAt (book_at opening (happens k (Hears n now bytes)).core all) z (moment k (Hears n now bytes)) x l.version) (sym w.is)
-        (leased_after (book_at opening k all) (book_at opening (happens k (Hears n now bytes)).core all) w.old (got_step h.seat.client (Ok (lease_told x l)) now).0 (session_taken (session_of k.sessions h.seat.session)) k.steps (got_step h.seat.client (Ok (lease_told x l)) now).1 (moment k (Hears n now bytes)) x l.version w.finds (λ z c. c) (λ f q lt. counted_so (book_at opening k all) (book_at opening (happens k (Hears n now bytes)).core all) f q refl (same_versions k (Hears n now bytes) (happens k (Hears n now bytes)).core.ops grown f q lt)) (omega arith) old)
+        (leased_after (book_at opening k all) (book_at opening (happens k (Hears n now bytes)).core all) w.old (got_step h.seat.client (Ok (lease_told x l)) now).0 (session_taken (session_of k.sessions h.seat.session)) k.steps (got_step h.seat.client (Ok (lease_told x l)) now).1 (moment k (Hears n now bytes)) x l.version w.finds (same_version k (Hears n now bytes)) (λ z c. c) (λ f q lt. counted_so (book_at opening k all) (book_at opening (happens k (Hears n now bytes)).core all) f q refl (same_versions k (Hears n now bytes) (happens k (Hears n now bytes)).core.ops grown f q lt)) (omega arith) old)
 
 -- and its operation has its file
 shut_hears : FitLaws → (all past rest : List Moment) (opening : List Opening) (k : Core) (qs : List Queue) (n now : ℕ) (bytes : List ℕ) (mid after : List Queue) → Step all past rest opening k qs (Hears n now bytes) mid after → FindsTold qs n bytes mid
@@ -332,14 +333,14 @@ shut_stays book k qs e ops m kept le (inr (inr (inr (inr s)))) h p o at = elim (
 ]
 
 -- what is past stays
-pub leased_stays : (book more : Book) (k : Core) (qs : List Queue) (e : Event) (m : Moment) → IsKept book k qs → step_of m ≤ k.steps → OpsAfter e k more.ops → more.opening ≡ book.opening → ((z : Moment) → Contains book.moments z → Contains more.moments z) → ((p : ℕ) (o : Op) → slice_get k.ops p ≡ Some o → TellsLease book m o) → ((p : ℕ) (o : Op) → slice_get k.ops p ≡ Some o → HasFile m o) → (p : ℕ) (o : Op) → slice_get more.ops p ≡ Some o → TellsLease more m o
-leased_stays book more k qs e m kept le grown opening there h shut p o at = by grown
+pub leased_stays : (book more : Book) (k : Core) (qs : List Queue) (e : Event) (m : Moment) → IsKept book k qs → step_of m ≤ k.steps → OpsAfter e k more.ops → more.opening ≡ book.opening → more.lbfs ≡ book.lbfs → ((z : Moment) → Contains book.moments z → Contains more.moments z) → ((p : ℕ) (o : Op) → slice_get k.ops p ≡ Some o → TellsLease book m o) → ((p : ℕ) (o : Op) → slice_get k.ops p ≡ Some o → HasFile m o) → (p : ℕ) (o : Op) → slice_get more.ops p ≡ Some o → TellsLease more m o
+leased_stays book more k qs e m kept le grown opening speak there h shut p o at = by grown
   where
     versions : (f q : ℕ) → q ≤ k.steps → version_at more f q ≡ version_at book f q
     versions f q lt = counted_so book more f q opening (same_versions k e more.ops grown f q lt ∙ ap (λ (z : List Op). version_in z f q) (sym kept.ops))
 
     still : (o : Op) → TellsLease book m o → TellsLease more m o
-    still o h x l mine c = leased_as book more o o m x l.version k.steps there refl refl refl versions (omega (arith, le)) (h x l mine c)
+    still o h x l mine c = leased_as book more o o m x l.version k.steps speak there refl refl refl versions (omega (arith, le)) (h x l mine c)
 
     by : OpsAfter e k more.ops → TellsLease more m o
     by (inl same) = still o (h p o (ap (λ (l : List Op). slice_get l p) (sym same) ∙ at))
@@ -353,7 +354,7 @@ leased_stays book more k qs e m kept le grown opening there h shut p o at = by g
           let running = ((acts_alone book k qs a.index a.seat kept a.here).own p mine.0 mine.1 mine.2).1 in
           let was = sym (running_past mine.0 a.after (session_taken (session_of k.sessions a.seat.session)) k.steps a.acts running (step_of m) (client_of m.before m.event) le) ∙ in_it in
           elim (a.apart p mine.0 mine.1 mine.2) [
-            | inl none ↦ leased_after book more mine.0 a.after (session_taken (session_of k.sessions a.seat.session)) k.steps a.acts m x l.version none there versions (omega (arith, le)) (h p mine.0 mine.2 x l was c)
+            | inl none ↦ leased_after book more mine.0 a.after (session_taken (session_of k.sessions a.seat.session)) k.steps a.acts m x l.version none speak there versions (omega (arith, le)) (h p mine.0 mine.2 x l was c)
             | inr none ↦ absurd (shut p mine.0 mine.2 x l was c none)
           ])
     ]
@@ -361,7 +362,7 @@ leased_stays book more k qs e m kept le grown opening there h shut p o at = by g
     by (inr (inr (inr (inr s)))) = elim (of_replaced k.ops s.place (record s.op { file = s.file; point = Some (k.steps + 1) }) p o (ap (λ (l : List Op). slice_get l p) (sym s.is) ∙ at)) [
       | inr old ↦ still o (h p o old.1)
       | inl made ↦ subst (TellsLease more m) (sym made.1) (elim s.kind [
-        | inl close ↦ λ x l mine c. leased_as book more s.op (record s.op { file = s.file; point = Some (k.steps + 1) }) m x l.version k.steps there refl close.1 refl versions (omega (arith, le)) (h s.place s.op s.there x l mine c)
+        | inl close ↦ λ x l mine c. leased_as book more s.op (record s.op { file = s.file; point = Some (k.steps + 1) }) m x l.version k.steps speak there refl close.1 refl versions (omega (arith, le)) (h s.place s.op s.there x l mine c)
         | inr make ↦ λ x l mine c. absurd (shut s.place s.op s.there x l mine c make.1)
       ])
     ]

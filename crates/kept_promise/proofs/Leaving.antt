@@ -97,16 +97,16 @@ reads_more_most (suc k) cache index file r most le = by (nat_lt (length r.fetch.
     by true lt go = next (slice_get r.fetch.chunks r.fetch.asked) (grind (arith, nat_tests, lt)) go
     by false lt go = omega arith
 
-names_next_most : (n : Names) (o : Option Chunk) → ((names_next n o).next_xid ≤ n.next_xid + 1) × ((names_next n o).next_xid + length n.store.under ≡ n.next_xid + length (names_next n o).store.under)
-names_next_most n None = (omega arith, refl)
-names_next_most n (Some c) = let l = length-append n.store.under (record { xid = n.next_xid; index = n.store.named; way = way.Named } ∷ []) in (omega arith, omega (arith, l))
+names_next_most : (lbfs : ℕ) (n : Names) (o : Option Chunk) → ((names_next lbfs n o).next_xid ≤ n.next_xid + 1) × ((names_next lbfs n o).next_xid + length n.store.under ≡ n.next_xid + length (names_next lbfs n o).store.under)
+names_next_most lbfs n None = (omega arith, refl)
+names_next_most lbfs n (Some c) = let l = length-append n.store.under (record { xid = n.next_xid; index = n.store.named; way = way.Named } ∷ []) in (omega arith, omega (arith, l))
 
-names_more_most : (k : ℕ) (n : Names) → ((names_more k n).next_xid ≤ n.next_xid + k) × ((names_more k n).next_xid + length n.store.under ≡ n.next_xid + length (names_more k n).store.under)
-names_more_most zero n = (omega arith, refl)
-names_more_most (suc k) n =
-    let m = names_next n (slice_get n.store.chunks n.store.named) in
-    let a = names_next_most n (slice_get n.store.chunks n.store.named) in
-    let b = names_more_most k m in
+names_more_most : (lbfs : ℕ) (k : ℕ) (n : Names) → ((names_more lbfs k n).next_xid ≤ n.next_xid + k) × ((names_more lbfs k n).next_xid + length n.store.under ≡ n.next_xid + length (names_more lbfs k n).store.under)
+names_more_most lbfs zero n = (omega arith, refl)
+names_more_most lbfs (suc k) n =
+    let m = names_next lbfs n (slice_get n.store.chunks n.store.named) in
+    let a = names_next_most lbfs n (slice_get n.store.chunks n.store.named) in
+    let b = names_more_most lbfs k m in
     let a0 = a.0 in
     let a1 = a.1 in
     let b0 = b.0 in
@@ -116,14 +116,14 @@ names_more_most (suc k) n =
 reads_most : (cache : Entries) (index : Indexed) (file : ℕ) (f : Fetch) (next : ℕ) → (reads_all cache index file f next).next_xid ≤ next + calls_most
 reads_most cache index file f next = reads_more_most (length f.chunks - f.asked) cache index file (reads_from f next) calls_most (omega arith)
 
-names_most : (st : Store) (next : ℕ) → (names_all st next).next_xid ≤ next + calls_most
-names_most st next = let a = (names_more_most (calls_most - length st.under) (names_from st next)).0 in let b = less_by calls_most (length st.under) in omega (arith, a, b)
+names_most : (lbfs : ℕ) (st : Store) (next : ℕ) → (names_all lbfs st next).next_xid ≤ next + calls_most
+names_most lbfs st next = let a = (names_more_most lbfs (calls_most - length st.under) (names_from st next)).0 in let b = less_by calls_most (length st.under) in omega (arith, a, b)
 
 -- where nothing is under way none went out
-none_named : (st : Store) (next : ℕ) → is_stored (names_all st next).store ≡ true → (names_all st next).next_xid ≤ next
-none_named st next e = by (names_all st next).store.under e (names_more_most (calls_most - length st.under) (names_from st next)).1
+none_named : (lbfs : ℕ) (st : Store) (next : ℕ) → is_stored (names_all lbfs st next).store ≡ true → (names_all lbfs st next).next_xid ≤ next
+none_named lbfs st next e = by (names_all lbfs st next).store.under e (names_more_most lbfs (calls_most - length st.under) (names_from st next)).1
   where
-    by : (us : List StoreCall) → (is_none us && (names_all st next).store.named == length (names_all st next).store.chunks) ≡ true → (names_all st next).next_xid + length st.under ≡ next + length us → (names_all st next).next_xid ≤ next
+    by : (us : List StoreCall) → (is_none us && (names_all lbfs st next).store.named == length (names_all lbfs st next).store.chunks) ≡ true → (names_all lbfs st next).next_xid + length st.under ≡ next + length us → (names_all lbfs st next).next_xid ≤ next
     by [] e n = omega (arith, n)
     by (u ∷ us) e n = absurd cc
 
@@ -189,12 +189,12 @@ told_piece_left s calls file xid f piece (Some c) = told_chunk_left s calls file
 
 -- ---- a close's answers
 
-goes_if_left : (s : client.State) (file : ℕ) (content : List ℕ) (st : Store) (b : Bool) → is_stored (names_all st s.next_xid).store ≡ b → IsLeft s file (goes_if s file content (names_all st s.next_xid) b)
-goes_if_left s file content st true e = (let n = none_named st s.next_xid e in let o = some_call in omega (arith, n, o), refl)
-goes_if_left s file content st false e = (names_most st s.next_xid, refl)
+goes_if_left : (s : client.State) (file : ℕ) (content : List ℕ) (st : Store) (b : Bool) → is_stored (names_all s.lbfs st s.next_xid).store ≡ b → IsLeft s file (goes_if s file content (names_all s.lbfs st s.next_xid) b)
+goes_if_left s file content st true e = (let n = none_named s.lbfs st s.next_xid e in let o = some_call in omega (arith, n, o), refl)
+goes_if_left s file content st false e = (names_most s.lbfs st s.next_xid, refl)
 
 goes_on_left : (s : client.State) (file : ℕ) (content : List ℕ) (st : Store) → IsLeft s file (goes_on s file content st)
-goes_on_left s file content st = goes_if_left s file content st (is_stored (names_all st s.next_xid).store) refl
+goes_on_left s file content st = goes_if_left s file content st (is_stored (names_all s.lbfs st s.next_xid).store) refl
 
 told_temp_left : (s : client.State) (calls : List Pending) (file xid temp : ℕ) (content : List ℕ) (a : Answer Unit Unit) → IsLeft s file (told_temp s calls file xid temp content a)
 told_temp_left s calls file xid temp content (Failed t u) = refused_left s calls file xid t

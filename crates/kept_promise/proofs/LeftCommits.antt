@@ -154,14 +154,14 @@ closing_stays c place w o e is = ap (closing_with c place w) is ∙ by w
 
 -- ---- what waits at the server
 
-pub got_waits : (s : server.State) (n now : ℕ) (a : Ask) (b : Bool) → CallFits a.xid a.call → Waits s.waiting n (λ d. change_number a.call ≡ 1) (got_if s b n (ask_message a) now).0.waiting
+pub got_waits : (s : server.State) (n now : ℕ) (a : Ask) (b : Bool) → CallFits a.lbfs a.xid a.call → Waits s.waiting n (λ d. change_number a.call ≡ 1) (got_if s b n (ask_message a) now).0.waiting
 got_waits s n now a b fits = by (makes_call a.call) refl
   where
-    of_commit : (d : Change) (c : Call) → IsByCommit (ask_message (record { xid = a.xid; call = c })) d → change_number c ≡ 1
+    of_commit : (d : Change) (c : Call) → IsByCommit (ask_message (record { lbfs = a.lbfs; xid = a.xid; call = c })) d → change_number c ≡ 1
     of_commit d (Commit temp g size) h = refl
     of_commit d _ h = absurd h
 
-    building : (w : Walk) → IsWalkSmall w → is_building w ≡ true → (b : Bool) → (got_if s b n (ask_message (record { xid = a.xid; call = Walks w })) now).0.waiting ≡ s.waiting
+    building : (w : Walk) → IsWalkSmall w → is_building w ≡ true → (b : Bool) → (got_if s b n (ask_message (record { lbfs = a.lbfs; xid = a.xid; call = Walks w })) now).0.waiting ≡ s.waiting
     building w small builds true = ap (λ (r : server.State × ServerStep). r.0.waiting) (called_making (closing.at s now) n a.xid w small builds)
     building w small builds false = refl
 
@@ -170,7 +170,7 @@ got_waits s n now a b fits = by (makes_call a.call) refl
     asks w creates (t, Answered d) = inl refl
     asks w creates (t, ToWait c) = inr (coming n a.xid c, refl, refl, ap (λ (b : Bool). cond b 1 0) creates)
 
-    going : (w : Walk) → IsWalkSmall w → is_going w ≡ true → (b : Bool) → Waits s.waiting n (λ d. change_number (Walks w) ≡ 1) (got_if s b n (ask_message (record { xid = a.xid; call = Walks w })) now).0.waiting
+    going : (w : Walk) → IsWalkSmall w → is_going w ≡ true → (b : Bool) → Waits s.waiting n (λ d. change_number (Walks w) ≡ 1) (got_if s b n (ask_message (record { lbfs = a.lbfs; xid = a.xid; call = Walks w })) now).0.waiting
     going w small goes true = subst (λ (r : server.State × ServerStep). Waits s.waiting n (λ d. change_number (Walks w) ≡ 1) r.0.waiting) (sym (called_going (closing.at s now) n a.xid w small goes)) (asks w (going_creates w.left w.goal goes) (comes_by s.tree (server.held s.waiting) (has_waiting s.waiting n) w.dir w.goal))
     going w small goes false = inl refl
 
@@ -181,8 +181,8 @@ got_waits s n now a b fits = by (makes_call a.call) refl
     ]
     by true some_ =
         let w = walk_made a.call some_ in
-        let fit = subst (CallFits a.xid) w.1 fits in
-        subst (λ (c : Call). Waits s.waiting n (λ d. change_number c ≡ 1) (got_if s b n (ask_message (record { xid = a.xid; call = c })) now).0.waiting) (sym w.1) (elim (making_is w.0.left w.0.goal w.2) [
+        let fit = subst (CallFits a.lbfs a.xid) w.1 fits in
+        subst (λ (c : Call). Waits s.waiting n (λ d. change_number c ≡ 1) (got_if s b n (ask_message (record { lbfs = a.lbfs; xid = a.xid; call = c })) now).0.waiting) (sym w.1) (elim (making_is w.0.left w.0.goal w.2) [
           | inl builds ↦ inl (building w.0 fit.1 builds b)
           | inr goes ↦ going w.0 fit.1 goes b
         ])
@@ -436,7 +436,7 @@ leaves_serves : FitLaws → (opening : List Opening) (all : List Moment) (k : Co
 leaves_serves laws opening all k qs mid m now bytes kept f =
     let x = also_numbered qs k.sessions m f.0 (sym kept.made.1) f.3 in
     let s = kept.sessions m x.0 f.0 x.1 f.3 in
-    let fits : AllAsks (λ a. CallFits a.xid a.call) (f.1 ∷ f.2) = subst (AllAsks (λ a. CallFits a.xid a.call)) f.4 s.ups_fit in
+    let fits : AllAsks (λ a. CallFits a.lbfs a.xid a.call) (f.1 ∷ f.2) = subst (AllAsks (λ a. CallFits a.lbfs a.xid a.call)) f.4 s.ups_fit in
     let parsed : parse_of (server_waits k m) bytes ≡ Ok (ask_message f.1) = ap (parse_of (server_waits k m)) f.5 ∙ parsed_at laws k m f.1 fits.0 in
     let got_as : serves k m now bytes (Some x.0) ≡ serves_if k m now x.0 (Ok (ask_message f.1)) = ap (serves_if k m now x.0) parsed in
     subst (λ (o : Option Session). Leaves k qs mid (serves k m now bytes o)) (sym x.1) (subst (Leaves k qs mid) (sym got_as) (by x.0 x.1 (got_waits k.server m now f.1 (stands k.server m) fits.0)))

@@ -216,6 +216,7 @@ pub mod NameAnswers
 pub mod RefusedCalls
 pub mod EntriesGrow
 pub mod Awaiting
+pub mod SameVersion
 pub mod Leases
 pub mod KeptUsed
 pub mod FoundAsked

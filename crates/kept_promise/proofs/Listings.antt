@@ -21,7 +21,7 @@ use Rattle.kept_promise.proofs.Heard.{told_pending}
 use Rattle.kept_promise.proofs.Ordered.{IsFetching}
 use Rattle.kept_promise.proofs.Caches.{given_is, cached_with}
 use Rattle.kept_promise.proofs.StepCases.{reads_keep, reads_end}
-use Rattle.kept_promise.proofs.Steps.{Here, session_at, Quiet, job_op, GoesOn, on, counting, opens_in_order, open_unnamed}
+use Rattle.kept_promise.proofs.Steps.{speaks_at, Here, session_at, Quiet, job_op, GoesOn, on, counting, opens_in_order, open_unnamed}
 use Rattle.kept_promise.proofs.ReadCalls.{Ran, reads_run, sent_rising, sent_all, sent_count, sent_times, sent_same, sent_from, sent_commits, read_found, read_front}
 use Rattle.kept_promise.proofs.Chunks.{row_of, link_at, chunks_are_named}
 use Rattle.kept_promise.proofs.Attempts.{fetch_few, Came, whole_length, whole_value}
@@ -351,8 +351,8 @@ comes_reading book k qs n x q t ts j g f bytes fact may = by (is_here r.fetch) r
     r : Reads
     r = reads_all c.cache c.index j.file f c.next_xid
 
-    ran : Ran j.file (reads_from f c.next_xid) r
-    ran = reads_run c.cache c.index j.file (length f.chunks - f.asked) (reads_from f c.next_xid)
+    ran : Ran c.lbfs j.file (reads_from f c.next_xid) r
+    ran = reads_run c.lbfs c.cache c.index j.file (length f.chunks - f.asked) (reads_from f c.next_xid)
 
     reading : IsReading book fact.file.content (read_fetch f r ran.notes)
     reading = subst (IsReading book fact.file.content) ran.fetch_is (reading_more book fact.file.content c j.file f fact.hashed may.reading may.looked)
@@ -366,7 +366,7 @@ comes_reading book k qs n x q t ts j g f bytes fact may = by (is_here r.fetch) r
     bound : r.next_xid ≤ 4294967296
     bound =
         let v = may.xids.2 in
-        let a = sent_count j.file f.chunks c.next_xid ran.notes ran.asks r.next_xid ran.sent in
+        let a = sent_count c.lbfs j.file f.chunks c.next_xid ran.notes ran.asks r.next_xid ran.sent in
         let b = reading.asked in
         let d = fetch_few book x.taken j f fact in
         let e = ran.further in
@@ -375,7 +375,7 @@ comes_reading book k qs n x q t ts j g f bytes fact may = by (is_here r.fetch) r
     front_or : (y : ℕ) (p : Chunk) → read_chunk s y ≡ Some p → (u : ReadCall) × (slice_get f.chunks u.index ≡ Some p) × ((read_at f.under y ≡ Some u) ⊎ (read_at ran.notes y ≡ Some u))
     front_or y p e = let v = chunk_found f.chunks (read_at (f.under ++ ran.notes) y) p e in (v.0, v.2, read_front f.under ran.notes y v.0 v.1)
 
-    ask_of : (m : ℕ) (u : ReadCall) (d : Chunk) → slice_get ran.notes m ≡ Some u → slice_get f.chunks u.index ≡ Some d → c.next_xid ≤ u.xid → IsAsked (Some (on j s)) (record { xid = u.xid; call = Read j.file d })
+    ask_of : (m : ℕ) (u : ReadCall) (d : Chunk) → slice_get ran.notes m ≡ Some u → slice_get f.chunks u.index ≡ Some d → c.next_xid ≤ u.xid → IsAsked (Some (on j s)) (record { lbfs = c.lbfs; xid = u.xid; call = Read j.file d })
     ask_of m u d at chunk le = λ i p e w.
         let is = some_is (on j s) i e in
         let o = front_or u.xid p (subst (λ (v : Job). read_chunk v.stage u.xid ≡ Some p) (sym is) w) in (
@@ -384,12 +384,12 @@ comes_reading book k qs n x q t ts j g f bytes fact may = by (is_here r.fetch) r
             | inl old ↦ let lt = may.below u.xid o.0 old in absurd (omega (arith, lt, le))
             | inr new ↦
                 let found = read_found ran.notes u.xid o.0 new in
-                let same = sent_same j.file f.chunks c.next_xid ran.notes ran.asks r.next_xid m found.0 u o.0 ran.sent at found.1 (sym found.2) in
+                let same = sent_same c.lbfs j.file f.chunks c.next_xid ran.notes ran.asks r.next_xid m found.0 u o.0 ran.sent at found.1 (sym found.2) in
                 some_is p d (sym o.1 ∙ ap (λ (v : ReadCall). slice_get f.chunks v.index) (sym same) ∙ chunk)
           ],
         )
 
-    fits_of : (u : ReadCall) (d : Chunk) → slice_get f.chunks u.index ≡ Some d → u.xid < r.next_xid → CallFits u.xid (Read j.file d)
+    fits_of : (u : ReadCall) (d : Chunk) → slice_get f.chunks u.index ≡ Some d → u.xid < r.next_xid → CallFits c.lbfs u.xid (Read j.file d)
     fits_of u d at lt =
         let l = link_at fact.file.content 0 (chunks_of fact.file.content) u.index d (row_of fact.file.content) (ap (λ v. slice_get v u.index) (sym may.reading.whole) ∙ at) in
         let b = bound in
@@ -411,34 +411,35 @@ comes_reading book k qs n x q t ts j g f bytes fact may = by (is_here r.fetch) r
             let o = front_or y d at in
             elim o.2 [
               | inl old ↦ let a = may.again y o.0 d old o.1 in (a.0, a.1, a.2, a.3 ∙ ap first_of e)
-              | inr new ↦ let found = read_found ran.notes y o.0 new in let xid = found.2 in let le = sent_from j.file f.chunks c.next_xid ran.notes ran.asks r.next_xid found.0 o.0 ran.sent found.1 in absurd (omega (arith, le, xid, lt))
+              | inr new ↦ let found = read_found ran.notes y o.0 new in let xid = found.2 in let le = sent_from c.lbfs j.file f.chunks c.next_xid ran.notes ran.asks r.next_xid found.0 o.0 ran.sent found.1 in absurd (omega (arith, le, xid, lt))
             ];
       };
       moves = λ m y.
           let a = times_map_append m y (map read_pending (f.under ++ ran.notes)) c.forgotten in
           let b = ap (λ l. times y (map m l)) (pendings_both f.under ran.notes) ∙ times_map_append m y (map read_pending f.under) (map read_pending ran.notes) in
-          let d = sent_times m y j.file f.chunks c.next_xid ran.notes ran.asks r.next_xid ran.sent in
+          let d = sent_times m y c.lbfs j.file f.chunks c.next_xid ran.notes ran.asks r.next_xid ran.sent in
           let e = may.moves m y in
           let v = ap (λ l. times y (map m l)) (calls_are h.seat j g.job_is) ∙ times_map_append m y (client.pending_in j.stage) c.forgotten in
           omega (arith, a, b, d, e, v);
-      rising = sent_rising j.file f.chunks c.next_xid ran.notes ran.asks r.next_xid ran.sent;
-      asked = sent_all (IsAsked (Some (on j s))) j.file f.chunks c.next_xid ran.notes ran.asks r.next_xid (λ m u d at chunk le lt. ask_of m u d at chunk le) ran.sent;
-      fits = sent_all (λ a. CallFits a.xid a.call) j.file f.chunks c.next_xid ran.notes ran.asks r.next_xid (λ m u d at chunk le lt. fits_of u d chunk lt) ran.sent;
-      commits = sent_all (IsCommit book x.closing x.cut (Some (on j s)) h.contents) j.file f.chunks c.next_xid ran.notes ran.asks r.next_xid (λ m u d at chunk le lt. tt) ran.sent;
-      pieces = sent_all (IsPiece (hashed_of book.moments) h.contents) j.file f.chunks c.next_xid ran.notes ran.asks r.next_xid (λ m u d at chunk le lt. tt) ran.sent;
-      under = sent_all (λ a. TempUnder c.next_temp a.call) j.file f.chunks c.next_xid ran.notes ran.asks r.next_xid (λ m u d at chunk le lt. tt) ran.sent;
-      few = let v = sent_commits j.file f.chunks c.next_xid ran.notes ran.asks r.next_xid ran.sent in omega (arith, v);
+      rising = sent_rising c.lbfs j.file f.chunks c.next_xid ran.notes ran.asks r.next_xid ran.sent;
+      asked = sent_all (IsAsked (Some (on j s))) c.lbfs j.file f.chunks c.next_xid ran.notes ran.asks r.next_xid (λ m u d at chunk le lt. ask_of m u d at chunk le) ran.sent;
+      fits = sent_all (λ a. CallFits a.lbfs a.xid a.call) c.lbfs j.file f.chunks c.next_xid ran.notes ran.asks r.next_xid (λ m u d at chunk le lt. fits_of u d chunk lt) ran.sent;
+      speak = sent_all (λ a. a.lbfs ≡ book.lbfs) c.lbfs j.file f.chunks c.next_xid ran.notes ran.asks r.next_xid (λ m u d at chunk le lt. speaks_at book k qs n x q t ts j g) ran.sent;
+      commits = sent_all (IsCommit book x.closing x.cut (Some (on j s)) h.contents) c.lbfs j.file f.chunks c.next_xid ran.notes ran.asks r.next_xid (λ m u d at chunk le lt. tt) ran.sent;
+      pieces = sent_all (IsPiece (hashed_of book.moments) h.contents) c.lbfs j.file f.chunks c.next_xid ran.notes ran.asks r.next_xid (λ m u d at chunk le lt. tt) ran.sent;
+      under = sent_all (λ a. TempUnder c.next_temp a.call) c.lbfs j.file f.chunks c.next_xid ran.notes ran.asks r.next_xid (λ m u d at chunk le lt. tt) ran.sent;
+      few = let v = sent_commits c.lbfs j.file f.chunks c.next_xid ran.notes ran.asks r.next_xid ran.sent in omega (arith, v);
       fetch = (fetch_on book x.taken j s (read_fetch f r ran.notes) fetched, reading);
       busy = mapped (f.under ++ ran.notes) some;
       closes = tt;
       trying = λ m y e. absurd cc;
       xids =
           let v = may.xids.2 in
-          let a = sent_count j.file f.chunks c.next_xid ran.notes ran.asks r.next_xid ran.sent in
+          let a = sent_count c.lbfs j.file f.chunks c.next_xid ran.notes ran.asks r.next_xid ran.sent in
           let e = ran.further in
           (may.xids.0, may.xids.1, omega (arith, v, a, e));
       bounded = bound;
-      orderly = opens_in_order book k qs n x q t ts j g s r.next_xid c.forgotten ran.asks may.word refl (sent_all (λ a. IsFetching a.call) j.file f.chunks c.next_xid ran.notes ran.asks r.next_xid (λ m u d at chunk le lt. tt) ran.sent);
+      orderly = opens_in_order book k qs n x q t ts j g s r.next_xid c.forgotten ran.asks may.word refl (sent_all (λ a. IsFetching a.call) c.lbfs j.file f.chunks c.next_xid ran.notes ran.asks r.next_xid (λ m u d at chunk le lt. tt) ran.sent);
     }
       where
         first_of : Stage → ℕ

@@ -136,10 +136,10 @@ pub record LogLaws (all : List Moment) (P : Going) (E : Ending) : Type 0 where
   -- it is an open that got its content at once
   pub now : (log : List Deal) (file : ℕ) (v : List ℕ) (len : ℕ) (digest : List ℕ) → NamesOnly log → E log words.Open file v (told.Opened len digest)
   -- its first call was sent, maybe behind a walk
-  pub asks : (log : List Deal) → NamesOnly log → (x file : ℕ) (v : List ℕ) → P (log ++ Sent (lease_call x file) ∷ []) file v (stage.Asking x)
-  pub opens : (log : List Deal) → NamesOnly log → (x file : ℕ) (v : List ℕ) → P (log ++ Sent (hash_call x file 0) ∷ []) file v (stage.Hashing 1 x)
-  pub renews : (log : List Deal) → NamesOnly log → (x file : ℕ) (v : List ℕ) → P (log ++ Sent (lease_call x file) ∷ []) file v (stage.Rewriting x)
-  pub closes : (x temp file : ℕ) (v : List ℕ) → P (Sent (make_call x temp file) ∷ []) file v (stage.Making x temp)
+  pub asks : (log : List Deal) → NamesOnly log → (lbfs x file : ℕ) (v : List ℕ) → P (log ++ Sent (lease_call lbfs x file) ∷ []) file v (stage.Asking x)
+  pub opens : (log : List Deal) → NamesOnly log → (lbfs x file : ℕ) (v : List ℕ) → P (log ++ Sent (hash_call lbfs x file 0) ∷ []) file v (stage.Hashing 1 x)
+  pub renews : (log : List Deal) → NamesOnly log → (lbfs x file : ℕ) (v : List ℕ) → P (log ++ Sent (lease_call lbfs x file) ∷ []) file v (stage.Rewriting x)
+  pub closes : (lbfs x temp file : ℕ) (v : List ℕ) → P (Sent (make_call lbfs x temp file) ∷ []) file v (stage.Making x temp)
   -- the file that an operation gets from the server is nothing to what is true of it
   pub moves : (log : List Deal) (file other : ℕ) (v : List ℕ) (w : Word) (u : History) → gets_file w ≡ true → E log w file v u → E log w other v u
   -- what is true of one under way is so however it ends, but where an open gets its content
@@ -184,12 +184,12 @@ end_moves P E all laws k ops c log h = elim c.kind [
 abbrev Answers : client.State × ClientStep → Type 0
 Answers r = (r.1.send ≡ []) × ((e : Ended) × (r.1.ended ≡ Some e))
 
--- the first call of an open, of a rewrite, of a walk, or of a close
+-- the first call of an open, of a rewrite, of a walk, or of a close, in any version of LBFS
 abbrev IsFirst : (file : ℕ) → Message → Stage → Type 0
-IsFirst file m (stage.Asking x) = m ≡ lease_call x file
-IsFirst file m (stage.Rewriting x) = m ≡ lease_call x file
-IsFirst file m (stage.Hashing tries x) = (tries ≡ 1) × (m ≡ hash_call x file 0)
-IsFirst file m (stage.Making x temp) = m ≡ make_call x temp file
+IsFirst file m (stage.Asking x) = (lbfs : ℕ) × (m ≡ lease_call lbfs x file)
+IsFirst file m (stage.Rewriting x) = (lbfs : ℕ) × (m ≡ lease_call lbfs x file)
+IsFirst file m (stage.Hashing tries x) = (tries ≡ 1) × ((lbfs : ℕ) × (m ≡ hash_call lbfs x file 0))
+IsFirst file m (stage.Making x temp) = (lbfs : ℕ) × (m ≡ make_call lbfs x temp file)
 IsFirst file m (stage.Walking x w) = IsNameDeal (Sent m)
 IsFirst file m st = ⊥
 
@@ -200,20 +200,20 @@ begins_free : (s : client.State) (d : Command) (now : ℕ) → IsSmall d → s.t
 begins_free s d now small free = command_cases (λ r. Answers r ⊎ Asks d r) s d now (record {
   busy = λ t is. nothing_there t (sym free ∙ is);
   answers = λ un opened o plain. inl (refl, (_, refl));
-  fetches = λ file is un may. subst (λ (c : Command). let r = asks_kept (fronts s file) file None in Answers r ⊎ Asks c r) (sym is) (inr (hash_call s.next_xid file 0, stage.Hashing 1 s.next_xid, refl, refl, refl, refl, (refl, refl)));
-  asks = λ file kept is un may at. subst (λ (c : Command). let r = asks_kept (fronts s file) file (Some kept) in Answers r ⊎ Asks c r) (sym is) (inr (lease_call s.next_xid file, stage.Asking s.next_xid, refl, refl, refl, refl, refl));
-  renews = λ file is un may. subst (λ (c : Command). let r = asks_version (fronts s file) file in Answers r ⊎ Asks c r) (sym is) (inr (lease_call s.next_xid file, stage.Rewriting s.next_xid, refl, refl, refl, refl, refl));
+  fetches = λ file is un may. subst (λ (c : Command). let r = asks_kept (fronts s file) file None in Answers r ⊎ Asks c r) (sym is) (inr (hash_call s.lbfs s.next_xid file 0, stage.Hashing 1 s.next_xid, refl, refl, refl, refl, (refl, (s.lbfs, refl))));
+  asks = λ file kept is un may at. subst (λ (c : Command). let r = asks_kept (fronts s file) file (Some kept) in Answers r ⊎ Asks c r) (sym is) (inr (lease_call s.lbfs s.next_xid file, stage.Asking s.next_xid, refl, refl, refl, refl, (s.lbfs, refl)));
+  renews = λ file is un may. subst (λ (c : Command). let r = asks_version (fronts s file) file in Answers r ⊎ Asks c r) (sym is) (inr (lease_call s.lbfs s.next_xid file, stage.Rewriting s.next_xid, refl, refl, refl, refl, (s.lbfs, refl)));
   opens_now = λ file c is un shut now. inl (refl, (_, refl));
   empties_now = λ file c is un shut now. inl (refl, (_, refl));
   walks = λ c is un may. subst (λ (z : Command). let r = asks_next s (walk_begun c) in Answers r ⊎ Asks z r) (sym is) (inr (message.Call s.next_xid (body.Nfs (next_call (walk_begun c))), stage.Walking s.next_xid (walk_begun c), refl, refl, refl, sym (begun_word c), call_named s.next_xid (walk_begun c).dir (walk_begun c).left (walk_begun c).goal));
-  closes = λ file l is un may at. subst (λ (c : Command). let r = asks_temp s file true in Answers r ⊎ Asks c r) (sym is) (inr (make_call s.next_xid s.next_temp file, stage.Making s.next_xid s.next_temp, refl, refl, refl, refl, refl));
+  closes = λ file l is un may at. subst (λ (c : Command). let r = asks_temp s file true in Answers r ⊎ Asks c r) (sym is) (inr (make_call s.lbfs s.next_xid s.next_temp file, stage.Making s.next_xid s.next_temp, refl, refl, refl, refl, (s.lbfs, refl)));
 })
 
 first_said : (P : Going) (E : Ending) (all : List Moment) → LogLaws all P E → (file : ℕ) (v : List ℕ) (m : Message) (st : Stage) → IsFirst file m st → P (Sent m ∷ []) file v st
-first_said P E all laws file v m (stage.Asking x) is = subst (λ (z : Message). P (Sent z ∷ []) file v (stage.Asking x)) (sym is) (laws.asks [] tt x file v)
-first_said P E all laws file v m (stage.Rewriting x) is = subst (λ (z : Message). P (Sent z ∷ []) file v (stage.Rewriting x)) (sym is) (laws.renews [] tt x file v)
-first_said P E all laws file v m (stage.Hashing tries x) (one, is) = subst (λ (z : Message). P (Sent z ∷ []) file v (stage.Hashing tries x)) (sym is) (subst (λ (n : ℕ). P (Sent (hash_call x file 0) ∷ []) file v (stage.Hashing n x)) (sym one) (laws.opens [] tt x file v))
-first_said P E all laws file v m (stage.Making x temp) is = subst (λ (z : Message). P (Sent z ∷ []) file v (stage.Making x temp)) (sym is) (laws.closes x temp file v)
+first_said P E all laws file v m (stage.Asking x) (lbfs, is) = subst (λ (z : Message). P (Sent z ∷ []) file v (stage.Asking x)) (sym is) (laws.asks [] tt lbfs x file v)
+first_said P E all laws file v m (stage.Rewriting x) (lbfs, is) = subst (λ (z : Message). P (Sent z ∷ []) file v (stage.Rewriting x)) (sym is) (laws.renews [] tt lbfs x file v)
+first_said P E all laws file v m (stage.Hashing tries x) (one, (lbfs, is)) = subst (λ (z : Message). P (Sent z ∷ []) file v (stage.Hashing tries x)) (sym is) (subst (λ (n : ℕ). P (Sent (hash_call lbfs x file 0) ∷ []) file v (stage.Hashing n x)) (sym one) (laws.opens [] tt lbfs x file v))
+first_said P E all laws file v m (stage.Making x temp) (lbfs, is) = subst (λ (z : Message). P (Sent z ∷ []) file v (stage.Making x temp)) (sym is) (laws.closes lbfs x temp file v)
 first_said P E all laws file v m (stage.Walking x w) is = laws.walks (Sent m ∷ []) file v x w (is, tt)
 first_said P E all laws file v m st is = absurd is
 
@@ -285,8 +285,8 @@ walk_after P E all laws more taken step o s calls file y w x b log names word ru
     stage = λ u going. nothing_there _ (sym going);
     each = laws.none o.word id o.value told.AlreadyOpen (λ len digest e. absurd (already_opened len digest e)) (λ first last e. absurd (already_changed first last e)) (log ++ Took (message.Answer x b) ∷ []) (one_more (leading.Finds id) k);
   };
-  fetches = λ id k shut none right. (let r = asks_kept (fronts s id) id None in found id (stage.Hashing 1 s.next_xid) (hash_call s.next_xid id 0) r.0 (record r.1 { found = Some id }) tt (sym (stage_word_open id k)) refl) (subst (λ (l : List Deal). P l id o.value (stage.Hashing 1 s.next_xid)) (joined log (Took (message.Answer x b) ∷ []) (Sent (hash_call s.next_xid id 0) ∷ [])) (laws.opens (log ++ Took (message.Answer x b) ∷ []) (one_more (leading.Finds id) k) s.next_xid id o.value));
-  leases = λ id v k shut some right. (let r = asks_kept (fronts s id) id (Some v) in found id (stage.Asking s.next_xid) (lease_call s.next_xid id) r.0 (record r.1 { found = Some id }) tt (sym (stage_word_open id k)) refl) (subst (λ (l : List Deal). P l id o.value (stage.Asking s.next_xid)) (joined log (Took (message.Answer x b) ∷ []) (Sent (lease_call s.next_xid id) ∷ [])) (laws.asks (log ++ Took (message.Answer x b) ∷ []) (one_more (leading.Finds id) k) s.next_xid id o.value));
+  fetches = λ id k shut none right. (let r = asks_kept (fronts s id) id None in found id (stage.Hashing 1 s.next_xid) (hash_call s.lbfs s.next_xid id 0) r.0 (record r.1 { found = Some id }) tt (sym (stage_word_open id k)) refl) (subst (λ (l : List Deal). P l id o.value (stage.Hashing 1 s.next_xid)) (joined log (Took (message.Answer x b) ∷ []) (Sent (hash_call s.lbfs s.next_xid id 0) ∷ [])) (laws.opens (log ++ Took (message.Answer x b) ∷ []) (one_more (leading.Finds id) k) s.lbfs s.next_xid id o.value));
+  leases = λ id v k shut some right. (let r = asks_kept (fronts s id) id (Some v) in found id (stage.Asking s.next_xid) (lease_call s.lbfs s.next_xid id) r.0 (record r.1 { found = Some id }) tt (sym (stage_word_open id k)) refl) (subst (λ (l : List Deal). P l id o.value (stage.Asking s.next_xid)) (joined log (Took (message.Answer x b) ∷ []) (Sent (lease_call s.lbfs s.next_xid id) ∷ [])) (laws.asks (log ++ Took (message.Answer x b) ∷ []) (one_more (leading.Finds id) k) s.lbfs s.next_xid id o.value));
   opens_now = λ id c k shut now right. (let r = opens_fresh (forgets_of s calls x) id c in record {
     stage = λ u going. nothing_there _ (sym going);
     each = subst (λ (z : Word). E (log ++ Took (message.Answer x b) ∷ []) z id (client.local_bytes r.0.opened id) (told.Opened (length c.bytes) (sha1 c.bytes))) (sym (stage_word_open id k)) (laws.now (log ++ Took (message.Answer x b) ∷ []) id (client.local_bytes r.0.opened id) (length c.bytes) (sha1 c.bytes) (one_more (leading.Finds id) k));
@@ -295,7 +295,7 @@ walk_after P E all laws more taken step o s calls file y w x b log names word ru
     stage = λ u going. nothing_there _ (sym going);
     each = laws.none o.word id o.value told.AlreadyOpen (λ len digest e. absurd (already_opened len digest e)) (λ first last e. absurd (already_changed first last e)) (log ++ Took (message.Answer x b) ∷ []) (one_more (leading.Rewrites id) k);
   };
-  renews = λ id k shut right. (let r = asks_version (fronts s id) id in found id (stage.Rewriting s.next_xid) (lease_call s.next_xid id) r.0 (record r.1 { found = Some id }) tt (sym (stage_word_rewrite id k)) refl) (subst (λ (l : List Deal). P l id o.value (stage.Rewriting s.next_xid)) (joined log (Took (message.Answer x b) ∷ []) (Sent (lease_call s.next_xid id) ∷ [])) (laws.renews (log ++ Took (message.Answer x b) ∷ []) (one_more (leading.Rewrites id) k) s.next_xid id o.value));
+  renews = λ id k shut right. (let r = asks_version (fronts s id) id in found id (stage.Rewriting s.next_xid) (lease_call s.lbfs s.next_xid id) r.0 (record r.1 { found = Some id }) tt (sym (stage_word_rewrite id k)) refl) (subst (λ (l : List Deal). P l id o.value (stage.Rewriting s.next_xid)) (joined log (Took (message.Answer x b) ∷ []) (Sent (lease_call s.lbfs s.next_xid id) ∷ [])) (laws.renews (log ++ Took (message.Answer x b) ∷ []) (one_more (leading.Rewrites id) k) s.lbfs s.next_xid id o.value));
   empties_now = λ id c k shut now right. record {
     stage = λ u going. nothing_there _ (sym going);
     each = laws.none o.word id o.value told.Done (λ len digest e. absurd (done_opened len digest e)) (λ first last e. absurd (done_changed first last e)) (log ++ Took (message.Answer x b) ∷ []) (one_more (leading.Rewrites id) k);

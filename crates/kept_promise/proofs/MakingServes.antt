@@ -98,14 +98,14 @@ RefusesNow w s r = (refusal_of (name_answer r) ≡ Some s) × (walk_told w (name
 
 -- ---- a call is taken
 
-module _ (laws : FitLaws) (book : Book) (k : Core) (qs : List Queue) (n now : ℕ) (x : Session) (q : Queue) (xid : ℕ) (w : Walk) (us : List Ask) (g : Given book k qs n now x q (record { xid = xid; call = Walks w }) us) (making : is_building w ≡ true) where
+module _ (laws : FitLaws) (book : Book) (k : Core) (qs : List Queue) (n now : ℕ) (x : Session) (q : Queue) (lbfs xid : ℕ) (w : Walk) (us : List Ask) (g : Given book k qs n now x q (record { lbfs = lbfs; xid = xid; call = Walks w }) us) (making : is_building w ≡ true) where
   abbrev a : Ask
-  a = record { xid = xid; call = Walks w }
+  a = record { lbfs = lbfs; xid = xid; call = Walks w }
 
   abbrev h : IsSession book k.seats k.server n x q
   h = session_in book k qs n now x q a us g
 
-  fits : CallFits xid (Walks w)
+  fits : CallFits lbfs xid (Walks w)
   fits = first_fits book k qs n now x q a us g
 
   abbrev t : Tree
@@ -138,7 +138,7 @@ module _ (laws : FitLaws) (book : Book) (k : Core) (qs : List Queue) (n now : �
   room : t.changes + server.entries_held k.server.waiting + 0 ≤ 4294967295
   room = let c = g.kept.server.changes in omega (arith, c)
 
-  reply_fits : (r : NameReply) (after : Tree) → made.0 ≡ after → IsBounded after → made.1.answer ≡ name_answer r → ToldFits (record { xid = xid; reply = Walked r })
+  reply_fits : (r : NameReply) (after : Tree) → made.0 ≡ after → IsBounded after → made.1.answer ≡ name_answer r → ToldFits book.lbfs (record { xid = xid; reply = Walked r })
   reply_fits r after tree_is bounded is = (subst (λ (m : Nfs). MessageFits (message.Answer xid (body.Nfs m))) is (laws.makings xid t held w fits.0 g.kept.server.bounded (subst IsBounded (sym tree_is) bounded) making), tt)
 
   -- ---- it's refused
@@ -175,7 +175,7 @@ module _ (laws : FitLaws) (book : Book) (k : Core) (qs : List Queue) (n now : �
       subst (λ (p : Tree × Finished). Leads book (rest_of qs n q us) (making_got k n now x xid p)) (sym is)
       (subst (Leads book (rest_of qs n q us)) (sym (refused_step r))
       (leads_by book k qs n now x q a us k.server.temps k.server.index (Walked r) g (same_temps book k n x q a (Walked r) h g.kept.shelf (λ uncut. tt) (λ uncut vs e. held_still book k qs n now x q a us g (Walked r) tt tt uncut vs e) (ap (λ p. program.Nfs p) procs) (reply_fits r t (ap (λ (p : Tree × Finished). p.0) is) g.kept.server.bounded answer)
-      (λ uncut. walk_came book (onward book 1 book.ops) k qs n now x q xid w us h.seat r g.kept h.owner (h.here uncut).0 (h.talk uncut) g.first g.noted (sent r answer) refl refl
+      (λ uncut. walk_came book (onward book 1 book.ops) k qs n now x q lbfs xid w us h.seat r g.kept h.owner (h.here uncut).0 (h.talk uncut) g.first g.noted (sent r answer) refl refl
       (λ j o at is there. (o, there, refl, refl, inr (inl (record { making = building_makes w.left w.goal making; why = s; why_is = refused_building t held w.dir w.left w.goal s making err; refuses = leads.0; leads = leads.1; unmade = unmade (is_creating w) refl uncut j o at there }))))))))
 
   -- ---- it's done
@@ -246,6 +246,7 @@ module _ (laws : FitLaws) (book : Book) (k : Core) (qs : List Queue) (n now : �
         targets = λ i c f. there_later book more None None c.file grows (g.kept.server.targets i c f);
         xids = g.kept.server.xids;
         leases = g.kept.server.leases;
+        serves = g.kept.server.serves;
       }
 
   serve_named : (done : TreeChange) (e : TreeEntry) (r : NameReply) (after : Tree) → is_creating w ≡ false → made ≡ (after, record { answer = name_answer r; first = Some e; second = None }) → step_by t held w.dir w.goal ≡ (after, Ok done) → done.first ≡ Some e → done.second ≡ None → EntryAt t w.goal e → AfterAt t w.dir w.goal after → walk_told w (name_answer r) ≡ leading.Ends walk_end.Done → nfs_proc (name_answer r) ≡ nfs_proc (next_call w)
@@ -270,7 +271,7 @@ module _ (laws : FitLaws) (book : Book) (k : Core) (qs : List Queue) (n now : �
         made_here = λ p f. nothing_there p f;
         program = ap (λ p. program.Nfs p) procs;
         fits = reply_fits r after (ap (λ (p : Tree × Finished). p.0) is) (stays after done step).0 answer;
-        answer = λ uncut. walk_came book more k qs n now x q xid w us h.seat r g.kept h.owner (h.here uncut).0 (h.talk uncut) g.first g.noted (sent r answer) refl refl
+        answer = λ uncut. walk_came book more k qs n now x q lbfs xid w us h.seat r g.kept h.owner (h.here uncut).0 (h.talk uncut) g.first g.noted (sent r answer) refl refl
             (λ j o at on there. (o, there, refl, refl, inr (inr (makes r done after step leads uncut more refl refl j o o at on there refl (subst (λ (b : Bool). PointedBy b x.closing j o (book.steps + 1) (entry_file done.first)) (sym none) tt) e is first second))));
         answers = λ uncut. all_map (IsAnswer book x.taken x.closing (job h.seat)) (IsAnswer more (x.taken ++ z ∷ []) x.closing (job h.seat)) (λ u f. answer_found more x.taken (x.taken ++ z ∷ []) x.closing (job h.seat) u finds (answer_later book more None None x.taken x.closing (job h.seat) u grows spares f)) q.downs (h.talk uncut).answers;
         commits = (subst (AllAsks (IsCommit more x.closing x.cut (job h.seat) h.contents)) g.first (all_map (IsCommit book x.closing x.cut (job h.seat) h.contents) (IsCommit more x.closing x.cut (job h.seat) h.contents) (λ b m. commit_later book more None None x.closing x.cut (job h.seat) (job h.seat) h.contents b grows spares (λ u. refl) m) q.ups h.commits)).1;
@@ -345,6 +346,7 @@ module _ (laws : FitLaws) (book : Book) (k : Core) (qs : List Queue) (n now : �
         targets = λ i d f. there_later book more (Some c.place) None d.file grows (g.kept.server.targets i d f);
         xids = g.kept.server.xids;
         leases = g.kept.server.leases;
+        serves = g.kept.server.serves;
       }
     where
       make_not_close : words.Make ≡ words.Close → ⊥
@@ -395,7 +397,7 @@ module _ (laws : FitLaws) (book : Book) (k : Core) (qs : List Queue) (n now : �
         made_here = λ p f. c.known ∙ f;
         program = ap (λ p. program.Nfs p) procs;
         fits = reply_fits r after (ap (λ (p : Tree × Finished). p.0) is) (stays after done step).0 answer;
-        answer = λ uncut. walk_came book more k qs n now x q xid w us h.seat r g.kept h.owner (h.here uncut).0 (h.talk uncut) g.first g.noted (sent r answer) refl refl
+        answer = λ uncut. walk_came book more k qs n now x q lbfs xid w us h.seat r g.kept h.owner (h.here uncut).0 (h.talk uncut) g.first g.noted (sent r answer) refl refl
             (λ j o at on there.
             let place = (waits_here c uncut j at).0 in
             let same : c.op ≡ o = some_is c.op o (sym c.there ∙ ap (slice_get book.ops) (sym place) ∙ there) in
@@ -435,5 +437,5 @@ module _ (laws : FitLaws) (book : Book) (k : Core) (qs : List Queue) (n now : �
       by false none = serve_named done e r after none is step first second entry_is after_is leads procs
       by true some = serve_made done e r after some is step first second entry_is after_is leads procs
 
-  pub serve_making : Leads book (rest_of qs n q us) (happens k (Serves n now (message_spell (ask_message (record { xid = xid; call = Walks w })))))
+  pub serve_making : Leads book (rest_of qs n q us) (happens k (Serves n now (message_spell (ask_message (record { lbfs = lbfs; xid = xid; call = Walks w })))))
   serve_making = subst (Leads book (rest_of qs n q us)) (sym step_is) (serve_so (made_walk t held w making))

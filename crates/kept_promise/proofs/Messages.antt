@@ -36,7 +36,6 @@ use Rattle.kept_promise.proofs.Common.{handle_bytes, Body, slice_get, cond, Stat
 use Rattle.kept_promise.proofs.Lists.{AllOf}
 use Rattle.kept_promise.proofs.Rights.{WasThere, IsHeld, IsUnmade, IsMade}
 use Rattle.server_core.specs.declared.change.Wanted.TheVariants as wanted
-use Rattle.wire.specs.declared.message.TheConstants.{LBFS_SPOKEN}
 
 -- ---- the operation under way
 
@@ -140,12 +139,12 @@ pub record IsTold (book : Book) (taken : List TakenCall) (j : Job) (xid : ℕ) (
   -- no change was made in that step
   pub apart : (i : ℕ) → slice_get book.entries i ≡ Some moment → ⊥
 
--- the calls by which an open asks
-abbrev pub lease_body : (file : ℕ) → Body
-lease_body file = body.Lb (lb.GetLease (record { lbfs = LBFS_SPOKEN; handle = handle_bytes file }))
+-- the calls by which an open asks, in a version of LBFS
+abbrev pub lease_body : (lbfs file : ℕ) → Body
+lease_body lbfs file = body.Lb (lb.GetLease (record { lbfs = lbfs; handle = handle_bytes file }))
 
-abbrev pub hash_body : (file offset : ℕ) → Body
-hash_body file offset = body.Lb (lb.GetHash (record { lbfs = LBFS_SPOKEN; handle = handle_bytes file; offset = offset; count = 4294967295 }))
+abbrev pub hash_body : (lbfs file offset : ℕ) → Body
+hash_body lbfs file offset = body.Lb (lb.GetHash (record { lbfs = lbfs; handle = handle_bytes file; offset = offset; count = 4294967295 }))
 
 -- this call was taken, and the job's client waited for the answer
 pub record IsServed (book : Book) (taken : List TakenCall) (j : Job) (xid : ℕ) (call : Body) : Type 0 where
@@ -165,7 +164,7 @@ pub record IsTried (book : Book) (taken : List TakenCall) (j : Job) (xid tries :
   pub count : ℕ
   pub tries_is : tries ≡ suc count
   pub tried : Tried book j.file op.begin count moment
-  pub call : IsServed book taken j xid (hash_body j.file 0)
+  pub call : IsServed book taken j xid (hash_body book.lbfs j.file 0)
 
 -- the same as long as it was not taken, up to now
 pub record Trying (book : Book) (j : Job) (tries : ℕ) : Type 0 where
@@ -178,8 +177,9 @@ pub record Trying (book : Book) (j : Job) (tries : ℕ) : Type 0 where
 abbrev pub IsTrying : Book → Option Job → Type 0
 IsTrying book job = (j : Job) (n x : ℕ) → job ≡ Some j → j.stage ≡ stage.Hashing n x → Trying book j n
 
+-- what is told of a range is the same in each version
 abbrev pub range_from : (offset : ℕ) → HashRange
-range_from offset = record { lbfs = LBFS_SPOKEN; handle = []; offset = offset; count = 4294967295 }
+range_from offset = record { lbfs = 0; handle = []; offset = offset; count = 4294967295 }
 
 abbrev pub range_of : Chunk → Range
 range_of c = record { handle = []; offset = c.start; count = c.len }
@@ -223,7 +223,7 @@ HashTold book taken j xid offset (Done h) = IsHashed book taken j xid offset h
 pub record IsLeased (book : Book) (taken : List TakenCall) (j : Job) (xid : ℕ) (l : Leased) : Type 0 where
   pub value : List ℕ
   pub told : IsTold book taken j xid (Some value) l.version
-  pub call : IsServed book taken j xid (lease_body j.file)
+  pub call : IsServed book taken j xid (lease_body book.lbfs j.file)
   pub known : WasThere book j.file
 
 abbrev pub LeaseTold : Book → List TakenCall → Job → (xid : ℕ) → Answer Leased Unit → Type 0

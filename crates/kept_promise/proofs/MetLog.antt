@@ -232,17 +232,17 @@ meets_cases log s calls file v st x b p = record {
   );
   fetches = λ y l at is.
       let was : attempts_in log ≡ no_attempt = subst (MeetsBy log file v) at p in
-      let now : Tries (attempts_in (log ++ deals_with (message.Answer x b ∷ []) [] (hash_call s.next_xid file 0 ∷ []))) 1 new_attempt = subst (λ (t : Attempts). Tries t 1 new_attempt) (sym (joined_log log x b [] (hash_call s.next_xid file 0 ∷ []) ∙ ap (λ (c : Body). begun_anew (attempts_with (attempts_in log) (Took (message.Answer x c)))) is ∙ ap begun_anew was)) (refl, refl, tt, omega arith) in (
-        λ h w u running task. subst (λ (z : Task). MeetsBy (log ++ deals_with (message.Answer x b ∷ []) [] (hash_call s.next_xid file 0 ∷ [])) h w z.stage) (some_is _ u task) now,
+      let now : Tries (attempts_in (log ++ deals_with (message.Answer x b ∷ []) [] (hash_call s.lbfs s.next_xid file 0 ∷ []))) 1 new_attempt = subst (λ (t : Attempts). Tries t 1 new_attempt) (sym (joined_log log x b [] (hash_call s.lbfs s.next_xid file 0 ∷ []) ∙ ap (λ (c : Body). begun_anew (attempts_with (attempts_in log) (Took (message.Answer x c)))) is ∙ ap begun_anew was)) (refl, refl, tt, omega arith) in (
+        λ h w u running task. subst (λ (z : Task). MeetsBy (log ++ deals_with (message.Answer x b ∷ []) [] (hash_call s.lbfs s.next_xid file 0 ∷ [])) h w z.stage) (some_is _ u task) now,
         λ first last (e, ended, z). nothing_there e ended,
-        λ w. tries_fine (attempts_in (log ++ deals_with (message.Answer x b ∷ []) [] (hash_call s.next_xid file 0 ∷ []))) 1 new_attempt now,
+        λ w. tries_fine (attempts_in (log ++ deals_with (message.Answer x b ∷ []) [] (hash_call s.lbfs s.next_xid file 0 ∷ []))) 1 new_attempt now,
       );
   anew = λ f version bytes open_ gave few came.
       let g = gave_up log file v st x b f version p gave in
-      let now : Tries (attempts_in (log ++ deals_with (message.Answer x b ∷ []) [] (hash_call s.next_xid file 0 ∷ []))) (f.tries + 1) new_attempt = subst (λ (t : Attempts). Tries t (f.tries + 1) new_attempt) (sym (joined_log log x b [] (hash_call s.next_xid file 0 ∷ []))) (given_more (attempts_with (attempts_in log) (Took (message.Answer x b))) f.tries f.version version g.0 g.1 (below f.tries few)) in (
-        λ h w u running is. subst (λ (z : Task). MeetsBy (log ++ deals_with (message.Answer x b ∷ []) [] (hash_call s.next_xid file 0 ∷ [])) h w z.stage) (some_is _ u is) now,
+      let now : Tries (attempts_in (log ++ deals_with (message.Answer x b ∷ []) [] (hash_call s.lbfs s.next_xid file 0 ∷ []))) (f.tries + 1) new_attempt = subst (λ (t : Attempts). Tries t (f.tries + 1) new_attempt) (sym (joined_log log x b [] (hash_call s.lbfs s.next_xid file 0 ∷ []))) (given_more (attempts_with (attempts_in log) (Took (message.Answer x b))) f.tries f.version version g.0 g.1 (below f.tries few)) in (
+        λ h w u running is. subst (λ (z : Task). MeetsBy (log ++ deals_with (message.Answer x b ∷ []) [] (hash_call s.lbfs s.next_xid file 0 ∷ [])) h w z.stage) (some_is _ u is) now,
         λ first last (e, is, z). nothing_there e is,
-        λ w. tries_fine (attempts_in (log ++ deals_with (message.Answer x b ∷ []) [] (hash_call s.next_xid file 0 ∷ []))) (f.tries + 1) new_attempt now,
+        λ w. tries_fine (attempts_in (log ++ deals_with (message.Answer x b ∷ []) [] (hash_call s.lbfs s.next_xid file 0 ∷ []))) (f.tries + 1) new_attempt now,
       );
   changed = λ r f version e open_ gave many is.
       let g = gave_up log file v st x b f version p gave in
@@ -259,7 +259,7 @@ meets_cases log s calls file v st x b p = record {
       );
   lists = λ f h is at same far.
       let told = told_in log file v st x b h f p is at in
-      let m : Message = hash_call s.next_xid file (end_of (with_hashes f h).chunks) in
+      let m : Message = hash_call s.lbfs s.next_xid file (end_of (with_hashes f h).chunks) in
       let quiet : attempts_from (attempts_with (attempts_in log) (Took (message.Answer x b))) (map Sent (m ∷ [])) ≡ attempts_with (attempts_in log) (Took (message.Answer x b)) = ap (λ t. begun_if t (attempts_with (attempts_in log) (Took (message.Answer x b)))) far in
       let now : Told (attempts_in (log ++ deals_with (message.Answer x b ∷ []) [] (m ∷ []))) f.tries f.version = subst (λ (t : Attempts). Told t f.tries f.version) (sym (joined_log log x b [] (m ∷ []) ∙ quiet)) told in (
         λ g w u running task. subst (λ (z : Task). MeetsBy (log ++ deals_with (message.Answer x b ∷ []) [] (m ∷ [])) g w z.stage) (some_is _ u task) now,
@@ -350,10 +350,10 @@ meets_laws all = record {
   walked = λ log file v x w h. h;
   none = λ w file v u un same log names. none w file v u same log names;
   now = λ log file v len digest names. none words.Open file v (told.Opened len digest) (λ first last e. unchanged len digest first last e) log names;
-  asks = λ log names x file v. names_begun log (Sent (lease_call x file)) names;
-  opens = λ log names x file v. subst (λ (t : Attempts). Tries t 1 new_attempt) (sym (names_begun log (Sent (hash_call x file 0)) names)) (refl, refl, tt, (let le : 1 ≤ tries_most = omega arith in le));
-  renews = λ log names x file v. tt;
-  closes = λ x temp file v. tt;
+  asks = λ log names lbfs x file v. names_begun log (Sent (lease_call lbfs x file)) names;
+  opens = λ log names lbfs x file v. subst (λ (t : Attempts). Tries t 1 new_attempt) (sym (names_begun log (Sent (hash_call lbfs x file 0)) names)) (refl, refl, tt, (let le : 1 ≤ tries_most = omega arith in le));
+  renews = λ log names lbfs x file v. tt;
+  closes = λ lbfs x temp file v. tt;
   moves = λ log file other v w u gets. by_getting (λ z. OpenMet log z file v u → OpenMet log z other v u) (λ h. h) (λ h. h) (λ h. h) w gets;
   other = λ log file v st u of p un same. other log file v st u of p same;
   heard = λ book more taken j o p s x b all_is a log h. meets_heard book more taken j o p s x b a log h;

@@ -12,7 +12,6 @@ use Rattle.kept_promise.proofs.Taken.{times_map_append}
 use Rattle.kept_promise.proofs.Facts.{IsBalanced}
 use Rattle.kept_promise.proofs.Heard.{ask_pending, told_pending, Moves}
 use Rattle.wire.specs.Message.{FitsIn}
-use Rattle.wire.specs.declared.message.TheConstants.{LBFS_SPOKEN}
 
 -- ---- the call that is answered
 
@@ -74,7 +73,7 @@ body_program : (r : Reply) → program_of (reply_body r) ≡ reply_program r
 body_program (Hashed a) = refl
 body_program r = refl
 
-pub expected : (n : ℕ) (w : List Change) (q : Queue) (hung : Bool) (c : client.State) (i : ℕ) (t : Told) → IsBalanced n w q hung c.next_xid (client.calls_of c) → slice_get q.downs i ≡ Some t → FitsIn LBFS_SPOKEN (reply_body t.reply) → IsExpected (client.waiting_of c) (told_message t)
+pub expected : (n : ℕ) (w : List Change) (q : Queue) (hung : Bool) (c : client.State) (i : ℕ) (t : Told) → IsBalanced n w q hung c.next_xid (client.calls_of c) → slice_get q.downs i ≡ Some t → FitsIn c.lbfs (reply_body t.reply) → IsExpected (client.waiting_of c) (told_message t)
 expected n w q hung c i t h at fits =
     let p = told_there n w q hung c.next_xid (client.calls_of c) i t h at in
     (waits_under (client.calls_of c) p.0 (told_pending t) p.1 (h.once t.xid) ∙ ap (λ z. Some z) (sym (body_program t.reply)), fits)

@@ -323,10 +323,10 @@ names_serves fits all past opening k qs mid n now bytes kept f sent = by (makes_
         w = walk_made f.1.call makes
 
         is : ask_message f.1 ≡ message.Call f.1.xid (body.Nfs (next_call w.0))
-        is = ap (λ (c : Call). ask_message (record { xid = f.1.xid; call = c })) w.1
+        is = ap (λ (c : Call). ask_message (record { lbfs = f.1.lbfs; xid = f.1.xid; call = c })) w.1
 
-        fit : CallFits f.1.xid (Walks w.0)
-        fit = subst (CallFits f.1.xid) w.1 (serves_fits (book_at opening k all) k qs n now bytes mid kept f)
+        fit : CallFits f.1.lbfs f.1.xid (Walks w.0)
+        fit = subst (CallFits f.1.lbfs f.1.xid) w.1 (serves_fits (book_at opening k all) k qs n now bytes mid kept f)
 
         h : IsSession (book_at opening k all) k.seats k.server n x.0 f.0
         h = kept.sessions n x.0 f.0 x.1 f.3

@@ -155,11 +155,11 @@ record NamesGo (next : ℕ) (n : Names) : Type 0 where
   pub plain : ArePlain n.send
   pub rises : next ≤ n.next_xid
 
-names_go : (st : Store) (next : ℕ) → NamesGo next (names_all st next)
-names_go st next = names_keep (NamesGo next) step (calls_most - length st.under) (names_from st next) (record { plain = tt; rises = omega arith })
+names_go : (lbfs : ℕ) (st : Store) (next : ℕ) → NamesGo next (names_all lbfs st next)
+names_go lbfs st next = names_keep lbfs (NamesGo next) step (calls_most - length st.under) (names_from st next) (record { plain = tt; rises = omega arith })
   where
-    step : (n : Names) (c : Chunk) → NamesGo next n → slice_get n.store.chunks n.store.named ≡ Some c → NamesGo next (names_next n (Some c))
-    step n c h at = let r = h.rises in record { plain = plain_join n.send (cond_call n.next_xid n.store.temp c ∷ []) h.plain ((refl, refl), tt); rises = omega (arith, r) }
+    step : (n : Names) (c : Chunk) → NamesGo next n → slice_get n.store.chunks n.store.named ≡ Some c → NamesGo next (names_next lbfs n (Some c))
+    step n c h at = let r = h.rises in record { plain = plain_join n.send (cond_call lbfs n.next_xid n.store.temp c ∷ []) h.plain ((refl, refl), tt); rises = omega (arith, r) }
 
 -- ---- a note that is cleared
 
@@ -238,25 +238,25 @@ module _ (s : State) (calls : List Pending) (file xid : ℕ) where
 
   -- a close sends its COMMITTMP last
   module _ (small : file < 18446744073709551616) where
-    goes : (content : List ℕ) (st : Store) (stored : Bool) → StepPlain s (goes_if s file content (names_all st s.next_xid) stored) ⊎ StepCommit s (goes_if s file content (names_all st s.next_xid) stored)
-    goes content st false = inl (goes_so s _ _ _ refl (same_notes s.cache) refl refl (names_go st s.next_xid).plain)
+    goes : (content : List ℕ) (st : Store) (stored : Bool) → StepPlain s (goes_if s file content (names_all s.lbfs st s.next_xid) stored) ⊎ StepCommit s (goes_if s file content (names_all s.lbfs st s.next_xid) stored)
+    goes content st false = inl (goes_so s _ _ _ refl (same_notes s.cache) refl refl (names_go s.lbfs st s.next_xid).plain)
     goes content st true = inr (record {
       drift = refl;
       notes = λ f k n at is. (let g = unnoted_notes (reserved s.cache file) file f k n at is in reserved_notes s.cache file f g.0 n g.1 g.2);
-      calls = all_join (λ m. answered_by m ≡ None) (names_all st s.next_xid).send (commit_call (names_all st s.next_xid).next_xid (names_all st s.next_xid).store.temp file (length content) ∷ []) (all_map (λ m. (answered_by m ≡ None) × (stored_by m ≡ None)) (λ m. answered_by m ≡ None) (names_all st s.next_xid).send (λ m h. h.0) (names_go st s.next_xid).plain) (refl, tt);
-      stores = λ f e n at is. all_join (λ m. stored_by m ≡ Some f → ⊥) (names_all st s.next_xid).send (commit_call (names_all st s.next_xid).next_xid (names_all st s.next_xid).store.temp file (length content) ∷ [])
-          (all_map (λ m. (answered_by m ≡ None) × (stored_by m ≡ None)) (λ m. stored_by m ≡ Some f → ⊥) (names_all st s.next_xid).send (λ m h q. nothing_there f (sym h.1 ∙ q)) (names_go st s.next_xid).plain)
+      calls = all_join (λ m. answered_by m ≡ None) (names_all s.lbfs st s.next_xid).send (commit_call s.lbfs (names_all s.lbfs st s.next_xid).next_xid (names_all s.lbfs st s.next_xid).store.temp file (length content) ∷ []) (all_map (λ m. (answered_by m ≡ None) × (stored_by m ≡ None)) (λ m. answered_by m ≡ None) (names_all s.lbfs st s.next_xid).send (λ m h. h.0) (names_go s.lbfs st s.next_xid).plain) (refl, tt);
+      stores = λ f e n at is. all_join (λ m. stored_by m ≡ Some f → ⊥) (names_all s.lbfs st s.next_xid).send (commit_call s.lbfs (names_all s.lbfs st s.next_xid).next_xid (names_all s.lbfs st s.next_xid).store.temp file (length content) ∷ [])
+          (all_map (λ m. (answered_by m ≡ None) × (stored_by m ≡ None)) (λ m. stored_by m ≡ Some f → ⊥) (names_all s.lbfs st s.next_xid).send (λ m h q. nothing_there f (sym h.1 ∙ q)) (names_go s.lbfs st s.next_xid).plain)
           ((λ q. let same : file ≡ f = some_is file f (sym (own_handle file small) ∙ q) in unnoted_own (reserved s.cache file) file e n (ap (kept_of (without_note (reserved s.cache file) file)) same ∙ at) is), tt);
-      sent = λ u x task lease. (let same = some_is (record { file = file; stage = stage.Committing (names_all st s.next_xid).next_xid }) u task in
-          let is_x : (names_all st s.next_xid).next_xid ≡ x = some_is (names_all st s.next_xid).next_xid x (ap (λ (z : Task). leasing_xid z.stage) same ∙ lease) in
-          let r = (names_go st s.next_xid).rises in
-          let last = commit_call (names_all st s.next_xid).next_xid (names_all st s.next_xid).store.temp file (length content) in
-          let asks : SendsLease ((names_all st s.next_xid).send ++ last ∷ []) (names_all st s.next_xid).next_xid file = (_, refl, Contains-push (names_all st s.next_xid).send last) in
-          (omega (arith, r, is_x), refl, subst (λ (n : ℕ). SendsLease ((names_all st s.next_xid).send ++ last ∷ []) n u.file) is_x (subst (λ (z : Task). SendsLease ((names_all st s.next_xid).send ++ last ∷ []) (names_all st s.next_xid).next_xid z.file) same asks)));
+      sent = λ u x task lease. (let same = some_is (record { file = file; stage = stage.Committing (names_all s.lbfs st s.next_xid).next_xid }) u task in
+          let is_x : (names_all s.lbfs st s.next_xid).next_xid ≡ x = some_is (names_all s.lbfs st s.next_xid).next_xid x (ap (λ (z : Task). leasing_xid z.stage) same ∙ lease) in
+          let r = (names_go s.lbfs st s.next_xid).rises in
+          let last = commit_call s.lbfs (names_all s.lbfs st s.next_xid).next_xid (names_all s.lbfs st s.next_xid).store.temp file (length content) in
+          let asks : SendsLease ((names_all s.lbfs st s.next_xid).send ++ last ∷ []) (names_all s.lbfs st s.next_xid).next_xid file = (_, refl, Contains-push (names_all s.lbfs st s.next_xid).send last) in
+          (omega (arith, r, is_x), refl, subst (λ (n : ℕ). SendsLease ((names_all s.lbfs st s.next_xid).send ++ last ∷ []) n u.file) is_x (subst (λ (z : Task). SendsLease ((names_all s.lbfs st s.next_xid).send ++ last ∷ []) (names_all s.lbfs st s.next_xid).next_xid z.file) same asks)));
     })
 
     goes_next : (content : List ℕ) (w : Store) → StepPlain s (goes_on s file content w) ⊎ StepCommit s (goes_on s file content w)
-    goes_next content w = goes content w (is_stored (names_all w s.next_xid).store)
+    goes_next content w = goes content w (is_stored (names_all s.lbfs w s.next_xid).store)
 
     temped : (temp : ℕ) (content : List ℕ) (a : Answer Unit Unit) → StepPlain s (told_temp s calls file xid temp content a) ⊎ StepCommit s (told_temp s calls file xid temp content a)
     temped temp content (Failed e u) = inl (ends_so s _ _ refl (same_notes s.cache) refl refl)

@@ -353,9 +353,9 @@ carried_notes laws = record {
   };
 }
   where
-    new_at : (header : Header) (tree : Tree) (i : ℕ) (seat : Seat) → numbered (first_core tree header).seats i ≡ Some seat → seat ≡ new_seat header.drift
+    new_at : (header : Header) (tree : Tree) (i : ℕ) (seat : Seat) → numbered (first_core tree header).seats i ≡ Some seat → seat ≡ new_seat header.drift header.lbfs
     new_at header tree i seat at = by i at
       where
-        by : (i : ℕ) → numbered (first_core tree header).seats i ≡ Some seat → seat ≡ new_seat header.drift
+        by : (i : ℕ) → numbered (first_core tree header).seats i ≡ Some seat → seat ≡ new_seat header.drift header.lbfs
         by zero e = nothing_there seat e
-        by (suc j) e = of_replicate header.count (new_seat header.drift) j seat e
+        by (suc j) e = of_replicate header.count (new_seat header.drift header.lbfs) j seat e

@@ -56,8 +56,8 @@ reads_sent s file f = reads_keep (λ r. Sends s.next_xid r.next_xid r.send) s.ca
     by r c (Some bytes) h = h
     by r c None h = sends_more s.next_xid r.next_xid r.send _ h
 
-names_sent : (w : Store) (next : ℕ) → Sends next (names_all w next).next_xid (names_all w next).send
-names_sent w next = names_keep (λ n. Sends next n.next_xid n.send) (λ n c h at. sends_more next n.next_xid n.send _ h) (calls_most - length w.under) (names_from w next) (tt, omega arith)
+names_sent : (lbfs : ℕ) (w : Store) (next : ℕ) → Sends next (names_all lbfs w next).next_xid (names_all lbfs w next).send
+names_sent lbfs w next = names_keep lbfs (λ n. Sends next n.next_xid n.send) (λ n c h at. sends_more next n.next_xid n.send _ h) (calls_most - length w.under) (names_from w next) (tt, omega arith)
 
 abbrev Numbers : client.State → client.State × ClientStep → Type 0
 Numbers s r = CountOn s.next_xid (numbers_among r.1.send)
@@ -72,8 +72,8 @@ took_numbers s calls file st x b = record {
   lists = λ f g is at same far. (refl, tt);
   reads = λ f bytes now here. (reads_sent s file f).0;
   opens = λ f bytes now here. tt;
-  names = λ w at known none is. (names_sent w s.next_xid).0;
-  commits = λ w at known none is. (sends_more s.next_xid (names_all w s.next_xid).next_xid (names_all w s.next_xid).send _ (names_sent w s.next_xid)).0;
+  names = λ w at known none is. (names_sent s.lbfs w s.next_xid).0;
+  commits = λ w at known none is. (sends_more s.next_xid (names_all s.lbfs w s.next_xid).next_xid (names_all s.lbfs w s.next_xid).send _ (names_sent s.lbfs w s.next_xid)).0;
   whole = λ old c k at unknown none found name chunk. (refl, tt);
 }
 
@@ -277,7 +277,7 @@ AllNumbered all past opening k qs = At past k
 
 pub carried_numbered : FitLaws → Carried AllNumbered
 carried_numbered fits = record {
-  first = λ all opening tree count kept. record { each = λ n. tt; next = λ i n seat at on. nothing_on i n seat count.drift count.count at on; none = λ n lt. refl };
+  first = λ all opening tree count kept. record { each = λ n. tt; next = λ i n seat at on. nothing_on i n seat count.drift count.lbfs count.count at on; none = λ n lt. refl };
   steps = λ all past rest opening k qs e mid after s h. numbers_event fits all past rest opening k qs e mid after s h;
   adjusts = λ all past opening k qs index seats same h. record {
     each = h.each;
@@ -287,11 +287,11 @@ carried_numbered fits = record {
 }
   where
     -- no client was at a session yet
-    at_none : (drift count k : ℕ) (seat : Seat) → slice_get (replicate count (new_seat drift)) k ≡ Some seat → seat.session ≡ None
-    at_none drift zero k seat at = nothing_there seat at
-    at_none drift (suc count) zero seat at = ap (λ (z : Seat). z.session) (sym (some_is (new_seat drift) seat at))
-    at_none drift (suc count) (suc k) seat at = at_none drift count k seat at
+    at_none : (drift lbfs count k : ℕ) (seat : Seat) → slice_get (replicate count (new_seat drift lbfs)) k ≡ Some seat → seat.session ≡ None
+    at_none drift lbfs zero k seat at = nothing_there seat at
+    at_none drift lbfs (suc count) zero seat at = ap (λ (z : Seat). z.session) (sym (some_is (new_seat drift lbfs) seat at))
+    at_none drift lbfs (suc count) (suc k) seat at = at_none drift lbfs count k seat at
 
-    nothing_on : (i n : ℕ) (seat : Seat) (drift count : ℕ) → numbered (replicate count (new_seat drift)) i ≡ Some seat → seat.session ≡ Some n → seat.client.next_xid ≡ 1 + length (numbers_of n [])
-    nothing_on zero n seat drift count at on = nothing_there seat at
-    nothing_on (suc i) n seat drift count at on = nothing_there n (sym (at_none drift count i seat at) ∙ on)
+    nothing_on : (i n : ℕ) (seat : Seat) (drift lbfs count : ℕ) → numbered (replicate count (new_seat drift lbfs)) i ≡ Some seat → seat.session ≡ Some n → seat.client.next_xid ≡ 1 + length (numbers_of n [])
+    nothing_on zero n seat drift lbfs count at on = nothing_there seat at
+    nothing_on (suc i) n seat drift lbfs count at on = nothing_there n (sym (at_none drift lbfs count i seat at) ∙ on)

@@ -43,15 +43,15 @@ reads_number cache index k file next r h = reads_keep (Asks next) cache index fi
     one q c (Some bytes) g = g
     one q c None g = let m = among_more q.send (Rattle.file_open.specs.Opening.read_call q.next_xid file c) in omega (arith, g, m)
 
-names_number : (k : ℕ) (n : Names) → (names_more k n).next_xid + calls_among n.send ≡ n.next_xid + calls_among (names_more k n).send
-names_number zero n = refl
-names_number (suc k) n = by (slice_get n.store.chunks n.store.named) (λ q. names_number k q)
+names_number : (lbfs : ℕ) (k : ℕ) (n : Names) → (names_more lbfs k n).next_xid + calls_among n.send ≡ n.next_xid + calls_among (names_more lbfs k n).send
+names_number lbfs zero n = refl
+names_number lbfs (suc k) n = by (slice_get n.store.chunks n.store.named) (λ q. names_number lbfs k q)
   where
-    by : (o : Option Chunk) → ((q : Names) → (names_more k q).next_xid + calls_among q.send ≡ q.next_xid + calls_among (names_more k q).send) → (names_more k (names_next n o)).next_xid + calls_among n.send ≡ n.next_xid + calls_among (names_more k (names_next n o)).send
+    by : (o : Option Chunk) → ((q : Names) → (names_more lbfs k q).next_xid + calls_among q.send ≡ q.next_xid + calls_among (names_more lbfs k q).send) → (names_more lbfs k (names_next lbfs n o)).next_xid + calls_among n.send ≡ n.next_xid + calls_among (names_more lbfs k (names_next lbfs n o)).send
     by None go = go n
     by (Some c) go =
-        let h = go (names_next n (Some c)) in
-        let m = among_more n.send (Rattle.file_close.specs.Closing.cond_call n.next_xid n.store.temp c) in
+        let h = go (names_next lbfs n (Some c)) in
+        let m = among_more n.send (Rattle.file_close.specs.Closing.cond_call lbfs n.next_xid n.store.temp c) in
         omega (arith, h, m)
 
 reads_on_number : (s : client.State) (calls : List Pending) (file xid : ℕ) (f : Fetch) (bytes : ℕ) → Numbers s (reads_on s calls file xid f bytes)
@@ -113,15 +113,15 @@ piece_number s calls file xid f piece None = omega arith
 piece_number s calls file xid f piece (Some c) = chunk_number s calls file xid f c piece (slice_get f.chunks c.index)
 
 goes_number : (s : client.State) (file : ℕ) (content : List ℕ) (st : Store) → Numbers s (goes_on s file content st)
-goes_number s file content st = by (is_stored (names_all st s.next_xid).store)
+goes_number s file content st = by (is_stored (names_all s.lbfs st s.next_xid).store)
   where
-    by : (b : Bool) → Numbers s (goes_if s file content (names_all st s.next_xid) b)
+    by : (b : Bool) → Numbers s (goes_if s file content (names_all s.lbfs st s.next_xid) b)
     by true =
-        let n : Names = names_all st s.next_xid in
-        let h = names_number (calls_most - length st.under) (names_from st s.next_xid) in
-        let m = among_more n.send (Rattle.file_close.specs.Closing.commit_call n.next_xid n.store.temp file (length content)) in
+        let n : Names = names_all s.lbfs st s.next_xid in
+        let h = names_number s.lbfs (calls_most - length st.under) (names_from st s.next_xid) in
+        let m = among_more n.send (Rattle.file_close.specs.Closing.commit_call s.lbfs n.next_xid n.store.temp file (length content)) in
         omega (arith, h, m)
-    by false = let h = names_number (calls_most - length st.under) (names_from st s.next_xid) in omega (arith, h)
+    by false = let h = names_number s.lbfs (calls_most - length st.under) (names_from st s.next_xid) in omega (arith, h)
 
 temp_number : (s : client.State) (calls : List Pending) (file xid temp : ℕ) (content : List ℕ) (a : Answer Unit Unit) → Numbers s (told_temp s calls file xid temp content a)
 temp_number s calls file xid temp content (Failed t u) = omega arith

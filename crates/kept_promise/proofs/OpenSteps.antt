@@ -72,8 +72,8 @@ lists_come book k qs n x q t ts j g f h may = subst (λ b. Comes book k qs n x q
     small : j.file < 18446744073709551616
     small = file_small book k qs j.file g.kept may.fact.known
 
-    moves : Moves (client.calls_of c) (client.pending_in s ++ c.forgotten) t (hash_ask c.next_xid j.file (end_of after.chunks) ∷ [])
-    moves = subst (λ l. Moves l (client.pending_in s ++ c.forgotten) t (hash_ask c.next_xid j.file (end_of after.chunks) ∷ [])) (sym (calls_are is.seat j g.job_is)) (moves_single (client.pending_in j.stage) (client.pending_in s) c.forgotten t (hash_ask c.next_xid j.file (end_of after.chunks) ∷ []) may.pends (λ m y. refl))
+    moves : Moves (client.calls_of c) (client.pending_in s ++ c.forgotten) t (hash_ask c.lbfs c.next_xid j.file (end_of after.chunks) ∷ [])
+    moves = subst (λ l. Moves l (client.pending_in s ++ c.forgotten) t (hash_ask c.lbfs c.next_xid j.file (end_of after.chunks) ∷ [])) (sym (calls_are is.seat j g.job_is)) (moves_single (client.pending_in j.stage) (client.pending_in s) c.forgotten t (hash_ask c.lbfs c.next_xid j.file (end_of after.chunks) ∷ []) may.pends (λ m y. refl))
 
     ends : end_of after.chunks ≤ 67108864
     ends =
@@ -130,7 +130,7 @@ lists_come book k qs n x q t ts j g f h may = subst (λ b. Comes book k qs n x q
       cache = c.cache;
       index = c.index;
       sent = c.clock;
-      asks = hash_ask c.next_xid j.file (end_of after.chunks) ∷ [];
+      asks = hash_ask c.lbfs c.next_xid j.file (end_of after.chunks) ∷ [];
       shows = goes_hash book k qs n x q t ts j g s (end_of after.chunks) c.forgotten may.quiet (sym may.word) (λ y. refl) (λ y e2. absurd cc) (λ y e2. nothing_there y e2) (λ u e2. absurd cc) refl moves small ends (fetch_on book x.taken j s after next.fetch, may.bare.0, may.bare.1) tt (λ m y e2. absurd cc) (xids (next.more e)) bound may.word;
       cached = (g.kept.seats x.owner is.seat is.owner).kept;
       state_is = refl;
@@ -280,11 +280,11 @@ comes_leased book k qs n x q t ts j g a at e = by a (subst (AnswerOf book x.take
     forgotten : List Pending
     forgotten = client.without_call (client.calls_of c) t.xid
 
-    moves : Moves (client.calls_of c) (client.pending_in s ++ forgotten) t (hash_ask c.next_xid j.file 0 ∷ [])
+    moves : Moves (client.calls_of c) (client.pending_in s ++ forgotten) t (hash_ask c.lbfs c.next_xid j.file 0 ∷ [])
     moves =
         let b = (h.talk g.uncut).balanced in
         let there = told_there n k.server.waiting q x.hung c.next_xid (client.calls_of c) 0 t b (ap (λ (l : List Told). slice_get l 0) g.first) in
-        moves_retries (client.calls_of c) there.0 t (hash_ask c.next_xid j.file 0) there.1 (b.once t.xid)
+        moves_retries (client.calls_of c) there.0 t (hash_ask c.lbfs c.next_xid j.file 0) there.1 (b.once t.xid)
 
     room : c.next_xid + 380001 ≤ 4294967296
     room = xids_at book k qs n x q t ts j g (stage.Asking t.xid) at
@@ -321,7 +321,7 @@ comes_leased book k qs n x q t ts j g a at e = by a (subst (AnswerOf book x.take
       cache = c.cache;
       index = c.index;
       sent = c.clock;
-      asks = hash_ask c.next_xid j.file 0 ∷ [];
+      asks = hash_ask c.lbfs c.next_xid j.file 0 ∷ [];
       shows = goes_hash book k qs n x q t ts j g s 0 forgotten quiet (sym word) (λ y. refl) (λ y e. absurd cc) (λ y e. nothing_there y e) (λ f e. absurd cc) refl moves (file_small book k qs j.file g.kept told.known) (omega arith) tt tt (λ m y e. begun m (ap tries_of e)) (3, refl, (let r = room in omega (arith, r))) (let r = room in omega (arith, r)) word;
       cached = (g.kept.seats x.owner h.seat h.owner).kept;
       state_is = refl;

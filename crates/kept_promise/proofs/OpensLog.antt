@@ -211,11 +211,11 @@ gets_cases log s calls file v st x b p apart = record {
       );
   fetches = λ y l at is.
       let was : IsBare log × (last_fetch log ≡ no_fetch) × AllReach (over_from no_fetch log) = subst (OpensBy log file v) at p in
-      let m : Message = hash_call s.next_xid file 0 in
+      let m : Message = hash_call s.lbfs s.next_xid file 0 in
       let z = ap (bytes_came x) is in
       let log2 : List Deal = log ++ Took (message.Answer x b) ∷ Sent m ∷ [] in
       let last : last_fetch log2 ≡ no_fetch = fetch_join no_fetch log (Took (message.Answer x b) ∷ Sent m ∷ []) in
-      let over : AllReach (over_from no_fetch log2) = over_begins log x b s.next_xid file (any_reached log file v st p (ap stage_word at)) in
+      let over : AllReach (over_from no_fetch log2) = over_begins log x b s.lbfs s.next_xid file (any_reached log file v st p (ap stage_word at)) in
       let a = sum_join Rattle.kept_promise.proofs.Common.first_number log (Took (message.Answer x b) ∷ Sent m ∷ []) in
       let c = sum_join read_number log (Took (message.Answer x b) ∷ Sent m ∷ []) in
       let d = came_join log (Took (message.Answer x b) ∷ Sent m ∷ []) in
@@ -229,13 +229,13 @@ gets_cases log s calls file v st x b p apart = record {
         λ open_. (over, first_told (last_fetch log2) [] last),
       );
   anew = λ f version bytes open_ gave few came.
-      let m : Message = hash_call s.next_xid file 0 in
+      let m : Message = hash_call s.lbfs s.next_xid file 0 in
       let log2 : List Deal = log ++ Took (message.Answer x b) ∷ Sent m ∷ [] in
       let one = one_gave log file v st x b f version p gave in
       let a = sum_join Rattle.kept_promise.proofs.Common.first_number log (Took (message.Answer x b) ∷ Sent m ∷ []) in
       let i = one.begun in
       let last : last_fetch log2 ≡ no_fetch = fetch_join no_fetch log (Took (message.Answer x b) ∷ Sent m ∷ []) in
-      let over : AllReach (over_from no_fetch log2) = over_begins log x b s.next_xid file (any_reached log file v st p open_) in (
+      let over : AllReach (over_from no_fetch log2) = over_begins log x b s.lbfs s.next_xid file (any_reached log file v st p open_) in (
         λ g w u running task. subst (λ (z : Task). OpensBy log2 g w z.stage) (some_is _ u task) (last, record { over = over; begun = omega (arith, a, i); few = λ few. absurd (omega (arith, few, a, i)) }),
         λ e ended. nothing_there e ended,
         λ open_. (over, first_told (last_fetch log2) [] last),
@@ -243,11 +243,11 @@ gets_cases log s calls file v st x b p apart = record {
   lists = λ f h is at same far.
       let n = none_yet log file v st x h f p at in
       let offset = Rattle.chunk_cut.specs.Places.end_of (with_hashes f h).chunks in
-      let m : Message = hash_call s.next_xid file offset in
+      let m : Message = hash_call s.lbfs s.next_xid file offset in
       let log2 : List Deal = log ++ Took (message.Answer x b) ∷ Sent m ∷ [] in
       let z = ap (bytes_came x) is in
       let last : last_fetch log2 ≡ told_only (with_hashes f h).chunks = fetch_join no_fetch log (Took (message.Answer x b) ∷ Sent m ∷ []) ∙ ap (λ t. fetch_if t (fetch_with (last_fetch log) (Took (message.Answer x b)))) far ∙ ap (λ (y : Fetched). fetch_with y (Took (message.Answer x b))) n.0 ∙ ap (λ c. fetch_with (told_only f.chunks) (Took (message.Answer x c))) is in
-      let over : AllReach (over_from no_fetch log2) = subst AllReach (sym (over_lists log x b s.next_xid file offset far)) n.1.over in
+      let over : AllReach (over_from no_fetch log2) = subst AllReach (sym (over_lists log x b s.lbfs s.next_xid file offset far)) n.1.over in
       let a = sum_join Rattle.kept_promise.proofs.Common.first_number log (Took (message.Answer x b) ∷ Sent m ∷ []) in
       let t = ap (λ y. Rattle.kept_promise.proofs.Common.number_if y 1) far in
       let c = sum_join read_number log (Took (message.Answer x b) ∷ Sent m ∷ []) in
@@ -421,10 +421,10 @@ opens_laws all = record {
   walked = λ log file v x w h. h;
   none = λ w file v u un same log names. (nothing w log names, other log v u un);
   now = λ log file v len digest names. (nothing words.Open log names, inl (let n = names_count log names in (n.begins, n.asked, n.came)));
-  asks = λ log names x file v. asked log names x file;
-  opens = λ log names x file v. begun log names x file;
-  renews = λ log names x file v. tt;
-  closes = λ x temp file v. tt;
+  asks = λ log names lbfs x file v. asked log names lbfs x file;
+  opens = λ log names lbfs x file v. begun log names lbfs x file;
+  renews = λ log names lbfs x file v. tt;
+  closes = λ lbfs x temp file v. tt;
   moves = λ log file other v w u gets. by_getting (λ z. OpenRead all log z file v u → OpenRead all log z other v u) (λ h. h) (λ h. h) (λ h. h) w gets;
   other = λ log file v st u of p un same. (any (stage_word st) st refl log file v p, other log v u un);
   heard = λ book more taken j o p s x b all_is a log h. subst (λ (l : List Moment). Answered OpensBy (OpenRead l) book taken o log x b (found_in s j.file j.stage x b) (took (idle s) (client.calls_of s) j.file j.stage x b)) all_is (opens_heard book more taken j o p s x b a log h);
@@ -434,9 +434,9 @@ opens_laws all = record {
     nothing words.Open log names = each_reached log (names_reached log names)
     nothing w log names = tt
 
-    asked : (log : List Deal) → NamesOnly log → (x file : ℕ) → IsBare (log ++ Sent (lease_call x file) ∷ []) × (last_fetch (log ++ Sent (lease_call x file) ∷ []) ≡ no_fetch) × AllReach (over_from no_fetch (log ++ Sent (lease_call x file) ∷ []))
-    asked log names x file =
-        let d : Deal = Sent (lease_call x file) in
+    asked : (log : List Deal) → NamesOnly log → (lbfs x file : ℕ) → IsBare (log ++ Sent (lease_call lbfs x file) ∷ []) × (last_fetch (log ++ Sent (lease_call lbfs x file) ∷ []) ≡ no_fetch) × AllReach (over_from no_fetch (log ++ Sent (lease_call lbfs x file) ∷ []))
+    asked log names lbfs x file =
+        let d : Deal = Sent (lease_call lbfs x file) in
         let n = names_count log names in
         let a = sum_join Rattle.kept_promise.proofs.Common.first_number log (d ∷ []) in
         let b = sum_join read_number log (d ∷ []) in
@@ -446,9 +446,9 @@ opens_laws all = record {
         let r = n.came in
         ((omega (arith, a, p), omega (arith, b, q), omega (arith, c, r)), names_last log d names, subst AllReach (sym (names_over log d names)) tt)
 
-    begun : (log : List Deal) → NamesOnly log → (x file : ℕ) → (last_fetch (log ++ Sent (hash_call x file 0) ∷ []) ≡ no_fetch) × OneFetch (log ++ Sent (hash_call x file 0) ∷ [])
-    begun log names x file =
-        let d : Deal = Sent (hash_call x file 0) in
+    begun : (log : List Deal) → NamesOnly log → (lbfs x file : ℕ) → (last_fetch (log ++ Sent (hash_call lbfs x file 0) ∷ []) ≡ no_fetch) × OneFetch (log ++ Sent (hash_call lbfs x file 0) ∷ [])
+    begun log names lbfs x file =
+        let d : Deal = Sent (hash_call lbfs x file 0) in
         let n = names_count log names in
         let a = sum_join Rattle.kept_promise.proofs.Common.first_number log (d ∷ []) in
         let b = sum_join read_number log (d ∷ []) in
@@ -456,7 +456,7 @@ opens_laws all = record {
         let p = n.begins in
         let q = n.asked in
         let r = n.came in
-        let last : last_fetch (log ++ Sent (hash_call x file 0) ∷ []) ≡ no_fetch = names_last log d names in
+        let last : last_fetch (log ++ Sent (hash_call lbfs x file 0) ∷ []) ≡ no_fetch = names_last log d names in
         let s = ap (λ (y : Fetched). length y.reads) last in
         let t = ap (λ (y : Fetched). y.bytes) last in
         (last, record { over = subst AllReach (sym (names_over log d names)) (first_told no_fetch [] refl, tt); begun = omega (arith, a, p); few = λ few. (omega (arith, b, q, s), omega (arith, c, r, t)) })

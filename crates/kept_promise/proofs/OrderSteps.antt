@@ -272,7 +272,7 @@ orderly_ends book more n temps w q hung next calls t ts seat d j asks b first is
     none : EndsAt j t → Held temps n q.ups q.downs (locals_of seat.client) (Some j) → Rattle.kept_promise.proofs.Shelf.NoTemp temps n
     none (inl e) held = free_held temps n q.ups q.downs (locals_of seat.client) (Some j) (open_free j e) held
     none (inr (inr e)) held = (subst (HeldIn temps n q.ups q.downs (locals_of seat.client j.file)) e.3 held).2 (0, e.1, e.2, ap (λ (l : List Told). slice_get l 0) first ∙ ap (λ (r : Reply). Some (record { xid = t.xid; reply = r })) e.4)
-    none (inr (inl e)) held = (subst (HeldIn temps n q.ups q.downs (locals_of seat.client j.file)) e held).1 (λ u. up_apart n w q hung next calls t ts u.0 (record { xid = t.xid; call = Commit u.1 u.2 u.3 }) b first u.4 refl)
+    none (inr (inl e)) held = (subst (HeldIn temps n q.ups q.downs (locals_of seat.client j.file)) e held).1 (λ u. up_apart n w q hung next calls t ts u.0 (record { lbfs = u.4; xid = t.xid; call = Commit u.1 u.2 u.3 }) b first u.5 refl)
 
 pub free_on : (seat : Seat) (j : Job) → job seat ≡ Some j → IsNoClose j.stage → CloseFree (job seat)
 free_on seat j is e = subst CloseFree (sym is) (open_free j e)

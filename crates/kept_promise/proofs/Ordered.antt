@@ -272,25 +272,25 @@ IsQuietCall (Commit m f s) = ⊥
 IsQuietCall _ = Unit {0}
 
 pub make_up : (a : Ask) (us : List Ask) (x : ℕ) → UpMake us x → UpMake (a ∷ us) x
-make_up a us x u = (suc u.0, u.1, u.2, u.3)
+make_up a us x u = (suc u.0, u.1, u.2, u.3, u.4)
 
 pub send_up : (a : Ask) (us : List Ask) (x : ℕ) → UpSend us x → UpSend (a ∷ us) x
-send_up a us x u = (suc u.0, u.1, u.2, u.3, u.4)
+send_up a us x u = (suc u.0, u.1, u.2, u.3, u.4, u.5)
 
 abbrev pub commit_up : (a : Ask) (us : List Ask) (x : ℕ) → UpCommit us x → UpCommit (a ∷ us) x
-commit_up a us x u = (suc u.0, u.1, u.2, u.3, u.4)
+commit_up a us x u = (suc u.0, u.1, u.2, u.3, u.4, u.5)
 
 make_rest : (a : Ask) (us : List Ask) (x : ℕ) → IsQuietCall a.call → UpMake (a ∷ us) x → UpMake us x
-make_rest a us x plain (zero, m, f, e) = absurd (subst (λ (b : Ask). IsQuietCall b.call) (some_is a _ e) plain)
-make_rest a us x plain (suc i, m, f, e) = (i, m, f, e)
+make_rest a us x plain (zero, m, f, v, e) = absurd (subst (λ (b : Ask). IsQuietCall b.call) (some_is a _ e) plain)
+make_rest a us x plain (suc i, m, f, v, e) = (i, m, f, v, e)
 
 send_rest : (a : Ask) (us : List Ask) (x : ℕ) → IsQuietCall a.call → UpSend (a ∷ us) x → UpSend us x
-send_rest a us x plain (zero, m, s, b, e) = absurd (subst (λ (b : Ask). IsQuietCall b.call) (some_is a _ e) plain)
-send_rest a us x plain (suc i, m, s, b, e) = (i, m, s, b, e)
+send_rest a us x plain (zero, m, s, b, v, e) = absurd (subst (λ (b : Ask). IsQuietCall b.call) (some_is a _ e) plain)
+send_rest a us x plain (suc i, m, s, b, v, e) = (i, m, s, b, v, e)
 
 commit_rest : (a : Ask) (us : List Ask) (x : ℕ) → IsQuietCall a.call → UpCommit (a ∷ us) x → UpCommit us x
-commit_rest a us x plain (zero, m, f, s, e) = absurd (subst (λ (b : Ask). IsQuietCall b.call) (some_is a _ e) plain)
-commit_rest a us x plain (suc i, m, f, s, e) = (i, m, f, s, e)
+commit_rest a us x plain (zero, m, f, s, v, e) = absurd (subst (λ (b : Ask). IsQuietCall b.call) (some_is a _ e) plain)
+commit_rest a us x plain (suc i, m, f, s, v, e) = (i, m, f, s, v, e)
 
 -- no bytes are among them
 holds_rest : (v : List ℕ) (a : Ask) (us : List Ask) (ts : List Told) (st : Store) (ps : List (ℕ × List ℕ)) → IsQuietCall a.call → Holds v (a ∷ us) ts st ps → Holds v us ts st ps
@@ -349,7 +349,7 @@ BeginsWith (stage.Asking x) a = Unit {0}
 BeginsWith (stage.Rewriting x) a = Unit {0}
 BeginsWith (stage.Hashing t x) a = Unit {0}
 BeginsWith (stage.Walking x w) a = Unit {0}
-BeginsWith (stage.Making x m) a = (f : ℕ) × (a ≡ record { xid = x; call = Make m f })
+BeginsWith (stage.Making x m) a = (f lbfs : ℕ) × (a ≡ record { lbfs = lbfs; xid = x; call = Make m f })
 BeginsWith s a = ⊥
 
 -- what is there of closes where nothing is under way: nothing
@@ -379,6 +379,6 @@ orderly_begun book n temps hung q a d j is place begins tree clear = record {
     by (stage.Rewriting x) begins b up none = none
     by (stage.Hashing t x) begins b up none = none
     by (stage.Walking x w) begins b up none = none
-    by (stage.Making x m) begins false up none = (λ u. none, (λ u d. absurd (u (length q.ups, m, begins.0, at_end q.ups a ∙ ap (λ (z : Ask). Some z) begins.1))), λ d. none)
+    by (stage.Making x m) begins false up none = (λ u. none, (λ u d. absurd (u (length q.ups, m, begins.0, begins.1, at_end q.ups a ∙ ap (λ (z : Ask). Some z) begins.2))), λ d. none)
     by (stage.Making x m) begins true up none = absurd cc
     by _ begins b up none = absurd begins

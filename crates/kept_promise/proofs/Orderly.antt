@@ -95,13 +95,13 @@ IsWanted book job t = Wanted book job t.xid t.reply
 -- ---- the temporary file
 
 abbrev pub UpMake : List Ask → (xid : ℕ) → Type 0
-UpMake us x = (i m f : ℕ) × (slice_get us i ≡ Some (record { xid = x; call = Make m f }))
+UpMake us x = (i m f lbfs : ℕ) × (slice_get us i ≡ Some (record { lbfs = lbfs; xid = x; call = Make m f }))
 
 abbrev pub UpSend : List Ask → (xid : ℕ) → Type 0
-UpSend us x = (i m s : ℕ) × (b : List ℕ) × (slice_get us i ≡ Some (record { xid = x; call = Send m s b }))
+UpSend us x = (i m s : ℕ) × (b : List ℕ) × (lbfs : ℕ) × (slice_get us i ≡ Some (record { lbfs = lbfs; xid = x; call = Send m s b }))
 
 abbrev pub UpCommit : List Ask → (xid : ℕ) → Type 0
-UpCommit us x = (i m f size : ℕ) × (slice_get us i ≡ Some (record { xid = x; call = Commit m f size }))
+UpCommit us x = (i m f size lbfs : ℕ) × (slice_get us i ≡ Some (record { lbfs = lbfs; xid = x; call = Commit m f size }))
 
 -- the answer that the server knew the chunk of a name, and that it is on its way down
 abbrev pub known_reply : Reply

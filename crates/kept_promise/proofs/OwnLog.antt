@@ -110,8 +110,8 @@ reads_own s file v f = reads_keep (λ r. AreOwn words.Open file v (map Sent r.se
     by r c h None = subst (AreOwn words.Open file v) (sym (sent_more r.send (read_call r.next_xid file c))) (own_join words.Open file v (map Sent r.send) (Sent (read_call r.next_xid file c) ∷ []) h (refl, tt))
     by r c h (Some bytes) = h
 
-pub names_own : (file : ℕ) (v : List ℕ) (w : Store) (next : ℕ) → AreOwn words.Close file v (map Sent (names_all w next).send) × ((names_all w next).store.chunks ≡ w.chunks)
-names_own file v w next = names_keep (λ n. AreOwn words.Close file v (map Sent n.send) × (n.store.chunks ≡ w.chunks)) (λ n c h at. (subst (AreOwn words.Close file v) (sym (sent_more n.send (cond_call n.next_xid n.store.temp c))) (own_join words.Close file v (map Sent n.send) (Sent (cond_call n.next_xid n.store.temp c) ∷ []) h.0 (tt, tt)), h.1)) (calls_most - length w.under) (names_from w next) (tt, refl)
+pub names_own : (lbfs : ℕ) (file : ℕ) (v : List ℕ) (w : Store) (next : ℕ) → AreOwn words.Close file v (map Sent (names_all lbfs w next).send) × ((names_all lbfs w next).store.chunks ≡ w.chunks)
+names_own lbfs file v w next = names_keep lbfs (λ n. AreOwn words.Close file v (map Sent n.send) × (n.store.chunks ≡ w.chunks)) (λ n c h at. (subst (AreOwn words.Close file v) (sym (sent_more n.send (cond_call lbfs n.next_xid n.store.temp c))) (own_join words.Close file v (map Sent n.send) (Sent (cond_call lbfs n.next_xid n.store.temp c) ∷ []) h.0 (tt, tt)), h.1)) (calls_most - length w.under) (names_from w next) (tt, refl)
 
 -- ---- an answer
 
@@ -135,14 +135,14 @@ sends_cases s calls file v st x b h same = record {
   opens = λ f bytes now here. ((λ u running. nothing_there _ (sym running)), tt);
   names = λ w at known none is.
       let k = store_is st x v (client.local_bytes s.opened file) w at h same in
-      let own = names_own file v w s.next_xid in
-      closing k.0 (goes_if s file (client.local_bytes s.opened file) (names_all w s.next_xid) false) ((λ u running task. subst (λ (z : Task). (stage_word z.stage ≡ words.Close) × StageChunks z.stage v) (some_is _ u task) (refl, own.1 ∙ k.2)), own.0);
+      let own = names_own s.lbfs file v w s.next_xid in
+      closing k.0 (goes_if s file (client.local_bytes s.opened file) (names_all s.lbfs w s.next_xid) false) ((λ u running task. subst (λ (z : Task). (stage_word z.stage ≡ words.Close) × StageChunks z.stage v) (some_is _ u task) (refl, own.1 ∙ k.2)), own.0);
   commits = λ w at known none is.
       let k = store_is st x v (client.local_bytes s.opened file) w at h same in
-      let own = names_own file v w s.next_xid in
-      let n = names_all w s.next_xid in
-      let commit : Message = commit_call n.next_xid n.store.temp file (length (client.local_bytes s.opened file)) in
-      closing k.0 (goes_if s file (client.local_bytes s.opened file) (names_all w s.next_xid) true) (
+      let own = names_own s.lbfs file v w s.next_xid in
+      let n = names_all s.lbfs w s.next_xid in
+      let commit : Message = commit_call s.lbfs n.next_xid n.store.temp file (length (client.local_bytes s.opened file)) in
+      closing k.0 (goes_if s file (client.local_bytes s.opened file) (names_all s.lbfs w s.next_xid) true) (
         (λ u running task. subst (λ (z : Task). (stage_word z.stage ≡ words.Close) × StageChunks z.stage v) (some_is _ u task) (refl, tt)),
         subst (AreOwn words.Close file v) (sym (sent_more n.send commit)) (own_join words.Close file v (map Sent n.send) (Sent commit ∷ []) own.0 ((refl, ap length (sym k.1)), tt)),
       );
@@ -242,10 +242,10 @@ own_laws all = record {
   walked = λ log file v x w h. h;
   none = λ w file v u un same log names. (near_names w file v log names, none w log names);
   now = λ log file v len digest names. (near_names words.Open file v log names, none words.Open log names);
-  asks = λ log names x file v. (near_join words.Open file v log (Sent (lease_call x file) ∷ []) (near_names words.Open file v log names) (inl refl, tt), (tt, tt));
-  renews = λ log names x file v. (near_join words.Rewrite file v log (Sent (lease_call x file) ∷ []) (near_names words.Rewrite file v log names) (inl refl, tt), (tt, (let j = came_join log (Sent (lease_call x file) ∷ []) in let n = (names_count log names).came in omega (arith, j, n))));
-  opens = λ log names x file v. (near_join words.Open file v log (Sent (hash_call x file 0) ∷ []) (near_names words.Open file v log names) (inl refl, tt), (tt, tt));
-  closes = λ x temp file v. ((inl refl, tt), (tt, tt));
+  asks = λ log names lbfs x file v. (near_join words.Open file v log (Sent (lease_call lbfs x file) ∷ []) (near_names words.Open file v log names) (inl refl, tt), (tt, tt));
+  renews = λ log names lbfs x file v. (near_join words.Rewrite file v log (Sent (lease_call lbfs x file) ∷ []) (near_names words.Rewrite file v log names) (inl refl, tt), (tt, (let j = came_join log (Sent (lease_call lbfs x file) ∷ []) in let n = (names_count log names).came in omega (arith, j, n))));
+  opens = λ log names lbfs x file v. (near_join words.Open file v log (Sent (hash_call lbfs x file 0) ∷ []) (near_names words.Open file v log names) (inl refl, tt), (tt, tt));
+  closes = λ lbfs x temp file v. ((inl refl, tt), (tt, tt));
   moves = λ log file other v w u gets h. moves_own log file other v w u gets h;
   other = λ log file v st u of p un same. let own = own_of log file v st of p in (own.0, own.1.1);
   heard = λ book more taken j o p s x b all_is a log h. own_heard book more taken j o p s x b a log h;

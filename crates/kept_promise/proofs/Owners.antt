@@ -172,7 +172,7 @@ adjusts_same w a = record { stage = refl; header = adjusted_header w.core a; own
 
 abbrev pub stage_after : Stage → Turn → Stage
 stage_after s turn.Skip = s
-stage_after s (turn.At t) = t
+stage_after s (turn.Version n) = stage.Term
 stage_after s (turn.Term n) = stage.Drift
 stage_after s (turn.Drift n) = stage.Clients
 stage_after s (turn.Clients n) = stage.Files

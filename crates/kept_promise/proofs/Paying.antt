@@ -133,13 +133,13 @@ plain_pays v w x b ms none known h = (subst (λ o. Pays v o (Took (message.Answe
     owed b known = refl
 
 -- it does, and the chunk's bytes go out
-pub whole_pays : (v : List ℕ) (w : Owing) (x : ℕ) (b : Body) (y temp : ℕ) (k : Chunk) → w.owed ≡ None → IsUnknown b → asked_at w.asked x ≡ Some k → PaysAll v w (Took (message.Answer x b) ∷ Sent (temp_call y temp v k) ∷ [])
-whole_pays v w x (body.Lb (lb.CondWriteAnswer (Failed status.HashNotFound u))) y temp k none unknown at = (
+pub whole_pays : (v : List ℕ) (w : Owing) (x : ℕ) (b : Body) (lbfs y temp : ℕ) (k : Chunk) → w.owed ≡ None → IsUnknown b → asked_at w.asked x ≡ Some k → PaysAll v w (Took (message.Answer x b) ∷ Sent (temp_call lbfs y temp v k) ∷ [])
+whole_pays v w x (body.Lb (lb.CondWriteAnswer (Failed status.HashNotFound u))) lbfs y temp k none unknown at = (
   subst (λ o. Pays v o (Took (message.Answer x (body.Lb (lb.CondWriteAnswer (Failed status.HashNotFound u)))))) (sym none) tt,
   subst (λ o. IsSome o) (sym at) refl,
-  subst (λ o. PaysAll v (record { asked = without_asked w.asked x; owed = o }) (Sent (temp_call y temp v k) ∷ [])) (sym at) ((refl, refl), tt, refl),
+  subst (λ o. PaysAll v (record { asked = without_asked w.asked x; owed = o }) (Sent (temp_call lbfs y temp v k) ∷ [])) (sym at) ((refl, refl), tt, refl),
 )
-whole_pays v w x b y temp k none unknown at = absurd unknown
+whole_pays v w x b lbfs y temp k none unknown at = absurd unknown
 
 -- what is under way then
 pub owing_plain : (w : Owing) (x : ℕ) (b : Body) → (IsUnknown b → ⊥) → owing_with w (Took (message.Answer x b)) ≡ record { asked = without_asked w.asked x; owed = None }

@@ -23,11 +23,11 @@ use Rattle.kept_promise.proofs.MetLog.{MeetsBy, Tries, count_of, begun_count}
 -- ---- the call on which an end rests
 
 abbrev pub StageCall : Book → List TakenCall → Job → Stage → (xid : ℕ) → Type 0
-StageCall book taken j (stage.Asking y) x = IsServed book taken j x (lease_body j.file)
+StageCall book taken j (stage.Asking y) x = IsServed book taken j x (lease_body book.lbfs j.file)
 -- no walk opens anything, nor a rewrite by an answer to an open
 StageCall book taken j (stage.Walking y w) x = ⊥
 StageCall book taken j (stage.Rewriting y) x = ⊥
-StageCall book taken j st x = IsServed book taken j x (hash_body j.file 0)
+StageCall book taken j st x = IsServed book taken j x (hash_body book.lbfs j.file 0)
 
 served_in : (book : Book) (taken : List TakenCall) (closing : Option ℕ) (t : Told) (j : Job) → has_call (client.pending_in j.stage) t.xid ≡ true → FetchOf book taken j j.stage → AnswerOf book taken closing (Some j) t.xid t.reply
     → (st : Stage) → j.stage ≡ st → (r : Reply) → t.reply ≡ r → TookIn (λ v x. StageCall book taken j st x) st t.xid (reply_body r)
@@ -82,7 +82,7 @@ PointedAt book past o = CalledAt book past o ⊎ EndsNow past o
 first_of : (log : List Deal) (file : ℕ) (v : List ℕ) (st : Stage) → MeetsBy log file v st → stage_word st ≡ words.Open → (book : Book) (taken : List TakenCall) (j : Job) (x : ℕ) → StageCall book taken j st x → (call : Body) × IsServed book taken j x call × IsFirstOf (begins_in log) j.file call
 first_of log file v st h word book taken j x served = by st h word served
   where
-    some : (n : ℕ) → 0 < n → IsFirstOf n j.file (hash_body j.file 0)
+    some : (n : ℕ) → 0 < n → IsFirstOf n j.file (hash_body book.lbfs j.file 0)
     some zero lt = absurd (omega (arith, lt))
     some (suc n) lt = (refl, refl)
 
@@ -97,10 +97,10 @@ first_of log file v st h word book taken j x served = by st h word served
         let c = begun_count log no_attempt in
         let none = ap count_of h in
         let zero_is : begins_in log ≡ 0 = omega (arith, c, none) in
-        (lease_body j.file, served, subst (λ n. IsFirstOf n j.file (lease_body j.file)) (sym zero_is) refl)
-    by (stage.Hashing tries y) h w served = (hash_body j.file 0, served, some (begins_in log) (tried tries _ h))
-    by (stage.Listing y f) h w served = (hash_body j.file 0, served, some (begins_in log) (tried f.tries _ h.1))
-    by (stage.Reading f) h w served = (hash_body j.file 0, served, some (begins_in log) (tried f.tries _ h.1))
+        (lease_body book.lbfs j.file, served, subst (λ n. IsFirstOf n j.file (lease_body book.lbfs j.file)) (sym zero_is) refl)
+    by (stage.Hashing tries y) h w served = (hash_body book.lbfs j.file 0, served, some (begins_in log) (tried tries _ h))
+    by (stage.Listing y f) h w served = (hash_body book.lbfs j.file 0, served, some (begins_in log) (tried f.tries _ h.1))
+    by (stage.Reading f) h w served = (hash_body book.lbfs j.file 0, served, some (begins_in log) (tried f.tries _ h.1))
     by (stage.Rewriting y) h w served = absurd served
     by (stage.Making y temp) h w served = absurd cc
     by (stage.Storing store) h w served = absurd cc

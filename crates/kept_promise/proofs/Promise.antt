@@ -63,7 +63,6 @@ use Rattle.kept_promise.proofs.EntriesGrow.{journal_grows}
 use Rattle.kept_promise.proofs.Awaiting.{AllAwaited, carried_awaited, changed_by}
 use Rattle.kept_promise.proofs.NamesMove.{AllNamed, carried_named, names_change}
 use Rattle.kept_promise.proofs.Promised.{no_fault, legal_kept, holds_files, holds_contents, holds_values}
-use Rattle.kept_promise.proofs.Saved.{asks_version}
 use Rattle.kept_promise.proofs.AtOnceRuns.{both_at_once}
 
 -- ---- facts that are carried together
@@ -227,7 +226,7 @@ promise_of input w leased soon ran h awaited leases counted =
         found = λ m there. (h.more.1.0.saved.each m there).3;
         leased = λ m k o there at. h.more.0.1.0.leased m there k o at;
         used = λ m k o there at. follows_used m o (h.more.0.1.0.each m there k o at);
-        spares = λ m there. asks_version m;
+        spares = λ m there. (h.more.1.0.saved.each m there).5;
         anew = λ m k o there at. follows_anew m o (h.more.0.1.0.each m there k o at);
         at_once = λ m k o there at. both_at_once m o (h.more.0.1.0.now.each m there k o at);
       };

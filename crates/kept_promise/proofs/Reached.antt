@@ -201,11 +201,11 @@ over_took log x b = over_join no_fetch log (Took (message.Answer x b) ∷ []) �
 pub reached_took : (log : List Deal) (x : ℕ) (b : Body) → AreReached log → AreReached (log ++ Took (message.Answer x b) ∷ [])
 reached_took log x b h = (subst AllReach (sym (over_took log x b)) h.0, subst ReachesFirst (sym (last_one log x b)) (first_took (last_fetch log) (message.Answer x b) h.1))
 
-pub over_begins : (log : List Deal) (x : ℕ) (b : Body) (y file : ℕ) → AreReached log → AllReach (over_from no_fetch (log ++ Took (message.Answer x b) ∷ Sent (hash_call y file 0) ∷ []))
-over_begins log x b y file h = subst AllReach (sym (over_join no_fetch log (Took (message.Answer x b) ∷ Sent (hash_call y file 0) ∷ []))) (all_join (over_from no_fetch log) (fetch_with (last_fetch log) (Took (message.Answer x b)) ∷ []) h.0 (first_took (last_fetch log) (message.Answer x b) h.1, tt))
+pub over_begins : (log : List Deal) (x : ℕ) (b : Body) (lbfs y file : ℕ) → AreReached log → AllReach (over_from no_fetch (log ++ Took (message.Answer x b) ∷ Sent (hash_call lbfs y file 0) ∷ []))
+over_begins log x b lbfs y file h = subst AllReach (sym (over_join no_fetch log (Took (message.Answer x b) ∷ Sent (hash_call lbfs y file 0) ∷ []))) (all_join (over_from no_fetch log) (fetch_with (last_fetch log) (Took (message.Answer x b)) ∷ []) h.0 (first_took (last_fetch log) (message.Answer x b) h.1, tt))
 
-pub over_lists : (log : List Deal) (x : ℕ) (b : Body) (y file offset : ℕ) → (offset == 0) ≡ false → over_from no_fetch (log ++ Took (message.Answer x b) ∷ Sent (hash_call y file offset) ∷ []) ≡ over_from no_fetch log
-over_lists log x b y file offset far = over_join no_fetch log (Took (message.Answer x b) ∷ Sent (hash_call y file offset) ∷ []) ∙ ap (λ t. over_from no_fetch log ++ (over_if t (fetch_with (last_fetch log) (Took (message.Answer x b))) ++ [])) far ∙ append-nil (over_from no_fetch log)
+pub over_lists : (log : List Deal) (x : ℕ) (b : Body) (lbfs y file offset : ℕ) → (offset == 0) ≡ false → over_from no_fetch (log ++ Took (message.Answer x b) ∷ Sent (hash_call lbfs y file offset) ∷ []) ≡ over_from no_fetch log
+over_lists log x b lbfs y file offset far = over_join no_fetch log (Took (message.Answer x b) ∷ Sent (hash_call lbfs y file offset) ∷ []) ∙ ap (λ t. over_from no_fetch log ++ (over_if t (fetch_with (last_fetch log) (Took (message.Answer x b))) ++ [])) far ∙ append-nil (over_from no_fetch log)
 
 -- as many were found or asked for as were reached
 pub chosen_count : (bs : List Bool) (cs : List Chunk) → length bs ≤ length cs → length (chosen true bs cs) + length (chosen false bs cs) ≡ length bs

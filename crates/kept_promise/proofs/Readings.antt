@@ -151,7 +151,7 @@ file_on os spot size content None t e = refused_line Grammar t e
 file_on os spot size content (Some dir) t e = sized_on os _ _ spot dir content t e
 
 at_stage : (os : List ℕ) (w : World) (s : Stage) (l : Line) (t : Turn) → asks_at w s l ≡ asking t → GoesOn os s l t
-at_stage os w stage.Version line.Version t e = goes os stage.Version line.Version (turn.At stage.Term) t e (record { from = λ xs h. h; owners = refl })
+at_stage os w stage.Version (line.Version n) t e = goes os stage.Version (line.Version n) (turn.Version n) t e (record { from = λ xs h. h; owners = refl })
 at_stage os w stage.Term (line.Term n) t e = goes os stage.Term (line.Term n) (turn.Term n) t e (record { from = λ xs h. (n, h.0, h.1, ap (λ (ys : List Timing). timing.Term n ∷ ys) h.2); owners = refl })
 at_stage os w stage.Drift (line.Drift n) t e = goes os stage.Drift (line.Drift n) (turn.Drift n) t e (record { from = λ xs h. (n, h.0, ap (λ (ys : List Timing). timing.Drift n ∷ ys) h.1); owners = refl })
 at_stage os w stage.Clients (line.Clients n) t e = goes os stage.Clients (line.Clients n) (turn.Clients n) t e (record { from = λ xs h. h; owners = refl })

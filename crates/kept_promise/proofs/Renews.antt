@@ -145,11 +145,11 @@ comes_renewed book k qs n x q t ts j g a at e said = by a (said j refl (ap lease
         after : of.op.begin ≤ told_.told.moment
         after = subst (λ (o : Op). o.begin ≤ told_.told.moment) (some_is told_.told.op of.op (sym told_.told.there ∙ of.there)) told_.told.after
 
-        taken : TakesCall book of.op.client told_.told.moment t.xid (lease_body of.op.file)
+        taken : TakesCall book of.op.client told_.told.moment t.xid (lease_body book.lbfs of.op.file)
         taken =
             let moment_is : told_.call.moment ≡ told_.told.moment = some_is told_.call.moment told_.told.moment (sym told_.call.was ∙ told_.told.was) in
             let same : told_.call.op ≡ of.op = some_is told_.call.op of.op (sym told_.call.there ∙ of.there) in
-            subst (λ (f : ℕ). TakesCall book of.op.client told_.told.moment t.xid (lease_body f)) (sym file) (subst (λ (s : ℕ). TakesCall book of.op.client s t.xid (lease_body j.file)) moment_is (subst (λ (z : Op). TakesCall book z.client told_.call.moment t.xid (lease_body j.file)) same told_.call.takes))
+            subst (λ (f : ℕ). TakesCall book of.op.client told_.told.moment t.xid (lease_body book.lbfs f)) (sym file) (subst (λ (s : ℕ). TakesCall book of.op.client s t.xid (lease_body book.lbfs j.file)) moment_is (subst (λ (z : Op). TakesCall book z.client told_.call.moment t.xid (lease_body book.lbfs j.file)) same told_.call.takes))
 
         renewed : (more : Book) → Grows book more None (Some j.place) → more.steps ≡ book.steps + 1 → Renewed more (ended told.Done)
         renewed more grows steps =
@@ -161,7 +161,7 @@ comes_renewed book k qs n x q t ts j g a at e said = by a (said j refl (ap lease
               value = told_.value;
               value_is = ap (λ f. value_at more f told_.told.moment) file ∙ value_later book more None (Some j.place) j.file told_.told.moment grows (omega (arith, past)) ∙ told_.told.value;
               xid = t.xid;
-              taken = takes_later book more None (Some j.place) of.op.client of.op.client told_.told.moment t.xid (lease_body of.op.file) grows refl taken;
+              taken = subst (λ (v : ℕ). TakesCall more of.op.client told_.told.moment t.xid (lease_body v of.op.file)) (sym grows.lbfs) (takes_later book more None (Some j.place) of.op.client of.op.client told_.told.moment t.xid (lease_body book.lbfs of.op.file) grows refl taken);
               known = there_later book more None (Some j.place) of.op.file grows (subst (λ (z : ℕ). WasThere book z) (sym file) told_.known);
             }
 

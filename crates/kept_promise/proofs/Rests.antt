@@ -26,6 +26,7 @@ pub kept_rest : (book more : Book) (k : Core) (qs : List Queue) (r : server.Stat
     → ((p : ℕ) (o : Op) → slice_get more.ops p ≡ Some o → o.outcome ≡ told.Running → (e : Seat) × (j : Job) × (numbered k.seats o.client ≡ Some e) × (job e ≡ Some j) × (j.place ≡ p))
     → more.journal ≡ r.journal → IsShelf r.temps → IsKept book k qs → IsKept more (turned_core k more r k.seats k.sessions) qs
 kept_rest book more k qs r goes server made view home running journal shelf h = record {
+  lbfs = goes.grows.lbfs ∙ h.lbfs;
   ops = refl;
   steps = refl;
   journal = journal;
@@ -58,6 +59,7 @@ session_opened book seats others s n x q c o free was is h =
       lost = h.lost;
       stands_is = h.stands_is;
       ups_fit = h.ups_fit;
+      ups_speak = h.ups_speak;
       downs_fit = h.downs_fit;
       talk = λ at. let t = subst (IsTalk book n s.waiting x q) e (h.talk at) in record { floor = t.floor; under = t.under; rising = t.rising; numbered = t.numbered; asked = t.asked; answers = t.answers; fetch = t.fetch; balanced = t.balanced; busy = t.busy };
       contents = h.contents;
@@ -78,6 +80,7 @@ pub kept_opened : (book : Book) (k : Core) (qs : List Queue) (seats : List Seat)
     → ((f : ℕ) (l : Local) → client.local_at o f ≡ Some l → WasThere book f × (length l.bytes ≤ 67108864))
     → IsKept book k qs → IsKept book (record k { seats = seats }) qs
 kept_opened book k qs seats i c o free was around opened h = record {
+  lbfs = h.lbfs;
   ops = h.ops;
   steps = h.steps;
   journal = h.journal;
@@ -107,7 +110,7 @@ kept_opened book k qs seats i c o free was around opened h = record {
     busy e j same is = nothing_there j (sym free ∙ ap job (sym same) ∙ is)
 
     session_else : (n : ℕ) (x : Session) (q : Queue) → (old : IsSession book k.seats k.server n x q) → numbered seats x.owner ≡ Some old.seat → IsSession book seats k.server n x q
-    session_else n x q old is = record { seat = old.seat; owner = is; here = old.here; shut = old.shut; lost = old.lost; stands_is = old.stands_is; ups_fit = old.ups_fit; downs_fit = old.downs_fit; talk = old.talk; contents = old.contents; lengths = old.lengths; commits = old.commits; pieces = old.pieces; temps = old.temps; temps_below = old.temps_below; closes = old.closes; pending = old.pending; single = old.single; old = old.old; orderly = old.orderly }
+    session_else n x q old is = record { seat = old.seat; owner = is; here = old.here; shut = old.shut; lost = old.lost; stands_is = old.stands_is; ups_fit = old.ups_fit; ups_speak = old.ups_speak; downs_fit = old.downs_fit; talk = old.talk; contents = old.contents; lengths = old.lengths; commits = old.commits; pieces = old.pieces; temps = old.temps; temps_below = old.temps_below; closes = old.closes; pending = old.pending; single = old.single; old = old.old; orderly = old.orderly }
 
     own_seat : IsSeat book k.sessions i (with_opened c o)
-    own_seat = let s = h.seats i c was in record { session = s.session; linked = s.linked; unlinked = s.unlinked; matched = s.matched; task = s.task; trying = s.trying; xids = s.xids; next = s.next; opened = opened; kept = s.kept }
+    own_seat = let s = h.seats i c was in record { session = s.session; linked = s.linked; unlinked = s.unlinked; speaks = s.speaks; matched = s.matched; task = s.task; trying = s.trying; xids = s.xids; next = s.next; opened = opened; kept = s.kept }

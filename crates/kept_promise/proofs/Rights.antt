@@ -22,7 +22,6 @@ use Rattle.client_cache.specs.Cache.{content_of as kept_of, fresh_of}
 use Rattle.client_cache.specs.declared.kept.Content.{Content}
 use Rattle.kept_promise.proofs.Lists.{some_is}
 use Rattle.kept_promise.proofs.Common.{Entry, Or, Task, Seat, numbered, slice_get, not, is_some, Contains, sha1, File, Moment, value_at, version_at, is_lost, is_untold, Op, Word, Book, IsOpened, IsClosed, IsChanged, IsLost, IsOpenRefused, IsEntered, is_running, changes, nat_lt}
-use Rattle.wire.specs.declared.message.TheConstants.{LBFS_SPOKEN}
 
 -- ---- what is fresh
 
@@ -153,7 +152,7 @@ pub record Renewed (book : Book) (o : Op) : Type 0 where
   pub value : List ℕ
   pub value_is : value_at book o.file step ≡ Some value
   pub xid : ℕ
-  pub taken : TakesCall book o.client step xid (body.Lb (lb.GetLease (record { lbfs = LBFS_SPOKEN; handle = handle_bytes o.file })))
+  pub taken : TakesCall book o.client step xid (body.Lb (lb.GetLease (record { lbfs = book.lbfs; handle = handle_bytes o.file })))
   pub known : WasThere book o.file
 
 -- or it ended at once, and the file was there then, if no note was stale

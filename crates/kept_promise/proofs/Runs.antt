@@ -17,7 +17,7 @@ use Rattle.tree_reading.specs.Tree.{empty as root_alone}
 -- ---- the start
 
 first_is : IsFirst 1 start []
-first_is = record { tree = root_alone; count = record { term = 0; term_fits = omega arith; drift = 0; count = 0 }; core_is = refl; bare = λ header. refl; wires_is = refl; is_tree = no_tree; size = refl; past_is = refl; few = omega arith }
+first_is = record { tree = root_alone; count = record { term = 0; term_fits = omega arith; drift = 0; lbfs = 1; lbfs_fits = record { least = omega arith; most = omega arith }; count = 0 }; core_is = refl; bare = λ header. refl; wires_is = refl; is_tree = no_tree; size = refl; past_is = refl; few = omega arith }
 
 before_first : (P : MixFact) → CarriedMix P → (all : List Moment) → AreAlike all → Before P 1 all [] start
 before_first P carried all alike = record { stands = first_stands P carried 1 all [] start alike first_is; few = omega arith; first = λ early. first_is }

@@ -14,7 +14,7 @@ use Rattle.kept_promise.proofs.RunsResults.{asking, refused_line}
 -- what it asks for, if its path leads to this directory
 abbrev pub turn_of : (dir : ℕ) → Line → Turn
 turn_of dir line.Skipped = turn.Skip
-turn_of dir line.Version = turn.At stage.Term
+turn_of dir (line.Version n) = turn.Version n
 turn_of dir (line.Term n) = turn.Term n
 turn_of dir (line.Drift n) = turn.Drift n
 turn_of dir (line.Clients n) = turn.Clients n
@@ -77,7 +77,7 @@ file_turn spot size content None t e = refused_line Grammar t e
 file_turn spot size content (Some dir) t e = (dir, sized_turn _ _ (turn.File dir spot.name content) t e)
 
 stage_turn : (w : World) (s : Stage) (l : Line) (t : Turn) → asks_at w s l ≡ asking t → (dir : ℕ) × (t ≡ turn_of dir l)
-stage_turn w stage.Version line.Version t e = (0, turn_is (turn.At stage.Term) t e)
+stage_turn w stage.Version (line.Version n) t e = (0, turn_is (turn.Version n) t e)
 stage_turn w stage.Term (line.Term n) t e = (0, turn_is (turn.Term n) t e)
 stage_turn w stage.Drift (line.Drift d) t e = (0, turn_is (turn.Drift d) t e)
 stage_turn w stage.Clients (line.Clients n) t e = (0, turn_is (turn.Clients n) t e)

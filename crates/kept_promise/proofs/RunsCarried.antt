@@ -2,6 +2,7 @@
 use Rattle.std.proofs.Common.{◌⊎◌, ◌≡◌, ℕ, ◌<◌, List, [], ◌∷◌, ◌++◌, length, Some, false, map, replicate}
 use Rattle.server_core.specs.State as server
 use Rattle.lease_law.specs.Claims.{recall_message}
+use Rattle.kept_promise.proofs.Statements.{IsSpoken}
 use Rattle.kept_promise.proofs.Common.{message_spell, Indexed, Opening, Core, Seat, new_seat, Session, Event, Event.Joins, Event.Does, Event.Serves, Event.Hears, Event.Settles, Event.Cuts, Event.Hangs, numbered, with_numbered, happens, World, Moment, Book, book_of, Ask, Told, Queue, ask_message, told_message, reply_message, Up, Down, up_message, down_message, Mix, queue_of, Tree}
 use Rattle.kept_promise.proofs.PathNames.{IsSmall}
 use Rattle.kept_promise.proofs.Facts.{IsKept}
@@ -27,13 +28,15 @@ pub record KeptLaws : Type 0 where
 
 -- the book of two ends, with the moments of a whole run
 abbrev pub book_at : List Opening → Core → (all : List Moment) → Book
-book_at opening k all = record { opening = opening; ops = k.ops; steps = k.steps; journal = k.server.journal; entries = k.entries; moments = all }
+book_at opening k all = record { lbfs = k.lbfs; opening = opening; ops = k.ops; steps = k.steps; journal = k.server.journal; entries = k.entries; moments = all }
 
--- what the header of a trace says: the server's term, how far clocks may drift apart, and how many clients there are
+-- what the header of a trace says: the server's term, how far clocks may drift apart, the version of LBFS that clients speak, and how many clients there are
 pub record Header : Type 0 where
   pub term : ℕ
   pub term_fits : term < 4294967296
   pub drift : ℕ
+  pub lbfs : ℕ
+  pub lbfs_fits : IsSpoken lbfs
   pub count : ℕ
 
 -- the two ends before the first event
@@ -41,7 +44,8 @@ abbrev pub first_core : Tree → Header → Core
 first_core tree h = record {
   server = server.with_term (record server.empty { tree = tree }) h.term;
   drift = h.drift;
-  seats = replicate h.count (new_seat h.drift);
+  lbfs = h.lbfs;
+  seats = replicate h.count (new_seat h.drift h.lbfs);
   sessions = [];
   steps = 0;
   ops = [];

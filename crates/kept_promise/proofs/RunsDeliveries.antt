@@ -64,15 +64,15 @@ drop_front (x ∷ xs) ys = drop_front xs ys
 pub fits_short : (m : Message) → MessageFits m → length (message_spell m) ≤ 131072
 fits_short m f = let l = f.1 in omega (arith, l)
 
-pub ups_short : FitLaws → (us : List Up) → AllAsks (λ a. CallFits a.xid a.call) (asks_in us) → AllByRecursion UpFits us → All (λ r. length r ≤ 131072) (map message_spell (map up_message us))
+pub ups_short : FitLaws → (us : List Up) → AllAsks (λ a. CallFits a.lbfs a.xid a.call) (asks_in us) → AllByRecursion UpFits us → All (λ r. length r ≤ 131072) (map message_spell (map up_message us))
 ups_short fits [] h small = All-nil (λ r. length r ≤ 131072)
-ups_short fits (Asks a ∷ us) h small = All-cons (λ r. length r ≤ 131072) (up_bytes (Asks a)) (map message_spell (map up_message us)) (fits_short (ask_message a) (fits.calls a.xid a.call h.0).0) (ups_short fits us h.1 small.1)
+ups_short fits (Asks a ∷ us) h small = All-cons (λ r. length r ≤ 131072) (up_bytes (Asks a)) (map message_spell (map up_message us)) (fits_short (ask_message a) (fits.calls a.lbfs a.xid a.call h.0).0) (ups_short fits us h.1 small.1)
 ups_short fits (Replies xid ∷ us) h small = All-cons (λ r. length r ≤ 131072) (up_bytes (Replies xid)) (map message_spell (map up_message us)) (fits_short (reply_message xid) (reply_fits xid small.0)) (ups_short fits us h small.1)
 
-pub downs_short : (ds : List Down) → AllTolds (λ t. ToldFits t) (tolds_in ds) → AllByRecursion DownFits ds → All (λ r. length r ≤ 131072) (map message_spell (map down_message ds))
-downs_short [] h small = All-nil (λ r. length r ≤ 131072)
-downs_short (Tells t ∷ ds) h small = All-cons (λ r. length r ≤ 131072) (down_bytes (Tells t)) (map message_spell (map down_message ds)) (fits_short (told_message t) h.0.0) (downs_short ds h.1 small.1)
-downs_short (Recalls xid file ∷ ds) h small = All-cons (λ r. length r ≤ 131072) (down_bytes (Recalls xid file)) (map message_spell (map down_message ds)) (fits_short (recall_message xid file) (recall_fits xid file small.0.0)) (downs_short ds h small.1)
+pub downs_short : (lbfs : ℕ) (ds : List Down) → AllTolds (ToldFits lbfs) (tolds_in ds) → AllByRecursion DownFits ds → All (λ r. length r ≤ 131072) (map message_spell (map down_message ds))
+downs_short lbfs [] h small = All-nil (λ r. length r ≤ 131072)
+downs_short lbfs (Tells t ∷ ds) h small = All-cons (λ r. length r ≤ 131072) (down_bytes (Tells t)) (map message_spell (map down_message ds)) (fits_short (told_message t) h.0.0) (downs_short lbfs ds h.1 small.1)
+downs_short lbfs (Recalls xid file ∷ ds) h small = All-cons (λ r. length r ≤ 131072) (down_bytes (Recalls xid file)) (map message_spell (map down_message ds)) (fits_short (recall_message xid file) (recall_fits xid file small.0.0)) (downs_short lbfs ds h small.1)
 
 -- a queue's bytes, cut anywhere, are still behind what its end has
 cut_whole : (rest queue bytes : List ℕ) (count : ℕ) → rest ++ queue ≡ bytes → rest ++ (take count queue ++ drop count queue) ≡ bytes
@@ -219,7 +219,7 @@ down_stands P l carried all past rest w n count now split h = by (numbered w.wir
         let c = h.carry.1 n q m at there.1 in
         let r = fed q.client_end (take count q.down) in
         let whole = cut_whole q.client_end.rest q.down (bytes_of (map down_message m.downs)) count c.down in
-        let comes = streams_come q.client_end (take count q.down) (drop count q.down) (map message_spell (map down_message m.downs)) (downs_short m.downs session.downs_fit mix.downs) c.down_sound whole in
+        let comes = streams_come q.client_end (take count q.down) (drop count q.down) (map message_spell (map down_message m.downs)) (downs_short w.core.lbfs m.downs session.downs_fit mix.downs) c.down_sound whole in
         let p = parted down_bytes m.downs r.1.records comes.left (came_of down_message m.downs r.1.records comes.left comes.all) in
         let carries : Carries (record q { down = drop count q.down; client_end = r.0 }) (record m { downs = p.behind }) = record {
           up_sound = c.up_sound;

@@ -40,14 +40,15 @@ noted_of all past rest opening k e split = record {
 
 -- ---- the book that an event leads to is that of what it leaves
 
-same_book : (more : Book) (opening : List Opening) (k : Core) (all : List Moment) → more.opening ≡ opening → more.ops ≡ k.ops → more.steps ≡ k.steps → more.journal ≡ k.server.journal → more.entries ≡ k.entries → more.moments ≡ all → more ≡ book_at opening k all
-same_book more opening k all o p s j e m =
-    ap (λ (z : List Opening). record more { opening = z }) o
-    ∙ ap (λ (z : List Op). record { opening = opening; ops = z; steps = more.steps; journal = more.journal; entries = more.entries; moments = more.moments }) p
-    ∙ ap (λ (z : ℕ). record { opening = opening; ops = k.ops; steps = z; journal = more.journal; entries = more.entries; moments = more.moments }) s
-    ∙ ap (λ (z : List Entry). record { opening = opening; ops = k.ops; steps = k.steps; journal = z; entries = more.entries; moments = more.moments }) j
-    ∙ ap (λ (z : List ℕ). record { opening = opening; ops = k.ops; steps = k.steps; journal = k.server.journal; entries = z; moments = more.moments }) e
-    ∙ ap (λ (z : List Moment). record { opening = opening; ops = k.ops; steps = k.steps; journal = k.server.journal; entries = k.entries; moments = z }) m
+same_book : (more : Book) (opening : List Opening) (k : Core) (all : List Moment) → more.lbfs ≡ k.lbfs → more.opening ≡ opening → more.ops ≡ k.ops → more.steps ≡ k.steps → more.journal ≡ k.server.journal → more.entries ≡ k.entries → more.moments ≡ all → more ≡ book_at opening k all
+same_book more opening k all v o p s j e m =
+    ap (λ (z : ℕ). record more { lbfs = z }) v
+    ∙ ap (λ (z : List Opening). record more { lbfs = k.lbfs; opening = z }) o
+    ∙ ap (λ (z : List Op). record { lbfs = k.lbfs; opening = opening; ops = z; steps = more.steps; journal = more.journal; entries = more.entries; moments = more.moments }) p
+    ∙ ap (λ (z : ℕ). record { lbfs = k.lbfs; opening = opening; ops = k.ops; steps = z; journal = more.journal; entries = more.entries; moments = more.moments }) s
+    ∙ ap (λ (z : List Entry). record { lbfs = k.lbfs; opening = opening; ops = k.ops; steps = k.steps; journal = z; entries = more.entries; moments = more.moments }) j
+    ∙ ap (λ (z : List ℕ). record { lbfs = k.lbfs; opening = opening; ops = k.ops; steps = k.steps; journal = k.server.journal; entries = z; moments = more.moments }) e
+    ∙ ap (λ (z : List Moment). record { lbfs = k.lbfs; opening = opening; ops = k.ops; steps = k.steps; journal = k.server.journal; entries = k.entries; moments = z }) m
 
 -- ---- any event
 
@@ -95,7 +96,7 @@ left_by P l carried all past rest opening k ms e mid split fit kept early found 
     let book = kept_wider (book_at opening k past) now k (map queue_of ms) (wider_more past (moment k e ∷ [])) (alike_of now all within kept.sound.alike) early in
     let finds : Finds k (map queue_of ms) e (map queue_of mid) = finds_plain k ms e mid kept.made.1 fit found in
     let lead = leads_of l (book_at opening k now) k (map queue_of ms) e (map queue_of mid) book finds (noted_of now past [] opening k e refl) in
-    let same : lead.more ≡ book_at opening t.core now = same_book lead.more opening t.core now lead.opening lead.kept.ops lead.kept.steps lead.kept.journal lead.kept.entries lead.moments in
+    let same : lead.more ≡ book_at opening t.core now = same_book lead.more opening t.core now lead.kept.lbfs lead.opening lead.kept.ops lead.kept.steps lead.kept.journal lead.kept.entries lead.moments in
     let after : List Mix = mixes_after mid t lead.sends in
     let plain : map queue_of after ≡ queues_after (map queue_of mid) t lead.sends = after_plain mid t lead.sends in
     let left_early = subst (λ (qs : List Queue). IsKept (book_at opening t.core now) t.core qs) (sym plain) (subst (λ (b : Book). IsKept b t.core (queues_after (map queue_of mid) t lead.sends)) same lead.kept) in

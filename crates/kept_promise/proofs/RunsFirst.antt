@@ -143,20 +143,21 @@ no_numbered : {A B : Type 0} (n : ℕ) (x : A) → numbered [] n ≡ Some x → 
 no_numbered zero x e = nothing_there x e
 no_numbered (suc k) x e = nothing_there x e
 
-all_new : (drift count i : ℕ) (seat : Seat) → numbered (replicate count (new_seat drift)) i ≡ Some seat → seat ≡ new_seat drift
-all_new drift count zero seat e = nothing_there seat e
-all_new drift count (suc k) seat e = by count k e
+all_new : (drift lbfs count i : ℕ) (seat : Seat) → numbered (replicate count (new_seat drift lbfs)) i ≡ Some seat → seat ≡ new_seat drift lbfs
+all_new drift lbfs count zero seat e = nothing_there seat e
+all_new drift lbfs count (suc k) seat e = by count k e
   where
-    by : (count k : ℕ) → slice_get (replicate count (new_seat drift)) k ≡ Some seat → seat ≡ new_seat drift
+    by : (count k : ℕ) → slice_get (replicate count (new_seat drift lbfs)) k ≡ Some seat → seat ≡ new_seat drift lbfs
     by zero k e = nothing_there seat e
-    by (suc count) zero e = sym (some_is (new_seat drift) seat e)
+    by (suc count) zero e = sym (some_is (new_seat drift lbfs) seat e)
     by (suc count) (suc k) e = by count k e
 
-seat_first : (book : Book) (drift i : ℕ) → IsSeat book [] i (new_seat drift)
+seat_first : (book : Book) (drift i : ℕ) → IsSeat book [] i (new_seat drift book.lbfs)
 seat_first book drift i = record {
   session = λ n e. nothing_there n e;
   linked = λ e. absurd (by e);
   unlinked = λ e. (refl, refl);
+  speaks = refl;
   matched = inl (refl, refl);
   task = λ j e. nothing_there j e;
   trying = λ j n x e. nothing_there j e;
@@ -183,6 +184,7 @@ server_first opening tree count all t = record {
   targets = λ i c e. no_element i c e;
   xids = λ i c e. no_element i c e;
   leases = count.term_fits;
+  serves = count.lbfs_fits;
 }
   where
     held : (f : ℕ) (x : Option File) → IsOpening opening f x → FileIs (book_at opening (first_core tree count) all) f x
@@ -191,6 +193,7 @@ server_first opening tree count all t = record {
 
 pub kept_first : (opening : List Opening) (tree : Tree) (count : Header) (all : List Moment) → AreAlike all → IsTree opening tree → IsKept (book_at opening (first_core tree count) all) (first_core tree count) []
 kept_first opening tree count all alike t = record {
+  lbfs = refl;
   ops = refl;
   steps = refl;
   journal = refl;
@@ -205,7 +208,7 @@ kept_first opening tree count all alike t = record {
   server = server_first opening tree count all t;
   made = (refl, refl);
   sessions = λ n x q e f. no_numbered n x e;
-  seats = λ i seat e. subst (IsSeat (book_at opening (first_core tree count) all) [] i) (sym (all_new count.drift count.count i seat e)) (seat_first (book_at opening (first_core tree count) all) count.drift i);
+  seats = λ i seat e. subst (IsSeat (book_at opening (first_core tree count) all) [] i) (sym (all_new count.drift count.lbfs count.count i seat e)) (seat_first (book_at opening (first_core tree count) all) count.drift i);
   running = λ p o e f. no_element p o e;
   closings = λ m n p x y e f g h. no_numbered m x e;
   home = λ i c e. no_element i c e;

@@ -7,9 +7,11 @@ use Rattle.command_text.specs.Parts.{words_of}
 use Rattle.command_text.specs.Paths.{spot_of}
 use Rattle.command_text.specs.declared.command.Command.TheVariants as command
 use Rattle.command_text.specs.declared.path.Spot.{Spot}
-use Rattle.trace_text.specs.Fields.{reading_of, amount_of, who_of, key_of}
+use Rattle.trace_text.specs.Fields.{lbfs_of, reading_of, amount_of, who_of, key_of}
 use Rattle.trace_text.specs.Grammar.{version_of, term_of, drift_of, clients_of, dir_of, file_of, join_of, do_of, up_of, down_of, pass_of, settle_of, cut_of, hang_of, forge_of, clear_of, evict_of, warm_of, event_from, line_from, said_by, is_skipped}
 use Rattle.trace_text.specs.declared.line.Line.TheVariants as line
+use Rattle.trace_text.specs.declared.line.TheConstants.{LBFS_TRACED}
+use Rattle.kept_promise.proofs.Statements.{IsSpoken}
 use Rattle.trace_ends.specs.declared.adjusting.Adjustment.TheVariants as adjustment
 use Rattle.trace_replay.specs.declared.stage.Stage.{Stage}
 use Rattle.trace_replay.specs.declared.stage.Stage.TheVariants as stage
@@ -97,6 +99,7 @@ command_small word words =
 
 abbrev pub LineFits : Line → Type 0
 LineFits (line.Do c r d) = IsPlain d
+LineFits (line.Version n) = IsSpoken n
 LineFits (line.Term n) = n < 4294967296
 LineFits l = Unit {0}
 
@@ -105,8 +108,17 @@ do_fits (client ∷ at ∷ word ∷ words) =
     gives_then LineFits (number_of client) _ (λ c. gives_then LineFits (reading_of at) _ (λ a. gives_after IsPlain LineFits (command_of word words) _ (command_small word words) (λ d h. gives_some LineFits (line.Do c a d) h)))
 do_fits _ = gives_none LineFits
 
+-- a version of which there are traces is one that is served
+spoken_within : (word : List ℕ) → Gives IsSpoken (lbfs_of word)
+spoken_within word = gives_then IsSpoken (number_of word) _ (λ n. by n (nat_le 1 n) (nat_le n LBFS_TRACED) refl refl)
+  where
+    by : (n : ℕ) (a b : Bool) → nat_le 1 n ≡ a → nat_le n LBFS_TRACED ≡ b → Gives IsSpoken (if a && b then Some n else None)
+    by n true true least most = gives_some IsSpoken n (record { least = grind (arith, nat_tests, least); most = grind (arith, nat_tests, most) })
+    by n true false least most = gives_none IsSpoken
+    by n false b least most = gives_none IsSpoken
+
 version_fits : (words : List (List ℕ)) → Gives LineFits (version_of words)
-version_fits (v ∷ []) = gives_if LineFits (bytes_eq v (codes "1")) _ _ (gives_some LineFits line.Version tt) (gives_none LineFits)
+version_fits (v ∷ []) = gives_after IsSpoken LineFits (lbfs_of v) _ (spoken_within v) (λ n h. gives_some LineFits (line.Version n) h)
 version_fits _ = gives_none LineFits
 
 -- a number up to a limit below 2^32
@@ -235,7 +247,7 @@ MayOpen w dir name content = IsFree w dir name × (content_length content ≤ 67
 
 -- what a turn finds
 abbrev pub Allows : World → Turn → Type 0
-Allows w (turn.At s) = w.stage ≡ stage.Version
+Allows w (turn.Version n) = (w.stage ≡ stage.Version) × IsSpoken n
 Allows w (turn.Term n) = (w.stage ≡ stage.Term) × (n < 4294967296)
 Allows w (turn.Drift n) = w.stage ≡ stage.Drift
 Allows w (turn.Clients n) = is_early w.stage ≡ true
@@ -315,7 +327,7 @@ file_on w spot content (Some dir) t early at e = by (nat_lt file_most (content_l
     by _ _ is all e = refused_line _ t e
 
 at_stage : (w : World) (s : Stage) (l : Line) (t : Turn) → w.stage ≡ s → LineFits l → asks_at w s l ≡ asking t → Allows w t
-at_stage w stage.Version line.Version t at fits e = goes w (turn.At stage.Term) t e at
+at_stage w stage.Version (line.Version n) t at fits e = goes w (turn.Version n) t e (at, fits)
 at_stage w stage.Term (line.Term n) t at fits e = goes w (turn.Term n) t e (at, fits)
 at_stage w stage.Drift (line.Drift n) t at fits e = goes w (turn.Drift n) t e at
 at_stage w stage.Clients (line.Clients n) t at fits e = goes w (turn.Clients n) t e (ap is_early at)

@@ -31,7 +31,6 @@ use Rattle.path_calls.specs.declared.walk.Goal.{Goal}
 use Rattle.path_calls.specs.declared.walk.Goal.TheVariants as goal
 use Rattle.kept_promise.specs.Talk.{reply_body}
 use Rattle.wire.specs.Message.{FitsIn}
-use Rattle.wire.specs.declared.message.TheConstants.{LBFS_SPOKEN}
 
 -- ---- the numbers of RECALLs
 
@@ -108,7 +107,7 @@ of_one_turn a b h = (sym h.0, sym h.1)
 asked_is : (a : Ask) → (is_call (ask_message a) ≡ true) × (xid_of (ask_message a) ≡ a.xid)
 asked_is a = by a.call
   where
-    by : (c : Call) → (is_call (call_message a.xid c) ≡ true) × (xid_of (call_message a.xid c) ≡ a.xid)
+    by : (c : Call) → (is_call (call_message a.lbfs a.xid c) ≡ true) × (xid_of (call_message a.lbfs a.xid c) ≡ a.xid)
     by (Lease f) = (refl, refl)
     by _ = (refl, refl)
 
@@ -152,11 +151,11 @@ of_up [] i m at = nothing_there m at
 of_up (u ∷ us) zero m at = (u, refl, some_is (up_message u) m at)
 of_up (u ∷ us) (suc i) m at = of_up us i m at
 
-ups_read : FitLaws → (k : Core) (n : ℕ) (us : List Up) → AllAsks (λ a. CallFits a.xid a.call) (asks_in us) → AllByRecursion UpFits us → AllByRecursion (UpWaits (server_waits k n).calls) us → All (IsRead (server_waits k n)) (map up_message us)
+ups_read : FitLaws → (k : Core) (n : ℕ) (us : List Up) → AllAsks (λ a. CallFits a.lbfs a.xid a.call) (asks_in us) → AllByRecursion UpFits us → AllByRecursion (UpWaits (server_waits k n).calls) us → All (IsRead (server_waits k n)) (map up_message us)
 ups_read fits k n [] h small waits = All-nil (IsRead (server_waits k n))
 ups_read fits k n (Asks a ∷ us) h small waits =
-    let c = fits.calls a.xid a.call h.0 in
-    All-cons (IsRead (server_waits k n)) (ask_message a) (map up_message us) (c.0, fits.again (server_waits k n) (ask_message a) c.0.0 (ask_expected k n a.xid a.call c.1)) (ups_read fits k n us h.1 small.1 waits.1)
+    let c = fits.calls a.lbfs a.xid a.call h.0 in
+    All-cons (IsRead (server_waits k n)) (ask_message a) (map up_message us) (c.0, fits.again (server_waits k n) (ask_message a) c.0.0 (ask_expected k n a.lbfs a.xid a.call c.1)) (ups_read fits k n us h.1 small.1 waits.1)
 ups_read fits k n (Replies x ∷ us) h small waits =
     let m = reply_fits x small.0 in
     All-cons (IsRead (server_waits k n)) (reply_message x) (map up_message us) (m, fits.again (server_waits k n) (reply_message x) m.0 (waits.0, tt)) (ups_read fits k n us h small.1 waits.1)
@@ -178,7 +177,7 @@ ups_done : (waits : List Pending) (us : List Up) → AllByRecursion (UpWaits wai
 ups_done waits [] h = All-nil (IsServed waits)
 ups_done waits (Asks a ∷ us) h = All-cons (IsServed waits) (ask_message a) (map up_message us) (by a.call) (ups_done waits us h.1)
   where
-    by : (c : Call) → IsServed waits (call_message a.xid c)
+    by : (c : Call) → IsServed waits (call_message a.lbfs a.xid c)
     by (Walks w) = served_at waits a.xid w.dir w.left w.goal
     by _ = tt
 ups_done waits (Replies x ∷ us) h = All-cons (IsServed waits) (reply_message x) (map up_message us) (has_waiting waits x recall_program h.0) (ups_done waits us h.1)
@@ -222,7 +221,7 @@ of_down [] i m at = nothing_there m at
 of_down (d ∷ ds) zero m at = (d, refl, some_is (down_message d) m at)
 of_down (d ∷ ds) (suc i) m at = of_down ds i m at
 
-downs_read : FitLaws → (c : State) (ds : List Down) → AllTolds (λ t. ToldFits t) (tolds_in ds) → AllByRecursion DownFits ds → ((i : ℕ) (t : Told) → slice_get (tolds_in ds) i ≡ Some t → FitsIn LBFS_SPOKEN (reply_body t.reply) → IsExpected (waiting_of c) (told_message t)) → All (IsRead (waiting_of c)) (map down_message ds)
+downs_read : FitLaws → (c : State) (ds : List Down) → AllTolds (ToldFits c.lbfs) (tolds_in ds) → AllByRecursion DownFits ds → ((i : ℕ) (t : Told) → slice_get (tolds_in ds) i ≡ Some t → FitsIn c.lbfs (reply_body t.reply) → IsExpected (waiting_of c) (told_message t)) → All (IsRead (waiting_of c)) (map down_message ds)
 downs_read fits c [] h small waits = All-nil (IsRead (waiting_of c))
 downs_read fits c (Tells t ∷ ds) h small waits =
     All-cons (IsRead (waiting_of c)) (told_message t) (map down_message ds) (h.0.0, fits.again (waiting_of c) (told_message t) h.0.0.0 (waits zero t refl h.0.1)) (downs_read fits c ds h.1 small.1 (λ i u at. waits (suc i) u at))
@@ -280,7 +279,7 @@ holds_messages P fits all past w h counted number q at =
     -- a session that was cut has nothing on its way down
     downs : (x : Session) (m : Mix) → (s : IsSession (book_of w all) w.core.seats w.core.server number x (queue_of m)) → IsMix x m → (b : Bool) → x.cut ≡ b → All (IsRead (waiting_of s.seat.client)) (map down_message m.downs)
     downs x m s mix true cut = subst (λ (ds : List Down). All (IsRead (waiting_of s.seat.client)) (map down_message ds)) (sym (mix.shut cut)) (All-nil (IsRead (waiting_of s.seat.client)))
-    downs x m s mix false uncut = downs_read fits s.seat.client m.downs s.downs_fit mix.downs (λ i t there layout. expected number w.core.server.waiting (queue_of m) x.hung s.seat.client i t (s.talk uncut).balanced there layout)
+    downs x m s mix false uncut = downs_read fits s.seat.client m.downs (subst (λ (v : ℕ). AllTolds (ToldFits v) (tolds_in m.downs)) (sym (h.kept.seats x.owner s.seat s.owner).speaks) s.downs_fit) mix.downs (λ i t there layout. expected number w.core.server.waiting (queue_of m) x.hung s.seat.client i t (s.talk uncut).balanced there layout)
 
     answers : (x : Session) (m : Mix) → (s : IsSession (book_of w all) w.core.seats w.core.server number x (queue_of m)) → IsMix x m → (b : Bool) → x.cut ≡ b → All (IsAnswered (calls_of s.seat.client)) (map down_message m.downs)
     answers x m s mix true cut = subst (λ (ds : List Down). All (IsAnswered (calls_of s.seat.client)) (map down_message ds)) (sym (mix.shut cut)) (All-nil (IsAnswered (calls_of s.seat.client)))

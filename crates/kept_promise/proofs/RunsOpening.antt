@@ -71,7 +71,7 @@ next_stays next w h = let is = h.1 in (h.0, omega (arith, is))
 
 next_turned : (next : ℕ) (w : World) (t : Turn) → Allows w t → HasNext next w → HasNext (next + count_added t) (turned w t)
 next_turned next w turn.Skip f h = λ early. next_stays next w (h early)
-next_turned next w (turn.At s) f h = λ early. next_stays next w (h (ap is_early f))
+next_turned next w (turn.Version n) f h = λ early. next_stays next w (h (ap is_early f.0))
 next_turned next w (turn.Term m) f h = λ early. next_stays next w (h (ap is_early f.0))
 next_turned next w (turn.Drift m) f h = λ early. next_stays next w (h (ap is_early f))
 next_turned next w (turn.Clients m) f h = λ early. next_stays next w (h f)

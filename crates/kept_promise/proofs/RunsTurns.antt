@@ -3,8 +3,9 @@ use Rattle.std.proofs.Common.{◌≡◌, ℕ, zero, suc, ◌+◌, ◌<◌, ◌�
 use Rattle.trace_replay.specs.declared.stage.Stage.{Stage}
 use Rattle.trace_replay.specs.declared.stage.Stage.TheVariants as stage
 use Rattle.trace_replay.specs.declared.turn.Turn.TheVariants as turn
-use Rattle.trace_replay.specs.Run.{with_file, with_directory, with_clients, with_leases, with_drift, in_header}
+use Rattle.trace_replay.specs.Run.{with_file, with_directory, with_clients, with_version, with_leases, with_drift, in_header}
 use Rattle.server_core.specs.State.{with_term}
+use Rattle.kept_promise.proofs.Statements.{IsSpoken}
 use Rattle.kept_promise.proofs.Common.{nat_tests, nat_lt, ◌&&◌, content_bytes, Part, content_size, Turn, Queue, queue_of, Core, new_seat, Session, Event.Joins, Event.Does, Event.Settles, Event.Cuts, Event.Hangs, numbered, World, adjusts, Wire, up_length, down_length, at_events, count_of, turned, owners_of, Moment, turn_moments, Tree, can_open}
 use Rattle.kept_promise.proofs.Lists.{nothing_there, count_more}
 use Rattle.trace_ends.specs.declared.adjusting.Adjustment.{Adjustment}
@@ -35,7 +36,7 @@ pub record IsFirst (n : ℕ) (w : World) (past : List Moment) : Type 0 where
   pub tree : Tree
   pub count : Header
   pub core_is : w.core ≡ first_core tree count
-  -- the term and the drift are told before the clients are counted
+  -- the version, the term and the drift are told before the clients are counted
   pub bare : in_header w.stage ≡ true → count.count ≡ 0
   pub wires_is : w.wires ≡ []
   pub is_tree : IsTree w.opening tree
@@ -125,7 +126,7 @@ clients_first : (n m : ℕ) (w : World) (past : List Moment) → IsFirst n w pas
 clients_first n m w past f = record {
   tree = f.tree;
   count = record f.count { count = m };
-  core_is = ap (λ (k : Core). record k { seats = replicate m (new_seat k.drift) }) f.core_is;
+  core_is = ap (λ (k : Core). record k { seats = replicate m (new_seat k.drift k.lbfs) }) f.core_is;
   bare = λ header. absurd (files header);
   wires_is = f.wires_is;
   is_tree = f.is_tree;
@@ -153,8 +154,27 @@ term_first n m w past small at f = record {
 -- where there are no clients yet the drift is nobody's
 bare_core : (tree : Tree) (h : Header) (m : ℕ) → h.count ≡ 0 → record (first_core tree h) { drift = m } ≡ first_core tree (record h { drift = m })
 bare_core tree h m none =
-    ap (λ (c : ℕ). record (first_core tree h) { drift = m; seats = replicate c (new_seat h.drift) }) none
-    ∙ sym (ap (λ (c : ℕ). record (first_core tree h) { drift = m; seats = replicate c (new_seat m) }) none)
+    ap (λ (c : ℕ). record (first_core tree h) { drift = m; seats = replicate c (new_seat h.drift h.lbfs) }) none
+    ∙ sym (ap (λ (c : ℕ). record (first_core tree h) { drift = m; seats = replicate c (new_seat m h.lbfs) }) none)
+
+-- nor is the version
+bare_version : (tree : Tree) (h : Header) (m : ℕ) (spoken : IsSpoken m) → h.count ≡ 0 → record (first_core tree h) { lbfs = m } ≡ first_core tree (record h { lbfs = m; lbfs_fits = spoken })
+bare_version tree h m spoken none =
+    ap (λ (c : ℕ). record (first_core tree h) { lbfs = m; seats = replicate c (new_seat h.drift h.lbfs) }) none
+    ∙ sym (ap (λ (c : ℕ). record (first_core tree h) { lbfs = m; seats = replicate c (new_seat h.drift m) }) none)
+
+version_first : (n m : ℕ) (w : World) (past : List Moment) → IsSpoken m → w.stage ≡ stage.Version → IsFirst n w past → IsFirst (n + 1) (with_version w m) (past ++ [])
+version_first n m w past spoken at f = record {
+  tree = f.tree;
+  count = record f.count { lbfs = m; lbfs_fits = spoken };
+  core_is = ap (λ (k : Core). record k { lbfs = m }) f.core_is ∙ bare_version f.tree f.count m spoken (f.bare (ap in_header at));
+  bare = λ header. f.bare (ap in_header at);
+  wires_is = f.wires_is;
+  is_tree = f.is_tree;
+  size = f.size;
+  past_is = no_more past ∙ f.past_is;
+  few = let e = f.few in omega (arith, e);
+}
 
 drift_first : (n m : ℕ) (w : World) (past : List Moment) → w.stage ≡ stage.Drift → IsFirst n w past → IsFirst (n + 1) (with_drift w m) (past ++ [])
 drift_first n m w past at f = record {
@@ -222,7 +242,7 @@ not_early s e early = absurd (by (sym (ap is_early e) ∙ early))
 
 first_turned : (n : ℕ) (w : World) (t : Turn) (past : List Moment) → MayTurn w t → n ≤ 65536 → Allows w t → (is_early w.stage ≡ true → IsFirst n w past) → is_early (turned w t).stage ≡ true → IsFirst (n + 1) (turned w t) (past ++ turn_moments w t)
 first_turned n w turn.Skip past may le f h early = stage_first n w w.stage past (λ e. e) (h early)
-first_turned n w (turn.At s) past may le f h early = stage_first n w s past (λ e. ap in_header f) (h (ap is_early f))
+first_turned n w (turn.Version m) past may le f h early = version_first n m w past f.1 f.0 (h (ap is_early f.0))
 first_turned n w (turn.Term m) past may le f h early = term_first n m w past f.1 f.0 (h (ap is_early f.0))
 first_turned n w (turn.Drift m) past may le f h early = drift_first n m w past f (h (ap is_early f))
 first_turned n w (turn.Clients m) past may le f h early = clients_first n m w past (h f)
@@ -259,7 +279,7 @@ adjusted_stands P carried all past w a h =
 
 stands_turned : (P : MixFact) → KeptLaws → FitLaws → CarriedMix P → (n : ℕ) (all past rest : List Moment) (w : World) (t : Turn) → n ≤ 65536 → Allows w t → Before P n all past w → all ≡ past ++ (turn_moments w t ++ rest) → Stands P all (past ++ turn_moments w t) (turned w t)
 stands_turned P l fits carried n all past rest w turn.Skip le f h split = idle_stands P all past w h.stands
-stands_turned P l fits carried n all past rest w (turn.At s) le f h split = idle_stands P all past (record w { stage = s }) (same_stands P all past w s h.stands)
+stands_turned P l fits carried n all past rest w (turn.Version m) le f h split = first_stands P carried (n + 1) all (past ++ []) (with_version w m) h.stands.kept.sound.alike (version_first n m w past f.1 f.0 (h.first (ap is_early f.0)))
 stands_turned P l fits carried n all past rest w (turn.Term m) le f h split = first_stands P carried (n + 1) all (past ++ []) (with_leases w m) h.stands.kept.sound.alike (term_first n m w past f.1 f.0 (h.first (ap is_early f.0)))
 stands_turned P l fits carried n all past rest w (turn.Drift m) le f h split = first_stands P carried (n + 1) all (past ++ []) (with_drift w m) h.stands.kept.sound.alike (drift_first n m w past f (h.first (ap is_early f)))
 stands_turned P l fits carried n all past rest w (turn.Clients m) le f h split = first_stands P carried (n + 1) all (past ++ []) (with_clients w m) h.stands.kept.sound.alike (clients_first n m w past (h.first f))

@@ -112,7 +112,7 @@ was_sent fits all past rest opening k qs mid n now bytes split kept finds sent s
     call : ask_message f.1 ≡ name_call xid a
     call =
         let x = also_numbered qs k.sessions n f.0 (sym kept.made.1) f.3 in
-        let fit = (subst (AllAsks (λ u. CallFits u.xid u.call)) f.4 (kept.sessions n x.0 f.0 x.1 f.3).ups_fit).0 in
+        let fit = (subst (AllAsks (λ u. CallFits u.lbfs u.xid u.call)) f.4 (kept.sessions n x.0 f.0 x.1 f.3).ups_fit).0 in
         same_read (parse_of server_waiting bytes) (ask_message f.1) (name_call xid a) (ap (parse_of server_waiting) f.5 ∙ parsed fits f.1 fit) (ap (parse_of server_waiting) (bytes_are n session now w.now bytes w.bytes w.event_is) ∙ w.call_is)
 
 not_served : (all : List Moment) (k : Core) (e : Event) → ((n i : ℕ) (b : List ℕ) → e ≡ Serves n i b → ⊥) → AreSent all (moment k e)
@@ -185,38 +185,42 @@ are_told fits all past rest opening k qs mid n now bytes split kept h sent asked
 
 -- ---- a client is told to open a file
 
-opens_first : (s : client.State) (file : ℕ) → ((opens s file s.task).1.send ≡ []) ⊎ ((xid : ℕ) × ((opens s file s.task).1.send ≡ first_call xid file (content_of s.cache file) ∷ []))
+opens_first : (s : client.State) (file : ℕ) → ((opens s file s.task).1.send ≡ []) ⊎ ((xid : ℕ) × ((opens s file s.task).1.send ≡ first_call s.lbfs xid file (content_of s.cache file) ∷ []))
 opens_first s file = by s.task
   where
-    kept : (o : Option Content) → ((xid : ℕ) × ((asks_kept (record s { cache = reserved s.cache file }) file o).1.send ≡ first_call xid file o ∷ []))
+    kept : (o : Option Content) → ((xid : ℕ) × ((asks_kept (record s { cache = reserved s.cache file }) file o).1.send ≡ first_call s.lbfs xid file o ∷ []))
     kept None = (s.next_xid, refl)
     kept (Some c) = (s.next_xid, refl)
 
-    asks : (b : Bool) → ((asks_file s file b).1.send ≡ []) ⊎ ((xid : ℕ) × ((asks_file s file b).1.send ≡ first_call xid file (content_of s.cache file) ∷ []))
+    asks : (b : Bool) → ((asks_file s file b).1.send ≡ []) ⊎ ((xid : ℕ) × ((asks_file s file b).1.send ≡ first_call s.lbfs xid file (content_of s.cache file) ∷ []))
     asks false = inl refl
     asks true = inr (kept (content_of s.cache file))
 
-    fresh : (o : Option Content) → ((opens_kept s file o).1.send ≡ []) ⊎ ((xid : ℕ) × ((opens_kept s file o).1.send ≡ first_call xid file (content_of s.cache file) ∷ []))
+    fresh : (o : Option Content) → ((opens_kept s file o).1.send ≡ []) ⊎ ((xid : ℕ) × ((opens_kept s file o).1.send ≡ first_call s.lbfs xid file (content_of s.cache file) ∷ []))
     fresh None = asks (may_ask s)
     fresh (Some c) = inl refl
 
-    shut : (b : Bool) → ((opens_if s file b).1.send ≡ []) ⊎ ((xid : ℕ) × ((opens_if s file b).1.send ≡ first_call xid file (content_of s.cache file) ∷ []))
+    shut : (b : Bool) → ((opens_if s file b).1.send ≡ []) ⊎ ((xid : ℕ) × ((opens_if s file b).1.send ≡ first_call s.lbfs xid file (content_of s.cache file) ∷ []))
     shut true = inl refl
     shut false = fresh (fresh_content s.cache file s.clock)
 
-    by : (t : Option Task) → ((opens s file t).1.send ≡ []) ⊎ ((xid : ℕ) × ((opens s file t).1.send ≡ first_call xid file (content_of s.cache file) ∷ []))
+    by : (t : Option Task) → ((opens s file t).1.send ≡ []) ⊎ ((xid : ℕ) × ((opens s file t).1.send ≡ first_call s.lbfs xid file (content_of s.cache file) ∷ []))
     by (Some t) = inl refl
     by None = shut (is_open s.opened file)
 
-asks_first : (s : client.State) (file now : ℕ) → ((command_step s (command.Open file) now).1.send ≡ []) ⊎ ((xid : ℕ) × ((command_step s (command.Open file) now).1.send ≡ first_call xid file (content_of s.cache file) ∷ []))
+asks_first : (s : client.State) (file now : ℕ) → ((command_step s (command.Open file) now).1.send ≡ []) ⊎ ((xid : ℕ) × ((command_step s (command.Open file) now).1.send ≡ first_call s.lbfs xid file (content_of s.cache file) ∷ []))
 asks_first s file now = opens_first (at_clock s now) file
 
-first_asked : (k : Core) (c now : ℕ) (d : Command) → AsksFirst (moment k (Does c now d))
-first_asked k c now d client then file seat event here =
+-- each client speaks the version of its run
+abbrev AllSpeak : Core → Type 0
+AllSpeak k = (i : ℕ) (seat : Seat) → numbered k.seats i ≡ Some seat → seat.client.lbfs ≡ k.lbfs
+
+first_asked : (k : Core) (c now : ℕ) (d : Command) → AllSpeak k → AsksFirst (moment k (Does c now d))
+first_asked k c now d speak client then file seat event here =
     let c_is : c ≡ client = client_is c client now then d (command.Open file) event in
     let d_is : d ≡ command.Open file = command_is c client now then d (command.Open file) event in
     let up : (happens k (Does c now d)).up ≡ (command_step seat.client (command.Open file) now).1.send = ap (λ (o : Option Seat). (does k c now d o).up) (ap (numbered k.seats) c_is ∙ here) ∙ ap (λ z. (command_step seat.client z now).1.send) d_is in
-    elim (asks_first seat.client file now) [ inl none ↦ inl (up ∙ none) | inr asks ↦ inr (asks.0, up ∙ asks.1) ]
+    elim (asks_first seat.client file now) [ inl none ↦ inl (up ∙ none) | inr asks ↦ inr (asks.0, up ∙ asks.1 ∙ ap (λ (v : ℕ). first_call v asks.0 file (content_of seat.client.cache file) ∷ []) (speak client seat here)) ]
   where
     client_is : (a b i j : ℕ) (p q : Command) → Does a i p ≡ Does b j q → a ≡ b
     client_is a b i j p q e = cc
@@ -226,38 +230,38 @@ first_asked k c now d client then file seat event here =
 
 -- ---- a client is told to write a file anew
 
-rewrites_first : (s : client.State) (file : ℕ) → ((rewrites s file s.task).1.send ≡ []) ⊎ ((xid : ℕ) × ((rewrites s file s.task).1.send ≡ lease_call xid file ∷ []))
+rewrites_first : (s : client.State) (file : ℕ) → ((rewrites s file s.task).1.send ≡ []) ⊎ ((xid : ℕ) × ((rewrites s file s.task).1.send ≡ lease_call s.lbfs xid file ∷ []))
 rewrites_first s file = by s.task
   where
-    asks : (b : Bool) → ((asks_if s file b).1.send ≡ []) ⊎ ((xid : ℕ) × ((asks_if s file b).1.send ≡ lease_call xid file ∷ []))
+    asks : (b : Bool) → ((asks_if s file b).1.send ≡ []) ⊎ ((xid : ℕ) × ((asks_if s file b).1.send ≡ lease_call s.lbfs xid file ∷ []))
     asks false = inl refl
     asks true = inr (s.next_xid, refl)
 
-    fresh : (o : Option Content) → ((renews_kept s file o).1.send ≡ []) ⊎ ((xid : ℕ) × ((renews_kept s file o).1.send ≡ lease_call xid file ∷ []))
+    fresh : (o : Option Content) → ((renews_kept s file o).1.send ≡ []) ⊎ ((xid : ℕ) × ((renews_kept s file o).1.send ≡ lease_call s.lbfs xid file ∷ []))
     fresh None = asks (may_ask s)
     fresh (Some c) = inl refl
 
-    shut : (b : Bool) → ((rewrites_if s file b).1.send ≡ []) ⊎ ((xid : ℕ) × ((rewrites_if s file b).1.send ≡ lease_call xid file ∷ []))
+    shut : (b : Bool) → ((rewrites_if s file b).1.send ≡ []) ⊎ ((xid : ℕ) × ((rewrites_if s file b).1.send ≡ lease_call s.lbfs xid file ∷ []))
     shut true = inl refl
     shut false = fresh (fresh_content s.cache file s.clock)
 
-    by : (t : Option Task) → ((rewrites s file t).1.send ≡ []) ⊎ ((xid : ℕ) × ((rewrites s file t).1.send ≡ lease_call xid file ∷ []))
+    by : (t : Option Task) → ((rewrites s file t).1.send ≡ []) ⊎ ((xid : ℕ) × ((rewrites s file t).1.send ≡ lease_call s.lbfs xid file ∷ []))
     by (Some t) = inl refl
     by None = shut (is_open s.opened file)
 
-asks_anew : (s : client.State) (file now : ℕ) → ((command_step s (command.Rewrite file) now).1.send ≡ []) ⊎ ((xid : ℕ) × ((command_step s (command.Rewrite file) now).1.send ≡ lease_call xid file ∷ []))
+asks_anew : (s : client.State) (file now : ℕ) → ((command_step s (command.Rewrite file) now).1.send ≡ []) ⊎ ((xid : ℕ) × ((command_step s (command.Rewrite file) now).1.send ≡ lease_call s.lbfs xid file ∷ []))
 asks_anew s file now = rewrites_first (at_clock s now) file
 
-pub asks_version : (m : Moment) → AsksVersion m
-asks_version m client now file seat event here =
+asks_version : (m : Moment) → AllSpeak m.before → AsksVersion m
+asks_version m speak client now file seat event here =
     let up : (happens m.before m.event).up ≡ (command_step seat.client (command.Rewrite file) now).1.send = ap (λ (e : Event). (happens m.before e).up) event ∙ ap (λ (o : Option Seat). (does m.before client now (command.Rewrite file) o).up) here in
-    elim (asks_anew seat.client file now) [ inl none ↦ inl (up ∙ none) | inr asks ↦ inr (asks.0, up ∙ asks.1) ]
+    elim (asks_anew seat.client file now) [ inl none ↦ inl (up ∙ none) | inr asks ↦ inr (asks.0, up ∙ asks.1 ∙ ap (λ (v : ℕ). lease_call v asks.0 file ∷ []) (speak client seat here)) ]
 
 -- ---- a moment
 
 -- what is so of each
 abbrev Saves : List Moment → Moment → Type 0
-Saves all m = AnswersName m × AreTold all m × AsksFirst m × AsksFound m × AreSent all m
+Saves all m = AnswersName m × AreTold all m × AsksFirst m × AsksFound m × AreSent all m × AsksVersion m
 
 not_heard : (all : List Moment) (k : Core) (e : Event) → ((n i : ℕ) (b : List ℕ) → e ≡ Hears n i b → ⊥) → AreTold all (moment k e)
 not_heard all k e other session xid r (i, b, is, there) = absurd (other session i b is)
@@ -274,8 +278,11 @@ not_found : (k : Core) (e : Event) → taken_by k (client_of k e) e ≡ [] → A
 not_found k e none xid f seat here there = (let lt = (subst (λ (ms : List Message). Contains ms (found_told xid f)) none there).1 in absurd (omega (arith, lt)))
 
 saves : FitLaws → (all past rest : List Moment) (opening : List Opening) (k : Core) (qs : List Queue) (e : Event) (mid after : List Queue) → Step all past rest opening k qs e mid after → DownsSent past k.steps qs → UpsSent past k.steps qs → ((m : Moment) → Contains past m → AreSent all m) → Saves all (moment k e)
-saves fits all past rest opening k qs e mid after s sent ups before = (answers_name fits all opening k qs mid e s.kept s.finds, told e s, asked e, found e s, called e s)
+saves fits all past rest opening k qs e mid after s sent ups before = (answers_name fits all opening k qs mid e s.kept s.finds, told e s, asked e, found e s, called e s, asks_version (moment k e) speak)
   where
+    speak : AllSpeak k
+    speak = λ i seat at. (s.kept.seats i seat at).speaks
+
     told : (e : Event) → Step all past rest opening k qs e mid after → AreTold all (moment k e)
     told (Hears n now bytes) s = by s.finds
       where
@@ -285,7 +292,7 @@ saves fits all past rest opening k qs e mid after s sent ups before = (answers_n
     told e s = not_heard all k e (λ i j x is. absurd cc)
 
     asked : (e : Event) → AsksFirst (moment k e)
-    asked (Does c now d) = first_asked k c now d
+    asked (Does c now d) = first_asked k c now d speak
     asked e = not_done k e (λ i j x is. absurd cc)
 
     found : (e : Event) → Step all past rest opening k qs e mid after → AsksFound (moment k e)

@@ -68,14 +68,14 @@ reads_call cache index file k r h = reads_keep (λ q. AreCalls q.send) cache ind
     one q c (Some bytes) g = g
     one q c None g = calls_join q.send q.next_xid _ g
 
-names_call : (k : ℕ) (n : Names) → AreCalls n.send → AreCalls (names_more k n).send
-names_call k n h = names_keep (λ q. AreCalls q.send) (λ q c g at. calls_join q.send q.next_xid _ g) k n h
+names_call : (lbfs : ℕ) (k : ℕ) (n : Names) → AreCalls n.send → AreCalls (names_more lbfs k n).send
+names_call lbfs k n h = names_keep lbfs (λ q. AreCalls q.send) (λ q c g at. calls_join q.send q.next_xid _ g) k n h
 
 reads_sent : (s : client.State) (file : ℕ) (f : Fetch) → AreCalls (reads_of s file f).send
 reads_sent s file f = reads_call s.cache s.index file _ (reads_from f s.next_xid) refl
 
-names_sent : (s : client.State) (w : Store) → AreCalls (names_all w s.next_xid).send
-names_sent s w = names_call (calls_most - length w.under) (names_from w s.next_xid) refl
+names_sent : (s : client.State) (w : Store) → AreCalls (names_all s.lbfs w s.next_xid).send
+names_sent s w = names_call s.lbfs (calls_most - length w.under) (names_from w s.next_xid) refl
 
 takes_sent : (s : client.State) (calls : List Pending) (file : ℕ) (st : Stage) (x : ℕ) (b : Body) → IsOfFile st → Sent (takes s calls file st x b)
 takes_sent s calls file st x b known = takes_cases (λ found r. Sent r) s calls file st x b known (record {
@@ -88,7 +88,7 @@ takes_sent s calls file st x b known = takes_cases (λ found r. Sent r) s calls 
   reads = λ f bytes now here. reads_sent s file f;
   opens = λ f bytes now here. refl;
   names = λ w at known none is. names_sent s w;
-  commits = λ w at known none is. calls_join (names_all w s.next_xid).send (names_all w s.next_xid).next_xid _ (names_sent s w);
+  commits = λ w at known none is. calls_join (names_all s.lbfs w s.next_xid).send (names_all s.lbfs w s.next_xid).next_xid _ (names_sent s w);
   whole = λ old c k at unknown none found name chunk. refl;
 })
   where

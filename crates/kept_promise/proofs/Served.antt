@@ -26,17 +26,17 @@ got_by k n now x m b =
 abbrev did_by : Core → (n : ℕ) → Session → (xid : ℕ) → server.State × ServerStep → CoreStep
 did_by k n x xid r = record (quiet (record k { steps = k.steps + 1; server = r.0; sessions = with_numbered k.sessions n (record x { taken = x.taken ++ record { xid = xid; step = k.steps + 1 } ∷ [] }) })) { down = r.1.send }
 
-serve_call : FitLaws → (book : Book) (k : Core) (qs : List Queue) (n now : ℕ) (x : Session) (q : Queue) (xid : ℕ) (c : Call) (us : List Ask) → Given book k qs n now x q (record { xid = xid; call = c }) us → makes_call c ≡ false → Leads book (rest_of qs n q us) (got_by k n now x (ask_message (record { xid = xid; call = c })) true)
-serve_call laws book k qs n now x q xid (Lease f) us g none = serve_lease laws book k qs n now x q xid f us g
-serve_call laws book k qs n now x q xid (Hash f o) us g none = serve_hash laws book k qs n now x q xid f o us g
-serve_call laws book k qs n now x q xid (Read f d) us g none = serve_read laws book k qs n now x q xid f d us g
-serve_call laws book k qs n now x q xid (Make m f) us g none = serve_make laws book k qs n now x q xid m f us g
-serve_call laws book k qs n now x q xid (Name m d) us g none = serve_name laws book k qs n now x q xid m d us g
-serve_call laws book k qs n now x q xid (Send m start bytes) us g none = serve_send laws book k qs n now x q xid m start bytes us g
-serve_call laws book k qs n now x q xid (Commit m f size) us g none = serve_commit laws book k qs n now x q xid m f size us g
-serve_call laws book k qs n now x q xid (Walks w) us g none =
-    let fits = first_fits book k qs n now x q (record { xid = xid; call = Walks w }) us g in
-    subst (λ (r : server.State × ServerStep). Leads book (rest_of qs n q us) (did_by k n x xid r)) (sym (called_walk (at k.server now) n xid w fits.1 none)) (serve_walk laws book k qs n now x q xid w us g none)
+serve_call : FitLaws → (book : Book) (k : Core) (qs : List Queue) (n now : ℕ) (x : Session) (q : Queue) (lbfs xid : ℕ) (c : Call) (us : List Ask) → Given book k qs n now x q (record { lbfs = lbfs; xid = xid; call = c }) us → makes_call c ≡ false → Leads book (rest_of qs n q us) (got_by k n now x (ask_message (record { lbfs = lbfs; xid = xid; call = c })) true)
+serve_call laws book k qs n now x q lbfs xid (Lease f) us g none = serve_lease laws book k qs n now x q lbfs xid f us g
+serve_call laws book k qs n now x q lbfs xid (Hash f o) us g none = serve_hash laws book k qs n now x q lbfs xid f o us g
+serve_call laws book k qs n now x q lbfs xid (Read f d) us g none = serve_read laws book k qs n now x q lbfs xid f d us g
+serve_call laws book k qs n now x q lbfs xid (Make m f) us g none = serve_make laws book k qs n now x q lbfs xid m f us g
+serve_call laws book k qs n now x q lbfs xid (Name m d) us g none = serve_name laws book k qs n now x q lbfs xid m d us g
+serve_call laws book k qs n now x q lbfs xid (Send m start bytes) us g none = serve_send laws book k qs n now x q lbfs xid m start bytes us g
+serve_call laws book k qs n now x q lbfs xid (Commit m f size) us g none = serve_commit laws book k qs n now x q lbfs xid m f size us g
+serve_call laws book k qs n now x q lbfs xid (Walks w) us g none =
+    let fits = first_fits book k qs n now x q (record { lbfs = lbfs; xid = xid; call = Walks w }) us g in
+    subst (λ (r : server.State × ServerStep). Leads book (rest_of qs n q us) (did_by k n x xid r)) (sym (called_walk (at k.server now) n xid w fits.1 none)) (serve_walk laws book k qs n now x q lbfs xid w us g none)
 
 pub kept_serves : FitLaws → KeptServes
 kept_serves laws book k qs n now q a us kept is e noted = by (also_numbered qs k.sessions n q (sym kept.made.1) is)
@@ -59,7 +59,7 @@ kept_serves laws book k qs n now q a us kept is e noted = by (also_numbered qs k
         let standing : stands k.server n ≡ true = h.stands_is ∙ ap not g.unhung in
         let is_turned : happens k (Serves n now bytes) ≡ got_by k n now x (ask_message a) true =
         ap (serves k n now bytes) g.at ∙ ap (serves_if k n now x) (parsed_at laws k n a (first_fits book k qs n now x q a us g)) ∙ got_quiet k n now x (ask_message a) (is_of_files a (first_fits book k qs n now x q a us g) none) ∙ ap (got_by k n now x (ask_message a)) standing in
-        subst (Leads book (rest_of qs n q us)) (sym is_turned) (serve_call laws book k qs n now x q a.xid a.call us g none)
+        subst (Leads book (rest_of qs n q us)) (sym is_turned) (serve_call laws book k qs n now x q a.lbfs a.xid a.call us g none)
 
     by : (x : Session) × (numbered k.sessions n ≡ Some x) → Leads book (rest_of qs n q us) (happens k (Serves n now (message_spell (ask_message a))))
     by x = makes (makes_call a.call) refl
@@ -71,4 +71,4 @@ kept_serves laws book k qs n now q a us kept is e noted = by (also_numbered qs k
         makes false none = plain x.0 g none
         makes true some =
             let w = walk_made a.call some in
-            subst (λ (c : Call). Given book k qs n now x.0 q (record { xid = a.xid; call = c }) us → Leads book (rest_of qs n q us) (happens k (Serves n now (message_spell (ask_message (record { xid = a.xid; call = c })))))) (sym w.1) (λ given_. elim (making_is w.0.left w.0.goal w.2) [ inl builds ↦ serve_making laws book k qs n now x.0 q a.xid w.0 us given_ builds | inr goes ↦ serve_going laws book k qs n now x.0 q a.xid w.0 us given_ goes ]) g
+            subst (λ (c : Call). Given book k qs n now x.0 q (record { lbfs = a.lbfs; xid = a.xid; call = c }) us → Leads book (rest_of qs n q us) (happens k (Serves n now (message_spell (ask_message (record { lbfs = a.lbfs; xid = a.xid; call = c })))))) (sym w.1) (λ given_. elim (making_is w.0.left w.0.goal w.2) [ inl builds ↦ serve_making laws book k qs n now x.0 q a.lbfs a.xid w.0 us given_ builds | inr goes ↦ serve_going laws book k qs n now x.0 q a.lbfs a.xid w.0 us given_ goes ]) g

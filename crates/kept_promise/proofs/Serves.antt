@@ -19,12 +19,12 @@ own_node t f small = ap (node_named t) (ap (λ (n : ℕ). Some n) (from_be_bytes
 
 -- ---- the message comes whole
 
-pub parsed : FitLaws → (a : Ask) → CallFits a.xid a.call → parse_of server_waiting (message_spell (ask_message a)) ≡ Ok (ask_message a)
-parsed laws a fits = let f = laws.calls a.xid a.call fits in laws.again server_waiting (ask_message a) f.0.0 f.1
+pub parsed : FitLaws → (a : Ask) → CallFits a.lbfs a.xid a.call → parse_of server_waiting (message_spell (ask_message a)) ≡ Ok (ask_message a)
+parsed laws a fits = let f = laws.calls a.lbfs a.xid a.call fits in laws.again server_waiting (ask_message a) f.0.0 f.1
 
 -- whatever the server waits for
-pub parsed_at : FitLaws → (k : Core) (n : ℕ) (a : Ask) → CallFits a.xid a.call → parse_of (server_waits k n) (message_spell (ask_message a)) ≡ Ok (ask_message a)
-parsed_at laws k n a fits = laws.again (server_waits k n) (ask_message a) (laws.calls a.xid a.call fits).0.0 (laws.expected (server_waits k n).calls a.xid a.call)
+pub parsed_at : FitLaws → (k : Core) (n : ℕ) (a : Ask) → CallFits a.lbfs a.xid a.call → parse_of (server_waits k n) (message_spell (ask_message a)) ≡ Ok (ask_message a)
+parsed_at laws k n a fits = laws.again (server_waits k n) (ask_message a) (laws.calls a.lbfs a.xid a.call fits).0.0 (laws.expected (server_waits k n).calls a.lbfs a.xid a.call fits)
 
 -- ---- the queues
 

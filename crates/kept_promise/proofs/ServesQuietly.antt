@@ -111,8 +111,8 @@ making_entered k n now x xid w making = by (made_walk k.server.tree (server.held
     by (enters done e r after is step first_is second_is entry_is after_is leads procs) = subst (λ (p : Tree × Finished). EnteredStays k (making_got k n now x xid p)) (sym is) (record { es = written_by n e ∷ []; entries = refl; journal = refl; plain = plain e entry_is }, stays e entry_is)
 
 -- what a call that makes something leaves of the operations
-making_ops : (book : Book) (k : Core) (qs : List Queue) (n now : ℕ) (x : Session) (q : Queue) (xid : ℕ) (w : Walk) (us : List Ask) → IsKept book k qs → IsSession book k.seats k.server n x q → q.ups ≡ record { xid = xid; call = Walks w } ∷ us → is_building w ≡ true → (let r = making_got k n now x xid (made_by k.server.tree (server.held k.server.waiting) w.dir w.goal) in (r.core.ops ≡ k.ops) ⊎ MadeHere k r.core.ops)
-making_ops book k qs n now x q xid w us kept h first making = by (made_walk k.server.tree (server.held k.server.waiting) w making)
+making_ops : (book : Book) (k : Core) (qs : List Queue) (n now : ℕ) (x : Session) (q : Queue) (lbfs xid : ℕ) (w : Walk) (us : List Ask) → IsKept book k qs → IsSession book k.seats k.server n x q → q.ups ≡ record { lbfs = lbfs; xid = xid; call = Walks w } ∷ us → is_building w ≡ true → (let r = making_got k n now x xid (made_by k.server.tree (server.held k.server.waiting) w.dir w.goal) in (r.core.ops ≡ k.ops) ⊎ MadeHere k r.core.ops)
+making_ops book k qs n now x q lbfs xid w us kept h first making = by (made_walk k.server.tree (server.held k.server.waiting) w making)
   where
     by : MadeSo k.server.tree (server.held k.server.waiting) w → (let r = making_got k n now x xid (made_by k.server.tree (server.held k.server.waiting) w.dir w.goal) in (r.core.ops ≡ k.ops) ⊎ MadeHere k r.core.ops)
     by (refuses s r is err turned leads procs) = subst (λ (p : Tree × Finished). let r = making_got k n now x xid p in (r.core.ops ≡ k.ops) ⊎ MadeHere k r.core.ops) (sym is) (inl (pointed_none k.ops x.closing (k.steps + 1)))
@@ -161,7 +161,7 @@ going_quiet k n now x xid w small goes standing bounded = by (comes_so k.server.
 ask_quiet : FitLaws → (book : Book) (k : Core) (qs : List Queue) (n now : ℕ) (bytes : List ℕ) (mid : List Queue) → IsKept book k qs → FindsAsk qs n bytes mid → IsQuiet k (happens k (Serves n now bytes))
 ask_quiet laws book k qs n now bytes mid kept f = by (numbered k.sessions n) refl
   where
-    fits : CallFits f.1.xid f.1.call
+    fits : CallFits f.1.lbfs f.1.xid f.1.call
     fits = serves_fits book k qs n now bytes mid kept f
 
     quietly : (x : Session) → makes_call f.1.call ≡ false → IsQuiet k (serves_if k n now x (Ok (ask_message f.1)))
@@ -176,30 +176,30 @@ ask_quiet laws book k qs n now bytes mid kept f = by (numbered k.sessions n) ref
     unhung x a false e h first = e
     unhung x a true e h first = absurd (no_ups (sym (h.lost e) ∙ first))
 
-    building : (x : Session) → numbered k.sessions n ≡ Some x → (w : Walk) → is_building w ≡ true → f.1.call ≡ Walks w → IsQuiet k (serves_if k n now x (Ok (ask_message (record { xid = f.1.xid; call = Walks w }))))
+    building : (x : Session) → numbered k.sessions n ≡ Some x → (w : Walk) → is_building w ≡ true → f.1.call ≡ Walks w → IsQuiet k (serves_if k n now x (Ok (ask_message (record { lbfs = f.1.lbfs; xid = f.1.xid; call = Walks w }))))
     building x at w makes is =
         let h = kept.sessions n x f.0 at f.3 in
-        let first : f.0.ups ≡ record { xid = f.1.xid; call = Walks w } ∷ f.2 = f.4 ∙ ap (λ (c : Call). record { xid = f.1.xid; call = c } ∷ f.2) is in
-        let fit = subst (CallFits f.1.xid) is fits in
+        let first : f.0.ups ≡ record { lbfs = f.1.lbfs; xid = f.1.xid; call = Walks w } ∷ f.2 = f.4 ∙ ap (λ (c : Call). record { lbfs = f.1.lbfs; xid = f.1.xid; call = c } ∷ f.2) is in
+        let fit = subst (CallFits f.1.lbfs f.1.xid) is fits in
         let entered = making_entered k n now x f.1.xid w makes in
-        subst (IsQuiet k) (sym (got_making k n now x f.1.xid w fit.1 makes (h.stands_is ∙ ap not (unhung x (record { xid = f.1.xid; call = Walks w }) x.hung refl h first))))
-        (record { ops = making_ops book k qs n now x f.0 f.1.xid w f.2 kept h first makes; seats = refl; passes = omega arith; up = refl; entered = entered.0; stays = entered.1 })
+        subst (IsQuiet k) (sym (got_making k n now x f.1.xid w fit.1 makes (h.stands_is ∙ ap not (unhung x (record { lbfs = f.1.lbfs; xid = f.1.xid; call = Walks w }) x.hung refl h first))))
+        (record { ops = making_ops book k qs n now x f.0 f.1.lbfs f.1.xid w f.2 kept h first makes; seats = refl; passes = omega arith; up = refl; entered = entered.0; stays = entered.1 })
 
-    going : (x : Session) → numbered k.sessions n ≡ Some x → (w : Walk) → is_going w ≡ true → f.1.call ≡ Walks w → IsQuiet k (serves_if k n now x (Ok (ask_message (record { xid = f.1.xid; call = Walks w }))))
+    going : (x : Session) → numbered k.sessions n ≡ Some x → (w : Walk) → is_going w ≡ true → f.1.call ≡ Walks w → IsQuiet k (serves_if k n now x (Ok (ask_message (record { lbfs = f.1.lbfs; xid = f.1.xid; call = Walks w }))))
     going x at w goes is =
         let h = kept.sessions n x f.0 at f.3 in
-        let first : f.0.ups ≡ record { xid = f.1.xid; call = Walks w } ∷ f.2 = f.4 ∙ ap (λ (c : Call). record { xid = f.1.xid; call = c } ∷ f.2) is in
-        let fit = subst (CallFits f.1.xid) is fits in
-        going_quiet k n now x f.1.xid w fit.1 goes (h.stands_is ∙ ap not (unhung x (record { xid = f.1.xid; call = Walks w }) x.hung refl h first)) kept.server.bounded
+        let first : f.0.ups ≡ record { lbfs = f.1.lbfs; xid = f.1.xid; call = Walks w } ∷ f.2 = f.4 ∙ ap (λ (c : Call). record { lbfs = f.1.lbfs; xid = f.1.xid; call = c } ∷ f.2) is in
+        let fit = subst (CallFits f.1.lbfs f.1.xid) is fits in
+        going_quiet k n now x f.1.xid w fit.1 goes (h.stands_is ∙ ap not (unhung x (record { lbfs = f.1.lbfs; xid = f.1.xid; call = Walks w }) x.hung refl h first)) kept.server.bounded
 
-    making : (x : Session) → numbered k.sessions n ≡ Some x → (w : Walk) → is_making w ≡ true → f.1.call ≡ Walks w → IsQuiet k (serves_if k n now x (Ok (ask_message (record { xid = f.1.xid; call = Walks w }))))
+    making : (x : Session) → numbered k.sessions n ≡ Some x → (w : Walk) → is_making w ≡ true → f.1.call ≡ Walks w → IsQuiet k (serves_if k n now x (Ok (ask_message (record { lbfs = f.1.lbfs; xid = f.1.xid; call = Walks w }))))
     making x at w makes is = elim (making_is w.left w.goal makes) [ inl builds ↦ building x at w builds is | inr goes ↦ going x at w goes is ]
 
     any : (x : Session) → numbered k.sessions n ≡ Some x → (b : Bool) → makes_call f.1.call ≡ b → IsQuiet k (serves_if k n now x (Ok (ask_message f.1)))
     any x at false none = quietly x none
     any x at true some =
         let w = walk_made f.1.call some in
-        subst (λ (c : Call). IsQuiet k (serves_if k n now x (Ok (ask_message (record { xid = f.1.xid; call = c }))))) (sym w.1) (making x at w.0 w.2 w.1)
+        subst (λ (c : Call). IsQuiet k (serves_if k n now x (Ok (ask_message (record { lbfs = f.1.lbfs; xid = f.1.xid; call = c }))))) (sym w.1) (making x at w.0 w.2 w.1)
 
     by : (x : Option Session) → numbered k.sessions n ≡ x → IsQuiet k (serves k n now bytes x)
     by None at = record { ops = inl refl; seats = refl; passes = omega arith; up = refl; entered = none_entered k (serves k n now bytes None) refl refl; stays = λ i e at. nothing_there e at }
@@ -227,7 +227,7 @@ making_still k n now x xid w making none = by (made_walk k.server.tree (server.h
 pub serves_still : FitLaws → (book : Book) (k : Core) (qs : List Queue) (n now : ℕ) (bytes : List ℕ) (mid : List Queue) → IsKept book k qs → (f : FindsAsk qs n bytes mid) → change_number f.1.call ≡ 0 → (happens k (Serves n now bytes)).core.ops ≡ k.ops
 serves_still laws book k qs n now bytes mid kept f zero_ = by (numbered k.sessions n) refl
   where
-    fits : CallFits f.1.xid f.1.call
+    fits : CallFits f.1.lbfs f.1.xid f.1.call
     fits = serves_fits book k qs n now bytes mid kept f
 
     no_ups : {a : Ask} {us : List Ask} → ◌≡◌ {A = List Ask} [] (a ∷ us) → ⊥
@@ -241,13 +241,13 @@ serves_still laws book k qs n now bytes mid kept f zero_ = by (numbered k.sessio
     creates_none w is false e = refl
     creates_none w is true e = (let none : 1 ≡ 0 = sym (ap (λ (b : Bool). cond b 1 0) e) ∙ ap change_number (sym is) ∙ zero_ in absurd (omega (arith, none)))
 
-    building : (x : Session) → numbered k.sessions n ≡ Some x → (w : Walk) → is_building w ≡ true → f.1.call ≡ Walks w → (serves_if k n now x (Ok (ask_message (record { xid = f.1.xid; call = Walks w })))).core.ops ≡ k.ops
+    building : (x : Session) → numbered k.sessions n ≡ Some x → (w : Walk) → is_building w ≡ true → f.1.call ≡ Walks w → (serves_if k n now x (Ok (ask_message (record { lbfs = f.1.lbfs; xid = f.1.xid; call = Walks w })))).core.ops ≡ k.ops
     building x at w makes is =
         let h = kept.sessions n x f.0 at f.3 in
-        let fit = subst (CallFits f.1.xid) is fits in
+        let fit = subst (CallFits f.1.lbfs f.1.xid) is fits in
         ap (λ (t : CoreStep). t.core.ops) (got_making k n now x f.1.xid w fit.1 makes (h.stands_is ∙ ap not (unhung x x.hung refl h))) ∙ making_still k n now x f.1.xid w makes (creates_none w is (is_creating w) refl)
 
-    making : (x : Session) → numbered k.sessions n ≡ Some x → (w : Walk) → is_making w ≡ true → f.1.call ≡ Walks w → (serves_if k n now x (Ok (ask_message (record { xid = f.1.xid; call = Walks w })))).core.ops ≡ k.ops
+    making : (x : Session) → numbered k.sessions n ≡ Some x → (w : Walk) → is_making w ≡ true → f.1.call ≡ Walks w → (serves_if k n now x (Ok (ask_message (record { lbfs = f.1.lbfs; xid = f.1.xid; call = Walks w })))).core.ops ≡ k.ops
     making x at w makes is = elim (making_is w.left w.goal makes) [
       | inl builds ↦ building x at w builds is
       | inr goes ↦ absurd (true_and_false (is_creating w) (going_creates w.left w.goal goes) (creates_none w is (is_creating w) refl))
@@ -257,7 +257,7 @@ serves_still laws book k qs n now bytes mid kept f zero_ = by (numbered k.sessio
     any x at false none = ap (λ (t : CoreStep). t.core.ops) (got_quiet k n now x (ask_message f.1) (is_of_files f.1 fits none))
     any x at true some =
         let w = walk_made f.1.call some in
-        subst (λ (c : Call). (serves_if k n now x (Ok (ask_message (record { xid = f.1.xid; call = c })))).core.ops ≡ k.ops) (sym w.1) (making x at w.0 w.2 w.1)
+        subst (λ (c : Call). (serves_if k n now x (Ok (ask_message (record { lbfs = f.1.lbfs; xid = f.1.xid; call = c })))).core.ops ≡ k.ops) (sym w.1) (making x at w.0 w.2 w.1)
 
     by : (x : Option Session) → numbered k.sessions n ≡ x → (serves k n now bytes x).core.ops ≡ k.ops
     by None at = refl

@@ -220,11 +220,12 @@ settled_now laws book k qs now c cs f x q j o kept out what there here unhung is
         targets = λ i d z. let y = out.others i d z in there_later book more (Some j) None d.file g (kept.server.targets y.0 d y.1);
         xids = λ i d z. let y = out.others i d z in kept.server.xids y.0 d y.1;
         leases = kept.server.leases;
+        serves = kept.server.serves;
       };
       journal_is = ap (λ (l : List Entry). l ++ e ∷ []) kept.journal;
       made_here = λ z w. known ∙ w;
       key_is = answer_key c (content_wanted c.what) version (told_term k.server c cs) what;
-      fits = laws.plain c.xid (Changed (Done (record { version = version; term = told_term k.server c cs }))) (kept.server.xids out.place c out.there) (let a = (file_bounded k.server.tree c.file f kept.server.bounded there).0 in omega (arith, a, entries), term_small k.server.leasing.term cs (Some c.file) kept.server.leases);
+      fits = laws.plain book.lbfs c.xid (Changed (Done (record { version = version; term = told_term k.server c cs }))) (kept.server.xids out.place c out.there) (let a = (file_bounded k.server.tree c.file f kept.server.bounded there).0 in omega (arith, a, entries), term_small k.server.leasing.term cs (Some c.file) kept.server.leases);
       answers = λ uncut. settled_answers book e j o c k.server.waiting cs x q h.seat what g out (committing uncut) (h.talk uncut);
       answer = λ uncut i z w. subst (λ (u : Job). CommitTold more x.closing u (Done (record { version = version; term = told_term k.server c cs }))) (some_is (record { place = j; file = c.file; stage = stage.Committing c.xid }) i (sym (committing uncut) ∙ z)) made;
       closes = λ uncut i w. close_made more uncut i w (h.closes uncut i w);

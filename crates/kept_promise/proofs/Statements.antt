@@ -18,7 +18,7 @@ use Rattle.tree_calls.specs.declared.asked.Outcome.TheVariants.{Answered}
 use Rattle.kept_promise.proofs.Departures.{comes_by}
 use Rattle.kept_promise.proofs.Makings.{made_by}
 use Rattle.kept_promise.proofs.Common.{nat_le, All, slice_get, insert_entry, nat_cmp, sha1, Unread, fed, stream, chunks_of, chunk_bytes, end_of, Chunk, Done, Failed, MessageFits, IsExpected, told_chunks, pair_of, is_end, hashes_of, leased_of, piece_of, piece_bytes, File, with_pairs, broken_of, slots_bytes, Fetch, World, server_waiting, up_some, down_some, KeepsClocks, run, accepted, Call, Call.Lease, Call.Hash, Call.Read, Call.Make, Call.Name, Call.Send, Call.Commit, Reply, Reply.Versioned, Reply.Hashed, Reply.Bytes, Reply.Made, Reply.Named, Reply.Stored, Reply.Changed, call_message, told_message, Call.Walks, Reply.Walked, NameReply, name_answer, Tree}
-use Rattle.wire.specs.declared.message.TheConstants.{LBFS_SERVED, LBFS_SPOKEN}
+use Rattle.wire.specs.declared.message.TheConstants.{LBFS_LEAST, LBFS_SERVED}
 use Rattle.wire.specs.Message.{FitsIn}
 use Rattle.kept_promise.specs.Talk.{Told, reply_body}
 
@@ -41,8 +41,8 @@ ChunksAreNamed = (x : List ℕ) (j : ℕ) (c : Chunk) → slice_get (chunks_of x
 
 -- the range from the end of the first chunks on
 abbrev pub TellsNext : Type 0
-TellsNext = (x : List ℕ) (i : ℕ) (handle : List ℕ) → i ≤ length (chunks_of x) → length x ≤ 67108864
-    → told_chunks x (record { lbfs = LBFS_SPOKEN; handle = handle; offset = end_of (take i (chunks_of x)); count = 4294967295 }) ≡ take 1024 (drop i (chunks_of x))
+TellsNext = (lbfs : ℕ) (x : List ℕ) (i : ℕ) (handle : List ℕ) → i ≤ length (chunks_of x) → length x ≤ 67108864
+    → told_chunks x (record { lbfs = lbfs; handle = handle; offset = end_of (take i (chunks_of x)); count = 4294967295 }) ≡ take 1024 (drop i (chunks_of x))
 
 abbrev pub TellsEnd : Type 0
 TellsEnd = (x : List ℕ) (i : ℕ) → i ≤ length (chunks_of x) → is_end (length x) (end_of (take i (chunks_of x))) (take 1024 (drop i (chunks_of x))) ≡ nat_le (length (chunks_of x)) (i + 1024)
@@ -53,8 +53,8 @@ PairsTell = (x : List ℕ) (i : ℕ) → i ≤ length (chunks_of x) → with_pai
 
 -- and nothing is broken in them
 abbrev pub NothingBroken : Type 0
-NothingBroken = (term : ℕ) (g : File) (f : Fetch) (x : List ℕ) (i : ℕ) (handle : List ℕ) → g.content ≡ x → length x ≤ 67108864 → f.size ≡ length x → f.chunks ≡ take i (chunks_of x) → i ≤ length (chunks_of x)
-    → broken_of f (hashes_of term g (record { lbfs = LBFS_SPOKEN; handle = handle; offset = end_of (take i (chunks_of x)); count = 4294967295 })) ≡ None
+NothingBroken = (lbfs term : ℕ) (g : File) (f : Fetch) (x : List ℕ) (i : ℕ) (handle : List ℕ) → g.content ≡ x → length x ≤ 67108864 → f.size ≡ length x → f.chunks ≡ take i (chunks_of x) → i ≤ length (chunks_of x)
+    → broken_of f (hashes_of term g (record { lbfs = lbfs; handle = handle; offset = end_of (take i (chunks_of x)); count = 4294967295 })) ≡ None
 
 -- a READ of a chunk gives its bytes
 abbrev pub ReadGives : Type 0
@@ -86,40 +86,45 @@ PieceGoesIn = (x : List ℕ) (has more : Chunk → Bool) (j : ℕ) (c : Chunk) �
 
 -- ---- what fits a record
 
--- what a call's numbers need to have a record
-abbrev pub CallFits : (xid : ℕ) → Call → Type 0
-CallFits xid (Lease file) = (xid < 2 ^ 32) × (file < 2 ^ 64)
-CallFits xid (Hash file offset) = (xid < 2 ^ 32) × (file < 2 ^ 64) × (offset ≤ 67108864)
-CallFits xid (Read file c) = (xid < 2 ^ 32) × (file < 2 ^ 64) × (c.start ≤ 67108864) × (c.len ≤ 65536)
-CallFits xid (Make temp file) = (xid < 2 ^ 32) × (temp < 2 ^ 32) × (file < 2 ^ 64)
-CallFits xid (Name temp c) = (xid < 2 ^ 32) × (temp < 2 ^ 32) × (c.start ≤ 67108864) × (c.len ≤ 65536) × (length c.digest ≡ 20)
-CallFits xid (Send temp start bytes) = (xid < 2 ^ 32) × (temp < 2 ^ 32) × (start ≤ 67108864) × (length bytes ≤ 65536)
-CallFits xid (Commit temp file size) = (xid < 2 ^ 32) × (temp < 2 ^ 32) × (file < 2 ^ 64) × (size ≤ 67108864)
-CallFits xid (Walks w) = (xid < 2 ^ 32) × IsWalkSmall w
+-- a version of LBFS that is served
+pub record IsSpoken (lbfs : ℕ) : Type 0 where
+  pub least : LBFS_LEAST ≤ lbfs
+  pub most : lbfs ≤ LBFS_SERVED
+
+-- what a call's numbers need to have a record: the version is that of a call of LBFS
+abbrev pub CallFits : (lbfs xid : ℕ) → Call → Type 0
+CallFits lbfs xid (Lease file) = (xid < 2 ^ 32) × (file < 2 ^ 64) × IsSpoken lbfs
+CallFits lbfs xid (Hash file offset) = (xid < 2 ^ 32) × (file < 2 ^ 64) × (offset ≤ 67108864) × IsSpoken lbfs
+CallFits lbfs xid (Read file c) = (xid < 2 ^ 32) × (file < 2 ^ 64) × (c.start ≤ 67108864) × (c.len ≤ 65536)
+CallFits lbfs xid (Make temp file) = (xid < 2 ^ 32) × (temp < 2 ^ 32) × (file < 2 ^ 64) × IsSpoken lbfs
+CallFits lbfs xid (Name temp c) = (xid < 2 ^ 32) × (temp < 2 ^ 32) × (c.start ≤ 67108864) × (c.len ≤ 65536) × (length c.digest ≡ 20) × IsSpoken lbfs
+CallFits lbfs xid (Send temp start bytes) = (xid < 2 ^ 32) × (temp < 2 ^ 32) × (start ≤ 67108864) × (length bytes ≤ 65536) × IsSpoken lbfs
+CallFits lbfs xid (Commit temp file size) = (xid < 2 ^ 32) × (temp < 2 ^ 32) × (file < 2 ^ 64) × (size ≤ 67108864) × IsSpoken lbfs
+CallFits lbfs xid (Walks w) = (xid < 2 ^ 32) × IsWalkSmall w
 
 abbrev pub CallsFit : Type 0
-CallsFit = (xid : ℕ) (c : Call) → CallFits xid c → MessageFits (call_message xid c) × IsExpected server_waiting (call_message xid c)
+CallsFit = (lbfs xid : ℕ) (c : Call) → CallFits lbfs xid c → MessageFits (call_message lbfs xid c) × IsExpected server_waiting (call_message lbfs xid c)
 
 -- it is one that the server does, whatever it waits for
 abbrev pub CallsExpected : Type 0
-CallsExpected = (calls : List Pending) (xid : ℕ) (c : Call) → IsExpected (record { side = side.Server; lbfs = LBFS_SERVED; calls = calls }) (call_message xid c)
+CallsExpected = (calls : List Pending) (lbfs xid : ℕ) (c : Call) → CallFits lbfs xid c → IsExpected (record { side = side.Server; lbfs = LBFS_SERVED; calls = calls }) (call_message lbfs xid c)
 
--- an answer fits its record, and its layout is that of the version which these clients speak
-abbrev pub ToldFits : Told → Type 0
-ToldFits t = MessageFits (told_message t) × FitsIn LBFS_SPOKEN (reply_body t.reply)
+-- an answer fits its record, and its layout is that of a version of LBFS
+abbrev pub ToldFits : (lbfs : ℕ) → Told → Type 0
+ToldFits lbfs t = MessageFits (told_message t) × FitsIn lbfs (reply_body t.reply)
 
 -- an answer is of a file within its bounds
 abbrev pub FileFits : File → Type 0
 FileFits g = (g.id < 2 ^ 64) × (g.version < 2 ^ 32) × (length g.content ≤ 67108864)
 
 abbrev pub HashAnswersFit : Type 0
-HashAnswersFit = (xid term : ℕ) (g : File) (handle : List ℕ) (offset : ℕ) → xid < 2 ^ 32 → term < 2 ^ 32 → FileFits g → ToldFits (record { xid = xid; reply = Hashed (Done (hashes_of term g (record { lbfs = LBFS_SPOKEN; handle = handle; offset = offset; count = 4294967295 }))) })
+HashAnswersFit = (lbfs asked xid term : ℕ) (g : File) (handle : List ℕ) (offset : ℕ) → IsSpoken lbfs → xid < 2 ^ 32 → term < 2 ^ 32 → FileFits g → ToldFits lbfs (record { xid = xid; reply = Hashed (Done (hashes_of term g (record { lbfs = asked; handle = handle; offset = offset; count = 4294967295 }))) })
 
 abbrev pub LeaseAnswersFit : Type 0
-LeaseAnswersFit = (xid term : ℕ) (g : File) → xid < 2 ^ 32 → term < 2 ^ 32 → FileFits g → ToldFits (record { xid = xid; reply = Versioned (Done (leased_of term g)) })
+LeaseAnswersFit = (lbfs xid term : ℕ) (g : File) → xid < 2 ^ 32 → term < 2 ^ 32 → FileFits g → ToldFits lbfs (record { xid = xid; reply = Versioned (Done (leased_of term g)) })
 
 abbrev pub ReadAnswersFit : Type 0
-ReadAnswersFit = (xid : ℕ) (g : File) (handle : List ℕ) (offset count : ℕ) → xid < 2 ^ 32 → FileFits g → ToldFits (record { xid = xid; reply = Bytes (Done (piece_of g (record { handle = handle; offset = offset; count = count }))) })
+ReadAnswersFit = (lbfs xid : ℕ) (g : File) (handle : List ℕ) (offset count : ℕ) → xid < 2 ^ 32 → FileFits g → ToldFits lbfs (record { xid = xid; reply = Bytes (Done (piece_of g (record { handle = handle; offset = offset; count = count }))) })
 
 -- all other answers: refusals, and those that have nothing to tell but a version and a term
 abbrev pub IsPlain : Reply → Type 0
@@ -135,7 +140,7 @@ IsPlain r = ⊥
 
 -- what a tree within the limits tells a walk
 abbrev pub NameAnswersFit : Type 0
-NameAnswersFit = (xid : ℕ) (t : Tree) (w : Walk) (r : NameReply) → xid < 2 ^ 32 → IsBounded t → IsWalkSmall w → told_by t.nodes (next_call w) ≡ Some (name_answer r) → ToldFits (record { xid = xid; reply = Walked r })
+NameAnswersFit = (lbfs xid : ℕ) (t : Tree) (w : Walk) (r : NameReply) → xid < 2 ^ 32 → IsBounded t → IsWalkSmall w → told_by t.nodes (next_call w) ≡ Some (name_answer r) → ToldFits lbfs (record { xid = xid; reply = Walked r })
 
 -- and what it answers to a call that makes or removes something
 abbrev pub MakingAnswersFit : Type 0
@@ -149,7 +154,7 @@ abbrev pub SettledAnswersFit : Type 0
 SettledAnswersFit = (xid : ℕ) (t : Tree) (held : Held) (a : Asked) → xid < 2 ^ 32 → IsBounded t → IsBounded (settles t held a).0 → MessageFits (message.Answer xid (body.Nfs (settles t held a).1.answer))
 
 abbrev pub PlainAnswersFit : Type 0
-PlainAnswersFit = (xid : ℕ) (r : Reply) → xid < 2 ^ 32 → IsPlain r → ToldFits (record { xid = xid; reply = r })
+PlainAnswersFit = (lbfs xid : ℕ) (r : Reply) → xid < 2 ^ 32 → IsPlain r → ToldFits lbfs (record { xid = xid; reply = r })
 
 -- ---- deliveries
 

@@ -67,11 +67,11 @@ reads_keep P cache index file step (suc k) r h = by (nat_lt (length r.fetch.unde
     by false later = h
 
 -- and each further chunk of a close
-pub names_keep : (P : Names → Type 0) → ((n : Names) (c : Chunk) → P n → slice_get n.store.chunks n.store.named ≡ Some c → P (names_next n (Some c))) → (k : ℕ) (n : Names) → P n → P (names_more k n)
-names_keep P step zero n h = h
-names_keep P step (suc k) n h = names_keep P step k (names_next n (slice_get n.store.chunks n.store.named)) (one (slice_get n.store.chunks n.store.named) refl)
+pub names_keep : (lbfs : ℕ) (P : Names → Type 0) → ((n : Names) (c : Chunk) → P n → slice_get n.store.chunks n.store.named ≡ Some c → P (names_next lbfs n (Some c))) → (k : ℕ) (n : Names) → P n → P (names_more lbfs k n)
+names_keep lbfs P step zero n h = h
+names_keep lbfs P step (suc k) n h = names_keep lbfs P step k (names_next lbfs n (slice_get n.store.chunks n.store.named)) (one (slice_get n.store.chunks n.store.named) refl)
   where
-    one : (o : Option Chunk) → slice_get n.store.chunks n.store.named ≡ o → P (names_next n o)
+    one : (o : Option Chunk) → slice_get n.store.chunks n.store.named ≡ o → P (names_next lbfs n o)
     one None e = h
     one (Some c) e = step n c h e
 
@@ -226,8 +226,8 @@ pub record Cases (Z : List (ℕ × ℕ) → State × ClientStep → Type 0) (s :
   pub reads : (f : Fetch) (bytes : ℕ) → FetchNow st x b f bytes → is_here (reads_of s file f).fetch ≡ false → Z (given s file f) (reads_if (looked s file f) calls file x (reads_of s file f) bytes false)
   pub opens : (f : Fetch) (bytes : ℕ) → FetchNow st x b f bytes → is_here (reads_of s file f).fetch ≡ true → Z (given s file f) (reads_if (looked s file f) calls file x (reads_of s file f) bytes true)
   -- further chunks are named, or all are stored, or one is sent whole
-  pub names : (w : Store) → StoreIn st x (local_bytes s.opened file) w → (IsUnknown b → ⊥) → bytes_came x b ≡ 0 → is_stored (names_all w s.next_xid).store ≡ false → Z [] (goes_if s file (local_bytes s.opened file) (names_all w s.next_xid) false)
-  pub commits : (w : Store) → StoreIn st x (local_bytes s.opened file) w → (IsUnknown b → ⊥) → bytes_came x b ≡ 0 → is_stored (names_all w s.next_xid).store ≡ true → Z [] (goes_if s file (local_bytes s.opened file) (names_all w s.next_xid) true)
+  pub names : (w : Store) → StoreIn st x (local_bytes s.opened file) w → (IsUnknown b → ⊥) → bytes_came x b ≡ 0 → is_stored (names_all s.lbfs w s.next_xid).store ≡ false → Z [] (goes_if s file (local_bytes s.opened file) (names_all s.lbfs w s.next_xid) false)
+  pub commits : (w : Store) → StoreIn st x (local_bytes s.opened file) w → (IsUnknown b → ⊥) → bytes_came x b ≡ 0 → is_stored (names_all s.lbfs w s.next_xid).store ≡ true → Z [] (goes_if s file (local_bytes s.opened file) (names_all s.lbfs w s.next_xid) true)
   pub whole : (old : Store) (c : StoreCall) (k : Chunk) → st ≡ stage.Storing old → IsUnknown b → bytes_came x b ≡ 0 → store_at old.under x ≡ Some c → c.way ≡ way.Named → slice_get old.chunks c.index ≡ Some k → Z [] (sends_whole s file x (local_bytes s.opened file) (answered old x) c (Some k))
 
 -- of a client with nothing under way as well
@@ -304,9 +304,9 @@ read Z s calls file f x p cases = by (read_at f.under x) refl
     by (Some c) e = chunk c e (slice_get f.chunks c.index) refl
 
 goes : (Z : List (ℕ × ℕ) → State × ClientStep → Type 0) (s : State) (calls : List Pending) (file : ℕ) (st : Stage) (x : ℕ) (b : Body) → Cases Z s calls file st x b → (w : Store) → StoreIn st x (local_bytes s.opened file) w → (IsUnknown b → ⊥) → bytes_came x b ≡ 0 → Z [] (goes_on s file (local_bytes s.opened file) w)
-goes Z s calls file st x b cases w at known none = by (is_stored (names_all w s.next_xid).store) refl
+goes Z s calls file st x b cases w at known none = by (is_stored (names_all s.lbfs w s.next_xid).store) refl
   where
-    by : (t : Bool) → is_stored (names_all w s.next_xid).store ≡ t → Z [] (goes_if s file (local_bytes s.opened file) (names_all w s.next_xid) t)
+    by : (t : Bool) → is_stored (names_all s.lbfs w s.next_xid).store ≡ t → Z [] (goes_if s file (local_bytes s.opened file) (names_all s.lbfs w s.next_xid) t)
     by true e = cases.commits w at known none e
     by false e = cases.names w at known none e
 
@@ -544,8 +544,8 @@ pub record OfCloses (Z : List (ℕ × ℕ) → State × ClientStep → Type 0) (
   pub opens : stage_word st ≡ words.Open → (found : List (ℕ × ℕ)) (r : State × ClientStep) → GoesOn words.Open r → Z found r
   pub renews : stage_word st ≡ words.Rewrite → (r : State × ClientStep) → JustEnds x b r → IsFault r.1.ended ⊎ (bytes_came x b ≡ 0) → Z [] r
   pub ends : stage_word st ≡ words.Close → (r : State × ClientStep) → JustEnds x b r → IsFault r.1.ended ⊎ (bytes_came x b ≡ 0) → Z [] r
-  pub names : (w : Store) → StoreIn st x (local_bytes s.opened file) w → (IsUnknown b → ⊥) → bytes_came x b ≡ 0 → is_stored (names_all w s.next_xid).store ≡ false → Z [] (goes_if s file (local_bytes s.opened file) (names_all w s.next_xid) false)
-  pub commits : (w : Store) → StoreIn st x (local_bytes s.opened file) w → (IsUnknown b → ⊥) → bytes_came x b ≡ 0 → is_stored (names_all w s.next_xid).store ≡ true → Z [] (goes_if s file (local_bytes s.opened file) (names_all w s.next_xid) true)
+  pub names : (w : Store) → StoreIn st x (local_bytes s.opened file) w → (IsUnknown b → ⊥) → bytes_came x b ≡ 0 → is_stored (names_all s.lbfs w s.next_xid).store ≡ false → Z [] (goes_if s file (local_bytes s.opened file) (names_all s.lbfs w s.next_xid) false)
+  pub commits : (w : Store) → StoreIn st x (local_bytes s.opened file) w → (IsUnknown b → ⊥) → bytes_came x b ≡ 0 → is_stored (names_all s.lbfs w s.next_xid).store ≡ true → Z [] (goes_if s file (local_bytes s.opened file) (names_all s.lbfs w s.next_xid) true)
   pub whole : (old : Store) (c : StoreCall) (k : Chunk) → st ≡ stage.Storing old → IsUnknown b → bytes_came x b ≡ 0 → store_at old.under x ≡ Some c → c.way ≡ way.Named → slice_get old.chunks c.index ≡ Some k → Z [] (sends_whole s file x (local_bytes s.opened file) (answered old x) c (Some k))
 
 pub either_word : (st : Stage) → IsOfFile st → (stage_word st ≡ words.Open) ⊎ ((stage_word st ≡ words.Close) ⊎ (stage_word st ≡ words.Rewrite))
@@ -599,8 +599,8 @@ of_opens Z s calls file st x b known h = record {
   lists = h.lists;
   reads = h.reads;
   opens = h.opens;
-  names = λ w at known none is. let r = goes_if s file (local_bytes s.opened file) (names_all w s.next_xid) false in h.closes (in_close st x (local_bytes s.opened file) w at) r (goes_with words.Close r _ refl refl) (λ e ended opened. nothing_there e ended) (λ first last c. nothing_there c.0 c.1);
-  commits = λ w at known none is. let r = goes_if s file (local_bytes s.opened file) (names_all w s.next_xid) true in h.closes (in_close st x (local_bytes s.opened file) w at) r (goes_with words.Close r _ refl refl) (λ e ended opened. nothing_there e ended) (λ first last c. nothing_there c.0 c.1);
+  names = λ w at known none is. let r = goes_if s file (local_bytes s.opened file) (names_all s.lbfs w s.next_xid) false in h.closes (in_close st x (local_bytes s.opened file) w at) r (goes_with words.Close r _ refl refl) (λ e ended opened. nothing_there e ended) (λ first last c. nothing_there c.0 c.1);
+  commits = λ w at known none is. let r = goes_if s file (local_bytes s.opened file) (names_all s.lbfs w s.next_xid) true in h.closes (in_close st x (local_bytes s.opened file) w at) r (goes_with words.Close r _ refl refl) (λ e ended opened. nothing_there e ended) (λ first last c. nothing_there c.0 c.1);
   whole = λ old c k at unknown none found name chunk. let r = sends_whole s file x (local_bytes s.opened file) (answered old x) c (Some k) in h.closes (ap stage_word at) r (goes_with words.Close r _ refl refl) (λ e ended opened. nothing_there e ended) (λ first last c. nothing_there c.0 c.1);
 }
 

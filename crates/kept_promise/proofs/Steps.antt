@@ -10,7 +10,7 @@ use Rattle.register_model.specs.declared.op.Outcome.{Outcome}
 use Rattle.register_model.specs.declared.op.Outcome.TheVariants as told
 use Rattle.register_model.specs.declared.op.Word.TheVariants as words
 use Rattle.kept_promise.proofs.Common.{changes, cond, nat_tests, slice_get, slice_set, nat_le, Chunk, Answer, Done, Failed, Attr, Piece, Pending, Change, Fetch, Local, Stage, Op, Traffic, TakenCall, Core, Seat, Session, numbered, unless, hashed_of, Book, Entries, Indexed, Call, Call.Lease, Call.Hash, Call.Read, Call.Commit, Reply, Reply.Versioned, Reply.Hashed, Reply.Bytes, Reply.Changed, Ask, Told, Queue, reply_program, Call.Walks, Reply.Walked, Status}
-use Rattle.kept_promise.proofs.Statements.{CallFits}
+use Rattle.kept_promise.proofs.Statements.{IsSpoken, CallFits}
 use Rattle.kept_promise.proofs.Lists.{some_is, nothing_there, same_or_not, of_replaced, at_replaced, false_and_true, all_both, all_map}
 use Rattle.kept_promise.proofs.Keys.{times, times_append, own, on_way, ask_key, change_key, told_key, pending_key, found_by, there_by, key_xid}
 use Rattle.kept_promise.proofs.Messages.{lease_xid, Job, job, stage_word, AllAsks, AllTolds, Rising, hash_offset, read_chunk, CallOf, IsAsked, AnswerOf, IsAnswer, Trying, FetchOf, ReadTold, CommitOf, IsCommit, IsPiece, TempUnder, CloseOf, IsCreating, goal_word, RefusedTold}
@@ -21,7 +21,7 @@ use Rattle.kept_promise.proofs.Turns.{Around, turned_core}
 use Rattle.kept_promise.proofs.Orderly.{Orderly}
 use Rattle.kept_promise.proofs.Ordered.{AllFetching, none_free, orderly_later}
 use Rattle.kept_promise.proofs.OrderSteps.{EndsAt, orderly_ends, free_on, IsNoClose, open_no_close}
-use Rattle.kept_promise.proofs.Facts.{Cached, IsBalanced, IsSession, IsOf, HasXids, IsKept, commits_in, change_number, is_naming}
+use Rattle.kept_promise.proofs.Facts.{spoken_by, Cached, IsBalanced, IsSession, IsOf, HasXids, IsKept, commits_in, change_number, is_naming}
 use Rattle.kept_promise.proofs.Heard.{Moves, rising_to, put_up, kept_heard}
 use Rattle.kept_promise.proofs.Growth.{there_later}
 
@@ -166,6 +166,13 @@ pub record Here (book : Book) (k : Core) (qs : List Queue) (n : ℕ) (x : Sessio
 abbrev pub session_at : (book : Book) (k : Core) (qs : List Queue) (n : ℕ) (x : Session) (q : Queue) (t : Told) (ts : List Told) (j : Job) → Here book k qs n x q t ts j → IsSession book k.seats k.server n x q
 session_at book k qs n x q t ts j g = g.kept.sessions n x q g.at g.is
 
+-- its owner speaks the version that all clients do, which is one that is served
+pub speaks_at : (book : Book) (k : Core) (qs : List Queue) (n : ℕ) (x : Session) (q : Queue) (t : Told) (ts : List Told) (j : Job) (g : Here book k qs n x q t ts j) → (session_at book k qs n x q t ts j g).seat.client.lbfs ≡ book.lbfs
+speaks_at book k qs n x q t ts j g = let h = session_at book k qs n x q t ts j g in (g.kept.seats x.owner h.seat h.owner).speaks
+
+pub spoken_at : (book : Book) (k : Core) (qs : List Queue) (n : ℕ) (x : Session) (q : Queue) (t : Told) (ts : List Told) (j : Job) (g : Here book k qs n x q t ts j) → IsSpoken (session_at book k qs n x q t ts j g).seat.client.lbfs
+spoken_at book k qs n x q t ts j g = let h = session_at book k qs n x q t ts j g in spoken_by book k qs x.owner h.seat g.kept h.owner
+
 -- nothing of a change is on its way
 pub record Quiet (k : Core) (n : ℕ) (q : Queue) : Type 0 where
   pub ups : commits_in q.ups ≡ 0
@@ -226,7 +233,8 @@ pub record GoesOn (book : Book) (k : Core) (qs : List Queue) (n : ℕ) (x : Sess
   pub moves : Moves (client.calls_of (session_at book k qs n x q t ts j g).seat.client) (client.pending_in s ++ forgotten) t asks
   pub rising : Rising (session_at book k qs n x q t ts j g).seat.client.next_xid asks next
   pub asked : AllAsks (IsAsked (Some (on j s))) asks
-  pub fits : AllAsks (λ a. CallFits a.xid a.call) asks
+  pub fits : AllAsks (λ a. CallFits a.lbfs a.xid a.call) asks
+  pub speak : AllAsks (λ a. a.lbfs ≡ book.lbfs) asks
   pub commits : AllAsks (IsCommit book x.closing x.cut (Some (on j s)) (session_at book k qs n x q t ts j g).contents) asks
   pub pieces : AllAsks (IsPiece (hashed_of book.moments) (session_at book k qs n x q t ts j g).contents) asks
   pub under : AllAsks (λ a. TempUnder (session_at book k qs n x q t ts j g).seat.client.next_temp a.call) asks
@@ -272,6 +280,7 @@ kept_goes book k qs n x q t ts j g s next forgotten asks cache index sent tr sea
       rising = w.rising;
       asked = w.asked;
       fits = w.fits;
+      speak = w.speak;
       commits = all_map (IsCommit book x.closing x.cut (Some (on j s)) h.contents) (IsCommit more x.closing x.cut (Some (on j s)) h.contents) (λ a m. commit_later book more None None x.closing x.cut (Some (on j s)) (Some (on j s)) h.contents a goes.grows spares (λ u. refl) m) asks w.commits;
       pieces = w.pieces;
       under = w.under;
@@ -285,6 +294,7 @@ kept_goes book k qs n x q t ts j g s next forgotten asks cache index sent tr sea
         session = seat_was.session;
         linked = seat_was.linked;
         unlinked = λ f. absurd (false_and_true h.seat.client.linked f (h.here g.uncut).1);
+        speaks = seat_was.speaks;
         matched = inr (on j s, refl);
         task = λ i f. subst (IsOf more x.owner) (some_is (on j s) i f) moved;
         trying = λ i m y f e. let same = some_is (on j s) i f in subst (λ (z : Job). Trying more z m) same (trying_later book more None None (on j s) m goes.grows (w.trying m y (ap (λ (z : Job). z.stage) same ∙ e)));
@@ -372,6 +382,7 @@ kept_stops book k qs n x q t ts j g r made opened forgotten cache index seats af
       rising = omega arith;
       asked = tt;
       fits = tt;
+      speak = tt;
       commits = tt;
       pieces = tt;
       under = tt;
@@ -385,6 +396,7 @@ kept_stops book k qs n x q t ts j g r made opened forgotten cache index seats af
         session = seat_was.session;
         linked = seat_was.linked;
         unlinked = λ f. absurd (false_and_true h.seat.client.linked f (h.here g.uncut).1);
+        speaks = seat_was.speaks;
         matched = inl (refl, refl);
         task = λ i f. nothing_there i f;
         trying = λ i m y f. nothing_there i f;

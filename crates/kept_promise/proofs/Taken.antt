@@ -51,7 +51,7 @@ served_found : (book : Book) (taken after : List TakenCall) (j : Job) (x : ℕ) 
 served_found book taken after j x call f h = record { moment = h.moment; was = f x h.moment h.was; op = h.op; there = h.there; takes = h.takes }
 
 tried_found : (book : Book) (taken after : List TakenCall) (j : Job) (x n : ℕ) → Finds taken after → IsTried book taken j x n → IsTried book after j x n
-tried_found book taken after j x n f h = record { moment = h.moment; was = f x h.moment h.was; past = h.past; op = h.op; there = h.there; count = h.count; tries_is = h.tries_is; tried = h.tried; call = served_found book taken after j x (hash_body j.file 0) f h.call }
+tried_found book taken after j x n f h = record { moment = h.moment; was = f x h.moment h.was; past = h.past; op = h.op; there = h.there; count = h.count; tries_is = h.tries_is; tried = h.tried; call = served_found book taken after j x (hash_body book.lbfs j.file 0) f h.call }
 
 refused_found : (book : Book) (taken after : List TakenCall) (j : Job) (x : ℕ) (s : Status) → Finds taken after → RefusedTold book taken j x s → RefusedTold book after j x s
 refused_found book taken after j x s f (inl (is, h)) = inl (is, record { at = h.at; noted = h.noted; moment = h.moment; step_is = h.step_is; was = f x h.moment h.was; past = h.past; op = h.op; there = h.there; after = h.after; node = h.node; node_is = h.node_is })
@@ -63,7 +63,7 @@ hash_found book taken after j x o (Done a) f h = record { file = h.file; is = h.
 
 lease_found : (book : Book) (taken after : List TakenCall) (j : Job) (x : ℕ) (a : Answer Leased Unit) → Finds taken after → LeaseTold book taken j x a → LeaseTold book after j x a
 lease_found book taken after j x (Failed s u) f h = refused_found book taken after j x s f h
-lease_found book taken after j x (Done a) f h = record { value = h.value; told = told_found book taken after j x (Some h.value) a.version f h.told; call = served_found book taken after j x (lease_body j.file) f h.call; known = h.known }
+lease_found book taken after j x (Done a) f h = record { value = h.value; told = told_found book taken after j x (Some h.value) a.version f h.told; call = served_found book taken after j x (lease_body book.lbfs j.file) f h.call; known = h.known }
 
 walk_found : (book : Book) (taken after : List TakenCall) (closing : Option ℕ) (j : Job) (x : ℕ) (w : Walk) (m : Nfs) → Finds taken after → WalkTold book taken closing j x w m → WalkTold book after closing j x w m
 walk_found book taken after closing j x w m f h = record { then_op = h.then_op; then_is = h.then_is; then_began = h.then_began; at = h.at; noted = h.noted; moment = h.moment; step_is = h.step_is; was = λ m. f x h.moment (h.was m); past = h.past; op = h.op; there = h.there; after = h.after; bounded = h.bounded; rooted = h.rooted; came = h.came; session = h.session; sent = h.sent; seat = h.seat; seat_is = h.seat_is; newest = h.newest; job_is = h.job_is }

@@ -12,7 +12,7 @@ use Rattle.kept_promise.proofs.Keys.{times, times_append, own, on_way, key, chan
 use Rattle.kept_promise.proofs.Messages.{job, AllAsks, Rising, IsAsked, AnswerOf, IsAnswer, IsCommit, IsPiece, TempUnder, AreParts, Job, AllTolds, WaitsFor, CloseOf}
 use Rattle.kept_promise.proofs.Growth.{Grows, or_later, value_alike, version_alike, there_later}
 use Rattle.kept_promise.proofs.History.{Still, onward, grows_same, goes_same, still_same, Goes}
-use Rattle.kept_promise.proofs.Later.{answer_later, has_fetch_later, commit_later, close_later, waits_later, seat_later, Stays, Spares, pieces_later, parts_later}
+use Rattle.kept_promise.proofs.Later.{speak_later, fit_later, serves_later, answer_later, has_fetch_later, commit_later, close_later, waits_later, seat_later, Stays, Spares, pieces_later, parts_later}
 use Rattle.kept_promise.proofs.Taken.{zero_last, finds_more, under_more, answer_found, has_fetch_found, times_map_append}
 use Rattle.kept_promise.proofs.Turns.{Around, around_same, turned_core, kept_turn}
 use Rattle.kept_promise.proofs.Shelf.{IsShelf}
@@ -35,7 +35,7 @@ pub fresh_still : (book more : Book) (made ended : Option ℕ) (t : Tree) → Gr
 fresh_still book more made ended t grows still h f le = version_alike book more f (more.steps + 1) (book.steps + 1) grows.opening (still f) ∙ h f le
 
 pub server_still : (book more : Book) (made ended : Option ℕ) (s : server.State) (leasing : Leasing) (temps : List (ℕ × Temp)) (index : Indexed) → HasTerm leasing → Grows book more made ended → Still book more → IsServer book s → IsServer more (record s { leasing = leasing; temps = temps; index = index })
-server_still book more made ended s leasing temps index leases grows still h = record { held = λ f. file_still book more made ended f (the_files.file_at s.tree f) grows still (h.held f); fresh = fresh_still book more made ended s.tree grows still h.fresh; bounded = h.bounded; zero = h.zero; rooted = h.rooted; wants = h.wants; changes = h.changes; bytes = h.bytes; lengths = h.lengths; targets = λ i c e. there_later book more made ended c.file grows (h.targets i c e); xids = h.xids; leases = leases }
+server_still book more made ended s leasing temps index leases grows still h = record { held = λ f. file_still book more made ended f (the_files.file_at s.tree f) grows still (h.held f); fresh = fresh_still book more made ended s.tree grows still h.fresh; bounded = h.bounded; zero = h.zero; rooted = h.rooted; wants = h.wants; changes = h.changes; bytes = h.bytes; lengths = h.lengths; targets = λ i c e. there_later book more made ended c.file grows (h.targets i c e); xids = h.xids; leases = leases; serves = serves_later book more made ended grows h.serves }
 
 -- ---- a session that took a call
 
@@ -73,7 +73,7 @@ pub record Shows (book more : Book) (k : Core) (n : ℕ) (x : Session) (q : Queu
   pub journal_is : more.journal ≡ s.journal
   pub made_here : (p : ℕ) → made ≡ Some p → x.closing ≡ Some p
   pub program : reply_program r ≡ call_program a.call
-  pub fits : ToldFits (record { xid = a.xid; reply = r })
+  pub fits : ToldFits book.lbfs (record { xid = a.xid; reply = r })
   pub answer : x.cut ≡ false → AnswerOf more (x.taken ++ record { xid = a.xid; step = book.steps + 1 } ∷ []) x.closing (job h.seat) a.xid r
   -- the facts of the session that speak of what it remembers
   pub answers : x.cut ≡ false → AllTolds (IsAnswer more (x.taken ++ record { xid = a.xid; step = book.steps + 1 } ∷ []) x.closing (job h.seat)) q.downs
@@ -127,8 +127,9 @@ kept_taken book more k qs n leasing tree journal temps index x q a us r made ses
         shut = λ cut. cut_downs x.cut cut (h.shut cut);
         lost = λ hung. absurd (false_and_true x.hung unhung hung);
         stands_is = h.stands_is;
-        ups_fit = (ups_of (λ b. CallFits b.xid b.call) h.ups_fit).1;
-        downs_fit = all_unless (λ (u : Told). ToldFits u) x.cut q.downs (t ∷ []) h.downs_fit (shows.fits, tt);
+        ups_fit = (ups_of (λ b. CallFits b.lbfs b.xid b.call) h.ups_fit).1;
+        ups_speak = speak_later book more made None us g (ups_of (λ b. b.lbfs ≡ book.lbfs) h.ups_speak).1;
+        downs_fit = fit_later book more made None (unless x.cut q.downs (t ∷ [])) g (all_unless (λ (u : Told). ToldFits book.lbfs u) x.cut q.downs (t ∷ []) h.downs_fit (shows.fits, tt));
         talk = λ uncut. subst (λ (b : Bool). IsTalk more n k.server.waiting y (put_down q us b t) c) (sym uncut) (talks h shows uncut (h.talk uncut));
         contents = h.contents;
         lengths = h.lengths;
@@ -197,7 +198,7 @@ kept_taken book more k qs n leasing tree journal temps index x q a us r made ses
 -- what a call that is answered at once is to show
 pub record Answers (book : Book) (k : Core) (n : ℕ) (x : Session) (q : Queue) (a : Ask) (temps : List (ℕ × Temp)) (r : Reply) (h : IsSession book k.seats k.server n x q) : Type 0 where
   pub program : reply_program r ≡ call_program a.call
-  pub fits : ToldFits (record { xid = a.xid; reply = r })
+  pub fits : ToldFits book.lbfs (record { xid = a.xid; reply = r })
   pub answer : x.cut ≡ false → AnswerOf (onward book 1 book.ops) (x.taken ++ record { xid = a.xid; step = book.steps + 1 } ∷ []) x.closing (job h.seat) a.xid r
   pub pieces : (i m : ℕ) (e : ℕ × Temp) → m < 4294967296 → slice_get temps i ≡ Some e → e.0 ≡ key_of n m → AreParts (hashed_of book.moments) (h.contents m) e.1.pieces × (key_of e.1.session e.1.fd ≡ e.0)
   pub below : x.cut ≡ false → (i m : ℕ) (e : ℕ × Temp) → m < 4294967296 → slice_get temps i ≡ Some e → e.0 ≡ key_of n m → m < h.seat.client.next_temp

@@ -86,17 +86,17 @@ one_read ms xid file c h =
     let s = sum_data ms (read_call xid file c) in
     record { cond = omega (arith, a, p); tmp = omega (arith, b, q); read = omega (arith, d, r, n); data_is = omega (arith, e, s) }
 
-one_name : (ms : List Message) (xid temp : ℕ) (c : Chunk) → AreNames ms → AreNames (ms ++ cond_call xid temp c ∷ [])
-one_name ms xid temp c h =
+one_name : (ms : List Message) (lbfs xid temp : ℕ) (c : Chunk) → AreNames ms → AreNames (ms ++ cond_call lbfs xid temp c ∷ [])
+one_name ms lbfs xid temp c h =
     let a = h.cond in
     let b = h.tmp in
     let d = h.read in
     let e = h.data_is in
-    let n = length_more ms (cond_call xid temp c) in
-    let p = sum_cond ms (cond_call xid temp c) in
-    let q = sum_tmp ms (cond_call xid temp c) in
-    let r = sum_read ms (cond_call xid temp c) in
-    let s = sum_data ms (cond_call xid temp c) in
+    let n = length_more ms (cond_call lbfs xid temp c) in
+    let p = sum_cond ms (cond_call lbfs xid temp c) in
+    let q = sum_tmp ms (cond_call lbfs xid temp c) in
+    let r = sum_read ms (cond_call lbfs xid temp c) in
+    let s = sum_data ms (cond_call lbfs xid temp c) in
     record { cond = omega (arith, a, p, n); tmp = omega (arith, b, q); read = omega (arith, d, r); data_is = omega (arith, e, s) }
 
 pub all_reads : (s : State) (file : ℕ) (f : Fetch) → AreReads (reads_of s file f).send
@@ -106,8 +106,8 @@ all_reads s file f = reads_keep (λ r. AreReads r.send) s.cache s.index file (λ
     by r c h None = one_read r.send r.next_xid file c h
     by r c h (Some bytes) = h
 
-pub all_names : (st : Store) (next : ℕ) → AreNames (names_all st next).send
-all_names st next = names_keep (λ n. AreNames n.send) (λ n c h at. one_name n.send n.next_xid n.store.temp c h) (calls_most - length st.under) (names_from st next) (record { cond = refl; tmp = refl; read = refl; data_is = refl })
+pub all_names : (lbfs : ℕ) (st : Store) (next : ℕ) → AreNames (names_all lbfs st next).send
+all_names lbfs st next = names_keep lbfs (λ n. AreNames n.send) (λ n c h at. one_name n.send lbfs n.next_xid n.store.temp c h) (calls_most - length st.under) (names_from st next) (record { cond = refl; tmp = refl; read = refl; data_is = refl })
 
 -- ---- an answer
 
@@ -147,13 +147,13 @@ tally_cases s calls file st x b = record {
       inl (record { cond = sym h.cond; tmp = sym h.tmp; read = sym h.read; data_is = omega (arith, a, z) });
   opens = λ f bytes now here. let z = came_now st x b f bytes now in inl (record { cond = refl; tmp = refl; read = refl; data_is = omega (arith, z) });
   names = λ w at known none is.
-      let h = all_names w s.next_xid in
+      let h = all_names s.lbfs w s.next_xid in
       let a = h.data_is in
       inl (record { cond = sym h.cond; tmp = sym h.tmp; read = sym h.read; data_is = omega (arith, a, none) });
   commits = λ w at known none is.
-      let n = names_all w s.next_xid in
-      let h = all_names w s.next_xid in
-      let m : Message = commit_call n.next_xid n.store.temp file (length (local_bytes s.opened file)) in
+      let n = names_all s.lbfs w s.next_xid in
+      let h = all_names s.lbfs w s.next_xid in
+      let m : Message = commit_call s.lbfs n.next_xid n.store.temp file (length (local_bytes s.opened file)) in
       let a = h.cond in
       let c = h.tmp in
       let d = h.read in

@@ -36,7 +36,6 @@ use Rattle.path_calls.specs.Walk.{next_call}
 use Rattle.kept_promise.proofs.PathNames.{is_making}
 use Rattle.kept_promise.proofs.WalkReplies.{walk_reply, reply_told}
 use Rattle.kept_promise.proofs.Unused.{directory_unused}
-use Rattle.wire.specs.declared.message.TheConstants.{LBFS_SPOKEN}
 
 -- ---- what a name stands for
 
@@ -114,7 +113,7 @@ hash_waits (stage.Listing y f) x o e = by (y == x) (end_of f.chunks) e
     by false z e = nothing_there o e
 hash_waits _ x o e = nothing_there o e
 
-tried_now : (book : Book) (k : Core) (qs : List Queue) (n : ℕ) (x : Session) (q : Queue) (a : Ask) (us : List Ask) (c : Seat) (j : Job) (s : Stage) (o : ℕ) → hash_offset s a.xid ≡ Some o → ((z : Op) → slice_get book.ops j.place ≡ Some z → TakesCall (onward book 1 book.ops) z.client (book.steps + 1) a.xid (hash_body j.file o)) → IsKept book k qs → numbered k.seats x.owner ≡ Some c → IsTalk book n k.server.waiting x q c → q.ups ≡ a ∷ us → job c ≡ Some j → j.stage ≡ s → TriedBy (onward book 1 book.ops) (with_taken x a.xid (book.steps + 1)) j a.xid s
+tried_now : (book : Book) (k : Core) (qs : List Queue) (n : ℕ) (x : Session) (q : Queue) (a : Ask) (us : List Ask) (c : Seat) (j : Job) (s : Stage) (o : ℕ) → hash_offset s a.xid ≡ Some o → ((z : Op) → slice_get book.ops j.place ≡ Some z → TakesCall (onward book 1 book.ops) z.client (book.steps + 1) a.xid (hash_body book.lbfs j.file o)) → IsKept book k qs → numbered k.seats x.owner ≡ Some c → IsTalk book n k.server.waiting x q c → q.ups ≡ a ∷ us → job c ≡ Some j → j.stage ≡ s → TriedBy (onward book 1 book.ops) (with_taken x a.xid (book.steps + 1)) j a.xid s
 tried_now book k qs n x q a us c j (stage.Hashing tries y) o waits call kept was talk e is at =
     let h = (kept.seats x.owner c was).trying j tries y is at in
     let g = grows_same book 1 in
@@ -133,7 +132,7 @@ tried_now book k qs n x q a us c j (stage.Hashing tries y) o waits call kept was
         was = finds_last x.taken talk.floor (record { xid = a.xid; step = book.steps + 1 }) talk.under rising.0;
         op = h.op;
         there = h.there;
-        takes = subst (λ (z : ℕ). TakesCall (onward book 1 book.ops) h.op.client (book.steps + 1) a.xid (hash_body j.file z)) (first (y == a.xid) waits) (call h.op h.there);
+        takes = subst (λ (z : ℕ). TakesCall (onward book 1 book.ops) h.op.client (book.steps + 1) a.xid (hash_body book.lbfs j.file z)) (first (y == a.xid) waits) (call h.op h.there);
       };
     }
   where
@@ -194,19 +193,19 @@ gone_told book k qs n x q a f us c j kept was talk e is same none =
 abbrev pub lease_reply : (term : ℕ) → Tree → (f : ℕ) → Reply
 lease_reply term t f = Versioned (lease_answer term (node_of t (handle_bytes f)))
 
-pub lease_reply_fits : FitLaws → (book : Book) (s : server.State) (xid term f : ℕ) → IsServer book s → xid < 4294967296 → term < 4294967296 → f < 18446744073709551616 → ToldFits (record { xid = xid; reply = lease_reply term s.tree f })
+pub lease_reply_fits : FitLaws → (book : Book) (s : server.State) (xid term f : ℕ) → IsServer book s → xid < 4294967296 → term < 4294967296 → f < 18446744073709551616 → ToldFits book.lbfs (record { xid = xid; reply = lease_reply term s.tree f })
 lease_reply_fits laws book s xid term f h x leased lt = by (looked s.tree f lt)
   where
-    by : Found s.tree f → ToldFits (record { xid = xid; reply = lease_reply term s.tree f })
-    by (is_directory z there none e) = subst (λ (node : Result Node Status). ToldFits (record { xid = xid; reply = Versioned (lease_answer term node) })) (sym e) (laws.plain xid (Versioned (Failed status.IsDir tt)) x tt)
-    by (is_gone none e) = subst (λ (node : Result Node Status). ToldFits (record { xid = xid; reply = Versioned (lease_answer term node) })) (sym e) (laws.plain xid (Versioned (Failed status.Stale tt)) x tt)
+    by : Found s.tree f → ToldFits book.lbfs (record { xid = xid; reply = lease_reply term s.tree f })
+    by (is_directory z there none e) = subst (λ (node : Result Node Status). ToldFits book.lbfs (record { xid = xid; reply = Versioned (lease_answer term node) })) (sym e) (laws.plain book.lbfs xid (Versioned (Failed status.IsDir tt)) x tt)
+    by (is_gone none e) = subst (λ (node : Result Node Status). ToldFits book.lbfs (record { xid = xid; reply = Versioned (lease_answer term node) })) (sym e) (laws.plain book.lbfs xid (Versioned (Failed status.Stale tt)) x tt)
     by (is_file g at e) =
         let b = subst (FileIs book f) at (h.held f) in
         let v = (file_bounded s.tree f g h.bounded at).0 in
         let c = h.changes in
         let id = b.0 in
         let small = b.2 in
-        subst (λ (node : Result Node Status). ToldFits (record { xid = xid; reply = Versioned (lease_answer term node) })) (sym e) (laws.leases xid term g x leased (omega (arith, id, small), omega (arith, v, c), b.5))
+        subst (λ (node : Result Node Status). ToldFits book.lbfs (record { xid = xid; reply = Versioned (lease_answer term node) })) (sym e) (laws.leases book.lbfs xid term g x leased (omega (arith, id, small), omega (arith, v, c), b.5))
 
 -- the call that waits where a GETLEASE does
 lease_waits : (st : Stage) (x : ℕ) → lease_xid st ≡ Some x → client.pending_in st ≡ client.lb_pending lb_proc.GetLease x
@@ -214,12 +213,12 @@ lease_waits (stage.Asking y) x e = ap (client.lb_pending lb_proc.GetLease) (some
 lease_waits (stage.Rewriting y) x e = ap (client.lb_pending lb_proc.GetLease) (some_is y x e)
 lease_waits _ x e = nothing_there x e
 
-pub lease_told : FitLaws → (book : Book) (k : Core) (qs : List Queue) (n now : ℕ) (x : Session) (q : Queue) (xid term f : ℕ) (us : List Ask) (c : Seat) → IsKept book k qs → numbered k.seats x.owner ≡ Some c → c.session ≡ Some n → IsTalk book n k.server.waiting x q c → q.ups ≡ record { xid = xid; call = Lease f } ∷ us → CallFits xid (Lease f)
-    → IsNoted book k (Serves n now (message_spell (ask_message (record { xid = xid; call = Lease f })))) → AnswerOf (onward book 1 book.ops) (with_taken x xid (book.steps + 1)) x.closing (job c) xid (lease_reply term k.server.tree f)
-lease_told laws book k qs n now x q xid term f us c kept was here talk e fits noted = λ j is at. by j is at ((subst (AllAsks (IsAsked (job c))) e talk.asked).0 j is at) (looked k.server.tree f fits.1)
+pub lease_told : FitLaws → (book : Book) (k : Core) (qs : List Queue) (n now : ℕ) (x : Session) (q : Queue) (lbfs xid term f : ℕ) (us : List Ask) (c : Seat) → IsKept book k qs → numbered k.seats x.owner ≡ Some c → c.session ≡ Some n → IsTalk book n k.server.waiting x q c → q.ups ≡ record { lbfs = lbfs; xid = xid; call = Lease f } ∷ us → CallFits lbfs xid (Lease f) → lbfs ≡ book.lbfs
+    → IsNoted book k (Serves n now (message_spell (ask_message (record { lbfs = lbfs; xid = xid; call = Lease f })))) → AnswerOf (onward book 1 book.ops) (with_taken x xid (book.steps + 1)) x.closing (job c) xid (lease_reply term k.server.tree f)
+lease_told laws book k qs n now x q lbfs xid term f us c kept was here talk e fits speaks noted = λ j is at. by j is at ((subst (AllAsks (IsAsked (job c))) e talk.asked).0 j is at) (looked k.server.tree f fits.1)
   where
     a : Ask
-    a = record { xid = xid; call = Lease f }
+    a = record { lbfs = lbfs; xid = xid; call = Lease f }
 
     by : (j : Job) → job c ≡ Some j → lease_xid j.stage ≡ Some xid → j.file ≡ f → Found k.server.tree f → LeaseTold (onward book 1 book.ops) (with_taken x xid (book.steps + 1)) j xid (lease_answer term (node_of k.server.tree (handle_bytes f)))
     by j is asks same (is_directory d there none at) = subst (λ (node : Result Node Status). LeaseTold (onward book 1 book.ops) (with_taken x xid (book.steps + 1)) j xid (lease_answer term node)) (sym at) (directory_told book k qs n now x q a f us c j d kept was talk e is noted same there)
@@ -238,7 +237,7 @@ lease_told laws book k qs n now x q xid term f us c kept was here talk e fits no
                 was = finds_last x.taken talk.floor (record { xid = xid; step = book.steps + 1 }) talk.under rising.0;
                 op = of.op;
                 there = of.there;
-                takes = subst (λ (i : ℕ). TakesCall (onward book 1 book.ops) of.op.client (book.steps + 1) xid (lease_body i)) (sym same) (takes_now book k qs n now x a c j (lease_body f) kept was here is own noted (parsed laws a fits) of.op of.there);
+                takes = subst (λ (i : ℕ). TakesCall (onward book 1 book.ops) of.op.client (book.steps + 1) xid (lease_body book.lbfs i)) (sym same) (subst (λ (v : ℕ). TakesCall (onward book 1 book.ops) of.op.client (book.steps + 1) xid (lease_body v f)) speaks (takes_now book k qs n now x a c j (lease_body lbfs f) kept was here is own noted (parsed laws a fits) of.op of.there));
               }
               );
           known = there_later book (onward book 1 book.ops) None None j.file (grows_same book 1) (subst (λ (i : ℕ). WasThere book i) (sym same) (is_there book f g held));
@@ -303,77 +302,77 @@ came_told book more k qs n x taken xid w c r e kept was here noted sent moments 
     }
 
 -- an answer to it, which came of it in this step
-pub walk_came : (book more : Book) (k : Core) (qs : List Queue) (n now : ℕ) (x : Session) (q : Queue) (xid : ℕ) (w : Walk) (us : List Ask) (c : Seat) (r : NameReply) → IsKept book k qs → numbered k.seats x.owner ≡ Some c → c.session ≡ Some n → IsTalk book n k.server.waiting x q c → q.ups ≡ record { xid = xid; call = Walks w } ∷ us
-    → IsNoted book k (Serves n now (message_spell (ask_message (record { xid = xid; call = Walks w })))) → Contains (happens k (Serves n now (message_spell (ask_message (record { xid = xid; call = Walks w }))))).down (record { session = n; message = message.Answer xid (body.Nfs (name_answer r)) })
+pub walk_came : (book more : Book) (k : Core) (qs : List Queue) (n now : ℕ) (x : Session) (q : Queue) (lbfs xid : ℕ) (w : Walk) (us : List Ask) (c : Seat) (r : NameReply) → IsKept book k qs → numbered k.seats x.owner ≡ Some c → c.session ≡ Some n → IsTalk book n k.server.waiting x q c → q.ups ≡ record { lbfs = lbfs; xid = xid; call = Walks w } ∷ us
+    → IsNoted book k (Serves n now (message_spell (ask_message (record { lbfs = lbfs; xid = xid; call = Walks w })))) → Contains (happens k (Serves n now (message_spell (ask_message (record { lbfs = lbfs; xid = xid; call = Walks w }))))).down (record { session = n; message = message.Answer xid (body.Nfs (name_answer r)) })
     → more.moments ≡ book.moments → more.steps ≡ book.steps + 1
-    → ((j : Job) (o : Op) → job c ≡ Some j → j.stage ≡ stage.Walking xid w → slice_get book.ops j.place ≡ Some o → (z : Op) × (slice_get more.ops j.place ≡ Some z) × (z.begin ≡ o.begin) × (z.client ≡ o.client) × WalkCame more (record { before = k; event = Serves n now (message_spell (ask_message (record { xid = xid; call = Walks w }))) }) (book.steps + 1) x.closing j z w (name_answer r))
+    → ((j : Job) (o : Op) → job c ≡ Some j → j.stage ≡ stage.Walking xid w → slice_get book.ops j.place ≡ Some o → (z : Op) × (slice_get more.ops j.place ≡ Some z) × (z.begin ≡ o.begin) × (z.client ≡ o.client) × WalkCame more (record { before = k; event = Serves n now (message_spell (ask_message (record { lbfs = lbfs; xid = xid; call = Walks w }))) }) (book.steps + 1) x.closing j z w (name_answer r))
     → AnswerOf more (with_taken x xid (book.steps + 1)) x.closing (job c) xid (Walked r)
-walk_came book more k qs n now x q xid w us c r kept was here talk e noted sent moments steps came = λ j v is at.
+walk_came book more k qs n now x q lbfs xid w us c r kept was here talk e noted sent moments steps came = λ j v is at.
     let rising = subst (λ (l : List Ask). Rising talk.floor l c.client.next_xid) e talk.rising in
     let same : v ≡ w = (subst (AllAsks (IsAsked (job c))) e talk.asked).0 j v is at in
     subst (λ (u : Walk). WalkTold more (with_taken x xid (book.steps + 1)) x.closing j xid u (name_answer r)) (sym same)
-    (came_told book more k qs n x (with_taken x xid (book.steps + 1)) xid w c r (Serves n now (message_spell (ask_message (record { xid = xid; call = Walks w })))) kept was here noted sent moments steps j is (λ none. finds_last x.taken talk.floor (record { xid = xid; step = book.steps + 1 }) talk.under rising.0)
+    (came_told book more k qs n x (with_taken x xid (book.steps + 1)) xid w c r (Serves n now (message_spell (ask_message (record { lbfs = lbfs; xid = xid; call = Walks w })))) kept was here noted sent moments steps j is (λ none. finds_last x.taken talk.floor (record { xid = xid; step = book.steps + 1 }) talk.under rising.0)
     (λ o there. came j o is (at ∙ ap (stage.Walking xid) same) there))
 
 -- what the tree tells of it now
-pub walk_told : (book : Book) (k : Core) (qs : List Queue) (n now : ℕ) (x : Session) (q : Queue) (xid : ℕ) (w : Walk) (us : List Ask) (c : Seat) → IsKept book k qs → numbered k.seats x.owner ≡ Some c → c.session ≡ Some n → IsTalk book n k.server.waiting x q c → q.ups ≡ record { xid = xid; call = Walks w } ∷ us → CallFits xid (Walks w) → is_making w ≡ false
-    → IsNoted book k (Serves n now (message_spell (ask_message (record { xid = xid; call = Walks w })))) → Contains (happens k (Serves n now (message_spell (ask_message (record { xid = xid; call = Walks w }))))).down (record { session = n; message = message.Answer xid (body.Nfs (name_answer (walk_reply k.server.tree w))) }) → AnswerOf (onward book 1 book.ops) (with_taken x xid (book.steps + 1)) x.closing (job c) xid (Walked (walk_reply k.server.tree w))
-walk_told book k qs n now x q xid w us c kept was here talk e fits none noted sent =
-    walk_came book (onward book 1 book.ops) k qs n now x q xid w us c (walk_reply k.server.tree w) kept was here talk e noted sent refl refl
+pub walk_told : (book : Book) (k : Core) (qs : List Queue) (n now : ℕ) (x : Session) (q : Queue) (lbfs xid : ℕ) (w : Walk) (us : List Ask) (c : Seat) → IsKept book k qs → numbered k.seats x.owner ≡ Some c → c.session ≡ Some n → IsTalk book n k.server.waiting x q c → q.ups ≡ record { lbfs = lbfs; xid = xid; call = Walks w } ∷ us → CallFits lbfs xid (Walks w) → is_making w ≡ false
+    → IsNoted book k (Serves n now (message_spell (ask_message (record { lbfs = lbfs; xid = xid; call = Walks w })))) → Contains (happens k (Serves n now (message_spell (ask_message (record { lbfs = lbfs; xid = xid; call = Walks w }))))).down (record { session = n; message = message.Answer xid (body.Nfs (name_answer (walk_reply k.server.tree w))) }) → AnswerOf (onward book 1 book.ops) (with_taken x xid (book.steps + 1)) x.closing (job c) xid (Walked (walk_reply k.server.tree w))
+walk_told book k qs n now x q lbfs xid w us c kept was here talk e fits none noted sent =
+    walk_came book (onward book 1 book.ops) k qs n now x q lbfs xid w us c (walk_reply k.server.tree w) kept was here talk e noted sent refl refl
     (λ j o is at there. (o, there, refl, refl, inl (reply_told k.server.tree w fits.1 none, λ i f. let le = (kept.sound.past i (book.steps + 1) f).1 in omega (arith, le))))
 
 -- ---- a GETHASH
 
-abbrev pub hash_range : (f offset : ℕ) → HashRange
-hash_range f offset = record { lbfs = LBFS_SPOKEN; handle = handle_bytes f; offset = offset; count = 4294967295 }
+abbrev pub hash_range : (lbfs f offset : ℕ) → HashRange
+hash_range lbfs f offset = record { lbfs = lbfs; handle = handle_bytes f; offset = offset; count = 4294967295 }
 
-abbrev pub hash_reply : (term : ℕ) → Tree → (f offset : ℕ) → Reply
-hash_reply term t f offset = Hashed (hash_answer term (node_of t (handle_bytes f)) (hash_range f offset))
+abbrev pub hash_reply : (lbfs term : ℕ) → Tree → (f offset : ℕ) → Reply
+hash_reply lbfs term t f offset = Hashed (hash_answer term (node_of t (handle_bytes f)) (hash_range lbfs f offset))
 
-pub hash_reply_fits : FitLaws → (book : Book) (s : server.State) (xid term f offset : ℕ) → IsServer book s → xid < 4294967296 → term < 4294967296 → f < 18446744073709551616 → ToldFits (record { xid = xid; reply = hash_reply term s.tree f offset })
-hash_reply_fits laws book s xid term f offset h x leased lt = by (looked s.tree f lt)
+pub hash_reply_fits : FitLaws → (book : Book) (s : server.State) (lbfs xid term f offset : ℕ) → IsServer book s → xid < 4294967296 → term < 4294967296 → f < 18446744073709551616 → ToldFits book.lbfs (record { xid = xid; reply = hash_reply lbfs term s.tree f offset })
+hash_reply_fits laws book s lbfs xid term f offset h x leased lt = by (looked s.tree f lt)
   where
-    by : Found s.tree f → ToldFits (record { xid = xid; reply = hash_reply term s.tree f offset })
-    by (is_directory z there none e) = subst (λ (node : Result Node Status). ToldFits (record { xid = xid; reply = Hashed (hash_answer term node (hash_range f offset)) })) (sym e) (laws.plain xid (Hashed (Failed status.IsDir tt)) x tt)
-    by (is_gone none e) = subst (λ (node : Result Node Status). ToldFits (record { xid = xid; reply = Hashed (hash_answer term node (hash_range f offset)) })) (sym e) (laws.plain xid (Hashed (Failed status.Stale tt)) x tt)
+    by : Found s.tree f → ToldFits book.lbfs (record { xid = xid; reply = hash_reply lbfs term s.tree f offset })
+    by (is_directory z there none e) = subst (λ (node : Result Node Status). ToldFits book.lbfs (record { xid = xid; reply = Hashed (hash_answer term node (hash_range lbfs f offset)) })) (sym e) (laws.plain book.lbfs xid (Hashed (Failed status.IsDir tt)) x tt)
+    by (is_gone none e) = subst (λ (node : Result Node Status). ToldFits book.lbfs (record { xid = xid; reply = Hashed (hash_answer term node (hash_range lbfs f offset)) })) (sym e) (laws.plain book.lbfs xid (Hashed (Failed status.Stale tt)) x tt)
     by (is_file g at e) =
         let b = subst (FileIs book f) at (h.held f) in
         let v = (file_bounded s.tree f g h.bounded at).0 in
         let c = h.changes in
         let id = b.0 in
         let small = b.2 in
-        subst (λ (node : Result Node Status). ToldFits (record { xid = xid; reply = Hashed (hash_answer term node (hash_range f offset)) })) (sym e) (laws.hashes xid term g (handle_bytes f) offset x leased (omega (arith, id, small), omega (arith, v, c), b.5))
+        subst (λ (node : Result Node Status). ToldFits book.lbfs (record { xid = xid; reply = Hashed (hash_answer term node (hash_range lbfs f offset)) })) (sym e) (laws.hashes book.lbfs lbfs xid term g (handle_bytes f) offset h.serves x leased (omega (arith, id, small), omega (arith, v, c), b.5))
 
-pub hash_told : FitLaws → (book : Book) (k : Core) (qs : List Queue) (n now : ℕ) (x : Session) (q : Queue) (xid term f offset : ℕ) (us : List Ask) (c : Seat) → IsKept book k qs → numbered k.seats x.owner ≡ Some c → c.session ≡ Some n → IsTalk book n k.server.waiting x q c → q.ups ≡ record { xid = xid; call = Hash f offset } ∷ us → CallFits xid (Hash f offset)
-    → IsNoted book k (Serves n now (message_spell (ask_message (record { xid = xid; call = Hash f offset })))) → AnswerOf (onward book 1 book.ops) (with_taken x xid (book.steps + 1)) x.closing (job c) xid (hash_reply term k.server.tree f offset)
-hash_told laws book k qs n now x q xid term f offset us c kept was here talk e fits noted = λ j o is waits. (
+pub hash_told : FitLaws → (book : Book) (k : Core) (qs : List Queue) (n now : ℕ) (x : Session) (q : Queue) (lbfs xid term f offset : ℕ) (us : List Ask) (c : Seat) → IsKept book k qs → numbered k.seats x.owner ≡ Some c → c.session ≡ Some n → IsTalk book n k.server.waiting x q c → q.ups ≡ record { lbfs = lbfs; xid = xid; call = Hash f offset } ∷ us → CallFits lbfs xid (Hash f offset) → lbfs ≡ book.lbfs
+    → IsNoted book k (Serves n now (message_spell (ask_message (record { lbfs = lbfs; xid = xid; call = Hash f offset })))) → AnswerOf (onward book 1 book.ops) (with_taken x xid (book.steps + 1)) x.closing (job c) xid (hash_reply lbfs term k.server.tree f offset)
+hash_told laws book k qs n now x q lbfs xid term f offset us c kept was here talk e fits speaks noted = λ j o is waits. (
   by j o is (asks j o is waits) (looked k.server.tree f fits.1),
-  tried_now book k qs n x q (record { xid = xid; call = Hash f offset }) us c j j.stage o waits (calls j o is waits) kept was talk e is refl,
+  tried_now book k qs n x q (record { lbfs = lbfs; xid = xid; call = Hash f offset }) us c j j.stage o waits (calls j o is waits) kept was talk e is refl,
 )
   where
     asks : (j : Job) (o : ℕ) → job c ≡ Some j → hash_offset j.stage xid ≡ Some o → (j.file ≡ f) × (o ≡ offset)
     asks j o is waits = (subst (AllAsks (IsAsked (job c))) e talk.asked).0 j o is waits
 
-    calls : (j : Job) (o : ℕ) → job c ≡ Some j → hash_offset j.stage xid ≡ Some o → (z : Op) → slice_get book.ops j.place ≡ Some z → TakesCall (onward book 1 book.ops) z.client (book.steps + 1) xid (hash_body j.file o)
+    calls : (j : Job) (o : ℕ) → job c ≡ Some j → hash_offset j.stage xid ≡ Some o → (z : Op) → slice_get book.ops j.place ≡ Some z → TakesCall (onward book 1 book.ops) z.client (book.steps + 1) xid (hash_body book.lbfs j.file o)
     calls j o is waits z at =
         let same = asks j o is waits in
-        subst (λ (i : ℕ). TakesCall (onward book 1 book.ops) z.client (book.steps + 1) xid (hash_body i o)) (sym same.0)
-        (subst (λ (y : ℕ). TakesCall (onward book 1 book.ops) z.client (book.steps + 1) xid (hash_body f y)) (sym same.1)
-        (takes_now book k qs n now x (record { xid = xid; call = Hash f offset }) c j (hash_body f offset) kept was here is (hash_waits j.stage xid o waits) noted (parsed laws (record { xid = xid; call = Hash f offset }) fits) z at))
+        subst (λ (i : ℕ). TakesCall (onward book 1 book.ops) z.client (book.steps + 1) xid (hash_body book.lbfs i o)) (sym same.0)
+        (subst (λ (y : ℕ). TakesCall (onward book 1 book.ops) z.client (book.steps + 1) xid (hash_body book.lbfs f y)) (sym same.1)
+        (subst (λ (v : ℕ). TakesCall (onward book 1 book.ops) z.client (book.steps + 1) xid (hash_body v f offset)) speaks (takes_now book k qs n now x (record { lbfs = lbfs; xid = xid; call = Hash f offset }) c j (hash_body lbfs f offset) kept was here is (hash_waits j.stage xid o waits) noted (parsed laws (record { lbfs = lbfs; xid = xid; call = Hash f offset }) fits) z at)))
 
-    by : (j : Job) (o : ℕ) → job c ≡ Some j → (j.file ≡ f) × (o ≡ offset) → Found k.server.tree f → HashTold (onward book 1 book.ops) (with_taken x xid (book.steps + 1)) j xid o (hash_answer term (node_of k.server.tree (handle_bytes f)) (hash_range f offset))
-    by j o is same (is_directory d there none at) = subst (λ (node : Result Node Status). HashTold (onward book 1 book.ops) (with_taken x xid (book.steps + 1)) j xid o (hash_answer term node (hash_range f offset))) (sym at) (directory_told book k qs n now x q (record { xid = xid; call = Hash f offset }) f us c j d kept was talk e is noted same.0 there)
-    by j o is same (is_gone none at) = subst (λ (node : Result Node Status). HashTold (onward book 1 book.ops) (with_taken x xid (book.steps + 1)) j xid o (hash_answer term node (hash_range f offset))) (sym at) (gone_told book k qs n x q (record { xid = xid; call = Hash f offset }) f us c j kept was talk e is same.0 none)
+    by : (j : Job) (o : ℕ) → job c ≡ Some j → (j.file ≡ f) × (o ≡ offset) → Found k.server.tree f → HashTold (onward book 1 book.ops) (with_taken x xid (book.steps + 1)) j xid o (hash_answer term (node_of k.server.tree (handle_bytes f)) (hash_range lbfs f offset))
+    by j o is same (is_directory d there none at) = subst (λ (node : Result Node Status). HashTold (onward book 1 book.ops) (with_taken x xid (book.steps + 1)) j xid o (hash_answer term node (hash_range lbfs f offset))) (sym at) (directory_told book k qs n now x q (record { lbfs = lbfs; xid = xid; call = Hash f offset }) f us c j d kept was talk e is noted same.0 there)
+    by j o is same (is_gone none at) = subst (λ (node : Result Node Status). HashTold (onward book 1 book.ops) (with_taken x xid (book.steps + 1)) j xid o (hash_answer term node (hash_range lbfs f offset))) (sym at) (gone_told book k qs n x q (record { lbfs = lbfs; xid = xid; call = Hash f offset }) f us c j kept was talk e is same.0 none)
     by j o is same (is_file g there at) =
         let held = subst (FileIs book f) there (kept.server.held f) in
-        let noted_bytes : (i : ℕ) (d : Chunk) → slice_get (told_chunks g.content (range_from offset)) i ≡ Some d → Contains (hashed_of book.moments) (chunk_bytes g.content d) = λ i d w. noted.hashed (chunk_bytes g.content d) (subst (λ (l : List (List ℕ)). Contains l (chunk_bytes g.content d)) (sym (ap (served_hashed k n) (parsed laws (record { xid = xid; call = Hash f offset }) fits) ∙ ap (λ node. bytes_told node (hash_range f offset)) at)) (contains_at (map (chunk_bytes g.content) (told_chunks g.content (hash_range f offset))) i (chunk_bytes g.content d) (map_at (chunk_bytes g.content) (told_chunks g.content (hash_range f offset)) i d w))) in
-        subst (λ (node : Result Node Status). HashTold (onward book 1 book.ops) (with_taken x xid (book.steps + 1)) j xid o (hash_answer term node (hash_range f offset))) (sym at) (subst (λ (z : ℕ). IsHashed (onward book 1 book.ops) (with_taken x xid (book.steps + 1)) j xid z (hashes_of term g (hash_range f offset))) (sym same.1) (record {
+        let noted_bytes : (i : ℕ) (d : Chunk) → slice_get (told_chunks g.content (range_from offset)) i ≡ Some d → Contains (hashed_of book.moments) (chunk_bytes g.content d) = λ i d w. noted.hashed (chunk_bytes g.content d) (subst (λ (l : List (List ℕ)). Contains l (chunk_bytes g.content d)) (sym (ap (served_hashed k n) (parsed laws (record { lbfs = lbfs; xid = xid; call = Hash f offset }) fits) ∙ ap (λ node. bytes_told node (hash_range lbfs f offset)) at)) (contains_at (map (chunk_bytes g.content) (told_chunks g.content (hash_range lbfs f offset))) i (chunk_bytes g.content d) (map_at (chunk_bytes g.content) (told_chunks g.content (hash_range lbfs f offset)) i d w))) in
+        subst (λ (node : Result Node Status). HashTold (onward book 1 book.ops) (with_taken x xid (book.steps + 1)) j xid o (hash_answer term node (hash_range lbfs f offset))) (sym at) (subst (λ (z : ℕ). IsHashed (onward book 1 book.ops) (with_taken x xid (book.steps + 1)) j xid z (hashes_of term g (hash_range lbfs f offset))) (sym same.1) (record {
           file = g;
           is = refl;
-          held = held_now book k n now (record { xid = xid; call = Hash f offset }) j.file f g noted same.0 there;
+          held = held_now book k n now (record { lbfs = lbfs; xid = xid; call = Hash f offset }) j.file f g noted same.0 there;
           value = held.3.value;
           value_is = held.3.same;
-          told = told_now book k qs n x q (record { xid = xid; call = Hash f offset }) us c j (Some held.3.value) g.version kept was talk e is (ap (λ (i : ℕ). value_at book i (book.steps + 1)) same.0 ∙ held.3.is) (ap (λ (i : ℕ). version_at book i (book.steps + 1)) same.0 ∙ held.4);
+          told = told_now book k qs n x q (record { lbfs = lbfs; xid = xid; call = Hash f offset }) us c j (Some held.3.value) g.version kept was talk e is (ap (λ (i : ℕ). value_at book i (book.steps + 1)) same.0 ∙ held.3.is) (ap (λ (i : ℕ). version_at book i (book.steps + 1)) same.0 ∙ held.4);
           short = held.5;
           known = there_later book (onward book 1 book.ops) None None j.file (grows_same book 1) (subst (λ (i : ℕ). WasThere book i) (sym same.0) (is_there book f g held));
           hashed = noted_bytes;
@@ -387,28 +386,28 @@ read_range f d = record { handle = handle_bytes f; offset = d.start; count = d.l
 abbrev pub read_reply : Tree → (f : ℕ) → Chunk → Reply
 read_reply t f d = Bytes (read_answer (node_of t (handle_bytes f)) (read_range f d))
 
-pub read_reply_fits : FitLaws → (book : Book) (s : server.State) (xid f : ℕ) (d : Chunk) → IsServer book s → xid < 4294967296 → f < 18446744073709551616 → ToldFits (record { xid = xid; reply = read_reply s.tree f d })
+pub read_reply_fits : FitLaws → (book : Book) (s : server.State) (xid f : ℕ) (d : Chunk) → IsServer book s → xid < 4294967296 → f < 18446744073709551616 → ToldFits book.lbfs (record { xid = xid; reply = read_reply s.tree f d })
 read_reply_fits laws book s xid f d h x lt = by (looked s.tree f lt)
   where
-    by : Found s.tree f → ToldFits (record { xid = xid; reply = read_reply s.tree f d })
-    by (is_directory z there none e) = subst (λ (node : Result Node Status). ToldFits (record { xid = xid; reply = Bytes (read_answer node (read_range f d)) })) (sym e) (laws.plain xid (Bytes (Failed status.Inval None)) x tt)
-    by (is_gone none e) = subst (λ (node : Result Node Status). ToldFits (record { xid = xid; reply = Bytes (read_answer node (read_range f d)) })) (sym e) (laws.plain xid (Bytes (Failed status.Stale None)) x tt)
+    by : Found s.tree f → ToldFits book.lbfs (record { xid = xid; reply = read_reply s.tree f d })
+    by (is_directory z there none e) = subst (λ (node : Result Node Status). ToldFits book.lbfs (record { xid = xid; reply = Bytes (read_answer node (read_range f d)) })) (sym e) (laws.plain book.lbfs xid (Bytes (Failed status.Inval None)) x tt)
+    by (is_gone none e) = subst (λ (node : Result Node Status). ToldFits book.lbfs (record { xid = xid; reply = Bytes (read_answer node (read_range f d)) })) (sym e) (laws.plain book.lbfs xid (Bytes (Failed status.Stale None)) x tt)
     by (is_file g at e) =
         let b = subst (FileIs book f) at (h.held f) in
         let v = (file_bounded s.tree f g h.bounded at).0 in
         let c = h.changes in
         let id = b.0 in
         let small = b.2 in
-        subst (λ (node : Result Node Status). ToldFits (record { xid = xid; reply = Bytes (read_answer node (read_range f d)) })) (sym e) (laws.reads xid g (handle_bytes f) d.start d.len x (omega (arith, id, small), omega (arith, v, c), b.5))
+        subst (λ (node : Result Node Status). ToldFits book.lbfs (record { xid = xid; reply = Bytes (read_answer node (read_range f d)) })) (sym e) (laws.reads book.lbfs xid g (handle_bytes f) d.start d.len x (omega (arith, id, small), omega (arith, v, c), b.5))
 
-pub read_told : (book : Book) (k : Core) (qs : List Queue) (n now : ℕ) (x : Session) (q : Queue) (xid f : ℕ) (d : Chunk) (us : List Ask) (c : Seat) → IsKept book k qs → numbered k.seats x.owner ≡ Some c → IsTalk book n k.server.waiting x q c → q.ups ≡ record { xid = xid; call = Read f d } ∷ us → f < 18446744073709551616 → IsNoted book k (Serves n now (message_spell (ask_message (record { xid = xid; call = Read f d }))))
+pub read_told : (book : Book) (k : Core) (qs : List Queue) (n now : ℕ) (x : Session) (q : Queue) (lbfs xid f : ℕ) (d : Chunk) (us : List Ask) (c : Seat) → IsKept book k qs → numbered k.seats x.owner ≡ Some c → IsTalk book n k.server.waiting x q c → q.ups ≡ record { lbfs = lbfs; xid = xid; call = Read f d } ∷ us → f < 18446744073709551616 → IsNoted book k (Serves n now (message_spell (ask_message (record { lbfs = lbfs; xid = xid; call = Read f d }))))
     → AnswerOf (onward book 1 book.ops) (with_taken x xid (book.steps + 1)) x.closing (job c) xid (read_reply k.server.tree f d)
-read_told book k qs n now x q xid f d us c kept was talk e small noted = λ j g w is at waits. by j g w is at ((subst (AllAsks (IsAsked (job c))) e talk.asked).0 j w is waits) (subst (FetchOf book x.taken j) at (talk.fetch j is)) (looked k.server.tree f small)
+read_told book k qs n now x q lbfs xid f d us c kept was talk e small noted = λ j g w is at waits. by j g w is at ((subst (AllAsks (IsAsked (job c))) e talk.asked).0 j w is waits) (subst (FetchOf book x.taken j) at (talk.fetch j is)) (looked k.server.tree f small)
   where
     by : (j : Job) (g : Fetch) (w : Chunk) → job c ≡ Some j → j.stage ≡ stage.Reading g → (j.file ≡ f) × (w ≡ d) → ((h : IsFetch book x.taken j g) × IsReading book h.file.content g) → Found k.server.tree f → ReadTold (onward book 1 book.ops) (with_taken x xid (book.steps + 1)) j xid g.first w (read_answer (node_of k.server.tree (handle_bytes f)) (read_range f d))
     -- what was a file is no directory
     by j g w is at same h (is_directory z there none e2) = absurd (there_version book f (subst (λ (i : ℕ). WasThere book i) same.0 h.0.known) (kept.server.fresh f (directory_unused k.server.tree f z there)))
-    by j g w is at same h (is_gone none e2) = subst (λ (node : Result Node Status). ReadTold (onward book 1 book.ops) (with_taken x xid (book.steps + 1)) j xid g.first w (read_answer node (read_range f d))) (sym e2) (gone_told book k qs n x q (record { xid = xid; call = Read f d }) f us c j kept was talk e is same.0 none)
+    by j g w is at same h (is_gone none e2) = subst (λ (node : Result Node Status). ReadTold (onward book 1 book.ops) (with_taken x xid (book.steps + 1)) j xid g.first w (read_answer node (read_range f d))) (sym e2) (gone_told book k qs n x q (record { lbfs = lbfs; xid = xid; call = Read f d }) f us c j kept was talk e is same.0 none)
     by j g w is at same h (is_file z there e2) =
         let held = subst (FileIs book f) there (kept.server.held f) in
         let past = h.0.told.past in
@@ -416,7 +415,7 @@ read_told book k qs n now x q xid f d us c kept was talk e small noted = λ j g 
         subst (λ (node : Result Node Status). ReadTold (onward book 1 book.ops) (with_taken x xid (book.steps + 1)) j xid g.first w (read_answer node (read_range f d))) (sym e2) (subst (λ (v : Chunk). IsRead (onward book 1 book.ops) (with_taken x xid (book.steps + 1)) j g.first v (piece_of z (read_range f d))) (sym same.1) (record {
           file = z;
           is = refl;
-          held = held_now book k n now (record { xid = xid; call = Read f d }) j.file f z noted same.0 there;
+          held = held_now book k n now (record { lbfs = lbfs; xid = xid; call = Read f d }) j.file f z noted same.0 there;
           began = h.0.told.moment;
           was = finds_more x.taken (record { xid = xid; step = book.steps + 1 }) g.first h.0.told.moment h.0.told.was;
           last = book.steps + 1;

@@ -74,6 +74,7 @@ turned_core k more r seats sessions = record k { server = r; seats = seats; sess
 
 pub kept_turn : (book more : Book) (k : Core) (qs : List Queue) (r : server.State) (seats : List Seat) (sessions : List Session) (after : List Queue) (n : ℕ) (x y : Session) (q : Queue) (c d : Seat) (made ended : Option ℕ) → Turn book more k qs r seats sessions after n x y q c d made ended → more.journal ≡ r.journal → IsKept book k qs → IsKept more (turned_core k more r seats sessions) after
 kept_turn book more k qs r seats sessions after n x y q c d made ended t journal h = record {
+  lbfs = t.goes.grows.lbfs ∙ h.lbfs;
   ops = refl;
   steps = refl;
   journal = journal;

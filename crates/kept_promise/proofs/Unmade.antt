@@ -156,6 +156,7 @@ module _ (laws : FitLaws) (book : Book) (k : Core) (qs : List Queue) (now : ℕ)
         targets = λ i d w. let y = out.out.others i d w in there_later book more None None d.file grows (kept.server.targets y.0 d y.1);
         xids = λ i d w. let y = out.out.others i d w in kept.server.xids y.0 d y.1;
         leases = kept.server.leases;
+        serves = kept.server.serves;
       }
 
   kept_unmade : IsKept more (turned_core k more s k.seats k.sessions) (with_numbered qs n after)
@@ -167,7 +168,7 @@ module _ (laws : FitLaws) (book : Book) (k : Core) (qs : List Queue) (now : ℕ)
         journal_is = kept.journal;
         made_here = λ z w. nothing_there z w;
         key_is = key_is;
-        fits = laws.plain c.xid (Changed (Failed status.Stale tt)) (kept.server.xids out.out.place c out.out.there) tt;
+        fits = laws.plain book.lbfs c.xid (Changed (Failed status.Stale tt)) (kept.server.xids out.out.place c out.out.there) tt;
         answers = λ uncut. all_map (IsAnswer book x.taken x.closing (job h.seat)) (IsAnswer more x.taken x.closing (job h.seat)) (λ u f. answer_later book more None None x.taken x.closing (job h.seat) u grows spares f) q.downs (h.talk uncut).answers;
         answer = told_now;
         closes = λ uncut j f. close_later book more None None x.closing h.contents h.seat.client.next_temp j (client.local_bytes h.seat.client.opened j.file) j.stage grows spares (h.closes uncut j f);

@@ -60,9 +60,9 @@ way_waits n y w c q a us e here same =
 
 -- what one is to show
 -- a call's number is small
-call_xid : (xid : ℕ) (c : Call) → CallFits xid c → xid < 4294967296
-call_xid xid (Lease f) h = h.0
-call_xid xid _ h = h.0
+call_xid : (lbfs xid : ℕ) (c : Call) → CallFits lbfs xid c → xid < 4294967296
+call_xid lbfs xid (Lease f) h = h.0
+call_xid lbfs xid _ h = h.0
 
 pub record ComesToWait (book : Book) (k : Core) (n : ℕ) (x : Session) (q : Queue) (a : Ask) (us : List Ask) (temps : List (ℕ × Temp)) (d : Change) (h : IsSession book k.seats k.server n x q) : Type 0 where
   pub session_is : d.session ≡ n
@@ -122,10 +122,11 @@ kept_coming book k qs n now leasing x q a us temps d sessions after g leases com
           | inr old ↦ there_later book more None None u.file grows (kept.server.targets i u old)
         ];
         xids = λ i u at. elim (of_appended k.server.waiting d i u at) [
-          | inl new ↦ subst (λ (z : Change). z.xid < 4294967296) (sym new.1) (subst (λ (z : ℕ). z < 4294967296) (sym comes.xid_is) (call_xid a.xid a.call (first_fits book k qs n now x q a us g)))
+          | inl new ↦ subst (λ (z : Change). z.xid < 4294967296) (sym new.1) (subst (λ (z : ℕ). z < 4294967296) (sym comes.xid_is) (call_xid a.lbfs a.xid a.call (first_fits book k qs n now x q a us g)))
           | inr old ↦ kept.server.xids i u old
         ];
         leases = leases;
+        serves = kept.server.serves;
       };
       sessions_made = refl;
       view = λ o apart. record { stands_is = refl; waiting = own_there o k.server.waiting d (λ e. apart (sym e ∙ comes.session_is)); temps = λ i p u lt at q. comes.were i u at; found = comes.found o apart };
@@ -140,7 +141,8 @@ kept_coming book k qs n now leasing x q a us temps d sessions after g leases com
         shut = h.shut;
         lost = λ hung. absurd (false_and_true x.hung g.unhung hung);
         stands_is = h.stands_is;
-        ups_fit = (subst (AllAsks (λ b. CallFits b.xid b.call)) g.first h.ups_fit).1;
+        ups_fit = (subst (AllAsks (λ b. CallFits b.lbfs b.xid b.call)) g.first h.ups_fit).1;
+        ups_speak = (subst (AllAsks (λ b. b.lbfs ≡ book.lbfs)) g.first h.ups_speak).1;
         downs_fit = h.downs_fit;
         talk = λ uncut.
             let talk = h.talk uncut in

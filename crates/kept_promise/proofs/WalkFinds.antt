@@ -70,7 +70,8 @@ pub record FindsOn (book : Book) (k : Core) (qs : List Queue) (n : ℕ) (x : Ses
   pub first : First (session_at book k qs n x q t ts j g).seat.client.next_xid s a
   pub moves : Moves (client.calls_of (session_at book k qs n x q t ts j g).seat.client) (client.pending_in s ++ (session_at book k qs n x q t ts j g).seat.client.forgotten) t (a ∷ [])
   pub asked : IsAsked (Some (of_file j id s)) a
-  pub fits : CallFits a.xid a.call
+  pub fits : CallFits a.lbfs a.xid a.call
+  pub speaks : a.lbfs ≡ book.lbfs
   pub piece : IsPiece (hashed_of book.moments) (session_at book k qs n x q t ts j g).contents a
   pub under : TempUnder (session_at book k qs n x q t ts j g).seat.client.next_temp a.call
   pub fetching : AllFetching (a ∷ [])
@@ -115,6 +116,7 @@ kept_finds book k qs n x q t ts j g id s a cache sent tr seats after w cached ar
       rising = (let e = w.first.xid in omega (arith, e), let e = w.first.xid in omega (arith, e));
       asked = (w.asked, tt);
       fits = (w.fits, tt);
+      speak = (w.speaks, tt);
       commits = no_commits more x.closing x.cut (Some i) h.contents (a ∷ []) w.none;
       pieces = (w.piece, tt);
       under = (w.under, tt);
@@ -128,6 +130,7 @@ kept_finds book k qs n x q t ts j g id s a cache sent tr seats after w cached ar
         session = seat_was.session;
         linked = seat_was.linked;
         unlinked = λ f. absurd (false_and_true h.seat.client.linked f (h.here g.uncut).1);
+        speaks = seat_was.speaks;
         matched = inr (i, refl);
         task = λ m f. subst (IsOf more x.owner) (some_is i m f) moved;
         trying = λ v m y f e. let same = some_is i v f in subst (λ (z : Job). Trying more z m) same (let one = w.tries m y (ap (λ (z : Job). z.stage) same ∙ e) in record { op = r; there = at_replaced book.ops j.place r of.op of.there; count = 0; tries_is = one; tried = let b = right.begun in omega (arith, b) });

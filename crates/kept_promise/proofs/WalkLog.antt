@@ -383,11 +383,11 @@ file_none s calls file st x b of = took_cases (λ found r. SendsNone (map Sent r
   lists = λ f g is at told far. tt;
   reads = λ f bytes now here. own_none words.Open file [] (map Sent (reads_of s file f).send) (reads_own s file [] f);
   opens = λ f bytes now here. tt;
-  names = λ w at known none is. own_none words.Close file (client.local_bytes s.opened file) (map Sent (names_all w s.next_xid).send) (names_own file (client.local_bytes s.opened file) w s.next_xid).0;
+  names = λ w at known none is. own_none words.Close file (client.local_bytes s.opened file) (map Sent (names_all s.lbfs w s.next_xid).send) (names_own s.lbfs file (client.local_bytes s.opened file) w s.next_xid).0;
   commits = λ w at known none is.
-      let n = names_all w s.next_xid in
-      let commit : Message = commit_call n.next_xid n.store.temp file (length (client.local_bytes s.opened file)) in
-      own_none words.Close file (client.local_bytes s.opened file) (map Sent (n.send ++ commit ∷ [])) (subst (AreOwn words.Close file (client.local_bytes s.opened file)) (sym (sent_more n.send commit)) (own_join words.Close file (client.local_bytes s.opened file) (map Sent n.send) (Sent commit ∷ []) (names_own file (client.local_bytes s.opened file) w s.next_xid).0 ((refl, refl), tt)));
+      let n = names_all s.lbfs w s.next_xid in
+      let commit : Message = commit_call s.lbfs n.next_xid n.store.temp file (length (client.local_bytes s.opened file)) in
+      own_none words.Close file (client.local_bytes s.opened file) (map Sent (n.send ++ commit ∷ [])) (subst (AreOwn words.Close file (client.local_bytes s.opened file)) (sym (sent_more n.send commit)) (own_join words.Close file (client.local_bytes s.opened file) (map Sent n.send) (Sent commit ∷ []) (names_own s.lbfs file (client.local_bytes s.opened file) w s.next_xid).0 ((refl, refl), tt)));
   whole = λ old c k at unknown none found name chunk. tt;
 })
   where

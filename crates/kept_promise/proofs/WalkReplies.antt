@@ -94,7 +94,7 @@ fits_at t xid dir [] (goal.RenameFrom name to) h names aim asks none x = absurd 
 fits_at t xid dir [] _ h names aim asks none x = absurd cc
 
 pub name_answers_fit : NameAnswersFit
-name_answers_fit = λ xid t w r x h small e.
+name_answers_fit = λ lbfs xid t w r x h small e.
     let none = making_untold t w (name_answer r) e in
     let same : name_answer (walk_reply t w) ≡ name_answer r = some_is (name_answer (walk_reply t w)) (name_answer r) (sym (reply_told t w small none) ∙ e) in
     (subst (λ (m : Nfs). MessageFits (message.Answer xid (body.Nfs m))) same (fits_at t xid w.dir w.left w.goal h small.named.0 small.named.1 small.ahead none x), tt)

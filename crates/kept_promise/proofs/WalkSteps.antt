@@ -39,7 +39,7 @@ use Rattle.kept_promise.proofs.Caches.{cached_reserved}
 use Rattle.kept_promise.proofs.Facts.{IsSession, IsOf, HasXids, is_naming}
 use Rattle.kept_promise.proofs.Heard.{Moves, told_pending, ask_pending, change_once}
 use Rattle.kept_promise.proofs.Moves.{moves_single}
-use Rattle.kept_promise.proofs.Steps.{goal_not_close, Here, session_at, job_op, on, Quiet, others_in_order}
+use Rattle.kept_promise.proofs.Steps.{speaks_at, spoken_at, goal_not_close, Here, session_at, job_op, on, Quiet, others_in_order}
 use Rattle.kept_promise.proofs.Comes.{client_at}
 use Rattle.kept_promise.proofs.CloseEnds.{quiet_walked}
 use Rattle.kept_promise.proofs.CloseSteps.{calls_are, task_is}
@@ -162,7 +162,7 @@ module _ (book : Book) (k : Core) (qs : List Queue) (n : ℕ) (x : Session) (q :
   goes_on : (v : Walk) → IsWalkSmall v → walk_calls v + 1 ≤ walk_calls w → goal_word v.goal ≡ goal_word w.goal → (changes (goal_word v.goal) ≡ true → makes_later w.left w.goal ≡ true) → Leads_to book k qs n x q t ts j g (asks_next (idle c) v)
   goes_on v small less same later =
       let s = stage.Walking c.next_xid v in
-      let a : Ask = record { xid = c.next_xid; call = Walks v } in
+      let a : Ask = record { lbfs = c.lbfs; xid = c.next_xid; call = Walks v } in
       let next = (g.kept.seats x.owner h.seat h.owner).next.0 in
       let room = xids in
       leads_goes book k qs n x q t ts j g (asks_next (idle c) v).0 (asks_next (idle c) v).1 refl (record {
@@ -187,6 +187,7 @@ module _ (book : Book) (k : Core) (qs : List Queue) (n : ℕ) (x : Session) (q :
           rising = (omega arith, omega arith);
           asked = (λ i u e f. sym (walk_is c.next_xid c.next_xid v u (ap (λ (z : Job). z.stage) (some_is (on j s) i e) ∙ f)), tt);
           fits = ((omega (arith, room, less), small), tt);
+          speak = (speaks_at book k qs n x q t ts j g, tt);
           commits = ((λ making. let o = owed (later (creates_changes v.left v.goal making)) in record { place = j.place; known = o.known; op = o.op; there = o.there; unmade = o.unmade; word_is = o.word_is ∙ sym same; file_is = o.file_is; waited = λ u. ap (λ (z : ℕ). Some (record { place = j.place; file = z; stage = s })) fact.0 }), tt);
           pieces = (tt, tt);
           under = (tt, tt);
@@ -434,9 +435,9 @@ module _ (book : Book) (k : Core) (qs : List Queue) (n : ℕ) (x : Session) (q :
       (ops_now book x.owner h.seat j of state x.taken acts g.job_is ∙ ap (slice_set book.ops j.place) op_is) send
       (λ seats after around queues. kept_finds book k qs n x q t ts j g id s a (reserved c.cache id) c.clock tr seats after shows (cached_reserved book c.cache id (g.kept.seats x.owner h.seat h.owner).kept) around queues)
 
-  fetches_on : (id : ℕ) → id < 18446744073709551616 → goal_word w.goal ≡ words.Open → 380002 ≤ walk_calls w → FindsOn book k qs n x q t ts j g id (stage.Hashing 1 c.next_xid) (record { xid = c.next_xid; call = Hash id 0 })
+  fetches_on : (id : ℕ) → id < 18446744073709551616 → goal_word w.goal ≡ words.Open → 380002 ≤ walk_calls w → FindsOn book k qs n x q t ts j g id (stage.Hashing 1 c.next_xid) (record { lbfs = c.lbfs; xid = c.next_xid; call = Hash id 0 })
   fetches_on id small opens room =
-      let first = hash_first c.next_xid id in
+      let first = hash_first c.lbfs c.next_xid id in
       let has = xids in
       record {
         quiet = quiet;
@@ -444,9 +445,10 @@ module _ (book : Book) (k : Core) (qs : List Queue) (n : ℕ) (x : Session) (q :
         word = sym (word_is ∙ opens);
         none = omega arith;
         first = first;
-        moves = moves (stage.Hashing 1 c.next_xid) (record { xid = c.next_xid; call = Hash id 0 }) first.pending;
+        moves = moves (stage.Hashing 1 c.next_xid) (record { lbfs = c.lbfs; xid = c.next_xid; call = Hash id 0 }) first.pending;
         asked = λ i o e w. (ap (λ (z : Job). z.file) (sym (some_is (of_file j id (stage.Hashing 1 c.next_xid)) i e)), sym (some_is 0 o (sym (ap (λ b. cond b (Some 0) None) (eq-eqb c.next_xid c.next_xid refl)) ∙ ap (λ (z : Job). hash_offset z.stage c.next_xid) (some_is (of_file j id (stage.Hashing 1 c.next_xid)) i e) ∙ w)));
-        fits = (omega (arith, has, room), small, omega arith);
+        fits = (omega (arith, has, room), small, omega arith, spoken_at book k qs n x q t ts j g);
+        speaks = speaks_at book k qs n x q t ts j g;
         piece = tt;
         under = tt;
         fetching = (tt, tt);
@@ -464,9 +466,9 @@ module _ (book : Book) (k : Core) (qs : List Queue) (n : ℕ) (x : Session) (q :
           tries_of (stage.Hashing n z) = n
           tries_of s = 0
 
-  leases_on : (id : ℕ) → id < 18446744073709551616 → goal_word w.goal ≡ words.Open → 380002 ≤ walk_calls w → FindsOn book k qs n x q t ts j g id (stage.Asking c.next_xid) (record { xid = c.next_xid; call = Lease id })
+  leases_on : (id : ℕ) → id < 18446744073709551616 → goal_word w.goal ≡ words.Open → 380002 ≤ walk_calls w → FindsOn book k qs n x q t ts j g id (stage.Asking c.next_xid) (record { lbfs = c.lbfs; xid = c.next_xid; call = Lease id })
   leases_on id small opens room =
-      let first = lease_first c.next_xid id in
+      let first = lease_first c.lbfs c.next_xid id in
       let has = xids in
       record {
         quiet = quiet;
@@ -474,9 +476,10 @@ module _ (book : Book) (k : Core) (qs : List Queue) (n : ℕ) (x : Session) (q :
         word = sym (word_is ∙ opens);
         none = omega arith;
         first = first;
-        moves = moves (stage.Asking c.next_xid) (record { xid = c.next_xid; call = Lease id }) first.pending;
+        moves = moves (stage.Asking c.next_xid) (record { lbfs = c.lbfs; xid = c.next_xid; call = Lease id }) first.pending;
         asked = λ i e w. ap (λ (z : Job). z.file) (sym (some_is (of_file j id (stage.Asking c.next_xid)) i e));
-        fits = (omega (arith, has, room), small);
+        fits = (omega (arith, has, room), small, spoken_at book k qs n x q t ts j g);
+        speaks = speaks_at book k qs n x q t ts j g;
         piece = tt;
         under = tt;
         fetching = (tt, tt);
@@ -487,9 +490,9 @@ module _ (book : Book) (k : Core) (qs : List Queue) (n : ℕ) (x : Session) (q :
         bounded = omega (arith, has, room);
       }
 
-  renews_on : (id : ℕ) → id < 18446744073709551616 → goal_word w.goal ≡ words.Rewrite → 1 ≤ walk_calls w → FindsOn book k qs n x q t ts j g id (stage.Rewriting c.next_xid) (record { xid = c.next_xid; call = Lease id })
+  renews_on : (id : ℕ) → id < 18446744073709551616 → goal_word w.goal ≡ words.Rewrite → 1 ≤ walk_calls w → FindsOn book k qs n x q t ts j g id (stage.Rewriting c.next_xid) (record { lbfs = c.lbfs; xid = c.next_xid; call = Lease id })
   renews_on id small renews room =
-      let first = renew_first c.next_xid id in
+      let first = renew_first c.lbfs c.next_xid id in
       let has = xids in
       record {
         quiet = quiet;
@@ -497,9 +500,10 @@ module _ (book : Book) (k : Core) (qs : List Queue) (n : ℕ) (x : Session) (q :
         word = sym (word_is ∙ renews);
         none = omega arith;
         first = first;
-        moves = moves (stage.Rewriting c.next_xid) (record { xid = c.next_xid; call = Lease id }) first.pending;
+        moves = moves (stage.Rewriting c.next_xid) (record { lbfs = c.lbfs; xid = c.next_xid; call = Lease id }) first.pending;
         asked = λ i e w. ap (λ (z : Job). z.file) (sym (some_is (of_file j id (stage.Rewriting c.next_xid)) i e));
-        fits = (omega (arith, has, room), small);
+        fits = (omega (arith, has, room), small, spoken_at book k qs n x q t ts j g);
+        speaks = speaks_at book k qs n x q t ts j g;
         piece = tt;
         under = tt;
         fetching = (tt, tt);
@@ -590,9 +594,9 @@ module _ (book : Book) (k : Core) (qs : List Queue) (n : ℕ) (x : Session) (q :
     asks = λ v k acts. asks_as v (its_told k.asked k.walk k.answer (leading.Asks v) k.stage_is k.body_is k.told_is) step;
     open_already = λ id k is acts. already id (word_of_goal words.Open (finds_as id (its_told k.asked k.walk k.answer (leading.Finds id) k.stage_is k.body_is k.told_is) step).1 refl);
     renew_already = λ id k is acts. already id (word_of_goal words.Rewrite (anew_as id (its_told k.asked k.walk k.answer (leading.Rewrites id) k.stage_is k.body_is k.told_is) step).1 refl);
-    renews = λ id k shut acts. (let f = anew_as id (its_told k.asked k.walk k.answer (leading.Rewrites id) k.stage_is k.body_is k.told_is) step in finds_on id (stage.Rewriting c.next_xid) (record { xid = c.next_xid; call = Lease id }) (finding id (asks_version (record (idle c) { cache = reserved c.cache id }) id)).1 (renews_on id f.0 f.1 f.2) refl refl refl);
-    fetches = λ id k shut none acts. (let f = finds_as id (its_told k.asked k.walk k.answer (leading.Finds id) k.stage_is k.body_is k.told_is) step in finds_on id (stage.Hashing 1 c.next_xid) (record { xid = c.next_xid; call = Hash id 0 }) (finding id (asks_kept (record (idle c) { cache = reserved c.cache id }) id None)).1 (fetches_on id f.0 f.1 f.2) refl refl refl);
-    leases = λ id v k shut some acts. (let f = finds_as id (its_told k.asked k.walk k.answer (leading.Finds id) k.stage_is k.body_is k.told_is) step in finds_on id (stage.Asking c.next_xid) (record { xid = c.next_xid; call = Lease id }) (finding id (asks_kept (record (idle c) { cache = reserved c.cache id }) id (Some v))).1 (leases_on id f.0 f.1 f.2) refl refl refl);
+    renews = λ id k shut acts. (let f = anew_as id (its_told k.asked k.walk k.answer (leading.Rewrites id) k.stage_is k.body_is k.told_is) step in finds_on id (stage.Rewriting c.next_xid) (record { lbfs = c.lbfs; xid = c.next_xid; call = Lease id }) (finding id (asks_version (record (idle c) { cache = reserved c.cache id }) id)).1 (renews_on id f.0 f.1 f.2) refl refl refl);
+    fetches = λ id k shut none acts. (let f = finds_as id (its_told k.asked k.walk k.answer (leading.Finds id) k.stage_is k.body_is k.told_is) step in finds_on id (stage.Hashing 1 c.next_xid) (record { lbfs = c.lbfs; xid = c.next_xid; call = Hash id 0 }) (finding id (asks_kept (record (idle c) { cache = reserved c.cache id }) id None)).1 (fetches_on id f.0 f.1 f.2) refl refl refl);
+    leases = λ id v k shut some acts. (let f = finds_as id (its_told k.asked k.walk k.answer (leading.Finds id) k.stage_is k.body_is k.told_is) step in finds_on id (stage.Asking c.next_xid) (record { lbfs = c.lbfs; xid = c.next_xid; call = Lease id }) (finding id (asks_kept (record (idle c) { cache = reserved c.cache id }) id (Some v))).1 (leases_on id f.0 f.1 f.2) refl refl refl);
     opens_now = λ id v z shut fresh acts. leads_opened book k qs n x q t ts j g quiet word id v fresh (acts refl) (of.word ∙ word_is ∙ (finds_as id (its_told z.asked z.walk z.answer (leading.Finds id) z.stage_is z.body_is z.told_is) step).1);
     empties_now = λ id v z shut fresh acts. leads_emptied book k qs n x q t ts j g quiet word id v fresh (acts refl) (of.word ∙ word_is ∙ (anew_as id (its_told z.asked z.walk z.answer (leading.Rewrites id) z.stage_is z.body_is z.told_is) step).1);
     ends = λ v e b same acts. subst (λ (z : Walk). Leads_to book k qs n x q t ts j g (forgets_of (idle c) (client.calls_of c) t.xid, record (ends (outcome_of e) t.xid 0) { found = seen_in (is_look z.goal) e })) (walk_is t.xid b.asked w b.walk b.stage_is ∙ same) (let told = its_told b.asked b.walk b.answer (leading.Ends e) b.stage_is b.body_is b.told_is in ends_in e told (ends_as e told step));

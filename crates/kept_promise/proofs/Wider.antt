@@ -41,7 +41,7 @@ hashed_wider (m ∷ few) more wider b h = elim (either_in (hashed_in m) (hashed_
 -- ---- a book
 
 pub grows_wider : (book : Book) (ms : List Moment) → Wider book.moments ms → Grows book (noting book ms) None None
-grows_wider book ms wider = record { opening = refl; happened = wider; hashed = λ b h. hashed_wider book.moments ms wider b h; passes = omega arith; steps_kept = λ j p e. e; entries_new = λ j p e. inl e; journal_kept = λ j e at. at; values = λ f p le. refl; each = λ k o at. (o, at, follows_same book None None k o) }
+grows_wider book ms wider = record { lbfs = refl; opening = refl; happened = wider; hashed = λ b h. hashed_wider book.moments ms wider b h; passes = omega arith; steps_kept = λ j p e. e; entries_new = λ j p e. inl e; journal_kept = λ j e at. at; values = λ f p le. refl; each = λ k o at. (o, at, follows_same book None None k o) }
 
 goes_wider : (book : Book) (ms : List Moment) → Wider book.moments ms → AreAlike ms → IsSound book → Goes book (noting book ms) None None
 goes_wider book ms wider alike sound =
@@ -90,6 +90,7 @@ kept_wider book ms k qs wider alike kept =
       targets = λ i c e. there_later book more None None c.file g (s.targets i c e);
       xids = s.xids;
       leases = s.leases;
+      serves = s.serves;
     } in
     subst (λ (z : Core). IsKept more z qs) (same_core book ms k qs kept)
     (kept_rest book more k qs k.server (goes_wider book ms wider alike kept.sound) server refl (λ m. same_view m k.server) kept.home kept.running kept.journal kept.shelf kept)

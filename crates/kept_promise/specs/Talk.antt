@@ -31,7 +31,6 @@ use Rattle.file_open.specs.Opening.{lease_call, hash_call, read_call}
 use Rattle.file_close.specs.Closing.{make_call, cond_call, commit_call}
 use Rattle.lease_law.specs.Claims.{recall_message}
 use Rattle.trace_ends.specs.Wires.{Wire, bytes_of}
-use Rattle.wire.specs.declared.message.TheConstants.{LBFS_SPOKEN}
 
 -- ---- calls and answers
 
@@ -77,8 +76,9 @@ pub data Reply : Type 0 where
   Changed : Answer Committed Unit → Reply
   Walked : NameReply → Reply
 
--- a call, or an answer, under an xid
+-- a call of a version of LBFS, or an answer, under an xid
 pub record Ask : Type 0 where
+  pub lbfs : ℕ
   pub xid : ℕ
   pub call : Call
 
@@ -86,18 +86,18 @@ pub record Told : Type 0 where
   pub xid : ℕ
   pub reply : Reply
 
-abbrev pub call_message : (xid : ℕ) → Call → Message
-call_message xid (Lease file) = lease_call xid file
-call_message xid (Hash file offset) = hash_call xid file offset
-call_message xid (Read file c) = read_call xid file c
-call_message xid (Make temp file) = make_call xid temp file
-call_message xid (Name temp c) = cond_call xid temp c
-call_message xid (Send temp start bytes) = message.Call xid (body.Lb (lb.TmpWrite (record { lbfs = LBFS_SPOKEN; fd = temp; offset = start; bytes = bytes })))
-call_message xid (Commit temp file size) = commit_call xid temp file size
-call_message xid (Walks w) = message.Call xid (body.Nfs (next_call w))
+abbrev pub call_message : (lbfs xid : ℕ) → Call → Message
+call_message lbfs xid (Lease file) = lease_call lbfs xid file
+call_message lbfs xid (Hash file offset) = hash_call lbfs xid file offset
+call_message lbfs xid (Read file c) = read_call xid file c
+call_message lbfs xid (Make temp file) = make_call lbfs xid temp file
+call_message lbfs xid (Name temp c) = cond_call lbfs xid temp c
+call_message lbfs xid (Send temp start bytes) = message.Call xid (body.Lb (lb.TmpWrite (record { lbfs = lbfs; fd = temp; offset = start; bytes = bytes })))
+call_message lbfs xid (Commit temp file size) = commit_call lbfs xid temp file size
+call_message lbfs xid (Walks w) = message.Call xid (body.Nfs (next_call w))
 
 abbrev pub ask_message : Ask → Message
-ask_message a = call_message a.xid a.call
+ask_message a = call_message a.lbfs a.xid a.call
 
 abbrev pub reply_body : Reply → Body
 reply_body (Versioned a) = body.Lb (lb.GetLeaseAnswer a)
