@@ -6,5 +6,5 @@ use Rattle.file_close.specs.Storing.{goes_if, goes_on}
 use Rattle.client_state.specs.declared.task.Store.{Store}
 
 -- with these calls, where all chunks are stored with them or aren't
-pub goes_named : (s : State) (file : ℕ) (content : List ℕ) (st : Store) (n : Names) (b : Bool) → n ≡ names_all st s.next_xid → is_stored n.store ≡ b → goes_on s file content st ≡ goes_if s file content n b
+pub goes_named : (s : State) (file : ℕ) (content : List ℕ) (st : Store) (n : Names) (b : Bool) → n ≡ names_all s.lbfs st s.next_xid → is_stored n.store ≡ b → goes_on s file content st ≡ goes_if s file content n b
 goes_named s file content st n b e f = sym (ap (λ (m : Names). goes_if s file content m (is_stored m.store)) e) ∙ ap (goes_if s file content n) f

@@ -20,10 +20,10 @@ calls_after_push : (us : List StoreCall) (u : StoreCall) → calls_after_all (us
 calls_after_push [] u = omega arith
 calls_after_push (v ∷ vs) u = let h = calls_after_push vs u in omega (arith, h)
 
-pub names_kept : (named next : ℕ) (n : Names) → IsSendingNames named next n → IsSendingNames named next (names_next n (slice_get n.store.chunks n.store.named))
-names_kept named next n h = by (slice_get n.store.chunks n.store.named) refl
+pub names_kept : (lbfs named next : ℕ) (n : Names) → IsSendingNames named next n → IsSendingNames named next (names_next lbfs n (slice_get n.store.chunks n.store.named))
+names_kept lbfs named next n h = by (slice_get n.store.chunks n.store.named) refl
   where
-    by : (o : Option Chunk) → slice_get n.store.chunks n.store.named ≡ o → IsSendingNames named next (names_next n o)
+    by : (o : Option Chunk) → slice_get n.store.chunks n.store.named ≡ o → IsSendingNames named next (names_next lbfs n o)
     by None e = h
     by (Some c) e =
         let k = h.within in
@@ -32,14 +32,14 @@ names_kept named next n h = by (slice_get n.store.chunks n.store.named) refl
           within = record { few = k.few; lens = k.lens; named = (let le : n.store.named + 1 ≤ length n.store.chunks = omega (arith, lt) in le) };
           xids = (let x = h.xids in let p = calls_after_push n.store.under (record { xid = n.next_xid; index = n.store.named; way = way.Named }) in omega (arith, x, lt, p));
           rises = (let x = h.rises in omega (arith, x));
-          counted = (let x = h.counted in let p = pushed n.send (cond_call n.next_xid n.store.temp c) in omega (arith, x, p));
+          counted = (let x = h.counted in let p = pushed n.send (cond_call lbfs n.next_xid n.store.temp c) in omega (arith, x, p));
         }
 
 pub name_xid : (named next : ℕ) (n : Names) → IsSendingNames named next n → n.next_xid + 1 < 2 ^ 32
 name_xid named next n h = let x = h.xids in omega (arith, x)
 
-pub names_step : (n : Names) (k i : ℕ) → i < k → names_more (k - (i + 1)) (names_next n (slice_get n.store.chunks n.store.named)) ≡ names_more (k - i) n
-names_step n k i lt = let e : k - i ≡ suc (k - (i + 1)) = omega (arith, lt) in ap (λ j. names_more j n) (sym e)
+pub names_step : (lbfs : ℕ) (n : Names) (k i : ℕ) → i < k → names_more lbfs (k - (i + 1)) (names_next lbfs n (slice_get n.store.chunks n.store.named)) ≡ names_more lbfs (k - i) n
+names_step lbfs n k i lt = let e : k - i ≡ suc (k - (i + 1)) = omega (arith, lt) in ap (λ j. names_more lbfs j n) (sym e)
 
 -- ---- an answer
 

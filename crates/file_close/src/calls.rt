@@ -25,19 +25,19 @@ pub struct Names {
     pub send: SendList<Message>,
 }
 
-/// The next chunk is named, if there is one.
+/// The next chunk is named in a version of LBFS, if there is one.
 #[tactic(auto, using(client_state::proofs::Bounds::chunk_bounded))]
-fn name_next(names: &mut Names) -> Result<(), AllocError>
+fn name_next(lbfs: u32, names: &mut Names) -> Result<(), AllocError>
     requires xid { names.old.next_xid + 1 < 4294967296 }
     requires lens { All IsChunkBounded names.old.store.chunks }
-    ensures { OnOk result (names.new ≡ names_next names.old (slice_get names.old.store.chunks names.old.store.named)) }
+    ensures { OnOk result (names.new ≡ names_next lbfs names.old (slice_get names.old.store.chunks names.old.store.named)) }
 {
     let index = names.store.named;
     let Some(chunk) = next_chunk(names.store.chunks.as_slice(), index) else {
         return Ok(());
     };
     let xid = names.next_xid;
-    let call = messages::cond_call(xid, names.store.temp, &chunk);
+    let call = messages::cond_call(lbfs, xid, names.store.temp, &chunk);
     names.send.push(call)?;
     let way = Way::Named;
     names.store.under.push(StoreCall { xid, index, way })?;
@@ -46,11 +46,16 @@ fn name_next(names: &mut Names) -> Result<(), AllocError>
     Ok(())
 }
 
-/// All CONDWRITEs that may be under way beside the calls that are.
-pub fn name_all(alloc: Global, store: Store, next_xid: u32) -> Result<Names, AllocError>
+/// All CONDWRITEs, in a version of LBFS, that may be under way beside the calls that are.
+pub fn name_all(
+    alloc: Global,
+    lbfs: u32,
+    store: Store,
+    next_xid: u32,
+) -> Result<Names, AllocError>
     requires within { IsStore store }
     requires xids { HasXids next_xid (stage.Storing store) }
-    ensures all { IfOk result (λ n. n ≡ names_all store next_xid) }
+    ensures all { IfOk result (λ n. n ≡ names_all lbfs store next_xid) }
     ensures kept { IfOk result (λ n. IsSendingNames store.named next_xid n) }
 {
     let room = room_beside(store.under.len());
@@ -60,7 +65,7 @@ pub fn name_all(alloc: Global, store: Store, next_xid: u32) -> Result<Names, All
         send: SendList::none(alloc),
     };
     for _i in 0..room {
-        match name_next(&mut names) {
+        match name_next(lbfs, &mut names) {
             Ok(()) => {}
             Err(error) => {
                 let Names {
@@ -77,18 +82,19 @@ pub fn name_all(alloc: Global, store: Store, next_xid: u32) -> Result<Names, All
     Ok(names)
 }
 
-/// COMMITTMP goes out behind what goes out already.
+/// COMMITTMP goes out, in a version of LBFS, behind what goes out already.
 pub fn send_commit(
     alloc: Global,
+    lbfs: u32,
     xid: u32,
     temp: u32,
     file: u64,
     size: u64,
     send: &mut SendList<Message>,
 ) -> Result<(), AllocError>
-    ensures { OnOk result (send.new ≡ send.old ++ commit_call xid temp file size ∷ []) }
+    ensures { OnOk result (send.new ≡ send.old ++ commit_call lbfs xid temp file size ∷ []) }
 {
-    let call = messages::commit_call(alloc, xid, temp, file, size)?;
+    let call = messages::commit_call(alloc, lbfs, xid, temp, file, size)?;
     send.push(call)?;
     Ok(())
 }

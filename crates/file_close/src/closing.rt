@@ -63,12 +63,13 @@ fn ask_temp(alloc: Global, state: &mut ClientState, file: u64) -> Result<ClientS
     ensures err { OnErr result (state_of state.new ≡ state_of state.old) }
     ensures sound { IsSound state.new }
 {
+    let lbfs = state.waiting.lbfs;
     let xid = state.next_xid;
     let temp = state.next_temp;
     let handle = Handle::of_file(alloc, file)?;
     state.wait(alloc, file, Stage::Making { xid, temp }, xid + 1)?;
     state.next_temp = temp + 1;
-    let call = messages::make_call(xid, temp, handle);
+    let call = messages::make_call(lbfs, xid, temp, handle);
     Ok(parts::sends_one(alloc, call, 0))
 }
 
@@ -116,10 +117,11 @@ fn commit(
         next_xid,
         mut send,
     } = names;
+    let lbfs = state.waiting.lbfs;
     let temp = store.temp;
     drop(store);
     let size = parts::local_bytes(&state.opened, file).len() as u64;
-    calls::send_commit(alloc, next_xid, temp, file, size, &mut send)?;
+    calls::send_commit(alloc, lbfs, next_xid, temp, file, size, &mut send)?;
     wait_commit(alloc, state, file, next_xid)?;
     Ok(parts::sends(send, stores::names_counted(count)))
 }
@@ -170,7 +172,7 @@ fn go_on(
     ensures held { OnErr result (IsHeld state.new) }
 {
     let named = store.named;
-    let names = calls::name_all(alloc, store, state.next_xid)?;
+    let names = calls::name_all(alloc, state.waiting.lbfs, store, state.next_xid)?;
     let count = (names.store.named - named) as u64;
     if calls::is_stored(&names.store) {
         commit(alloc, state, file, names, count)
@@ -234,12 +236,13 @@ fn send_whole(
     ensures sound { OnOk result (IsSound state.new) }
     ensures held { OnErr result (IsHeld state.new) }
 {
+    let lbfs = state.waiting.lbfs;
     let xid = state.next_xid;
     let temp = store.temp;
     let content = parts::local_bytes(&state.opened, file);
     let bytes = stores::bytes_count(content, chunk);
     let store = stores::with_whole(store, call, xid)?;
-    let whole = messages::temp_call(alloc, xid, temp, content, chunk)?;
+    let whole = messages::temp_call(alloc, lbfs, xid, temp, content, chunk)?;
     state.wait(alloc, file, Stage::Storing(store), xid + 1)?;
     Ok(parts::sends(SendList::one(alloc, whole), stores::whole_counted(bytes)))
 }

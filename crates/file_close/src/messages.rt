@@ -1,11 +1,10 @@
-//! The calls of a close, as `specs/Closing.antt` writes them.
+//! The calls of a close, each in a version of LBFS, as `specs/Closing.antt` writes them.
 
 ghost use Rattle.std.specs.Prelude.{◌≡◌, ◌<◌, IfOk};
 ghost use Rattle.file_close.specs.Closing.{commit_call, cond_call, temp_call};
 ghost use Rattle.wire.specs.declared.message.Message.TheVariants as message;
 ghost use Rattle.hash_calls.specs.declared.message.Lb.TheVariants as lb;
 ghost use Rattle.wire.specs.declared.message.Body.TheVariants as body;
-ghost use Rattle.wire.specs.declared.message.TheConstants.{LBFS_SPOKEN};
 
 use chunk_cut::chunk::Chunk;
 use client_state::local;
@@ -13,15 +12,15 @@ use hash_calls::call::{Commit, CondPiece, NewTemp, TempPiece};
 use hash_calls::message::Lb;
 use lb_base::items::Bytes;
 use std::alloc::{AllocError, Global};
-use wire::message::{Body, LBFS_SPOKEN, Message};
+use wire::message::{Body, Message};
 use xdr_codec::handle::Handle;
 
 /// The call for a temporary file of this number. It takes no memory.
-pub fn make_call(xid: u32, temp: u32, handle: Handle) -> Message
-    ensures { result ≡ message.Call xid (body.Lb (lb.MkTmpFile (record { lbfs = LBFS_SPOKEN; fd = temp; handle = handle }))) }
+pub fn make_call(lbfs: u32, xid: u32, temp: u32, handle: Handle) -> Message
+    ensures { result ≡ message.Call xid (body.Lb (lb.MkTmpFile (record { lbfs = lbfs; fd = temp; handle = handle }))) }
 {
     let temp = NewTemp {
-        lbfs: LBFS_SPOKEN,
+        lbfs,
         fd: temp,
         handle,
     };
@@ -29,12 +28,12 @@ pub fn make_call(xid: u32, temp: u32, handle: Handle) -> Message
 }
 
 /// The call that names a chunk. It takes no memory.
-pub fn cond_call(xid: u32, temp: u32, chunk: &Chunk) -> Message
+pub fn cond_call(lbfs: u32, xid: u32, temp: u32, chunk: &Chunk) -> Message
     requires { chunk.now.len < 4294967296 }
-    ensures { result ≡ cond_call xid temp chunk.now }
+    ensures { result ≡ cond_call lbfs xid temp chunk.now }
 {
     let piece = CondPiece {
-        lbfs: LBFS_SPOKEN,
+        lbfs,
         fd: temp,
         offset: chunk.start,
         count: chunk.len as u32,
@@ -46,16 +45,17 @@ pub fn cond_call(xid: u32, temp: u32, chunk: &Chunk) -> Message
 /// The call with the bytes of a chunk of a content.
 pub fn temp_call(
     alloc: Global,
+    lbfs: u32,
     xid: u32,
     temp: u32,
     content: &[u8],
     chunk: &Chunk,
 ) -> Result<Message, AllocError>
-    ensures { IfOk result (λ m. m ≡ temp_call xid temp content.now chunk.now) }
+    ensures { IfOk result (λ m. m ≡ temp_call lbfs xid temp content.now chunk.now) }
 {
     let bytes = local::part_of(content, chunk.start, chunk.len);
     let piece = TempPiece {
-        lbfs: LBFS_SPOKEN,
+        lbfs,
         fd: temp,
         offset: chunk.start,
         bytes: Bytes::copy_of(alloc, bytes)?,
@@ -66,16 +66,17 @@ pub fn temp_call(
 /// The call that commits a temporary file of this size.
 pub fn commit_call(
     alloc: Global,
+    lbfs: u32,
     xid: u32,
     temp: u32,
     file: u64,
     size: u64,
 ) -> Result<Message, AllocError>
-    ensures { IfOk result (λ m. m ≡ commit_call xid temp file size) }
+    ensures { IfOk result (λ m. m ≡ commit_call lbfs xid temp file size) }
 {
     let handle = Handle::of_file(alloc, file)?;
     let commit = Commit {
-        lbfs: LBFS_SPOKEN,
+        lbfs,
         fd: temp,
         handle,
         size,

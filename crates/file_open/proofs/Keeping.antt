@@ -98,7 +98,7 @@ fresh_small cache file now c h e = by (kept_of cache file) refl e
 apart : false ≡ true → ⊥
 apart e = cc
 
-pub asks_version : (s : State) (file : ℕ) (o : Option Content) → is_some o ≡ true → asks_kept s file o ≡ (record s { next_xid = s.next_xid + 1; task = Some (record { file = file; stage = stage.Asking s.next_xid }); sent = s.clock }, sends_one (lease_call s.next_xid file) 0)
+pub asks_version : (s : State) (file : ℕ) (o : Option Content) → is_some o ≡ true → asks_kept s file o ≡ (record s { next_xid = s.next_xid + 1; task = Some (record { file = file; stage = stage.Asking s.next_xid }); sent = s.clock }, sends_one (lease_call s.lbfs s.next_xid file) 0)
 asks_version s file None e = absurd (apart e)
 asks_version s file (Some c) e = refl
 

@@ -5,7 +5,6 @@ ghost use Rattle.file_open.specs.Opening.{read_call};
 ghost use Rattle.wire.specs.declared.message.Message.TheVariants as message;
 ghost use Rattle.hash_calls.specs.declared.message.Lb.TheVariants as lb;
 ghost use Rattle.wire.specs.declared.message.Body.TheVariants as body;
-ghost use Rattle.wire.specs.declared.message.TheConstants.{LBFS_SPOKEN};
 
 use chunk_cut::chunk::Chunk;
 use hash_calls::call::{HashRange, LeaseOn};
@@ -13,26 +12,23 @@ use hash_calls::message::Lb;
 use nfs3_calls::call::Range;
 use nfs3_calls::message::Nfs;
 use std::alloc::{AllocError, Global};
-use wire::message::{Body, LBFS_SPOKEN, Message};
+use wire::message::{Body, Message};
 use xdr_codec::handle::Handle;
 
-/// The call for the version of a file, whose handle this is. It takes no memory.
-pub fn lease_call(xid: u32, handle: Handle) -> Message
-    ensures { result ≡ message.Call xid (body.Lb (lb.GetLease (record { lbfs = LBFS_SPOKEN; handle = handle }))) }
+/// The call, in a version of LBFS, for the version of a file, whose handle this is. It takes no memory.
+pub fn lease_call(lbfs: u32, xid: u32, handle: Handle) -> Message
+    ensures { result ≡ message.Call xid (body.Lb (lb.GetLease (record { lbfs = lbfs; handle = handle }))) }
 {
-    let lease = LeaseOn {
-        lbfs: LBFS_SPOKEN,
-        handle,
-    };
+    let lease = LeaseOn { lbfs, handle };
     Message::Call(xid, Body::Lb(Lb::GetLease(lease)))
 }
 
-/// The call for the chunks of a file from a place on. It takes no memory.
-pub fn hash_call(xid: u32, handle: Handle, offset: u64) -> Message
-    ensures { result ≡ message.Call xid (body.Lb (lb.GetHash (record { lbfs = LBFS_SPOKEN; handle = handle; offset = offset; count = 4294967295 }))) }
+/// The call, in a version of LBFS, for the chunks of a file from a place on. It takes no memory.
+pub fn hash_call(lbfs: u32, xid: u32, handle: Handle, offset: u64) -> Message
+    ensures { result ≡ message.Call xid (body.Lb (lb.GetHash (record { lbfs = lbfs; handle = handle; offset = offset; count = 4294967295 }))) }
 {
     let range = HashRange {
-        lbfs: LBFS_SPOKEN,
+        lbfs,
         handle,
         offset,
         count: u32::MAX,

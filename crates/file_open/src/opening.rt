@@ -118,15 +118,16 @@ fn ask_file(alloc: Global, state: &mut ClientState, file: u64) -> Result<ClientS
     ensures sound { OnOk result (IsSound state.new) }
     ensures held { OnErr result (IsHeld state.new) }
 {
+    let lbfs = state.waiting.lbfs;
     let xid = state.next_xid;
     let handle = Handle::of_file(alloc, file)?;
     if caching::is_kept(&state.cache, file) {
         state.wait_there(alloc, file, Stage::Asking(xid), xid + 1)?;
-        let call = messages::lease_call(xid, handle);
+        let call = messages::lease_call(lbfs, xid, handle);
         return Ok(parts::sends_one(alloc, call, 0));
     }
     state.wait_there(alloc, file, Stage::Hashing { tries: 1, xid }, xid + 1)?;
-    let call = messages::hash_call(xid, handle, 0);
+    let call = messages::hash_call(lbfs, xid, handle, 0);
     Ok(parts::sends_one(alloc, call, 0))
 }
 
@@ -179,10 +180,11 @@ pub fn retry(
     ensures sound { OnOk result (IsSound state.new) }
     ensures held { OnErr result (IsHeld state.new) }
 {
+    let lbfs = state.waiting.lbfs;
     let asked = state.next_xid;
     let handle = Handle::of_file(alloc, file)?;
     state.wait_anew(alloc, file, tries + 1, xid)?;
-    let call = messages::hash_call(asked, handle, 0);
+    let call = messages::hash_call(lbfs, asked, handle, 0);
     Ok(parts::sends_one(alloc, call, bytes))
 }
 
@@ -309,12 +311,13 @@ fn list_on(
     ensures sound { OnOk result (IsSound state.new) }
     ensures held { OnErr result (IsHeld state.new) }
 {
+    let lbfs = state.waiting.lbfs;
     let xid = state.next_xid;
     let offset = shape::end_of(fetch.chunks.as_slice());
     let handle = Handle::of_file(alloc, file)?;
     state.wait(alloc, file, Stage::Listing { xid, fetch }, xid + 1)?;
     state.mark_sent();
-    let call = messages::hash_call(xid, handle, offset);
+    let call = messages::hash_call(lbfs, xid, handle, offset);
     Ok(parts::sends_one(alloc, call, 0))
 }
 

@@ -123,10 +123,11 @@ fn ask_anew(alloc: Global, state: &mut ClientState, file: u64) -> Result<ClientS
     ensures sound { OnOk result (IsSound state.new) }
     ensures held { OnErr result (IsHeld state.new) }
 {
+    let lbfs = state.waiting.lbfs;
     let xid = state.next_xid;
     let handle = Handle::of_file(alloc, file)?;
     state.wait_there(alloc, file, Stage::Rewriting(xid), xid + 1)?;
-    let call = messages::lease_call(xid, handle);
+    let call = messages::lease_call(lbfs, xid, handle);
     Ok(parts::sends_one(alloc, call, 0))
 }
 

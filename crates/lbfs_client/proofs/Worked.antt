@@ -22,7 +22,7 @@ use Rattle.lbfs_client.specs.Walks.{says, answer_of, Stores.at_close, Renewed, n
 use Rattle.lbfs_client.specs.declared.walk.Walk.TheVariants as walk
 
 abbrev start : State
-start = start_with 100
+start = start_with 100 1
 
 apart : false ≡ true → ⊥
 apart e = cc
@@ -97,11 +97,11 @@ abbrev closing : State
 closing = (command_step written (command.Close 2) 0).0
 
 -- the file that a put wrote anew gets its content and nothing else, and its close is under way
-stored_row : Renewed emptied (Some 2) content outcome.Done 0 [] closing (Some (walk.Closes 2)) (says (make_call 5 1 2 ∷ []) None)
+stored_row : Renewed emptied (Some 2) content outcome.Done 0 [] closing (Some (walk.Closes 2)) (says (make_call 1 5 1 2 ∷ []) None)
 stored_row = record {
   client = closing;
   ended = None;
-  sent = make_call 5 1 2 ∷ [];
+  sent = make_call 1 5 1 2 ∷ [];
   stores = at_close written (command_step emptied (command.Write 2 0 content) 0).1.ended [] (went emptied (command.Write 2 0 content) 0 [] refl) refl (went written (command.Close 2) 0 [] refl);
   goes_on = (refl, refl, refl);
 }

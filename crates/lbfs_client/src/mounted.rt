@@ -6,6 +6,7 @@ ghost use Rattle.std.specs.Option.{option_copied};
 ghost use Rattle.lbfs_client.specs.Caching.{Loads, Saves, within};
 ghost use Rattle.lbfs_client.specs.Hinting.{LearnsIn, OffersIf, closing_of};
 ghost use Rattle.client_state.specs.State.{start_with};
+ghost use Rattle.wire.specs.declared.message.TheConstants.{LBFS_SPOKEN};
 ghost use Rattle.lbfs_client.specs.Mounting.{Runs, Continues, Receives, Stops, joined_step, read_bytes};
 
 use crate::answer::Answer;
@@ -24,6 +25,7 @@ use open_close::client::Client;
 use record_ends::end::End;
 use std::alloc::{AllocError, Global};
 use std::marker::Model;
+use wire::message::LBFS_SPOKEN;
 
 /// A client, the files of the host, and what the line under way has left to do.
 pub struct Mounted<F: Files> {
@@ -56,13 +58,13 @@ impl<F: Files> Model for Mounted<F> {
 
 impl<F: Files> Mounted<F> {
     /// A client with no connection and no file, over these files of the host, whose clock and the server's
-    /// may drift apart so far, in milliseconds, while a lease lasts. It is refused for want of memory alone,
-    /// and the files are handed back.
+    /// may drift apart so far, in milliseconds, while a lease lasts, and which speaks the version of LBFS that
+    /// clients speak. It is refused for want of memory alone, and the files are handed back.
     pub fn new(alloc: Global, files: F, drift: u64) -> Result<Mounted<F>, F>
-        ensures ok { IfOk result (λ m. m ≡ record { host = record { files = F.files files; faults = F.faults files }; client = start_with drift; walk = None }) }
+        ensures ok { IfOk result (λ m. m ≡ record { host = record { files = F.files files; faults = F.faults files }; client = start_with drift LBFS_SPOKEN; walk = None }) }
         ensures back { IfErr result (λ f. f ≡ files) }
     {
-        match Client::new(alloc, drift) {
+        match Client::new(alloc, drift, LBFS_SPOKEN) {
             Ok(client) => Ok(Mounted {
                 files,
                 client,

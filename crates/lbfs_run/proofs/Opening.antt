@@ -30,7 +30,7 @@ use Rattle.trace_ends.specs.Core.{Core, Event.Joins, joins, joins_as, happens}
 use Rattle.trace_ends.specs.Session.{Seat, Session, new_seat, new_session}
 use Rattle.trace_ends.specs.Numbers.{numbered, with_numbered}
 use Rattle.trace_replay.specs.World.{World, start}
-use Rattle.trace_replay.specs.Run.{line_most, file_most, tree_most, sessions_most, place_for, sized, file_asks, joins_if, joins_within, event_asks, asks_at, asks, with_leases, with_drift, with_clients}
+use Rattle.trace_replay.specs.Run.{line_most, file_most, tree_most, sessions_most, place_for, sized, file_asks, joins_if, joins_within, event_asks, asks_at, asks, with_version, with_leases, with_drift, with_clients}
 use Rattle.trace_replay.specs.Timed.{Timed, Times, read_by, timed_start, timed_turn}
 use Rattle.trace_replay.proofs.Going.{applied_then}
 use Rattle.trace_generator.specs.Lines.{header, file_line, join_line, opening_lines}
@@ -41,7 +41,7 @@ use Rattle.lbfs_run.proofs.Steps.{there_at, Goes, Stands, Leads, no_lines, line_
 -- ---- the header
 
 abbrev headed : Timed
-headed = record { world = with_clients (with_drift (with_leases start 1000) 50) 4; times = record { term = 1000; clocks = at_first 1000 50 } }
+headed = record { world = with_clients (with_drift (with_leases (with_version start 1) 1000) 50) 4; times = record { term = 1000; clocks = at_first 1000 50 } }
 
 header_goes : Goes timed_start 1 header headed 5
 header_goes = refl
@@ -52,7 +52,7 @@ record Filed (v : Timed) (held : Tree) (bytes : ℕ) : Type 0 where
   stage : v.world.stage ≡ stage.Files
   tree : v.world.core.server.tree ≡ held
   size : v.world.size ≡ bytes
-  seats : v.world.core.seats ≡ replicate 4 (new_seat 50)
+  seats : v.world.core.seats ≡ replicate 4 (new_seat 50 1)
   sessions : v.world.core.sessions ≡ []
   standing : v.world.core.server.sessions ≡ []
   made : v.world.core.server.sessions_made ≡ 0
@@ -174,8 +174,8 @@ joins_said = ((refl, refl), (refl, refl))
 
 -- the clients' seats, of which the first so many have joined
 abbrev seats_with : ℕ → List Seat
-seats_with zero = replicate 4 (new_seat 50)
-seats_with (suc k) = with_numbered (seats_with k) (suc k) (seated (new_seat 50) (k + 1))
+seats_with zero = replicate 4 (new_seat 50 1)
+seats_with (suc k) = with_numbered (seats_with k) (suc k) (seated (new_seat 50 1) (k + 1))
 
 abbrev sessions_with : ℕ → List Session
 sessions_with zero = []
@@ -190,10 +190,10 @@ joined_stands v e h = record { stage = e; owners = ap (λ (xs : List Session). m
 
 joins_lead : (v : Timed) → Joined v (seats_with 0) (sessions_with 0) (standing_with 0) 0 → Leads v 13 (join_line 1 ∷ join_line 2 ∷ join_line 3 ∷ join_line 4 ∷ []) 0 0
 joins_lead v h =
-    join_then v 13 1 0 0 (seats_with 0) (sessions_with 0) (standing_with 0) 0 (new_seat 50) _ h joins_said.0.0 refl refl (omega arith) (omega arith) (omega arith)
-    (λ v1 e1 h1. join_then v1 14 2 0 0 (seats_with 1) (sessions_with 1) (standing_with 1) 1 (new_seat 50) _ h1 joins_said.0.1 refl refl (omega arith) (omega arith) (omega arith)
-    (λ v2 e2 h2. join_then v2 15 3 0 0 (seats_with 2) (sessions_with 2) (standing_with 2) 2 (new_seat 50) _ h2 joins_said.1.0 refl refl (omega arith) (omega arith) (omega arith)
-    (λ v3 e3 h3. join_then v3 16 4 0 0 (seats_with 3) (sessions_with 3) (standing_with 3) 3 (new_seat 50) [] h3 joins_said.1.1 refl refl (omega arith) (omega arith) (omega arith)
+    join_then v 13 1 0 0 (seats_with 0) (sessions_with 0) (standing_with 0) 0 (new_seat 50 1) _ h joins_said.0.0 refl refl (omega arith) (omega arith) (omega arith)
+    (λ v1 e1 h1. join_then v1 14 2 0 0 (seats_with 1) (sessions_with 1) (standing_with 1) 1 (new_seat 50 1) _ h1 joins_said.0.1 refl refl (omega arith) (omega arith) (omega arith)
+    (λ v2 e2 h2. join_then v2 15 3 0 0 (seats_with 2) (sessions_with 2) (standing_with 2) 2 (new_seat 50 1) _ h2 joins_said.1.0 refl refl (omega arith) (omega arith) (omega arith)
+    (λ v3 e3 h3. join_then v3 16 4 0 0 (seats_with 3) (sessions_with 3) (standing_with 3) 3 (new_seat 50 1) [] h3 joins_said.1.1 refl refl (omega arith) (omega arith) (omega arith)
     (λ v4 e4 h4. no_lines v4 17 0 0 (joined_stands v4 e4 h4)))))
 
 -- the tree of the first so many files, whatever their contents are

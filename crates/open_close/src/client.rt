@@ -31,7 +31,7 @@ use std::collections::BTreeMap;
 use std::marker::Model;
 use transfer_rules::counts::no_counts;
 use wire::fault::WireFault;
-use wire::message::{LBFS_SPOKEN, Message, Side, Waiting};
+use wire::message::{Message, Side, Waiting};
 
 /// A client of one connection, with its open files and at most one operation under way.
 pub struct Client {
@@ -76,9 +76,10 @@ fn missed(alloc: Global) -> ClientStep
 
 impl Client {
     /// A client with no connection and no file, whose clock and the server's may drift apart so far, in
-    /// milliseconds, while a lease lasts. The one error is want of memory.
-    pub fn new(alloc: Global, drift: u64) -> Result<Client, AllocError>
-        ensures { IfOk result (λ c. c ≡ start_with drift) }
+    /// milliseconds, while a lease lasts, and whose calls are of this version of LBFS. The one error is
+    /// want of memory.
+    pub fn new(alloc: Global, drift: u64, lbfs: u32) -> Result<Client, AllocError>
+        ensures { IfOk result (λ c. c ≡ start_with drift lbfs) }
     {
         let cache = Cache::new(alloc)?;
         let index = chunk_places::empty(alloc)?;
@@ -91,7 +92,7 @@ impl Client {
                 task: None,
                 waiting: Waiting {
                     side: Side::Client,
-                    lbfs: LBFS_SPOKEN,
+                    lbfs,
                     calls: Items::new(alloc),
                 },
                 own: 0,

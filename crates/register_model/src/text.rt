@@ -185,7 +185,8 @@ pub fn text(alloc: Global, history: &History) -> Result<Bytes, AllocError>
     ensures { IfOk result (λ bytes. bytes ≡ history_text history.now) }
 {
     let mut out = String::new(alloc);
-    out.push_str("lbfs-history 1\n")?;
+    let lbfs = history.lbfs();
+    write!(out, "lbfs-history {lbfs}\n")?;
     put_ops(alloc, &mut out, history.ops())?;
     let (count, steps) = (history.ops().len(), history.steps());
     write!(out, "end ops {count} steps {steps}\n")?;

@@ -163,7 +163,7 @@ fn put_event(out: &mut Out, line: &Line) {
 /// What a line of the header says, or a command.
 fn put_plain(out: &mut Out, line: &Line) {
     match line {
-        Line::Version => out.text("Version"),
+        Line::Version(_) => out.text("Version"),
         Line::Skipped => out.text("Skipped"),
         Line::Term(term) => put_in(out, "Term", *term),
         Line::Drift(drift) => put_in(out, "Drift", *drift),

@@ -4,6 +4,7 @@ ghost use Rattle.std.specs.Prelude.{◌≡◌, ◌≤◌, true, false, None, IfO
 ghost use Rattle.limits.specs.declared.TheConstants.{FILE_MOST};
 ghost use Rattle.client_state.specs.State.{State, start_with, local_bytes};
 ghost use Rattle.client_state.specs.Ending.{cut, joined};
+ghost use Rattle.wire.specs.declared.message.TheConstants.{LBFS_SPOKEN};
 ghost use Rattle.command_text.specs.declared.command.Command.{Command};
 ghost use Rattle.shell_link.specs.Asking.{answer_of, makes, told_of, kept, Sends, Runs, Once, Asks, AsksHinted, MayLearn, MayOffer, rereads, NotesNothing, Leaves};
 ghost use Rattle.shell_link.specs.Hearing.{nothing_heard};
@@ -28,7 +29,7 @@ use shell_walks::remote::{Answer, Remote, Why};
 use std::alloc::{AllocError, Global};
 use std::mem;
 use wire::fault::WireFault;
-use wire::message::Message;
+use wire::message::{LBFS_SPOKEN, Message};
 use wire::parse::message_of;
 
 /// The drift of a shell's client, in milliseconds. Behind each command it gives up its leases, since nobody would
@@ -266,11 +267,11 @@ where
     /// A client that isn't connected yet, and notes no lease. The one error is want of memory.
     #[tactic(auto, using(crate::proofs::Noting::notes_nothing))]
     pub fn new(alloc: Global, dialler: &'e D, clock: &'e C) -> Result<Session<'e, D, C>, AllocError>
-        ensures start { IfOk result (λ s. s.client ≡ start_with DRIFT) }
+        ensures start { IfOk result (λ s. s.client ≡ start_with DRIFT LBFS_SPOKEN) }
         ensures notes { NotesNothing DRIFT }
     {
         Ok(Session {
-            client: Client::new(alloc, DRIFT)?,
+            client: Client::new(alloc, DRIFT, LBFS_SPOKEN)?,
             line: None,
             stored: None,
             is_used: false,

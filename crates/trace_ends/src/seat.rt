@@ -63,12 +63,12 @@ impl Runs for Seat {
 }
 
 impl Seat {
-    /// A client that has not joined, and takes its clock and the server's to drift apart so far, in
-    /// milliseconds. The one error is want of memory.
-    pub fn new(alloc: Global, drift: u64) -> Result<Seat, AllocError>
-        ensures { IfOk result (λ seat. seat ≡ new_seat drift) }
+    /// A client that has not joined, takes its clock and the server's to drift apart so far, in
+    /// milliseconds, and speaks this version of LBFS. The one error is want of memory.
+    pub fn new(alloc: Global, drift: u64, lbfs: u32) -> Result<Seat, AllocError>
+        ensures { IfOk result (λ seat. seat ≡ new_seat drift lbfs) }
     {
-        let client = Client::new(alloc, drift)?;
+        let client = Client::new(alloc, drift, lbfs)?;
         Ok(Seat {
             client,
             session: None,

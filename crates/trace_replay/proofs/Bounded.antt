@@ -90,7 +90,7 @@ at_files w (line.File spot content) t h e = file (place_for w.core.server.tree s
 at_files w l t h e = event w.core l t h e
 
 at_version : (w : World) (l : Line) (t : Turn) → asks_at w stage.Version l ≡ asking t → IsTurnBounded t
-at_version w line.Version t e = taken (turn.At stage.Term) t tt e
+at_version w (line.Version v) t e = taken (turn.Version v) t tt e
 at_version w l t e = refused_line Grammar t e
 
 at_term : (w : World) (l : Line) (t : Turn) → asks_at w stage.Term l ≡ asking t → IsTurnBounded t

@@ -80,7 +80,11 @@ impl WorldState {
     {
         self.stage = stage_after(self.stage, &turn);
         match turn {
-            Turn::Skip | Turn::At(_) => Ok(()),
+            Turn::Skip => Ok(()),
+            Turn::Version(lbfs) => {
+                self.core.set_lbfs(lbfs);
+                Ok(())
+            }
             Turn::Term(term) => grants(&mut self.core, term),
             Turn::Drift(drift) => {
                 self.core.set_drift(drift);

@@ -137,9 +137,10 @@ impl WorldState {
             wires,
         } = self;
         drop(wires);
+        let lbfs = core.lbfs;
         let (ops, steps) = core.history();
         let opening = build_all(alloc, opening.as_slice())?;
-        Ok(History::new(opening, ops, steps))
+        Ok(History::new(lbfs, opening, ops, steps))
     }
 
     /// What an event dropped is gone, and what it sent is on its way.

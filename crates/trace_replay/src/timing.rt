@@ -89,7 +89,7 @@ pub fn timing_of(sessions: &Vec<Session>, line: &Line) -> Timing
             at,
             ..
         } => pass_timing(*server, *at, owner_of(sessions, *session)),
-        Line::Skipped | Line::Version | Line::Clients(_) => Timing::Nothing,
+        Line::Skipped | Line::Version(_) | Line::Clients(_) => Timing::Nothing,
         Line::Dir(_) | Line::File { .. } => Timing::Nothing,
         Line::Forge { .. } | Line::Clear(_) | Line::Evict { .. } => Timing::Nothing,
         Line::Warm { .. } => Timing::Nothing,

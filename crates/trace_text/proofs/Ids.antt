@@ -6,7 +6,7 @@ use Rattle.command_text.specs.Commands.{open_of, renew_of, rewrite_at, rewrite_o
 use Rattle.command_text.specs.Fields.{◌>>=◌, value_from, value_of, is_decimal, number_of, number_within, content_of, id_of}
 use Rattle.command_text.specs.Paths.{spot_of, path_of}
 use Rattle.command_text.specs.Reading.{Gives}
-use Rattle.trace_text.specs.Fields.{reading_of, amount_of, who_of, key_of}
+use Rattle.trace_text.specs.Fields.{lbfs_of, reading_of, amount_of, who_of, key_of}
 use Rattle.trace_text.specs.Grammar.{version_of, term_of, drift_of, clients_of, dir_of, file_of, join_of, do_of, up_of, down_of, pass_of, settle_of, cut_of, hang_of, forge_of, clear_of, evict_of, warm_of, event_from, line_from, said_by, is_skipped, line_of}
 use Rattle.command_text.specs.Parts.{words_of}
 use Rattle.trace_text.specs.Reading.{IsTimely}
@@ -72,7 +72,7 @@ id_fits word n e = of_it (λ n. n < 2 ^ 64) (id_of word) n (of_id word) e
 
 of_version : (ws : List (List ℕ)) → Of IsFit (version_of ws)
 of_version [] = tt
-of_version (v ∷ []) = of_either IsFit (bytes_eq v (codes "1")) (Some Version) None tt tt
+of_version (v ∷ []) = of_then (λ a. Unit {0}) IsFit (lbfs_of v) (λ n. Some (Version n)) (of_any (lbfs_of v)) (λ a h. tt)
 of_version (v ∷ w ∷ ws) = tt
 
 of_term : (ws : List (List ℕ)) → Of IsFit (term_of ws)

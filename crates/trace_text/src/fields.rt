@@ -3,14 +3,23 @@
 ghost use Rattle.std.specs.Prelude.{◌≡◌, ◌+◌, ◌*◌, ◌≤◌, ◌^◌, true, MatchOption};
 ghost use Rattle.std.specs.List.{list_all};
 ghost use Rattle.command_text.specs.Fields.{is_lower_digit};
-ghost use Rattle.trace_text.specs.Fields.{reading_of, amount_of, who_of, digit_of, hex_of, is_key, key_of};
+ghost use Rattle.trace_text.specs.Fields.{lbfs_of, reading_of, amount_of, who_of, digit_of, hex_of, is_key, key_of};
 
-use crate::line::{Amount, Who};
+use crate::line::{Amount, LBFS_TRACED, Who};
 use command_text::fields::{number, number_within};
 use command_text::words::is;
 
 /// The last reading of a clock, in milliseconds.
 const LAST_READING: u64 = limits::READING_MOST;
+
+/// A version of LBFS of which there are traces.
+#[tactic(auto, using(crate::proofs::Versions::version_small))]
+pub(crate) fn lbfs(word: &[u8]) -> Option<u32>
+    ensures { result ≡ lbfs_of word.now }
+{
+    let version = number_within(1, LBFS_TRACED, word)?;
+    Some(version as u32)
+}
 
 /// A reading of a clock.
 pub(crate) fn reading(word: &[u8]) -> Option<u64>

@@ -7,6 +7,7 @@ ghost use Rattle.command_text.specs.Reading.{Gives};
 ghost use Rattle.trace_text.specs.Grammar.{version_of, term_of, drift_of, clients_of, dir_of, file_of, warm_of, line_from};
 
 use crate::events::{command_line, event};
+use crate::fields::lbfs;
 use crate::line::Line;
 use command_text::line_error::LineError;
 use command_text::parts::Words;
@@ -15,16 +16,12 @@ use command_text::{fields, path, pieces};
 use limits::{CLIENTS_MOST, DRIFT_MOST, TERM_MOST};
 use std::alloc::Global;
 
-/// `lbfs-trace 1`.
+/// `lbfs-trace V`.
 fn version(words: &mut Words) -> Option<Line>
     ensures { result ≡ version_of words.old }
 {
     let version = one(words)?;
-    if is(version, b"1") {
-        Some(Line::Version)
-    } else {
-        None
-    }
+    Some(Line::Version(lbfs(version)?))
 }
 
 /// `term T`.

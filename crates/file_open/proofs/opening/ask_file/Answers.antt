@@ -12,7 +12,6 @@ use Rattle.client_state.specs.declared.task.Stage.TheVariants as stage
 use Rattle.file_open.proofs.Comings.{sent_one}
 use Rattle.file_open.proofs.Keeping.{asks_version, asks_hashes}
 use Rattle.file_open.proofs.opening.ask_file.Goals as goal
-use Rattle.wire.specs.declared.message.TheConstants.{LBFS_SPOKEN}
 
 pub returns-then-is_kept-clause-ok : goal.returns-then-is_kept-clause-ok
 returns-then-is_kept-clause-ok c =
@@ -20,9 +19,9 @@ returns-then-is_kept-clause-ok c =
     let file = c.args.file in
     let kept : is_some (content_of s.cache file) ≡ true = sym c.is_kept.ensures ∙ c.if-is_kept.true in
     let begun : State = record s { next_xid = s.next_xid + 1; task = Some (record { file = file; stage = stage.Asking s.next_xid }); cache = reserved s.cache file; sent = s.clock } in
-    let asked : List ℕ → Message = λ h. message.Call s.next_xid (body.Lb (lb.GetLease (record { lbfs = LBFS_SPOKEN; handle = h }))) in
+    let asked : List ℕ → Message = λ h. message.Call s.next_xid (body.Lb (lb.GetLease (record { lbfs = s.lbfs; handle = h }))) in
     asks_version (record s { cache = reserved s.cache file }) file (content_of s.cache file) kept
-    ∙ sent_one begun (state_of c.wait_there.new.self) c.sends_one.result (lease_call s.next_xid file) c.lease_call-call.result 0 c.in_ok-wait_there.ensures.ok c.sends_one.ensures (c.lease_call-call.ensures ∙ ap asked c.in_ok-handle.ensures)
+    ∙ sent_one begun (state_of c.wait_there.new.self) c.sends_one.result (lease_call s.lbfs s.next_xid file) c.lease_call-call.result 0 c.in_ok-wait_there.ensures.ok c.sends_one.ensures (c.lease_call-call.ensures ∙ ap asked c.in_ok-handle.ensures)
 
 pub returns-clause-ok : goal.returns-clause-ok
 returns-clause-ok c =
@@ -30,6 +29,6 @@ returns-clause-ok c =
     let file = c.args.file in
     let none : is_some (content_of s.cache file) ≡ false = sym c.is_kept.ensures ∙ c.if-is_kept.false in
     let begun : State = record s { next_xid = s.next_xid + 1; task = Some (record { file = file; stage = stage.Hashing 1 s.next_xid }); cache = reserved s.cache file; sent = s.clock } in
-    let asked : List ℕ → Message = λ h. message.Call s.next_xid (body.Lb (lb.GetHash (record { lbfs = LBFS_SPOKEN; handle = h; offset = 0; count = 4294967295 }))) in
+    let asked : List ℕ → Message = λ h. message.Call s.next_xid (body.Lb (lb.GetHash (record { lbfs = s.lbfs; handle = h; offset = 0; count = 4294967295 }))) in
     asks_hashes (record s { cache = reserved s.cache file }) file (content_of s.cache file) none
-    ∙ sent_one begun (state_of c.wait_there-2.new.self) c.sends_one-2.result (hash_call s.next_xid file 0) c.hash_call-call.result 0 c.in_ok-wait_there-2.ensures.ok c.sends_one-2.ensures (c.hash_call-call.ensures ∙ ap asked c.in_ok-handle.ensures)
+    ∙ sent_one begun (state_of c.wait_there-2.new.self) c.sends_one-2.result (hash_call s.lbfs s.next_xid file 0) c.hash_call-call.result 0 c.in_ok-wait_there-2.ensures.ok c.sends_one-2.ensures (c.hash_call-call.ensures ∙ ap asked c.in_ok-handle.ensures)

@@ -13,7 +13,6 @@ use Rattle.client_state.specs.View.{state_of}
 use Rattle.client_state.specs.declared.task.Stage.TheVariants as stage
 use Rattle.file_open.proofs.Comings.{sent_one}
 use Rattle.file_open.proofs.opening.list_on.Goals as goal
-use Rattle.wire.specs.declared.message.TheConstants.{LBFS_SPOKEN}
 
 pub returns-clause-ok : goal.returns-clause-ok
 returns-clause-ok c =
@@ -21,6 +20,6 @@ returns-clause-ok c =
     let f = c.args.fetch in
     let file = c.args.file in
     let begun : State = record s { next_xid = s.next_xid + 1; task = Some (record { file = file; stage = stage.Listing s.next_xid f }); sent = s.clock } in
-    let asked : List ℕ → ℕ → Message = λ h o. message.Call s.next_xid (body.Lb (lb.GetHash (record { lbfs = LBFS_SPOKEN; handle = h; offset = o; count = 4294967295 }))) in
-    sent_one begun (state_of c.mark_sent.new.self) c.sends_one.result (hash_call s.next_xid file (end_of f.chunks)) c.hash_call-call.result 0 (c.mark_sent.ensures.rest ∙ ap (λ (t : State). asks_lease t) c.in_ok-wait.ensures.ok) c.sends_one.ensures
+    let asked : List ℕ → ℕ → Message = λ h o. message.Call s.next_xid (body.Lb (lb.GetHash (record { lbfs = s.lbfs; handle = h; offset = o; count = 4294967295 }))) in
+    sent_one begun (state_of c.mark_sent.new.self) c.sends_one.result (hash_call s.lbfs s.next_xid file (end_of f.chunks)) c.hash_call-call.result 0 (c.mark_sent.ensures.rest ∙ ap (λ (t : State). asks_lease t) c.in_ok-wait.ensures.ok) c.sends_one.ensures
     (c.hash_call-call.ensures ∙ (ap (λ (h : List ℕ). asked h c.end_of-offset.result) c.in_ok-handle.ensures ∙ ap (asked (handle_bytes file)) (c.end_of-offset.ensures ∙ ap end_of c.as_slice.ensures)))

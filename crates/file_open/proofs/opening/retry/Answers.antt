@@ -11,12 +11,11 @@ use Rattle.client_state.specs.View.{state_of}
 use Rattle.client_state.specs.declared.task.Stage.TheVariants as stage
 use Rattle.file_open.proofs.Comings.{sent_one}
 use Rattle.file_open.proofs.opening.retry.Goals as goal
-use Rattle.wire.specs.declared.message.TheConstants.{LBFS_SPOKEN}
 
 pub returns-clause-ok : goal.returns-clause-ok
 returns-clause-ok c =
     let s = state_of c.args.state.now in
     let file = c.args.file in
     let begun : State = record (forgets s c.args.state.now.waiting.calls c.args.xid) { next_xid = s.next_xid + 1; task = Some (record { file = file; stage = stage.Hashing (c.args.tries + 1) s.next_xid }); sent = s.clock } in
-    let asked : List ℕ → Message = λ h. message.Call s.next_xid (body.Lb (lb.GetHash (record { lbfs = LBFS_SPOKEN; handle = h; offset = 0; count = 4294967295 }))) in
-    sent_one begun (state_of c.wait_anew.new.self) c.sends_one.result (hash_call s.next_xid file 0) c.hash_call-call.result c.args.bytes c.in_ok-wait_anew.ensures.ok c.sends_one.ensures (c.hash_call-call.ensures ∙ ap asked c.in_ok-handle.ensures)
+    let asked : List ℕ → Message = λ h. message.Call s.next_xid (body.Lb (lb.GetHash (record { lbfs = s.lbfs; handle = h; offset = 0; count = 4294967295 }))) in
+    sent_one begun (state_of c.wait_anew.new.self) c.sends_one.result (hash_call s.lbfs s.next_xid file 0) c.hash_call-call.result c.args.bytes c.in_ok-wait_anew.ensures.ok c.sends_one.ensures (c.hash_call-call.ensures ∙ ap asked c.in_ok-handle.ensures)

@@ -11,12 +11,11 @@ use Rattle.client_state.specs.View.{state_of}
 use Rattle.client_state.specs.declared.task.Stage.TheVariants as stage
 use Rattle.file_open.proofs.Comings.{sent_one}
 use Rattle.file_open.proofs.rewriting.ask_anew.Goals as goal
-use Rattle.wire.specs.declared.message.TheConstants.{LBFS_SPOKEN}
 
 pub returns-clause-ok : goal.returns-clause-ok
 returns-clause-ok c =
     let s = state_of c.args.state.now in
     let file = c.args.file in
     let begun : State = record s { next_xid = s.next_xid + 1; task = Some (record { file = file; stage = stage.Rewriting s.next_xid }); cache = reserved s.cache file; sent = s.clock } in
-    let asked : List ℕ → Message = λ h. message.Call s.next_xid (body.Lb (lb.GetLease (record { lbfs = LBFS_SPOKEN; handle = h }))) in
-    sent_one begun (state_of c.wait_there.new.self) c.sends_one.result (lease_call s.next_xid file) c.lease_call-call.result 0 c.in_ok-wait_there.ensures.ok c.sends_one.ensures (c.lease_call-call.ensures ∙ ap asked c.in_ok-handle.ensures)
+    let asked : List ℕ → Message = λ h. message.Call s.next_xid (body.Lb (lb.GetLease (record { lbfs = s.lbfs; handle = h }))) in
+    sent_one begun (state_of c.wait_there.new.self) c.sends_one.result (lease_call s.lbfs s.next_xid file) c.lease_call-call.result 0 c.in_ok-wait_there.ensures.ok c.sends_one.ensures (c.lease_call-call.ensures ∙ ap asked c.in_ok-handle.ensures)
