@@ -70,6 +70,11 @@ class Run:
             fields = it.read().rpartition(")")[2].split()
         return (int(fields[11]) + int(fields[12])) / os.sysconf("SC_CLK_TCK")
 
+    def read_bytes(self):
+        """How many bytes it has read, of files and streams."""
+        with open(f"/proc/{self.process.pid}/io") as it:
+            return next(int(line.split()[1]) for line in it if line.startswith("rchar:"))
+
     def told(self, word):
         """What the kernel tells of it by this word."""
         with open(f"/proc/{self.process.pid}/status") as it:

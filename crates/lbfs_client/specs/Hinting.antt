@@ -1,10 +1,13 @@
 -- Hints that a mount gives its client between lines: of what it stored, and of a file of the host. Nobody trusts them.
-use Rattle.std.specs.Prelude.{◌≡◌, ℕ, ◌≤◌, List, Option, Some, None, Result, Ok, Err, Bool, true, false}
+use Rattle.std.specs.Prelude.{◌≡◌, ℕ, ◌≤◌, List, Option, Some, None, Result, Ok, Err, Bool, true, false, is_some}
 use Rattle.links.specs.declared.files.FilesError.{FilesError}
 use Rattle.client_state.specs.Hints.{Learns, Offers}
 use Rattle.client_state.specs.State.{State}
+use Rattle.file_open.specs.Caching.{fresh_content}
 use Rattle.lbfs_client.specs.Host.{Host, HasRead}
+use Rattle.lbfs_client.specs.Lines.{file_of}
 use Rattle.lbfs_client.specs.Mounting.{Mount}
+use Rattle.lbfs_client.specs.declared.line.Place.{Place}
 use Rattle.lbfs_client.specs.declared.walk.Walk.{Walk}
 use Rattle.lbfs_client.specs.declared.walk.Walk.TheVariants as walk
 
@@ -16,6 +19,15 @@ closing_of w = None
 -- the places of what is kept of a file enter the client's index
 abbrev pub LearnsIn : Mount → (file : ℕ) → Mount → Type 0
 LearnsIn m file m' = (m'.host ≡ m.host) × (m'.walk ≡ m.walk) × ((left_out : Bool) × Learns m.client file left_out m'.client)
+
+-- whether an open of this file, where it isn't open, asks nobody
+abbrev pub fresh_at : State → Option ℕ → (now : ℕ) → Bool
+fresh_at c None now = false
+fresh_at c (Some file) now = is_some (fresh_content c.cache file now)
+
+-- and of a place that names its file
+abbrev pub has_fresh : State → Place → (now : ℕ) → Bool
+has_fresh c place now = fresh_at c (file_of place) now
 
 -- bytes that were read are offered to the client, or nothing is
 abbrev pub OffersRead : State → Result (List ℕ) FilesError → (done : Bool) → State → Type 0

@@ -3,8 +3,9 @@
 
 ghost use Rattle.std.specs.Prelude.{◌≡◌, ◌≤◌, length, IfOk};
 ghost use Rattle.limits.specs.declared.TheConstants.{FILE_MOST};
-ghost use Rattle.lbfs_client.specs.Hinting.{OffersRead, closing_of};
+ghost use Rattle.lbfs_client.specs.Hinting.{OffersRead, closing_of, has_fresh};
 
+use crate::line::Place;
 use crate::walk::Walk;
 use lb_base::items::Bytes;
 use links::files::FilesError;
@@ -27,6 +28,17 @@ pub(crate) fn offer_read(
     match SharedBytes::new(alloc, bytes) {
         Ok(content) => client.offer(alloc, content).is_ok(),
         Err(_want) => false,
+    }
+}
+
+/// Whether an open of this place, whose file isn't open, asks nobody, as its content is fresh. Of a path that
+/// isn't known before it was looked up.
+pub(crate) fn has_fresh(client: &Client, place: &Place, now: u64) -> bool
+    ensures { result ≡ has_fresh client.now place.now now }
+{
+    match place.file() {
+        Some(file) => client.fresh(file, now).is_some(),
+        None => false,
     }
 }
 

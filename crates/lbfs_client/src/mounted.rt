@@ -4,7 +4,7 @@
 ghost use Rattle.std.specs.Prelude.{◌≡◌, IfOk, IfErr, None, true, false};
 ghost use Rattle.std.specs.Option.{option_copied};
 ghost use Rattle.lbfs_client.specs.Caching.{Loads, Saves, within};
-ghost use Rattle.lbfs_client.specs.Hinting.{LearnsIn, OffersIf, closing_of};
+ghost use Rattle.lbfs_client.specs.Hinting.{LearnsIn, OffersIf, closing_of, has_fresh};
 ghost use Rattle.client_state.specs.State.{start_with};
 ghost use Rattle.wire.specs.declared.message.TheConstants.{LBFS_SPOKEN};
 ghost use Rattle.lbfs_client.specs.Mounting.{Runs, Continues, Receives, Stops, joined_step, read_bytes};
@@ -12,8 +12,8 @@ ghost use Rattle.lbfs_client.specs.Mounting.{Runs, Continues, Receives, Stops, j
 use crate::answer::Answer;
 use crate::caching::{self, load_read, save_kept};
 use crate::fetching::read;
-use crate::hinting::{closing, offer_read};
-use crate::line::MountLine;
+use crate::hinting::{closing, has_fresh, offer_read};
+use crate::line::{MountLine, Place};
 use crate::local::LocalName;
 use crate::running::{go_on, joined, read_bytes, run};
 use crate::said::Said;
@@ -169,6 +169,14 @@ impl<F: Files> Mounted<F> {
         ensures same { result ≡ false → self.new ≡ self.old }
     {
         self.client.learn(alloc, file).is_ok()
+    }
+
+    /// Whether an open of this place, whose file isn't open, asks nobody at this reading: its id is known, and the
+    /// content that is kept of it fresh. It takes no memory.
+    pub fn has_fresh(&self, place: &Place, now: u64) -> bool
+        ensures { result ≡ has_fresh self.now.client place.now now }
+    {
+        has_fresh(&self.client, place, now)
     }
 
     /// A file of the host, if it is there, is read, and offered to the client's index, so that a chunk of a

@@ -73,14 +73,17 @@ fn learn_stored<F: Files>(alloc: Global, mounted: &mut Mounted<F>, stored: Optio
 }
 
 /// The client's index is offered the file of the host that a `get` is to replace: a fetch of what the
-/// server has then brings only the chunks that aren't there.
+/// server has then brings only the chunks that aren't there. Where the content is fresh nothing is fetched, and
+/// the file isn't read.
 #[tactic(auto, using(crate::proofs::Hintings::may_offer, crate::proofs::Hintings::nothing_offered))]
-fn offer_local<F: Files>(alloc: Global, mounted: &mut Mounted<F>, line: &MountLine)
+fn offer_local<F: Files>(alloc: Global, mounted: &mut Mounted<F>, line: &MountLine, now: u64)
     ensures { MayOffer mounted.old mounted.new }
 {
     match line {
-        MountLine::Get { local, .. } => {
-            let _done = mounted.offer(alloc, local);
+        MountLine::Get { place, local } => {
+            if !mounted.has_fresh(place, now) {
+                let _done = mounted.offer(alloc, local);
+            }
         }
         _ => {}
     }
@@ -151,13 +154,13 @@ impl<F: Files + Drop, L: Link + Drop> Desk<F, L> {
 
     /// Hints for the client's index before a line: of the file that was closed last, and of the host's
     /// file that a `get` names.
-    fn hint(&mut self, alloc: Global, line: &MountLine)
+    fn hint(&mut self, alloc: Global, line: &MountLine, now: u64)
         ensures hints { Hints self.old.mounted self.new.mounted }
         ensures rest { (self.new.starved ≡ self.old.starved) × (self.new.connection ≡ self.old.connection) × (self.new.most ≡ self.old.most) × (self.new.listed ≡ self.old.listed) }
         ensures out { outlet self.new.link self.new.waits self.new.line ≡ outlet self.old.link self.old.waits self.old.line }
     {
         learn_stored(alloc, &mut self.mounted, self.stored);
-        offer_local(alloc, &mut self.mounted, line);
+        offer_local(alloc, &mut self.mounted, line, now);
         self.stored = closed_by(line);
     }
 
@@ -274,7 +277,7 @@ impl<F: Files + Drop, L: Link + Drop> Desk<F, L> {
     {
         let wants = matches!(line, MountLine::Join) && !self.mounted.linked();
         self.listed = 0;
-        self.hint(alloc, &line);
+        self.hint(alloc, &line, now);
         let said = self.mounted.line(alloc, line, now);
         self.stored = self.mounted.closing().or(self.stored);
         self.settle(alloc, said, false, now);
