@@ -12,7 +12,8 @@ use Rattle.chunk_cut.specs.Ends.{IsOpen, IsNextEnd, AreEndsFrom, AreEnds}
 use Rattle.chunk_cut.specs.Search.{ends}
 use Rattle.client_cache.specs.Cache.{Entries, contents_in}
 use Rattle.cache_file.specs.Items.{IsItem}
-use Rattle.cache_file.specs.Saved.{pieces_of, pieces_in, taken, within, saved}
+use Rattle.sha1.specs.Sha1.{sha1}
+use Rattle.cache_file.specs.Saved.{pieces_of, pieces_in, is_seen, with_digest, once_from, taken, within, saved}
 
 -- where no chunk may end what is left is no longer than the longest
 open_small : (content : List ℕ) (s : ℕ) → IsOpen content s → length content ≤ s + CHUNK_MOST
@@ -61,5 +62,14 @@ all_within room (x ∷ xs) h = by (nat_le (taken x) room) (all_within (room - ta
     by true later = All-cons IsItem x (within (room - taken x) xs) (All-head IsItem x xs h) later
     by false later = All-nil IsItem
 
+-- and each item once
+all_once : (seen xs : List (List ℕ)) → All IsItem xs → All IsItem (once_from seen xs)
+all_once seen [] h = All-nil IsItem
+all_once seen (x ∷ xs) h = by (is_seen seen (sha1 x)) (all_once seen xs (All-tail IsItem x xs h)) (all_once (with_digest seen (sha1 x)) xs (All-tail IsItem x xs h))
+  where
+    by : (b : Bool) → All IsItem (once_from seen xs) → All IsItem (once_from (with_digest seen (sha1 x)) xs) → All IsItem (if b then once_from seen xs else x ∷ once_from (with_digest seen (sha1 x)) xs)
+    by true without later = without
+    by false without later = All-cons IsItem x (once_from (with_digest seen (sha1 x)) xs) (All-head IsItem x xs h) later
+
 pub saved_items : Cut → (entries : Entries) → All IsItem (saved entries)
-saved_items law entries = all_within _ (pieces_in entries) (of_contents law (contents_in entries))
+saved_items law entries = all_within _ (once_from [] (pieces_in entries)) (all_once [] (pieces_in entries) (of_contents law (contents_in entries)))

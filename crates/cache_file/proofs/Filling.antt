@@ -7,13 +7,14 @@ use Rattle.std.proofs.lemmas.Bool.{le-leb, lt-leb}
 use Rattle.std.proofs.lemmas.Grind.{flat_map-append}
 use Rattle.std.proofs.lemmas.List.{append-nil, length-replicate, drop_more, drop_all}
 use Rattle.std.proofs.lemmas.Option.{slice_get_within, get_or_from_slice_get}
+use Rattle.sha1.specs.Sha1.{sha1}
 use Rattle.xdr_codec.specs.Xdr.{opaque_spell, padded, fill_len, wide32}
 use Rattle.std.specs.Borrow.{Bor}
 use Rattle.client_cache.specs.Cache.{shown}
 use Rattle.chunk_cut.specs.declared.chunk.Chunk.{Chunk}
-use Rattle.cache_file.specs.Filling.{Puts, within_if}
+use Rattle.cache_file.specs.Filling.{Puts, written_of, written_if}
 use Rattle.cache_file.specs.Items.{spelled}
-use Rattle.cache_file.specs.Saved.{within, taken}
+use Rattle.cache_file.specs.Saved.{is_seen, with_digest, once_from, within, taken}
 use Rattle.cache_file.specs.declared.saving.Saving.{Saving}
 
 -- an item's number, its bytes, and its fill
@@ -27,50 +28,64 @@ taken_is item =
 pub none : (s : Saving) → Puts s [] true s
 none s = record { written = sym (append-nil s.writer); goes_on = λ more. refl }
 
--- one for which there is room
-pub one : (s : Saving) (item : List ℕ) → taken item ≤ s.room → Puts s (item ∷ []) true (record { writer = s.writer ++ opaque_spell item; room = s.room - taken item })
-one s item le = record {
-  written = ap (λ (t : List ℕ). s.writer ++ t) (sym (append-nil (opaque_spell item)) ∙ ap spelled (sym (fits [])));
-  goes_on = λ more. fits more ∙ ap (λ (xs : List (List ℕ)). xs ++ within (s.room - taken item) more) (sym (fits []));
+-- one whose digest was written
+pub seen_one : (s : Saving) (item : List ℕ) → is_seen s.seen.keys (sha1 item) ≡ true → Puts s (item ∷ []) true s
+seen_one s item is = record {
+  written = sym (append-nil s.writer) ∙ ap (λ (xs : List (List ℕ)). s.writer ++ spelled (within s.room xs)) (sym (skips []));
+  goes_on = λ more. ap (within s.room) (skips more) ∙ ap (λ (xs : List (List ℕ)). within s.room xs ++ written_of s more) (sym (skips []));
 }
   where
-    fits : (more : List (List ℕ)) → within s.room (item ∷ more) ≡ item ∷ within (s.room - taken item) more
-    fits more = rw (le-leb (taken item) s.room le) refl
+    skips : (more : List (List ℕ)) → once_from s.seen.keys (item ∷ more) ≡ once_from s.seen.keys more
+    skips more = rw is refl
+
+-- one for which there is room
+pub one : (s t : Saving) (item : List ℕ) → is_seen s.seen.keys (sha1 item) ≡ false → taken item ≤ s.room → t.writer ≡ s.writer ++ opaque_spell item → t.room ≡ s.room - taken item → t.seen.keys ≡ with_digest s.seen.keys (sha1 item) → Puts s (item ∷ []) true t
+one s t item new le wrote left seen = record {
+  written = wrote ∙ ap (λ (bytes : List ℕ). s.writer ++ bytes) (sym (append-nil (opaque_spell item)) ∙ ap spelled (sym (fits [])));
+  goes_on = λ more.
+      fits more
+      ∙ ap (λ (xs : List (List ℕ)). xs ++ within (s.room - taken item) (once_from (with_digest s.seen.keys (sha1 item)) more)) (sym (fits []))
+      ∙ ap (λ (n : ℕ). written_of s (item ∷ []) ++ within n (once_from (with_digest s.seen.keys (sha1 item)) more)) (sym left)
+      ∙ ap (λ (ds : List (List ℕ)). written_of s (item ∷ []) ++ within t.room (once_from ds more)) (sym seen);
+}
+  where
+    fits : (more : List (List ℕ)) → written_of s (item ∷ more) ≡ item ∷ within (s.room - taken item) (once_from (with_digest s.seen.keys (sha1 item)) more)
+    fits more = rw (new, le-leb (taken item) s.room le) refl
 
 -- and one for which there is none
-pub not_one : (s : Saving) (item : List ℕ) → s.room < taken item → Puts s (item ∷ []) false s
-not_one s item lt = record {
+pub not_one : (s : Saving) (item : List ℕ) → is_seen s.seen.keys (sha1 item) ≡ false → s.room < taken item → Puts s (item ∷ []) false s
+not_one s item new lt = record {
   written = sym (append-nil s.writer) ∙ ap (λ (xs : List (List ℕ)). s.writer ++ spelled xs) (sym (ends []));
   goes_on = λ more. ends more ∙ ap (λ (xs : List (List ℕ)). xs ++ []) (sym (ends []));
 }
   where
-    ends : (more : List (List ℕ)) → within s.room (item ∷ more) ≡ []
-    ends more = rw (lt-leb (taken item) s.room lt) refl
+    ends : (more : List (List ℕ)) → written_of s (item ∷ more) ≡ []
+    ends more = rw (new, lt-leb (taken item) s.room lt) refl
 
 -- these, and then those
 pub then : (s t u : Saving) (xs ys : List (List ℕ)) (goes : Bool) → Puts s xs true t → Puts t ys goes u → Puts s (xs ++ ys) goes u
 then s t u xs ys goes p q = record {
   written =
       q.written
-      ∙ ap (λ (w : List ℕ). w ++ spelled (within t.room ys)) p.written
-      ∙ append_assoc s.writer (spelled (within s.room xs)) (spelled (within t.room ys))
-      ∙ ap (λ (w : List ℕ). s.writer ++ w) (sym (flat_map-append opaque_spell (within s.room xs) (within t.room ys)))
+      ∙ ap (λ (w : List ℕ). w ++ spelled (written_of t ys)) p.written
+      ∙ append_assoc s.writer (spelled (written_of s xs)) (spelled (written_of t ys))
+      ∙ ap (λ (w : List ℕ). s.writer ++ w) (sym (flat_map-append opaque_spell (written_of s xs) (written_of t ys)))
       ∙ ap (λ (zs : List (List ℕ)). s.writer ++ spelled zs) (sym (p.goes_on ys));
   goes_on = λ more.
-      ap (within s.room) (append_assoc xs ys more)
+      ap (written_of s) (append_assoc xs ys more)
       ∙ p.goes_on (ys ++ more)
-      ∙ ap (λ (zs : List (List ℕ)). within s.room xs ++ zs) (q.goes_on more)
-      ∙ sym (append_assoc (within s.room xs) (within t.room ys) (within_if goes u.room more))
-      ∙ ap (λ (zs : List (List ℕ)). zs ++ within_if goes u.room more) (sym (p.goes_on ys));
+      ∙ ap (λ (zs : List (List ℕ)). written_of s xs ++ zs) (q.goes_on more)
+      ∙ sym (append_assoc (written_of s xs) (written_of t ys) (written_if goes u more))
+      ∙ ap (λ (zs : List (List ℕ)). zs ++ written_if goes u more) (sym (p.goes_on ys));
 }
 
 -- where there was no room, nothing further is written
 pub stays_full : (s t : Saving) (xs ys : List (List ℕ)) → Puts s xs false t → Puts s (xs ++ ys) false t
 stays_full s t xs ys p =
-    let same : within s.room (xs ++ ys) ≡ within s.room xs = p.goes_on ys ∙ append-nil (within s.room xs) in
+    let same : written_of s (xs ++ ys) ≡ written_of s xs = p.goes_on ys ∙ append-nil (written_of s xs) in
     record {
       written = p.written ∙ ap (λ (zs : List (List ℕ)). s.writer ++ spelled zs) (sym same);
-      goes_on = λ more. ap (within s.room) (append_assoc xs ys more) ∙ p.goes_on (ys ++ more) ∙ ap (λ (zs : List (List ℕ)). zs ++ []) (sym same);
+      goes_on = λ more. ap (written_of s) (append_assoc xs ys more) ∙ p.goes_on (ys ++ more) ∙ ap (λ (zs : List (List ℕ)). zs ++ []) (sym same);
     }
 
 -- ---- as loops write them: whatever those that are left lead to, all do

@@ -1,3 +1,4 @@
 pub mod Filling
 pub mod Items
 pub mod Saved
+pub mod Rows

@@ -1,7 +1,12 @@
 -- What of a client's cache a cache file holds.
-use Rattle.std.specs.Prelude.{ℕ, ◌-◌, List, [], ◌∷◌, length, map, nat_le, if◌then◌else◌}
-use Rattle.std.specs.List.{flat_map}
+use Rattle.std.specs.BTreeMap.{is_at}
+use Rattle.std.specs.BTreeSet.{insert_key}
+use Rattle.std.specs.Cmp.Lexicographic.{slice_cmp}
+use Rattle.std.specs.List.{flat_map, list_any}
+use Rattle.std.specs.Ordering.{nat_cmp}
+use Rattle.std.specs.Prelude.{ℕ, ◌-◌, List, [], ◌∷◌, length, map, Bool, nat_le, if◌then◌else◌}
 use Rattle.limits.specs.declared.TheConstants.{FILE_MOST}
+use Rattle.sha1.specs.Sha1.{sha1}
 use Rattle.xdr_codec.specs.Xdr.{opaque_spell}
 use Rattle.chunk_cut.specs.Chunks.{chunks_of}
 use Rattle.chunk_cut.specs.Places.{chunk_bytes}
@@ -15,6 +20,18 @@ pieces_of content = map (chunk_bytes content) (chunks_of content)
 abbrev pub pieces_in : Entries → List (List ℕ)
 pieces_in entries = flat_map (λ e. pieces_of e.1) (contents_in entries)
 
+-- whether a digest is among these, which ascend, and these with it
+abbrev pub is_seen : (seen : List (List ℕ)) → (digest : List ℕ) → Bool
+is_seen seen digest = list_any (is_at (slice_cmp nat_cmp digest)) seen
+
+abbrev pub with_digest : (seen : List (List ℕ)) → (digest : List ℕ) → List (List ℕ)
+with_digest seen digest = insert_key (slice_cmp nat_cmp) seen digest
+
+-- of items with the same digest the first
+abbrev pub once_from : (seen : List (List ℕ)) → List (List ℕ) → List (List ℕ)
+once_from seen [] = []
+once_from seen (x ∷ xs) = if is_seen seen (sha1 x) then once_from seen xs else x ∷ once_from (with_digest seen (sha1 x)) xs
+
 -- how many bytes an item takes in the file
 abbrev pub taken : List ℕ → ℕ
 taken item = length (opaque_spell item)
@@ -25,4 +42,4 @@ within left [] = []
 within left (x ∷ xs) = if nat_le (taken x) left then x ∷ within (left - taken x) xs else []
 
 abbrev pub saved : Entries → List (List ℕ)
-saved entries = within FILE_MOST (pieces_in entries)
+saved entries = within FILE_MOST (once_from [] (pieces_in entries))

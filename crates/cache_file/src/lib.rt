@@ -28,8 +28,8 @@ pub fn load(alloc: Global, bytes: &[u8]) -> Result<Vec<Bytes>, AllocError>
 }
 
 /// What is kept in a cache file of a client's cache: the chunks of the contents that are kept, the most
-/// recent first, as many from the first on as take at most 67,108,864 bytes. `load` gives them again. The
-/// one error is want of memory.
+/// recent first and each once, as many from the first on as take at most 67,108,864 bytes. `load` gives them
+/// again. The one error is want of memory.
 pub fn save(alloc: Global, cache: &Cache) -> Result<Bytes, AllocError>
     ensures spelled { IfOk result (λ bytes. bytes ≡ spelled (saved cache.now)) }
     ensures again { IfOk result (λ bytes. items bytes ≡ saved cache.now) }

@@ -4,28 +4,35 @@
 ghost use Rattle.std.specs.Prelude.{◌≡◌, ◌∷◌, [], ◌++◌, IfOk};
 ghost use Rattle.limits.specs.declared.TheConstants.{FILE_MOST};
 ghost use Rattle.chunk_cut.specs.Places.{chunk_bytes};
-ghost use Rattle.cache_file.specs.Filling.{Puts};
+ghost use Rattle.cache_file.specs.Filling.{Puts, written_of};
 ghost use Rattle.cache_file.specs.Items.{spelled};
-ghost use Rattle.cache_file.specs.Saved.{pieces_of, pieces_in, within, taken};
+ghost use Rattle.cache_file.specs.Saved.{pieces_of, pieces_in, taken};
 
 use chunk_cut::chunk::Chunk;
 use client_cache::cache::Cache;
 use lb_base::items::Bytes;
 use limits::FILE_MOST;
 use std::alloc::{AllocError, Global};
+use std::collections::BTreeSet;
 use xdr_codec::writer::Writer;
 
-/// What was written so far, and for how many bytes there is room.
+/// What was written so far, for how many bytes there is room, and the digests of what was written.
 pub struct Saving {
     writer: Writer,
     room: u64,
+    seen: BTreeSet<[u8; 20]>,
 }
 
 // By hand: docs/PROVING.md, "Values that are let go".
 impl Drop for Saving {
     fn drop(self) {
-        let Saving { writer, room: _ } = self;
+        let Saving {
+            writer,
+            room: _,
+            seen,
+        } = self;
         drop(writer);
+        drop(seen);
     }
 }
 
@@ -50,11 +57,12 @@ fn chunk_bytes<'a>(content: &'a [u8], chunk: &Chunk) -> &'a [u8]
 impl Saving {
     /// Nothing yet, and room for as much as a cache file may have. It takes no memory.
     pub fn new(alloc: Global) -> Saving
-        ensures { result ≡ record { writer = []; room = FILE_MOST } }
+        ensures { (result.writer ≡ []) × (result.room ≡ FILE_MOST) × (result.seen.keys ≡ []) }
     {
         Saving {
             writer: Writer::new(alloc),
             room: FILE_MOST,
+            seen: BTreeSet::new(alloc),
         }
     }
 
@@ -62,19 +70,30 @@ impl Saving {
     pub fn done(self) -> Bytes
         ensures { result ≡ self.writer }
     {
-        let Saving { writer, room: _ } = self;
+        let Saving {
+            writer,
+            room: _,
+            seen,
+        } = self;
+        drop(seen);
         writer.done()
     }
 
-    /// Writes an item, where there is room for it; says whether there was. The one error is want of
-    /// memory.
+    /// Writes an item, where none with its digest was written and there is room for it; says whether there
+    /// was. The one error is want of memory.
+    #[tactic(auto, using(crate::proofs::Filling::seen_one, crate::proofs::Filling::one, crate::proofs::Filling::not_one))]
     fn item(&mut self, item: &[u8]) -> Result<bool, AllocError>
         ensures { IfOk result (λ goes. Puts self.old (item.now ∷ []) goes self.new) }
     {
+        let digest = chunk_cut::digest(item);
+        if self.seen.contains(&digest) {
+            return Ok(true);
+        }
         let taken = taken(item);
         if taken > self.room {
             return Ok(false);
         }
+        self.seen.insert(digest)?;
         self.writer.opaque(item)?;
         self.room -= taken;
         Ok(true)
@@ -93,9 +112,9 @@ impl Saving {
         Ok(true)
     }
 
-    /// Writes the chunks of all contents that are kept, as many as there is room for.
+    /// Writes the chunks of all contents that are kept, each once, as many as there is room for.
     pub fn contents(&mut self, alloc: Global, cache: &Cache) -> Result<(), AllocError>
-        ensures { IfOk result (λ _. self.new.writer ≡ self.old.writer ++ spelled (within self.old.room (pieces_in cache.now))) }
+        ensures { IfOk result (λ _. self.new.writer ≡ self.old.writer ++ spelled (written_of self.old (pieces_in cache.now))) }
     {
         let mut place = 0;
         'contents: while let Some((_file, content)) = cache.at(place) {
