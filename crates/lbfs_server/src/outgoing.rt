@@ -1,12 +1,15 @@
 //! What goes out to a session: what was taken from its box in a turn, once the store is sure of what was
-//! made by then. So nobody is told what a cut of power could undo.
+//! made by then. So nobody is told what a cut of power could undo. What answers on temporary files alone
+//! waits for nothing.
 
-ghost use Rattle.std.specs.Prelude.{◌≡◌, [], OnOk, IfOk};
+ghost use Rattle.std.specs.Prelude.{◌≡◌, true, OnOk, IfOk};
+ghost use Rattle.lbfs_server.specs.Telling.{tells, any_tells};
 
+use hash_calls::message::Lb;
 use lb_base::source::Failed;
 use std::sync::Wait;
 use synced_store::syncs::Syncs;
-use wire::message::Message;
+use wire::message::{Body, Message};
 
 /// What there is to say to a session, as it was taken in a turn. Nothing of it may go out yet.
 #[derive(Drop)]
@@ -15,8 +18,8 @@ pub struct Taken {
     stands: bool,
 }
 
-/// What may go out to a session: where there is something to say, a `settle` behind its turn has answered
-/// `Ok`. It is made by `Taken::settle` alone.
+/// What may go out to a session: where a message of it tells what the store has (`tells`), a `settle` behind its
+/// turn has answered `Ok`. It is made by `Taken::settle` alone.
 #[derive(Drop)]
 pub struct Sure {
     messages: Vec<Message>,
@@ -28,6 +31,29 @@ fn is_call(message: &Message) -> bool {
     match message {
         Message::Call(_, _) => true,
         _ => false,
+    }
+}
+
+/// Whether a message tells what the store has: all do but the answers on a client's temporary files.
+fn tells(message: &Message) -> bool
+    ensures { result ≡ tells message.now }
+{
+    match message {
+        Message::Answer(_, Body::Lb(answer)) => !matches!(
+            answer,
+            Lb::MkTmpFileAnswer(_) | Lb::TmpWriteAnswer(_) | Lb::CondWriteAnswer(_)
+        ),
+        _ => true,
+    }
+}
+
+/// Whether any message does.
+fn any_tells(messages: &[Message]) -> bool
+    ensures { result ≡ any_tells messages.now }
+{
+    match messages {
+        [message, rest @ ..] => tells(message) || any_tells(rest),
+        [] => false,
     }
 }
 
@@ -45,14 +71,14 @@ impl Taken {
         calls.count() as u64
     }
 
-    /// Makes the store sure of all that was made before what is to be said was taken; where nothing is,
+    /// Makes the store sure of all that was made before what is to be said was taken; where nothing tells of it,
     /// of nothing. `Failed` comes where the store is in doubt.
     pub fn settle<W: Wait, Y: Syncs>(self, rt: &W, syncs: &Y) -> Result<Sure, Failed>
-        ensures settled { OnOk result (¬ (self.messages.items ≡ []) → Y.settled syncs.now) }
+        ensures settled { OnOk result (any_tells self.messages.items ≡ true → Y.settled syncs.now) }
         ensures same { IfOk result (λ sure. (sure.messages ≡ self.messages) × (sure.stands ≡ self.stands)) }
     {
         let Taken { messages, stands } = self;
-        if !messages.is_empty() {
+        if any_tells(&messages) {
             if let Err(failed) = syncs.settle(rt) {
                 drop(messages);
                 return Err(failed);

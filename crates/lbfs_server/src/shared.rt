@@ -2,8 +2,9 @@
 //! a call is what its contract says is proved of `Held`; of a turn no clause speaks, since another
 //! thread's may stand before and behind it.
 
-ghost use Rattle.std.specs.Prelude.{◌≡◌, nat_le, ◌<◌, ◌^◌, [], ◌∷◌, length, All, Contains, OnOk, IfOk};
+ghost use Rattle.std.specs.Prelude.{◌≡◌, true, nat_le, ◌<◌, ◌^◌, [], ◌∷◌, length, All, Contains, OnOk, IfOk};
 ghost use Rattle.std.specs.List.Sorted.{IsPermutation};
+ghost use Rattle.lbfs_server.specs.Telling.{any_tells};
 ghost use Rattle.lbfs_server.specs.declared.shared.SessionLink.{SessionLink};
 ghost use Rattle.server_core.specs.Step.{IsTimed};
 ghost use Rattle.server_law.specs.Growth.{MayAdd};
@@ -513,7 +514,7 @@ impl<H: Turns + Drop, Y: Syncs, G: Gate + Drop, L: Link + Drop> Shared<H, Y, G, 
     /// What was taken may go out, once the store is sure of what was made before. Where it can't be,
     /// nothing is to go out on any link any more (`is_in_doubt`), not even nothing: a link ends by that.
     pub fn settle_taken<W: Wait>(&self, rt: &W, taken: Taken) -> Result<Sure, Failed>
-        ensures settled { OnOk result (¬ (taken.messages.items ≡ []) → Y.settled self.now.syncs) }
+        ensures settled { OnOk result (any_tells taken.messages.items ≡ true → Y.settled self.now.syncs) }
         ensures same { IfOk result (λ sure. (sure.messages ≡ taken.messages) × (sure.stands ≡ taken.stands)) }
     {
         if self.is_in_doubt() {
