@@ -10,6 +10,7 @@ ghost use Rattle.lease_rules.specs.Leases.{note_until};
 pub fn note_until(sent: u64, now: u64, term: u32, drift: u64) -> Option<u128>
     ensures { result ≡ note_until sent term drift }
 {
+    // It is lent so that a note which counts from the answer is a bug that can be tried (`must-fail`).
     let _now = now;
     let term = u64::from(term);
     let is_above = term > drift;

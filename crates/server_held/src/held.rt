@@ -72,7 +72,7 @@ impl<S: Store + Drop> Drop for Held<S> {
     }
 }
 
-/// Whether both are so.
+/// Whether both are so. A function of its own in place of `&&`, so that the loop below has one way on.
 fn both(one: bool, other: bool) -> bool
     ensures { IsTrue result → IsTrue one × IsTrue other }
 {
