@@ -2,7 +2,7 @@
 use Rattle.std.specs.Prelude.{ℕ, List, Option, Some, None, ◌==◌, if◌then◌else◌}
 use Rattle.chunk_index.specs.Placed.{bytes_placed}
 use Rattle.chunk_index.specs.declared.place.Place.{Place}
-pub use Rattle.chunk_places.specs.Known.{with_digest}
+pub use Rattle.chunk_index.specs.Known.{with_digest}
 use Rattle.chunk_calls.specs.Files.{File}
 
 -- the bytes of a place, where they lie in its file, which may not be there

@@ -2,7 +2,7 @@
 use Rattle.std.specs.Prelude.{◌≡◌, ℕ, List, [], ◌∷◌, Some, None, refl, codes}
 use Rattle.sha1.specs.Sha1.{sha1, digest_bytes, hash_after, compress, rounds, schedule, first_words}
 use Rattle.chunk_index.specs.Index.{Indexed, key_of, put}
-use Rattle.chunk_places.specs.Places.{no_index}
+use Rattle.chunk_index.specs.Places.{no_index}
 use Rattle.xdr_codec.specs.Handle.{handle_bytes}
 use Rattle.xdr_codec.specs.declared.answer.Answer.TheVariants.{Done, Failed}
 use Rattle.xdr_codec.specs.declared.status.Status.TheVariants.{BadFd, BadHandle, FdInUse, HashNotFound, Inval, IsDir, Stale}

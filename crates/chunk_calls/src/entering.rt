@@ -26,7 +26,7 @@ pub fn enter_told(index: &mut Index, tree: &Tree, range: &HashRange) -> bool
     };
     match &node.body {
         Body::Directory => false,
-        Body::File(content) => { chunk_places::enter(index, node.id, told_chunks(content, range)) }
+        Body::File(content) => { chunk_index::places::enter(index, node.id, told_chunks(content, range)) }
     }
 }
 
@@ -41,6 +41,6 @@ pub fn enter_content(index: &mut Index, tree: &Tree, file: u64) -> bool
     };
     match &node.body {
         Body::Directory => false,
-        Body::File(content) => chunk_places::enter(index, file, content.chunks()),
+        Body::File(content) => chunk_index::places::enter(index, file, content.chunks()),
     }
 }

@@ -1,3 +1,6 @@
 pub mod Index
 pub mod Placed
 pub mod Rows
+pub mod Known
+pub mod Places
+pub mod PlaceRows

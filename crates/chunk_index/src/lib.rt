@@ -8,4 +8,6 @@
 #![tactic(auto)]
 
 pub mod index;
+pub mod known;
 pub mod place;
+pub mod places;

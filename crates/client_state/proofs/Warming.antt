@@ -2,7 +2,7 @@
 use Rattle.std.proofs.Common.{◌≡◌, ℕ, List, Bool, true, false, ap, ◌∙◌}
 use Rattle.std.specs.Prelude.{if◌then◌else◌}
 use Rattle.chunk_index.specs.Index.{Indexed}
-use Rattle.chunk_places.specs.Places.{indexed}
+use Rattle.chunk_index.specs.Places.{indexed}
 use Rattle.client_state.specs.Hints.{cached_file, laid_from, keeps_items, can_warm, WarmsIf, Warms, warms}
 use Rattle.client_state.specs.State.{State}
 

@@ -6,7 +6,7 @@ use Rattle.limits.specs.declared.TheConstants.{FILE_MOST}
 use Rattle.chunk_cut.specs.Chunks.{chunks_of}
 use Rattle.chunk_cut.specs.declared.chunk.Chunk.{Chunk}
 use Rattle.chunk_index.specs.Index.{Indexed}
-use Rattle.chunk_places.specs.Places.{indexed, LeavesSome}
+use Rattle.chunk_index.specs.Places.{indexed, LeavesSome}
 use Rattle.client_cache.specs.Cache.{reserved, content_of, with_content}
 use Rattle.client_cache.specs.declared.kept.Content.{Content}
 use Rattle.client_state.specs.State.{State}

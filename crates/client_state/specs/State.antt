@@ -16,7 +16,7 @@ use Rattle.wire.specs.declared.message.Side.TheVariants as side
 use Rattle.wire.specs.declared.message.Waiting.{Waiting}
 use Rattle.chunk_index.specs.Index.{Indexed, put, cleared}
 use Rattle.chunk_index.specs.declared.place.Place.{Place}
-use Rattle.chunk_places.specs.Places.{no_index}
+use Rattle.chunk_index.specs.Places.{no_index}
 use Rattle.client_cache.specs.Cache.{Entries, without_content}
 use Rattle.path_calls.specs.Walk.{next_call}
 use Rattle.client_state.specs.declared.task.Local.{Local}

@@ -38,7 +38,7 @@ fn enter(
     ensures err { OnErr result (index.new ≡ index.old) }
 {
     let chunks = content.chunks(alloc)?;
-    Ok(chunk_places::enter(index, file, chunks.as_slice()))
+    Ok(chunk_index::places::enter(index, file, chunks.as_slice()))
 }
 
 /// Keeps a content that is no file's under an id that no file has. An `Err` changes nothing.
@@ -109,7 +109,7 @@ impl ClientState {
         }
         let chunks = chunk_cut::cut(alloc, content.as_slice())?;
         keep(&mut self.cache, OFFERED_FILE, content)?;
-        Ok(chunk_places::enter(&mut self.index, OFFERED_FILE, chunks.as_slice()))
+        Ok(chunk_index::places::enter(&mut self.index, OFFERED_FILE, chunks.as_slice()))
     }
 
     /// The items of a cache file are kept, one behind the other, in place of those before, and their places
@@ -132,6 +132,6 @@ impl ClientState {
         let chunks = laid(alloc, items)?;
         let content = SharedBytes::new(alloc, bytes)?;
         keep(&mut self.cache, CACHED_FILE, content)?;
-        Ok(chunk_places::enter(&mut self.index, CACHED_FILE, chunks.as_slice()))
+        Ok(chunk_index::places::enter(&mut self.index, CACHED_FILE, chunks.as_slice()))
     }
 }

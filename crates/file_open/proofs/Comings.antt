@@ -2,7 +2,7 @@
 use Rattle.std.proofs.Common.{◌≡◌, sym, ap, subst, ◌∙◌, ℕ, Bool, true, false}
 use Rattle.std.specs.Prelude.{Option, Some, Result, Ok, Err, IfOk, OnErr}
 use Rattle.chunk_index.specs.Index.{Indexed}
-use Rattle.chunk_places.specs.Places.{indexed, LeavesSome}
+use Rattle.chunk_index.specs.Places.{indexed, LeavesSome}
 use Rattle.wire.specs.declared.message.Message.{Message}
 use Rattle.file_open.specs.Caching.{found_all}
 use Rattle.client_state.specs.Counting.{sends_one}

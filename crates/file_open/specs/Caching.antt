@@ -3,8 +3,8 @@ use Rattle.std.specs.Prelude.{ℕ, List, Option, Some, None, Bool, is_some, not,
 use Rattle.chunk_cut.specs.declared.chunk.Chunk.{Chunk}
 use Rattle.chunk_index.specs.Index.{Indexed, key_of, place_of}
 use Rattle.chunk_index.specs.declared.place.Place.{Place}
-pub use Rattle.chunk_places.specs.Known.{with_digest}
-pub use Rattle.chunk_places.specs.Places.{found_all}
+pub use Rattle.chunk_index.specs.Known.{with_digest}
+pub use Rattle.chunk_index.specs.Places.{found_all}
 use Rattle.client_cache.specs.Cache.{Entries, bytes_at, content_of, fresh_of}
 use Rattle.client_cache.specs.declared.kept.Content.{Content}
 

@@ -10,7 +10,7 @@ use Rattle.hash_calls.specs.declared.call.Leased.{Leased}
 use Rattle.nfs3_calls.specs.declared.call.Piece.{Piece}
 use Rattle.wire.specs.declared.message.Pending.{Pending}
 use Rattle.chunk_index.specs.Index.{Indexed}
-use Rattle.chunk_places.specs.Places.{indexed, LeavesSome}
+use Rattle.chunk_index.specs.Places.{indexed, LeavesSome}
 use Rattle.client_cache.specs.Cache.{reserved, content_of, with_content}
 use Rattle.client_cache.specs.declared.kept.Content.{Content}
 use Rattle.client_state.specs.Counting.{sends_one, sends_reads, ends}

@@ -4,12 +4,12 @@ ghost use Rattle.std.specs.Prelude.{◌≡◌, ◌-◌, ◌≤◌, length, take,
 ghost use Rattle.client_cache.specs.Cache.{content_of, fresh_of, lent};
 ghost use Rattle.file_open.specs.Caching.{found_all, content_in, fresh_content, bytes_there, from_index};
 ghost use Rattle.std.specs.Option.{option_copied};
-ghost use Rattle.chunk_places.specs.Places.{indexed, LeavesSome};
+ghost use Rattle.chunk_index.specs.Places.{indexed, LeavesSome};
 
 use chunk_cut::chunk::Chunk;
 use chunk_index::index::Index;
 use chunk_index::place::Place;
-use chunk_places::known;
+use chunk_index::known;
 use client_cache::cache::Cache;
 use client_state::task::Fetch;
 use cut_bytes::CutBytes;
@@ -111,7 +111,7 @@ pub fn find_asked(index: &mut Index, fetch: &Fetch, from: usize)
     requires asked { fetch.now.asked ≤ length fetch.now.chunks }
     ensures { index.new ≡ found_all index.old (take (fetch.now.asked - from) (drop from fetch.now.chunks)) }
 {
-    chunk_places::find_all(index, &fetch.chunks.as_slice()[from..fetch.asked]);
+    chunk_index::places::find_all(index, &fetch.chunks.as_slice()[from..fetch.asked]);
 }
 
 /// A fetch ends: its chunks were looked up from a place on, and then the places of all enter, but
@@ -123,5 +123,5 @@ pub fn enter_fetched(index: &mut Index, file: u64, fetch: &Fetch, from: usize) -
     ensures lacks { result ≡ true → LeavesSome (found_all index.old (take (fetch.now.asked - from) (drop from fetch.now.chunks))) file fetch.now.chunks index.new }
 {
     find_asked(index, fetch, from);
-    chunk_places::enter(index, file, fetch.chunks.as_slice())
+    chunk_index::places::enter(index, file, fetch.chunks.as_slice())
 }

@@ -1,7 +1,7 @@
 -- An open is told chunks: it takes their bytes from what is kept, or asks for them.
 use Rattle.std.proofs.Common.{◌⊎◌, inl, inr, ◌≡◌, ℕ, zero, suc, ◌+◌, ◌-◌, ◌*◌, ◌<◌, ◌≤◌, List, [], ◌∷◌, ◌++◌, length, Option, Some, None, Bool, true, false, refl, sym, ap, ◌∙◌, subst, arith, eqb-true, eq-eqb, map, take, drop}
 use Rattle.chunk_index.specs.Index.{key_of, place_of}
-use Rattle.chunk_places.specs.Places.{indexed}
+use Rattle.chunk_index.specs.Places.{indexed}
 use Rattle.client_cache.specs.Cache.{with_content}
 use Rattle.file_open.specs.Caching.{bytes_there, from_index, found_all}
 use Rattle.client_state.specs.State as client

@@ -4,7 +4,7 @@ use Rattle.xdr_codec.specs.declared.answer.Answer.{Answer}
 use Rattle.xdr_codec.specs.declared.answer.Answer.TheVariants.{Failed}
 use Rattle.xdr_codec.specs.declared.status.Status.{Status}
 use Rattle.hash_calls.specs.declared.call.Committed.{Committed}
-use Rattle.chunk_places.specs.Places.{indexed}
+use Rattle.chunk_index.specs.Places.{indexed}
 use Rattle.tree_reading.specs.Plans.{commit_entry}
 use Rattle.file_tree.specs.Step.{replace, replaced}
 use Rattle.file_tree.specs.Stores.{stored}

@@ -36,7 +36,7 @@ use Rattle.client_state.specs.Counting.{no_counts, sends, nothing_done, sends_on
 use Rattle.chunk_index.specs.Index.{key_of}
 use Rattle.chunk_index.specs.declared.place.Place.{Place}
 use Rattle.client_cache.specs.Cache.{fronted, nothing}
-use Rattle.chunk_places.specs.Places.{no_index}
+use Rattle.chunk_index.specs.Places.{no_index}
 use Rattle.file_open.specs.Looking.{Entering, entering}
 use Rattle.transfer_rules.specs.Limits.{calls_most}
 use Rattle.file_open.specs.Opening.{lease_call, hash_call, read_call}

@@ -82,7 +82,7 @@ impl Client {
         ensures { IfOk result (λ c. c ≡ start_with drift lbfs) }
     {
         let cache = Cache::new(alloc)?;
-        let index = chunk_places::empty(alloc)?;
+        let index = chunk_index::places::empty(alloc)?;
         Ok(Client {
             state: ClientState {
                 linked: false,

@@ -27,7 +27,7 @@ use Rattle.server_core.specs.declared.change.Wanted.{Wanted}
 use Rattle.server_core.specs.declared.change.Wanted.TheVariants as wanted
 use Rattle.server_core.specs.declared.journal.Entry.{Entry}
 use Rattle.chunk_calls.specs.Answers.{Node, directory, file, node_of}
-use Rattle.chunk_places.specs.Places.{indexed}
+use Rattle.chunk_index.specs.Places.{indexed}
 use Rattle.lease_rules.specs.declared.lease.Lease.{Lease}
 use Rattle.server_core.specs.Leasing.{later, with_granted, ready_at}
 use Rattle.server_core.specs.Steps.{to}

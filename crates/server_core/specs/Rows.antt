@@ -3,7 +3,7 @@ use Rattle.std.specs.Prelude.{None, ◌≡◌, ℕ, List, [], ◌∷◌, ◌++�
 use Rattle.sha1.specs.Sha1.{sha1}
 use Rattle.chunk_cut.specs.Search.{next_end, closed_ends}
 use Rattle.rabin_window.specs.Fingerprint.{fp}
-use Rattle.chunk_places.specs.Places.{no_index, with_chunk}
+use Rattle.chunk_index.specs.Places.{no_index, with_chunk}
 use Rattle.xdr_codec.specs.Handle.{handle_bytes}
 use Rattle.xdr_codec.specs.declared.status.Status.TheVariants as status
 use Rattle.xdr_codec.specs.declared.answer.Answer.TheVariants.{Done, Failed}

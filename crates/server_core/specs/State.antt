@@ -16,7 +16,7 @@ use Rattle.server_core.specs.Leasing.{Leasing, unleased}
 use Rattle.server_core.specs.declared.journal.Entry.{Entry}
 use Rattle.chunk_index.specs.Index.{Indexed}
 use Rattle.temp_files.specs.Temps.{Temps}
-use Rattle.chunk_places.specs.Places.{no_index}
+use Rattle.chunk_index.specs.Places.{no_index}
 
 -- a change that waits
 abbrev pub Change : Type 0

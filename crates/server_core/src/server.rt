@@ -72,7 +72,7 @@ impl Server {
     pub fn with_tree(alloc: Global, tree: Tree, term: u32) -> Result<Server, AllocError>
         ensures { IfOk result (λ server. server ≡ with_term (with_tree tree.tree) term) }
     {
-        let index = chunk_places::empty(alloc)?;
+        let index = chunk_index::places::empty(alloc)?;
         Ok(Server {
             state: ServerState {
                 tree,

@@ -5,7 +5,7 @@
 //!
 //! They know no message and no state of an end (a look-up is handed its index), so that a wrong rule is
 //! refused here, in a check of seconds. `client_cache`, `client_state`, `file_open` and `file_close` go
-//! by them, and `chunk_places` for both ends.
+//! by them, and `chunk_index` for both ends.
 #![tactic(auto)]
 
 pub mod answers;
@@ -13,5 +13,4 @@ pub mod bounds;
 pub mod chunks;
 pub mod counts;
 pub mod kept;
-pub mod lookups;
 pub mod pieces;

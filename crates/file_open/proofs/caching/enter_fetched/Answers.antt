@@ -1,7 +1,7 @@
 use Rattle.std.proofs.Common.{◌-◌, ap, subst, ◌∙◌, List, take, drop}
 use Rattle.chunk_cut.specs.declared.chunk.Chunk.{Chunk}
 use Rattle.chunk_index.specs.Index.{Indexed}
-use Rattle.chunk_places.specs.Places.{indexed, LeavesSome}
+use Rattle.chunk_index.specs.Places.{indexed, LeavesSome}
 use Rattle.file_open.specs.Caching.{found_all}
 use Rattle.file_open.proofs.caching.enter_fetched.Goals as goal
 

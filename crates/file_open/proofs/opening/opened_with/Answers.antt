@@ -1,7 +1,7 @@
 use Rattle.std.proofs.Common.{◌≡◌, ◌-◌, ◌≤◌, refl, sym, ap, subst, ◌∙◌, ℕ, List, length, take, drop, true, false}
 use Rattle.sha1.specs.Sha1.{sha1}
 use Rattle.chunk_index.specs.Index.{Indexed}
-use Rattle.chunk_places.specs.Places.{indexed, LeavesSome}
+use Rattle.chunk_index.specs.Places.{indexed, LeavesSome}
 use Rattle.client_cache.specs.Cache.{with_content}
 use Rattle.wire.specs.declared.message.Waiting.{Waiting}
 use Rattle.file_open.specs.Caching.{found_all}

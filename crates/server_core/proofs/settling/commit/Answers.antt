@@ -2,7 +2,7 @@ use Rattle.std.proofs.Common.{◌∙◌, sym, ap, subst, ℕ, List, Option, Some
 use Rattle.xdr_codec.specs.declared.answer.Answer.{Answer}
 use Rattle.hash_calls.specs.declared.call.Committed.{Committed}
 use Rattle.chunk_cut.specs.Chunks.{chunks_of}
-use Rattle.chunk_places.specs.Places.{indexed}
+use Rattle.chunk_index.specs.Places.{indexed}
 use Rattle.chunk_cut.specs.declared.chunk.Chunk.{Chunk}
 use Rattle.server_core.specs.Closing.{index_with}
 use Rattle.chunk_calls.specs.Entering.{with_told, IsLacking}

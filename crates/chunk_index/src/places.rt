@@ -1,19 +1,17 @@
 //! Where the chunks of files stand in an index: the places that enter it, in order, and the chunks that
 //! are looked up. `specs/Places.antt` says which.
-#![tactic(auto)]
 
 ghost use Rattle.std.specs.Prelude.{◌≡◌, IfOk, true, false};
-ghost use Rattle.chunk_places.specs.Places.{no_index, with_chunk, indexed, LeavesSome, found_all};
+ghost use Rattle.chunk_index.specs.Index.{key_of, found};
+ghost use Rattle.chunk_index.specs.Places.{no_index, with_chunk, indexed, LeavesSome, found_all};
 
-pub mod known;
-
+use crate::index::Index;
+use crate::place::Place;
 use chunk_cut::chunk::Chunk;
-use chunk_index::index::Index;
-use chunk_index::place::Place;
+use digests::Dig;
 use limits::INDEX_MOST;
 use std::alloc::{AllocError, Global};
 use std::num::NonZeroUsize;
-use transfer_rules::lookups::look_up;
 
 /// An index with no pairs. The one error is want of memory.
 pub fn empty(alloc: Global) -> Result<Index, AllocError>
@@ -52,6 +50,13 @@ pub fn enter(index: &mut Index, file: u64, chunks: &[Chunk]) -> bool
         }
     }
     left_out
+}
+
+/// The pair of a chunk that is looked up goes to the front, and no place enters. It takes no memory.
+fn look_up(index: &mut Index, digest: &Dig)
+    ensures { index.new ≡ found index.old (key_of digest.now) }
+{
+    let _place = index.find(digest.as_slice());
 }
 
 /// The pairs of these chunks go to the front, one after the other, and no place enters. It takes no

@@ -1,7 +1,7 @@
 use Rattle.std.specs.Prelude.{◌≡◌, true, false, drop}
 use Rattle.chunk_index.specs.Index.{Indexed}
-use Rattle.chunk_places.specs.Places.{indexed, LeavesOut, LeavesSome}
-use Rattle.chunk_places.proofs.enter.Given as goal
+use Rattle.chunk_index.specs.Places.{indexed, LeavesOut, LeavesSome}
+use Rattle.chunk_index.proofs.places.enter.Given as goal
 
 -- Until a place is left out, those that are left make of the index what all were to make of it, and where they leave some out all do. From then
 -- on all do in any case.

@@ -4,9 +4,9 @@
 ghost use Rattle.std.specs.Prelude.{◌≡◌};
 ghost use Rattle.std.specs.Option.{option_copied};
 ghost use Rattle.chunk_index.specs.Placed.{bytes_placed};
-ghost use Rattle.chunk_places.specs.Known.{with_digest};
+ghost use Rattle.chunk_index.specs.Known.{with_digest};
 
-use chunk_index::place::Place;
+use crate::place::Place;
 use digests::Dig;
 use transfer_rules::pieces::{has_digest, range_end};
 

@@ -4,7 +4,7 @@ use Rattle.std.specs.Prelude.{◌==◌}
 use Rattle.chunk_cut.specs.declared.chunk.Chunk.{Chunk}
 use Rattle.chunk_index.specs.Index.{Indexed, key_of}
 use Rattle.chunk_index.specs.declared.place.Place.{Place}
-use Rattle.chunk_places.specs.Places.{no_index, indexed, LeavesSome}
+use Rattle.chunk_index.specs.Places.{no_index, indexed, LeavesSome}
 
 -- two chunks of file 2, whose digests begin with 0 and with 1
 abbrev digest : (first : ℕ) → List ℕ

@@ -1,6 +1,6 @@
 use Rattle.std.proofs.Common.{◌≡◌, drop}
-use Rattle.chunk_places.specs.Places.{found_all}
-use Rattle.chunk_places.proofs.find_all.Given as goal
+use Rattle.chunk_index.specs.Places.{found_all}
+use Rattle.chunk_index.proofs.places.find_all.Given as goal
 
 -- those that are left lead to the same end
 abbrev pub invariant-loop-chunk : goal.invariant-loop-chunk
