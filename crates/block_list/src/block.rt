@@ -28,7 +28,7 @@ impl Model for Block {
 }
 
 impl Block {
-    /// A block of no number. The one error is want of memory.
+    /// A block of no number. The one error is running out of memory.
     pub fn new(alloc: Global) -> Result<Block, AllocError>
         ensures { IfOk result (λ b. b ≡ []) }
     {

@@ -95,7 +95,7 @@ impl BlockList {
         number
     }
 
-    /// Makes room for so many more. The one error is want of memory.
+    /// Makes room for so many more. The one error is running out of memory.
     pub fn reserve(&mut self, count: u32) -> Result<(), AllocError>
         ensures ok { OnOk result (count ≤ self.new.room) }
         ensures more { self.old.room ≤ self.new.room }
@@ -107,7 +107,7 @@ impl BlockList {
         Ok(())
     }
 
-    /// One more block. The one error is want of memory, and then nothing changes.
+    /// One more block. The one error is running out of memory, and then nothing changes.
     fn widen(&mut self) -> Result<(), AllocError>
         ensures ok { OnOk result (self.new.room ≡ self.old.room + 2048) }
         ensures err { OnErr result (self.new.room ≡ self.old.room) }

@@ -18,8 +18,8 @@ use saving::Saving;
 use std::alloc::{AllocError, Global};
 use xdr_codec::reader::Reader;
 
-/// The items that stand in a cache file, up to the first place where none does. The one error is want
-/// of memory.
+/// The items that stand in a cache file, up to the first place where none does. The one error is
+/// running out of memory.
 pub fn load(alloc: Global, bytes: &[u8]) -> Result<Vec<Bytes>, AllocError>
     ensures { IfOk result (λ v. v.items ≡ items bytes.now) }
 {
@@ -29,7 +29,7 @@ pub fn load(alloc: Global, bytes: &[u8]) -> Result<Vec<Bytes>, AllocError>
 
 /// What is kept in a cache file of a client's cache: the chunks of the contents that are kept, the most
 /// recent first and each once, as many from the first on as take at most 67,108,864 bytes. `load` gives them
-/// again. The one error is want of memory.
+/// again. The one error is running out of memory.
 pub fn save(alloc: Global, cache: &Cache) -> Result<Bytes, AllocError>
     ensures spelled { IfOk result (λ bytes. bytes ≡ spelled (saved cache.now)) }
     ensures again { IfOk result (λ bytes. items bytes ≡ saved cache.now) }

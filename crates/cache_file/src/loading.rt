@@ -9,7 +9,7 @@ use std::alloc::{AllocError, Global};
 use xdr_codec::fault::ReadError;
 use xdr_codec::reader::Reader;
 
-/// The next item, where a whole one stands there. The one error is want of memory.
+/// The next item, where a whole one stands there. The one error is running out of memory.
 fn item(alloc: Global, reader: &mut Reader) -> Result<Option<Bytes>, AllocError>
     ensures { IfOk result (λ o. option_map (λ b. (b, reader.new)) o ≡ item_at reader.old) }
 {

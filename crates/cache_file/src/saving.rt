@@ -23,7 +23,7 @@ pub struct Saving {
     seen: BTreeSet<[u8; 20]>,
 }
 
-// By hand: docs/PROVING.md, "Values that are let go".
+// By hand: docs/proving/dropping.md.
 impl Drop for Saving {
     fn drop(self) {
         let Saving {
@@ -80,7 +80,7 @@ impl Saving {
     }
 
     /// Writes an item, where none with its digest was written and there is room for it; says whether there
-    /// was. The one error is want of memory.
+    /// was. The one error is running out of memory.
     #[tactic(auto, using(crate::proofs::Filling::seen_one, crate::proofs::Filling::one, crate::proofs::Filling::not_one))]
     fn item(&mut self, item: &[u8]) -> Result<bool, AllocError>
         ensures { IfOk result (λ goes. Puts self.old (item.now ∷ []) goes self.new) }

@@ -2,7 +2,7 @@
 use Rattle.std.proofs.Common.{◌≡◌, ℕ, zero, suc, ◌<◌, List, [], ◌∷◌, ◌++◌, Some, true, false, length, take, drop, sym, ap, ◌∙◌, arith, eq-eqb}
 use Rattle.std.specs.Prelude.{find, cond, slice_get, slice_index_or}
 use Rattle.lease_rules.specs.declared.lease.Lease.{Lease}
-use Rattle.lease_rules.specs.declared.change.Change.{Change}
+use Rattle.lease_rules.specs.declared.change.PendingChange.{PendingChange}
 use Rattle.callback_core.specs.Waits.{is_free, heads_after, ready, change_of}
 use Rattle.lease_rules.specs.Changes.{waits_behind}
 
@@ -19,7 +19,7 @@ module _ {X : Type 0} where
   got_there (y ∷ xs) zero x h e = ap (λ z. Some z) (sym e)
   got_there (y ∷ xs) (suc i) x h e = got_there xs i x (omega arith) e
 
-module _ {P : Type 0} (waits : List (Change P)) (at : ℕ) (x : Change P) (within : at < length waits) (is : x ≡ slice_index_or waits at x) where
+module _ {P : Type 0} (waits : List (PendingChange P)) (at : ℕ) (x : PendingChange P) (within : at < length waits) (is : x ≡ slice_index_or waits at x) where
   pub found_ready : (leases : List Lease) (now : ℕ) → find (is_free leases now) (heads_after (take at waits) (drop at waits)) ≡ ready leases now waits → waits_behind (take at waits) x ≡ false → is_free leases now x ≡ true → ready leases now waits ≡ slice_get waits at
   found_ready leases now so_far first free =
       sym so_far ∙ ap (λ cs. find (is_free leases now) (heads_after (take at waits) cs)) (reached waits at x within is)

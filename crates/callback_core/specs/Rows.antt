@@ -4,14 +4,14 @@ use Rattle.lease_rules.specs.declared.lease.Lease.{Lease}
 use Rattle.lease_table.specs.Leases.{grant, marked, without_recalled}
 use Rattle.lease_rules.specs.declared.change.Kind.{Kind}
 use Rattle.lease_rules.specs.declared.change.Kind.TheVariants.{Commit, Remove, Rename}
-use Rattle.lease_rules.specs.declared.change.Change.{Change}
+use Rattle.lease_rules.specs.declared.change.PendingChange.{PendingChange}
 use Rattle.callback_core.specs.Waits.{recall_of, recalls_due, heads, ready, change_of, has_wait, waits_on, without, without_made, entries_of, bytes_of}
 
 -- a change that a session asked for, of what else it takes no more than a number
-abbrev change : Kind → (session file : ℕ) → Change ℕ
+abbrev change : Kind → (session file : ℕ) → PendingChange ℕ
 change kind session file = record { session = session; xid = 5; file = file; kind = kind; entries = 1; bytes = 10; what = 0 }
 
-abbrev commit : (session file : ℕ) → Change ℕ
+abbrev commit : (session file : ℕ) → PendingChange ℕ
 commit = change Commit
 
 abbrev lease : (session file ends : ℕ) → Option ℕ → Lease

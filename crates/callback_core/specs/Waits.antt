@@ -7,7 +7,7 @@ use Rattle.lease_rules.specs.declared.lease.Lease.{Lease}
 use Rattle.lease_table.specs.Leases.{is_blocked, others}
 pub use Rattle.lease_rules.specs.Changes.{asker_of, asker, is_about, meets, waits_behind}
 pub use Rattle.lease_rules.specs.Places.{places_of}
-use Rattle.lease_rules.specs.declared.change.Change.{Change}
+use Rattle.lease_rules.specs.declared.change.PendingChange.{PendingChange}
 use Rattle.lease_rules.specs.declared.change.Recall.{Recall}
 use Rattle.lease_rules.specs.declared.change.AskError.{AskError}
 use Rattle.lease_rules.specs.declared.change.AskError.TheVariants.{Jukebox, Memory}
@@ -24,56 +24,56 @@ module _ {P : Type 0} where
   -- ---- one change
 
   -- no lease blocks it
-  abbrev pub is_free : List Lease → (now : ℕ) → Change P → Bool
+  abbrev pub is_free : List Lease → (now : ℕ) → PendingChange P → Bool
   is_free leases now c = not (is_blocked leases (asker c) c.file now)
 
   -- the recalls that it asks for when it comes
-  abbrev pub recalls_due : List Lease → (now : ℕ) → Change P → List Recall
+  abbrev pub recalls_due : List Lease → (now : ℕ) → PendingChange P → List Recall
   recalls_due leases now c = recalls_of leases (asker c) c.file now
 
   -- ---- those that wait, the one that came first before the others
 
   -- the changes that none which came earlier meets; those of the first list came before all of the second
-  abbrev pub heads_after : List (Change P) → List (Change P) → List (Change P)
+  abbrev pub heads_after : List (PendingChange P) → List (PendingChange P) → List (PendingChange P)
   heads_after earlier [] = []
   heads_after earlier (c ∷ cs) =
-      let later : List (Change P) = heads_after (earlier ++ c ∷ []) cs in
+      let later : List (PendingChange P) = heads_after (earlier ++ c ∷ []) cs in
       cond (list_any (λ e. meets e c) earlier) later (c ∷ later)
 
   -- the first of each queue
-  abbrev pub heads : List (Change P) → List (Change P)
+  abbrev pub heads : List (PendingChange P) → List (PendingChange P)
   heads waits = heads_after [] waits
 
   -- the change that is made next: of the heads that no lease blocks, the one that came first
-  abbrev pub ready : List Lease → (now : ℕ) → List (Change P) → Option (Change P)
+  abbrev pub ready : List Lease → (now : ℕ) → List (PendingChange P) → Option (PendingChange P)
   ready leases now waits = find (is_free leases now) (heads waits)
 
   -- the session's change
-  abbrev pub change_of : List (Change P) → (session : ℕ) → Option (Change P)
+  abbrev pub change_of : List (PendingChange P) → (session : ℕ) → Option (PendingChange P)
   change_of waits session = find (λ c. c.session == session) waits
 
-  abbrev pub has_wait : List (Change P) → (session : ℕ) → Bool
+  abbrev pub has_wait : List (PendingChange P) → (session : ℕ) → Bool
   has_wait waits session = list_any (λ c. c.session == session) waits
 
-  abbrev pub waits_on : List (Change P) → (file : ℕ) → Bool
+  abbrev pub waits_on : List (PendingChange P) → (file : ℕ) → Bool
   waits_on waits file = list_any (λ c. is_about c file) waits
 
-  abbrev pub without : List (Change P) → (session : ℕ) → List (Change P)
+  abbrev pub without : List (PendingChange P) → (session : ℕ) → List (PendingChange P)
   without waits session = filter (λ c. not (c.session == session)) waits
 
   -- those that wait on after the change is made
-  abbrev pub without_made : List (Change P) → Option (Change P) → List (Change P)
+  abbrev pub without_made : List (PendingChange P) → Option (PendingChange P) → List (PendingChange P)
   without_made waits None = waits
   without_made waits (Some c) = without waits c.session
 
   -- how many entries of the journal, and bytes of the tree, they will make
-  abbrev pub entries_of : List (Change P) → ℕ
+  abbrev pub entries_of : List (PendingChange P) → ℕ
   entries_of waits = sum_by (λ c. c.entries) waits
 
-  abbrev pub bytes_of : List (Change P) → ℕ
+  abbrev pub bytes_of : List (PendingChange P) → ℕ
   bytes_of waits = sum_by (λ c. c.bytes) waits
 
--- what a server holds of leases and of changes that wait
+-- what a server holds of leases and of pending changes
 pub record Waiting (P : Type 0) : Type 0 where
   pub leases : List Lease
   -- how many leases more may be granted for certain, beside the one that each change has its place for
@@ -81,20 +81,20 @@ pub record Waiting (P : Type 0) : Type 0 where
   -- how many changes more may wait for certain
   pub room : ℕ
   -- in the order of arrival
-  pub waits : List (Change P)
+  pub waits : List (PendingChange P)
 
 module _ {P : Type 0} where
-  abbrev pub AreOthers : Change P → Change P → Type 0
+  abbrev pub AreOthers : PendingChange P → PendingChange P → Type 0
   AreOthers c d = c.session ≡ d.session → ⊥
 
-  -- no session has two changes that wait, each has a place for its lease, and their sizes are numbers of 64 bits
-  pub record AreBounded (waits : List (Change P)) (room : ℕ) : Type 0 where
+  -- no session has two pending changes, each has a place for its lease, and their sizes are numbers of 64 bits
+  pub record AreBounded (waits : List (PendingChange P)) (room : ℕ) : Type 0 where
     pub apart : AllPairs AreOthers waits
     pub places : length waits ≤ room
     pub entries : entries_of waits < 2 ^ 64
     pub bytes : bytes_of waits < 2 ^ 64
 
--- A change may not wait exactly where its session has one that waits; want of memory comes after that.
+-- A change may not wait exactly where its session has one that waits; running out of memory comes after that.
 abbrev pub IsAnswered : {T : Type 0} → Result T AskError → (has : Bool) → Type 0
 IsAnswered (Ok _) has = has ≡ false
 IsAnswered (Err Jukebox) has = has ≡ true

@@ -8,7 +8,7 @@ ghost use Rattle.callback_core.specs.Waits.{recall_of, recalls_of, recalls_due, 
 use crate::back_calls::Asked;
 use crate::ready::has;
 use lb_base::items::Items;
-use lease_rules::change::{AskError, Change, Recall};
+use lease_rules::change::{AskError, PendingChange, Recall};
 use lease_table::table::Leases;
 use std::alloc::{AllocError, Global};
 
@@ -54,7 +54,7 @@ pub fn mark_all(leases: &mut Leases, asked: &[Asked])
 fn recalls_due<P>(
     alloc: Global,
     leases: &Leases,
-    change: &Change<P>,
+    change: &PendingChange<P>,
     now: u64,
 ) -> Result<Items<Recall>, AllocError>
     ensures { IfOk result (λ recalls. recalls ≡ recalls_due leases.now.leases now change.now) }
@@ -62,9 +62,9 @@ fn recalls_due<P>(
     recalls_of(alloc, leases, change.file, change.asker(), now)
 }
 
-/// Makes room for one change more, and for its lease. The one error is want of memory, which never
-/// comes where there is room; nothing else changes.
-pub fn make_room<P>(leases: &mut Leases, waits: &mut Vec<Change<P>>) -> Result<(), AllocError>
+/// Makes room for one change more, and for its lease. The one error is running out of memory, which
+/// never comes where there is room; nothing else changes.
+pub fn make_room<P>(leases: &mut Leases, waits: &mut Vec<PendingChange<P>>) -> Result<(), AllocError>
     requires bounded { AreBounded waits.old.items leases.old.room }
     ensures place { OnOk result (vec_len waits.new < vec_capacity waits.new) }
     ensures lease_place { OnOk result (length waits.new.items < leases.new.room) }
@@ -82,7 +82,7 @@ pub fn make_room<P>(leases: &mut Leases, waits: &mut Vec<Change<P>>) -> Result<(
 }
 
 /// A change waits, for which there is room.
-pub fn push<P: Drop>(waits: &mut Vec<Change<P>>, change: Change<P>)
+pub fn push<P: Drop>(waits: &mut Vec<PendingChange<P>>, change: PendingChange<P>)
     requires new { has_wait waits.old.items change.session ≡ false }
     requires place { vec_len waits.old < vec_capacity waits.old }
     requires entries { entries_of waits.old.items + change.entries < 2 ^ 64 }
@@ -95,11 +95,11 @@ pub fn push<P: Drop>(waits: &mut Vec<Change<P>>, change: Change<P>)
     waits.push_reserved(change);
 }
 
-/// A change comes and waits, and its lease has a place. The one error is want of memory.
+/// A change comes and waits, and its lease has a place. The one error is running out of memory.
 fn add<P: Drop>(
     leases: &mut Leases,
-    waits: &mut Vec<Change<P>>,
-    change: Change<P>,
+    waits: &mut Vec<PendingChange<P>>,
+    change: PendingChange<P>,
 ) -> Result<(), AllocError>
     requires bounded { AreBounded waits.old.items leases.old.room }
     requires new { has_wait waits.old.items change.session ≡ false }
@@ -123,8 +123,8 @@ fn add<P: Drop>(
 pub fn ask<P: Drop>(
     alloc: Global,
     leases: &mut Leases,
-    waits: &mut Vec<Change<P>>,
-    change: Change<P>,
+    waits: &mut Vec<PendingChange<P>>,
+    change: PendingChange<P>,
     now: u64,
 ) -> Result<Items<Recall>, AskError>
     requires bounded { AreBounded waits.old.items leases.old.room }
@@ -150,11 +150,11 @@ pub fn ask<P: Drop>(
 }
 
 /// Makes room for so many leases beside those that the changes have their places for. The one error
-/// is want of memory, as which a count past the type's end counts too; it never comes where there is
+/// is running out of memory, as which a count past the type's end counts too; it never comes where there is
 /// room.
 pub fn reserve<P>(
     leases: &mut Leases,
-    waits: &Vec<Change<P>>,
+    waits: &Vec<PendingChange<P>>,
     count: usize,
 ) -> Result<(), AllocError>
     requires bounded { AreBounded waits.now.items leases.old.room }
@@ -171,11 +171,11 @@ pub fn reserve<P>(
     leases.reserve(wanted)
 }
 
-/// Grants a lease beside those that the changes have their places for. The one error is want of
-/// memory.
+/// Grants a lease beside those that the changes have their places for. The one error is running out
+/// of memory.
 pub fn grant<P>(
     leases: &mut Leases,
-    waits: &Vec<Change<P>>,
+    waits: &Vec<PendingChange<P>>,
     session: u32,
     file: u64,
     now: u64,

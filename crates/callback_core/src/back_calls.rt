@@ -78,7 +78,7 @@ impl BackCall {
         self.spent
     }
 
-    /// The same once more. The one error is want of memory.
+    /// The same once more. The one error is running out of memory.
     fn try_clone(&self, alloc: Global) -> Result<BackCall, AllocError>
         ensures { IfOk result (λ copy. copy ≡ self.now) }
     {
@@ -95,7 +95,7 @@ impl BackCall {
         })
     }
 
-    /// A RECALL waits under this xid. The one error is want of memory.
+    /// A RECALL waits under this xid. The one error is running out of memory.
     fn wait(&mut self, xid: u32) -> Result<(), AllocError>
         ensures { OnOk result (self.new ≡ with_recall self.old xid) }
     {
@@ -107,7 +107,7 @@ impl BackCall {
         Ok(())
     }
 
-    /// A RECALL waits, if there is an xid for it. The one error is want of memory.
+    /// A RECALL waits, if there is an xid for it. The one error is running out of memory.
     fn wait_if(&mut self, xid: Option<u32>) -> Result<(), AllocError>
         ensures { OnOk result (self.new ≡ recalled_if self.old xid) }
     {
@@ -158,7 +158,7 @@ fn find_call(calls: &[BackCall], session: u32) -> Option<&BackCall>
     calls.iter().find(|call| call.is_at(session))
 }
 
-/// A copy of a session's. The one error is want of memory.
+/// A copy of a session's. The one error is running out of memory.
 fn call_at(alloc: Global, calls: &[BackCall], session: u32) -> Result<BackCall, AllocError>
     ensures { IfOk result (λ call. call ≡ call_at calls.now session) }
 {
@@ -178,7 +178,7 @@ fn xid_at(calls: &[BackCall], session: u32) -> Option<u32>
     }
 }
 
-/// The same once more. The one error is want of memory.
+/// The same once more. The one error is running out of memory.
 fn copy_of(alloc: Global, calls: &[BackCall]) -> Result<Vec<BackCall>, AllocError>
     ensures { IfOk result (λ copy. copy.items ≡ calls.now) }
 {
@@ -197,8 +197,8 @@ fn withdraw(calls: &mut Vec<BackCall>, session: u32)
     calls.retain(|call| !call.is_at(session));
 }
 
-/// A session is asked for a lease under this xid, if there is one for it. The one error is want of
-/// memory.
+/// A session is asked for a lease under this xid, if there is one for it. The one error is running
+/// out of memory.
 fn ask_one(
     alloc: Global,
     calls: &mut Vec<BackCall>,
@@ -215,7 +215,7 @@ fn ask_one(
 }
 
 /// Sessions are asked for leases, one after the other; which were, under which xids. The one error
-/// is want of memory.
+/// is running out of memory.
 fn ask_each(
     alloc: Global,
     calls: &mut Vec<BackCall>,
@@ -281,7 +281,7 @@ impl BackCalls {
     /// What comes to be asked for where these leases are recalled, one after the other, each under
     /// the next xid of its session; one whose session has none left is passed over. Nothing
     /// changes: who asks takes `calls` in the place of these once nothing can fail any more. The one
-    /// error is want of memory.
+    /// error is running out of memory.
     pub fn ask(&self, alloc: Global, recalls: &[Recall]) -> Result<Asking, AllocError>
         ensures calls { IfOk result (λ a. a.calls ≡ (asks self.now recalls.now).0) }
         ensures asked { IfOk result (λ a. a.asked ≡ (asks self.now recalls.now).1) }

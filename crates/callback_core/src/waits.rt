@@ -1,4 +1,4 @@
-//! The changes that wait, and the leases that they wait for. `specs/Waits.antt` has the words of the
+//! The pending changes, and the leases that they wait for. `specs/Waits.antt` has the words of the
 //! contracts.
 
 ghost use Rattle.std.specs.Prelude.{◌≡◌, ◌+◌, ◌<◌, ◌≤◌, ◌^◌, ◌∷◌, ◌++◌, [], OnOk, OnErr, IfOk, IsOk, IsSome, IsTrue, ◌↔◌, is_some, ◌⊎◌, option_copied, false, length};
@@ -9,20 +9,20 @@ ghost use Rattle.callback_core.specs.Waits.{recalls_due, recalls_of, ready, chan
 use crate::back_calls::Asked;
 use crate::{asking, ready, sizes};
 use lb_base::items::Items;
-use lease_rules::change::{AskError, Change, Recall};
+use lease_rules::change::{AskError, PendingChange, Recall};
 use lease_rules::leaving::{KeepsLeases, hang, take_out};
 use lease_table::table::Leases;
 use std::alloc::{AllocError, Global};
 use std::marker::Model;
 
-/// The changes that wait, in the order of their arrival, and the leases. Contracts see both as
+/// The pending changes, in the order of their arrival, and the leases. Contracts see both as
 /// lists, and how many leases more may be granted for certain, beside the one that each change has
 /// its place for.
 #[derive(Drop)]
 pub struct Waits<P: Drop> {
     leases: Leases,
     /// At most one of a session.
-    waits: Vec<Change<P>>,
+    waits: Vec<PendingChange<P>>,
 }
 
 impl<P: Drop> Model for Waits<P> {
@@ -50,12 +50,12 @@ impl<P: Drop> Waits<P> {
 
     /// A change comes, at this reading of the server's clock in milliseconds, and waits. The answer
     /// has the recalls that are due: of all leases that block it and that no RECALL asked for. It
-    /// may not wait where its session has a change that waits; else the one error is want of memory.
+    /// may not wait where its session has a pending change; else the one error is running out of memory.
     /// An `Err` changes nothing.
     pub fn ask(
         &mut self,
         alloc: Global,
-        change: Change<P>,
+        change: PendingChange<P>,
         now: u64,
     ) -> Result<Items<Recall>, AskError>
         requires entries { entries_of self.old.waits + change.entries < 2 ^ 64 }
@@ -74,7 +74,7 @@ impl<P: Drop> Waits<P> {
     }
 
     /// Makes room for one change more, and for the lease that is granted when it is made. The one error
-    /// is want of memory, which never comes where there is room; nothing else changes.
+    /// is running out of memory, which never comes where there is room; nothing else changes.
     pub fn make_room(&mut self) -> Result<(), AllocError>
         ensures ok { OnOk result (0 < self.new.room) }
         ensures sure { 0 < self.old.room → IsOk result }
@@ -88,7 +88,7 @@ impl<P: Drop> Waits<P> {
 
     /// A change waits, for which there is room. It takes no memory. The recalls that are due are those
     /// to `others`, with the change's asker.
-    pub fn wait(&mut self, change: Change<P>)
+    pub fn wait(&mut self, change: PendingChange<P>)
         requires new { has_wait self.old.waits change.session ≡ false }
         requires room { 0 < self.old.room }
         requires entries { entries_of self.old.waits + change.entries < 2 ^ 64 }
@@ -103,7 +103,7 @@ impl<P: Drop> Waits<P> {
 
     /// The change that is made next at this reading of the server's clock: of the first of each
     /// file, the one that came first of those that no lease blocks. It takes no memory.
-    pub fn ready(&self, now: u64) -> Option<&Change<P>>
+    pub fn ready(&self, now: u64) -> Option<&PendingChange<P>>
         ensures { option_copied result ≡ ready self.now.leases now self.now.waits }
     {
         let at = ready::place_of_ready(&self.waits, &self.leases, now)?;
@@ -112,7 +112,7 @@ impl<P: Drop> Waits<P> {
 
     /// Takes out the change that is made next at this reading of the server's clock, if there is
     /// one. A further lease has its place then. It takes no memory.
-    pub fn settle(&mut self, now: u64) -> Option<Change<P>>
+    pub fn settle(&mut self, now: u64) -> Option<PendingChange<P>>
         ensures ready { result ≡ ready self.old.leases now self.old.waits }
         ensures waits { self.new.waits ≡ without_made self.old.waits result }
         ensures leases { self.new.leases ≡ self.old.leases }
@@ -125,7 +125,7 @@ impl<P: Drop> Waits<P> {
 
     /// Takes out the change of a session whose connection is lost, if it has one. Its leases stay.
     /// It takes no memory.
-    pub fn hang(&mut self, session: u32) -> Option<Change<P>>
+    pub fn hang(&mut self, session: u32) -> Option<PendingChange<P>>
         ensures change { result ≡ change_of self.old.waits session }
         ensures waits { self.new.waits ≡ without self.old.waits session }
         ensures leases { self.new.leases ≡ self.old.leases }
@@ -150,7 +150,7 @@ impl<P: Drop> Waits<P> {
         ready::waits_on(&self.waits, file)
     }
 
-    /// How many entries of the journal, and how many bytes of the tree, the changes that wait will
+    /// How many entries of the journal, and how many bytes of the tree, the pending changes will
     /// make. It takes no memory.
     pub fn sizes(&self) -> (u64, u64)
         ensures { result ≡ (entries_of self.now.waits, bytes_of self.now.waits) }
@@ -159,7 +159,7 @@ impl<P: Drop> Waits<P> {
     }
 
     /// Makes room for so many leases, beside the one that each change has its place for. A change
-    /// that comes takes one of these places. The one error is want of memory, which never comes where
+    /// that comes takes one of these places. The one error is running out of memory, which never comes where
     /// there is room; no lease changes.
     pub fn reserve(&mut self, count: usize) -> Result<(), AllocError>
         ensures ok { OnOk result (count ≤ self.new.spare) }
@@ -174,7 +174,7 @@ impl<P: Drop> Waits<P> {
 
     /// Grants a lease on a file to a session, in place of the one that it has on it, from this
     /// reading of the server's clock on, and for this term, both in milliseconds. The one error is
-    /// want of memory, which never comes where the session has a lease on the file, or right after a
+    /// running out of memory, which never comes where the session has a lease on the file, or right after a
     /// change was taken out; all then stays as it was.
     pub fn grant(&mut self, session: u32, file: u64, now: u64, term: u32) -> Result<(), AllocError>
         requires { now + term < 2 ^ 64 }
@@ -247,8 +247,8 @@ impl<P: Drop> Waits<P> {
 
     /// The sessions, in their order, whose leases on the file are to be asked for back where this
     /// session asks for a change of it: those of others that have not ended at this reading of the
-    /// server's clock, and that no RECALL asked for. Session 0 is nobody. The one error is want of
-    /// memory.
+    /// server's clock, and that no RECALL asked for. Session 0 is nobody. The one error is running
+    /// out of memory.
     pub fn others(
         &self,
         alloc: Global,
@@ -262,7 +262,7 @@ impl<P: Drop> Waits<P> {
     }
 
     /// The recalls that are due where this session asks for a change of the file: of all leases that
-    /// block it and that no RECALL asked for. Session 0 is nobody. The one error is want of memory.
+    /// block it and that no RECALL asked for. Session 0 is nobody. The one error is running out of memory.
     pub fn recalls_due(
         &self,
         alloc: Global,

@@ -33,11 +33,11 @@ calls tree temps index session term (lb.CondWrite a) = says_named (named tree te
 calls tree temps index session term m = record { temps = temps; index = index; answer = None }
 
 -- whether a message is a COMMITTMP
-abbrev pub commits : Lb → Bool
-commits (lb.CommitTmp a) = true
-commits m = false
+abbrev pub is_committmp : Lb → Bool
+is_committmp (lb.CommitTmp a) = true
+is_committmp m = false
 
--- ---- want of memory
+-- ---- running out of memory
 
 -- the calls that take memory: those that give chunks of a file, and those that keep something; one that is refused takes none
 abbrev pub Takes : Tree → Temps → Indexed → (session : ℕ) → Lb → Type 0
@@ -47,7 +47,7 @@ Takes tree temps index session (lb.TmpWrite a) = piece_fault (temp_at temps sess
 Takes tree temps index session (lb.CondWrite a) = (cond_fault a (temp_at temps session a.fd) ≡ None) × IsSome (bytes_known tree a (place_of index.pairs (key_of a.digest)))
 Takes tree temps index session m = ⊥
 
--- what is left of the index by one that met want of memory: a CONDWRITE has looked its digest up by then
+-- what is left of the index by one that met running out of memory: a CONDWRITE has looked its digest up by then
 abbrev pub index_left : Indexed → Lb → Indexed
 index_left index (lb.CondWrite a) = found index (key_of a.digest)
 index_left index m = index

@@ -33,7 +33,7 @@ fn done(answer: Lb) -> Outcome
     }
 }
 
-/// A GETHASH. The one error is want of memory, and all then stays as it was.
+/// A GETHASH. The one error is running out of memory, and all then stays as it was.
 fn tell_hashes(
     alloc: Global,
     tree: &Tree,
@@ -54,11 +54,11 @@ fn tell_hashes(
     })
 }
 
-/// What a message of a session comes to, over a tree, the temporary files of all sessions, and an index
-/// of chunks. A GETLEASE or GETHASH is told the term of its lease, which the caller grants, in
-/// milliseconds; 0 where it grants none. A TMPWRITE's bytes are taken out of it. The one error is want
-/// of memory, at a call that isn't refused; nothing has changed then, but that a CONDWRITE's digest was
-/// looked up.
+/// What a message of a session comes to, over a tree, the temporary files of all sessions, and an
+/// index of chunks. A GETLEASE or GETHASH is told the term of its lease, which the caller grants,
+/// in milliseconds; 0 where it grants none. A TMPWRITE's bytes are taken out of it. The one error
+/// is running out of memory, at a call that isn't refused; nothing has changed then, but that a
+/// CONDWRITE's digest was looked up.
 pub fn call(
     alloc: Global,
     tree: &Tree,

@@ -71,7 +71,7 @@ impl ContentPair {
 }
 
 /// The chunks of a content that is held in parts: its first bytes, and pieces, one behind the other.
-/// The one error is want of memory.
+/// The one error is running out of memory.
 fn cut_pieces(
     alloc: Global,
     front: &[u8],
@@ -114,8 +114,8 @@ fn fits(content: &Content, temps: &Temps, session: u32, commit: &Commit) -> bool
     }
 }
 
-/// The temporary file ends, and its content is this one, which was made ahead. The one error is want
-/// of memory, and all then stays as it was.
+/// The temporary file ends, and its content is this one, which was made ahead. The one error is
+/// running out of memory, and all then stays as it was.
 fn take_ahead(
     temps: &mut Temps,
     content: Content,
@@ -136,7 +136,7 @@ fn take_ahead(
 }
 
 /// The temporary file ends, and its content is cut and hashed here. Its chunks are cut while it stands,
-/// so that memory is there for all before its first piece is let go. The one error is want of memory,
+/// so that memory is there for all before its first piece is dropped. The one error is running out of memory,
 /// and all then stays as it was.
 fn take_cut(
     alloc: Global,
@@ -168,7 +168,7 @@ fn take_cut(
 
 /// The content that a temporary file comes to, with its chunks, and once more for the store. The
 /// temporary file ends. Where `ahead` is that content it is taken, and nothing is cut and hashed; any
-/// other is let go. The one error is want of memory, and all then stays as it was.
+/// other is dropped. The one error is running out of memory, and all then stays as it was.
 pub fn take_content(
     alloc: Global,
     temps: &mut Temps,

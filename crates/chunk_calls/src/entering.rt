@@ -12,7 +12,7 @@ use file_tree::tree::Tree;
 use hash_calls::call::HashRange;
 use tree_nodes::node::Body;
 
-/// Puts the chunks that a GETHASH is told into the index. A place for which memory is wanting is
+/// Puts the chunks that a GETHASH is told into the index. A place for which memory runs out is
 /// left out; says whether one was.
 pub fn enter_told(index: &mut Index, tree: &Tree, range: &HashRange) -> bool
     ensures all { result ≡ false → index.new ≡ with_told index.old (chunks_told (node_of tree.now.tree range.now.handle) range.now) }
@@ -30,7 +30,7 @@ pub fn enter_told(index: &mut Index, tree: &Tree, range: &HashRange) -> bool
     }
 }
 
-/// Puts the chunks of a file into the index. A place for which memory is wanting is left out; says
+/// Puts the chunks of a file into the index. A place for which memory runs out is left out; says
 /// whether one was.
 pub fn enter_content(index: &mut Index, tree: &Tree, file: u64) -> bool
     ensures all { result ≡ false → index.new ≡ with_told index.old (chunks_at file (file_at tree.now.tree file)) }

@@ -59,7 +59,7 @@ pub fn told_chunks<'a>(content: &'a Content, range: &HashRange) -> &'a [Chunk]
     &rest[..met.min(PAIRS_MOST as usize)]
 }
 
-/// The digests and lengths of chunks, as they are told. The one error is want of memory.
+/// The digests and lengths of chunks, as they are told. The one error is running out of memory.
 fn pairs_of(alloc: Global, chunks: &[Chunk]) -> Result<Items<Pair>, AllocError>
     requires { All (IsWithin size_most) chunks.now }
     ensures { IfOk result (λ pairs. pairs ≡ map pair_of chunks.now) }
@@ -85,8 +85,8 @@ fn end_of(told: &[Chunk]) -> u64
     }
 }
 
-/// The chunks of a file that meet the range, and the term of the lease on it. The one error is want
-/// of memory.
+/// The chunks of a file that meet the range, and the term of the lease on it. The one error is
+/// running out of memory.
 fn hashes_of(
     alloc: Global,
     term: u32,
@@ -110,7 +110,7 @@ fn hashes_of(
 }
 
 /// What a GETHASH is answered that is granted a lease of this term, in milliseconds, or 0. The one
-/// error is want of memory.
+/// error is running out of memory.
 pub fn hash_answer(
     alloc: Global,
     term: u32,

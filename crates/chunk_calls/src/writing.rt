@@ -20,7 +20,7 @@ use temp_files::temps::Temps;
 use xdr_codec::answer::Answer;
 use xdr_codec::status::Status;
 
-/// The status of a call that the temporary files refuse. The one error is want of memory.
+/// The status of a call that the temporary files refuse. The one error is running out of memory.
 fn status_of(refusal: TempError) -> Result<Status, AllocError>
     ensures ok { IfOk result (λ status. status_of refusal ≡ Some status) }
     ensures err { OnErr result (status_of refusal ≡ None) }
@@ -46,7 +46,7 @@ fn cond_fault(temps: &Temps, session: u32, piece: &CondPiece) -> Option<Status>
 }
 
 /// Puts a copy of bytes that are known by their digest into a temporary file where they may be. The
-/// one error is want of memory, and all then stays as it was.
+/// one error is running out of memory, and all then stays as it was.
 fn put_known(
     alloc: Global,
     temps: &mut Temps,
@@ -65,7 +65,7 @@ fn put_known(
     }
 }
 
-/// A MKTMPFILE. The one error is want of memory, and all then stays as it was.
+/// A MKTMPFILE. The one error is running out of memory, and all then stays as it was.
 pub fn make_temp(
     tree: &Tree,
     temps: &mut Temps,
@@ -89,7 +89,7 @@ pub fn make_temp(
     }
 }
 
-/// A TMPWRITE. Its bytes are taken out of it. The one error is want of memory, and all then stays as it
+/// A TMPWRITE. Its bytes are taken out of it. The one error is running out of memory, and all then stays as it
 /// was.
 pub fn write_temp(
     alloc: Global,
@@ -111,7 +111,7 @@ pub fn write_temp(
     }
 }
 
-/// A CONDWRITE. The one error is want of memory, and nothing has changed then but that the digest was
+/// A CONDWRITE. The one error is running out of memory, and nothing has changed then but that the digest was
 /// looked up.
 pub fn cond_write(
     alloc: Global,
@@ -132,7 +132,7 @@ pub fn cond_write(
     }
 }
 
-/// A CONDWRITE that has no fault. The one error is want of memory, and nothing has changed then but that
+/// A CONDWRITE that has no fault. The one error is running out of memory, and nothing has changed then but that
 /// the digest was looked up.
 fn write_known(
     alloc: Global,

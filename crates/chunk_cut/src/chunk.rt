@@ -18,8 +18,8 @@ pub struct Chunk {
     pub digest: Dig,
 }
 
-/// Adds the chunk that there may be to the list. The one error is want of memory, and the list then
-/// stays as it was.
+/// Adds the chunk that there may be to the list. The one error is running out of memory, and the
+/// list then stays as it was.
 pub(crate) fn list(chunks: &mut Items<Chunk>, chunk: Option<Chunk>) -> Result<(), AllocError>
     ensures ok { OnOk result (chunks.new ≡ chunks.old ++ listed chunk) }
     ensures err { OnErr result (chunks.new ≡ chunks.old) }

@@ -50,7 +50,7 @@ impl Cutter {
     }
 
     /// Takes the next bytes of the content, and gives the chunks that end in them. All bytes that it
-    /// was fed and these are to be fewer than 2^64. The one error is want of memory, and the cutter
+    /// was fed and these are to be fewer than 2^64. The one error is running out of memory, and the cutter
     /// then stays as it was: the work is done on a copy.
     pub fn feed(&mut self, alloc: Global, piece: &[u8]) -> Result<Items<Chunk>, AllocError>
         requires { fed self.old + length piece.now < 2 ^ 64 }

@@ -26,7 +26,7 @@ pub fn digest(bytes: &[u8]) -> [u8; 20]
     Sha1::digest(bytes)
 }
 
-/// The chunks of the content, in order. The one error is want of memory.
+/// The chunks of the content, in order. The one error is running out of memory.
 pub fn cut(alloc: Global, content: &[u8]) -> Result<Items<Chunk>, AllocError>
     ensures { IfOk result (λ chunks. chunks ≡ chunks_of content.now) }
 {

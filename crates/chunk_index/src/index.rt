@@ -30,7 +30,7 @@ pub struct Index {
     pairs: LruCache<Key, Place>,
 }
 
-/// By hand, so that the crates above prove nothing of how the parts go.
+/// By hand, so that the crates above prove nothing of how the parts are dropped.
 impl Drop for Index {
     fn drop(self) {
         let Index { pairs } = self;
@@ -51,7 +51,7 @@ impl Model for Index {
 
 impl Index {
     /// An empty index, which holds at most so many pairs. It takes little memory at first, and more
-    /// with the pairs that come. The one error is want of memory.
+    /// with the pairs that come. The one error is running out of memory.
     pub fn new(alloc: Global, capacity: NonZeroUsize) -> Result<Index, AllocError>
         ensures { IfOk result (λ index. index ≡ record { pairs = []; capacity = non_zero_usize_get capacity }) }
     {
@@ -68,8 +68,8 @@ impl Index {
     }
 
     /// Puts the place of a chunk with this digest first, in place of the one that its key had, and
-    /// drops the last pair where there are more than the capacity. The one error is want of memory:
-    /// it hands the pair back, and the index stays as it was.
+    /// drops the last pair where there are more than the capacity. The one error is running out of
+    /// memory: it hands the pair back, and the index stays as it was.
     pub fn put(&mut self, digest: &[u8], place: Place) -> Result<(), AllocFailed<(Key, Place)>>
         requires { 8 ≤ length digest.now }
         ensures ok { OnOk result (self.new ≡ put self.old (key_of digest.now) place) }

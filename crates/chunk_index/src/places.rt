@@ -13,7 +13,7 @@ use limits::INDEX_MOST;
 use std::alloc::{AllocError, Global};
 use std::num::NonZeroUsize;
 
-/// An index with no pairs. The one error is want of memory.
+/// An index with no pairs. The one error is running out of memory.
 pub fn empty(alloc: Global) -> Result<Index, AllocError>
     ensures { IfOk result (λ index. index ≡ no_index) }
 {
@@ -37,7 +37,7 @@ fn is_left_out(index: &mut Index, file: u64, chunk: &Chunk) -> bool
     index.put(chunk.digest.as_slice(), place).is_err()
 }
 
-/// Puts the places of chunks of a file, one after the other. A place for which memory is wanting is
+/// Puts the places of chunks of a file, one after the other. A place for which memory runs out is
 /// left out; says whether one was.
 pub fn enter(index: &mut Index, file: u64, chunks: &[Chunk]) -> bool
     ensures all { result ≡ false → index.new ≡ indexed index.old file chunks.now }

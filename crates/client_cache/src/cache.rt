@@ -28,7 +28,7 @@ pub struct Cache {
     entries: Keyed,
 }
 
-/// By hand, so that the crates above prove nothing of how the parts go.
+/// By hand, so that the crates above prove nothing of how the parts are dropped.
 impl Drop for Cache {
     fn drop(self) {
         let Cache { entries } = self;
@@ -136,7 +136,7 @@ fn has_at_most(entries: &Keyed, most: u64) -> bool
 }
 
 impl Cache {
-    /// An empty cache. The one error is want of memory.
+    /// An empty cache. The one error is running out of memory.
     pub fn new(alloc: Global) -> Result<Cache, AllocError>
         ensures { IfOk result (λ cache. cache ≡ []) }
     {
@@ -203,7 +203,7 @@ impl Cache {
 
     /// Gives a file an entry, with nothing in it where it had none, and a note's place with it. The
     /// entry goes first, and where there are more than 256, the last is dropped with its note. The
-    /// one error is want of memory, and the cache then stays as it was.
+    /// one error is running out of memory, and the cache then stays as it was.
     pub fn reserve(&mut self, file: u64) -> Result<(), AllocError>
         ensures ok { OnOk result (self.new ≡ reserved self.old file) }
         ensures there { OnOk result (IsSome (kept_of self.new file)) }

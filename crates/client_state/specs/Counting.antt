@@ -27,7 +27,7 @@ sends_reads send bytes = sends send (record no_counts { reads = length send; byt
 abbrev pub ends : Outcome → (xid bytes : ℕ) → ClientStep
 ends o xid bytes = record { send = []; ended = Some (record { outcome = o; rests_on = xid }); counts = record no_counts { bytes = bytes }; found = None; missed = false }
 
--- ---- want of memory
+-- ---- running out of memory
 
 -- what is done where memory ran out, and what ends by it
 abbrev pub misses : Option Ended → ClientStep

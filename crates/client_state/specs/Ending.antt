@@ -101,7 +101,7 @@ ended_by (Some t) e = record nothing_done { ended = Some e }
 abbrev pub cut : State → State × ClientStep
 cut s = (record s { linked = false; task = None; forgotten = [] }, ended_by s.task (record { outcome = outcome.Lost; rests_on = 0 }))
 
--- ---- want of memory
+-- ---- running out of memory
 
 -- a command on an open file takes memory only where nothing is under way, the file is open, and this holds
 abbrev pub MayMissOn : Option Task → Option Local → (Local → Type 0) → Type 0

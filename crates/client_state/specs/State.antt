@@ -23,7 +23,7 @@ use Rattle.client_state.specs.declared.task.Local.{Local}
 use Rattle.client_state.specs.declared.task.ReadCall.{ReadCall}
 use Rattle.client_state.specs.declared.task.Stage.TheVariants as stage
 use Rattle.client_state.specs.declared.task.Stage.{Stage}
-use Rattle.client_state.specs.declared.task.StoreCall.{StoreCall}
+use Rattle.client_state.specs.declared.task.UploadCall.{UploadCall}
 use Rattle.client_state.specs.declared.task.Task.{Task}
 use Rattle.client_state.specs.declared.task.Way.TheVariants as way
 use Rattle.client_state.specs.declared.task.Way.{Way}
@@ -102,7 +102,7 @@ abbrev pub way_proc : Way → LbProc
 way_proc way.Named = lb_proc.CondWrite
 way_proc way.Whole = lb_proc.TmpWrite
 
-abbrev pub store_pending : StoreCall → Pending
+abbrev pub store_pending : UploadCall → Pending
 store_pending c = record { xid = c.xid; program = program.Lb (way_proc c.way) }
 
 abbrev pub lb_pending : LbProc → (xid : ℕ) → List Pending

@@ -20,8 +20,8 @@ use Rattle.client_state.specs.declared.task.Fetch.{Fetch}
 use Rattle.client_state.specs.declared.task.Local.{Local}
 use Rattle.client_state.specs.declared.task.Stage.TheVariants as stage
 use Rattle.client_state.specs.declared.task.Stage.{Stage}
-use Rattle.client_state.specs.declared.task.Store.{Store}
-use Rattle.client_state.specs.declared.task.StoreCall.{StoreCall}
+use Rattle.client_state.specs.declared.task.Upload.{Upload}
+use Rattle.client_state.specs.declared.task.UploadCall.{UploadCall}
 use Rattle.client_state.specs.declared.task.Task.{Task}
 use Rattle.client_state.specs.declared.task.Way.TheVariants as way
 use Rattle.client_state.specs.declared.task.Way.{Way}
@@ -66,7 +66,7 @@ IsListing f = IsFetch f × (chunk_least * length f.chunks ≤ end_of f.chunks) �
 abbrev pub IsReading : Fetch → Type 0
 IsReading f = IsFetch f × FitsIn f.slots f.chunks × (f.asked ≤ length f.chunks)
 
-pub record IsStore (st : Store) : Type 0 where
+pub record IsStore (st : Upload) : Type 0 where
   pub few : chunk_least * length st.chunks ≤ file_limit + chunk_least
   pub lens : All IsChunkBounded st.chunks
   pub named : st.named ≤ length st.chunks
@@ -97,12 +97,12 @@ abbrev pub calls_after : Way → ℕ
 calls_after way.Named = 1
 calls_after way.Whole = 0
 
-abbrev pub calls_after_all : List StoreCall → ℕ
+abbrev pub calls_after_all : List UploadCall → ℕ
 calls_after_all [] = 0
 calls_after_all (c ∷ cs) = calls_after c.way + calls_after_all cs
 
 -- the most calls that a close may still send, with COMMITTMP
-abbrev pub store_left : Store → ℕ
+abbrev pub store_left : Upload → ℕ
 store_left st = 2 * (length st.chunks - st.named) + calls_after_all st.under + 1
 
 -- the calls that may follow of the open, a GETLEASE and all attempts, or of the rewrite, a GETLEASE

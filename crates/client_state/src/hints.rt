@@ -26,8 +26,8 @@ const CACHED_FILE: u64 = 0;
 /// The id under which a content is kept that was offered: no file has it.
 const OFFERED_FILE: u64 = u64::MAX;
 
-/// Puts the places of a content's chunks into the index; says whether some were left out, for want of
-/// memory. An `Err`, which is want of memory too, changes nothing.
+/// Puts the places of a content's chunks into the index; says whether some were left out, for
+/// running out of memory. An `Err`, which is running out of memory too, changes nothing.
 fn enter(
     alloc: Global,
     index: &mut Index,
@@ -80,7 +80,7 @@ fn laid(alloc: Global, items: &[Bytes]) -> Result<Items<Chunk>, AllocError>
 
 impl ClientState {
     /// The places of the chunks of what is kept of a file enter the index; says whether some were left
-    /// out, for want of memory. An `Err`, which is want of memory too, changes nothing.
+    /// out, for running out of memory. An `Err`, which is running out of memory too, changes nothing.
     pub fn learn(&mut self, alloc: Global, file: u64) -> Result<bool, AllocError>
         requires { IsSound self.old }
         ensures ok { IfOk result (λ left_out. Learns (state_of self.old) file left_out (state_of self.new)) }
@@ -94,8 +94,8 @@ impl ClientState {
     }
 
     /// A content is kept that is no file's, in place of the one that was offered before, and the places of
-    /// its chunks enter the index; says whether some were left out, for want of memory. While an operation
-    /// is under way nothing is done. An `Err`, which is want of memory too, changes nothing.
+    /// its chunks enter the index; says whether some were left out, for running out of memory. While an operation
+    /// is under way nothing is done. An `Err`, which is running out of memory too, changes nothing.
     pub fn offer(&mut self, alloc: Global, content: SharedBytes) -> Result<bool, AllocError>
         requires sound { IsSound self.old }
         requires small { length content ≤ FILE_MOST }
@@ -112,10 +112,11 @@ impl ClientState {
         Ok(chunk_index::places::enter(&mut self.index, OFFERED_FILE, chunks.as_slice()))
     }
 
-    /// The items of a cache file are kept, one behind the other, in place of those before, and their places
-    /// enter the index, each under the digest of its bytes; says whether some were left out, for want of
-    /// memory. While an operation is under way nothing is done, and neither where they have more bytes than
-    /// a file may have. An `Err`, which is want of memory too, changes nothing.
+    /// The items of a cache file are kept, one behind the other, in place of those before, and
+    /// their places enter the index, each under the digest of its bytes; says whether some were
+    /// left out, for running out of memory. While an operation is under way nothing is done, and
+    /// neither where they have more bytes than a file may have. An `Err`, which is running out of
+    /// memory too, changes nothing.
     pub fn warm(&mut self, alloc: Global, items: &[Bytes]) -> Result<bool, AllocError>
         requires { IsSound self.old }
         ensures ok { IfOk result (λ left_out. Warms (state_of self.old) items.now left_out (state_of self.new)) }

@@ -42,7 +42,8 @@ pub fn part_of(bytes: &[u8], offset: u64, count: u64) -> &[u8]
     first_of(rest_of(bytes, offset), count)
 }
 
-/// How long a content is after a write of so many bytes. A number past 128 bits is want of memory.
+/// How long a content is after a write of so many bytes. A number past 128 bits is running out of
+/// memory.
 pub fn written_size(size: u64, offset: u64, count: u128) -> Result<u128, AllocError>
     ensures { MatchResult result (λ n. n ≡ written_size size offset count) (λ e. 2 ^ 128 ≤ written_size size offset count) }
 {

@@ -66,7 +66,7 @@ pub struct ClientState {
     pub drift: u64,
 }
 
-/// By hand, so that the crates above prove nothing of how the parts go.
+/// By hand, so that the crates above prove nothing of how the parts are dropped.
 impl Drop for ClientState {
     fn drop(self) {
         let ClientState {
@@ -375,8 +375,8 @@ impl ClientState {
         self.cache.evict(file);
     }
 
-    /// Any place stands in the index under any key. The one error is want of memory, and changes
-    /// nothing.
+    /// Any place stands in the index under any key. The one error is running out of memory, and
+    /// changes nothing.
     pub fn forge(&mut self, key: Key, place: Place) -> Result<(), AllocError>
         requires { IsSound self.old }
         ensures ok { OnOk result (state_of self.new ≡ forged (state_of self.old) key place) }

@@ -98,7 +98,7 @@ pub struct Ended {
     pub rests_on: u32,
 }
 
-/// By hand, so that the crates above prove nothing of how the parts go.
+/// By hand, so that the crates above prove nothing of how the parts are dropped.
 impl Drop for Ended {
     fn drop(self) {
         let Ended {
@@ -122,7 +122,7 @@ pub struct ClientStep {
     pub missed: bool,
 }
 
-/// By hand, so that the crates above prove nothing of how the parts go.
+/// By hand, so that the crates above prove nothing of how the parts are dropped.
 impl Drop for ClientStep {
     fn drop(self) {
         let (send, ended) = self.into_parts();

@@ -55,7 +55,7 @@ pub enum Way {
 
 /// A call for a chunk of a close that waits for its answer.
 #[derive(Clone, Copy, Drop)]
-pub struct StoreCall {
+pub struct UploadCall {
     pub xid: u32,
     /// The place of the chunk among those of the local content.
     pub index: usize,
@@ -64,7 +64,7 @@ pub struct StoreCall {
 
 /// How far the chunks of a close have come.
 #[derive(Drop)]
-pub struct Store {
+pub struct Upload {
     /// The number of the temporary file that takes them.
     pub temp: u32,
     /// The chunks of the local content.
@@ -72,7 +72,7 @@ pub struct Store {
     /// How many of them were named, in order.
     pub named: usize,
     /// The calls under way.
-    pub under: Items<StoreCall>,
+    pub under: Items<UploadCall>,
 }
 
 /// How far an operation has come.
@@ -101,7 +101,7 @@ pub enum Stage {
         temp: u32,
     },
     /// A close: the chunks are being stored in the temporary file.
-    Storing(Store),
+    Storing(Upload),
     /// A close: a COMMITTMP with this xid is under way.
     Committing(u32),
     /// A command on names: the next call of its walk is under way.

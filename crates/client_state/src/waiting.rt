@@ -5,7 +5,7 @@ ghost use Rattle.hash_calls.specs.declared.message.LbProc.TheVariants as lb_proc
 ghost use Rattle.wire.specs.declared.message.Program.TheVariants as program;
 ghost use Rattle.client_state.specs.State.{read_pending, store_pending, pending_in, has_call, without_call};
 
-use crate::task::{ReadCall, Stage, StoreCall, Way};
+use crate::task::{ReadCall, Stage, UploadCall, Way};
 use hash_calls::message::LbProc;
 use lb_base::items::Items;
 use nfs3_calls::message::NfsProc;
@@ -13,7 +13,7 @@ use std::alloc::{AllocError, Global};
 use wire::message::{Pending, Program};
 
 /// A call for a chunk of a close, as one that waits.
-fn store_pending(call: &StoreCall) -> Pending
+fn store_pending(call: &UploadCall) -> Pending
     ensures { result ≡ store_pending call.now }
 {
     let procedure = match call.way {
@@ -40,7 +40,7 @@ pub fn reads_pending(alloc: Global, under: &[ReadCall]) -> Result<Vec<Pending>, 
 }
 
 /// Calls for chunks of a close, as ones that wait.
-fn stores_pending(alloc: Global, under: &[StoreCall]) -> Result<Vec<Pending>, AllocError>
+fn stores_pending(alloc: Global, under: &[UploadCall]) -> Result<Vec<Pending>, AllocError>
     ensures { IfOk result (λ ps. ps.items ≡ map store_pending under.now) }
 {
     let mut calls = Vec::new(alloc);

@@ -57,7 +57,7 @@ abbrev pub fault_at : Clocked → ℕ → ℕ → Option ClockFault
 fault_at clocks client reading =
     fault_of clocks.term clocks.drift clocks.notes (event_of clocks client reading)
 
--- the fault is answered, and want of memory only where there is none
+-- the fault is answered, and running out of memory only where there is none
 abbrev pub Answers : {T : Type 0} → Result T NoteError → Option ClockFault → Type 0
 Answers (Ok _) fault = fault ≡ None
 Answers (Err (Fault f)) fault = fault ≡ Some f
@@ -91,7 +91,7 @@ read_at clocks (reads.Server server) = server_read clocks server
 read_at clocks (reads.Client client at) = client_read clocks client at
 read_at clocks (reads.Both server client at) = then_client (server_read clocks server) client at
 
--- what reading a line answers and leaves: a fault, or want of memory, leaves all as it was
+-- what reading a line answers and leaves: a fault, or running out of memory, leaves all as it was
 abbrev pub IsRead : {T : Type 0} → Result T NoteError → Result Clocked ClockFault → (old new : Clocked) → Type 0
 IsRead (Ok _) ran old new = ran ≡ Ok new
 IsRead (Err (Fault f)) ran old new = (ran ≡ Err f) × (new ≡ old)

@@ -68,8 +68,8 @@ impl Clocks {
         }
     }
 
-    /// Reads what a line reads. The errors are the first fault by the rule, and want of memory, and
-    /// after either all is as before.
+    /// Reads what a line reads. The errors are the first fault by the rule, and running out of
+    /// memory, and after either all is as before.
     pub fn read(&mut self, alloc: Global, reading: Reading) -> Result<(), NoteError>
         ensures { IsRead result (read_at self.old reading) self.old self.new }
     {
@@ -125,7 +125,7 @@ impl Clocks {
 
     /// Notes an event. It is refused exactly where its reading is below the client's last one, or
     /// else where it breaks the rule with an earlier event of the client, of which the fault then
-    /// names the earliest. The other error is want of memory. After either all is as before.
+    /// names the earliest. The other error is running out of memory. After either all is as before.
     fn note(&mut self, alloc: Global, later: Note) -> Result<(), NoteError>
         ensures fault { Answers result (fault_of self.old.term self.old.drift self.old.notes later) }
         ensures ok { OnOk result (self.new ≡ record self.old { notes = self.old.notes ++ later ∷ [] }) }

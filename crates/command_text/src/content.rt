@@ -22,7 +22,7 @@ pub enum Part {
     Random { seed: u64, count: u64 },
 }
 
-// Written by hand, it is proved here alone; derived, each crate above would prove how bytes are let go.
+// Written by hand, it is proved here alone; derived, each crate above would prove how bytes are dropped.
 impl Drop for Part {
     fn drop(self) {
         match self {
@@ -139,9 +139,9 @@ fn push_part(bytes: &mut Vec<u8>, part: &Part) -> Result<(), AllocError>
     }
 }
 
-/// The bytes of a content, in time linear in their number. The one error is want of memory, which
-/// comes at once where their number has more than 64 bits. The room for all is taken first, so
-/// test the number before (`length_within`): a few words may ask for more than a machine has.
+/// The bytes of a content, in time linear in their number. The one error is running out of memory,
+/// which comes at once where their number has more than 64 bits. The room for all is taken first,
+/// so test the number before (`length_within`): a few words may ask for more than a machine has.
 pub fn build(alloc: Global, content: &Content) -> Result<Bytes, AllocError>
     ensures { IfOk result (λ b. b ≡ content_bytes content.now) }
 {

@@ -20,7 +20,7 @@ struct Cut {
     digest: [u8; 20],
 }
 
-// By hand: docs/PROVING.md, "Values that are let go".
+// By hand: docs/proving/dropping.md.
 impl Drop for Cut {
     fn drop(self) {
         let Cut {
@@ -38,7 +38,7 @@ pub struct CutBytes {
     cut: Option<Cut>,
 }
 
-/// By hand, so that the crates above prove nothing of how the parts go.
+/// By hand, so that the crates above prove nothing of how the parts are dropped.
 impl Drop for CutBytes {
     fn drop(self) {
         let CutBytes { bytes, cut } = self;
@@ -74,7 +74,7 @@ impl CutBytes {
         CutBytes { bytes, cut: None }
     }
 
-    /// Bytes that are cut and hashed now, and so not again. The one error is want of memory.
+    /// Bytes that are cut and hashed now, and so not again. The one error is running out of memory.
     pub fn cut(alloc: Global, bytes: SharedBytes) -> Result<CutBytes, AllocError>
         ensures { IfOk result (λ cut. cut ≡ bytes) }
     {
@@ -124,7 +124,7 @@ impl CutBytes {
         self.bytes.len()
     }
 
-    /// A copy of the chunks, which are found now where they weren't ahead. The one error is want of memory.
+    /// A copy of the chunks, which are found now where they weren't ahead. The one error is running out of memory.
     pub fn chunks(&self, alloc: Global) -> Result<Items<Chunk>, AllocError>
         ensures { IfOk result (λ chunks. chunks ≡ chunks_of self.now) }
     {

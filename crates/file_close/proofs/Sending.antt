@@ -8,15 +8,15 @@ use Rattle.wire.specs.declared.message.Message.{Message}
 use Rattle.file_close.specs.Closing.{Names, names_next, names_more, store_at, without_store, answered, with_whole, cond_call}
 use Rattle.client_state.specs.View.{IsStore, HasXids, calls_after, calls_after_all, store_left}
 use Rattle.file_close.specs.Sending.{IsSendingNames}
-use Rattle.client_state.specs.declared.task.Store.{Store}
-use Rattle.client_state.specs.declared.task.StoreCall.{StoreCall}
+use Rattle.client_state.specs.declared.task.Upload.{Upload}
+use Rattle.client_state.specs.declared.task.UploadCall.{UploadCall}
 use Rattle.client_state.specs.declared.task.Stage.TheVariants as stage
 use Rattle.client_state.specs.declared.task.Way.TheVariants as way
 
 pushed : (ms : List Message) (m : Message) → length (ms ++ m ∷ []) ≡ length ms + 1
 pushed ms m = length-append ms (m ∷ [])
 
-calls_after_push : (us : List StoreCall) (u : StoreCall) → calls_after_all (us ++ u ∷ []) ≡ calls_after_all us + calls_after u.way
+calls_after_push : (us : List UploadCall) (u : UploadCall) → calls_after_all (us ++ u ∷ []) ≡ calls_after_all us + calls_after u.way
 calls_after_push [] u = omega arith
 calls_after_push (v ∷ vs) u = let h = calls_after_push vs u in omega (arith, h)
 
@@ -43,7 +43,7 @@ names_step lbfs n k i lt = let e : k - i ≡ suc (k - (i + 1)) = omega (arith, l
 
 -- ---- an answer
 
-less_at : (us : List StoreCall) (xid : ℕ) → calls_after_all (without_store us xid) ≤ calls_after_all us
+less_at : (us : List UploadCall) (xid : ℕ) → calls_after_all (without_store us xid) ≤ calls_after_all us
 less_at [] xid = omega arith
 less_at (v ∷ vs) xid = by (v.xid == xid) (less_at vs xid)
   where
@@ -52,14 +52,14 @@ less_at (v ∷ vs) xid = by (v.xid == xid) (less_at vs xid)
     by true h = omega (arith, h)
     by false h = omega (arith, h)
 
-none_some : {u : StoreCall} → None ≡ Some u → ⊥
+none_some : {u : UploadCall} → None ≡ Some u → ⊥
 none_some e = cc
 
-after_answer : (us : List StoreCall) (xid : ℕ) (u : StoreCall) → store_at us xid ≡ Some u → calls_after_all (without_store us xid) + calls_after u.way ≤ calls_after_all us
+after_answer : (us : List UploadCall) (xid : ℕ) (u : UploadCall) → store_at us xid ≡ Some u → calls_after_all (without_store us xid) + calls_after u.way ≤ calls_after_all us
 after_answer [] xid u e = absurd (none_some e)
 after_answer (v ∷ vs) xid u e = by (v.xid == xid) e (less_at vs xid) (after_answer vs xid u)
   where
-    way_of : Option StoreCall → ℕ
+    way_of : Option UploadCall → ℕ
     way_of None = 0
     way_of (Some w) = calls_after w.way
 
@@ -70,12 +70,12 @@ after_answer (v ∷ vs) xid u e = by (v.xid == xid) e (less_at vs xid) (after_an
     by false e l h = let m = h e in omega (arith, m)
 
 -- the call that was answered is no longer under way, and what its answer may bring about is counted
-pub calls_after_answer : (st : Store) (next xid : ℕ) (u : StoreCall) → store_at st.under xid ≡ Some u → HasXids next (stage.Storing st) → next + store_left (answered st xid) + calls_after u.way < 2 ^ 32
+pub calls_after_answer : (st : Upload) (next xid : ℕ) (u : UploadCall) → store_at st.under xid ≡ Some u → HasXids next (stage.Storing st) → next + store_left (answered st xid) + calls_after u.way < 2 ^ 32
 calls_after_answer st next xid u e h = let a = after_answer st.under xid u e in omega (arith, a, h)
 
 -- the bytes of a chunk go out in the place of its name
-pub whole_xids : (st : Store) (c : StoreCall) (next xid : ℕ) → next + store_left st + 1 < 2 ^ 32 → HasXids (next + 1) (stage.Storing (with_whole st c xid))
+pub whole_xids : (st : Upload) (c : UploadCall) (next xid : ℕ) → next + store_left st + 1 < 2 ^ 32 → HasXids (next + 1) (stage.Storing (with_whole st c xid))
 whole_xids st c next xid h = let a = calls_after_push st.under (record { xid = xid; index = c.index; way = way.Whole }) in omega (arith, a, h)
 
-pub whole_within : (st : Store) (c : StoreCall) (xid : ℕ) → IsStore st → IsStore (with_whole st c xid)
+pub whole_within : (st : Upload) (c : UploadCall) (xid : ℕ) → IsStore st → IsStore (with_whole st c xid)
 whole_within st c xid h = record { few = h.few; lens = h.lens; named = h.named }

@@ -10,8 +10,8 @@ use Rattle.wire.specs.declared.message.Message.TheVariants as message
 use Rattle.wire.specs.declared.message.Message.{Message}
 use Rattle.transfer_rules.specs.Limits.{calls_most}
 use Rattle.transfer_rules.specs.Chunks.{all_came}
-use Rattle.client_state.specs.declared.task.Store.{Store}
-use Rattle.client_state.specs.declared.task.StoreCall.{StoreCall}
+use Rattle.client_state.specs.declared.task.Upload.{Upload}
+use Rattle.client_state.specs.declared.task.UploadCall.{UploadCall}
 use Rattle.client_state.specs.declared.task.Way.TheVariants as way
 pub use Rattle.file_close.specs.declared.calls.Names.{Names}
 
@@ -32,10 +32,10 @@ commit_call lbfs xid temp file size = message.Call xid (body.Lb (lb.CommitTmp (r
 -- ---- the chunks are named
 
 -- the temporary file of this number is there, and no chunk of the content in it
-abbrev pub store_of : (temp : ℕ) → List ℕ → Store
+abbrev pub store_of : (temp : ℕ) → List ℕ → Upload
 store_of temp content = record { temp = temp; chunks = chunks_of content; named = 0; under = [] }
 
-abbrev pub names_from : Store → ℕ → Names
+abbrev pub names_from : Upload → ℕ → Names
 names_from st next = record { store = st; next_xid = next; send = [] }
 
 -- the chunk is named, if it is there, in a version of LBFS
@@ -53,25 +53,25 @@ names_more lbfs zero n = n
 names_more lbfs (suc k) n = names_more lbfs k (names_next lbfs n (slice_get n.store.chunks n.store.named))
 
 -- all CONDWRITEs that may be under way beside the calls that are
-abbrev pub names_all : (lbfs : ℕ) → Store → (next : ℕ) → Names
+abbrev pub names_all : (lbfs : ℕ) → Upload → (next : ℕ) → Names
 names_all lbfs st next = names_more lbfs (calls_most - length st.under) (names_from st next)
 
 -- all chunks are stored
-abbrev pub is_stored : Store → Bool
+abbrev pub is_stored : Upload → Bool
 is_stored st = all_came st.under st.named (length st.chunks)
 
 -- ---- their answers
 
 -- the call under way with this xid, and those with other xids
-abbrev pub store_at : List StoreCall → (xid : ℕ) → Option StoreCall
+abbrev pub store_at : List UploadCall → (xid : ℕ) → Option UploadCall
 store_at under xid = find (λ c. c.xid == xid) under
 
-abbrev pub without_store : List StoreCall → (xid : ℕ) → List StoreCall
+abbrev pub without_store : List UploadCall → (xid : ℕ) → List UploadCall
 without_store under xid = filter (λ c. not (c.xid == xid)) under
 
-abbrev pub answered : Store → (xid : ℕ) → Store
+abbrev pub answered : Upload → (xid : ℕ) → Upload
 answered st xid = record st { under = without_store st.under xid }
 
 -- the bytes of the chunk go out that this CONDWRITE named
-abbrev pub with_whole : Store → StoreCall → (xid : ℕ) → Store
+abbrev pub with_whole : Upload → UploadCall → (xid : ℕ) → Upload
 with_whole st c xid = record st { under = st.under ++ record { xid = xid; index = c.index; way = way.Whole } ∷ [] }

@@ -18,8 +18,8 @@ use Rattle.client_state.specs.declared.step.ClientStep.{ClientStep}
 use Rattle.client_state.specs.declared.step.Outcome.TheVariants as outcome
 use Rattle.client_state.specs.declared.task.Local.{Local}
 use Rattle.client_state.specs.declared.task.Stage.TheVariants as stage
-use Rattle.client_state.specs.declared.task.Store.{Store}
-use Rattle.client_state.specs.declared.task.StoreCall.{StoreCall}
+use Rattle.client_state.specs.declared.task.Upload.{Upload}
+use Rattle.client_state.specs.declared.task.UploadCall.{UploadCall}
 use Rattle.client_state.specs.declared.task.Way.TheVariants as way
 use Rattle.client_state.specs.declared.task.Way.{Way}
 use Rattle.file_close.specs.Closing.{make_call, temp_call, commit_call, Names, store_of, names_all, is_stored, answered, with_whole}
@@ -41,7 +41,7 @@ abbrev pub goes_if : State → (file : ℕ) → (content : List ℕ) → Names �
 goes_if s file content n true = (record s { next_xid = n.next_xid + 1; cache = without_note (reserved s.cache file) file; task = Some (record { file = file; stage = stage.Committing n.next_xid }); sent = s.clock }, sends (n.send ++ commit_call s.lbfs n.next_xid n.store.temp file (length content) ∷ []) (record no_counts { cond_writes = length n.send }))
 goes_if s file content n false = (record s { next_xid = n.next_xid; task = Some (record { file = file; stage = stage.Storing n.store }) }, sends n.send (record no_counts { cond_writes = length n.send }))
 
-abbrev pub goes_on : State → (file : ℕ) → (content : List ℕ) → Store → State × ClientStep
+abbrev pub goes_on : State → (file : ℕ) → (content : List ℕ) → Upload → State × ClientStep
 goes_on s file content st =
     let n : Names = names_all s.lbfs st s.next_xid in
     goes_if s file content n (is_stored n.store)
@@ -51,34 +51,34 @@ told_temp s calls file xid temp content (Failed status u) = refused s calls xid 
 told_temp s calls file xid temp content (Done u) = goes_on s file content (store_of temp content)
 
 -- the bytes of a chunk that the server doesn't know go out in the place of its name
-abbrev pub sends_whole : State → (file xid : ℕ) → (content : List ℕ) → Store → StoreCall → Option Chunk → State × ClientStep
+abbrev pub sends_whole : State → (file xid : ℕ) → (content : List ℕ) → Upload → UploadCall → Option Chunk → State × ClientStep
 sends_whole s file xid content st c None = unknown s xid
 sends_whole s file xid content st c (Some k) = (record s { next_xid = s.next_xid + 1; task = Some (record { file = file; stage = stage.Storing (with_whole st c s.next_xid) }) }, sends (temp_call s.lbfs s.next_xid st.temp content k ∷ []) (record no_counts { temp_writes = 1; bytes = length (chunk_bytes content k) }))
 
 -- the answer to a CONDWRITE, which is no longer under way
-abbrev pub named_if : State → (calls : List Pending) → (file xid : ℕ) → (content : List ℕ) → Store → StoreCall → Answer Unit Unit → (wants_bytes : Bool) → State × ClientStep
+abbrev pub named_if : State → (calls : List Pending) → (file xid : ℕ) → (content : List ℕ) → Upload → UploadCall → Answer Unit Unit → (wants_bytes : Bool) → State × ClientStep
 named_if s calls file xid content st c a true = sends_whole s file xid content st c (slice_get st.chunks c.index)
 named_if s calls file xid content st c (Done u) false = goes_on s file content st
 named_if s calls file xid content st c (Failed status u) false = refused s calls xid status
 
-abbrev pub told_named : State → (calls : List Pending) → (file xid : ℕ) → (content : List ℕ) → Store → StoreCall → Answer Unit Unit → State × ClientStep
+abbrev pub told_named : State → (calls : List Pending) → (file xid : ℕ) → (content : List ℕ) → Upload → UploadCall → Answer Unit Unit → State × ClientStep
 told_named s calls file xid content st c a = named_if s calls file xid content st c a (wants_bytes a)
 
 -- the answer to a TMPWRITE
-abbrev pub told_whole : State → (calls : List Pending) → (file xid : ℕ) → (content : List ℕ) → Store → Answer Unit Unit → State × ClientStep
+abbrev pub told_whole : State → (calls : List Pending) → (file xid : ℕ) → (content : List ℕ) → Upload → Answer Unit Unit → State × ClientStep
 told_whole s calls file xid content st (Done u) = goes_on s file content st
 told_whole s calls file xid content st (Failed status u) = refused s calls xid status
 
-abbrev pub told_way : State → (calls : List Pending) → (file xid : ℕ) → (content : List ℕ) → Store → StoreCall → Way → Body → State × ClientStep
+abbrev pub told_way : State → (calls : List Pending) → (file xid : ℕ) → (content : List ℕ) → Upload → UploadCall → Way → Body → State × ClientStep
 told_way s calls file xid content st c way.Named (body.Lb (lb.CondWriteAnswer a)) = told_named s calls file xid content st c a
 told_way s calls file xid content st c way.Whole (body.Lb (lb.TmpWriteAnswer a)) = told_whole s calls file xid content st a
 told_way s calls file xid content st c w b = unknown s xid
 
-abbrev pub told_stored : State → (calls : List Pending) → (file xid : ℕ) → (content : List ℕ) → Store → Body → Option StoreCall → State × ClientStep
+abbrev pub told_stored : State → (calls : List Pending) → (file xid : ℕ) → (content : List ℕ) → Upload → Body → Option UploadCall → State × ClientStep
 told_stored s calls file xid content st b None = unknown s xid
 told_stored s calls file xid content st b (Some c) = told_way s calls file xid content (answered st xid) c c.way b
 
--- ---- want of memory
+-- ---- running out of memory
 
 -- an answer to a CONDWRITE takes memory only where the close goes on by it
 abbrev pub MayMissNamed : Answer Unit Unit → (wants_bytes : Bool) → Type 0

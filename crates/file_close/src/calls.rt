@@ -10,7 +10,7 @@ ghost use Rattle.std.specs.Option.{option_copied};
 ghost use Rattle.client_state.specs.declared.task.Stage.TheVariants as stage;
 
 use crate::messages;
-use client_state::task::{Store, StoreCall, Way};
+use client_state::task::{Upload, UploadCall, Way};
 use lb_base::items::Items;
 use send_list::SendList;
 use std::alloc::{AllocError, Global};
@@ -20,7 +20,7 @@ use wire::message::Message;
 
 /// The chunks of a close, the next xid, and the CONDWRITEs that were sent for them by now.
 pub struct Names {
-    pub store: Store,
+    pub store: Upload,
     pub next_xid: u32,
     pub send: SendList<Message>,
 }
@@ -40,7 +40,7 @@ fn name_next(lbfs: u32, names: &mut Names) -> Result<(), AllocError>
     let call = messages::cond_call(lbfs, xid, names.store.temp, &chunk);
     names.send.push(call)?;
     let way = Way::Named;
-    names.store.under.push(StoreCall { xid, index, way })?;
+    names.store.under.push(UploadCall { xid, index, way })?;
     names.store.named = index + 1;
     names.next_xid = xid + 1;
     Ok(())
@@ -50,7 +50,7 @@ fn name_next(lbfs: u32, names: &mut Names) -> Result<(), AllocError>
 pub fn name_all(
     alloc: Global,
     lbfs: u32,
-    store: Store,
+    store: Upload,
     next_xid: u32,
 ) -> Result<Names, AllocError>
     requires within { IsStore store }
@@ -100,21 +100,21 @@ pub fn send_commit(
 }
 
 /// Whether all chunks of a close are stored.
-pub fn is_stored(store: &Store) -> bool
+pub fn is_stored(store: &Upload) -> bool
     ensures { result ≡ is_stored store.now }
 {
     all_came(store.under.as_slice(), store.named, store.chunks.len())
 }
 
 /// The call of a close under way with this xid.
-fn find_store(under: &[StoreCall], xid: u32) -> Option<&StoreCall>
+fn find_store(under: &[UploadCall], xid: u32) -> Option<&UploadCall>
     ensures { option_copied result ≡ store_at under.now xid }
 {
     under.iter().find(|c| c.xid == xid)
 }
 
 /// A copy of the call of a close under way with this xid.
-pub fn store_at(under: &[StoreCall], xid: u32) -> Option<StoreCall>
+pub fn store_at(under: &[UploadCall], xid: u32) -> Option<UploadCall>
     ensures { result ≡ store_at under.now xid }
 {
     match find_store(under, xid) {
@@ -124,7 +124,7 @@ pub fn store_at(under: &[StoreCall], xid: u32) -> Option<StoreCall>
 }
 
 /// The calls of a close under way with other xids. It takes no memory.
-pub fn without_store(under: Items<StoreCall>, xid: u32) -> Items<StoreCall>
+pub fn without_store(under: Items<UploadCall>, xid: u32) -> Items<UploadCall>
     ensures { result ≡ without_store under xid }
 {
     let mut left = under.into_vec();

@@ -19,7 +19,7 @@ use chunk_cut::chunk::Chunk;
 use client_state::parts;
 use client_state::state::ClientState;
 use client_state::step::{ClientStep, Outcome};
-use client_state::task::{Local, Stage, Store, StoreCall, Way};
+use client_state::task::{Local, Stage, Upload, UploadCall, Way};
 use cut_bytes::CutBytes;
 use hash_calls::message::Lb;
 use send_list::SendList;
@@ -95,7 +95,7 @@ fn wait_commit(
 
 /// All chunks are stored: COMMITTMP goes out behind what goes out already, which are so many
 /// CONDWRITEs, and what was noted of the file goes. An `Err` changes nothing.
-fn commit(
+fn ask_commit(
     alloc: Global,
     state: &mut ClientState,
     file: u64,
@@ -160,7 +160,7 @@ fn go_on(
     alloc: Global,
     state: &mut ClientState,
     file: u64,
-    store: Store,
+    store: Upload,
 ) -> Result<ClientStep, AllocError>
     requires held { IsHeld state.old }
     requires within { IsStore store }
@@ -175,7 +175,7 @@ fn go_on(
     let names = calls::name_all(alloc, state.waiting.lbfs, store, state.next_xid)?;
     let count = (names.store.named - named) as u64;
     if calls::is_stored(&names.store) {
-        commit(alloc, state, file, names, count)
+        ask_commit(alloc, state, file, names, count)
     } else {
         wait_names(alloc, state, file, names, count)
     }
@@ -187,7 +187,7 @@ fn store_local(
     opened: &BTreeMap<u64, Local>,
     file: u64,
     temp: u32,
-) -> Result<Store, AllocError>
+) -> Result<Upload, AllocError>
     requires { All IsLocalBounded (values_of opened.now.entries) }
     ensures store { IfOk result (λ st. st ≡ store_of temp (local_bytes opened.now.entries file)) }
     ensures within { IfOk result (λ st. IsStore st) }
@@ -223,8 +223,8 @@ fn send_whole(
     alloc: Global,
     state: &mut ClientState,
     file: u64,
-    store: Store,
-    call: StoreCall,
+    store: Upload,
+    call: UploadCall,
     chunk: &Chunk,
 ) -> Result<ClientStep, AllocError>
     requires held { IsHeld state.old }
@@ -252,8 +252,8 @@ fn told_named(
     alloc: Global,
     state: &mut ClientState,
     file: u64,
-    store: Store,
-    call: StoreCall,
+    store: Upload,
+    call: UploadCall,
     xid: u32,
     answer: &Answer<(), ()>,
 ) -> Result<ClientStep, AllocError>
@@ -284,8 +284,8 @@ pub fn told_chunk(
     alloc: Global,
     state: &mut ClientState,
     file: u64,
-    store: Store,
-    call: StoreCall,
+    store: Upload,
+    call: UploadCall,
     xid: u32,
     body: &Body,
 ) -> Result<ClientStep, AllocError>

@@ -12,7 +12,7 @@ ghost use Rattle.client_state.specs.declared.step.Outcome.TheVariants as outcome
 use crate::calls;
 use chunk_cut::chunk::Chunk;
 use client_state::step::{ClientStep, Outcome};
-use client_state::task::{Store, StoreCall, Way};
+use client_state::task::{Upload, UploadCall, Way};
 use client_state::{local, parts};
 use cut_bytes::CutBytes;
 use lb_base::items::Items;
@@ -49,14 +49,14 @@ pub fn bytes_count(content: &[u8], chunk: &Chunk) -> u64
 
 /// The temporary file of this number is there, and no chunk of the content in it. The content is cut where
 /// that wasn't done ahead.
-pub fn store_of(alloc: Global, temp: u32, content: &CutBytes) -> Result<Store, AllocError>
+pub fn store_of(alloc: Global, temp: u32, content: &CutBytes) -> Result<Upload, AllocError>
     requires { length content.now ≤ FILE_MOST }
     ensures store { IfOk result (λ st. st ≡ store_of temp content.now) }
     ensures within { IfOk result (λ st. IsStore st) }
 {
     chunk_cut::ends_law();
     let chunks = content.chunks(alloc)?;
-    Ok(Store {
+    Ok(Upload {
         temp,
         chunks,
         named: 0,
@@ -65,7 +65,7 @@ pub fn store_of(alloc: Global, temp: u32, content: &CutBytes) -> Result<Store, A
 }
 
 /// The call with this xid is no longer under way. It takes no memory.
-pub fn answered(mut store: Store, xid: u32) -> Store
+pub fn answered(mut store: Upload, xid: u32) -> Upload
     ensures { result ≡ answered store xid }
 {
     store.under = calls::without_store(store.under, xid);
@@ -73,12 +73,12 @@ pub fn answered(mut store: Store, xid: u32) -> Store
 }
 
 /// The bytes of the chunk go out that this CONDWRITE named.
-pub fn with_whole(mut store: Store, call: StoreCall, xid: u32) -> Result<Store, AllocError>
+pub fn with_whole(mut store: Upload, call: UploadCall, xid: u32) -> Result<Upload, AllocError>
     ensures { IfOk result (λ st. st ≡ with_whole store call xid) }
 {
     let index = call.index;
     let way = Way::Whole;
-    store.under.push(StoreCall { xid, index, way })?;
+    store.under.push(UploadCall { xid, index, way })?;
     Ok(store)
 }
 

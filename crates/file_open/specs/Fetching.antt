@@ -153,7 +153,7 @@ abbrev pub told_piece : State → (calls : List Pending) → (file xid : ℕ) �
 told_piece s calls file xid f piece None = unknown s xid
 told_piece s calls file xid f piece (Some c) = told_chunk s calls file xid f c piece (slice_get f.chunks c.index)
 
--- ---- want of memory
+-- ---- running out of memory
 
 -- an open takes memory only where it opens what is fresh, or asks for the file
 abbrev pub MayMissKept : State → (fresh : Option Content) → Type 0

@@ -90,7 +90,7 @@ fn kept_bytes<'a>(cache: &'a Cache, index: &Index, chunk: &Chunk) -> Option<&'a 
 }
 
 /// A copy of the bytes of a chunk that the index gives, where they have its digest. The one error is
-/// want of memory.
+/// running out of memory.
 pub fn from_index(
     alloc: Global,
     cache: &Cache,
@@ -115,7 +115,7 @@ pub fn find_asked(index: &mut Index, fetch: &Fetch, from: usize)
 }
 
 /// A fetch ends: its chunks were looked up from a place on, and then the places of all enter, but
-/// those for which memory is wanting; says whether it was.
+/// those for which memory runs out; says whether it was.
 pub fn enter_fetched(index: &mut Index, file: u64, fetch: &Fetch, from: usize) -> bool
     requires from { from ≤ fetch.now.asked }
     requires asked { fetch.now.asked ≤ length fetch.now.chunks }

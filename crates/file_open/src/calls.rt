@@ -100,7 +100,7 @@ fn read_next(
     take_chunk(alloc, file, reads, place, &chunk, kept)
 }
 
-/// A fetch is let go, with the READs that were sent for it.
+/// A fetch is dropped, with the READs that were sent for it.
 pub fn let_go(reads: Reads) {
     let Reads {
         fetch,

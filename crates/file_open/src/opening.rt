@@ -132,7 +132,7 @@ fn ask_file(alloc: Global, state: &mut ClientState, file: u64) -> Result<ClientS
 }
 
 /// The file is whole and open, its content is kept, and its chunks' places enter the index, but
-/// those for which memory is wanting; chunks from a place on were looked up. An `Err` changes
+/// those for which memory runs out; chunks from a place on were looked up. An `Err` changes
 /// nothing.
 fn opened_with(
     alloc: Global,

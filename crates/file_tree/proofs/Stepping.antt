@@ -5,8 +5,8 @@ use Rattle.std.proofs.lemmas.Bool.Decides.{nat_tests}
 use Rattle.xdr_codec.specs.declared.status.Status.{Status}
 use Rattle.xdr_codec.specs.declared.status.Status.TheVariants as status
 use Rattle.store.specs.Records.{applied}
-use Rattle.store.specs.declared.record.Change.{Change}
-use Rattle.store.specs.declared.record.Change.TheVariants as change
+use Rattle.store.specs.declared.record.RecordChange.{RecordChange}
+use Rattle.store.specs.declared.record.RecordChange.TheVariants as change
 use Rattle.store.specs.declared.record.Head.{Head}
 use Rattle.store.specs.declared.record.Kept.{Kept}
 use Rattle.store.specs.declared.record.NodeKind.TheVariants as node_kind
@@ -25,7 +25,7 @@ use Rattle.tree_reading.specs.Tree.{Tree, is_directory}
 use Rattle.tree_reading.specs.declared.reading.Standing.{Standing}
 use Rattle.tree_reading.specs.declared.call.Changed.{Changed}
 use Rattle.tree_reading.specs.declared.call.CreateMode.{CreateMode}
-use Rattle.tree_reading.specs.declared.call.Held.{Held}
+use Rattle.tree_reading.specs.declared.call.Reservation.{Reservation}
 use Rattle.tree_reading.specs.declared.call.Planned.{Planned}
 use Rattle.tree_reading.specs.declared.call.Planned.TheVariants.{Nothing, Free, Over}
 use Rattle.file_tree.specs.Stores.{stored, IsFault, IsStep, Keeps, kind_if, kind_found, id_found}
@@ -67,11 +67,11 @@ keeps_same (Some records) new t u e same = (
 )
 
 -- where the store was asked and failed, it is as it was
-pub keeps_failed : (old new : Option (List Kept)) (flag : Bool) (head : Head) (first : Change) (second : Option Change) (t : Tree) → flag ≡ true → new ≡ (if flag then old else option_map (λ held. applied head first second held) old) → Keeps old t new t
+pub keeps_failed : (old new : Option (List Kept)) (flag : Bool) (head : Head) (first : RecordChange) (second : Option RecordChange) (t : Tree) → flag ≡ true → new ≡ (if flag then old else option_map (λ held. applied head first second held) old) → Keeps old t new t
 keeps_failed old new flag head first second t failed e = keeps_same old new t t (e ∙ ap (λ b. if b then old else option_map (λ held. applied head first second held) old) failed) refl
 
 -- where it was asked and didn't fail, a change is counted
-keeps_applied : (old new : Option (List Kept)) (flag : Bool) (head : Head) (first : Change) (second : Option Change) (t u : Tree) → flag ≡ false → new ≡ (if flag then old else option_map (λ held. applied head first second held) old) → t.changes < u.changes → ((records : List Kept) → IsStored records t → IsStored (applied head first second records) u) → Keeps old t new u
+keeps_applied : (old new : Option (List Kept)) (flag : Bool) (head : Head) (first : RecordChange) (second : Option RecordChange) (t u : Tree) → flag ≡ false → new ≡ (if flag then old else option_map (λ held. applied head first second held) old) → t.changes < u.changes → ((records : List Kept) → IsStored records t → IsStored (applied head first second records) u) → Keeps old t new u
 keeps_applied None new flag head first second t u went e counts keeps = e ∙ ap (λ b. if b then None else option_map (λ held. applied head first second held) None) went
 keeps_applied (Some records) new flag head first second t u went e counts keeps = (
   applied head first second records,
@@ -99,7 +99,7 @@ counts_more t u p q r is comes more = subst (λ (n : ℕ). t.changes < n) (sym (
 
 -- ---- CREATE
 
-module _ (t : Tree) (held : Held) (dir : ℕ) (name : List ℕ) (m : CreateMode) where
+module _ (t : Tree) (held : Reservation) (dir : ℕ) (name : List ℕ) (m : CreateMode) where
   pub create_refused : (before after : ℕ) (s : Status) → create_plan t held dir name m ≡ Err s → IsStep before after t (create t held dir name m) (t, Err s)
   create_refused before after s e = step_done before after t t (create t held dir name m) (Err s) (ap (created t dir name) e)
 
@@ -109,7 +109,7 @@ module _ (t : Tree) (held : Held) (dir : ℕ) (name : List ℕ) (m : CreateMode)
   pub created_failed : (before after : ℕ) (flag : Bool) → flag ≡ true → IsFault flag before after → create_plan t held dir name m ≡ Ok None → IsStep before after t (create t held dir name m) (t, Err status.Io)
   created_failed before after flag failed cause plan = step_failed before after flag t (made t (new_file t dir name)) (create t held dir name m) _ failed cause (ap (created t dir name) plan) (one_more t.changes)
 
-  pub created_kept : (old new : Option (List Kept)) (flag : Bool) (head : Head) (first : Change) (second : Option Change) (u : Tree) (r : Result Changed Status) → flag ≡ false → new ≡ (if flag then old else option_map (λ held. applied head first second held) old) → create_plan t held dir name m ≡ Ok None → head ≡ record { next = t.next + 1; changes = t.changes + 1 } → first ≡ change.Node (record { id = t.next; parent = dir; kind = node_kind.File; name = name }) → second ≡ Some (change.Content (record { id = t.next; version = 1; bytes = [] })) → create t held dir name m ≡ (u, r) → Keeps old t new u
+  pub created_kept : (old new : Option (List Kept)) (flag : Bool) (head : Head) (first : RecordChange) (second : Option RecordChange) (u : Tree) (r : Result Changed Status) → flag ≡ false → new ≡ (if flag then old else option_map (λ held. applied head first second held) old) → create_plan t held dir name m ≡ Ok None → head ≡ record { next = t.next + 1; changes = t.changes + 1 } → first ≡ change.Node (record { id = t.next; parent = dir; kind = node_kind.File; name = name }) → second ≡ Some (change.Content (record { id = t.next; version = 1; bytes = [] })) → create t held dir name m ≡ (u, r) → Keeps old t new u
   created_kept old new flag head first second u r went e plan head_is first_is second_is done =
       keeps_applied old new flag head first second t u went e (counts_more t u (create t held dir name m) (created t dir name (Ok None)) r done (ap (created t dir name) plan) (less_one t.changes)) (λ records stored.
       let is : IsStored (with_given (create_gives t dir name (Ok None)) records) (create t held dir name m).0 = subst (λ (z : Result (Option Changed) Status). IsStored (with_given (create_gives t dir name z) records) (create t held dir name m).0) plan (create_stored t held dir name m records stored) in
@@ -120,14 +120,14 @@ module _ (t : Tree) (held : Held) (dir : ℕ) (name : List ℕ) (m : CreateMode)
 
 -- ---- MKDIR
 
-module _ (t : Tree) (held : Held) (dir : ℕ) (name : List ℕ) where
+module _ (t : Tree) (held : Reservation) (dir : ℕ) (name : List ℕ) where
   pub mkdir_refused : (before after : ℕ) (s : Status) → may_mkdir t held dir name ≡ Err s → IsStep before after t (mkdir t held dir name) (t, Err s)
   mkdir_refused before after s e = step_done before after t t (mkdir t held dir name) (Err s) (ap (mkdir_if t dir name) e)
 
   pub mkdir_failed : (before after : ℕ) (flag : Bool) (z : Unit) → flag ≡ true → IsFault flag before after → may_mkdir t held dir name ≡ Ok z → IsStep before after t (mkdir t held dir name) (t, Err status.Io)
   mkdir_failed before after flag z failed cause plan = step_failed before after flag t (made t (new_directory t dir name)) (mkdir t held dir name) _ failed cause (ap (mkdir_if t dir name) plan) (one_more t.changes)
 
-  pub mkdir_kept : (old new : Option (List Kept)) (flag : Bool) (z : Unit) (head : Head) (first : Change) (u : Tree) (r : Result Changed Status) → flag ≡ false → new ≡ (if flag then old else option_map (λ held. applied head first None held) old) → may_mkdir t held dir name ≡ Ok z → head ≡ record { next = t.next + 1; changes = t.changes + 1 } → first ≡ change.Node (record { id = t.next; parent = dir; kind = node_kind.Directory; name = name }) → mkdir t held dir name ≡ (u, r) → Keeps old t new u
+  pub mkdir_kept : (old new : Option (List Kept)) (flag : Bool) (z : Unit) (head : Head) (first : RecordChange) (u : Tree) (r : Result Changed Status) → flag ≡ false → new ≡ (if flag then old else option_map (λ held. applied head first None held) old) → may_mkdir t held dir name ≡ Ok z → head ≡ record { next = t.next + 1; changes = t.changes + 1 } → first ≡ change.Node (record { id = t.next; parent = dir; kind = node_kind.Directory; name = name }) → mkdir t held dir name ≡ (u, r) → Keeps old t new u
   mkdir_kept old new flag z head first u r went e plan head_is first_is done =
       keeps_applied old new flag head first None t u went e (counts_more t u (mkdir t held dir name) (mkdir_if t dir name (Ok z)) r done (ap (mkdir_if t dir name) plan) (less_one t.changes)) (λ records stored.
       let is : IsStored (with_given (mkdir_gives t dir name (Ok z)) records) (mkdir t held dir name).0 = subst (λ (y : Result Unit Status). IsStored (with_given (mkdir_gives t dir name y) records) (mkdir t held dir name).0) plan (mkdir_stored t held dir name records stored) in
@@ -198,7 +198,7 @@ kind_nothing nodes dir name e = (none_by (named nodes dir name) e).1
 
 -- ---- RENAME
 
-module _ (t : Tree) (held : Held) (dir : ℕ) (name : List ℕ) (to : ℕ) (to_name : List ℕ) where
+module _ (t : Tree) (held : Reservation) (dir : ℕ) (name : List ℕ) (to : ℕ) (to_name : List ℕ) where
   pub rename_refused : (before after : ℕ) (s : Status) → rename_plan t held dir name to to_name ≡ Err s → IsStep before after t (rename t held dir name to to_name) (t, Err s)
   rename_refused before after s e = step_done before after t t (rename t held dir name to to_name) (Err s) (ap (rename_if t dir name to to_name) e)
 
@@ -226,7 +226,7 @@ module _ (t : Tree) (held : Held) (dir : ℕ) (name : List ℕ) (to : ℕ) (to_n
       let n = over_of done plan in
       step_failed before after flag t (moved t dir n.0 (Some n.1) to to_name) (rename t held dir name to to_name) done failed cause (ap (rename_if t dir name to to_name) plan ∙ (λ i. (shifted t dir (n.2 i) (n.3 i) to to_name, Ok done))) (two_more t.changes)
 
-  pub free_kept : (old new : Option (List Kept)) (flag : Bool) (done : Changed) (head : Head) (first : Change) (u : Tree) (r : Result Changed Status) → flag ≡ false → new ≡ (if flag then old else option_map (λ held. applied head first None held) old) → rename_plan t held dir name to to_name ≡ Ok (Free done) → head ≡ record { next = t.next; changes = t.changes + 1 } → first ≡ change.Node (record { id = id_found (named t.nodes dir name); parent = to; kind = kind_found (named t.nodes dir name); name = to_name }) → rename t held dir name to to_name ≡ (u, r) → Keeps old t new u
+  pub free_kept : (old new : Option (List Kept)) (flag : Bool) (done : Changed) (head : Head) (first : RecordChange) (u : Tree) (r : Result Changed Status) → flag ≡ false → new ≡ (if flag then old else option_map (λ held. applied head first None held) old) → rename_plan t held dir name to to_name ≡ Ok (Free done) → head ≡ record { next = t.next; changes = t.changes + 1 } → first ≡ change.Node (record { id = id_found (named t.nodes dir name); parent = to; kind = kind_found (named t.nodes dir name); name = to_name }) → rename t held dir name to to_name ≡ (u, r) → Keeps old t new u
   free_kept old new flag done head first u r went e plan head_is first_is stepped =
       let n = free_of done plan in
       keeps_applied old new flag head first None t u went e (counts_more t u (rename t held dir name to to_name) (moved t dir n.0 None to to_name, Ok done) r stepped (ap (rename_if t dir name to to_name) plan ∙ ap (λ (o : Option Node). (shifted t dir o None to to_name, Ok done)) n.1) (less_one t.changes)) (λ records stored.
@@ -237,7 +237,7 @@ module _ (t : Tree) (held : Held) (dir : ℕ) (name : List ℕ) (to : ℕ) (to_n
       (subst (λ y. IsStored (applied head y None records) (rename t held dir name to to_name).0) (sym first_as)
       (subst (λ y. IsStored (applied y (node_change (record n.0 { parent = to; name = to_name })) None records) (rename t held dir name to to_name).0) (sym head_is) is)))
 
-  pub over_kept : (old new : Option (List Kept)) (flag : Bool) (done : Changed) (head : Head) (gone : ℕ) (second : Change) (u : Tree) (r : Result Changed Status) → flag ≡ false → new ≡ (if flag then old else option_map (λ held. applied head (change.Drop gone) (Some second) held) old) → rename_plan t held dir name to to_name ≡ Ok (Over done) → head ≡ record { next = t.next; changes = t.changes + 2 } → gone ≡ id_found (named t.nodes to to_name) → second ≡ change.Node (record { id = id_found (named t.nodes dir name); parent = to; kind = kind_found (named t.nodes dir name); name = to_name }) → rename t held dir name to to_name ≡ (u, r) → Keeps old t new u
+  pub over_kept : (old new : Option (List Kept)) (flag : Bool) (done : Changed) (head : Head) (gone : ℕ) (second : RecordChange) (u : Tree) (r : Result Changed Status) → flag ≡ false → new ≡ (if flag then old else option_map (λ held. applied head (change.Drop gone) (Some second) held) old) → rename_plan t held dir name to to_name ≡ Ok (Over done) → head ≡ record { next = t.next; changes = t.changes + 2 } → gone ≡ id_found (named t.nodes to to_name) → second ≡ change.Node (record { id = id_found (named t.nodes dir name); parent = to; kind = kind_found (named t.nodes dir name); name = to_name }) → rename t held dir name to to_name ≡ (u, r) → Keeps old t new u
   over_kept old new flag done head gone second u r went e plan head_is gone_is second_is stepped =
       let n = over_of done plan in
       keeps_applied old new flag head (change.Drop gone) (Some second) t u went e (counts_more t u (rename t held dir name to to_name) (moved t dir n.0 (Some n.1) to to_name, Ok done) r stepped (ap (rename_if t dir name to to_name) plan ∙ (λ i. (shifted t dir (n.2 i) (n.3 i) to to_name, Ok done))) (less_two t.changes)) (λ records stored.
@@ -252,14 +252,14 @@ module _ (t : Tree) (held : Held) (dir : ℕ) (name : List ℕ) (to : ℕ) (to_n
 
 -- ---- a content replaced
 
-module _ (t : Tree) (held : Held) (id : ℕ) (content : List ℕ) where
+module _ (t : Tree) (held : Reservation) (id : ℕ) (content : List ℕ) where
   pub replace_refused : (before after : ℕ) (len : ℕ) (s : Status) → len ≡ length content → replace_plan t held id len ≡ Err s → IsStep before after t (replace t held id content) (t, Err s)
   replace_refused before after len s is e = step_done before after t t (replace t held id content) (Err s) (ap (replace_if t id content) (ap (replace_plan t held id) (sym is) ∙ e))
 
   pub replace_failed : (before after : ℕ) (flag : Bool) (len version : ℕ) → flag ≡ true → IsFault flag before after → len ≡ length content → replace_plan t held id len ≡ Ok version → IsStep before after t (replace t held id content) (t, Err status.Io)
   replace_failed before after flag len version failed cause is plan = step_failed before after flag t (replaced t id version content) (replace t held id content) _ failed cause (ap (replace_if t id content) (ap (replace_plan t held id) (sym is) ∙ plan)) (one_more t.changes)
 
-  pub replace_kept : (old new : Option (List Kept)) (flag : Bool) (len version : ℕ) (head : Head) (first : Change) (u : Tree) (r : Result Changed Status) → flag ≡ false → new ≡ (if flag then old else option_map (λ held. applied head first None held) old) → len ≡ length content → replace_plan t held id len ≡ Ok version → head ≡ record { next = t.next; changes = t.changes + 1 } → first ≡ change.Content (record { id = id; version = version; bytes = content }) → replace t held id content ≡ (u, r) → Keeps old t new u
+  pub replace_kept : (old new : Option (List Kept)) (flag : Bool) (len version : ℕ) (head : Head) (first : RecordChange) (u : Tree) (r : Result Changed Status) → flag ≡ false → new ≡ (if flag then old else option_map (λ held. applied head first None held) old) → len ≡ length content → replace_plan t held id len ≡ Ok version → head ≡ record { next = t.next; changes = t.changes + 1 } → first ≡ change.Content (record { id = id; version = version; bytes = content }) → replace t held id content ≡ (u, r) → Keeps old t new u
   replace_kept old new flag len version head first u r went e is_len plan head_is first_is stepped =
       let planned : replace_plan t held id (length content) ≡ Ok version = ap (replace_plan t held id) (sym is_len) ∙ plan in
       keeps_applied old new flag head first None t u went e (counts_more t u (replace t held id content) (replace_if t id content (Ok version)) r stepped (ap (replace_if t id content) planned) (less_one t.changes)) (λ records stored.

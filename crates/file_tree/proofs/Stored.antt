@@ -26,7 +26,7 @@ use Rattle.file_tree.specs.Storing.{with_given, gives_made, create_gives, mkdir_
 use Rattle.tree_reading.specs.Tree.{Tree, root, empty, is_directory, contents_size, node_of, directory_or, file_or, directory_of, or_no_entry, or_taken}
 use Rattle.tree_reading.specs.declared.call.Changed.{Changed}
 use Rattle.tree_reading.specs.declared.call.CreateMode.{CreateMode}
-use Rattle.tree_reading.specs.declared.call.Held.{Held}
+use Rattle.tree_reading.specs.declared.call.Reservation.{Reservation}
 use Rattle.tree_reading.specs.declared.call.Planned.{Planned}
 use Rattle.tree_reading.specs.declared.call.Planned.TheVariants.{Nothing, Free, Over}
 
@@ -155,13 +155,13 @@ made_stored t n records stored is d = (
   kept_made t n d.0 records stored.1 (subst (λ i. with_id t.nodes i ≡ None) (sym is) (fresh_next t.nodes t.next stored.0)) (ap (λ i. i == 1) is ∙ next_other t.nodes t.next stored.0) d.1.0 d.1.1,
 )
 
-create_in : (t : Tree) (held : Held) (dir : ℕ) (name : List ℕ) (m : CreateMode) → create_plan t held dir name m ≡ Ok None → (d : Node) × IsDirectoryAt t.nodes dir d
+create_in : (t : Tree) (held : Reservation) (dir : ℕ) (name : List ℕ) (m : CreateMode) → create_plan t held dir name m ≡ Ok None → (d : Node) × IsDirectoryAt t.nodes dir d
 create_in t held dir name m e =
     let p = bind_ok (may_create t held dir name m) (λ found. Ok (option_map nothing found)) None e in
     let a = bind_ok (directory_of t.nodes dir) (λ _. spelt name >>= λ _. undotted status.Inval status.Inval name >>= λ _. create_mode t held dir name m) p.0 p.1 in
     directory_at t.nodes dir a.0 a.1
 
-pub create_stored : (t : Tree) (held : Held) (dir : ℕ) (name : List ℕ) (m : CreateMode) (records : List Kept) → IsStored records t → IsStored (with_given (create_gives t dir name (create_plan t held dir name m)) records) (create t held dir name m).0
+pub create_stored : (t : Tree) (held : Reservation) (dir : ℕ) (name : List ℕ) (m : CreateMode) (records : List Kept) → IsStored records t → IsStored (with_given (create_gives t dir name (create_plan t held dir name m)) records) (create t held dir name m).0
 create_stored t held dir name m records stored = by_plan (create_plan t held dir name m) refl
   where
     by_plan : (r : Result (Option Changed) Status) → create_plan t held dir name m ≡ r → IsStored (with_given (create_gives t dir name r) records) (created t dir name r).0
@@ -169,12 +169,12 @@ create_stored t held dir name m records stored = by_plan (create_plan t held dir
     by_plan (Ok (Some done)) e = stored
     by_plan (Ok None) e = made_stored t (new_file t dir name) records stored refl (create_in t held dir name m e)
 
-mkdir_in : (t : Tree) (held : Held) (dir : ℕ) (name : List ℕ) (u : Unit) → may_mkdir t held dir name ≡ Ok u → (d : Node) × IsDirectoryAt t.nodes dir d
+mkdir_in : (t : Tree) (held : Reservation) (dir : ℕ) (name : List ℕ) (u : Unit) → may_mkdir t held dir name ≡ Ok u → (d : Node) × IsDirectoryAt t.nodes dir d
 mkdir_in t held dir name u e =
     let a = bind_ok (directory_of t.nodes dir) (λ _. spelt name >>= λ _. undotted status.Exist status.Exist name >>= λ _. or_taken (named t.nodes dir name) >>= λ _. spared t.changes held 1) u e in
     directory_at t.nodes dir a.0 a.1
 
-pub mkdir_stored : (t : Tree) (held : Held) (dir : ℕ) (name : List ℕ) (records : List Kept) → IsStored records t → IsStored (with_given (mkdir_gives t dir name (may_mkdir t held dir name)) records) (mkdir t held dir name).0
+pub mkdir_stored : (t : Tree) (held : Reservation) (dir : ℕ) (name : List ℕ) (records : List Kept) → IsStored records t → IsStored (with_given (mkdir_gives t dir name (may_mkdir t held dir name)) records) (mkdir t held dir name).0
 mkdir_stored t held dir name records stored = by_plan (may_mkdir t held dir name) refl
   where
     by_plan : (r : Result Unit Status) → may_mkdir t held dir name ≡ r → IsStored (with_given (mkdir_gives t dir name r) records) (mkdir_if t dir name r).0
@@ -196,28 +196,28 @@ record IsPlaced (t : Tree) (dir : ℕ) (name : List ℕ) : Type 0 where
   directory : (d : Node) × IsDirectoryAt t.nodes dir d
   some : name ≡ [] → ⊥
 
-remove_in : (t : Tree) (held : Held) (dir : ℕ) (name : List ℕ) (done : Changed) → remove_plan t held dir name ≡ Ok done → IsPlaced t dir name
+remove_in : (t : Tree) (held : Reservation) (dir : ℕ) (name : List ℕ) (done : Changed) → remove_plan t held dir name ≡ Ok done → IsPlaced t dir name
 remove_in t held dir name done e =
     let p = bind_ok (may_remove t held dir name) (λ n. Ok (remove_done n)) done e in
     let a = bind_ok (directory_of t.nodes dir) (λ _. spelt name >>= λ _. undotted status.Inval status.Inval name >>= λ _. or_no_entry (named t.nodes dir name) >>= file_or status.IsDir >>= λ n. spared t.changes held 1 >>= λ _. Ok n) p.0 p.1 in
     let b = bind_ok (spelt name) (λ _. undotted status.Inval status.Inval name >>= λ _. or_no_entry (named t.nodes dir name) >>= file_or status.IsDir >>= λ n. spared t.changes held 1 >>= λ _. Ok n) p.0 a.2 in
     record { directory = directory_at t.nodes dir a.0 a.1; some = name_some name b.0 b.1 }
 
-rmdir_in : (t : Tree) (held : Held) (dir : ℕ) (name : List ℕ) (done : Changed) → rmdir_plan t held dir name ≡ Ok done → IsPlaced t dir name
+rmdir_in : (t : Tree) (held : Reservation) (dir : ℕ) (name : List ℕ) (done : Changed) → rmdir_plan t held dir name ≡ Ok done → IsPlaced t dir name
 rmdir_in t held dir name done e =
     let p = bind_ok (may_rmdir t held dir name) (λ n. Ok (remove_done n)) done e in
     let a = bind_ok (directory_of t.nodes dir) (λ _. spelt name >>= λ _. undotted status.Inval status.Exist name >>= λ _. or_no_entry (named t.nodes dir name) >>= directory_or status.NotDir >>= λ n. or_not_empty t.nodes n >>= λ _. spared t.changes held 1 >>= λ _. Ok n) p.0 p.1 in
     let b = bind_ok (spelt name) (λ _. undotted status.Inval status.Exist name >>= λ _. or_no_entry (named t.nodes dir name) >>= directory_or status.NotDir >>= λ n. or_not_empty t.nodes n >>= λ _. spared t.changes held 1 >>= λ _. Ok n) p.0 a.2 in
     record { directory = directory_at t.nodes dir a.0 a.1; some = name_some name b.0 b.1 }
 
-pub remove_stored : (t : Tree) (held : Held) (dir : ℕ) (name : List ℕ) (records : List Kept) → IsStored records t → IsStored (with_given (remove_gives t dir (remove_plan t held dir name)) records) (remove t held dir name).0
+pub remove_stored : (t : Tree) (held : Reservation) (dir : ℕ) (name : List ℕ) (records : List Kept) → IsStored records t → IsStored (with_given (remove_gives t dir (remove_plan t held dir name)) records) (remove t held dir name).0
 remove_stored t held dir name records stored = by_plan (remove_plan t held dir name) refl
   where
     by_plan : (r : Result Changed Status) → remove_plan t held dir name ≡ r → IsStored (with_given (remove_gives t dir r) records) (remove_if t dir r).0
     by_plan (Err s) e = stored
     by_plan (Ok done) e = let at = remove_in t held dir name done e in removed_stored t dir name done records stored at.some at.directory (remove_there t held dir name done e)
 
-pub rmdir_stored : (t : Tree) (held : Held) (dir : ℕ) (name : List ℕ) (records : List Kept) → IsStored records t → IsStored (with_given (remove_gives t dir (rmdir_plan t held dir name)) records) (rmdir t held dir name).0
+pub rmdir_stored : (t : Tree) (held : Reservation) (dir : ℕ) (name : List ℕ) (records : List Kept) → IsStored records t → IsStored (with_given (remove_gives t dir (rmdir_plan t held dir name)) records) (rmdir t held dir name).0
 rmdir_stored t held dir name records stored = by_plan (rmdir_plan t held dir name) refl
   where
     by_plan : (r : Result Changed Status) → rmdir_plan t held dir name ≡ r → IsStored (with_given (remove_gives t dir r) records) (remove_if t dir r).0
@@ -232,7 +232,7 @@ record IsMoved (t : Tree) (dir : ℕ) (name : List ℕ) (to : ℕ) (to_name : Li
   some : name ≡ [] → ⊥
   to_some : to_name ≡ [] → ⊥
 
-rename_in : (t : Tree) (held : Held) (dir : ℕ) (name : List ℕ) (to : ℕ) (to_name : List ℕ) (p : Planned) → rename_plan t held dir name to to_name ≡ Ok p → IsMoved t dir name to to_name
+rename_in : (t : Tree) (held : Reservation) (dir : ℕ) (name : List ℕ) (to : ℕ) (to_name : List ℕ) (p : Planned) → rename_plan t held dir name to to_name ≡ Ok p → IsMoved t dir name to to_name
 rename_in t held dir name to to_name p e =
     let rest = λ (n : Node). planned_found t held n to (named t.nodes to to_name) in
     let a = bind_ok (node_of t.nodes dir) (λ d. node_of t.nodes to >>= λ e. directory_or status.NotDir d >>= λ _. directory_or status.NotDir e >>= λ _. spelt name >>= λ _. undotted status.Inval status.Inval name >>= λ _. spelt to_name >>= λ _. undotted status.Inval status.Inval to_name >>= λ _. or_no_entry (named t.nodes dir name) >>= rest) p e in
@@ -271,7 +271,7 @@ over_stored t dir name to to_name n m done records stored at is over apart =
     subst (λ (o : Option Node). IsStored (with_given (shift_gives t dir o (named t.nodes to to_name) to to_name) records) (shifted t dir o (named t.nodes to to_name) to to_name)) (sym is)
     (subst (λ (o : Option Node). IsStored (with_given (shift_gives t dir (Some n) o to to_name) records) (shifted t dir (Some n) o to to_name)) (sym over) (whole, kept))
 
-pub rename_stored : (t : Tree) (held : Held) (dir : ℕ) (name : List ℕ) (to : ℕ) (to_name : List ℕ) (records : List Kept) → IsStored records t → IsStored (with_given (rename_gives t dir name to to_name (rename_plan t held dir name to to_name)) records) (rename t held dir name to to_name).0
+pub rename_stored : (t : Tree) (held : Reservation) (dir : ℕ) (name : List ℕ) (to : ℕ) (to_name : List ℕ) (records : List Kept) → IsStored records t → IsStored (with_given (rename_gives t dir name to to_name (rename_plan t held dir name to to_name)) records) (rename t held dir name to to_name).0
 rename_stored t held dir name to to_name records stored = by_plan (rename_plan t held dir name to to_name) refl
   where
     turned : (a b : ℕ) → (a == b) ≡ false → (b == a) ≡ false
@@ -292,7 +292,7 @@ rename_stored t held dir name to to_name records stored = by_plan (rename_plan t
 
 -- ---- a content replaced
 
-replace_in : (t : Tree) (held : Held) (id len version : ℕ) → replace_plan t held id len ≡ Ok version → (n : Node) × (with_id t.nodes id ≡ Some n) × (is_directory n.body ≡ false)
+replace_in : (t : Tree) (held : Reservation) (id len version : ℕ) → replace_plan t held id len ≡ Ok version → (n : Node) × (with_id t.nodes id ≡ Some n) × (is_directory n.body ≡ false)
 replace_in t held id len version e =
     let p = bind_ok (may_replace_content t held id len) (λ n. Ok (n.version + 1)) version e in
     let f = bind_ok (node_of t.nodes id >>= file_or status.IsDir) (λ n. within_file len >>= λ _. spared t.changes held 1 >>= λ _. spared_bytes (contents_size t.nodes) held len >>= λ _. Ok n) p.0 p.1 in
@@ -308,7 +308,7 @@ replaced_stored t id version content records stored at =
       subst (λ i. IsKept (with_given (replace_gives t i content (Ok version)) records) (replaced t i version content)) same (kept_replaced t n version content records stored.1 there at.2),
     )
 
-pub replace_stored : (t : Tree) (held : Held) (id : ℕ) (content : List ℕ) (len : ℕ) (records : List Kept) → IsStored records t → IsStored (with_given (replace_gives t id content (replace_plan t held id len)) records) (replace_if t id content (replace_plan t held id len)).0
+pub replace_stored : (t : Tree) (held : Reservation) (id : ℕ) (content : List ℕ) (len : ℕ) (records : List Kept) → IsStored records t → IsStored (with_given (replace_gives t id content (replace_plan t held id len)) records) (replace_if t id content (replace_plan t held id len)).0
 replace_stored t held id content len records stored = by_plan (replace_plan t held id len) refl
   where
     by_plan : (r : Result ℕ Status) → replace_plan t held id len ≡ r → IsStored (with_given (replace_gives t id content r) records) (replace_if t id content r).0

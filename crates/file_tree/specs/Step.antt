@@ -5,7 +5,7 @@ use Rattle.tree_nodes.specs.declared.node.Node.{Node}
 use Rattle.tree_nodes.specs.declared.node.Body.TheVariants.{Directory, File}
 use Rattle.tree_nodes.specs.Nodes.{named, with_node, without, changed, versioned}
 use Rattle.tree_reading.specs.declared.call.CreateMode.{CreateMode}
-use Rattle.tree_reading.specs.declared.call.Held.{Held}
+use Rattle.tree_reading.specs.declared.call.Reservation.{Reservation}
 use Rattle.tree_reading.specs.declared.call.Changed.{Changed}
 use Rattle.tree_reading.specs.declared.call.Planned.{Planned}
 use Rattle.tree_reading.specs.declared.call.Planned.TheVariants.{Nothing, Free, Over}
@@ -49,24 +49,24 @@ created t dir name (Err s) = (t, Err s)
 created t dir name (Ok (Some done)) = (t, Ok done)
 created t dir name (Ok None) = (made t (new_file t dir name), Ok (one t.next 1 (made_entry t.next)))
 
-abbrev pub create : Tree → Held → ℕ → List ℕ → CreateMode → Tree × Result Changed Status
+abbrev pub create : Tree → Reservation → ℕ → List ℕ → CreateMode → Tree × Result Changed Status
 create t held dir name m = created t dir name (create_plan t held dir name m)
 
 abbrev pub mkdir_if : Tree → ℕ → List ℕ → Result Unit Status → Tree × Result Changed Status
 mkdir_if t dir name (Err s) = (t, Err s)
 mkdir_if t dir name (Ok u) = (made t (new_directory t dir name), Ok (one t.next (t.changes + 1) (name_entry t.next)))
 
-abbrev pub mkdir : Tree → Held → ℕ → List ℕ → Tree × Result Changed Status
+abbrev pub mkdir : Tree → Reservation → ℕ → List ℕ → Tree × Result Changed Status
 mkdir t held dir name = mkdir_if t dir name (may_mkdir t held dir name)
 
 abbrev pub remove_if : Tree → ℕ → Result Changed Status → Tree × Result Changed Status
 remove_if t dir (Err s) = (t, Err s)
 remove_if t dir (Ok done) = (removed t dir done.id, Ok done)
 
-abbrev pub remove : Tree → Held → ℕ → List ℕ → Tree × Result Changed Status
+abbrev pub remove : Tree → Reservation → ℕ → List ℕ → Tree × Result Changed Status
 remove t held dir name = remove_if t dir (remove_plan t held dir name)
 
-abbrev pub rmdir : Tree → Held → ℕ → List ℕ → Tree × Result Changed Status
+abbrev pub rmdir : Tree → Reservation → ℕ → List ℕ → Tree × Result Changed Status
 rmdir t held dir name = remove_if t dir (rmdir_plan t held dir name)
 
 -- the node of the one name goes under the other
@@ -80,12 +80,12 @@ rename_if t dir name to to_name (Ok (Nothing done)) = (t, Ok done)
 rename_if t dir name to to_name (Ok (Free done)) = (shifted t dir (named t.nodes dir name) None to to_name, Ok done)
 rename_if t dir name to to_name (Ok (Over done)) = (shifted t dir (named t.nodes dir name) (named t.nodes to to_name) to to_name, Ok done)
 
-abbrev pub rename : Tree → Held → ℕ → List ℕ → ℕ → List ℕ → Tree × Result Changed Status
+abbrev pub rename : Tree → Reservation → ℕ → List ℕ → ℕ → List ℕ → Tree × Result Changed Status
 rename t held dir name to to_name = rename_if t dir name to to_name (rename_plan t held dir name to to_name)
 
 abbrev pub replace_if : Tree → ℕ → List ℕ → Result ℕ Status → Tree × Result Changed Status
 replace_if t id content (Err s) = (t, Err s)
 replace_if t id content (Ok version) = (replaced t id version content, Ok (one id version (commit_entry id version content)))
 
-abbrev pub replace : Tree → Held → ℕ → List ℕ → Tree × Result Changed Status
+abbrev pub replace : Tree → Reservation → ℕ → List ℕ → Tree × Result Changed Status
 replace t held id content = replace_if t id content (replace_plan t held id (length content))

@@ -5,7 +5,7 @@ use Rattle.tree_nodes.specs.declared.node.Body.TheVariants.{Directory, File}
 use Rattle.file_tree.specs.Step.{create, mkdir, remove, rename, replace}
 use Rattle.tree_reading.specs.Tree.{Tree, root}
 use Rattle.tree_reading.specs.declared.call.CreateMode.TheVariants.{Unchecked, Guarded}
-use Rattle.tree_reading.specs.declared.call.Held.{Held}
+use Rattle.tree_reading.specs.declared.call.Reservation.{Reservation}
 use Rattle.file_tree.specs.Stores.{stored}
 
 -- a file "a" and an empty directory "d"
@@ -16,7 +16,7 @@ tree = record {
   changes = 2;
 }
 
-abbrev none : Held
+abbrev none : Reservation
 none = record { entries = 0; bytes = 0 }
 
 row_done : stored false tree (mkdir tree none 1 (codes "n")) ≡ mkdir tree none 1 (codes "n")

@@ -3,8 +3,8 @@ use Rattle.std.specs.Prelude.{◌≡◌, ◌<◌, ℕ, List, [], Option, Some, N
 use Rattle.std.specs.List.{AllByRecursion}
 use Rattle.xdr_codec.specs.declared.status.Status.{Status}
 use Rattle.store.specs.Records.{applied}
-use Rattle.store.specs.declared.record.Change.{Change}
-use Rattle.store.specs.declared.record.Change.TheVariants as change
+use Rattle.store.specs.declared.record.RecordChange.{RecordChange}
+use Rattle.store.specs.declared.record.RecordChange.TheVariants as change
 use Rattle.store.specs.declared.record.Head.{Head}
 use Rattle.store.specs.declared.record.Kept.{Kept}
 use Rattle.store.specs.declared.record.NodeKind.{NodeKind}
@@ -28,10 +28,10 @@ kind_of (File c) = node_kind.File
 abbrev pub head_of : Tree → Head
 head_of t = record { next = t.next; changes = t.changes }
 
-abbrev pub node_change : Node → Change
+abbrev pub node_change : Node → RecordChange
 node_change n = change.Node (record { id = n.id; parent = n.parent; kind = kind_of n.body; name = n.name })
 
-abbrev pub content_change : Node → Body → Option Change
+abbrev pub content_change : Node → Body → Option RecordChange
 content_change n Directory = None
 content_change n (File c) = Some (change.Content (record { id = n.id; version = n.version; bytes = c }))
 
@@ -40,8 +40,8 @@ content_change n (File c) = Some (change.Content (record { id = n.id; version = 
 -- the head, and one change or two
 pub record Given : Type 0 where
   pub head : Head
-  pub first : Change
-  pub second : Option Change
+  pub first : RecordChange
+  pub second : Option RecordChange
 
 -- nothing is given where the tree stays
 abbrev pub with_given : Option Given → List Kept → List Kept

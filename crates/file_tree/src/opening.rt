@@ -43,8 +43,8 @@ fn is_directory_at(nodes: &Nodes, id: u64) -> bool
 }
 
 impl TreeState {
-    /// Adds a node that the tree opens with, if it may have it. The one error is want of memory, as
-    /// which a content past the limits counts too, and an id of 2^63 or more.
+    /// Adds a node that the tree opens with, if it may have it. The one error is running out of
+    /// memory, as which a content past the limits counts too, and an id of 2^63 or more.
     pub fn open(&mut self, dir: u64, name: Name, body: Body) -> Result<(), AllocError>
         requires { IsState self.old }
         ensures ok { OnOk result (state_of self.new ≡ opens (state_of self.old) dir name body) }
@@ -115,7 +115,7 @@ impl TreeState {
         len <= FILE_MOST && self.bytes as u128 + len as u128 <= TREE_MOST as u128
     }
 
-    /// The next id, with a place for its node. The one error is want of memory.
+    /// The next id, with a place for its node. The one error is running out of memory.
     fn place(&mut self) -> Result<u64, AllocError>
         requires { IsState self.old }
         ensures tree { state_of self.new ≡ state_of self.old }

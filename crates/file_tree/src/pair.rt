@@ -31,7 +31,7 @@ impl Model for NamePair {
 }
 
 impl NamePair {
-    /// Two copies of a name. The one error is want of memory.
+    /// Two copies of a name. The one error is running out of memory.
     pub fn copy_of(alloc: Global, name: &Name) -> Result<NamePair, AllocError>
         ensures { IfOk result (λ p. p ≡ name.now) }
     {

@@ -3,11 +3,11 @@
 ghost use Rattle.std.specs.Prelude.{◌≡◌, ◌+◌, IfOk};
 
 use std::alloc::AllocError;
-use tree_reading::call::Held;
+use tree_reading::call::Reservation;
 
-/// How many places a store needs for all changes that wait, one an entry, and for so many more. The
-/// one error is want of memory, as which 2^32 - 255 entries or more count too.
-pub fn places(held: Held, more: u8) -> Result<u32, AllocError>
+/// How many places a store needs for all pending changes, one an entry, and for so many more. The
+/// one error is running out of memory, as which 2^32 - 255 entries or more count too.
+pub fn places(held: Reservation, more: u8) -> Result<u32, AllocError>
     ensures { IfOk result (λ n. n ≡ held.entries + more) }
 {
     if held.entries > u64::from(u32::MAX - 255) {

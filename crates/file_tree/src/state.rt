@@ -212,7 +212,7 @@ pub fn of_nodes(alloc: Global, nodes: Nodes, changes: u64) -> TreeState
     }
 }
 
-/// The root alone. The one error is want of memory.
+/// The root alone. The one error is running out of memory.
 pub fn root_alone(alloc: Global) -> Result<TreeState, AllocError>
     ensures tree { IfOk result (λ s. state_of s ≡ empty) }
     ensures state { IfOk result IsState }

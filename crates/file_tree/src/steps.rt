@@ -12,7 +12,7 @@ use crate::state::TreeState;
 use lb_base::items::Name;
 use tree_nodes::content::Content;
 use tree_nodes::node::{Body, Node};
-use tree_reading::call::{Call, Changed, Held, Planned, Spot};
+use tree_reading::call::{Call, Changed, Reservation, Planned, Spot};
 use tree_reading::plans;
 use xdr_codec::status::Status;
 
@@ -45,7 +45,7 @@ pub fn new_directory(id: u64, dir: u64, name: Name, version: u64) -> Node
 /// RENAME, once nothing blocks it. It takes no memory.
 pub fn rename(
     tree: &mut TreeState,
-    held: Held,
+    held: Reservation,
     dir: u64,
     name: &[u8],
     to: u64,
@@ -73,7 +73,7 @@ pub fn rename(
 /// What RENAME comes to in a tree.
 pub fn plan_rename(
     tree: &TreeState,
-    held: Held,
+    held: Reservation,
     dir: u64,
     name: &[u8],
     to: u64,
@@ -88,7 +88,7 @@ pub fn plan_rename(
 
 /// Why such a call would be refused, up to want of space.
 #[tactic(auto, using(crate::proofs::Limits::bounds))]
-pub fn may(tree: &TreeState, call: &Call, held: Held) -> Result<(), Status>
+pub fn may(tree: &TreeState, call: &Call, held: Reservation) -> Result<(), Status>
     requires { IsState tree.now }
     ensures { result ≡ may (state_of tree.now) held call.now }
 {
@@ -126,7 +126,7 @@ pub fn may(tree: &TreeState, call: &Call, held: Held) -> Result<(), Status>
     }
 }
 
-fn may_rename(tree: &TreeState, spot: &Spot, to: &Spot, held: Held) -> Result<(), Status>
+fn may_rename(tree: &TreeState, spot: &Spot, to: &Spot, held: Reservation) -> Result<(), Status>
     requires { IsState tree.now }
     ensures { result ≡ refused (rename_plan (state_of tree.now) held spot.now.dir spot.now.name to.now.dir to.now.name) }
 {

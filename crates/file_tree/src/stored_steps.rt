@@ -14,10 +14,10 @@ use crate::tree::Tree;
 use lb_base::items::Name;
 use server_rules::asking::ask;
 use shared_bytes::SharedBytes;
-use store::record::{Change, ContentRecord, NodeKind, NodeRecord};
+use store::record::{RecordChange, ContentRecord, NodeKind, NodeRecord};
 use store::store::Store;
 use tree_nodes::content::Content;
-use tree_reading::call::{Changed, CreateMode, Held, Planned};
+use tree_reading::call::{Changed, CreateMode, Reservation, Planned};
 use xdr_codec::status::Status;
 
 /// CREATE of a file that is to be made.
@@ -28,7 +28,7 @@ fn make_file<S: Store>(
     dir: u64,
     name: NamePair,
     mode: CreateMode,
-    held: Held,
+    held: Reservation,
 ) -> Result<Changed, Status>
     requires plan { create_plan tree.old.tree held dir name mode ≡ Ok None }
     requires room { 0 < tree.old.room }
@@ -56,8 +56,8 @@ fn make_file<S: Store>(
     if ask(
         store,
         head,
-        Change::Node(node),
-        Some(Change::Content(content)),
+        RecordChange::Node(node),
+        Some(RecordChange::Content(content)),
     ) {
         return Err(Status::Io);
     }
@@ -72,7 +72,7 @@ pub fn create<S: Store>(
     dir: u64,
     name: NamePair,
     mode: CreateMode,
-    held: Held,
+    held: Reservation,
 ) -> Result<Changed, Status>
     requires room { 0 < tree.old.room }
     requires spare { 2 ≤ S.spare store.old }
@@ -96,7 +96,7 @@ fn make_directory<S: Store>(
     store: &mut S,
     dir: u64,
     name: NamePair,
-    held: Held,
+    held: Reservation,
 ) -> Result<Changed, Status>
     requires plan { may_mkdir tree.old.tree held dir name ≡ Ok tt }
     requires room { 0 < tree.old.room }
@@ -115,7 +115,7 @@ fn make_directory<S: Store>(
         name: copy,
     };
     let head = tree.head_made();
-    if ask(store, head, Change::Node(node), None) {
+    if ask(store, head, RecordChange::Node(node), None) {
         return Err(Status::Io);
     }
     tree.mkdir(dir, name, held)
@@ -128,7 +128,7 @@ pub fn mkdir<S: Store>(
     store: &mut S,
     dir: u64,
     name: NamePair,
-    held: Held,
+    held: Reservation,
 ) -> Result<Changed, Status>
     requires room { 0 < tree.old.room }
     requires spare { 1 ≤ S.spare store.old }
@@ -151,7 +151,7 @@ pub fn remove<S: Store>(
     store: &mut S,
     dir: u64,
     name: &[u8],
-    held: Held,
+    held: Reservation,
 ) -> Result<Changed, Status>
     requires spare { 1 ≤ S.spare store.old }
     ensures done { IsStep (S.faults store.old) (S.faults store.new) tree.old.tree (remove tree.old.tree held dir name.now) (tree.new.tree, result) }
@@ -163,7 +163,7 @@ pub fn remove<S: Store>(
     match tree.plan_remove(dir, name, held) {
         Ok(gone) => {
             let head = tree.head_changed(1);
-            if ask(store, head, Change::Drop(gone.id), None) {
+            if ask(store, head, RecordChange::Drop(gone.id), None) {
                 return Err(Status::Io);
             }
             tree.remove(dir, name, held)
@@ -179,7 +179,7 @@ pub fn rmdir<S: Store>(
     store: &mut S,
     dir: u64,
     name: &[u8],
-    held: Held,
+    held: Reservation,
 ) -> Result<Changed, Status>
     requires spare { 1 ≤ S.spare store.old }
     ensures done { IsStep (S.faults store.old) (S.faults store.new) tree.old.tree (rmdir tree.old.tree held dir name.now) (tree.new.tree, result) }
@@ -191,7 +191,7 @@ pub fn rmdir<S: Store>(
     match tree.plan_rmdir(dir, name, held) {
         Ok(gone) => {
             let head = tree.head_changed(1);
-            if ask(store, head, Change::Drop(gone.id), None) {
+            if ask(store, head, RecordChange::Drop(gone.id), None) {
                 return Err(Status::Io);
             }
             tree.rmdir(dir, name, held)
@@ -253,7 +253,7 @@ fn move_free<S: Store>(
     name: &[u8],
     to: u64,
     to_name: NamePair,
-    held: Held,
+    held: Reservation,
     moved: Changed,
 ) -> Result<Changed, Status>
     requires plan { rename_plan tree.old.tree held dir name.now to to_name ≡ Ok (Free moved) }
@@ -269,7 +269,7 @@ fn move_free<S: Store>(
     let (to_name, copy) = to_name.split();
     let node = moved_record(tree, dir, name, to, copy);
     let head = tree.head_changed(1);
-    if ask(store, head, Change::Node(node), None) {
+    if ask(store, head, RecordChange::Node(node), None) {
         return Err(Status::Io);
     }
     tree.rename(dir, name, to, to_name, held)
@@ -284,7 +284,7 @@ fn move_over<S: Store>(
     name: &[u8],
     to: u64,
     to_name: NamePair,
-    held: Held,
+    held: Reservation,
     moved: Changed,
 ) -> Result<Changed, Status>
     requires plan { rename_plan tree.old.tree held dir name.now to to_name ≡ Ok (Over moved) }
@@ -301,7 +301,7 @@ fn move_over<S: Store>(
     let node = moved_record(tree, dir, name, to, copy);
     let gone = id_at(tree, to, to_name.as_slice());
     let head = tree.head_changed(2);
-    if ask(store, head, Change::Drop(gone), Some(Change::Node(node))) {
+    if ask(store, head, RecordChange::Drop(gone), Some(RecordChange::Node(node))) {
         return Err(Status::Io);
     }
     tree.rename(dir, name, to, to_name, held)
@@ -316,7 +316,7 @@ pub fn rename<S: Store>(
     name: &[u8],
     to: u64,
     to_name: NamePair,
-    held: Held,
+    held: Reservation,
 ) -> Result<Changed, Status>
     requires spare { 2 ≤ S.spare store.old }
     ensures done { IsStep (S.faults store.old) (S.faults store.new) tree.old.tree (rename tree.old.tree held dir name.now to to_name) (tree.new.tree, result) }
@@ -342,7 +342,7 @@ pub fn replace<S: Store>(
     id: u64,
     content: Content,
     copy: SharedBytes,
-    held: Held,
+    held: Reservation,
 ) -> Result<Changed, Status>
     requires copy { copy ≡ content }
     requires spare { 1 ≤ S.spare store.old }
@@ -360,7 +360,7 @@ pub fn replace<S: Store>(
                 bytes: copy,
             };
             let head = tree.head_changed(1);
-            if ask(store, head, Change::Content(new), None) {
+            if ask(store, head, RecordChange::Content(new), None) {
                 return Err(Status::Io);
             }
             tree.replace(id, content, held)

@@ -24,7 +24,7 @@ use store::record::Head;
 use tree_nodes::content::Content;
 use tree_nodes::node::{Body, Node};
 use tree_nodes::nodes::Nodes;
-use tree_reading::call::{Call, Changed, CreateMode, Held, Planned};
+use tree_reading::call::{Call, Changed, CreateMode, Reservation, Planned};
 use tree_reading::error::TreeError;
 use tree_reading::reading::{self, Looked, Standing};
 use tree_reading::{answers, listing, plans};
@@ -54,7 +54,7 @@ impl Model for Tree {
 }
 
 impl Tree {
-    /// The root alone, whose id is 1. The one error is want of memory.
+    /// The root alone, whose id is 1. The one error is running out of memory.
     pub fn new(alloc: Global) -> Result<Tree, AllocError>
         ensures { IfOk result (λ t. t.tree ≡ empty) }
     {
@@ -72,7 +72,7 @@ impl Tree {
         }
     }
 
-    /// Makes room for so many nodes more. The one error is want of memory; the tree stays as it was.
+    /// Makes room for so many nodes more. The one error is running out of memory; the tree stays as it was.
     pub fn reserve(&mut self, count: u32) -> Result<(), AllocError>
         ensures room { OnOk result (count ≤ self.new.room) }
         ensures more { self.old.room ≤ self.new.room }
@@ -89,9 +89,9 @@ impl Tree {
         opening::may_open(&self.state.nodes, dir, name).is_ok()
     }
 
-    /// Adds a node that the tree opens with, if it may have it. The one error is want of memory, as
-    /// which a content past the limits counts too, and an id of 2^63 or more; the tree stays as it
-    /// was.
+    /// Adds a node that the tree opens with, if it may have it. The one error is running out of
+    /// memory, as which a content past the limits counts too, and an id of 2^63 or more; the tree
+    /// stays as it was.
     pub fn open(&mut self, dir: u64, name: Name, body: Body) -> Result<(), AllocError>
         ensures ok { OnOk result (self.new.tree ≡ opens self.old.tree dir name body) }
         ensures err { OnErr result (self.new.tree ≡ self.old.tree) }
@@ -145,7 +145,7 @@ impl Tree {
         dir: u64,
         name: Name,
         mode: CreateMode,
-        held: Held,
+        held: Reservation,
     ) -> Result<Changed, Status>
         requires { 0 < self.old.room }
         ensures done { create self.old.tree held dir name mode ≡ (self.new.tree, result) }
@@ -171,7 +171,7 @@ impl Tree {
 
     /// MKDIR. It needs the place of one node, and takes no memory.
     #[tactic(auto, using(tree_reading::proofs::Admitted::mkdir_free))]
-    pub fn mkdir(&mut self, dir: u64, name: Name, held: Held) -> Result<Changed, Status>
+    pub fn mkdir(&mut self, dir: u64, name: Name, held: Reservation) -> Result<Changed, Status>
         requires { 0 < self.old.room }
         ensures done { mkdir self.old.tree held dir name ≡ (self.new.tree, result) }
         ensures room { self.old.room ≤ self.new.room + 1 }
@@ -187,7 +187,7 @@ impl Tree {
 
     /// REMOVE, once nothing blocks it. It takes no memory.
     #[tactic(auto, using(crate::proofs::Limits::bounds, tree_reading::proofs::Admitted::remove_there))]
-    pub fn remove(&mut self, dir: u64, name: &[u8], held: Held) -> Result<Changed, Status>
+    pub fn remove(&mut self, dir: u64, name: &[u8], held: Reservation) -> Result<Changed, Status>
         ensures done { remove self.old.tree held dir name.now ≡ (self.new.tree, result) }
         ensures room { self.old.room ≤ self.new.room }
     {
@@ -199,7 +199,7 @@ impl Tree {
 
     /// RMDIR. It takes no memory.
     #[tactic(auto, using(crate::proofs::Limits::bounds, tree_reading::proofs::Admitted::rmdir_there))]
-    pub fn rmdir(&mut self, dir: u64, name: &[u8], held: Held) -> Result<Changed, Status>
+    pub fn rmdir(&mut self, dir: u64, name: &[u8], held: Reservation) -> Result<Changed, Status>
         ensures done { rmdir self.old.tree held dir name.now ≡ (self.new.tree, result) }
         ensures room { self.old.room ≤ self.new.room }
     {
@@ -216,7 +216,7 @@ impl Tree {
         name: &[u8],
         to: u64,
         to_name: Name,
-        held: Held,
+        held: Reservation,
     ) -> Result<Changed, Status>
         ensures done { rename self.old.tree held dir name.now to to_name ≡ (self.new.tree, result) }
         ensures room { self.old.room ≤ self.new.room }
@@ -226,7 +226,7 @@ impl Tree {
 
     /// COMMITTMP, once its content is whole and nothing blocks it. It takes no memory.
     #[tactic(auto, using(crate::proofs::Limits::bounds, tree_reading::proofs::Admitted::replace_there))]
-    pub fn replace(&mut self, id: u64, content: Content, held: Held) -> Result<Changed, Status>
+    pub fn replace(&mut self, id: u64, content: Content, held: Reservation) -> Result<Changed, Status>
         ensures done { replace self.old.tree held id content ≡ (self.new.tree, result) }
         ensures room { self.old.room ≤ self.new.room }
     {
@@ -240,7 +240,7 @@ impl Tree {
 
     /// Why such a call would be refused, up to want of space. It changes nothing and takes no
     /// memory.
-    pub fn check(&self, call: &Call, held: Held) -> Result<(), Status>
+    pub fn check(&self, call: &Call, held: Reservation) -> Result<(), Status>
         ensures { result ≡ may self.now.tree held call.now }
     {
         steps::may(&self.state, call, held)
@@ -253,7 +253,7 @@ impl Tree {
         dir: u64,
         name: &[u8],
         mode: CreateMode,
-        held: Held,
+        held: Reservation,
     ) -> Result<Option<Changed>, Status>
         ensures { result ≡ create_plan self.now.tree held dir name.now mode }
     {
@@ -261,7 +261,7 @@ impl Tree {
     }
 
     /// Why MKDIR would be refused. It changes nothing and takes no memory.
-    pub fn plan_mkdir(&self, dir: u64, name: &[u8], held: Held) -> Result<(), Status>
+    pub fn plan_mkdir(&self, dir: u64, name: &[u8], held: Reservation) -> Result<(), Status>
         ensures { result ≡ may_mkdir self.now.tree held dir name.now }
     {
         plans::may_mkdir(&self.state.nodes, self.state.changes, held, dir, name)
@@ -269,7 +269,7 @@ impl Tree {
 
     /// What REMOVE comes to. It changes nothing and takes no memory.
     #[tactic(auto, using(crate::proofs::Limits::bounds))]
-    pub fn plan_remove(&self, dir: u64, name: &[u8], held: Held) -> Result<Changed, Status>
+    pub fn plan_remove(&self, dir: u64, name: &[u8], held: Reservation) -> Result<Changed, Status>
         ensures { result ≡ remove_plan self.now.tree held dir name.now }
     {
         plans::remove(&self.state.nodes, self.state.changes, held, dir, name)
@@ -277,7 +277,7 @@ impl Tree {
 
     /// What RMDIR comes to. It changes nothing and takes no memory.
     #[tactic(auto, using(crate::proofs::Limits::bounds))]
-    pub fn plan_rmdir(&self, dir: u64, name: &[u8], held: Held) -> Result<Changed, Status>
+    pub fn plan_rmdir(&self, dir: u64, name: &[u8], held: Reservation) -> Result<Changed, Status>
         ensures { result ≡ rmdir_plan self.now.tree held dir name.now }
     {
         plans::rmdir(&self.state.nodes, self.state.changes, held, dir, name)
@@ -286,7 +286,7 @@ impl Tree {
     /// The version that a file comes to by a content of so many bytes. It changes nothing and takes no
     /// memory.
     #[tactic(auto, using(crate::proofs::Limits::bounds))]
-    pub fn plan_replace(&self, id: u64, len: u64, held: Held) -> Result<u64, Status>
+    pub fn plan_replace(&self, id: u64, len: u64, held: Reservation) -> Result<u64, Status>
         ensures { result ≡ replace_plan self.now.tree held id len }
     {
         let state = &self.state;
@@ -300,7 +300,7 @@ impl Tree {
         name: &[u8],
         to: u64,
         to_name: &[u8],
-        held: Held,
+        held: Reservation,
     ) -> Result<Planned, Status>
         ensures { result ≡ rename_plan self.now.tree held dir name.now to to_name.now }
     {

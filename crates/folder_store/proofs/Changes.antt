@@ -5,8 +5,8 @@ use Rattle.std.specs.List.{filter}
 use Rattle.store.specs.declared.record.Head.{Head}
 use Rattle.store.specs.declared.record.Kept.{Kept}
 use Rattle.store.specs.declared.record.Kept.TheVariants as kept
-use Rattle.store.specs.declared.record.Change.{Change}
-use Rattle.store.specs.declared.record.Change.TheVariants as change
+use Rattle.store.specs.declared.record.RecordChange.{RecordChange}
+use Rattle.store.specs.declared.record.RecordChange.TheVariants as change
 use Rattle.store.specs.Records.{takes_place, with_record, is_head, is_of, headless, changed_too, applied}
 use Rattle.store.specs.Records as kept_records
 use Rattle.log_store.specs.Names.{same_which}
@@ -147,12 +147,12 @@ two_go id (which.Node m) before = refl
 two_go id (which.Content m) before = refl
 
 -- those of a change's part
-part_makes : (c : Change) (xs : List Kept) (n : Which) → made (edits_of c) (files_of xs) n ≡ files_of (kept_records.changed c xs) n
+part_makes : (c : RecordChange) (xs : List Kept) (n : Which) → made (edits_of c) (files_of xs) n ≡ files_of (kept_records.changed c xs) n
 part_makes (change.Node k) xs n = sym (put_files (kept.Node k) xs n)
 part_makes (change.Content k) xs n = sym (put_files (kept.Content k) xs n)
 part_makes (change.Drop id) xs n = two_go id n (files_of xs n) ∙ sym (drop_files (is_of id) (is_file_of id) (of_named id) xs n)
 
-part_too : (b : Option Change) (xs : List Kept) (n : Which) → made (edits_too b) (files_of xs) n ≡ files_of (changed_too b xs) n
+part_too : (b : Option RecordChange) (xs : List Kept) (n : Which) → made (edits_too b) (files_of xs) n ≡ files_of (changed_too b xs) n
 part_too None xs n = refl
 part_too (Some c) xs n = part_makes c xs n
 
@@ -164,7 +164,7 @@ head_makes head xs n = by (same_which n which.Head) (files_of xs n) (files_of (h
     by false before after is = sym is
 
 -- all of a change
-pub change_makes : (head : Head) (a : Change) (b : Option Change) (xs : List Kept) (n : Which) → made (edits_in head a b) (files_of xs) n ≡ files_of (applied head a b xs) n
+pub change_makes : (head : Head) (a : RecordChange) (b : Option RecordChange) (xs : List Kept) (n : Which) → made (edits_in head a b) (files_of xs) n ≡ files_of (applied head a b xs) n
 change_makes head a b xs n =
     made_behind (edits_of a) (edits_too b) (λ m. if same_which m which.Head then Some (head_bytes head) else files_of xs m) n
     ∙ made_same (edits_too b) (made (edits_of a) (λ m. if same_which m which.Head then Some (head_bytes head) else files_of xs m)) (files_of (kept_records.changed a (kept.Head head ∷ headless xs)))
@@ -173,14 +173,14 @@ change_makes head a b xs n =
 
 -- Edits that are a change's make of the files of records those of the records that the change makes: what `log_store` says of
 -- edits is said of a store's change.
-pub edits_make_the_change : (edits : List Edit) (head : Head) (a : Change) (b : Option Change) → map (λ e. edited e) edits ≡ edits_in head a b → (xs : List Kept) (n : Which) → changed edits (files_of xs) n ≡ files_of (applied head a b xs) n
+pub edits_make_the_change : (edits : List Edit) (head : Head) (a : RecordChange) (b : Option RecordChange) → map (λ e. edited e) edits ≡ edits_in head a b → (xs : List Kept) (n : Which) → changed edits (files_of xs) n ≡ files_of (applied head a b xs) n
 edits_make_the_change edits head a b are xs n = edits_make edits (files_of xs) n ∙ ap (λ (es : List Edited). made es (files_of xs) n) are ∙ change_makes head a b xs n
 
 pub these_by : {edits : List Edit} {these : List Edited} {records : Records} {past : List Records} {pending : List Which} {doubt : Bool} {old new : Disk} {result : Result (Unit {0}) Unfinished}
     → map (λ e. edited e) edits ≡ these → Applied edits records past pending doubt old new result → AppliedThese these records past pending doubt old new result
 these_by {edits} are all = (edits, are, all)
 
-pub change_by : (h : Head) (a : Change) (b : Option Change) (p : Edit × Option Edit) (q : Option (Edit × Option Edit)) {records : Records} {past : List Records} {pending : List Which} {doubt : Bool} {old new : Disk} {result : Result (Unit {0}) Unfinished}
+pub change_by : (h : Head) (a : RecordChange) (b : Option RecordChange) (p : Edit × Option Edit) (q : Option (Edit × Option Edit)) {records : Records} {past : List Records} {pending : List Which} {doubt : Bool} {old new : Disk} {result : Result (Unit {0}) Unfinished}
     → one_or_two p ≡ edits_of a → two_or_none q ≡ edits_too b → AppliedThese ((which.Head, Some (head_bytes h)) ∷ (one_or_two p ++ two_or_none q)) records past pending doubt old new result → AppliedThese (edits_in h a b) records past pending doubt old new result
 change_by h a b p q {records} {past} {pending} {doubt} {old} {new} {result} one two all =
     subst (λ (es : List Edited). AppliedThese ((which.Head, Some (head_bytes h)) ∷ es) records past pending doubt old new result) (ap₂ (λ (x y : List Edited). x ++ y) one two) all

@@ -3,8 +3,8 @@ use Rattle.std.specs.Prelude.{◌≡◌, ℕ, Bool, List, [], ◌∷◌, ◌++�
 use Rattle.store.specs.declared.record.Head.{Head}
 use Rattle.store.specs.declared.record.Kept.{Kept}
 use Rattle.store.specs.declared.record.Kept.TheVariants as kept
-use Rattle.store.specs.declared.record.Change.{Change}
-use Rattle.store.specs.declared.record.Change.TheVariants as change
+use Rattle.store.specs.declared.record.RecordChange.{RecordChange}
+use Rattle.store.specs.declared.record.RecordChange.TheVariants as change
 use Rattle.log_store.specs.Names.{same_which}
 use Rattle.log_store.specs.Lines.{Records, made_by}
 use Rattle.log_store.specs.Disk.{Disk}
@@ -39,17 +39,17 @@ Edited = Which × Option (List ℕ)
 abbrev pub edited : Edit → Edited
 edited e = (e.which, made_by e.what)
 
-abbrev pub edits_of : Change → List Edited
+abbrev pub edits_of : RecordChange → List Edited
 edits_of (change.Node n) = (which.Node n.id, Some (node_bytes n)) ∷ []
 edits_of (change.Content c) = (which.Content c.id, Some (content_bytes c)) ∷ []
 edits_of (change.Drop id) = (which.Node id, None) ∷ (which.Content id, None) ∷ []
 
-abbrev pub edits_too : Option Change → List Edited
+abbrev pub edits_too : Option RecordChange → List Edited
 edits_too None = []
 edits_too (Some c) = edits_of c
 
 -- those of a change of one part or two: the head's first
-abbrev pub edits_in : Head → Change → Option Change → List Edited
+abbrev pub edits_in : Head → RecordChange → Option RecordChange → List Edited
 edits_in head a b = (which.Head, Some (head_bytes head)) ∷ (edits_of a ++ edits_too b)
 
 -- an edit, and perhaps one more
@@ -62,7 +62,7 @@ two_or_none None = []
 two_or_none (Some e) = one_or_two e
 
 -- what stands in front of a record; of a content its first eight bytes
-abbrev pub IsFront : Change → List ℕ → Type 0
+abbrev pub IsFront : RecordChange → List ℕ → Type 0
 IsFront (change.Node n) front = front ++ n.name ≡ node_bytes n
 IsFront (change.Content c) front = take 8 front ++ c.bytes ≡ content_bytes c
 IsFront (change.Drop id) front = Unit {0}

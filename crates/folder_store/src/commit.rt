@@ -1,11 +1,11 @@
-//! What makes sure what a store was given: changes that wait at once share a flush of the log (`Settling` of
+//! What makes sure what a store was given: changes that wait at once share a flush of the log (`Syncing` of
 //! `log_store`).
 
 ghost use Rattle.std.specs.Prelude.{◌≡◌};
 
 use lb_base::source::Failed;
 use log_store::folder::Fault;
-use log_store::settling::{Flush, Settling};
+use log_store::syncing::{Flush, Syncing};
 use std::alloc::{AllocError, Global};
 use std::fs::File;
 use std::io;
@@ -51,7 +51,7 @@ impl Flush for LogFlush {
 }
 
 /// What is sure of a store's changes.
-pub struct Commit<R> {
+pub struct GroupFlush<R> {
     rt: R,
     /// The log's path, for who is told of it.
     path: String,
@@ -66,13 +66,13 @@ pub struct Commit<R> {
     /// How many flushes have ended; who waits for one sleeps on it.
     ended: AtomicU64,
     /// Who flushes has this.
-    settling: Mutex<Settling<LogFlush>>,
+    syncing: Mutex<Syncing<LogFlush>>,
 }
 
-// By hand: docs/PROVING.md, "Values that are let go".
-impl<R: Drop> Drop for Commit<R> {
+// By hand: docs/proving/dropping.md.
+impl<R: Drop> Drop for GroupFlush<R> {
     fn drop(self) {
-        let Commit {
+        let GroupFlush {
             rt,
             path,
             given,
@@ -80,7 +80,7 @@ impl<R: Drop> Drop for Commit<R> {
             sure,
             is_flushing,
             ended,
-            settling,
+            syncing,
         } = self;
         drop(rt);
         drop(path);
@@ -89,14 +89,14 @@ impl<R: Drop> Drop for Commit<R> {
         drop(sure);
         drop(is_flushing);
         drop(ended);
-        drop(settling);
+        drop(syncing);
     }
 }
 
-impl<R: Eprint> Commit<R> {
+impl<R: Eprint> GroupFlush<R> {
     /// Nothing was given. Without a log nothing is flushed.
-    pub fn new(rt: R, path: String, log: Option<File>) -> Commit<R> {
-        Commit {
+    pub fn new(rt: R, path: String, log: Option<File>) -> GroupFlush<R> {
+        GroupFlush {
             rt,
             path,
             given: AtomicU64::new(0),
@@ -104,7 +104,7 @@ impl<R: Eprint> Commit<R> {
             sure: AtomicU64::new(0),
             is_flushing: AtomicBool::new(false),
             ended: AtomicU64::new(0),
-            settling: Mutex::new(Settling::new(LogFlush {
+            syncing: Mutex::new(Syncing::new(LogFlush {
                 log,
                 flushed: 0,
                 why: None,
@@ -140,7 +140,7 @@ impl<R: Eprint> Commit<R> {
     /// Waits until all is sure that was given before the call. Where nobody flushes the caller does. Those who come
     /// meanwhile sleep, and not for a lock, which the next who flushes might have before them: once the flush has
     /// ended all whose changes it made sure go on at once, and one of the others flushes for all of these.
-    fn settle<W: Wait>(&self, rt: &W) -> Result<(), Failed> {
+    fn sync<W: Wait>(&self, rt: &W) -> Result<(), Failed> {
         let wanted = self.given.load(Ordering::SeqCst);
         for _turn in rt.forever() {
             let ended = self.ended.load(Ordering::SeqCst);
@@ -160,19 +160,19 @@ impl<R: Eprint> Commit<R> {
 
     /// Flushes all that was given, for whoever waits; then another may.
     fn flush<W: Wait>(&self, rt: &W) -> Result<(), Failed> {
-        let mut settling = self.settling.lock(rt);
+        let mut syncing = self.syncing.lock(rt);
         let given = self.given.load(Ordering::SeqCst);
-        let done = match settling.settle(given, given) {
+        let done = match syncing.sync(given, given) {
             Ok(()) => {
                 self.sure.store(given, Ordering::SeqCst);
                 Ok(())
             }
             Err(Fault) => {
-                self.fail(&settling.flusher().why);
+                self.fail(&syncing.flusher().why);
                 Err(Failed)
             }
         };
-        drop(settling);
+        drop(syncing);
         self.is_flushing.store(false, Ordering::SeqCst);
         self.ended.fetch_add(1, Ordering::SeqCst);
         self.ended.wake_all();
@@ -180,21 +180,21 @@ impl<R: Eprint> Commit<R> {
     }
 }
 
-/// One owner of a commit, for the threads of a server.
+/// One owner of a group, for the threads of a server.
 pub struct FolderSyncs<R> {
-    commit: Arc<Commit<R>>,
+    group: Arc<GroupFlush<R>>,
 }
 
-// By hand: docs/PROVING.md, "Values that are let go".
+// By hand: docs/proving/dropping.md.
 impl<R: Drop> Drop for FolderSyncs<R> {
     fn drop(self) {
-        let FolderSyncs { commit } = self;
-        drop(commit);
+        let FolderSyncs { group } = self;
+        drop(group);
     }
 }
 
 impl<R: Eprint + Drop> FolderSyncs<R> {
-    /// The first owner. The one error is want of memory.
+    /// The first owner. The one error is running out of memory.
     pub fn new(
         rt: R,
         alloc: Global,
@@ -202,28 +202,28 @@ impl<R: Eprint + Drop> FolderSyncs<R> {
         log: Option<File>,
     ) -> Result<FolderSyncs<R>, AllocError> {
         let path = String::from_str(alloc, path)?;
-        match Arc::new(alloc, Commit::new(rt, path, log)) {
-            Ok(commit) => Ok(FolderSyncs { commit }),
+        match Arc::new(alloc, GroupFlush::new(rt, path, log)) {
+            Ok(group) => Ok(FolderSyncs { group }),
             Err(_want) => Err(AllocError),
         }
     }
 
     /// One owner more.
     pub fn share(&self) -> Result<FolderSyncs<R>, AllocError> {
-        let commit = Arc::try_clone(&self.commit)?;
-        Ok(FolderSyncs { commit })
+        let group = Arc::try_clone(&self.group)?;
+        Ok(FolderSyncs { group })
     }
 
     /// What is sure.
-    pub fn commit(&self) -> &Commit<R> {
-        &self.commit
+    pub fn group_flush(&self) -> &GroupFlush<R> {
+        &self.group
     }
 }
 
 impl<R: Eprint + Drop> Syncs for FolderSyncs<R> {
-    ghost settled = { λ _. Unit {0} };
+    ghost is_sure = { λ _. Unit {0} };
 
-    fn settle<W: Wait>(&self, rt: &W) -> Result<(), Failed> {
-        self.commit.settle(rt)
+    fn sync<W: Wait>(&self, rt: &W) -> Result<(), Failed> {
+        self.group.sync(rt)
     }
 }

@@ -4,7 +4,7 @@
 
 ghost use Rattle.std.specs.Prelude.{◌≡◌, ◌++◌, ◌∷◌, List, false};
 ghost use Rattle.log_store.specs.Lines.{Records};
-ghost use Rattle.log_store.specs.Store.{Held};
+ghost use Rattle.log_store.specs.Store.{HoldsRecords};
 ghost use Rattle.folder_store.specs.Edits.{AppliedThese, IsFront, edits_in, edits_of, edited, one_or_two, two_or_none};
 
 use crate::format::{content_front, head_bytes, node_front};
@@ -13,38 +13,38 @@ use log_store::edit::{Edit, Parts, What};
 use log_store::folder::Folder;
 use log_store::records::LogStore;
 use log_store::which::Which;
-use store::record::{Change, Head};
+use store::record::{RecordChange, Head};
 
 /// The bytes that stand in front of a change's record: of a content the first eight of these.
-fn front_of(change: &Change) -> [u8; 12]
+fn front_of(change: &RecordChange) -> [u8; 12]
     ensures { IsFront change.now result }
 {
     match change {
-        Change::Node(node) => node_front(node),
-        Change::Content(content) => {
+        RecordChange::Node(node) => node_front(node),
+        RecordChange::Content(content) => {
             let [a, b, c, d, e, f, g, h] = content_front(content);
             [a, b, c, d, e, f, g, h, 0, 0, 0, 0]
         }
-        Change::Drop(_) => [0; 12],
+        RecordChange::Drop(_) => [0; 12],
     }
 }
 
 /// The edits of a part of a change, behind its front; with `is_large` a content has a file of its own first.
 fn edits_of<'a>(
-    change: &'a Change,
+    change: &'a RecordChange,
     front: &'a [u8; 12],
     is_large: bool,
 ) -> (Edit<'a>, Option<Edit<'a>>)
     ensures { IsFront change.now front.now → one_or_two result ≡ edits_of change.now }
 {
     match change {
-        Change::Node(node) => {
+        RecordChange::Node(node) => {
             let body = node.name.as_slice();
             let what = What::Put(Parts { front, body });
             let which = Which::Node(node.id);
             (Edit { which, what }, None)
         }
-        Change::Content(content) => {
+        RecordChange::Content(content) => {
             let (front, _rest) = front.split_at(8);
             let body = content.bytes.as_slice();
             let parts = Parts { front, body };
@@ -56,7 +56,7 @@ fn edits_of<'a>(
             let which = Which::Content(content.id);
             (Edit { which, what }, None)
         }
-        Change::Drop(id) => {
+        RecordChange::Drop(id) => {
             let node = Edit {
                 which: Which::Node(*id),
                 what: What::Goes,
@@ -78,7 +78,7 @@ fn apply_edits<'a, D: Folder>(
     first: (Edit<'a>, Option<Edit<'a>>),
     second: Option<(Edit<'a>, Option<Edit<'a>>)>,
 ) -> Result<(), Unfinished>
-    ensures { D.told → (records : Records) (past : List Records) → Held records past store.old.pending.items store.old.doubt (D.state store.old.folder) → store.old.doubt ≡ false → AppliedThese (edited head.entry ∷ (one_or_two first.entry ++ two_or_none second.entry)) records past store.new.pending.items store.new.doubt (D.state store.old.folder) (D.state store.new.folder) result }
+    ensures { D.told → (records : Records) (past : List Records) → HoldsRecords records past store.old.pending.items store.old.doubt (D.state store.old.folder) → store.old.doubt ≡ false → AppliedThese (edited head.entry ∷ (one_or_two first.entry ++ two_or_none second.entry)) records past store.new.pending.items store.new.doubt (D.state store.old.folder) (D.state store.new.folder) result }
 {
     let (one, more) = first;
     match (more, second) {
@@ -97,11 +97,11 @@ fn apply_edits<'a, D: Folder>(
 pub(crate) fn apply_change<D: Folder>(
     store: &mut LogStore<D>,
     head: Head,
-    first: &Change,
-    second: &Option<Change>,
+    first: &RecordChange,
+    second: &Option<RecordChange>,
     are_large: (bool, bool),
 ) -> Result<(), Unfinished>
-    ensures { D.told → (records : Records) (past : List Records) → Held records past store.old.pending.items store.old.doubt (D.state store.old.folder) → store.old.doubt ≡ false → AppliedThese (edits_in head first.now second.now) records past store.new.pending.items store.new.doubt (D.state store.old.folder) (D.state store.new.folder) result }
+    ensures { D.told → (records : Records) (past : List Records) → HoldsRecords records past store.old.pending.items store.old.doubt (D.state store.old.folder) → store.old.doubt ≡ false → AppliedThese (edits_in head first.now second.now) records past store.new.pending.items store.new.doubt (D.state store.old.folder) (D.state store.new.folder) result }
 {
     let bytes = head_bytes(head);
     let head = Edit {

@@ -17,7 +17,7 @@ use std::alloc::{AllocError, Global};
 use std::fs;
 use std::fs::File;
 use std::rt::Files;
-use store::record::{Change, Head, Kept};
+use store::record::{RecordChange, Head, Kept};
 use store::store::{Store, StoreError};
 use synced_store::checks::{CheckedStore, Checks};
 use synced_store::syncs::Synced;
@@ -36,14 +36,14 @@ const LARGE_ALWAYS: usize = 256 << 10;
 pub struct FolderStore<R> {
     rt: R,
     /// The folder, once it was loaded.
-    held: Option<Held<R>>,
+    held: Option<LoadedFolder<R>>,
     /// Whether nothing is flushed.
     unsynced: bool,
     spare: u32,
     faults: u64,
 }
 
-// By hand: docs/PROVING.md, "Values that are let go".
+// By hand: docs/proving/dropping.md.
 impl<R: Drop> Drop for FolderStore<R> {
     fn drop(self) {
         let FolderStore {
@@ -59,17 +59,17 @@ impl<R: Drop> Drop for FolderStore<R> {
 }
 
 /// A folder that is loaded.
-struct Held<R> {
+struct LoadedFolder<R> {
     /// The folder's path, and a slash behind it.
     front: String,
     store: LogStore<DiskFolder<R>>,
     syncs: FolderSyncs<R>,
 }
 
-// By hand: docs/PROVING.md, "Values that are let go".
-impl<R: Drop> Drop for Held<R> {
+// By hand: docs/proving/dropping.md.
+impl<R: Drop> Drop for LoadedFolder<R> {
     fn drop(self) {
-        let Held {
+        let LoadedFolder {
             front,
             store,
             syncs,
@@ -157,7 +157,7 @@ fn load_folder<R: Files<File = File> + AllocGlobal + Eprint + Clone + Drop>(
     alloc: Global,
     place: &str,
     unsynced: bool,
-) -> Result<(Held<R>, Vec<Kept>), StoreError> {
+) -> Result<(LoadedFolder<R>, Vec<Kept>), StoreError> {
     let folder = DiskFolder::open(rt.clone()?, alloc, place, unsynced)?;
     let mut store = LogStore::new(folder, alloc);
     let there = store.load()?;
@@ -171,7 +171,7 @@ fn load_folder<R: Files<File = File> + AllocGlobal + Eprint + Clone + Drop>(
     }
     let syncs = syncs_of(rt, alloc, place, unsynced)?;
     let front = format!(in alloc; "{place}/")?;
-    let held = Held {
+    let held = LoadedFolder {
         front,
         store,
         syncs,
@@ -181,8 +181,8 @@ fn load_folder<R: Files<File = File> + AllocGlobal + Eprint + Clone + Drop>(
 
 /// Whether a change's record has a file of its own first. It needs none where so many bytes are in its file's
 /// place already: the log says them then, and one flush is enough.
-fn is_large<R: Files<File = File>>(rt: &R, alloc: Global, folder: &str, change: &Change) -> bool {
-    let Change::Content(content) = change else {
+fn is_large<R: Files<File = File>>(rt: &R, alloc: Global, folder: &str, change: &RecordChange) -> bool {
+    let RecordChange::Content(content) = change else {
         return false;
     };
     let len = content.bytes.len().saturating_add(8);
@@ -196,16 +196,16 @@ fn is_large<R: Files<File = File>>(rt: &R, alloc: Global, folder: &str, change: 
     !has_room(rt, path.as_str(), len as u64)
 }
 
-impl<R: Files<File = File> + AllocGlobal + Eprint + Clone + Drop> Held<R> {
+impl<R: Files<File = File> + AllocGlobal + Eprint + Clone + Drop> LoadedFolder<R> {
     /// Makes a change, or leaves the records as they were, or is in doubt.
     fn apply(
         &mut self,
         rt: &R,
         head: Head,
-        first: &Change,
-        second: &Option<Change>,
+        first: &RecordChange,
+        second: &Option<RecordChange>,
     ) -> Result<(), Failed> {
-        if self.syncs.commit().is_in_doubt() {
+        if self.syncs.group_flush().is_in_doubt() {
             return Err(Failed);
         }
         let alloc = rt.alloc();
@@ -216,21 +216,21 @@ impl<R: Files<File = File> + AllocGlobal + Eprint + Clone + Drop> Held<R> {
         };
         let are_large = (is_large(rt, alloc, folder, first), is_second_large);
         let made = apply_change(&mut self.store, head, first, second, are_large);
-        self.syncs.commit().note_given();
+        self.syncs.group_flush().note_given();
         match made {
             Ok(()) => Ok(()),
             Err(Unfinished::InDoubt) => {
-                self.syncs.commit().note_doubt();
+                self.syncs.group_flush().note_doubt();
                 Err(Failed)
             }
             Err(Unfinished::Failed | Unfinished::Memory) => Err(Failed),
         }
     }
 
-    /// The log is carried out, and nothing but records' files is left. Where memory is wanting the log stays,
+    /// The log is carried out, and nothing but records' files is left. Where memory runs out the log stays,
     /// for the next start.
     fn close(&mut self) -> Result<(), StoreError> {
-        if self.syncs.commit().is_in_doubt() {
+        if self.syncs.group_flush().is_in_doubt() {
             return Err(StoreError::Failed);
         }
         match self.store.close() {
@@ -249,7 +249,7 @@ impl<R: Files<File = File> + AllocGlobal + Eprint + Clone + Drop> Store for Fold
     ghost faults = { λ s. s.faults };
 
     fn load(&mut self, alloc: Global, place: &str) -> Result<Vec<Kept>, StoreError> {
-        // The folder that was loaded before is let go, so that it may be this one.
+        // The folder that was loaded before is dropped, so that it may be this one.
         self.held = None;
         match load_folder(&self.rt, alloc, place, self.unsynced) {
             Ok((held, records)) => {
@@ -269,7 +269,7 @@ impl<R: Files<File = File> + AllocGlobal + Eprint + Clone + Drop> Store for Fold
         Ok(())
     }
 
-    fn apply(&mut self, head: Head, first: Change, second: Option<Change>) -> Result<(), Failed> {
+    fn apply(&mut self, head: Head, first: RecordChange, second: Option<RecordChange>) -> Result<(), Failed> {
         let made = match &mut self.held {
             Some(held) => held.apply(&self.rt, head, &first, &second),
             None => Err(Failed),

@@ -81,7 +81,7 @@ pub fn head_in(bytes: &[u8]) -> Option<Head>
     })
 }
 
-/// The node of which these are the bytes. The one error is want of memory.
+/// The node of which these are the bytes. The one error is running out of memory.
 pub fn node_in(alloc: Global, id: u64, bytes: &[u8]) -> Result<Option<NodeRecord>, AllocError>
     ensures { IfOk result (λ node. node ≡ node_in id bytes.now) }
 {
@@ -113,7 +113,7 @@ fn forget_word(bytes: &mut Vec<u8>)
     bytes.truncate(left);
 }
 
-/// The content of which these are the bytes. The one error is want of memory.
+/// The content of which these are the bytes. The one error is running out of memory.
 pub fn content_in(
     alloc: Global,
     id: u64,

@@ -21,7 +21,7 @@ pub enum Reading {
     Fault(String),
 }
 
-/// The record that these bytes of its file say. The one error is want of memory.
+/// The record that these bytes of its file say. The one error is running out of memory.
 pub(crate) fn record_in(
     alloc: Global,
     which: Which,
@@ -45,7 +45,7 @@ pub(crate) fn record_in(
     }
 }
 
-/// Adds what was read of the file of this name. The one error is want of memory.
+/// Adds what was read of the file of this name. The one error is running out of memory.
 #[tactic(auto, using(crate::proofs::Looks::none_more, crate::proofs::Looks::no_record))]
 pub(crate) fn add_reading(
     alloc: Global,

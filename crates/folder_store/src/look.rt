@@ -46,7 +46,7 @@ struct Looked {
     records: Vec<Which>,
 }
 
-// By hand: docs/PROVING.md, "Values that are let go".
+// By hand: docs/proving/dropping.md.
 impl Drop for Looked {
     fn drop(self) {
         let Looked {
@@ -83,7 +83,7 @@ struct Paths {
     made: Option<String>,
 }
 
-// By hand: docs/PROVING.md, "Values that are let go".
+// By hand: docs/proving/dropping.md.
 impl Drop for Paths {
     fn drop(self) {
         let Paths { own, made } = self;
@@ -147,7 +147,7 @@ fn bytes_of<R: Files<File = File>>(
     }
 }
 
-/// What was read of a record's file. The one error is want of memory.
+/// What was read of a record's file. The one error is running out of memory.
 fn reading_of<R: Files<File = File>>(
     rt: &R,
     alloc: Global,

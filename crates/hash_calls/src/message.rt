@@ -142,7 +142,7 @@ pub enum Lb {
 }
 
 // Written by hand, it is proved here alone; derived, each crate above would prove how each part is
-// let go.
+// dropped.
 impl Drop for Lb {
     fn drop(self) {
         match self {

@@ -6,7 +6,7 @@ use Rattle.callback_core.specs.Waits.{without}
 use Rattle.server_core.specs.Closing.{ready_by, settles_by}
 use Rattle.server_core.specs.Recalling.{term_at}
 use Rattle.server_core.specs.declared.change.Wanted.TheVariants as wanted
-use Rattle.tree_calls.specs.Waiting.{commits, settles as tree_settles}
+use Rattle.tree_calls.specs.Waiting.{gives_content, settles as tree_settles}
 use Rattle.trace_replay.specs.declared.stage.Stage.{Stage as Part}
 use Rattle.trace_replay.specs.declared.stage.Stage.TheVariants as part
 use Rattle.trace_replay.specs.declared.turn.Turn.TheVariants as turn
@@ -17,7 +17,7 @@ use Rattle.trace_text.specs.declared.line.Who.TheVariants as who
 use Rattle.trace_ends.specs.declared.adjusting.Adjustment.{Adjustment}
 use Rattle.trace_ends.specs.declared.adjusting.Adjustment.TheVariants as adjustment
 use Rattle.trace_ends.specs.Core.{adjusted, with_client}
-use Rattle.kept_promise.proofs.Common.{Contains, Contains-push_cases, in_header, ended, run, run_from, content_bytes, stands, at, makes_change, lines_of, line_of, Line, LineFault, Turn, Event, Event.Joins, Event.Does, Event.Settles, Event.Cuts, Event.Hangs, File, Change, Core, Seat, Session, numbered, does, hears, joins, settles, cuts, hangs_if, hangs, happens, World, Wire, start, happened, all_happened, up_taken, up_events, up_at, up_length, up_all, down_taken, down_events, down_at, down_length, round, is_still, passes, asked, asked_by, at_events, count_of, turned, Moment, moments_of, up_moments_at, down_moments_at, round_moments, passes_moments, turn_moments, moments_from, moments, Wanted, Tree, step_of}
+use Rattle.kept_promise.proofs.Common.{Contains, Contains-push_cases, in_header, ended, run, run_from, content_bytes, stands, at, makes_change, lines_of, line_of, Line, LineFault, Turn, Event, Event.Joins, Event.Does, Event.Settles, Event.Cuts, Event.Hangs, File, FileChange, Core, Seat, Session, numbered, does, hears, joins, settles, cuts, hangs_if, hangs, happens, World, Wire, start, happened, all_happened, up_taken, up_events, up_at, up_length, up_all, down_taken, down_events, down_at, down_length, round, is_still, passes, asked, asked_by, at_events, count_of, turned, Moment, moments_of, up_moments_at, down_moments_at, round_moments, passes_moments, turn_moments, moments_from, moments, Wanted, Tree, step_of}
 use Rattle.kept_promise.proofs.Lists.{some_is}
 use Rattle.kept_promise.proofs.Rights.{AreAlike}
 use Rattle.server_law.proofs.Trees.{IsGiven, IsSince, IsLater, later_join, Keeps, keeps_same, file_below}
@@ -43,11 +43,11 @@ Turns k r = Keeps (tree k) (tree r)
 settles_turn : (k : Core) (now : ℕ) → Turns k (settles k now).core
 settles_turn k now = by (ready_by k.server now)
   where
-    made : (s : server.State) (c : Change) (a : Wanted) → s.tree ≡ tree k → Keeps (tree k) (makes_change s c a).0.tree
-    made s c (wanted.Content x) e = subst (λ (t : Tree). Keeps t (commits s.tree (server.held s.waiting) c.file x (term_at s c.file)).0) e (commits_keep s.tree (server.held s.waiting) c.file x (term_at s c.file))
+    made : (s : server.State) (c : FileChange) (a : Wanted) → s.tree ≡ tree k → Keeps (tree k) (makes_change s c a).0.tree
+    made s c (wanted.Content x) e = subst (λ (t : Tree). Keeps t (gives_content s.tree (server.held s.waiting) c.file x (term_at s c.file)).0) e (commits_keep s.tree (server.held s.waiting) c.file x (term_at s c.file))
     made s c (wanted.Asked a) e = subst (λ (t : Tree). Keeps t (tree_settles s.tree (server.held s.waiting) a).0) e (settles_keep s.tree (server.held s.waiting) a)
 
-    by : (next : Option Change) → Keeps (tree k) (settles_by k.server false now next).0.tree
+    by : (next : Option FileChange) → Keeps (tree k) (settles_by k.server false now next).0.tree
     by None = keeps_same (tree k)
     by (Some c) = made (at (record k.server { waiting = without k.server.waiting c.session }) now) c c.what refl
 
@@ -89,11 +89,11 @@ happens_dirs k e = what_happens k e (λ t. KeepsDirs (tree k) (tree t.core)) (re
   hangs = λ n x is at. subst (KeepsDirs (tree k)) (sym (hangs_tree k n x)) (dirs_same (tree k));
 })
   where
-    made : (s : server.State) (c : Change) (a : Wanted) → s.tree ≡ tree k → KeepsDirs (tree k) (makes_change s c a).0.tree
-    made s c (wanted.Content x) e = subst (λ (t : Tree). KeepsDirs t (commits s.tree (server.held s.waiting) c.file x (term_at s c.file)).0) e (commits_dirs s.tree (server.held s.waiting) c.file x (term_at s c.file))
+    made : (s : server.State) (c : FileChange) (a : Wanted) → s.tree ≡ tree k → KeepsDirs (tree k) (makes_change s c a).0.tree
+    made s c (wanted.Content x) e = subst (λ (t : Tree). KeepsDirs t (gives_content s.tree (server.held s.waiting) c.file x (term_at s c.file)).0) e (commits_dirs s.tree (server.held s.waiting) c.file x (term_at s c.file))
     made s c (wanted.Asked a) e = subst (λ (t : Tree). KeepsDirs t (tree_settles s.tree (server.held s.waiting) a).0) e (settles_dirs s.tree (server.held s.waiting) a)
 
-    by : (now : ℕ) (next : Option Change) → KeepsDirs (tree k) (settles_by k.server false now next).0.tree
+    by : (now : ℕ) (next : Option FileChange) → KeepsDirs (tree k) (settles_by k.server false now next).0.tree
     by now None = dirs_same (tree k)
     by now (Some c) = made (at (record k.server { waiting = without k.server.waiting c.session }) now) c c.what refl
 

@@ -10,7 +10,7 @@ use Rattle.path_calls.specs.declared.walk.Goal.TheVariants as goal
 use Rattle.path_calls.specs.declared.walk.Walk.{Walk}
 use Rattle.open_close.specs.Walking.{is_its}
 use Rattle.wire.specs.declared.message.Program.TheVariants as program
-use Rattle.kept_promise.proofs.Common.{slice_get, cond, ◌==◌, ◌||◌, Answer, Attr, Committed, Hashes, Piece, waiting, Pending, Program, has_call, store_pending, read_pending, store_at, read_at, ReadCall, StoreCall, Reply, Reply.Versioned, Reply.Hashed, Reply.Bytes, Reply.Made, Reply.Named, Reply.Stored, Reply.Changed, Told, reply_program, Reply.Walked, NameReply, NameReply.LookedUp, name_answer}
+use Rattle.kept_promise.proofs.Common.{slice_get, cond, ◌==◌, ◌||◌, Answer, Attr, Committed, Hashes, Piece, waiting, Pending, Program, has_call, store_pending, read_pending, store_at, read_at, ReadCall, UploadCall, Reply, Reply.Versioned, Reply.Hashed, Reply.Bytes, Reply.Made, Reply.Named, Reply.Stored, Reply.Changed, Told, reply_program, Reply.Walked, NameReply, NameReply.LookedUp, name_answer}
 use Rattle.kept_promise.proofs.Lists.{some_is, nothing_there, in_front, false_and_true}
 use Rattle.kept_promise.proofs.Keys.{times, code_of}
 use Rattle.kept_promise.proofs.PathNames.{IsAsking}
@@ -41,11 +41,11 @@ own_call mine others k t at once has =
     let c = called mine t.xid has in
     (c.0, c.2 ∙ ap (λ (p : Pending). Some p) (one_call (mine ++ others) c.0 k c.1 (told_pending t) (in_front mine others c.0 c.1 c.2) at c.3 once))
 
-pub store_here : (under : List StoreCall) (i : ℕ) (t : Told) → slice_get (map store_pending under) i ≡ Some (told_pending t) → (m : ℕ) × (u : StoreCall) × (store_at under t.xid ≡ Some u) × (slice_get (map store_pending under) m ≡ Some (store_pending u)) × (u.xid ≡ t.xid)
+pub store_here : (under : List UploadCall) (i : ℕ) (t : Told) → slice_get (map store_pending under) i ≡ Some (told_pending t) → (m : ℕ) × (u : UploadCall) × (store_at under t.xid ≡ Some u) × (slice_get (map store_pending under) m ≡ Some (store_pending u)) × (u.xid ≡ t.xid)
 store_here [] i t e = nothing_there (told_pending t) e
 store_here (u ∷ us) i t e = by (u.xid == t.xid) refl i e (λ k. store_here us k t)
   where
-    by : (b : Bool) → (u.xid == t.xid) ≡ b → (i : ℕ) → slice_get (map store_pending (u ∷ us)) i ≡ Some (told_pending t) → ((k : ℕ) → slice_get (map store_pending us) k ≡ Some (told_pending t) → (m : ℕ) × (v : StoreCall) × (store_at us t.xid ≡ Some v) × (slice_get (map store_pending us) m ≡ Some (store_pending v)) × (v.xid ≡ t.xid)) → (m : ℕ) × (v : StoreCall) × (cond b (Some u) (store_at us t.xid) ≡ Some v) × (slice_get (map store_pending (u ∷ us)) m ≡ Some (store_pending v)) × (v.xid ≡ t.xid)
+    by : (b : Bool) → (u.xid == t.xid) ≡ b → (i : ℕ) → slice_get (map store_pending (u ∷ us)) i ≡ Some (told_pending t) → ((k : ℕ) → slice_get (map store_pending us) k ≡ Some (told_pending t) → (m : ℕ) × (v : UploadCall) × (store_at us t.xid ≡ Some v) × (slice_get (map store_pending us) m ≡ Some (store_pending v)) × (v.xid ≡ t.xid)) → (m : ℕ) × (v : UploadCall) × (cond b (Some u) (store_at us t.xid) ≡ Some v) × (slice_get (map store_pending (u ∷ us)) m ≡ Some (store_pending v)) × (v.xid ≡ t.xid)
     by true same i e later = (0, u, refl, refl, eqb-true u.xid t.xid same)
     by false same zero e later = let x : u.xid ≡ t.xid = ap (λ (p : Pending). p.xid) (some_is (store_pending u) (told_pending t) e) in absurd (false_and_true (u.xid == t.xid) same (eq-eqb u.xid t.xid x))
     by false same (suc i) e later = let h = later i e in (suc h.0, h.1, h.2, h.3, h.4)

@@ -16,7 +16,7 @@ use Rattle.trace_ends.specs.Core.{newest_entries, changed_file, server_got, sett
 use Rattle.trace_ends.specs.Ops.{pointed_at, pointed, point_if, has_point, begun, ops_after}
 use Rattle.trace_ends.specs.Session.{settled_ops, taken_of as session_taken}
 use Rattle.trace_replay.specs.Entries.{Awaited, GrowsBy, IsChangedBy}
-use Rattle.kept_promise.proofs.Common.{nat_tests, ◌==◌, ◌&&◌, ◌||◌, nat_le, cond, slice_get, slice_set, Contains, Contains-append_left, Contains-append_right, Contains-push, changes, parse_of, Message, WireFault, stands, makes_change, serves, serves_if, server_step, command_step, word_of, file_of, value_at_begin, ClientStep, Ended, Outcome, Op, Opening, Word, TakenCall, op_after, ops_with, Core, Session, Event, Event.Serves, Event.Settles, CoreStep, numbered, session_of, server_waiting, server_waits, happens, Moment, step_of, is_in, until, Book, Queue, Ask, ask_message, call_message, unless, Call, Call.Commit, Call.Walks, Change, Wanted, Entry}
+use Rattle.kept_promise.proofs.Common.{nat_tests, ◌==◌, ◌&&◌, ◌||◌, nat_le, cond, slice_get, slice_set, Contains, Contains-append_left, Contains-append_right, Contains-push, changes, parse_of, Message, WireFault, stands, makes_change, serves, serves_if, server_step, command_step, word_of, file_of, value_at_begin, ClientStep, Ended, Outcome, Op, Opening, Word, TakenCall, op_after, ops_with, Core, Session, Event, Event.Serves, Event.Settles, CoreStep, numbered, session_of, server_waiting, server_waits, happens, Moment, step_of, is_in, until, Book, Queue, Ask, ask_message, call_message, unless, Call, Call.Commit, Call.Walks, FileChange, Wanted, Entry}
 use Rattle.kept_promise.proofs.TakenOut.{ready_waits}
 use Rattle.kept_promise.proofs.Lists.{some_is, nothing_there, of_appended, of_replaced, kept_appended, at_replaced, set_else, same_or_not, true_and_false, all_append, AllOf}
 use Rattle.kept_promise.proofs.Messages.{Job, job, AllAsks, CommitOf, IsCommit, WaitsFor as Pends}
@@ -67,7 +67,7 @@ ask_job book closing cut job contents xid (Commit temp file size) h one uncut = 
 ask_job book closing cut job contents xid (Walks w) h one uncut = (let c = h (is_one (is_creating w) one) in (c.place, _, c.known, refl, c.waited uncut, one_call xid))
 ask_job book closing cut job contents xid c h one uncut = (let z : 0 ≡ 1 = one in absurd (omega (arith, z)))
 
--- and of a change that waits
+-- and of a pending change
 change_job : (book : Book) (session : ℕ) (closing : Option ℕ) (cut : Bool) (job : Option Job) (xid file : ℕ) (w : Wanted) → Pends book session closing cut job xid file w → cut ≡ false → JobFor closing job xid
 change_job book session closing cut job xid file (wanted.Content content) h uncut = (h.place, _, h.known, refl, h.waited uncut, one_call xid)
 change_job book session closing cut job xid file (wanted.Asked a) h uncut = (h.place, _, h.known, refl, (h.waited uncut).1, one_call xid)
@@ -171,7 +171,7 @@ record MadeBy (past : List Moment) (opening : List Opening) (k : Core) (o : Op) 
 pub record AllAwaited (all past : List Moment) (opening : List Opening) (k : Core) (qs : List Queue) : Type 0 where
   pub entered : AllEntered all past opening k qs
   ups : QueuesHave (LeftAsks past k) qs
-  waiting : (i : ℕ) (c : Change) (y : Session) → slice_get k.server.waiting i ≡ Some c → numbered k.sessions c.session ≡ Some y → y.cut ≡ true → Sender past k y c.session c.xid
+  waiting : (i : ℕ) (c : FileChange) (y : Session) → slice_get k.server.waiting i ≡ Some c → numbered k.sessions c.session ≡ Some y → y.cut ≡ true → Sender past k y c.session c.xid
   made : (p q : ℕ) (o : Op) → slice_get k.ops p ≡ Some o → changes o.word ≡ true → o.point ≡ Some q → MadeBy past opening k o q
 
 -- a session that is cut now was there, or is cut in a step
@@ -255,7 +255,7 @@ ups_event fits all past rest opening k qs e mid after s h = subst (QueuesHave T)
 
 -- a change that waited
 waited_before : FitLaws → (all past rest : List Moment) (opening : List Opening) (k : Core) (qs : List Queue) (e : Event) (mid after : List Queue) → Step all past rest opening k qs e mid after → AllAwaited all past opening k qs
-    → (j : ℕ) (c : Change) → slice_get k.server.waiting j ≡ Some c → (x : Session) × (q : Queue) × (numbered k.sessions c.session ≡ Some x) × ((h : IsSession (book_at opening k all) k.seats k.server c.session x q) × (x.cut ≡ true → Sender past k x c.session c.xid) × (x.cut ≡ false → JobFor x.closing (job h.seat) c.xid))
+    → (j : ℕ) (c : FileChange) → slice_get k.server.waiting j ≡ Some c → (x : Session) × (q : Queue) × (numbered k.sessions c.session ≡ Some x) × ((h : IsSession (book_at opening k all) k.seats k.server c.session x q) × (x.cut ≡ true → Sender past k x c.session c.xid) × (x.cut ≡ false → JobFor x.closing (job h.seat) c.xid))
 waited_before fits all past rest opening k qs e mid after s h j c there =
     let home = s.kept.home j c there in
     let q = also_numbered k.sessions qs c.session home.0 s.kept.made.1 home.1 in
@@ -292,7 +292,7 @@ ask_before fits all past rest opening k qs n now bytes mid after s f h xid b rea
 
 -- what waits then
 waiting_event : FitLaws → (all past rest : List Moment) (opening : List Opening) (k : Core) (qs : List Queue) (e : Event) (mid after : List Queue) → Step all past rest opening k qs e mid after → AllAwaited all past opening k qs
-    → (i : ℕ) (c : Change) (y : Session) → slice_get (happens k e).core.server.waiting i ≡ Some c → numbered (happens k e).core.sessions c.session ≡ Some y → y.cut ≡ true → Sender (past ++ moment k e ∷ []) (happens k e).core y c.session c.xid
+    → (i : ℕ) (c : FileChange) (y : Session) → slice_get (happens k e).core.server.waiting i ≡ Some c → numbered (happens k e).core.sessions c.session ≡ Some y → y.cut ≡ true → Sender (past ++ moment k e ∷ []) (happens k e).core y c.session c.xid
 waiting_event fits all past rest opening k qs e mid after s h i c y there at gone = elim ((event_grows k e).came i c there) [
   | inl old ↦ of_old old.0 old.1
   | inr new ↦ of_new e s there at new
@@ -314,7 +314,7 @@ waiting_event fits all past rest opening k qs e mid after s h i c y there at gon
             ask : FindsAsk qs c.session bytes mid → Step all past rest opening k qs (Serves c.session now bytes) mid after → slice_get (happens k (Serves c.session now bytes)).core.server.waiting i ≡ Some c → numbered (happens k (Serves c.session now bytes)).core.sessions c.session ≡ Some y → Sender (past ++ moment k (Serves c.session now bytes) ∷ []) (happens k (Serves c.session now bytes)).core y c.session c.xid
             ask f s there at = elim (got_waits k.server c.session now f.1 (stands k.server c.session) (Rattle.kept_promise.proofs.Actors.serves_fits (book_at opening k all) k qs c.session now bytes mid s.kept f)) [
               | inl same ↦
-                  let was : slice_get k.server.waiting i ≡ Some c = ap (λ (l : List Change). slice_get l i) (sym same) ∙ ap (λ (z : server.State). slice_get z.waiting i) (sym server_is) ∙ there in
+                  let was : slice_get k.server.waiting i ≡ Some c = ap (λ (l : List FileChange). slice_get l i) (sym same) ∙ ap (λ (z : server.State). slice_get z.waiting i) (sym server_is) ∙ there in
                   let w = waited_before fits all past rest opening k qs (Serves c.session now bytes) mid after s h i c was in
                   let x = (leaves fits opening all k qs mid (Serves c.session now bytes) s.kept s.finds).were c.session y at gone in
                   let one : x.0 ≡ w.0 = some_is x.0 w.0 (sym x.1 ∙ w.2) in
@@ -459,26 +459,26 @@ points_by k e = what_happens k e (Points k e) (record {
         ops_of : server.State × ServerStep → List Op
         ops_of step = settled_by k (changed_file (newest_entries step.0.journal step.1.entries)) step.1.told
 
-        told_is : (s : server.State) (c : Change) (w : Wanted) → (makes_change s c w).1.told ≡ announced.Settled c.session c.xid
+        told_is : (s : server.State) (c : FileChange) (w : Wanted) → (makes_change s c w).1.told ≡ announced.Settled c.session c.xid
         told_is s c (wanted.Content content) = refl
         told_is s c (wanted.Asked a) = refl
 
-        of_those : (next : Option Change) → ready_by k.server now ≡ next → (p q : ℕ) (r : Op) → slice_get (core_settles k now).core.ops p ≡ Some r → changes r.word ≡ true → r.point ≡ Some q → OldPoint k p q ⊎ NewPoint k (Settles now) (core_settles k now) p q
-        of_those None none p q r at alters point = inl (r, ap (λ (next : Option Change). let step = settles_by k.server false now next in slice_get (settled_by k (changed_file (newest_entries step.0.journal step.1.entries)) step.1.told) p) (sym none) ∙ at, alters, point)
+        of_those : (next : Option FileChange) → ready_by k.server now ≡ next → (p q : ℕ) (r : Op) → slice_get (core_settles k now).core.ops p ≡ Some r → changes r.word ≡ true → r.point ≡ Some q → OldPoint k p q ⊎ NewPoint k (Settles now) (core_settles k now) p q
+        of_those None none p q r at alters point = inl (r, ap (λ (next : Option FileChange). let step = settles_by k.server false now next in slice_get (settled_by k (changed_file (newest_entries step.0.journal step.1.entries)) step.1.told) p) (sym none) ∙ at, alters, point)
         of_those (Some c) is p q r at alters point = at_session (numbered k.sessions c.session) refl
           where
             step : server.State × ServerStep
             step = server_step k.server (event.Settle now)
 
             told : (server_step k.server (event.Settle now)).1.told ≡ announced.Settled c.session c.xid
-            told = ap (λ (next : Option Change). (settles_by k.server false now next).1.told) is ∙ told_is (closing_at (record k.server { waiting = without k.server.waiting c.session }) now) c c.what
+            told = ap (λ (next : Option FileChange). (settles_by k.server false now next).1.told) is ∙ told_is (closing_at (record k.server { waiting = without k.server.waiting c.session }) now) c c.what
 
             at_session : (o : Option Session) → numbered k.sessions c.session ≡ o → OldPoint k p q ⊎ NewPoint k (Settles now) (core_settles k now) p q
             at_session o home = elim (by o home) [
               | inl old ↦ inl (r, old, alters, point)
               | inr new ↦ elim g.journal [
                 | inl same ↦ no_file (changed_file (newest_entries (server_step k.server (event.Settle now)).0.journal (server_step k.server (event.Settle now)).1.entries)) new.3.0 (none_changed k.entries (server_step k.server (event.Settle now)).1.entries (k.steps + 1) (server_step k.server (event.Settle now)).0.journal same.1) new.3.1
-                | inr grew ↦ inr (new.2, omega arith, (grew, new.0, elim grew.by [ inl b ↦ not_serves grew.session b.0 now b.1 b.3 | inr b ↦ ap (numbered k.sessions) (sym b.4 ∙ ap (λ (z : Change). z.session) (some_is b.1 c (sym b.3 ∙ ap (λ (m : ℕ). ready_by k.server m) (sym (settled_at now b.0 b.2)) ∙ is))) ∙ home ∙ new.1.0 ], new.1.1))
+                | inr grew ↦ inr (new.2, omega arith, (grew, new.0, elim grew.by [ inl b ↦ not_serves grew.session b.0 now b.1 b.3 | inr b ↦ ap (numbered k.sessions) (sym b.4 ∙ ap (λ (z : FileChange). z.session) (some_is b.1 c (sym b.3 ∙ ap (λ (m : ℕ). ready_by k.server m) (sym (settled_at now b.0 b.2)) ∙ is))) ∙ home ∙ new.1.0 ], new.1.1))
               ]
             ]
               where
@@ -535,7 +535,7 @@ made_event fits all past rest opening k qs e mid after s h p q r at alters point
       | inr held ↦ record { moment_ = moment k e; there = here; step_is = sym step_is; grows = grown_now fits all past rest opening k qs e mid after s h.entered g; held = held }
     ]
       where
-        of_settling : (now : ℕ) (c : Change) → ready_by k.server now ≡ Some c → c.session ≡ g.session → c.xid ≡ g.xid → OldPoint k p q ⊎ Held (past ++ moment k e ∷ []) (happens k e).core.steps r g.session g.xid
+        of_settling : (now : ℕ) (c : FileChange) → ready_by k.server now ≡ Some c → c.session ≡ g.session → c.xid ≡ g.xid → OldPoint k p q ⊎ Held (past ++ moment k e ∷ []) (happens k e).core.steps r g.session g.xid
         of_settling now c first session number =
             let z = ready_waits k.server now c first in
             let w = waited_before fits all past rest opening k qs e mid after s h z.0 c z.1 in

@@ -6,7 +6,7 @@ use Rattle.client_state.specs.declared.task.Stage.TheVariants as stage
 use Rattle.server_core.specs.declared.change.Wanted.TheVariants as wanted
 use Rattle.register_model.specs.declared.op.Outcome.TheVariants as told
 use Rattle.register_model.specs.declared.op.Word.TheVariants as words
-use Rattle.kept_promise.proofs.Common.{nat_tests, slice_get, cond, ◌==◌, Pending, Temp, key_of, Change, Wanted, Stage, Op, TakenCall, Core, Entries, Seat, Session, numbered, unless, hashed_of, Book, Call, Call.Lease, Call.Hash, Call.Read, Call.Name, Call.Send, Call.Commit, Reply, Reply.Versioned, Reply.Hashed, Reply.Bytes, Reply.Changed, Ask, Queue, Call.Walks, Reply.Walked, Told}
+use Rattle.kept_promise.proofs.Common.{nat_tests, slice_get, cond, ◌==◌, Pending, Temp, key_of, FileChange, Wanted, Stage, Op, TakenCall, Core, Entries, Seat, Session, numbered, unless, hashed_of, Book, Call, Call.Lease, Call.Hash, Call.Read, Call.Name, Call.Send, Call.Commit, Reply, Reply.Versioned, Reply.Hashed, Reply.Bytes, Reply.Changed, Ask, Queue, Call.Walks, Reply.Walked, Told}
 use Rattle.kept_promise.proofs.Statements.{CallFits}
 use Rattle.kept_promise.proofs.Lists.{some_is, nothing_there, same_or_not, at_end, of_appended, false_and_true, all_map, all_unless}
 use Rattle.kept_promise.proofs.Keys.{times, times_append, own, on_way, ask_key, change_key, told_key, pending_key, IsOurs, call_ours}
@@ -40,7 +40,7 @@ free_commits book closing cut o contents (a ∷ us) uncut free all = by a.call a
     by (Walks w) h none = creates w (is_creating w) refl h none
     by _ h none = omega (arith, none)
 
-free_waiting : (book : Book) (closing : Option ℕ) (cut : Bool) (o : Option Job) (cs : List Change) → cut ≡ false → o ≡ None → ((i : ℕ) (d : Change) → slice_get cs i ≡ Some d → WaitsFor book d.session closing cut o d.xid d.file d.what) → cs ≡ []
+free_waiting : (book : Book) (closing : Option ℕ) (cut : Bool) (o : Option Job) (cs : List FileChange) → cut ≡ false → o ≡ None → ((i : ℕ) (d : FileChange) → slice_get cs i ≡ Some d → WaitsFor book d.session closing cut o d.xid d.file d.what) → cs ≡ []
 free_waiting book closing cut o [] uncut free all = refl
 free_waiting book closing cut o (d ∷ cs) uncut free all = by d.what (all 0 d refl)
   where
@@ -86,7 +86,7 @@ unless_rising false n us a top r e = rising_append n us (a ∷ []) top (top + 1)
 unless_commits : (hung : Bool) (us : List Ask) (a : Ask) → commits_in us ≡ 0 → commits_in (unless hung us (a ∷ [])) ≤ 1
 unless_commits hung us a e = let both = commits_unless hung us (a ∷ []) in let one = change_once a.call in omega (arith, e, both, one)
 
-balanced_first : (n : ℕ) (w : List Change) (q : Queue) (hung : Bool) (next : ℕ) (calls : List Pending) (a : Ask) → a.xid ≡ next → IsBalanced n w q hung next calls → IsBalanced n w (record { ups = unless hung q.ups (a ∷ []); downs = q.downs }) hung (next + 1) (ask_pending a ∷ calls)
+balanced_first : (n : ℕ) (w : List FileChange) (q : Queue) (hung : Bool) (next : ℕ) (calls : List Pending) (a : Ask) → a.xid ≡ next → IsBalanced n w q hung next calls → IsBalanced n w (record { ups = unless hung q.ups (a ∷ []); downs = q.downs }) hung (next + 1) (ask_pending a ∷ calls)
 balanced_first n w q hung next calls a e h = record {
   most = λ y. most_by hung y (h.most y);
   least = λ up y. least_by hung up y (h.least up y);
@@ -272,8 +272,8 @@ kept_begins book k qs c n x q seat new cache sent temp file s a closing value se
         temps = λ i m e lt b key. let t = h.temps i m e lt b key in let less = below.1 i m e lt b key in (subst (λ l. AreParts (hashed_of book.moments) l e.1.pieces) (sym (content_else h.contents seat.client.next_temp value m (λ same. omega (arith, same, less)))) t.0, t.1);
         temps_below = λ u. (all_unless (λ (v : Ask). TempUnder temp v.call) x.hung q.ups (a ∷ []) (under_more seat.client.next_temp temp w.temps q.ups below.0) (w.under, tt), λ i m e lt b key. let less = below.1 i m e lt b key in let le = w.temps in omega (arith, less, le));
         closes = λ u i e. subst (λ (z : Job). CloseOf more closing contents temp z (client.local_bytes seat.client.opened z.file) z.stage) (some_is j i e) (w.closes contents (content_at h.contents seat.client.next_temp value));
-        pending = λ i z f. nothing_there z (ap (λ (l : List Change). slice_get l i) (sym none_waits) ∙ f);
-        single = let u = unless_commits x.hung q.ups a none_up in let v = ap (λ (l : List Change). length l) none_waits in omega (arith, u, v);
+        pending = λ i z f. nothing_there z (ap (λ (l : List FileChange). slice_get l i) (sym none_waits) ∙ f);
+        single = let u = unless_commits x.hung q.ups a none_up in let v = ap (λ (l : List FileChange). length l) none_waits in omega (arith, u, v);
         old = λ p e. elim w.closing_is [
           | inl was ↦ let o = h.old p (sym was ∙ e) in let u = goes.grows.each p o.0 o.1 in (u.0, u.1, u.2.client ∙ o.2)
           | inr is ↦ (new, ap (slice_get (book.ops ++ new ∷ [])) (sym (some_is (length book.ops) p (sym is ∙ e))) ∙ at_end book.ops new, w.of_client ∙ sym g.owner)

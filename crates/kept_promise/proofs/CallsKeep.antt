@@ -1,4 +1,4 @@
--- What the server changes as it takes a message that asks for nothing by a name: its temporary files, the changes that wait, its index and its
+-- What the server changes as it takes a message that asks for nothing by a name: its temporary files, the pending changes, its index and its
 -- moment, and nothing else; and what any message leaves of the tree.
 use Rattle.std.proofs.Common.{◌⊎◌, inl, inr, ◌≡◌, refl, ℕ, List, ◌∷◌, ◌++◌, [], length, Option, Some, None, Result, Ok, Err, Bool, true, false, sym, subst, append-nil}
 use Rattle.hash_calls.specs.declared.message.Lb.TheVariants as lb
@@ -12,7 +12,7 @@ use Rattle.server_core.specs.State as server
 use Rattle.server_core.specs.Closing.{answers, names_unless, names_bytes, looked_up as index_found, writes_unless}
 use Rattle.chunk_calls.specs.Writing.{bytes_known, cond_fault}
 use Rattle.server_core.specs.declared.event.Event.TheVariants as event
-use Rattle.kept_promise.proofs.Common.{Temp, size_most, temp_at, room_fault, piece_fault, assembled, without_temp, nat_lt, if◌then◌else◌, Failed, Status, Body, Message, Indexed, Node, directory, file, node_of, File, Change, ServerStep, server_step, called, got_if, stands, at, makes, makes_unless, commits, commits_to, commits_whole, has_waiting, is_full, Tree, Ask, ask_message, Call, Call.Walks, Entry, Leasing, change_of}
+use Rattle.kept_promise.proofs.Common.{Temp, size_most, temp_at, room_fault, piece_fault, assembled, without_temp, nat_lt, if◌then◌else◌, Failed, Status, Body, Message, Indexed, Node, directory, file, node_of, File, FileChange, ServerStep, server_step, called, got_if, stands, at, makes, makes_unless, takes_commit, takes_commit_on, commits_whole, has_waiting, is_full, Tree, Ask, ask_message, Call, Call.Walks, Entry, Leasing, change_of}
 use Rattle.server_core.specs.Recalling.{comes}
 use Rattle.server_core.specs.declared.change.Wanted.TheVariants as wanted
 use Rattle.server_core.specs.Step.{asks, asks_tree}
@@ -31,19 +31,19 @@ use Rattle.kept_promise.proofs.PathNames.{IsAhead, makes_at, is_making}
 use Rattle.path_calls.specs.declared.walk.Walk.{Walk}
 
 -- a change that comes by a COMMITTMP
-abbrev pub IsByCommit : Message → Change → Type 0
+abbrev pub IsByCommit : Message → FileChange → Type 0
 IsByCommit (message.Call xid (body.Lb (lb.CommitTmp a))) c = (content : List ℕ) × (c.what ≡ wanted.Content content)
 IsByCommit m c = ⊥
 
 -- nothing more waits, or one change of the session, of which this holds
-abbrev pub Waits : (waiting : List Change) → (session : ℕ) → (Change → Type 0) → List Change → Type 0
-Waits waiting n P after = (after ≡ waiting) ⊎ ((c : Change) × (c.session ≡ n) × (after ≡ waiting ++ c ∷ []) × P c)
+abbrev pub Waits : (waiting : List FileChange) → (session : ℕ) → (FileChange → Type 0) → List FileChange → Type 0
+Waits waiting n P after = (after ≡ waiting) ⊎ ((c : FileChange) × (c.session ≡ n) × (after ≡ waiting ++ c ∷ []) × P c)
 
 -- what holds of a server's state whatever these are then
-abbrev pub Frees : (server.State → Type 0) → server.State → (session : ℕ) → (Change → Type 0) → Type 0
-Frees Q s n P = (temps : List (ℕ × Temp)) (waiting : List Change) (index : Indexed) (leasing : Leasing) → Waits s.waiting n P waiting → Q (record s { temps = temps; waiting = waiting; index = index; leasing = leasing })
+abbrev pub Frees : (server.State → Type 0) → server.State → (session : ℕ) → (FileChange → Type 0) → Type 0
+Frees Q s n P = (temps : List (ℕ × Temp)) (waiting : List FileChange) (index : Indexed) (leasing : Leasing) → Waits s.waiting n P waiting → Q (record s { temps = temps; waiting = waiting; index = index; leasing = leasing })
 
-commits_keeps : (Q : server.State → Type 0) (s : server.State) (session : ℕ) → Frees Q s session (λ c. (content : List ℕ) × (c.what ≡ wanted.Content content)) → (xid size : ℕ) (t : Temp) (nd : Result Node Status) → Q (commits_to s session xid size t nd).0
+commits_keeps : (Q : server.State → Type 0) (s : server.State) (session : ℕ) → Frees Q s session (λ c. (content : List ℕ) × (c.what ≡ wanted.Content content)) → (xid size : ℕ) (t : Temp) (nd : Result Node Status) → Q (takes_commit_on s session xid size t nd).0
 commits_keeps Q s session q xid size t (Err e) = q s.temps s.waiting s.index s.leasing (inl refl)
 commits_keeps Q s session q xid size t (Ok directory) = q s.temps s.waiting s.index s.leasing (inl refl)
 commits_keeps Q s session q xid size t (Ok (file f)) = by (nat_lt size_most size)
@@ -136,7 +136,7 @@ called_keeps Q s session xid (body.Lb (lb.CondWrite a)) plain q = by (temp_at s.
     by t None known = taken t (bytes_known s.tree a (place_of s.index.pairs (digest_key a.digest)))
 called_keeps Q s session xid (body.Lb (lb.CommitTmp a)) plain q = by (temp_at s.temps session a.fd)
   where
-    by : (t : Option Temp) → Q (commits s session xid a t).0
+    by : (t : Option Temp) → Q (takes_commit s session xid a t).0
     by None = q s.temps s.waiting s.index s.leasing (inl refl)
     by (Some t) = commits_keeps Q (record s { temps = without_temp s.temps session a.fd }) session (λ temps waiting index leasing w. q temps waiting index leasing w) xid a.size t (node_of s.tree a.handle)
 called_keeps Q s session xid (body.Nfs nfs.Null) plain q = q s.temps s.waiting s.index s.leasing (inl refl)

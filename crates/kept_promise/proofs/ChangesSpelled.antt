@@ -31,7 +31,7 @@ use Rattle.path_calls.specs.declared.walk.Goal.{Goal}
 use Rattle.path_calls.specs.declared.walk.Goal.TheVariants as goal
 use Rattle.file_tree.specs.Step.{create, mkdir, rmdir, remove, rename}
 use Rattle.tree_reading.specs.declared.call.CreateMode.TheVariants as mode
-use Rattle.tree_reading.specs.declared.call.Held.{Held}
+use Rattle.tree_reading.specs.declared.call.Reservation.{Reservation}
 use Rattle.kept_promise.proofs.Makings.{made_by}
 use Rattle.kept_promise.proofs.NamesSpelled.{node_fits, stale_is}
 use Rattle.kept_promise.proofs.Departures.{comes_by}
@@ -98,7 +98,7 @@ renamed_fits t u xid dir to (Err s) h k x = small_fits (message.Answer xid (body
 pub making_answers_fit : MakingAnswersFit
 making_answers_fit = λ xid t held w x h k making. by xid t held w.dir w.left w.goal x h k making
   where
-    by : (xid : ℕ) (t : Tree) (held : Held) (dir : ℕ) (left : List (List ℕ)) (g : Goal) → xid < 2 ^ 32 → IsBounded t → IsBounded (made_by t held dir g).0 → builds_at left g ≡ true → MessageFits (message.Answer xid (body.Nfs (made_by t held dir g).1.answer))
+    by : (xid : ℕ) (t : Tree) (held : Reservation) (dir : ℕ) (left : List (List ℕ)) (g : Goal) → xid < 2 ^ 32 → IsBounded t → IsBounded (made_by t held dir g).0 → builds_at left g ≡ true → MessageFits (message.Answer xid (body.Nfs (made_by t held dir g).1.answer))
     by xid t held dir [] (goal.Make n) x h k e = created_fits t (create t held dir n mode.Guarded).0 xid dir (create t held dir n mode.Guarded).1 h k x
     by xid t held dir [] (goal.MakeDir n) x h k e = made_directory_fits t (mkdir t held dir n).0 xid dir (mkdir t held dir n).1 h k x
     by xid t held dir [] (goal.RemoveDir n) x h k e = removed_directory_fits t (rmdir t held dir n).0 xid dir (rmdir t held dir n).1 h k x
@@ -135,14 +135,14 @@ going_answers_fit = λ xid t held busy w after d x h k is going. by xid t held b
     removal xid t dir name after d (Err s) x is = subst (λ (z : Done). MessageFits (message.Answer xid (body.Nfs z.answer))) (said_is t after (said (nfs.RemoveAnswer (answer.Failed s no_side))) d is) (refused_removal xid s x)
     removal xid t dir name after d (Ok file) x is = no_answer t after (asked.Remove (record { spot = spot_of dir name; file = file })) d is
 
-    move : (xid : ℕ) (t : Tree) (held : Held) (from : ℕ) (name : List ℕ) (to : ℕ) (other : List ℕ) (after : Tree) (d : Done) (r : Result (Option (ℕ × ℕ)) Status) → xid < 2 ^ 32 → IsBounded t → IsBounded after → renaming t held from name to other r ≡ (after, Answered d) → MessageFits (message.Answer xid (body.Nfs d.answer))
+    move : (xid : ℕ) (t : Tree) (held : Reservation) (from : ℕ) (name : List ℕ) (to : ℕ) (other : List ℕ) (after : Tree) (d : Done) (r : Result (Option (ℕ × ℕ)) Status) → xid < 2 ^ 32 → IsBounded t → IsBounded after → renaming t held from name to other r ≡ (after, Answered d) → MessageFits (message.Answer xid (body.Nfs d.answer))
     move xid t held from name to other after d (Err s) x h k is = subst (λ (z : Done). MessageFits (message.Answer xid (body.Nfs z.answer))) (said_is t after (refused_rename s) d is) (refused_move xid s x)
     move xid t held from name to other after d (Ok None) x h k is =
         let e = answered_is (renames t held from name to other) after d is in
         subst (λ (z : Done). MessageFits (message.Answer xid (body.Nfs z.answer))) e.1 (renamed_fits t (rename t held from name to other).0 xid from to (rename t held from name to other).1 h (subst IsBounded (sym e.0) k) x)
     move xid t held from name to other after d (Ok (Some p)) x h k is = no_answer t after (asked.Rename (record { from = spot_of from name; to = spot_of to other; node = p.0; file = p.1 })) d is
 
-    by : (xid : ℕ) (t : Tree) (held : Held) (busy : Bool) (dir : ℕ) (left : List (List ℕ)) (g : Goal) (after : Tree) (d : Done) → xid < 2 ^ 32 → IsBounded t → IsBounded after → comes_by t held busy dir g ≡ (after, Answered d) → goes_at left g ≡ true → MessageFits (message.Answer xid (body.Nfs d.answer))
+    by : (xid : ℕ) (t : Tree) (held : Reservation) (busy : Bool) (dir : ℕ) (left : List (List ℕ)) (g : Goal) (after : Tree) (d : Done) → xid < 2 ^ 32 → IsBounded t → IsBounded after → comes_by t held busy dir g ≡ (after, Answered d) → goes_at left g ≡ true → MessageFits (message.Answer xid (body.Nfs d.answer))
     by xid t held busy dir [] (goal.Remove n) after d x h k is e = removal xid t dir n after d (asks_remove t held busy dir n) x is
     by xid t held busy dir [] (goal.RenameTo from n to) after d x h k is e = move xid t held from n dir to after d (asks_rename t held busy from n dir to) x h k is
     by xid t held busy dir left g after d x h k is e = absurd cc
@@ -150,14 +150,14 @@ going_answers_fit = λ xid t held busy w after d x h k is going. by xid t held b
 pub settled_answers_fit : SettledAnswersFit
 settled_answers_fit = λ xid t held a x h k. by xid t held a x h k
   where
-    removal : (xid : ℕ) (t : Tree) (held : Held) (dir : ℕ) (name : List ℕ) (r : Result Unit Status) → xid < 2 ^ 32 → IsBounded t → IsBounded (removes_if t held (spot_of dir name) r).0 → MessageFits (message.Answer xid (body.Nfs (removes_if t held (spot_of dir name) r).1.answer))
+    removal : (xid : ℕ) (t : Tree) (held : Reservation) (dir : ℕ) (name : List ℕ) (r : Result Unit Status) → xid < 2 ^ 32 → IsBounded t → IsBounded (removes_if t held (spot_of dir name) r).0 → MessageFits (message.Answer xid (body.Nfs (removes_if t held (spot_of dir name) r).1.answer))
     removal xid t held dir name (Err s) x h k = refused_removal xid s x
     removal xid t held dir name (Ok u) x h k = removed_fits t (remove t held dir name).0 xid dir (remove t held dir name).1 h k x
 
-    move : (xid : ℕ) (t : Tree) (held : Held) (from : ℕ) (name : List ℕ) (to : ℕ) (other : List ℕ) (r : Result Unit Status) → xid < 2 ^ 32 → IsBounded t → IsBounded (renames_if t held (spot_of from name) (spot_of to other) r).0 → MessageFits (message.Answer xid (body.Nfs (renames_if t held (spot_of from name) (spot_of to other) r).1.answer))
+    move : (xid : ℕ) (t : Tree) (held : Reservation) (from : ℕ) (name : List ℕ) (to : ℕ) (other : List ℕ) (r : Result Unit Status) → xid < 2 ^ 32 → IsBounded t → IsBounded (renames_if t held (spot_of from name) (spot_of to other) r).0 → MessageFits (message.Answer xid (body.Nfs (renames_if t held (spot_of from name) (spot_of to other) r).1.answer))
     move xid t held from name to other (Err s) x h k = refused_move xid s x
     move xid t held from name to other (Ok u) x h k = renamed_fits t (rename t held from name to other).0 xid from to (rename t held from name to other).1 h k x
 
-    by : (xid : ℕ) (t : Tree) (held : Held) (a : Asked) → xid < 2 ^ 32 → IsBounded t → IsBounded (settles t held a).0 → MessageFits (message.Answer xid (body.Nfs (settles t held a).1.answer))
+    by : (xid : ℕ) (t : Tree) (held : Reservation) (a : Asked) → xid < 2 ^ 32 → IsBounded t → IsBounded (settles t held a).0 → MessageFits (message.Answer xid (body.Nfs (settles t held a).1.answer))
     by xid t held (asked.Remove q) x h k = removal xid t held q.spot.dir q.spot.name (remove_again t.nodes q) x h k
     by xid t held (asked.Rename q) x h k = move xid t held q.from.dir q.from.name q.to.dir q.to.name (rename_again t.nodes q) x h k

@@ -31,7 +31,7 @@ use Rattle.server_core.specs.Closing.{at as at_reading, leases_done, makes_chang
 use Rattle.server_core.specs.Closing as closing
 use Rattle.server_core.specs.Leasing.{asking, recalled, with_granted_on, term_of, given_up}
 use Rattle.server_core.specs.Recalling.{term_on, recall_sent, recalls_for}
-use Rattle.server_core.specs.State.{State, Change, held, stands}
+use Rattle.server_core.specs.State.{State, FileChange, held, stands}
 use Rattle.server_core.specs.Step.{called_under, connect, got_if_under, hangs_if as server_hangs_if, is_recalled}
 use Rattle.server_core.specs.declared.change.Wanted.{Wanted}
 use Rattle.server_core.specs.declared.change.Wanted.TheVariants as wanted
@@ -53,18 +53,18 @@ use Rattle.kept_promise.proofs.Turns.{also_numbered}
 
 -- between two states of the server
 abbrev NoneGranted : State → State → Type 0
-NoneGranted s t = (i j : ℕ) (c : Change) (l : Lease) → slice_get t.waiting i ≡ Some c → slice_get t.leasing.leases j ≡ Some l → l.file ≡ c.file → StoodIn s.leasing.leases l
+NoneGranted s t = (i j : ℕ) (c : FileChange) (l : Lease) → slice_get t.waiting i ≡ Some c → slice_get t.leasing.leases j ≡ Some l → l.file ≡ c.file → StoodIn s.leasing.leases l
 
 -- where the list of leases is the same
 none_same : (s t : State) → t.leasing.leases ≡ s.leasing.leases → NoneGranted s t
 none_same s t same i j c l waits at on = stood_there s.leasing.leases j l (ap (λ (ls : List Lease). slice_get ls j) (sym same) ∙ at)
 
-waits_there : (ws : List Change) (i f : ℕ) (c : Change) (l : Lease) → slice_get ws i ≡ Some c → l.file ≡ c.file → waits_on ws l.file ≡ true
-waits_there ws i f c l at on = any_at (λ (d : Change). is_about d l.file) ws i c at (let same : c.file ≡ l.file = sym on in grind (arith, nat_tests, same))
+waits_there : (ws : List FileChange) (i f : ℕ) (c : FileChange) (l : Lease) → slice_get ws i ≡ Some c → l.file ≡ c.file → waits_on ws l.file ≡ true
+waits_there ws i f c l at on = any_at (λ (d : FileChange). is_about d l.file) ws i c at (let same : c.file ≡ l.file = sym on in grind (arith, nat_tests, same))
 
 taken_none : (s : State) (n xid : ℕ) (b : Body) (p : State × ServerStep) → AreOrdered s.leasing.leases → Taken s n xid b p → NoneGranted s p.0
 taken_none s n xid b p ordered (stays waiting leasing quiet same) = none_same s p.0 (ap (λ g. g.leases) leasing)
-taken_none s n xid b p ordered (grants file names waiting leasing quiet same) = λ i j c l waits at on. by j l file (ap (λ (ls : List Lease). slice_get ls j) (sym (ap (λ g. g.leases) leasing)) ∙ at) (waits_there s.waiting i 0 c l (ap (λ (ws : List Change). slice_get ws i) (sym waiting) ∙ waits) on)
+taken_none s n xid b p ordered (grants file names waiting leasing quiet same) = λ i j c l waits at on. by j l file (ap (λ (ls : List Lease). slice_get ls j) (sym (ap (λ g. g.leases) leasing)) ∙ at) (waits_there s.waiting i 0 c l (ap (λ (ws : List FileChange). slice_get ws i) (sym waiting) ∙ waits) on)
   where
     by : (j : ℕ) (l : Lease) (file : Option ℕ) → slice_get (with_granted_on s.leasing.leases s.leasing.moment n file (term_on s file)) j ≡ Some l → waits_on s.waiting l.file ≡ true → StoodIn s.leasing.leases l
     by j l None at waits = stood_there s.leasing.leases j l at
@@ -86,15 +86,15 @@ got_none s true n now (message.Answer xid b) ordered = λ i j c l waits at on. b
 settle_none : (s : State) (now : ℕ) → NoneGranted s (closing.settles s now).0
 settle_none s now = by (ready_by s now)
   where
-    done : (ws : List Change) (moment n id : ℕ) (r : Result Changed Status) (i j : ℕ) (c : Change) (l : Lease) → slice_get ws i ≡ Some c → slice_get (leases_done s.leasing.leases moment n id (committed (term_of s.leasing.term ws id) r).answer) j ≡ Some l → l.file ≡ c.file → StoodIn s.leasing.leases l
+    done : (ws : List FileChange) (moment n id : ℕ) (r : Result Changed Status) (i j : ℕ) (c : FileChange) (l : Lease) → slice_get ws i ≡ Some c → slice_get (leases_done s.leasing.leases moment n id (committed (term_of s.leasing.term ws id) r).answer) j ≡ Some l → l.file ≡ c.file → StoodIn s.leasing.leases l
     done ws moment n id (Ok d) i j c l waits at on = granted_stood s.leasing.leases ws moment n id s.leasing.term l.file j l (waits_there ws i 0 c l waits on) at refl
     done ws moment n id (Err e) i j c l waits at on = stood_there s.leasing.leases j l at
 
-    made : (ws : List Change) (c : Change) (w : Wanted) → NoneGranted s (makes_change (at_reading (record s { waiting = ws }) now) c w).0
+    made : (ws : List FileChange) (c : FileChange) (w : Wanted) → NoneGranted s (makes_change (at_reading (record s { waiting = ws }) now) c w).0
     made ws c (wanted.Content content) = λ i j d l waits at on. done ws (max s.leasing.moment now) c.session c.file (stored false s.tree (replace s.tree (held ws) c.file content)).1 i j d l waits at on
     made ws c (wanted.Asked a) = none_same s (makes_change (at_reading (record s { waiting = ws }) now) c (wanted.Asked a)).0 refl
 
-    by : (o : Option Change) → NoneGranted s (settles_by s false now o).0
+    by : (o : Option FileChange) → NoneGranted s (settles_by s false now o).0
     by None = none_same s s refl
     by (Some c) = made (without s.waiting c.session) c c.what
 
@@ -136,7 +136,7 @@ frees_answered book k qs e made n now xid bytes is up read =
 -- ---- a change comes
 
 -- the leases that hold it up are asked for, at this moment of the server
-asks_all : (s : State) (c : Change) (i : ℕ) (l : Lease) → AreOrdered s.leasing.leases → slice_get s.leasing.leases i ≡ Some l → l.file ≡ c.file → is_others l (asker c) ≡ true → s.leasing.moment < l.ends → l.recall ≡ None → stands s l.session ≡ true
+asks_all : (s : State) (c : FileChange) (i : ℕ) (l : Lease) → AreOrdered s.leasing.leases → slice_get s.leasing.leases i ≡ Some l → l.file ≡ c.file → is_others l (asker c) ≡ true → s.leasing.moment < l.ends → l.recall ≡ None → stands s l.session ≡ true
     → (let a = asking s.leasing (recalls_for s c) in
     ((x : ℕ) × Contains (map recall_sent a.1) (record { session = l.session; message = message.Call x (body.Back (back.Recall (handle_bytes l.file))) }) × (j : ℕ) × (slice_get (all_marked s.leasing.leases a.1) j ≡ Some (record l { recall = Some x })))
     ⊎ ((call_at a.0 l.session).spent ≡ true))
@@ -159,7 +159,7 @@ asks_all s c i l ordered at on other lasts unasked up =
 abbrev pub SpentSo : (till : List Moment) → Core → State → Type 0
 SpentSo till k after = (n : ℕ) → stands k.server n ≡ true → (call_at after.leasing.calls n).spent ≡ true → XIDS_MOST ≤ length (recall_numbers n till)
 
-comes_so : (till : List Moment) (k : Core) (n now : ℕ) (bytes : List ℕ) (xid : ℕ) (b : Body) (after : State) (sent : List Sent) → AreOrdered k.server.leasing.leases → parse_of (server_waits k n) bytes ≡ Ok (message.Call xid b) → (c : Change) → IsAsked k.server.tree n xid b c → after.waiting ≡ k.server.waiting ++ c ∷ []
+comes_so : (till : List Moment) (k : Core) (n now : ℕ) (bytes : List ℕ) (xid : ℕ) (b : Body) (after : State) (sent : List Sent) → AreOrdered k.server.leasing.leases → parse_of (server_waits k n) bytes ≡ Ok (message.Call xid b) → (c : FileChange) → IsAsked k.server.tree n xid b c → after.waiting ≡ k.server.waiting ++ c ∷ []
     → after.leasing ≡ recalled (at_reading k.server now).leasing (recalls_for (at_reading k.server now) c) → sent ≡ map recall_sent (asking (at_reading k.server now).leasing (recalls_for (at_reading k.server now) c)).1
     → SpentSo till k after → Comes till (record { event = Serves n now bytes; before = k.server; after = after; sent = sent }) n now bytes c
 comes_so till k n now bytes xid b after sent ordered read c asked waiting leasing says spends = record {
@@ -178,13 +178,13 @@ comes_so till k n now bytes xid b after sent ordered read c asked waiting leasin
 -- ---- how the list goes on
 
 -- none of a session that has none is taken
-without_absent : (ws : List Change) (n : ℕ) → ((i : ℕ) (c : Change) → slice_get ws i ≡ Some c → c.session ≡ n → ⊥) → without ws n ≡ ws
+without_absent : (ws : List FileChange) (n : ℕ) → ((i : ℕ) (c : FileChange) → slice_get ws i ≡ Some c → c.session ≡ n → ⊥) → without ws n ≡ ws
 without_absent [] n none = refl
 without_absent (w ∷ ws) n none = by (w.session == n) refl (without_absent ws n (λ i c at own. none (suc i) c at own))
   where
     by : (b : Bool) → (w.session == n) ≡ b → without ws n ≡ ws → cond (not b) (w ∷ without ws n) (without ws n) ≡ w ∷ ws
     by true is later = absurd (none 0 w refl (grind (arith, nat_tests, is)))
-    by false is later = ap (λ (l : List Change). w ∷ l) later
+    by false is later = ap (λ (l : List FileChange). w ∷ l) later
 
 abbrev ServedOn : List Moment → Core → (n now : ℕ) (bytes : List ℕ) → CoreStep → Type 0
 ServedOn till k n now bytes t = SpentSo till k t.core.server → GoesOn till (Serves n now bytes) (record { event = Serves n now bytes; before = k.server; after = t.core.server; sent = t.down })
@@ -237,7 +237,7 @@ hangs_on book k qs n kept = by (numbered k.sessions n) refl
     by None at = untouched (λ x there up. nothing_there x (sym at ∙ there))
     by (Some x) at = hung x at x.hung refl
 
-settles_on : (till : List Moment) (k : Core) (now : ℕ) (o : Option Change) → ready_by k.server now ≡ o → Leaves k now o → GoesOn till (Settles now) (move_of (moment k (Settles now)))
+settles_on : (till : List Moment) (k : Core) (now : ℕ) (o : Option FileChange) → ready_by k.server now ≡ o → Leaves k now o → GoesOn till (Settles now) (move_of (moment k (Settles now)))
 settles_on till k now None e l = inl (ap (λ (s : State). s.waiting) l)
 settles_on till k now (Some c) e l = inr (l.place, c, e, l.there, l.left)
 
@@ -294,11 +294,11 @@ settle_ordered s now h = by (ready_by s now)
     done moment n id term (Ok d) = with_granted_ordered s.leasing.leases moment n id term h
     done moment n id term (Err e) = h
 
-    made : (ws : List Change) (c : Change) (w : Wanted) → AreOrdered (makes_change (at_reading (record s { waiting = ws }) now) c w).0.leasing.leases
+    made : (ws : List FileChange) (c : FileChange) (w : Wanted) → AreOrdered (makes_change (at_reading (record s { waiting = ws }) now) c w).0.leasing.leases
     made ws c (wanted.Content content) = done (max s.leasing.moment now) c.session c.file (term_of s.leasing.term ws c.file) (stored false s.tree (replace s.tree (held ws) c.file content)).1
     made ws c (wanted.Asked a) = h
 
-    by : (o : Option Change) → AreOrdered (settles_by s false now o).0.leasing.leases
+    by : (o : Option FileChange) → AreOrdered (settles_by s false now o).0.leasing.leases
     by None = h
     by (Some c) = made (without s.waiting c.session) c c.what
 
@@ -337,11 +337,11 @@ quiet_got s true n now (message.Answer xid b) = refl
 quiet_settle : (s : State) (now : ℕ) → (closing.settles s now).0.leasing.quiet ≡ s.leasing.quiet
 quiet_settle s now = by (ready_by s now)
   where
-    made : (ws : List Change) (c : Change) (w : Wanted) → (makes_change (at_reading (record s { waiting = ws }) now) c w).0.leasing.quiet ≡ s.leasing.quiet
+    made : (ws : List FileChange) (c : FileChange) (w : Wanted) → (makes_change (at_reading (record s { waiting = ws }) now) c w).0.leasing.quiet ≡ s.leasing.quiet
     made ws c (wanted.Content content) = refl
     made ws c (wanted.Asked a) = refl
 
-    by : (o : Option Change) → (settles_by s false now o).0.leasing.quiet ≡ s.leasing.quiet
+    by : (o : Option FileChange) → (settles_by s false now o).0.leasing.quiet ≡ s.leasing.quiet
     by None = refl
     by (Some c) = made (without s.waiting c.session) c c.what
 

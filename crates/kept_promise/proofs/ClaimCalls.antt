@@ -10,7 +10,7 @@ use Rattle.client_state.specs.declared.task.Task.{Task}
 use Rattle.server_core.specs.declared.change.Wanted.{Wanted}
 use Rattle.server_core.specs.declared.change.Wanted.TheVariants as wanted
 use Rattle.server_core.specs.State as server
-use Rattle.server_core.specs.State.{Change, stands}
+use Rattle.server_core.specs.State.{FileChange, stands}
 use Rattle.server_core.specs.Closing.{at, ready_by, settles_by, settles_under, makes_change_under}
 use Rattle.callback_core.specs.Waits.{without}
 use Rattle.server_core.specs.Step.{server_step}
@@ -111,13 +111,13 @@ module _ {all past rest : List Moment} {opening : List Opening} {k : Core} {ms :
       let owner : x.owner ≡ i = ap (λ (z : Session). z.owner) (sym same) ∙ o.2 in
       record { session = h; seat_is = some_is h.seat seat (sym h.owner ∙ ap (numbered k.seats) owner ∙ here) }
 
--- a change that waits is among its session's
-own_among : (cs : List Change) (i : ℕ) (c : Change) → slice_get cs i ≡ Some c → (j : ℕ) × (slice_get (own c.session cs) j ≡ Some c)
+-- a pending change is among its session's
+own_among : (cs : List FileChange) (i : ℕ) (c : FileChange) → slice_get cs i ≡ Some c → (j : ℕ) × (slice_get (own c.session cs) j ≡ Some c)
 own_among [] i c e = nothing_there c e
 own_among (d ∷ cs) zero c e = by (d.session == c.session) (grind (arith, nat_tests, same_session))
   where
     same_session : d.session ≡ c.session
-    same_session = ap (λ (z : Change). z.session) (some_is d c e)
+    same_session = ap (λ (z : FileChange). z.session) (some_is d c e)
 
     by : (b : Bool) → b ≡ true → (j : ℕ) × (slice_get (cond b (d ∷ own c.session cs) (own c.session cs)) j ≡ Some c)
     by true is = (0, e)
@@ -164,7 +164,7 @@ settle_claimed {all = all} {opening = opening} {k = k} {ms = ms} at_ {mid = mid}
             (go (sent_is (settles k at_) sent n ∙ ap (λ (z : server.State × ServerStep). sent_on n z.1.send) is))
 
         -- what is on its way up is no COMMITTMP, where one waits
-        unstored : (d : Change) → ready_by k.server at_ ≡ Some d → d.session ≡ n → (f : ℕ) → AllByRecursion (λ m. stored_by m ≡ Some f → ⊥) (ups_of a.p)
+        unstored : (d : FileChange) → ready_by k.server at_ ≡ Some d → d.session ≡ n → (f : ℕ) → AllByRecursion (λ m. stored_by m ≡ Some f → ⊥) (ups_of a.p)
         unstored d is own_ f =
             let o = own_session s i seat n a.x a.m here mine a.x_there a.m_there in
             let w = ready_waits k.server at_ d is in
@@ -176,7 +176,7 @@ settle_claimed {all = all} {opening = opening} {k = k} {ms = ms} at_ {mid = mid}
             subst (AllByRecursion (λ m. stored_by m ≡ Some f → ⊥)) (sym (a.ups_is ∙ ap ups_of left)) (none_counted a.m.ups (omega (arith, one, some)) f)
 
         -- the seat's job is that of the COMMITTMP
-        file_is : (d : Change) (content : List ℕ) → ready_by k.server at_ ≡ Some d → d.session ≡ n → d.what ≡ wanted.Content content → d.file ≡ u.file
+        file_is : (d : FileChange) (content : List ℕ) → ready_by k.server at_ ≡ Some d → d.session ≡ n → d.what ≡ wanted.Content content → d.file ≡ u.file
         file_is d content is own_ what =
             let o = own_session s i seat n a.x a.m here mine a.x_there a.m_there in
             let w = ready_waits k.server at_ d is in
@@ -186,7 +186,7 @@ settle_claimed {all = all} {opening = opening} {k = k} {ms = ms} at_ {mid = mid}
             let is_job = ap job (sym o.seat_is) ∙ p.waited uncut in
             (job_task seat.place seat.client.task u (record { place = p.place; file = d.file; stage = stage.Committing d.xid }) task is_job).0
 
-        made : (d : Change) (w : Wanted) → ready_by k.server at_ ≡ Some d → d.what ≡ w → downs_of ds ≡ sent_on n (makes_change_under (at (record k.server { waiting = without k.server.waiting d.session }) at_) false d w).1.send
+        made : (d : FileChange) (w : Wanted) → ready_by k.server at_ ≡ Some d → d.what ≡ w → downs_of ds ≡ sent_on n (makes_change_under (at (record k.server { waiting = without k.server.waiting d.session }) at_) false d w).1.send
             → AllTails (IsPromised more at_ (record k { server = (makes_change_under (at (record k.server { waiting = without k.server.waiting d.session }) at_) false d w).0 }) i n (way_of a.y a.p) seat.client.sent u) ds
         made d (wanted.Asked r) is what e = none_told more at_ (record k { server = (makes_change_under (at (record k.server { waiting = without k.server.waiting d.session }) at_) false d (wanted.Asked r)).0 }) i n (way_of a.y a.p) seat.client.sent u ds
             (sent_on n (makes_change_under (at (record k.server { waiting = without k.server.waiting d.session }) at_) false d (wanted.Asked r)).1.send) e (on_grantless n (makes_change_under (at (record k.server { waiting = without k.server.waiting d.session }) at_) false d (wanted.Asked r)).1.send (refl, tt))
@@ -213,6 +213,6 @@ settle_claimed {all = all} {opening = opening} {k = k} {ms = ms} at_ {mid = mid}
                 (sym (ap grants_by told) ∙ lease_grants u.stage (reply_body t.reply) g lease)))
                 (λ x f. tt)
 
-        by : (o : Option Change) → ready_by k.server at_ ≡ o → AllTails (IsPromised more at_ (settles k at_).core i n (way_of a.y a.p) seat.client.sent u) ds
+        by : (o : Option FileChange) → ready_by k.server at_ ≡ o → AllTails (IsPromised more at_ (settles k at_).core i n (way_of a.y a.p) seat.client.sent u) ds
         by None is = by_step (settles_by k.server false at_ None) (ap (settles_by k.server false at_) is) (λ e. none_told more at_ (record k { server = k.server }) i n (way_of a.y a.p) seat.client.sent u ds [] e tt)
         by (Some d) is = by_step (settles_by k.server false at_ (Some d)) (ap (settles_by k.server false at_) is) (λ e. made d d.what is refl e)

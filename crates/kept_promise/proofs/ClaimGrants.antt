@@ -31,7 +31,7 @@ use Rattle.client_state.specs.declared.task.Stage.TheVariants as stage
 use Rattle.open_close.specs.Step.{lease_in}
 use Rattle.server_core.specs.declared.change.Wanted.TheVariants as wanted
 use Rattle.server_core.specs.declared.event.Sent.{Sent}
-use Rattle.server_core.specs.Closing.{at, answers, has_waiting, is_full, makes, makes_unless, writes_unless, names_unless, names_bytes, looked_up, commits, commits_to, commits_whole}
+use Rattle.server_core.specs.Closing.{at, answers, has_waiting, is_full, makes, makes_unless, writes_unless, names_unless, names_bytes, looked_up, takes_commit, takes_commit_on, commits_whole}
 use Rattle.server_core.specs.Recalling.{recall_sent, recalls_for, comes}
 use Rattle.server_core.specs.State.{State, change_of, held, stands}
 use Rattle.server_core.specs.Step.{called_under, asks as asks_outcome, got_if_under}
@@ -102,7 +102,7 @@ module _ (s : State) where
       by false true = (refl, tt)
       by false false = recalls_none (asks s.leasing.calls (recalls_for s (change_of n xid id (wanted.Content content)))).1
 
-  commits_to_none : (n xid size : ℕ) (t : Temp) (o : Result Node Status) → Grantless (commits_to s n xid size t o).1.send
+  commits_to_none : (n xid size : ℕ) (t : Temp) (o : Result Node Status) → Grantless (takes_commit_on s n xid size t o).1.send
   commits_to_none n xid size t (Err e) = (refl, tt)
   commits_to_none n xid size t (Ok directory) = (refl, tt)
   commits_to_none n xid size t (Ok (a_file f)) = by (nat_lt size_most size)
@@ -116,7 +116,7 @@ module _ (s : State) where
   asks_none n xid (Some (Answered d)) = (refl, tt)
   asks_none n xid (Some (Waits a)) = recalls_none (asks s.leasing.calls (recalls_for s (change_of n xid (file_of a) (wanted.Asked a)))).1
 
-commits_none : (s : State) (n xid : ℕ) (a : Commit) (t : Option Temp) → Grantless (commits s n xid a t).1.send
+commits_none : (s : State) (n xid : ℕ) (a : Commit) (t : Option Temp) → Grantless (takes_commit s n xid a t).1.send
 commits_none s n xid a None = (refl, tt)
 commits_none s n xid a (Some t) = commits_to_none (record s { temps = without_temp s.temps n a.fd }) n xid a.size t (node_of s.tree a.handle)
 

@@ -34,7 +34,7 @@ use Rattle.kept_promise.proofs.NoteSteps.{StepKeeps, NewNote, ClosesSmall, IsSto
 
 -- ---- answers on their way are to earlier calls
 
-told_below : (n : ℕ) (w : List server.Change) (q : Queue) (hung : Bool) (c : client.State) (i : ℕ) (t : Told) → IsBalanced n w q hung c.next_xid (client.calls_of c) → slice_get q.downs i ≡ Some t → t.xid < c.next_xid
+told_below : (n : ℕ) (w : List server.FileChange) (q : Queue) (hung : Bool) (c : client.State) (i : ℕ) (t : Told) → IsBalanced n w q hung c.next_xid (client.calls_of c) → slice_get q.downs i ≡ Some t → t.xid < c.next_xid
 told_below n w q hung c i t h at = by (nat_lt t.xid c.next_xid) refl
   where
     by : (b : Bool) → nat_lt t.xid c.next_xid ≡ b → t.xid < c.next_xid

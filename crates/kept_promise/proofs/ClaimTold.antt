@@ -18,10 +18,10 @@ use Rattle.chunk_calls.specs.Answers.{Node, directory, file as a_file, node_of, 
 use Rattle.client_state.specs.declared.noting.Granted.{Granted}
 use Rattle.server_core.specs.declared.change.Wanted.TheVariants as wanted
 use Rattle.server_core.specs.State as server
-use Rattle.server_core.specs.State.{Change, held}
+use Rattle.server_core.specs.State.{FileChange, held}
 use Rattle.server_core.specs.Closing.{at, makes_change_under}
 use Rattle.server_core.specs.Recalling.{file_in, term_at, term_on, grants_on}
-use Rattle.tree_calls.specs.Waiting.{commits_under as tree_commits_under}
+use Rattle.tree_calls.specs.Waiting.{gives_content_under}
 use Rattle.lease_law.specs.Claims.{Way, IsAmong, IsPromise, HasClaim, noted_at, stored_by}
 use Rattle.lease_law.specs.Orderly.{IsOrderly}
 use Rattle.lease_law.proofs.Calls.{named_file, term_full}
@@ -90,10 +90,10 @@ module _ (s : server.State) (clock at_ now : ℕ) (drift : ℕ) (noted : List No
           subst (λ (h : Granted). IsPromise (grants_on (at s at_) n (Some fl.id)) now drift noted i n f h.version h.term sent way []) (granted_is (granted_so fl.version (term_on (at s at_) (Some fl.id))) g e) (file_promised r.handle fl is own)
 
   -- and a COMMITTMP that was made
-  pub commit_promised : (d : Change) (content : List ℕ) → d.session ≡ n → d.file ≡ f
-      → (g : Granted) → grants_in (body.Lb (lb.CommitTmpAnswer (tree_commits_under s.tree (held (without s.waiting d.session)) false d.file content (term_at (at (record s { waiting = without s.waiting d.session }) at_) d.file)).1.answer)) ≡ Some g
+  pub commit_promised : (d : FileChange) (content : List ℕ) → d.session ≡ n → d.file ≡ f
+      → (g : Granted) → grants_in (body.Lb (lb.CommitTmpAnswer (gives_content_under s.tree (held (without s.waiting d.session)) false d.file content (term_at (at (record s { waiting = without s.waiting d.session }) at_) d.file)).1.answer)) ≡ Some g
       → IsPromise (makes_change_under (at (record s { waiting = without s.waiting d.session }) at_) false d (wanted.Content content)).0 now drift noted i n f g.version g.term sent way []
-  commit_promised d content mine file g e = λ lt. made (tree_commits_under s.tree (held (without s.waiting d.session)) false d.file content (term_at rest d.file)).1.answer refl e lt
+  commit_promised d content mine file g e = λ lt. made (gives_content_under s.tree (held (without s.waiting d.session)) false d.file content (term_at rest d.file)).1.answer refl e lt
     where
       rest : server.State
       rest = at (record s { waiting = without s.waiting d.session }) at_
@@ -104,7 +104,7 @@ module _ (s : server.State) (clock at_ now : ℕ) (drift : ℕ) (noted : List No
       rest_orderly : IsOrderly rest now
       rest_orderly = let z = at_orderly s clock at_ now le until o in record { early = z.early; ordered = z.ordered; changes = all_left IsFit (λ c. not (c.session == d.session)) s.waiting o.changes; given = z.given }
 
-      made : (a : Answer Committed Unit) → (tree_commits_under s.tree (held (without s.waiting d.session)) false d.file content (term_at rest d.file)).1.answer ≡ a → grants_in (body.Lb (lb.CommitTmpAnswer a)) ≡ Some g → drift < g.term → (g.term ≡ done.leasing.term) × HasClaim done now noted i n f g.version sent way []
+      made : (a : Answer Committed Unit) → (gives_content_under s.tree (held (without s.waiting d.session)) false d.file content (term_at rest d.file)).1.answer ≡ a → grants_in (body.Lb (lb.CommitTmpAnswer a)) ≡ Some g → drift < g.term → (g.term ≡ done.leasing.term) × HasClaim done now noted i n f g.version sent way []
       made (Failed x u) is e lt = no_grant g e
       made (Done a) is e lt =
           let same = granted_is (granted_so a.version a.term) g e in

@@ -10,7 +10,7 @@ use Rattle.register_model.specs.declared.op.Word.TheVariants as words
 use Rattle.client_cache.specs.Cache.{reserved, with_content, without_note}
 use Rattle.open_close.specs.Hashed.{named_by as part_of_named, named as parts_named}
 use Rattle.file_close.specs.Storing.{closed}
-use Rattle.kept_promise.proofs.Common.{refused, slice_get, sha1, Chunk, Answer, Done, Failed, Status, Committed, store_pending, store_of, is_stored, store_at, answered, no_counts, idle, goes_on, goes_if, told_temp, sends_whole, told_named, told_whole, Local, Store, StoreCall, Op, Traffic, Contains, Contains-append_left, slice_set, unwrap_or, option_map, Message, ClientStep, Core, Session, has_point, point_if, counted, Book, HadContent, value_at, version_at, Reply, Reply.Made, Reply.Named, Reply.Stored, Reply.Changed, Told, Queue, reply_program}
+use Rattle.kept_promise.proofs.Common.{refused, slice_get, sha1, Chunk, Answer, Done, Failed, Status, Committed, store_pending, store_of, is_stored, store_at, answered, no_counts, idle, goes_on, goes_if, told_temp, sends_whole, told_named, told_whole, Local, Upload, UploadCall, Op, Traffic, Contains, Contains-append_left, slice_set, unwrap_or, option_map, Message, ClientStep, Core, Session, has_point, point_if, counted, Book, HadContent, value_at, version_at, Reply, Reply.Made, Reply.Named, Reply.Stored, Reply.Changed, Told, Queue, reply_program}
 use Rattle.kept_promise.proofs.Lists.{some_is, there_at}
 use Rattle.kept_promise.proofs.Messages.{Job, CommitTold, CloseOf, stage_word}
 use Rattle.kept_promise.proofs.Rights.{IsMade}
@@ -48,7 +48,7 @@ named_front v ms ns b h = subst (λ (l : List (List ℕ)). Contains l b) (sym (j
     joined [] = refl
     joined (m ∷ ms) = ap (λ l. part_of_named v m ++ l) (joined ms) ∙ sym (append_assoc (part_of_named v m) (parts_named v ms) (parts_named v ns))
 
-pub comes_on : (book : Book) (k : Core) (qs : List Queue) (n : ℕ) (x : Session) (q : Queue) (t : Told) (ts : List Told) (j : Job) (g : Here book k qs n x q t ts j) (st : Store) → j.file < 18446744073709551616 → Ready book k qs n x q t ts j g st → Filled book k qs n x q t ts j g q.ups st → Makes book k qs n x q t ts j g (goes_on (idle (client_at book k qs n x q t ts j g)) j.file (local_of g) st)
+pub comes_on : (book : Book) (k : Core) (qs : List Queue) (n : ℕ) (x : Session) (q : Queue) (t : Told) (ts : List Told) (j : Job) (g : Here book k qs n x q t ts j) (st : Upload) → j.file < 18446744073709551616 → Ready book k qs n x q t ts j g st → Filled book k qs n x q t ts j g q.ups st → Makes book k qs n x q t ts j g (goes_on (idle (client_at book k qs n x q t ts j g)) j.file (local_of g) st)
 comes_on book k qs n x q t ts j g st fits w filled = by (is_stored (named (client_at book k qs n x q t ts j g).lbfs st (client_at book k qs n x q t ts j g).next_xid).store) refl
   where
     by : (b : Bool) → is_stored (named (client_at book k qs n x q t ts j g).lbfs st (client_at book k qs n x q t ts j g).next_xid).store ≡ b → Makes book k qs n x q t ts j g (goes_if (idle (client_at book k qs n x q t ts j g)) j.file (local_of g) (named (client_at book k qs n x q t ts j g).lbfs st (client_at book k qs n x q t ts j g).next_xid) b)
@@ -121,7 +121,7 @@ not_done e = absurd cc
 before_making : (x temp y : ℕ) → stage.Making x temp ≡ stage.Committing y → ⊥
 before_making x temp y e = absurd cc
 
-before_storing : (st : Store) (y : ℕ) → stage.Storing st ≡ stage.Committing y → ⊥
+before_storing : (st : Upload) (y : ℕ) → stage.Storing st ≡ stage.Committing y → ⊥
 before_storing st y e = absurd cc
 
 pub comes_made : (book : Book) (k : Core) (qs : List Queue) (n : ℕ) (x : Session) (q : Queue) (t : Told) (ts : List Told) (j : Job) (g : Here book k qs n x q t ts j) (temp : ℕ) (a : Answer Unit Unit) → j.file < 18446744073709551616 → j.stage ≡ stage.Making t.xid temp → t.reply ≡ Made a → Makes book k qs n x q t ts j g (told_temp (idle (client_at book k qs n x q t ts j g)) (client.calls_of (client_at book k qs n x q t ts j g)) j.file t.xid temp (local_of g) a)
@@ -145,10 +145,10 @@ comes_made book k qs n x q t ts j g temp a fits waits is = by a is
 
 -- ---- by the answer to a CONDWRITE or a TMPWRITE
 
-stored_close : (book : Book) (k : Core) (qs : List Queue) (n : ℕ) (x : Session) (q : Queue) (t : Told) (ts : List Told) (j : Job) (g : Here book k qs n x q t ts j) (st : Store) → j.stage ≡ stage.Storing st → CloseOf book x.closing (session_at book k qs n x q t ts j g).contents (client_at book k qs n x q t ts j g).next_temp j (local_of g) (stage.Storing st)
+stored_close : (book : Book) (k : Core) (qs : List Queue) (n : ℕ) (x : Session) (q : Queue) (t : Told) (ts : List Told) (j : Job) (g : Here book k qs n x q t ts j) (st : Upload) → j.stage ≡ stage.Storing st → CloseOf book x.closing (session_at book k qs n x q t ts j g).contents (client_at book k qs n x q t ts j g).next_temp j (local_of g) (stage.Storing st)
 stored_close book k qs n x q t ts j g st waits = let h = session_at book k qs n x q t ts j g in subst (CloseOf book x.closing h.contents h.seat.client.next_temp j (local_of g)) waits (h.closes g.uncut j g.job_is)
 
-pub comes_stored : (book : Book) (k : Core) (qs : List Queue) (n : ℕ) (x : Session) (q : Queue) (t : Told) (ts : List Told) (j : Job) (g : Here book k qs n x q t ts j) (st : Store) (u : StoreCall) (a : Answer Unit Unit) → j.file < 18446744073709551616 → j.stage ≡ stage.Storing st → store_at st.under t.xid ≡ Some u → u.way ≡ way.Whole → store_pending u ≡ told_pending t → t.reply ≡ Stored a
+pub comes_stored : (book : Book) (k : Core) (qs : List Queue) (n : ℕ) (x : Session) (q : Queue) (t : Told) (ts : List Told) (j : Job) (g : Here book k qs n x q t ts j) (st : Upload) (u : UploadCall) (a : Answer Unit Unit) → j.file < 18446744073709551616 → j.stage ≡ stage.Storing st → store_at st.under t.xid ≡ Some u → u.way ≡ way.Whole → store_pending u ≡ told_pending t → t.reply ≡ Stored a
     → Makes book k qs n x q t ts j g (told_whole (idle (client_at book k qs n x q t ts j g)) (client.calls_of (client_at book k qs n x q t ts j g)) j.file t.xid (local_of g) (answered st t.xid) a)
 comes_stored book k qs n x q t ts j g st u a fits waits found whole same is = by a is
   where
@@ -162,7 +162,7 @@ comes_stored book k qs n x q t ts j g st u a fits waits found whole same is = by
     by (Done v) is = comes_on book k qs n x q t ts j g (answered st t.xid) fits ready (filled_answered book k qs n x q t ts j g st u waits found whole (subst TellsNone (sym is) tt))
     by (Failed s v) is = absurd (not_done (answer_is book k qs n x q t ts j g (Stored (Failed s v)) is).1)
 
-pub comes_named : (book : Book) (k : Core) (qs : List Queue) (n : ℕ) (x : Session) (q : Queue) (t : Told) (ts : List Told) (j : Job) (g : Here book k qs n x q t ts j) (st : Store) (u : StoreCall) (a : Answer Unit Unit) → j.file < 18446744073709551616 → j.stage ≡ stage.Storing st → store_at st.under t.xid ≡ Some u → u.way ≡ way.Named → store_pending u ≡ told_pending t → t.reply ≡ Named a
+pub comes_named : (book : Book) (k : Core) (qs : List Queue) (n : ℕ) (x : Session) (q : Queue) (t : Told) (ts : List Told) (j : Job) (g : Here book k qs n x q t ts j) (st : Upload) (u : UploadCall) (a : Answer Unit Unit) → j.file < 18446744073709551616 → j.stage ≡ stage.Storing st → store_at st.under t.xid ≡ Some u → u.way ≡ way.Named → store_pending u ≡ told_pending t → t.reply ≡ Named a
     → Makes book k qs n x q t ts j g (told_named (idle (client_at book k qs n x q t ts j g)) (client.calls_of (client_at book k qs n x q t ts j g)) j.file t.xid (local_of g) (answered st t.xid) u a)
 comes_named book k qs n x q t ts j g st u a fits waits found by_name same is = by (answer_is book k qs n x q t ts j g (Named a) is).1
   where

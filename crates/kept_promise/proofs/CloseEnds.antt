@@ -13,7 +13,7 @@ use Rattle.tree_calls.specs.declared.asked.Asked.TheVariants as asked
 use Rattle.server_core.specs.declared.change.Wanted.TheVariants as wanted
 use Rattle.register_model.specs.declared.op.Outcome.TheVariants as told
 use Rattle.register_model.specs.declared.op.Word.TheVariants as words
-use Rattle.kept_promise.proofs.Common.{slice_get, slice_set, cond, ◌==◌, sha1, Pending, Change, Wanted, Local, Stage, without_at_itself, without_at_another, Op, Traffic, Word, Core, Session, Book, Call, Call.Commit, Call.Walks, Ask, Told, Queue, reply_program}
+use Rattle.kept_promise.proofs.Common.{slice_get, slice_set, cond, ◌==◌, sha1, Pending, FileChange, Wanted, Local, Stage, without_at_itself, without_at_another, Op, Traffic, Word, Core, Session, Book, Call, Call.Commit, Call.Walks, Ask, Told, Queue, reply_program}
 use Rattle.kept_promise.proofs.Lists.{some_is, nothing_there, same_or_not}
 use Rattle.kept_promise.proofs.Keys.{times, times_append, own, on_way, ask_key, change_key, told_key, pending_key, there_by, key, key_xid, wanted_program}
 use Rattle.kept_promise.proofs.Messages.{IsCreating, Job, job, stage_word, AllAsks, IsCommit, CommitOf, WaitsFor, AsksFor, walk_for, walk_is as asked_walk}
@@ -52,10 +52,10 @@ commits_apart book closing cut o j contents (a ∷ us) uncut is apart all = by a
     by _ e h none = omega (arith, none)
 
 -- no stage waits for one of these changes
-abbrev NoneLeft : Job → List Change → Type 0
-NoneLeft j cs = ((i : ℕ) (d : Change) (content : List ℕ) → slice_get cs i ≡ Some d → d.what ≡ wanted.Content content → j.stage ≡ stage.Committing d.xid → ⊥) × ((i : ℕ) (d : Change) (a : Asked) (w : Walk) → slice_get cs i ≡ Some d → d.what ≡ wanted.Asked a → AsksFor w a → j.stage ≡ stage.Walking d.xid w → ⊥)
+abbrev NoneLeft : Job → List FileChange → Type 0
+NoneLeft j cs = ((i : ℕ) (d : FileChange) (content : List ℕ) → slice_get cs i ≡ Some d → d.what ≡ wanted.Content content → j.stage ≡ stage.Committing d.xid → ⊥) × ((i : ℕ) (d : FileChange) (a : Asked) (w : Walk) → slice_get cs i ≡ Some d → d.what ≡ wanted.Asked a → AsksFor w a → j.stage ≡ stage.Walking d.xid w → ⊥)
 
-waiting_apart : (book : Book) (closing : Option ℕ) (cut : Bool) (o : Option Job) (j : Job) (cs : List Change) → cut ≡ false → o ≡ Some j → NoneLeft j cs → ((i : ℕ) (d : Change) → slice_get cs i ≡ Some d → WaitsFor book d.session closing cut o d.xid d.file d.what) → cs ≡ []
+waiting_apart : (book : Book) (closing : Option ℕ) (cut : Bool) (o : Option Job) (j : Job) (cs : List FileChange) → cut ≡ false → o ≡ Some j → NoneLeft j cs → ((i : ℕ) (d : FileChange) → slice_get cs i ≡ Some d → WaitsFor book d.session closing cut o d.xid d.file d.what) → cs ≡ []
 waiting_apart book closing cut o j [] uncut is apart all = refl
 waiting_apart book closing cut o j (d ∷ cs) uncut is apart all = by d.what refl (all 0 d refl)
   where
@@ -117,7 +117,7 @@ module _ (book : Book) (k : Core) (qs : List Queue) (n : ℕ) (x : Session) (q :
       let m = at_most in
       omega (arith, there, d, p, m)
 
-  twice_there : (i : ℕ) (c : Change) → slice_get (own n k.server.waiting) i ≡ Some c → change_key c ≡ told_key t → ⊥
+  twice_there : (i : ℕ) (c : FileChange) → slice_get (own n k.server.waiting) i ≡ Some c → change_key c ≡ told_key t → ⊥
   twice_there i c at same =
       let there = subst (λ v. 0 < times v (map change_key (own n k.server.waiting))) same (there_by change_key (own n k.server.waiting) i c at) in
       let d = down_there in
@@ -152,7 +152,7 @@ module _ (book : Book) (k : Core) (qs : List Queue) (n : ℕ) (x : Session) (q :
       asked_program (asked.Remove r) = refl
       asked_program (asked.Rename r) = refl
 
-      asked_same : (d : Change) (a : Asked) (v : Walk) → d.what ≡ wanted.Asked a → AsksFor v a → stage.Walking t.xid w ≡ stage.Walking d.xid v → change_key d ≡ told_key t
+      asked_same : (d : FileChange) (a : Asked) (v : Walk) → d.what ≡ wanted.Asked a → AsksFor v a → stage.Walking t.xid w ≡ stage.Walking d.xid v → change_key d ≡ told_key t
       asked_same d a v e f s =
           ap (λ (z : Wanted). key d.xid (wanted_program z)) e
           ∙ ap (λ (y : ℕ). key y (wanted_program (wanted.Asked a))) (sym (xid_is d.xid v s))

@@ -8,7 +8,7 @@ use Rattle.client_state.specs.State as client
 use Rattle.client_state.specs.declared.task.Stage.TheVariants as stage
 use Rattle.client_state.specs.declared.task.Way.TheVariants as way
 use Rattle.register_model.specs.declared.op.Word.TheVariants as words
-use Rattle.kept_promise.proofs.Common.{nat_tests, slice_get, not, cond, ◌==◌, ◌&&◌, nat_le, chunks_of, chunk_bytes, Chunk, Pending, Program, Temp, store_pending, without_call, names_from, names_all, store_of, is_stored, store_at, without_store, answered, with_whole, commit_call, calls_most, is_none, Names, Stage, Store, StoreCall, Task, Way, Op, Contains, Contains-append_left, Contains-append_right, Contains-push, Message, call_message, hashed_of, Core, Seat, Session, Book, unless, Call, Call.Name, Call.Send, Call.Commit, Ask, Told, Queue, ask_message, reply_program}
+use Rattle.kept_promise.proofs.Common.{nat_tests, slice_get, not, cond, ◌==◌, ◌&&◌, nat_le, chunks_of, chunk_bytes, Chunk, Pending, Program, Temp, store_pending, without_call, names_from, names_all, store_of, is_stored, store_at, without_store, answered, with_whole, commit_call, calls_most, is_none, Names, Stage, Upload, UploadCall, Task, Way, Op, Contains, Contains-append_left, Contains-append_right, Contains-push, Message, call_message, hashed_of, Core, Seat, Session, Book, unless, Call, Call.Name, Call.Send, Call.Commit, Ask, Told, Queue, ask_message, reply_program}
 use Rattle.kept_promise.proofs.Statements.{IsSpoken, CallFits, AreInRow, PiecesOf, SameShape}
 use Rattle.kept_promise.proofs.Lists.{some_is, nothing_there, of_appended, at_end, there_at, false_and_true, all_append, all_at, all_in, all_map, all_unless}
 use Rattle.kept_promise.proofs.Keys.{times, times_append, there_by}
@@ -71,7 +71,7 @@ calls_are seat j e = ap (λ (o : Option Task). client.pending o ++ seat.client.f
 
 -- ---- a close that may go on, with this of its temporary file
 
-pub record Ready (book : Book) (k : Core) (qs : List Queue) (n : ℕ) (x : Session) (q : Queue) (t : Told) (ts : List Told) (j : Job) (g : Here book k qs n x q t ts j) (st : Store) : Type 0 where
+pub record Ready (book : Book) (k : Core) (qs : List Queue) (n : ℕ) (x : Session) (q : Queue) (t : Told) (ts : List Told) (j : Job) (g : Here book k qs n x q t ts j) (st : Upload) : Type 0 where
   pub quiet : Quiet k n q
   pub word : stage_word j.stage ≡ words.Close
   pub owed : IsOwed book x.closing j (local_of g)
@@ -84,14 +84,14 @@ pub record Ready (book : Book) (k : Core) (qs : List Queue) (n : ℕ) (x : Sessi
   pub places : AllAsks (IsInPlace (Some (on j (stage.Storing st))) (locals_of (seat_at g).client)) q.ups
   pub wants : AllTolds (IsWanted book (Some (on j (stage.Storing st)))) ts
   pub known : WasThere book j.file
-  pub older : (i : ℕ) (w : StoreCall) → slice_get st.under i ≡ Some w → w.xid < (seat_at g).client.next_xid
+  pub older : (i : ℕ) (w : UploadCall) → slice_get st.under i ≡ Some w → w.xid < (seat_at g).client.next_xid
 
 -- and what its temporary file holds, where the server has the connection
-abbrev pub Filled : (book : Book) (k : Core) (qs : List Queue) (n : ℕ) (x : Session) (q : Queue) (t : Told) (ts : List Told) (j : Job) (g : Here book k qs n x q t ts j) (us : List Ask) (st : Store) → Type 0
+abbrev pub Filled : (book : Book) (k : Core) (qs : List Queue) (n : ℕ) (x : Session) (q : Queue) (t : Told) (ts : List Told) (j : Job) (g : Here book k qs n x q t ts j) (us : List Ask) (st : Upload) → Type 0
 Filled book k qs n x q t ts j g us st = x.hung ≡ false → (w : Temp) × OneTemp k.server.temps n st.temp w × Holds (local_of g) us ts st w.pieces
 
 -- the calls and answers that were on their way are of the store that it goes on to
-stays_in_order : (book : Book) (k : Core) (qs : List Queue) (n : ℕ) (x : Session) (q : Queue) (t : Told) (ts : List Told) (j : Job) (g : Here book k qs n x q t ts j) (st more : Store) → Ready book k qs n x q t ts j g st → more.temp ≡ st.temp → more.chunks ≡ st.chunks → ((y : ℕ) (u : StoreCall) → store_at st.under y ≡ Some u → store_at more.under y ≡ Some u)
+stays_in_order : (book : Book) (k : Core) (qs : List Queue) (n : ℕ) (x : Session) (q : Queue) (t : Told) (ts : List Told) (j : Job) (g : Here book k qs n x q t ts j) (st more : Upload) → Ready book k qs n x q t ts j g st → more.temp ≡ st.temp → more.chunks ≡ st.chunks → ((y : ℕ) (u : UploadCall) → store_at st.under y ≡ Some u → store_at more.under y ≡ Some u)
     → AllAsks (IsInPlace (Some (on j (stage.Storing more))) (locals_of (seat_at g).client)) q.ups × AllTolds (IsWanted book (Some (on j (stage.Storing more)))) ts
 stays_in_order book k qs n x q t ts j g st more w temp chunks found = (
   all_map (IsInPlace (Some (on j (stage.Storing st))) (locals_of (seat_at g).client)) (IsInPlace (Some (on j (stage.Storing more))) (locals_of (seat_at g).client)) (λ a h. place_over (on j (stage.Storing st)) (on j (stage.Storing more)) (locals_of (seat_at g).client) st more a.xid a.call (over a.xid) h) q.ups w.places,
@@ -105,7 +105,7 @@ known_on : (book : Book) (j i : Job) (s : Stage) → WasThere book j.file → So
 known_on book j i s known e = subst (λ (z : Job). WasThere book z.file) (some_is (on j s) i e) known
 
 -- no stage of a close waits for a GETHASH or a READ, and a commit's xid is new
-again_storing : (next : ℕ) (j : Job) (st : Store) → Again next j (stage.Storing st)
+again_storing : (next : ℕ) (j : Job) (st : Upload) → Again next j (stage.Storing st)
 again_storing next j st = record { lease = λ y lt e. nothing_there y e; walk = λ y w lt e. absurd cc; hash = λ y o lt e. nothing_there o e; commit = λ y lt e. absurd cc; read = λ y c f lt e. absurd cc }
 
 again_committing : (next : ℕ) (j : Job) (y : ℕ) → next ≤ y → Again next j (stage.Committing y)
@@ -118,7 +118,7 @@ again_committing next j y le = record { lease = λ z lt e. nothing_there z e; wa
 abbrev names_if : Way → ℕ → ℕ
 names_if w n = elim w [ way.Named ↦ suc n | way.Whole ↦ n ]
 
-names_both : (us vs : List StoreCall) → names_in (us ++ vs) ≡ names_in us + names_in vs
+names_both : (us vs : List UploadCall) → names_in (us ++ vs) ≡ names_in us + names_in vs
 names_both [] vs = omega arith
 names_both (u ∷ us) vs = by u.way (names_both us vs)
   where
@@ -132,7 +132,7 @@ of_both [] ys k y e = inr (k, e)
 of_both (x ∷ xs) ys zero y e = inl (0, e)
 of_both (x ∷ xs) ys (suc k) y e = elim (of_both xs ys k y e) [ inl h ↦ inl (suc h.0, h.1) | inr h ↦ inr h ]
 
-pub pendings_both : (us vs : List StoreCall) → map store_pending (us ++ vs) ≡ map store_pending us ++ map store_pending vs
+pub pendings_both : (us vs : List UploadCall) → map store_pending (us ++ vs) ≡ map store_pending us ++ map store_pending vs
 pendings_both [] vs = refl
 pendings_both (u ∷ us) vs = ap (λ l. store_pending u ∷ l) (pendings_both us vs)
 
@@ -151,17 +151,17 @@ naming_fits lbfs spoken content temp xid i c short t less at =
     len_at (d ∷ ds) from to (suc i) r e = len_at ds (d.start + d.len) to i r.3 e
 
 -- what the chunks that are named make of it
-abbrev pub named : (lbfs : ℕ) → Store → (next : ℕ) → Names
+abbrev pub named : (lbfs : ℕ) → Upload → (next : ℕ) → Names
 named lbfs st next = names_all lbfs st next
 
-abbrev pub run_of : (lbfs : ℕ) (st : Store) (next : ℕ) → Ran lbfs (names_from st next) (calls_most - length st.under) (named lbfs st next)
+abbrev pub run_of : (lbfs : ℕ) (st : Upload) (next : ℕ) → Ran lbfs (names_from st next) (calls_most - length st.under) (named lbfs st next)
 run_of lbfs st next = names_run lbfs (calls_most - length st.under) (names_from st next)
 
 -- the calls that name them
-abbrev pub naming : (lbfs : ℕ) (st : Store) (next : ℕ) → List Ask
+abbrev pub naming : (lbfs : ℕ) (st : Upload) (next : ℕ) → List Ask
 naming lbfs st next = (run_of lbfs st next).asks
 
-pub naming_sent : (lbfs : ℕ) (st : Store) (next : ℕ) → (named lbfs st next).send ≡ map ask_message (naming lbfs st next)
+pub naming_sent : (lbfs : ℕ) (st : Upload) (next : ℕ) → (named lbfs st next).send ≡ map ask_message (naming lbfs st next)
 naming_sent lbfs st next = (run_of lbfs st next).send_is
 
 -- ---- chunks that are named are noted
@@ -176,7 +176,7 @@ part_named v (u ∷ us) (suc m) temp a c at e = Contains-append_right (part_of_n
 part_named v (u ∷ us) zero temp a c at e = subst (λ (d : Call). Contains (part_of_named v (call_message u.lbfs u.xid d) ++ parts_named v (map ask_message us)) (chunk_bytes v c)) (sym (ap (λ (z : Ask). z.call) (some_is u a at) ∙ e)) (Contains-append_left (chunk_bytes v c ∷ []) (parts_named v (map ask_message us)) (chunk_bytes v c) (Contains-push [] (chunk_bytes v c)))
 
 -- so each CONDWRITE is of a part that was hashed
-names_pieces : (book : Book) (k : Core) (qs : List Queue) (n : ℕ) (x : Session) (q : Queue) (t : Told) (ts : List Told) (j : Job) (g : Here book k qs n x q t ts j) (st : Store) → Ready book k qs n x q t ts j g st → NamesNoted g (named (seat_at g).client.lbfs st (seat_at g).client.next_xid).send → AllAsks (IsPiece (hashed_of book.moments) (contents_at g)) (naming (seat_at g).client.lbfs st (seat_at g).client.next_xid)
+names_pieces : (book : Book) (k : Core) (qs : List Queue) (n : ℕ) (x : Session) (q : Queue) (t : Told) (ts : List Told) (j : Job) (g : Here book k qs n x q t ts j) (st : Upload) → Ready book k qs n x q t ts j g st → NamesNoted g (named (seat_at g).client.lbfs st (seat_at g).client.next_xid).send → AllAsks (IsPiece (hashed_of book.moments) (contents_at g)) (naming (seat_at g).client.lbfs st (seat_at g).client.next_xid)
 names_pieces book k qs n x q t ts j g st w noted = all_at (IsPiece (hashed_of book.moments) (contents_at g)) r.asks one
   where
     r : Ran (seat_at g).client.lbfs (names_from st (seat_at g).client.next_xid) (calls_most - length st.under) (named (seat_at g).client.lbfs st (seat_at g).client.next_xid)
@@ -197,22 +197,22 @@ known_below book k qs n x q t ts j g z d =
     all_in (λ (u : Told). u.xid < h.seat.client.next_xid) ts d.0 (record { xid = z; reply = known_reply }) (subst (AllTolds (λ u. u.xid < h.seat.client.next_xid)) g.first (tolds_below n k.server.waiting q x.hung h.seat.client.next_xid (client.calls_of h.seat.client) (h.talk g.uncut).balanced)).1 d.1
 
 -- where nothing is under way all chunks were named, since one more would have been
-idle_is_stored : (n : Names) (st : Store) (notes : List StoreCall) → n.store ≡ record st { named = st.named + length notes; under = st.under ++ notes } → (length st.under < calls_most → (c : Chunk) → slice_get st.chunks st.named ≡ Some c → 0 < length notes) → st.named + length notes ≤ length st.chunks → is_stored n.store ≡ false → 0 < length n.store.under
+idle_is_stored : (n : Names) (st : Upload) (notes : List UploadCall) → n.store ≡ record st { named = st.named + length notes; under = st.under ++ notes } → (length st.under < calls_most → (c : Chunk) → slice_get st.chunks st.named ≡ Some c → 0 < length notes) → st.named + length notes ≤ length st.chunks → is_stored n.store ≡ false → 0 < length n.store.under
 idle_is_stored n st notes is some le off = by st.under notes refl refl
   where
-    off_as : (us vs : List StoreCall) → st.under ≡ us → notes ≡ vs → (is_none (us ++ vs) && (st.named + length vs == length st.chunks)) ≡ false
-    off_as us vs e f = ap (λ (l : List StoreCall). is_none (l ++ vs) && (st.named + length vs == length st.chunks)) (sym e) ∙ ap (λ (l : List StoreCall). is_none (st.under ++ l) && (st.named + length l == length st.chunks)) (sym f) ∙ ap is_stored (sym is) ∙ off
+    off_as : (us vs : List UploadCall) → st.under ≡ us → notes ≡ vs → (is_none (us ++ vs) && (st.named + length vs == length st.chunks)) ≡ false
+    off_as us vs e f = ap (λ (l : List UploadCall). is_none (l ++ vs) && (st.named + length vs == length st.chunks)) (sym e) ∙ ap (λ (l : List UploadCall). is_none (st.under ++ l) && (st.named + length l == length st.chunks)) (sym f) ∙ ap is_stored (sym is) ∙ off
 
-    long : (us vs : List StoreCall) → st.under ≡ us → notes ≡ vs → 0 < length (us ++ vs) → 0 < length n.store.under
-    long us vs e f lt = subst (λ (z : Store). 0 < length z.under) (sym is) (subst (λ (l : List StoreCall). 0 < length (l ++ notes)) (sym e) (subst (λ (l : List StoreCall). 0 < length (us ++ l)) (sym f) lt))
+    long : (us vs : List UploadCall) → st.under ≡ us → notes ≡ vs → 0 < length (us ++ vs) → 0 < length n.store.under
+    long us vs e f lt = subst (λ (z : Upload). 0 < length z.under) (sym is) (subst (λ (l : List UploadCall). 0 < length (l ++ notes)) (sym e) (subst (λ (l : List UploadCall). 0 < length (us ++ l)) (sym f) lt))
 
-    by : (us vs : List StoreCall) → st.under ≡ us → notes ≡ vs → 0 < length n.store.under
+    by : (us vs : List UploadCall) → st.under ≡ us → notes ≡ vs → 0 < length n.store.under
     by (u ∷ us) vs e f = long (u ∷ us) vs e f (omega arith)
     by [] (v ∷ vs) e f = long [] (v ∷ vs) e f (omega arith)
     by [] [] e f =
         let differs = off_as [] [] e f in
-        let none = ap (λ (l : List StoreCall). length l) e in
-        let ended = ap (λ (l : List StoreCall). length l) f in
+        let none = ap (λ (l : List UploadCall). length l) e in
+        let ended = ap (λ (l : List UploadCall). length l) f in
         let apart : st.named ≡ length st.chunks → ⊥ = λ same. absurd (false_and_true (st.named + 0 == length st.chunks) differs (eq-eqb (st.named + 0) (length st.chunks) (omega (arith, same)))) in
         let c = there_at st.chunks st.named (less le ended apart) in
         let one = some_call in
@@ -229,7 +229,7 @@ idle_is_stored n st notes is some le off = by st.under notes refl refl
             under true e = absurd (apart (eqb-true st.named (length st.chunks) e))
             under false e = let ne = ne_of st.named (length st.chunks) e in omega (arith, le, none, ne)
 
-pub goes_storing : (book : Book) (k : Core) (qs : List Queue) (n : ℕ) (x : Session) (q : Queue) (t : Told) (ts : List Told) (j : Job) (g : Here book k qs n x q t ts j) (st : Store) → Ready book k qs n x q t ts j g st
+pub goes_storing : (book : Book) (k : Core) (qs : List Queue) (n : ℕ) (x : Session) (q : Queue) (t : Told) (ts : List Told) (j : Job) (g : Here book k qs n x q t ts j) (st : Upload) → Ready book k qs n x q t ts j g st
     → (let c = (seat_at g).client in
     Filled book k qs n x q t ts j g q.ups st → NamesNoted g (named c.lbfs st c.next_xid).send → is_stored (named c.lbfs st c.next_xid).store ≡ false → GoesOn book k qs n x q t ts j g (stage.Storing (named c.lbfs st c.next_xid).store) (named c.lbfs st c.next_xid).next_xid c.forgotten (naming c.lbfs st c.next_xid))
 goes_storing book k qs n x q t ts j g st w filled noted off =
@@ -255,7 +255,7 @@ goes_storing book k qs n x q t ts j g st w filled noted off =
       word = sym w.word;
       again = again_storing c.next_xid j more.store;
       moves = λ f y.
-          let a = ap (λ (z : Store). times y (map f (map store_pending z.under ++ c.forgotten))) r.store_is in
+          let a = ap (λ (z : Upload). times y (map f (map store_pending z.under ++ c.forgotten))) r.store_is in
           let b = times_map_append f y (map store_pending (st.under ++ r.notes)) c.forgotten in
           let d = pend_both f y st.under r.notes in
           let e = named_times f y c.lbfs st.temp st.chunks c.next_xid st.named r.notes r.asks more.next_xid r.named in
@@ -271,11 +271,11 @@ goes_storing book k qs n x q t ts j g st w filled noted off =
       few = let z = named_commits c.lbfs st.temp st.chunks c.next_xid st.named r.notes r.asks more.next_xid r.named in omega (arith, z);
       fetch = tt;
       busy = subst (λ m. 0 < m) (sym (map_count more.store.under)) (idle_is_stored more st r.notes r.store_is (λ lt d at. r.some (omega (arith, lt)) d at) inside off);
-      closes = subst (λ (z : Store). CloseOf book x.closing h.contents c.next_temp (on j (stage.Storing more.store)) (local_of g) (stage.Storing z)) (sym r.store_is) (owed_on w.owed, w.content, w.temp, record { chunks = w.storing.chunks; named = inside; inside = λ m u at. elim (of_both st.under r.notes m u at) [ inl old ↦ let lt = w.storing.inside old.0 u old.1 in omega (arith, lt) | inr new ↦ named_note c.lbfs st.temp st.chunks c.next_xid st.named r.notes r.asks more.next_xid new.0 u r.named new.1 ] });
+      closes = subst (λ (z : Upload). CloseOf book x.closing h.contents c.next_temp (on j (stage.Storing more.store)) (local_of g) (stage.Storing z)) (sym r.store_is) (owed_on w.owed, w.content, w.temp, record { chunks = w.storing.chunks; named = inside; inside = λ m u at. elim (of_both st.under r.notes m u at) [ inl old ↦ let lt = w.storing.inside old.0 u old.1 in omega (arith, lt) | inr new ↦ named_note c.lbfs st.temp st.chunks c.next_xid st.named r.notes r.asks more.next_xid new.0 u r.named new.1 ] });
       trying = λ m y e. absurd cc;
-      xids = subst (λ (z : Store). HasXids more.next_xid (stage.Storing z)) (sym r.store_is) (omega (arith, one, two, three, room));
+      xids = subst (λ (z : Upload). HasXids more.next_xid (stage.Storing z)) (sym r.store_is) (omega (arith, one, two, three, room));
       bounded = omega (arith, one, two, three, room, inside, few, most);
-      orderly = subst (λ (z : Store). GoesInOrder book k qs n x q t ts j g (stage.Storing z) more.next_xid c.forgotten r.asks) (sym r.store_is) (λ cache index reading. record {
+      orderly = subst (λ (z : Upload). GoesInOrder book k qs n x q t ts j g (stage.Storing z) more.next_xid c.forgotten r.asks) (sym r.store_is) (λ cache index reading. record {
         asks = all_unless (IsInPlace (Some (on j (stage.Storing after))) (locals_of c)) x.hung q.ups r.asks stays.0 (all_at (IsInPlace (Some (on j (stage.Storing after))) (locals_of c)) r.asks (λ i a at. names_in_place a (name_noted c.lbfs st.temp st.chunks c.next_xid st.named r.notes r.asks more.next_xid i a r.named at)));
         tolds = stays.1;
         holds = λ up. subst (λ (b : Bool). HeldIn k.server.temps n (unless b q.ups r.asks) ts (local_of g) (stage.Storing after)) (sym up) (let f = filled up in (f.0, f.1, holds_named (local_of g) q.ups r.asks ts st f.0.pieces c.lbfs c.next_xid more.next_xid r.notes r.named w.storing.inside (known_below book k qs n x q t ts j g) f.2));
@@ -283,13 +283,13 @@ goes_storing book k qs n x q t ts j g st w filled noted off =
       });
     }
   where
-    after : Store
+    after : Upload
     after = record st { named = st.named + length (run_of (seat_at g).client.lbfs st (seat_at g).client.next_xid).notes; under = st.under ++ (run_of (seat_at g).client.lbfs st (seat_at g).client.next_xid).notes }
 
     stays : AllAsks (IsInPlace (Some (on j (stage.Storing after))) (locals_of (seat_at g).client)) q.ups × AllTolds (IsWanted book (Some (on j (stage.Storing after)))) ts
     stays = stays_in_order book k qs n x q t ts j g st after w refl refl (λ y u e. store_front st.under (run_of (seat_at g).client.lbfs st (seat_at g).client.next_xid).notes y u e)
 
-    names_in_place : (a : Ask) → (u : StoreCall) × (c : Chunk) × (store_at (run_of (seat_at g).client.lbfs st (seat_at g).client.next_xid).notes a.xid ≡ Some u) × (u.way ≡ way.Named) × (slice_get st.chunks u.index ≡ Some c) × (a ≡ record { lbfs = (seat_at g).client.lbfs; xid = a.xid; call = Name st.temp c }) × ((seat_at g).client.next_xid ≤ a.xid) → IsInPlace (Some (on j (stage.Storing after))) (locals_of (seat_at g).client) a
+    names_in_place : (a : Ask) → (u : UploadCall) × (c : Chunk) × (store_at (run_of (seat_at g).client.lbfs st (seat_at g).client.next_xid).notes a.xid ≡ Some u) × (u.way ≡ way.Named) × (slice_get st.chunks u.index ≡ Some c) × (a ≡ record { lbfs = (seat_at g).client.lbfs; xid = a.xid; call = Name st.temp c }) × ((seat_at g).client.next_xid ≤ a.xid) → IsInPlace (Some (on j (stage.Storing after))) (locals_of (seat_at g).client) a
     names_in_place a h =
         let le = h.6 in
         let found : store_at (st.under ++ (run_of (seat_at g).client.lbfs st (seat_at g).client.next_xid).notes) a.xid ≡ Some h.0 = store_behind st.under (run_of (seat_at g).client.lbfs st (seat_at g).client.next_xid).notes a.xid (λ i z at e. let lt = w.older i z at in omega (arith, lt, le, e)) ∙ h.2 in
@@ -297,10 +297,10 @@ goes_storing book k qs n x q t ts j g st w filled noted off =
         let s : IsStore (Some (on j (stage.Storing after))) a.xid way.Named = record { of = on j (stage.Storing after); is = refl; store = after; at = refl; call = h.0; found = found; way = h.3 } in
         subst (InPlace (Some (on j (stage.Storing after))) (locals_of (seat_at g).client) a.xid) call (s, refl, h.4)
 
-    pend_both : (f : Pending → ℕ) (y : ℕ) (us vs : List StoreCall) → times y (map f (map store_pending (us ++ vs))) ≡ times y (map f (map store_pending us)) + times y (map f (map store_pending vs))
+    pend_both : (f : Pending → ℕ) (y : ℕ) (us vs : List UploadCall) → times y (map f (map store_pending (us ++ vs))) ≡ times y (map f (map store_pending us)) + times y (map f (map store_pending vs))
     pend_both f y us vs = ap (λ l. times y (map f l)) (pendings_both us vs) ∙ times_map_append f y (map store_pending us) (map store_pending vs)
 
-    map_count : (us : List StoreCall) → length (map store_pending us) ≡ length us
+    map_count : (us : List UploadCall) → length (map store_pending us) ≡ length us
     map_count [] = refl
     map_count (u ∷ us) = ap suc (map_count us)
 
@@ -309,10 +309,10 @@ goes_storing book k qs n x q t ts j g st w filled noted off =
 
 -- ---- all chunks are stored, and the commit goes out
 
-abbrev pub committing : (lbfs : ℕ) (st : Store) (next file : ℕ) → (size : ℕ) → List Ask
+abbrev pub committing : (lbfs : ℕ) (st : Upload) (next file : ℕ) → (size : ℕ) → List Ask
 committing lbfs st next file size = naming lbfs st next ++ record { lbfs = lbfs; xid = (named lbfs st next).next_xid; call = Commit (named lbfs st next).store.temp file size } ∷ []
 
-pub committing_sent : (lbfs : ℕ) (st : Store) (next file size : ℕ) → (named lbfs st next).send ++ commit_call lbfs (named lbfs st next).next_xid (named lbfs st next).store.temp file size ∷ [] ≡ map ask_message (committing lbfs st next file size)
+pub committing_sent : (lbfs : ℕ) (st : Upload) (next file size : ℕ) → (named lbfs st next).send ++ commit_call lbfs (named lbfs st next).next_xid (named lbfs st next).store.temp file size ∷ [] ≡ map ask_message (committing lbfs st next file size)
 committing_sent lbfs st next file size = ap (λ l. l ++ commit_call lbfs (named lbfs st next).next_xid (named lbfs st next).store.temp file size ∷ []) (naming_sent lbfs st next) ∙ sym (map_one (naming lbfs st next) (record { lbfs = lbfs; xid = (named lbfs st next).next_xid; call = Commit (named lbfs st next).store.temp file size }))
   where
     map_one : (us : List Ask) (a : Ask) → map ask_message (us ++ a ∷ []) ≡ map ask_message us ++ ask_message a ∷ []
@@ -320,10 +320,10 @@ committing_sent lbfs st next file size = ap (λ l. l ++ commit_call lbfs (named 
     map_one (u ∷ us) a = ap (λ l. ask_message u ∷ l) (map_one us a)
 
 -- nothing is under way then
-stored_idle : (n : Names) (st : Store) (notes : List StoreCall) → n.store ≡ record st { named = st.named + length notes; under = st.under ++ notes } → is_stored n.store ≡ true → (st.under ≡ []) × (notes ≡ [])
+stored_idle : (n : Names) (st : Upload) (notes : List UploadCall) → n.store ≡ record st { named = st.named + length notes; under = st.under ++ notes } → is_stored n.store ≡ true → (st.under ≡ []) × (notes ≡ [])
 stored_idle n st notes is on = by st.under notes (ap is_stored (sym is) ∙ on)
   where
-    by : (us vs : List StoreCall) → (is_none (us ++ vs) && (st.named + length notes == length st.chunks)) ≡ true → (us ≡ []) × (vs ≡ [])
+    by : (us vs : List UploadCall) → (is_none (us ++ vs) && (st.named + length notes == length st.chunks)) ≡ true → (us ≡ []) × (vs ≡ [])
     by [] [] e = (refl, refl)
     by (u ∷ us) vs e = absurd cc
     by [] (v ∷ vs) e = absurd cc
@@ -331,7 +331,7 @@ stored_idle n st notes is on = by st.under notes (ap is_stored (sym is) ∙ on)
 commits_more : (us : List Ask) (a : Ask) → commits_in us ≡ 0 → commits_in (us ++ a ∷ []) ≤ 1
 commits_more us a e = let both = commits_both us (a ∷ []) in let one = change_once a.call in omega (arith, e, both, one)
 
-pub goes_committing : (book : Book) (k : Core) (qs : List Queue) (n : ℕ) (x : Session) (q : Queue) (t : Told) (ts : List Told) (j : Job) (g : Here book k qs n x q t ts j) (st : Store) → j.file < 18446744073709551616 → Ready book k qs n x q t ts j g st
+pub goes_committing : (book : Book) (k : Core) (qs : List Queue) (n : ℕ) (x : Session) (q : Queue) (t : Told) (ts : List Told) (j : Job) (g : Here book k qs n x q t ts j) (st : Upload) → j.file < 18446744073709551616 → Ready book k qs n x q t ts j g st
     → (let c = (seat_at g).client in
     Filled book k qs n x q t ts j g q.ups st → NamesNoted g (named c.lbfs st c.next_xid).send → is_stored (named c.lbfs st c.next_xid).store ≡ true → GoesOn book k qs n x q t ts j g (stage.Committing (named c.lbfs st c.next_xid).next_xid) ((named c.lbfs st c.next_xid).next_xid + 1) c.forgotten (committing c.lbfs st c.next_xid j.file (length (local_of g))))
 goes_committing book k qs n x q t ts j g st fits_file w filled noted on_ =
@@ -354,7 +354,7 @@ goes_committing book k qs n x q t ts j g st fits_file w filled noted on_ =
     let temp_less = w.temp in
     let next_ok = seat_was.next.1 in
     let all_ok = seat_was.next.0 in
-    let same_temp : more.store.temp ≡ st.temp = ap (λ (z : Store). z.temp) r.store_is in
+    let same_temp : more.store.temp ≡ st.temp = ap (λ (z : Upload). z.temp) r.store_is in
     let idle = stored_idle more st r.notes r.store_is on_ in
     let bound : more.next_xid + 1 ≤ 4294967296 = omega (arith, one, two, three, room, inside, few, most) in
     let of = job_op book k qs x h.seat j g.kept h.owner g.job_is in
@@ -366,8 +366,8 @@ goes_committing book k qs n x q t ts j g st fits_file w filled noted on_ =
       moves = λ f y.
           let e = named_times f y c.lbfs st.temp st.chunks c.next_xid st.named r.notes r.asks more.next_xid r.named in
           let p = w.pend f y in
-          let d = ap (λ (l : List StoreCall). times y (map f (map store_pending l))) idle.0 in
-          let m = ap (λ (l : List StoreCall). times y (map f (map store_pending l))) idle.1 in
+          let d = ap (λ (l : List UploadCall). times y (map f (map store_pending l))) idle.0 in
+          let m = ap (λ (l : List UploadCall). times y (map f (map store_pending l))) idle.1 in
           let u = times_map_append (λ (b : Ask). f (ask_pending b)) y r.asks (a ∷ []) in
           let v = times_append y (f (ask_pending a) ∷ []) (map f c.forgotten) in
           omega (arith, e, p, d, m, u, v);
@@ -423,7 +423,7 @@ goes_committing book k qs n x q t ts j g st fits_file w filled noted on_ =
     full : (f : (z : Temp) × OneTemp k.server.temps n st.temp z × Holds (local_of g) q.ups ts st z.pieces) → st.under ≡ [] → (run_of (seat_at g).client.lbfs st (seat_at g).client.next_xid).notes ≡ [] → (u : UpCommit (q.ups ++ committing (seat_at g).client.lbfs st (seat_at g).client.next_xid j.file (length (local_of g))) (named (seat_at g).client.lbfs st (seat_at g).client.next_xid).next_xid) → (z : Temp) × OneTemp k.server.temps n u.1 z × SameShape z.pieces (PiecesOf (local_of g) (λ c. true) (chunks_of (local_of g)))
     full f none ended u =
         let r = run_of (seat_at g).client.lbfs st (seat_at g).client.next_xid in
-        let same_temp : (named (seat_at g).client.lbfs st (seat_at g).client.next_xid).store.temp ≡ st.temp = ap (λ (z : Store). z.temp) r.store_is in
+        let same_temp : (named (seat_at g).client.lbfs st (seat_at g).client.next_xid).store.temp ≡ st.temp = ap (λ (z : Upload). z.temp) r.store_is in
         let nothing = no_asks (seat_at g).client.lbfs st.temp st.chunks (seat_at g).client.next_xid st.named r.notes r.asks (named (seat_at g).client.lbfs st (seat_at g).client.next_xid).next_xid ended r.named in
         let at = ap (λ (l : List Ask). slice_get (q.ups ++ (l ++ record { lbfs = (seat_at g).client.lbfs; xid = (named (seat_at g).client.lbfs st (seat_at g).client.next_xid).next_xid; call = Commit (named (seat_at g).client.lbfs st (seat_at g).client.next_xid).store.temp j.file (length (local_of g)) } ∷ [])) u.0) (sym nothing) ∙ u.5 in
         elim (of_appended q.ups (record { lbfs = (seat_at g).client.lbfs; xid = (named (seat_at g).client.lbfs st (seat_at g).client.next_xid).next_xid; call = Commit (named (seat_at g).client.lbfs st (seat_at g).client.next_xid).store.temp j.file (length (local_of g)) }) u.0 _ at) [
@@ -441,26 +441,26 @@ goes_committing book k qs n x q t ts j g st fits_file w filled noted on_ =
             let r = run_of (seat_at g).client.lbfs st (seat_at g).client.next_xid in
             let e = ap is_stored (sym r.store_is) ∙ on_ in
             let few = ap (λ (l : List Chunk). length l) w.storing.chunks in
-            let none = ap (λ (l : List StoreCall). length l) b in
+            let none = ap (λ (l : List UploadCall). length l) b in
             let c = counted (st.under ++ r.notes) (st.named + length r.notes) (length st.chunks) e in
             omega (arith, few, none, c)
           where
-            counted : (us : List StoreCall) (p m : ℕ) → (is_none us && (p == m)) ≡ true → p ≡ m
+            counted : (us : List UploadCall) (p m : ℕ) → (is_none us && (p == m)) ≡ true → p ≡ m
             counted [] p m e = eqb-true p m e
             counted (u ∷ us) p m e = absurd cc
 
 -- ---- the bytes of a chunk go out
 
-abbrev pub sending : (lbfs : ℕ) (st : Store) (next : ℕ) (content : List ℕ) → Chunk → List Ask
+abbrev pub sending : (lbfs : ℕ) (st : Upload) (next : ℕ) (content : List ℕ) → Chunk → List Ask
 sending lbfs st next content c = record { lbfs = lbfs; xid = next; call = Send st.temp c.start (chunk_bytes content c) } ∷ []
 
-pub goes_whole : (book : Book) (k : Core) (qs : List Queue) (n : ℕ) (x : Session) (q : Queue) (t : Told) (ts : List Told) (j : Job) (g : Here book k qs n x q t ts j) (st : Store) (u : StoreCall) (d : Chunk) → Ready book k qs n x q t ts j g st → u.index < st.named → slice_get st.chunks u.index ≡ Some d
+pub goes_whole : (book : Book) (k : Core) (qs : List Queue) (n : ℕ) (x : Session) (q : Queue) (t : Told) (ts : List Told) (j : Job) (g : Here book k qs n x q t ts j) (st : Upload) (u : UploadCall) (d : Chunk) → Ready book k qs n x q t ts j g st → u.index < st.named → slice_get st.chunks u.index ≡ Some d
     → (let c = (seat_at g).client in
     Filled book k qs n x q t ts j g (q.ups ++ sending c.lbfs st c.next_xid (local_of g) d) (with_whole st u c.next_xid) → c.next_xid + 1 + 80001 + names_in st.under ≤ 4294967296 + 2 * st.named → GoesOn book k qs n x q t ts j g (stage.Storing (with_whole st u c.next_xid)) (c.next_xid + 1) c.forgotten (sending c.lbfs st c.next_xid (local_of g) d))
 goes_whole book k qs n x q t ts j g st u d w inside at filled room =
     let h = session_at book k qs n x q t ts j g in
     let c = h.seat.client in
-    let note : StoreCall = record { xid = c.next_xid; index = u.index; way = way.Whole } in
+    let note : UploadCall = record { xid = c.next_xid; index = u.index; way = way.Whole } in
     let s : Stage = stage.Storing (with_whole st u c.next_xid) in
     let a : Ask = record { lbfs = c.lbfs; xid = c.next_xid; call = Send st.temp d.start (chunk_bytes (local_of g) d) } in
     let seat_was = g.kept.seats x.owner h.seat h.owner in
@@ -497,7 +497,7 @@ goes_whole book k qs n x q t ts j g st u d w inside at filled room =
       few = omega arith;
       fetch = tt;
       busy = some_there st.under note;
-      closes = (record { known = w.owed.known; op = w.owed.op; there = w.owed.there; unmade = w.owed.unmade; word_is = w.owed.word_is; value_is = w.owed.value_is; small = w.owed.small }, w.content, w.temp, record { chunks = w.storing.chunks; named = w.storing.named; inside = λ m v e. elim (of_appended st.under note m v e) [ inl new ↦ subst (λ (z : StoreCall). z.index < st.named) (sym new.1) inside | inr old ↦ w.storing.inside m v old ] });
+      closes = (record { known = w.owed.known; op = w.owed.op; there = w.owed.there; unmade = w.owed.unmade; word_is = w.owed.word_is; value_is = w.owed.value_is; small = w.owed.small }, w.content, w.temp, record { chunks = w.storing.chunks; named = w.storing.named; inside = λ m v e. elim (of_appended st.under note m v e) [ inl new ↦ subst (λ (z : UploadCall). z.index < st.named) (sym new.1) inside | inr old ↦ w.storing.inside m v old ] });
       trying = λ m y e. absurd cc;
       xids = omega (arith, names, room);
       bounded = omega (arith, room, named_le, few, most);
@@ -509,7 +509,7 @@ goes_whole book k qs n x q t ts j g st u d w inside at filled room =
       };
     }
   where
-    more : Store
+    more : Upload
     more = with_whole st u (seat_at g).client.next_xid
 
     stays : AllAsks (IsInPlace (Some (on j (stage.Storing more))) (locals_of (seat_at g).client)) q.ups × AllTolds (IsWanted book (Some (on j (stage.Storing more)))) ts
@@ -526,7 +526,7 @@ goes_whole book k qs n x q t ts j g st u d w inside at filled room =
       way = refl;
     }
 
-    some_there : (us : List StoreCall) (v : StoreCall) → 0 < length (map store_pending (us ++ v ∷ []))
+    some_there : (us : List UploadCall) (v : UploadCall) → 0 < length (map store_pending (us ++ v ∷ []))
     some_there [] v = omega arith
     some_there (u ∷ us) v = omega arith
 
@@ -565,15 +565,15 @@ ready_made book k qs n x q t ts j g temp waits answers quiet =
     alone = let h = session_at book k qs n x q t ts j g in others_fetch book n k.server.temps k.server.waiting q x.hung h.seat.client.next_xid (client.calls_of h.seat.client) t ts h.seat j (h.talk g.uncut).balanced g.first g.job_is (subst (λ (s : Stage). WaitsFor s t.xid) (sym waits) refl) (h.orderly g.uncut)
 
 -- a call under way, found by its xid
-pub store_found : (under : List StoreCall) (x : ℕ) (u : StoreCall) → store_at under x ≡ Some u → (i : ℕ) × (slice_get under i ≡ Some u) × (u.xid ≡ x)
+pub store_found : (under : List UploadCall) (x : ℕ) (u : UploadCall) → store_at under x ≡ Some u → (i : ℕ) × (slice_get under i ≡ Some u) × (u.xid ≡ x)
 store_found [] x u e = nothing_there u e
 store_found (v ∷ vs) x u e = by (v.xid == x) refl e (store_found vs x u)
   where
     by : (b : Bool) → (v.xid == x) ≡ b → cond b (Some v) (store_at vs x) ≡ Some u → (store_at vs x ≡ Some u → (i : ℕ) × (slice_get vs i ≡ Some u) × (u.xid ≡ x)) → (i : ℕ) × (slice_get (v ∷ vs) i ≡ Some u) × (u.xid ≡ x)
-    by true same e later = (zero, e, sym (ap (λ (z : StoreCall). z.xid) (some_is v u e)) ∙ eqb-true v.xid x same)
+    by true same e later = (zero, e, sym (ap (λ (z : UploadCall). z.xid) (some_is v u e)) ∙ eqb-true v.xid x same)
     by false same e later = let h = later e in (suc h.0, h.1, h.2)
 
-without_is : (us : List StoreCall) (x : ℕ) → map store_pending (without_store us x) ≡ without_call (map store_pending us) x
+without_is : (us : List UploadCall) (x : ℕ) → map store_pending (without_store us x) ≡ without_call (map store_pending us) x
 without_is [] x = refl
 without_is (u ∷ us) x = by (u.xid == x) (without_is us x)
   where
@@ -581,22 +581,22 @@ without_is (u ∷ us) x = by (u.xid == x) (without_is us x)
     by true e = e
     by false e = ap (λ l. store_pending u ∷ l) e
 
-pub pending_there : (us : List StoreCall) (i : ℕ) (u : StoreCall) → slice_get us i ≡ Some u → slice_get (map store_pending us) i ≡ Some (store_pending u)
+pub pending_there : (us : List UploadCall) (i : ℕ) (u : UploadCall) → slice_get us i ≡ Some u → slice_get (map store_pending us) i ≡ Some (store_pending u)
 pending_there [] i u e = nothing_there u e
-pending_there (v ∷ vs) zero u e = ap (λ (z : StoreCall). Some (store_pending z)) (some_is v u e)
+pending_there (v ∷ vs) zero u e = ap (λ (z : UploadCall). Some (store_pending z)) (some_is v u e)
 pending_there (v ∷ vs) (suc i) u e = pending_there vs i u e
 
 -- what stays was there
-store_was : (us : List StoreCall) (x m : ℕ) (u : StoreCall) → slice_get (without_store us x) m ≡ Some u → (i : ℕ) × (slice_get us i ≡ Some u)
+store_was : (us : List UploadCall) (x m : ℕ) (u : UploadCall) → slice_get (without_store us x) m ≡ Some u → (i : ℕ) × (slice_get us i ≡ Some u)
 store_was [] x m u at = nothing_there u at
 store_was (v ∷ vs) x m u at = by (v.xid == x) m at (store_was vs x)
   where
-    by : (b : Bool) (m : ℕ) → slice_get (cond (not b) (v ∷ without_store vs x) (without_store vs x)) m ≡ Some u → ((m : ℕ) (u : StoreCall) → slice_get (without_store vs x) m ≡ Some u → (i : ℕ) × (slice_get vs i ≡ Some u)) → (i : ℕ) × (slice_get (v ∷ vs) i ≡ Some u)
+    by : (b : Bool) (m : ℕ) → slice_get (cond (not b) (v ∷ without_store vs x) (without_store vs x)) m ≡ Some u → ((m : ℕ) (u : UploadCall) → slice_get (without_store vs x) m ≡ Some u → (i : ℕ) × (slice_get vs i ≡ Some u)) → (i : ℕ) × (slice_get (v ∷ vs) i ≡ Some u)
     by true m at later = let h = later m u at in (suc h.0, h.1)
     by false zero at later = (zero, at)
     by false (suc m) at later = let h = later m u at in (suc h.0, h.1)
 
-names_less : (us : List StoreCall) (x : ℕ) → names_in (without_store us x) ≤ names_in us
+names_less : (us : List UploadCall) (x : ℕ) → names_in (without_store us x) ≤ names_in us
 names_less [] x = omega arith
 names_less (u ∷ us) x = by (u.xid == x) u.way (names_less us x)
   where
@@ -607,13 +607,13 @@ names_less (u ∷ us) x = by (u.xid == x) u.way (names_less us x)
     by false way.Whole le = le
 
 -- one that named a chunk is one less of these
-names_one_less : (us : List StoreCall) (x i : ℕ) (u : StoreCall) → slice_get us i ≡ Some u → u.xid ≡ x → u.way ≡ way.Named → names_in (without_store us x) + 1 ≤ names_in us
+names_one_less : (us : List UploadCall) (x i : ℕ) (u : UploadCall) → slice_get us i ≡ Some u → u.xid ≡ x → u.way ≡ way.Named → names_in (without_store us x) + 1 ≤ names_in us
 names_one_less [] x i u at same way_is = nothing_there u at
 names_one_less (v ∷ vs) x zero u at same way_is =
     let here = some_is v u at in
-    let head : (v.xid == x) ≡ true = eq-eqb v.xid x (ap (λ (z : StoreCall). z.xid) here ∙ same) in
+    let head : (v.xid == x) ≡ true = eq-eqb v.xid x (ap (λ (z : UploadCall). z.xid) here ∙ same) in
     let a = ap (λ b. names_in (cond (not b) (v ∷ without_store vs x) (without_store vs x))) head in
-    let b = ap (λ w. names_if w (names_in vs)) (ap (λ (z : StoreCall). z.way) here ∙ way_is) in
+    let b = ap (λ w. names_if w (names_in vs)) (ap (λ (z : UploadCall). z.way) here ∙ way_is) in
     let le = names_less vs x in
     omega (arith, a, b, le)
 names_one_less (v ∷ vs) x (suc i) u at same way_is = by (v.xid == x) v.way (names_one_less vs x i u at same way_is)
@@ -625,7 +625,7 @@ names_one_less (v ∷ vs) x (suc i) u at same way_is = by (v.xid == x) v.way (na
     by false way.Whole le = le
 
 -- a call that is under way was sent before
-pub store_older : (book : Book) (k : Core) (qs : List Queue) (n : ℕ) (x : Session) (q : Queue) (t : Told) (ts : List Told) (j : Job) (g : Here book k qs n x q t ts j) (st : Store) (i : ℕ) (w : StoreCall) → j.stage ≡ stage.Storing st → slice_get st.under i ≡ Some w → w.xid < (seat_at g).client.next_xid
+pub store_older : (book : Book) (k : Core) (qs : List Queue) (n : ℕ) (x : Session) (q : Queue) (t : Told) (ts : List Told) (j : Job) (g : Here book k qs n x q t ts j) (st : Upload) (i : ℕ) (w : UploadCall) → j.stage ≡ stage.Storing st → slice_get st.under i ≡ Some w → w.xid < (seat_at g).client.next_xid
 store_older book k qs n x q t ts j g st i w waits at = by (nat_le c.next_xid w.xid) refl
   where
     h : IsSession book k.seats k.server n x q
@@ -645,7 +645,7 @@ store_older book k qs n x q t ts j g st i w waits at = by (nat_le c.next_xid w.x
         absurd (omega (arith, none, calls, parts, stored, there))
 
 -- a chunk was stored, or was found not to be
-pub ready_answered : (book : Book) (k : Core) (qs : List Queue) (n : ℕ) (x : Session) (q : Queue) (t : Told) (ts : List Told) (j : Job) (g : Here book k qs n x q t ts j) (st : Store) (u : StoreCall) → j.stage ≡ stage.Storing st → store_at st.under t.xid ≡ Some u → store_pending u ≡ told_pending t → Quiet k n q → Ready book k qs n x q t ts j g (answered st t.xid)
+pub ready_answered : (book : Book) (k : Core) (qs : List Queue) (n : ℕ) (x : Session) (q : Queue) (t : Told) (ts : List Told) (j : Job) (g : Here book k qs n x q t ts j) (st : Upload) (u : UploadCall) → j.stage ≡ stage.Storing st → store_at st.under t.xid ≡ Some u → store_pending u ≡ told_pending t → Quiet k n q → Ready book k qs n x q t ts j g (answered st t.xid)
 ready_answered book k qs n x q t ts j g st u waits found answers quiet =
     let h = session_at book k qs n x q t ts j g in
     let c = h.seat.client in
@@ -685,7 +685,7 @@ ready_answered book k qs n x q t ts j g st u waits found answers quiet =
     over y apart = record { was = waits; is = refl; file = refl; temp = refl; chunks = refl; found = λ v e. store_still st.under t.xid y apart ∙ e }
 
 -- and where a name was answered, one more call may go out
-pub ready_named : (book : Book) (k : Core) (qs : List Queue) (n : ℕ) (x : Session) (q : Queue) (t : Told) (ts : List Told) (j : Job) (g : Here book k qs n x q t ts j) (st : Store) (u : StoreCall) → j.stage ≡ stage.Storing st → store_at st.under t.xid ≡ Some u → u.way ≡ way.Named → (seat_at g).client.next_xid + 1 + 80001 + names_in (answered st t.xid).under ≤ 4294967296 + 2 * (answered st t.xid).named
+pub ready_named : (book : Book) (k : Core) (qs : List Queue) (n : ℕ) (x : Session) (q : Queue) (t : Told) (ts : List Told) (j : Job) (g : Here book k qs n x q t ts j) (st : Upload) (u : UploadCall) → j.stage ≡ stage.Storing st → store_at st.under t.xid ≡ Some u → u.way ≡ way.Named → (seat_at g).client.next_xid + 1 + 80001 + names_in (answered st t.xid).under ≤ 4294967296 + 2 * (answered st t.xid).named
 ready_named book k qs n x q t ts j g st u waits found way_is =
     let h = session_at book k qs n x q t ts j g in
     let seat_was = g.kept.seats x.owner h.seat h.owner in

@@ -12,7 +12,7 @@ use Rattle.register_model.specs.declared.op.Outcome.{Outcome as History}
 use Rattle.register_model.specs.declared.op.Word.TheVariants as words
 use Rattle.trace_replay.specs.Traffic.{named_in, unknown_in, made_in, commits_in, traffic_of, bytes_number, bytes_in, NamesChunks}
 use Rattle.trace_replay.specs.Owing.{Owing, owes_nothing, asked_at, without_asked, owing_with, owing_from, PaysAll}
-use Rattle.kept_promise.proofs.Common.{Deal.Sent, nat_tests, slice_get, chunks_of, Chunk, Body, Message, cond_call, commit_call, temp_call, store_of, without_store, names_from, names_all, calls_most, idle, took, Names, ClientStep, Ended, Stage, Store, Task, Op, Word, TakenCall, op_after, Moment, Deal, Deal.Took, deals_of, deals_with, Book, SentCommit, stored_traffic}
+use Rattle.kept_promise.proofs.Common.{Deal.Sent, nat_tests, slice_get, chunks_of, Chunk, Body, Message, cond_call, commit_call, temp_call, store_of, without_store, names_from, names_all, calls_most, idle, took, Names, ClientStep, Ended, Stage, Upload, Task, Op, Word, TakenCall, op_after, Moment, Deal, Deal.Took, deals_of, deals_with, Book, SentCommit, stored_traffic}
 use Rattle.trace_replay.specs.Trail.{sent_of, taken_of}
 use Rattle.kept_promise.proofs.Lists.{some_is, nothing_there}
 use Rattle.kept_promise.proofs.Messages.{Job, stage_word}
@@ -113,7 +113,7 @@ joined_one a b c x e = ap (λ l. l ++ x ∷ []) e ∙ by a
     by [] = refl
     by (y ∷ a) = ap (λ l. y ∷ l) (by a)
 
-names_go : (lbfs : ℕ) (v : List ℕ) (log : List Deal) (w : Store) (next : ℕ) → named_in log ≡ take w.named w.chunks → Naming v log w.chunks (owing_at (asked_of w.chunks w.under)) (names_all lbfs w next)
+names_go : (lbfs : ℕ) (v : List ℕ) (log : List Deal) (w : Upload) (next : ℕ) → named_in log ≡ take w.named w.chunks → Naming v log w.chunks (owing_at (asked_of w.chunks w.under)) (names_all lbfs w next)
 names_go lbfs v log w next h = names_keep lbfs (Naming v log w.chunks (owing_at (asked_of w.chunks w.under))) more (calls_most - length w.under) (names_from w next) (record { chunks = refl; named = append-nil (named_in log) ∙ h; pays = refl; owes = refl; made = refl; commits = refl })
   where
     more : (n : Names) (c : Chunk) → Naming v log w.chunks (owing_at (asked_of w.chunks w.under)) n → slice_get n.store.chunks n.store.named ≡ Some c → Naming v log w.chunks (owing_at (asked_of w.chunks w.under)) (Rattle.kept_promise.proofs.Common.names_next lbfs n (Some c))
@@ -153,10 +153,10 @@ none_open log file v (stage.Walking y z) of e = absurd of
 none_open log file v t of e = tt
 
 -- a store goes on by an answer
-abbrev Ready : (v : List ℕ) → List Deal → (xid : ℕ) → Store → Type 0
+abbrev Ready : (v : List ℕ) → List Deal → (xid : ℕ) → Upload → Type 0
 Ready v log x w = HasNamed v log w.named 1 0 w.chunks × (w.chunks ≡ chunks_of v) × (without_asked (owing_from owes_nothing log).asked x ≡ asked_of w.chunks w.under)
 
-ready : (log : List Deal) (file x : ℕ) (v content : List ℕ) (st : Stage) (w : Store) → ClosesBy log file v st → (stage_word st ≡ words.Close → v ≡ content) → StoreIn st x content w → Ready v log x w
+ready : (log : List Deal) (file x : ℕ) (v content : List ℕ) (st : Stage) (w : Upload) → ClosesBy log file v st → (stage_word st ≡ words.Close → v ≡ content) → StoreIn st x content w → Ready v log x w
 ready log file x v content st w h value (inl (y, temp, is, e)) =
     let made : HasNamed v log 0 1 0 (chunks_of v) × Asked log [] = subst (ClosesBy log file v) is h in
     subst (Ready v log x) (sym e) (subst (λ (c : List ℕ). Ready v log x (store_of temp c)) (value (ap stage_word is)) (made.0, refl, ap (λ l. without_asked l x) made.1))
@@ -165,11 +165,11 @@ ready log file x v content st w h value (inr (old, is, e)) =
     subst (Ready v log x) (sym e) (had.0, had.1, ap (λ l. without_asked l x) had.2 ∙ asked_without old.chunks old.under x)
 
 -- what goes out then owes nothing
-ready_pays : (v : List ℕ) (log : List Deal) (x : ℕ) (b : Body) (w : Store) (ms : List Message) → Ready v log x w → (IsUnknown b → ⊥) → PaysAll v (owing_at (asked_of w.chunks w.under)) (map Sent ms) → PaysAll v (owing_from owes_nothing log) (Took (message.Answer x b) ∷ map Sent ms)
+ready_pays : (v : List ℕ) (log : List Deal) (x : ℕ) (b : Body) (w : Upload) (ms : List Message) → Ready v log x w → (IsUnknown b → ⊥) → PaysAll v (owing_at (asked_of w.chunks w.under)) (map Sent ms) → PaysAll v (owing_from owes_nothing log) (Took (message.Answer x b) ∷ map Sent ms)
 ready_pays v log x b w ms r known pays = plain_pays v (owing_from owes_nothing log) x b ms (pays_end v owes_nothing log r.0.paid) known (subst (λ l. PaysAll v (owing_at l) (map Sent ms)) (sym r.2) pays)
 
 -- and is under way
-ready_asked : (v : List ℕ) (log : List Deal) (x : ℕ) (b : Body) (w : Store) (ms : List Message) (asked : List (ℕ × Chunk)) → Ready v log x w → (IsUnknown b → ⊥) → owing_from (owing_at (asked_of w.chunks w.under)) (map Sent ms) ≡ owing_at asked → Asked (log ++ Took (message.Answer x b) ∷ map Sent ms) asked
+ready_asked : (v : List ℕ) (log : List Deal) (x : ℕ) (b : Body) (w : Upload) (ms : List Message) (asked : List (ℕ × Chunk)) → Ready v log x w → (IsUnknown b → ⊥) → owing_from (owing_at (asked_of w.chunks w.under)) (map Sent ms) ≡ owing_at asked → Asked (log ++ Took (message.Answer x b) ∷ map Sent ms) asked
 ready_asked v log x b w ms asked r known owes =
     ap (λ (o : Owing). o.asked) (owing_join owes_nothing log (Took (message.Answer x b) ∷ map Sent ms))
     ∙ ap (λ (o : Owing). (owing_from o (map Sent ms)).asked) (owing_plain (owing_from owes_nothing log) x b known ∙ ap owing_at r.2)
@@ -247,7 +247,7 @@ leaves_cases log s file v st x b h value = record {
       );
 }
   where
-    all_named : (w : Store) → is_stored w ≡ true → w.named ≡ length w.chunks
+    all_named : (w : Upload) → is_stored w ≡ true → w.named ≡ length w.chunks
     all_named w is = grind (arith, nat_tests, is)
 
 closes_heard : (book more : Book) (taken : List TakenCall) (j : Job) (o : Op) (p : ℕ) (s : client.State) (x : ℕ) (b : Body) → Answering book more taken j o p s x b (took (idle s) (client.calls_of s) j.file j.stage x b) → (log : List Deal) → ClosesBy log o.file o.value j.stage

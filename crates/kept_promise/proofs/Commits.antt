@@ -7,7 +7,7 @@ use Rattle.server_core.specs.Closing.{answers, changes_most, tree_most}
 use Rattle.temp_files.specs.Pieces.{joined}
 use Rattle.client_state.specs.State as client
 use Rattle.client_state.specs.declared.task.Stage.TheVariants as stage
-use Rattle.kept_promise.proofs.Common.{nat_tests, slice_get, cond, ◌==◌, ◌||◌, nat_lt, if◌then◌else◌, handle_bytes, chunks_of, Failed, Status, message_spell, Node, directory, file, node_of, at, commits, commits_to, commits_whole, has_waiting, is_full, size_most, Temp, temp_at, without_temp, key_of, assembled, Change, File, Stage, Op, Core, Session, Event.Serves, numbered, hashed_of, Book, Or, Call.Commit, Reply.Changed, Ask, Queue, ask_message, value_at, later, change_of}
+use Rattle.kept_promise.proofs.Common.{nat_tests, slice_get, cond, ◌==◌, ◌||◌, nat_lt, if◌then◌else◌, handle_bytes, chunks_of, Failed, Status, message_spell, Node, directory, file, node_of, at, takes_commit, takes_commit_on, commits_whole, has_waiting, is_full, size_most, Temp, temp_at, without_temp, key_of, assembled, FileChange, File, Stage, Op, Core, Session, Event.Serves, numbered, hashed_of, Book, Or, Call.Commit, Reply.Changed, Ask, Queue, ask_message, value_at, later, change_of}
 use Rattle.server_core.specs.Recalling.{comes}
 use Rattle.kept_promise.proofs.Lists.{some_is, nothing_there, false_and_true}
 use Rattle.kept_promise.proofs.Keys.{own}
@@ -92,7 +92,7 @@ leads_waits : (book : Book) (k : Core) (qs : List Queue) (n now : ℕ) (x : Sess
     → Leads book (rest_of qs n q us) (served k n x xid (comes (record (at k.server now) { temps = temps }) (change_of n xid f (what.Content content))))
 leads_waits book k qs n now x q lbfs xid m f size us temps content g were same room known shelf found held =
     let h = session_in book k qs n now x q (record { lbfs = lbfs; xid = xid; call = Commit m f size }) us g in
-    let d : Change = change_of n xid f (what.Content content) in
+    let d : FileChange = change_of n xid f (what.Content content) in
     let first = (subst (AllAsks (IsCommit book x.closing x.cut (job h.seat) h.contents)) g.first h.commits).0.0 in
     let more = onward book 1 book.ops in
     leads_coming book k qs n now x q (record { lbfs = lbfs; xid = xid; call = Commit m f size }) us temps d g (record {
@@ -135,7 +135,7 @@ pub record IsReady (book : Book) (k : Core) (qs : List Queue) (n now : ℕ) (x :
   pub alone : has_waiting k.server.waiting n ≡ false
   pub left : Held (without_temp k.server.temps n m) n us q.downs (locals_of (session_in book k qs n now x q (record { lbfs = lbfs; xid = xid; call = Commit m f size }) us g).seat.client) (job (session_in book k qs n now x q (record { lbfs = lbfs; xid = xid; call = Commit m f size }) us g).seat)
 
-none_waits : (n : ℕ) (ws : List Change) → length (own n ws) ≡ 0 → has_waiting ws n ≡ false
+none_waits : (n : ℕ) (ws : List FileChange) → length (own n ws) ≡ 0 → has_waiting ws n ≡ false
 none_waits n [] e = refl
 none_waits n (w ∷ ws) e = by (w.session == n) e (none_waits n ws)
   where
@@ -228,7 +228,7 @@ target_gone book k qs n now x q lbfs xid m f size us g uncut gone =
     (p.0, w.0, p.1, p.2, w.1, w.2, inr (w.3, refl))
 
 pub serve_commit : FitLaws → (book : Book) (k : Core) (qs : List Queue) (n now : ℕ) (x : Session) (q : Queue) (lbfs xid m f size : ℕ) (us : List Ask) → Given book k qs n now x q (record { lbfs = lbfs; xid = xid; call = Commit m f size }) us
-    → Leads book (rest_of qs n q us) (served k n x xid (commits (at k.server now) n xid (record { lbfs = lbfs; fd = m; handle = handle_bytes f; size = size; base = None }) (temp_at k.server.temps n m)))
+    → Leads book (rest_of qs n q us) (served k n x xid (takes_commit (at k.server now) n xid (record { lbfs = lbfs; fd = m; handle = handle_bytes f; size = size; base = None }) (temp_at k.server.temps n m)))
 serve_commit laws book k qs n now x q lbfs xid m f size us g = by (temp_at k.server.temps n m) refl
   where
     a : Ask
@@ -272,17 +272,17 @@ serve_commit laws book k qs n now x q lbfs xid m f size us g = by (temp_at k.ser
         let sized_is : size ≡ length (h.contents m) = (subst (AllAsks (IsCommit book x.closing x.cut (job h.seat) h.contents)) g.first h.commits).0.1 in
         whole id t (assembled t size) found refl same known (λ c is. joined_is (hashed_of book.moments) (h.contents m) t.pieces c parts (ap (λ (z : ℕ). joined 0 z t.pieces) (sym sized_is) ∙ is))
 
-    nodes : (t : Temp) → temp_at k.server.temps n m ≡ Some t → Found k.server.tree f → Leads book (rest_of qs n q us) (served k n x xid (commits_to (record (at k.server now) { temps = left }) n xid size t (node_of k.server.tree (handle_bytes f))))
-    nodes t found (is_directory d there none e) = subst (λ (nd : Result Node Status). Leads book (rest_of qs n q us) (served k n x xid (commits_to (record (at k.server now) { temps = left }) n xid size t nd))) (sym e) (ends status.IsDir (λ uncut. elim (ready uncut).target [ inl still ↦ absurd (not_root still.0 (sym e ∙ still.2)) | inr gone ↦ absurd (not_gone (sym e ∙ gone.1)) ]))
+    nodes : (t : Temp) → temp_at k.server.temps n m ≡ Some t → Found k.server.tree f → Leads book (rest_of qs n q us) (served k n x xid (takes_commit_on (record (at k.server now) { temps = left }) n xid size t (node_of k.server.tree (handle_bytes f))))
+    nodes t found (is_directory d there none e) = subst (λ (nd : Result Node Status). Leads book (rest_of qs n q us) (served k n x xid (takes_commit_on (record (at k.server now) { temps = left }) n xid size t nd))) (sym e) (ends status.IsDir (λ uncut. elim (ready uncut).target [ inl still ↦ absurd (not_root still.0 (sym e ∙ still.2)) | inr gone ↦ absurd (not_gone (sym e ∙ gone.1)) ]))
       where
         not_gone : ◌≡◌ {A = Result Node Status} (Ok directory) (Err status.Stale) → ⊥
         not_gone q = absurd cc
 
         not_root : (z : File) → ◌≡◌ {A = Result Node Status} (Ok directory) (Ok (file z)) → ⊥
         not_root z q = absurd cc
-    nodes t found (is_gone none e) = subst (λ (nd : Result Node Status). Leads book (rest_of qs n q us) (served k n x xid (commits_to (record (at k.server now) { temps = left }) n xid size t nd))) (sym e) (ends status.Stale (λ uncut. target_gone book k qs n now x q lbfs xid m f size us g uncut (subst (FileIs book f) none (g.kept.server.held f))))
-    nodes t found (is_file z there e) = subst (λ (nd : Result Node Status). Leads book (rest_of qs n q us) (served k n x xid (commits_to (record (at k.server now) { temps = left }) n xid size t nd))) (sym e) (sized (nat_lt size_most size) z.id t refl found (subst (FileIs book f) there (g.kept.server.held f)).0 (is_there book f z (subst (FileIs book f) there (g.kept.server.held f))))
+    nodes t found (is_gone none e) = subst (λ (nd : Result Node Status). Leads book (rest_of qs n q us) (served k n x xid (takes_commit_on (record (at k.server now) { temps = left }) n xid size t nd))) (sym e) (ends status.Stale (λ uncut. target_gone book k qs n now x q lbfs xid m f size us g uncut (subst (FileIs book f) none (g.kept.server.held f))))
+    nodes t found (is_file z there e) = subst (λ (nd : Result Node Status). Leads book (rest_of qs n q us) (served k n x xid (takes_commit_on (record (at k.server now) { temps = left }) n xid size t nd))) (sym e) (sized (nat_lt size_most size) z.id t refl found (subst (FileIs book f) there (g.kept.server.held f)).0 (is_there book f z (subst (FileIs book f) there (g.kept.server.held f))))
 
-    by : (o : Option Temp) → temp_at k.server.temps n m ≡ o → Leads book (rest_of qs n q us) (served k n x xid (commits (at k.server now) n xid (record { lbfs = lbfs; fd = m; handle = handle_bytes f; size = size; base = None }) o))
+    by : (o : Option Temp) → temp_at k.server.temps n m ≡ o → Leads book (rest_of qs n q us) (served k n x xid (takes_commit (at k.server now) n xid (record { lbfs = lbfs; fd = m; handle = handle_bytes f; size = size; base = None }) o))
     by None found = fails status.BadFd (λ uncut. let r = ready uncut in nothing_there r.temp (sym found ∙ r.found))
     by (Some t) found = nodes t found (looked k.server.tree f (first_fits book k qs n now x q a us g).2)

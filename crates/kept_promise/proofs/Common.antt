@@ -63,10 +63,10 @@ pub use Rattle.tree_reading.specs.Tree.{Tree}
 pub use Rattle.file_tree.specs.Opening.{can_open}
 pub use Rattle.chunk_calls.specs.Answers.{node_of, file, told_chunks, Node, directory, hashes_of, pair_of, is_end, meets, attr_of, leased_of}
 pub use Rattle.server_core.specs.Answers.{piece_of, piece_bytes}
-pub use Rattle.server_core.specs.Closing.{is_full, makes_change, at, makes, makes_unless, writes_unless, commits, commits_to, commits_whole, has_waiting, entry_by, names, names_unless, names_bytes}
+pub use Rattle.server_core.specs.Closing.{is_full, makes_change, at, makes, makes_unless, writes_unless, takes_commit, takes_commit_on, commits_whole, has_waiting, entry_by, names, names_unless, names_bytes}
 pub use Rattle.chunk_calls.specs.Writing.{cond_fault, bytes_known, bytes_found}
 pub use Rattle.server_core.specs.Step.{server_step, stands, connect, has_room, got_if, called}
-pub use Rattle.server_core.specs.State.{Change, change_of}
+pub use Rattle.server_core.specs.State.{FileChange, change_of}
 pub use Rattle.server_core.specs.Leasing.{Leasing, later, unleased}
 pub use Rattle.server_core.specs.declared.event.ServerStep.{ServerStep}
 pub use Rattle.server_core.specs.declared.change.Wanted.{Wanted}
@@ -96,8 +96,8 @@ pub use Rattle.client_state.specs.declared.task.Fetch.{Fetch}
 pub use Rattle.client_state.specs.declared.task.Local.{Local}
 pub use Rattle.client_state.specs.declared.task.ReadCall.{ReadCall}
 pub use Rattle.client_state.specs.declared.task.Stage.{Stage}
-pub use Rattle.client_state.specs.declared.task.Store.{Store}
-pub use Rattle.client_state.specs.declared.task.StoreCall.{StoreCall}
+pub use Rattle.client_state.specs.declared.task.Upload.{Upload}
+pub use Rattle.client_state.specs.declared.task.UploadCall.{UploadCall}
 pub use Rattle.client_state.specs.declared.task.Task.{Task}
 pub use Rattle.client_state.specs.declared.task.Way.{Way}
 pub use Rattle.trace_replay.specs.Book.{Book, value_at, version_at, Or, book_of, Collides, history, HadContent}

@@ -3,7 +3,7 @@ use Rattle.std.proofs.Common.{◌≡◌, ℕ, zero, suc, ◌<◌, ◌≤◌, Lis
 use Rattle.client_state.specs.State as client
 use Rattle.trace_ends.specs.Queue.{is_none}
 use Rattle.trace_replay.specs.Complete.{IsAlone, IsLeftAlone}
-use Rattle.kept_promise.proofs.Common.{slice_get, All, Unread, Came, split, fed, stream, Fed, stream_comes, Refusal, message_spell, Pending, Change, Stage, Task, Op, Seat, Session, numbered, World, Wire, is_still_at, Moment, book_of, Queue, Mix, queue_of, asks_in, tolds_in, up_message, down_message}
+use Rattle.kept_promise.proofs.Common.{slice_get, All, Unread, Came, split, fed, stream, Fed, stream_comes, Refusal, message_spell, Pending, FileChange, Stage, Task, Op, Seat, Session, numbered, World, Wire, is_still_at, Moment, book_of, Queue, Mix, queue_of, asks_in, tolds_in, up_message, down_message}
 use Rattle.kept_promise.proofs.Lists.{some_is, nothing_there, both_true}
 use Rattle.kept_promise.proofs.Keys.{times, own, on_way, ask_key, told_key, change_key, pending_key, there_by}
 use Rattle.kept_promise.proofs.Messages.{Job, job, job_of}
@@ -61,7 +61,7 @@ first_there [] ys lt = absurd (omega (arith, lt))
 first_there (x ∷ xs) ys lt = (x, refl)
 
 -- and so nobody waits for it
-nobody_waits : (waiting : List Change) (n : ℕ) (q : Queue) (next : ℕ) (first more : List Pending) → IsBalanced n waiting q false next (first ++ more) → on_way n waiting q ≡ [] → 0 < length first → ⊥
+nobody_waits : (waiting : List FileChange) (n : ℕ) (q : Queue) (next : ℕ) (first more : List Pending) → IsBalanced n waiting q false next (first ++ more) → on_way n waiting q ≡ [] → 0 < length first → ⊥
 nobody_waits waiting n q next first more b none some =
     let p = first_there first more some in
     let a = there_by pending_key (first ++ more) 0 p.0 p.1 in

@@ -19,7 +19,7 @@ use Rattle.file_tree.specs.Step.{removed, moved}
 use Rattle.file_tree.proofs.States.{named_id}
 use Rattle.tree_reading.specs.Tree.{Tree, is_directory, or_stale, directory_of, directory_or}
 use Rattle.tree_reading.specs.declared.call.Changed.{Changed}
-use Rattle.tree_reading.specs.declared.call.Held.{Held}
+use Rattle.tree_reading.specs.declared.call.Reservation.{Reservation}
 use Rattle.tree_reading.specs.declared.entry.Entry.{Entry}
 use Rattle.tree_reading.specs.declared.entry.EntryKind.TheVariants as kind
 use Rattle.tree_calls.specs.Telling.{id_of}
@@ -56,7 +56,7 @@ use Rattle.kept_promise.proofs.Messages.{AsksFor}
 -- ---- on arrival
 
 -- busy: a change of the session waits
-abbrev pub comes_by : Tree → Held → (busy : Bool) → (dir : ℕ) → Goal → Tree × Outcome
+abbrev pub comes_by : Tree → Reservation → (busy : Bool) → (dir : ℕ) → Goal → Tree × Outcome
 comes_by t held busy dir (goal.Remove name) = (t, removing dir name (asks_remove t held busy dir name))
 comes_by t held busy dir (goal.RenameTo from name to_name) = renaming t held from name dir to_name (asks_rename t held busy from name dir to_name)
 -- no other goal does
@@ -77,7 +77,7 @@ abbrev pub AreTwo : Asked → Type 0
 AreTwo (asked.Remove r) = Unit {0}
 AreTwo (asked.Rename r) = (r.node == r.file) ≡ false
 
-pub data ComesSo (t : Tree) (held : Held) (busy : Bool) (w : Walk) : Type 0 where
+pub data ComesSo (t : Tree) (held : Reservation) (busy : Bool) (w : Walk) : Type 0 where
   refused : (s : Status) (r : NameReply) → comes_by t held busy w.dir w.goal ≡ (t, Answered (said (name_answer r))) → RefusedAs t w s → refusal_of (name_answer r) ≡ Some s → walk_told w (name_answer r) ≡ told.Ends (ended.Refused s) → nfs_proc (name_answer r) ≡ nfs_proc (next_call w) → ComesSo t held busy w
   -- a rename over no file
   done_now : (done : Changed) (r : NameReply) (after : Tree) → comes_by t held busy w.dir w.goal ≡ (after, Answered (record { answer = name_answer r; first = done.first; second = done.second })) → step_by t held w.dir w.goal ≡ (after, Ok done) → IsName done.first → IsName done.second → walk_told w (name_answer r) ≡ told.Ends ended.Done → nfs_proc (name_answer r) ≡ nfs_proc (next_call w)
@@ -98,7 +98,7 @@ pub record IsGoneEntry (t : Tree) (file : ℕ) (o : Option Entry) : Type 0 where
   pub there : the_files.file_at t file ≡ Some old
   pub version_is : entry.version ≡ old.version + 1
 
-pub data SettlesSo (t : Tree) (held : Held) (w : Walk) (a : Asked) : Type 0 where
+pub data SettlesSo (t : Tree) (held : Reservation) (w : Walk) (a : Asked) : Type 0 where
   refused_late : (s : Status) (r : NameReply) → settles t held a ≡ (t, said (name_answer r)) → RefusedAs t w s → refusal_of (name_answer r) ≡ Some s → walk_told w (name_answer r) ≡ told.Ends (ended.Refused s) → nfs_proc (name_answer r) ≡ nfs_proc (next_call w) → SettlesSo t held w a
   goes : (done : Changed) (r : NameReply) (after : Tree) → settles t held a ≡ (after, record { answer = name_answer r; first = done.first; second = done.second }) → step_by t held w.dir w.goal ≡ (after, Ok done) → IsGoneEntry t (file_of a) done.first → IsName done.second → walk_told w (name_answer r) ≡ told.Ends ended.Done → nfs_proc (name_answer r) ≡ nfs_proc (next_call w)
       → ((f : ℕ) → the_files.file_at after f ≡ (if file_of a == f then None else the_files.file_at t f)) → ((f : ℕ) → with_id t.nodes f ≡ None → with_id after.nodes f ≡ None) → with_id after.nodes (file_of a) ≡ None → (IsRooted t.nodes → IsRooted after.nodes) → after.next ≡ t.next → SettlesSo t held w a
@@ -109,11 +109,11 @@ pub data SettlesSo (t : Tree) (held : Held) (w : Walk) (a : Asked) : Type 0 wher
 file_there : (t : Tree) (dir : ℕ) (name : List ℕ) (n : Node) (content : List ℕ) → IsGiven t → named t.nodes dir name ≡ Some n → n.body ≡ Plain content → the_files.file_at t n.id ≡ Some (record { id = n.id; version = n.version; content = content })
 file_there t dir name n content given at body = ap the_files.file_of_node (named_id t.nodes dir name n given.apart at) ∙ ap (the_files.file_of_body n) body
 
-remove_so : (t : Tree) (held : Held) (busy : Bool) (dir : ℕ) (name : List ℕ) → IsGiven t → RemoveComes t held busy dir name → ComesSo t held busy (record { dir = dir; left = []; goal = goal.Remove name })
+remove_so : (t : Tree) (held : Reservation) (busy : Bool) (dir : ℕ) (name : List ℕ) → IsGiven t → RemoveComes t held busy dir name → ComesSo t held busy (record { dir = dir; left = []; goal = goal.Remove name })
 remove_so t held busy dir name given (remove_turned s r is why refuses leads procs) = refused s r (ap (λ (o : Outcome). (t, o)) is) why refuses leads procs
 remove_so t held busy dir name given (remove_waits n content is free at body room) = waits (asked.Remove (record { spot = spot_of dir name; file = n.id })) (record { id = n.id; version = n.version; content = content }) (ap (λ (o : Outcome). (t, o)) is) (refl, refl, refl) (file_there t dir name n content given at body) room free tt
 
-rename_so : (t : Tree) (held : Held) (busy : Bool) (from : ℕ) (name : List ℕ) (to : ℕ) (to_name : List ℕ) → IsGiven t → IsGoalNamed (goal.RenameTo from name to_name) → RenameComes t held busy from name to to_name → ComesSo t held busy (record { dir = to; left = []; goal = goal.RenameTo from name to_name })
+rename_so : (t : Tree) (held : Reservation) (busy : Bool) (from : ℕ) (name : List ℕ) (to : ℕ) (to_name : List ℕ) → IsGiven t → IsGoalNamed (goal.RenameTo from name to_name) → RenameComes t held busy from name to to_name → ComesSo t held busy (record { dir = to; left = []; goal = goal.RenameTo from name to_name })
 rename_so t held busy from name to to_name given h (rename_turned s r is why refuses leads procs) = refused s r is why refuses leads procs
 rename_so t held busy from name to to_name given h (rename_now done after r is m leads procs) =
     done_now done r after is m.step m.first m.second leads procs m.keeps.files m.keeps.none (λ z. subst (λ (p : Tree × Result Changed Status). IsRooted p.0.nodes) m.step (rename_rooted t held from name to to_name (some_letter name h.0.2) (some_letter to_name h.1.2) h.1.1 z)) m.keeps.next
@@ -123,12 +123,12 @@ rename_so t held busy from name to to_name given h (rename_waits n m content is 
     turned : (a b : ℕ) → (b == a) ≡ false → (a == b) ≡ false
     turned a b e = grind (arith, nat_tests, e)
 
-comes_at : (t : Tree) (held : Held) (busy : Bool) (dir : ℕ) (left : List (List ℕ)) (g : Goal) → IsGiven t → IsGoalNamed g → goes_at left g ≡ true → ComesSo t held busy (record { dir = dir; left = left; goal = g })
+comes_at : (t : Tree) (held : Reservation) (busy : Bool) (dir : ℕ) (left : List (List ℕ)) (g : Goal) → IsGiven t → IsGoalNamed g → goes_at left g ≡ true → ComesSo t held busy (record { dir = dir; left = left; goal = g })
 comes_at t held busy dir [] (goal.Remove name) given h e = remove_so t held busy dir name given (remove_comes_so t held busy dir name)
 comes_at t held busy dir [] (goal.RenameTo from name to_name) given h e = rename_so t held busy from name dir to_name given h (rename_comes_so t given held busy from name dir to_name)
 comes_at t held busy dir left g given h e = absurd cc
 
-pub comes_so : (t : Tree) (held : Held) (busy : Bool) (w : Walk) → IsBounded t → IsWalkSmall w → is_going w ≡ true → ComesSo t held busy w
+pub comes_so : (t : Tree) (held : Reservation) (busy : Bool) (w : Walk) → IsBounded t → IsWalkSmall w → is_going w ≡ true → ComesSo t held busy w
 comes_so t held busy w bounded small going = comes_at t held busy w.dir w.left w.goal (given t bounded) small.named.1 going
 
 -- ---- each that waited
@@ -158,13 +158,13 @@ gone_entry_is t dir name n content file given at body same = record {
 gone_at : (t after : Tree) (id file f : ℕ) → id ≡ file → the_files.file_at after f ≡ (if id == f then None else the_files.file_at t f) → the_files.file_at after f ≡ (if file == f then None else the_files.file_at t f)
 gone_at t after id file f same e = e ∙ ap (λ (i : ℕ). if i == f then None else the_files.file_at t f) same
 
-remove_late_so : (t : Tree) (held : Held) (r : Removing) → IsGiven t → IsGoalNamed (goal.Remove r.spot.name) → RemoveSettles t held r → SettlesSo t held (record { dir = r.spot.dir; left = []; goal = goal.Remove r.spot.name }) (asked.Remove r)
+remove_late_so : (t : Tree) (held : Reservation) (r : Removing) → IsGiven t → IsGoalNamed (goal.Remove r.spot.name) → RemoveSettles t held r → SettlesSo t held (record { dir = r.spot.dir; left = []; goal = goal.Remove r.spot.name }) (asked.Remove r)
 remove_late_so t held r given h (remove_fails s m is why refuses leads procs) = refused_late s m is why refuses leads procs
 remove_late_so t held r given h (remove_goes n content m is same at body d step leads procs) =
     goes (one n.id (n.version + 1) (gone_entry n (Plain content))) m (removed t r.spot.dir n.id) is step (gone_entry_is t r.spot.dir r.spot.name n content r.file given at body same) no_name leads procs
     (λ f. gone_at t (removed t r.spot.dir n.id) n.id r.file f same (file_gone t r.spot.dir n f d)) (λ f none. none_gone t r.spot.dir n.id f none) (ap (with_id (removed t r.spot.dir n.id).nodes) (sym same) ∙ off_gone t r.spot.dir n.id) (λ z. gone_rooted t r.spot.dir r.spot.name n (some_letter r.spot.name h.2) at z) refl
 
-rename_late_so : (t : Tree) (held : Held) (r : Renaming) → IsGiven t → IsGoalNamed (goal.RenameTo r.from.dir r.from.name r.to.name) → RenameSettles t held r → SettlesSo t held (record { dir = r.to.dir; left = []; goal = goal.RenameTo r.from.dir r.from.name r.to.name }) (asked.Rename r)
+rename_late_so : (t : Tree) (held : Reservation) (r : Renaming) → IsGiven t → IsGoalNamed (goal.RenameTo r.from.dir r.from.name r.to.name) → RenameSettles t held r → SettlesSo t held (record { dir = r.to.dir; left = []; goal = goal.RenameTo r.from.dir r.from.name r.to.name }) (asked.Rename r)
 rename_late_so t held r given h (rename_fails s m is why refuses leads procs) = refused_late s m is why refuses leads procs
 rename_late_so t held r given h (rename_goes n g content m is same at over apart body d step leads procs) =
     let there : with_id t.nodes n.id ≡ Some n = named_id t.nodes r.from.dir r.from.name n given.apart at in
@@ -178,7 +178,7 @@ rename_late_so t held r given h (rename_goes n g content m is same at over apart
     node_is : (x y : Node) → ◌≡◌ {A = Option Node} (Some x) (Some y) → x ≡ y
     node_is x y e = cc
 
-settles_at : (t : Tree) (held : Held) (dir : ℕ) (left : List (List ℕ)) (g : Goal) (a : Asked) → IsGiven t → IsGoalNamed g → AsksFor (record { dir = dir; left = left; goal = g }) a → AreTwo a → ((n : Node) → directory_of t.nodes (file_of a) ≡ Ok n → ⊥) → SettlesSo t held (record { dir = dir; left = left; goal = g }) a
+settles_at : (t : Tree) (held : Reservation) (dir : ℕ) (left : List (List ℕ)) (g : Goal) (a : Asked) → IsGiven t → IsGoalNamed g → AsksFor (record { dir = dir; left = left; goal = g }) a → AreTwo a → ((n : Node) → directory_of t.nodes (file_of a) ≡ Ok n → ⊥) → SettlesSo t held (record { dir = dir; left = left; goal = g }) a
 settles_at t held dir left g (asked.Remove r) given h asks two none =
     subst (λ (w : Walk). SettlesSo t held w (asked.Remove r)) (sym (walk_is (record { dir = dir; left = left; goal = g }) asks)) (remove_late_so t held r given (subst IsGoalNamed asks.1 h) (remove_settles_so t held r))
   where
@@ -190,5 +190,5 @@ settles_at t held dir left g (asked.Rename r) given h asks two none =
     walk_is : (w : Walk) → AsksFor w (asked.Rename r) → w ≡ record { dir = r.to.dir; left = []; goal = goal.RenameTo r.from.dir r.from.name r.to.name }
     walk_is w h = ap (λ (l : List (List ℕ)). record w { left = l }) h.0 ∙ ap (λ (g : Goal). record { dir = w.dir; left = []; goal = g }) h.1 ∙ ap (λ (d : ℕ). record { dir = d; left = []; goal = goal.RenameTo r.from.dir r.from.name r.to.name }) h.2
 
-pub settles_so : (t : Tree) (held : Held) (w : Walk) (a : Asked) → IsBounded t → IsWalkSmall w → AsksFor w a → AreTwo a → ((n : Node) → directory_of t.nodes (file_of a) ≡ Ok n → ⊥) → SettlesSo t held w a
+pub settles_so : (t : Tree) (held : Reservation) (w : Walk) (a : Asked) → IsBounded t → IsWalkSmall w → AsksFor w a → AreTwo a → ((n : Node) → directory_of t.nodes (file_of a) ≡ Ok n → ⊥) → SettlesSo t held w a
 settles_so t held w a bounded small asks two none = settles_at t held w.dir w.left w.goal a (given t bounded) small.named.1 asks two none

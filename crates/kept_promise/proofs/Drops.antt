@@ -3,7 +3,7 @@ use Rattle.std.proofs.Common.{inl, inr, ◌≡◌, ℕ, zero, suc, ◌+◌, ◌<
 use Rattle.client_state.specs.State as client
 use Rattle.register_model.specs.declared.op.Outcome.TheVariants as told
 use Rattle.client_state.specs.declared.task.Stage.TheVariants as stage
-use Rattle.kept_promise.proofs.Common.{slice_get, slice_set, ◌==◌, ◌||◌, Pending, has_call, without_call, no_counts, nothing_done, store_pending, Stage, Op, Core, Seat, Session, numbered, ops_with, ops_after, acted, counted, Book, Told, Queue, Store, StoreCall}
+use Rattle.kept_promise.proofs.Common.{slice_get, slice_set, ◌==◌, ◌||◌, Pending, has_call, without_call, no_counts, nothing_done, store_pending, Stage, Op, Core, Seat, Session, numbered, ops_with, ops_after, acted, counted, Book, Told, Queue, Upload, UploadCall}
 use Rattle.kept_promise.proofs.Lists.{some_is, nothing_there, same_or_not, of_replaced, false_and_true, all_map}
 use Rattle.kept_promise.proofs.Keys.{times, there_by}
 use Rattle.kept_promise.proofs.Messages.{Job, job, AllTolds, IsAnswer, IsCommit}
@@ -64,7 +64,7 @@ moves_drops mine forgotten i t at once = λ f y.
 nothing_under : (book : Book) (k : Core) (n : ℕ) (x : Session) (q : Queue) (t : Told) → (h : IsSession book k.seats k.server n x q) → x.cut ≡ false → (i : ℕ) → slice_get h.seat.client.forgotten i ≡ Some (told_pending t) → IsElse (job h.seat) t.xid
 nothing_under book k n x q t h uncut i there = ((λ j st m u is at under same. stored_under j st m u is at under same), λ j y m is at same. made_under j y m is at same)
   where
-    stored_under : (j : Job) (st : Store) (m : ℕ) (u : StoreCall) → job h.seat ≡ Some j → j.stage ≡ stage.Storing st → slice_get st.under m ≡ Some u → u.xid ≡ t.xid → ⊥
+    stored_under : (j : Job) (st : Upload) (m : ℕ) (u : UploadCall) → job h.seat ≡ Some j → j.stage ≡ stage.Storing st → slice_get st.under m ≡ Some u → u.xid ≡ t.xid → ⊥
     stored_under j st m u is at under same =
         let c = h.seat.client in
         let once = (h.talk uncut).balanced.once t.xid in

@@ -23,7 +23,7 @@ use Rattle.server_core.specs.declared.event.ServerStep.{ServerStep}
 use Rattle.trace_replay.specs.Entries.{MayEnter, TakesEntering, GrowsBy, JournalGrows}
 use Rattle.trace_replay.specs.NameChanges.{IsStepOf}
 use Rattle.trace_replay.specs.OwnCalls.{ComesTo}
-use Rattle.kept_promise.proofs.Common.{slice_get, nat_lt, if◌then◌else◌, Contains, Contains-append_left, Contains-append_right, Contains-push, Contains-push_cases, Failed, Status, Body, Message, WireFault, numbered, parse_of, Temp, size_most, temp_at, room_fault, piece_fault, cond_fault, assembled, without_temp, File, Node, file, directory, node_of, called, got_if, at, stands, makes, makes_unless, writes_unless, names_unless, names_bytes, commits, commits_to, commits_whole, has_waiting, is_full, makes_change, Wanted, Change, Entry, Op, Opening, Core, Session, Event, Event.Serves, Event.Settles, CoreStep, server_waiting, server_waits, happens, Moment, step_of, client_of, is_in, Book, Queue, ask_message, change_of}
+use Rattle.kept_promise.proofs.Common.{slice_get, nat_lt, if◌then◌else◌, Contains, Contains-append_left, Contains-append_right, Contains-push, Contains-push_cases, Failed, Status, Body, Message, WireFault, numbered, parse_of, Temp, size_most, temp_at, room_fault, piece_fault, cond_fault, assembled, without_temp, File, Node, file, directory, node_of, called, got_if, at, stands, makes, makes_unless, writes_unless, names_unless, names_bytes, takes_commit, takes_commit_on, commits_whole, has_waiting, is_full, makes_change, Wanted, FileChange, Entry, Op, Opening, Core, Session, Event, Event.Serves, Event.Settles, CoreStep, server_waiting, server_waits, happens, Moment, step_of, client_of, is_in, Book, Queue, ask_message, change_of}
 use Rattle.kept_promise.proofs.Hangs.{left_there}
 use Rattle.kept_promise.proofs.TakenOut.{ready_waits}
 use Rattle.server_core.specs.Recalling.{comes, term_at}
@@ -70,13 +70,13 @@ Stays s r = (r.0.journal ≡ s.journal) × (r.1.entries ≡ 0)
 
 -- what waits is as it was, or what this call asked for came to wait
 abbrev Comes : (n xid : ℕ) → server.State → server.State × ServerStep → Type 0
-Comes n xid s r = (r.0.waiting ≡ s.waiting) ⊎ ((c : Change) × (c.session ≡ n) × (c.xid ≡ xid) × (r.0.waiting ≡ s.waiting ++ c ∷ []))
+Comes n xid s r = (r.0.waiting ≡ s.waiting) ⊎ ((c : FileChange) × (c.session ≡ n) × (c.xid ≡ xid) × (r.0.waiting ≡ s.waiting ++ c ∷ []))
 
 -- of a call
 abbrev CallGrows : (n xid : ℕ) → Body → server.State → server.State × ServerStep → Type 0
 CallGrows n xid b s r = (Stays s r × (r.0.waiting ≡ s.waiting)) ⊎ (MayEnter b × Comes n xid s r × (Stays s r ⊎ Grown n s r))
 
-commits_grows : (s : server.State) (n xid size : ℕ) (t : Temp) (nd : Result Node Status) → (let r = commits_to s n xid size t nd in Stays s r × Comes n xid s r)
+commits_grows : (s : server.State) (n xid size : ℕ) (t : Temp) (nd : Result Node Status) → (let r = takes_commit_on s n xid size t nd in Stays s r × Comes n xid s r)
 commits_grows s n xid size t (Err e) = ((refl, refl), inl refl)
 commits_grows s n xid size t (Ok directory) = ((refl, refl), inl refl)
 commits_grows s n xid size t (Ok (file f)) = by (nat_lt size_most size)
@@ -123,7 +123,7 @@ lb_grows s n xid (lb.TmpWrite a) = by (temp_at s.temps n a.fd) (piece_fault (tem
     by None o = inl ((refl, refl), refl)
 lb_grows s n xid (lb.CommitTmp a) = by (temp_at s.temps n a.fd)
   where
-    by : (t : Option Temp) → CallGrows n xid (body.Lb (lb.CommitTmp a)) s (commits s n xid a t)
+    by : (t : Option Temp) → CallGrows n xid (body.Lb (lb.CommitTmp a)) s (takes_commit s n xid a t)
     by None = inl ((refl, refl), refl)
     by (Some t) = (let h = commits_grows (record s { temps = without_temp s.temps n a.fd }) n xid a.size t (node_of s.tree a.handle) in inr (tt, h.1, inl h.0))
 lb_grows s n xid m = inl ((refl, refl), refl)
@@ -157,15 +157,15 @@ body_grows s n xid (body.Lb m) = lb_grows s n xid m
 body_grows s n xid (body.Nfs m) = nfs_grows s n xid m
 body_grows s n xid (body.Back z) = inl ((refl, refl), refl)
 
-change_grows : (s : server.State) (c : Change) (w : Wanted) → Grown c.session s (makes_change s c w)
+change_grows : (s : server.State) (c : FileChange) (w : Wanted) → Grown c.session s (makes_change s c w)
 change_grows s c (wanted.Content content) =
-    let p = Rattle.tree_calls.specs.Waiting.commits s.tree (server.held s.waiting) c.file content (term_at s c.file) in
+    let p = Rattle.tree_calls.specs.Waiting.gives_content s.tree (server.held s.waiting) c.file content (term_at s c.file) in
     record { new = entries_by c.session p.1.entry None; journal_is = refl; count = count_is c.session p.1.entry None; sessions = λ i e at. entries_session c.session p.1.entry None i e at }
 change_grows s c (wanted.Asked a) =
     let p = Rattle.tree_calls.specs.Waiting.settles s.tree (server.held s.waiting) a in
     record { new = entries_by c.session p.1.first p.1.second; journal_is = refl; count = count_is c.session p.1.first p.1.second; sessions = λ i e at. entries_session c.session p.1.first p.1.second i e at }
 
-change_waits : (s : server.State) (c : Change) (w : Wanted) → (makes_change s c w).0.waiting ≡ s.waiting
+change_waits : (s : server.State) (c : FileChange) (w : Wanted) → (makes_change s c w).0.waiting ≡ s.waiting
 change_waits s c (wanted.Content content) = refl
 change_waits s c (wanted.Asked a) = refl
 
@@ -173,7 +173,7 @@ change_waits s c (wanted.Asked a) = refl
 
 -- by a call that is taken, which may make entries; or by the change that is ready
 abbrev pub ByEvent : Core → Event → (n xid : ℕ) → Type 0
-ByEvent k e n xid = ((now : ℕ) × (bytes : List ℕ) × (b : Body) × (e ≡ Serves n now bytes) × (parse_of server_waiting bytes ≡ Ok (message.Call xid b)) × MayEnter b) ⊎ ((now : ℕ) × (c : Change) × (e ≡ Settles now) × (ready_by k.server now ≡ Some c) × (c.session ≡ n) × (c.xid ≡ xid))
+ByEvent k e n xid = ((now : ℕ) × (bytes : List ℕ) × (b : Body) × (e ≡ Serves n now bytes) × (parse_of server_waiting bytes ≡ Ok (message.Call xid b)) × MayEnter b) ⊎ ((now : ℕ) × (c : FileChange) × (e ≡ Settles now) × (ready_by k.server now ≡ Some c) × (c.session ≡ n) × (c.xid ≡ xid))
 
 pub record GrewBy (k : Core) (e : Event) (t : CoreStep) : Type 0 where
   pub session : ℕ
@@ -186,14 +186,14 @@ pub record GrewBy (k : Core) (e : Event) (t : CoreStep) : Type 0 where
 
 -- each change that waits waited before, or came by this event
 abbrev pub CameBy : Core → Event → CoreStep → Type 0
-CameBy k e t = (i : ℕ) (c : Change) → slice_get t.core.server.waiting i ≡ Some c → ((j : ℕ) × (slice_get k.server.waiting j ≡ Some c)) ⊎ ((now : ℕ) × (bytes : List ℕ) × (b : Body) × (e ≡ Serves c.session now bytes) × (parse_of server_waiting bytes ≡ Ok (message.Call c.xid b)) × MayEnter b)
+CameBy k e t = (i : ℕ) (c : FileChange) → slice_get t.core.server.waiting i ≡ Some c → ((j : ℕ) × (slice_get k.server.waiting j ≡ Some c)) ⊎ ((now : ℕ) × (bytes : List ℕ) × (b : Body) × (e ≡ Serves c.session now bytes) × (parse_of server_waiting bytes ≡ Ok (message.Call c.xid b)) × MayEnter b)
 
 pub record Grows (k : Core) (e : Event) (t : CoreStep) : Type 0 where
   pub journal : ((t.core.server.journal ≡ k.server.journal) × (t.core.entries ≡ k.entries)) ⊎ GrewBy k e t
   pub came : CameBy k e t
 
 same_waits : (k : Core) (e : Event) (t : CoreStep) → t.core.server.waiting ≡ k.server.waiting → CameBy k e t
-same_waits k e t same i c at_ = inl (i, ap (λ (l : List Change). slice_get l i) (sym same) ∙ at_)
+same_waits k e t same i c at_ = inl (i, ap (λ (l : List FileChange). slice_get l i) (sym same) ∙ at_)
 
 still : (k : Core) (e : Event) (t : CoreStep) → t.core.server.journal ≡ k.server.journal → t.core.entries ≡ k.entries → t.core.server.waiting ≡ k.server.waiting → Grows k e t
 still k e t journal entries waiting = record { journal = inl (journal, entries); came = same_waits k e t waiting }
@@ -217,16 +217,16 @@ taken_grows k n now bytes x m read = record { journal = journal (stands k.server
     journal true (message.Refuse xid why) read = inl (refl, append-nil k.entries)
     journal false m read = inl (refl, append-nil k.entries)
 
-    came : (b : Bool) (m : Message) → parse_of (server_waits k n) bytes ≡ Ok m → (i : ℕ) (c : Change) → slice_get (got_if k.server b n m now).0.waiting i ≡ Some c → ((j : ℕ) × (slice_get k.server.waiting j ≡ Some c)) ⊎ ((t : ℕ) × (z : List ℕ) × (b : Body) × (Serves n now bytes ≡ Serves c.session t z) × (parse_of server_waiting z ≡ Ok (message.Call c.xid b)) × MayEnter b)
+    came : (b : Bool) (m : Message) → parse_of (server_waits k n) bytes ≡ Ok m → (i : ℕ) (c : FileChange) → slice_get (got_if k.server b n m now).0.waiting i ≡ Some c → ((j : ℕ) × (slice_get k.server.waiting j ≡ Some c)) ⊎ ((t : ℕ) × (z : List ℕ) × (b : Body) × (Serves n now bytes ≡ Serves c.session t z) × (parse_of server_waiting z ≡ Ok (message.Call c.xid b)) × MayEnter b)
     came true (message.Call xid b) read i c there = by (body_grows (at k.server now) n xid b)
       where
-        new : (d : Change) → d.session ≡ n → d.xid ≡ xid → MayEnter b → c ≡ d → (t : ℕ) × (z : List ℕ) × (b : Body) × (Serves n now bytes ≡ Serves c.session t z) × (parse_of server_waiting z ≡ Ok (message.Call c.xid b)) × MayEnter b
-        new d session number may same = (now, bytes, b, ap (λ i. Serves i now bytes) (sym session ∙ ap (λ (z : Change). z.session) (sym same)), call_read k n bytes xid b read ∙ ap (λ i. Ok (message.Call i b)) (sym number ∙ ap (λ (z : Change). z.xid) (sym same)), may)
+        new : (d : FileChange) → d.session ≡ n → d.xid ≡ xid → MayEnter b → c ≡ d → (t : ℕ) × (z : List ℕ) × (b : Body) × (Serves n now bytes ≡ Serves c.session t z) × (parse_of server_waiting z ≡ Ok (message.Call c.xid b)) × MayEnter b
+        new d session number may same = (now, bytes, b, ap (λ i. Serves i now bytes) (sym session ∙ ap (λ (z : FileChange). z.session) (sym same)), call_read k n bytes xid b read ∙ ap (λ i. Ok (message.Call i b)) (sym number ∙ ap (λ (z : FileChange). z.xid) (sym same)), may)
 
         by : CallGrows n xid b (at k.server now) (called (at k.server now) n xid b) → ((j : ℕ) × (slice_get k.server.waiting j ≡ Some c)) ⊎ ((t : ℕ) × (z : List ℕ) × (b : Body) × (Serves n now bytes ≡ Serves c.session t z) × (parse_of server_waiting z ≡ Ok (message.Call c.xid b)) × MayEnter b)
-        by (inl h) = inl (i, ap (λ (l : List Change). slice_get l i) (sym h.1) ∙ there)
-        by (inr (may, inl same, grows)) = inl (i, ap (λ (l : List Change). slice_get l i) (sym same) ∙ there)
-        by (inr (may, inr (d, session, number, is), grows)) = elim (of_appended k.server.waiting d i c (ap (λ (l : List Change). slice_get l i) (sym is) ∙ there)) [
+        by (inl h) = inl (i, ap (λ (l : List FileChange). slice_get l i) (sym h.1) ∙ there)
+        by (inr (may, inl same, grows)) = inl (i, ap (λ (l : List FileChange). slice_get l i) (sym same) ∙ there)
+        by (inr (may, inr (d, session, number, is), grows)) = elim (of_appended k.server.waiting d i c (ap (λ (l : List FileChange). slice_get l i) (sym is) ∙ there)) [
           | inl last ↦ inr (new d session number may last.1)
           | inr old ↦ inl (i, old)
         ]
@@ -238,8 +238,8 @@ taken_grows k n now bytes x m read = record { journal = journal (stands k.server
 pub settled_grows : (k : Core) (now : ℕ) → Grows k (Settles now) (Rattle.trace_ends.specs.Core.settles k now)
 settled_grows k now = by (ready_by k.server now) refl
   where
-    by : (next : Option Change) → ready_by k.server now ≡ next → Grows k (Settles now) (Rattle.trace_ends.specs.Core.settles k now)
-    by None none = record { journal = inl (ap (λ (next : Option Change). (settles_by k.server false now next).0.journal) none, ap (λ (next : Option Change). k.entries ++ replicate (settles_by k.server false now next).1.entries (k.steps + 1)) none ∙ append-nil k.entries); came = same_waits k (Settles now) (Rattle.trace_ends.specs.Core.settles k now) (ap (λ (next : Option Change). (settles_by k.server false now next).0.waiting) none) }
+    by : (next : Option FileChange) → ready_by k.server now ≡ next → Grows k (Settles now) (Rattle.trace_ends.specs.Core.settles k now)
+    by None none = record { journal = inl (ap (λ (next : Option FileChange). (settles_by k.server false now next).0.journal) none, ap (λ (next : Option FileChange). k.entries ++ replicate (settles_by k.server false now next).1.entries (k.steps + 1)) none ∙ append-nil k.entries); came = same_waits k (Settles now) (Rattle.trace_ends.specs.Core.settles k now) (ap (λ (next : Option FileChange). (settles_by k.server false now next).0.waiting) none) }
     by (Some c) is =
         let s : server.State = at (record k.server { waiting = without k.server.waiting c.session }) now in
         let g = change_grows s c c.what in
@@ -249,11 +249,11 @@ settled_grows k now = by (ready_by k.server now) refl
             xid = c.xid;
             by = inr (now, c, refl, is, refl, refl);
             new = g.new;
-            journal_is = ap (λ (next : Option Change). (settles_by k.server false now next).0.journal) is ∙ g.journal_is;
-            entries_is = ap (λ (next : Option Change). k.entries ++ replicate (settles_by k.server false now next).1.entries (k.steps + 1)) is ∙ ap (λ m. k.entries ++ replicate m (k.steps + 1)) g.count;
+            journal_is = ap (λ (next : Option FileChange). (settles_by k.server false now next).0.journal) is ∙ g.journal_is;
+            entries_is = ap (λ (next : Option FileChange). k.entries ++ replicate (settles_by k.server false now next).1.entries (k.steps + 1)) is ∙ ap (λ m. k.entries ++ replicate m (k.steps + 1)) g.count;
             sessions = g.sessions;
           });
-          came = λ i d there. inl (left_there c.session k.server.waiting i d (ap (λ (l : List Change). slice_get l i) (sym (ap (λ (next : Option Change). (settles_by k.server false now next).0.waiting) is ∙ change_waits s c c.what)) ∙ there)).0;
+          came = λ i d there. inl (left_there c.session k.server.waiting i d (ap (λ (l : List FileChange). slice_get l i) (sym (ap (λ (next : Option FileChange). (settles_by k.server false now next).0.waiting) is ∙ change_waits s c c.what)) ∙ there)).0;
         }
 
 pub settled_at : (i j : ℕ) → Settles i ≡ Settles j → i ≡ j
@@ -282,7 +282,7 @@ event_grows k e = what_happens k e (Grows k e) (record {
 -- each change that waits came by a call that was taken, and so did the entries of each moment
 pub record AllEntered (all past : List Moment) (opening : List Opening) (k : Core) (qs : List Queue) : Type 0 where
   pub called : UpsSent past k.steps qs
-  pub waiting : (i : ℕ) (c : Change) → slice_get k.server.waiting i ≡ Some c → TakesEntering past c.session c.xid
+  pub waiting : (i : ℕ) (c : FileChange) → slice_get k.server.waiting i ≡ Some c → TakesEntering past c.session c.xid
   pub each : (m : Moment) → Contains past m → ((happens m.before m.event).core.server.journal ≡ m.before.server.journal) ⊎ GrowsBy (book_at opening k past) m
 
 abbrev pub entering_later : (past : List Moment) (m : Moment) (session xid : ℕ) → TakesEntering past session xid → TakesEntering (past ++ m ∷ []) session xid

@@ -13,7 +13,7 @@ use Rattle.register_model.specs.declared.op.Word.TheVariants as words
 use Rattle.trace_ends.specs.Session.{taken_of as session_taken}
 use Rattle.trace_ends.specs.Core.{newest_entries, changed_file, idles}
 use Rattle.server_core.specs.Leasing.{Leasing}
-use Rattle.kept_promise.proofs.Common.{slice_get, slice_set, cond, find, ◌==◌, Command, File, parse_of, WireFault, Message, Change, Wanted, server_step, reply_message, got_step, ended_by, joined, Task, Op, Opening, TakenCall, taken_at, pointed, pointed_at, settled_ops, settled_by, Core, Seat, Session, Event, Event.Joins, Event.Does, Event.Serves, Event.Hears, Event.Settles, Event.Cuts, Event.Hangs, CoreStep, numbered, with_numbered, new_session, session_of, taken_with, server_waits, serves_if, serves, acted, does, joins_as, joins, settles, cuts_if, cuts, hangs_if, hangs, happens, Moment, calls_in, sent_if, owner_in, client_of, Entries, Indexed, deed_by, Book, Queue, ask_message, told_message, ServerStep, connect, calls_by, joined_by}
+use Rattle.kept_promise.proofs.Common.{slice_get, slice_set, cond, find, ◌==◌, Command, File, parse_of, WireFault, Message, FileChange, Wanted, server_step, reply_message, got_step, ended_by, joined, Task, Op, Opening, TakenCall, taken_at, pointed, pointed_at, settled_ops, settled_by, Core, Seat, Session, Event, Event.Joins, Event.Does, Event.Serves, Event.Hears, Event.Settles, Event.Cuts, Event.Hangs, CoreStep, numbered, with_numbered, new_session, session_of, taken_with, server_waits, serves_if, serves, acted, does, joins_as, joins, settles, cuts_if, cuts, hangs_if, hangs, happens, Moment, calls_in, sent_if, owner_in, client_of, Entries, Indexed, deed_by, Book, Queue, ask_message, told_message, ServerStep, connect, calls_by, joined_by}
 use Rattle.kept_promise.proofs.Lists.{some_is, nothing_there, same_or_not, kept_appended, set_else, set_count}
 use Rattle.kept_promise.proofs.PathNames.{IsSmall}
 use Rattle.kept_promise.proofs.Messages.{Job, job, job_of, WaitsFor, content_wanted}
@@ -39,7 +39,7 @@ use Rattle.kept_promise.proofs.Numbering.{no_calls}
 
 -- a session whose change waits remembers the close at this place
 abbrev pub Remembers : Core → (place : ℕ) → Type 0
-Remembers k place = (n i : ℕ) × (x : Session) × (c : Change) × (numbered k.sessions n ≡ Some x) × (x.closing ≡ Some place) × (slice_get (own n k.server.waiting) i ≡ Some c)
+Remembers k place = (n i : ℕ) × (x : Session) × (c : FileChange) × (numbered k.sessions n ≡ Some x) × (x.closing ≡ Some place) × (slice_get (own n k.server.waiting) i ≡ Some c)
 
 -- an operation's change was made: that of a close which a session remembers, or a file was made or went
 pub record IsChange (k : Core) (ops : List Op) : Type 0 where
@@ -64,12 +64,12 @@ goes_of m = record { place = m.place; op = m.op; there = m.there; unmade = m.unm
 pub settled_are : (book : Book) (k : Core) (qs : List Queue) (now : ℕ) → IsKept book k qs → Settled k (settles k now).core.ops
 settled_are book k qs now kept = by (settling book k qs now kept)
   where
-    made : (cs : List Change) (c : Change) → SettlesOut k now c cs → c.what ≡ wanted.Content (content_wanted c.what) → (f : File) → (let r = made_change (at_reading (record k.server { waiting = cs }) now) c (content_wanted c.what) f in Settled k (settled_by k (changed_file (newest_entries r.0.journal r.1.entries)) r.1.told))
+    made : (cs : List FileChange) (c : FileChange) → SettlesOut k now c cs → c.what ≡ wanted.Content (content_wanted c.what) → (f : File) → (let r = made_change (at_reading (record k.server { waiting = cs }) now) c (content_wanted c.what) f in Settled k (settled_by k (changed_file (newest_entries r.0.journal r.1.entries)) r.1.told))
     made cs c out what f =
         let home = kept.home out.out.place c out.out.there in
         let q = also_numbered k.sessions qs c.session home.0 kept.made.1 home.1 in
         let h = kept.sessions c.session home.0 q.0 home.1 q.1 in
-        let its : slice_get (own c.session k.server.waiting) 0 ≡ Some c = ap (λ (l : List Change). slice_get l 0) out.out.mine in
+        let its : slice_get (own c.session k.server.waiting) 0 ≡ Some c = ap (λ (l : List FileChange). slice_get l 0) out.out.mine in
         let pending = subst (λ (w : Wanted). WaitsFor book c.session home.0.closing home.0.cut (job h.seat) c.xid c.file w) what (h.pending 0 c its) in
         let there : slice_get k.ops pending.place ≡ Some pending.op = ap (λ (l : List Op). slice_get l pending.place) (sym kept.ops) ∙ pending.there in
         inr (record {

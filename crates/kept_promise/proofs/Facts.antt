@@ -8,7 +8,7 @@ use Rattle.client_state.specs.State as client
 use Rattle.client_state.specs.declared.task.Stage.TheVariants as stage
 use Rattle.client_state.specs.declared.task.Way.TheVariants as way
 use Rattle.register_model.specs.declared.op.Outcome.TheVariants as told
-use Rattle.kept_promise.proofs.Common.{slice_get, not, MessageFits, Pending, stands, Temp, key_of, Change, File, Local, Stage, StoreCall, Op, Core, Seat, Session, numbered, hashed_of, Book, HadContent, Or, value_at, version_at, Call, Call.Commit, Call.Walks, Ask, Queue, told_message, cond, changes, Leasing, taken_at}
+use Rattle.kept_promise.proofs.Common.{slice_get, not, MessageFits, Pending, stands, Temp, key_of, FileChange, File, Local, Stage, UploadCall, Op, Core, Seat, Session, numbered, hashed_of, Book, HadContent, Or, value_at, version_at, Call, Call.Commit, Call.Walks, Ask, Queue, told_message, cond, changes, Leasing, taken_at}
 use Rattle.kept_promise.proofs.PathNames.{IsWalkSmall, walk_calls, is_creating}
 use Rattle.kept_promise.proofs.Statements.{IsSpoken, ToldFits, CallFits}
 use Rattle.kept_promise.proofs.Keys.{times, own, on_way, pending_key, IsOurs}
@@ -27,7 +27,7 @@ use Rattle.kept_promise.proofs.Unused.{IsUnused}
 
 -- ---- xids
 
-abbrev pub names_in : List StoreCall → ℕ
+abbrev pub names_in : List UploadCall → ℕ
 names_in [] = 0
 names_in (c ∷ cs) = elim c.way [ way.Named ↦ suc (names_in cs) | way.Whole ↦ names_in cs ]
 
@@ -46,14 +46,14 @@ HasXids next (stage.Walking x w) = next + walk_calls w ≤ 4294967296
 -- ---- a session whose owner is there
 
 -- each call that waits for its answer is on its way once, unless the server lost the connection
-pub record IsBalanced (n : ℕ) (waiting : List Change) (q : Queue) (hung : Bool) (next : ℕ) (calls : List Pending) : Type 0 where
+pub record IsBalanced (n : ℕ) (waiting : List FileChange) (q : Queue) (hung : Bool) (next : ℕ) (calls : List Pending) : Type 0 where
   pub most : (y : ℕ) → times y (on_way n waiting q) ≤ times y (map pending_key calls)
   pub least : hung ≡ false → (y : ℕ) → times y (map pending_key calls) ≤ times y (on_way n waiting q)
   pub once : (y : ℕ) → times y (map (λ p. p.xid) calls) ≤ 1
   pub below : (y : ℕ) → next ≤ y → times y (map (λ p. p.xid) calls) ≡ 0
   pub ours : (i : ℕ) (p : Pending) → slice_get calls i ≡ Some p → IsOurs p.program
 
-pub record IsTalk (book : Book) (n : ℕ) (waiting : List Change) (x : Session) (q : Queue) (seat : Seat) : Type 0 where
+pub record IsTalk (book : Book) (n : ℕ) (waiting : List FileChange) (x : Session) (q : Queue) (seat : Seat) : Type 0 where
   pub floor : ℕ
   pub under : AllUnder floor x.taken
   pub rising : Rising floor q.ups seat.client.next_xid
@@ -98,7 +98,7 @@ pub record IsSession (book : Book) (seats : List Seat) (s : server.State) (n : �
   pub temps : (i m : ℕ) (e : ℕ × Temp) → m < 4294967296 → slice_get s.temps i ≡ Some e → e.0 ≡ key_of n m → AreParts (hashed_of book.moments) (contents m) e.1.pieces × (key_of e.1.session e.1.fd ≡ e.0)
   pub temps_below : x.cut ≡ false → AllAsks (λ a. TempUnder seat.client.next_temp a.call) q.ups × ((i m : ℕ) (e : ℕ × Temp) → m < 4294967296 → slice_get s.temps i ≡ Some e → e.0 ≡ key_of n m → m < seat.client.next_temp)
   pub closes : x.cut ≡ false → (j : Job) → job seat ≡ Some j → CloseOf book x.closing contents seat.client.next_temp j (client.local_bytes seat.client.opened j.file) j.stage
-  pub pending : (i : ℕ) (c : Change) → slice_get (own n s.waiting) i ≡ Some c → WaitsFor book c.session x.closing x.cut (job seat) c.xid c.file c.what
+  pub pending : (i : ℕ) (c : FileChange) → slice_get (own n s.waiting) i ≡ Some c → WaitsFor book c.session x.closing x.cut (job seat) c.xid c.file c.what
   pub single : commits_in q.ups + length (own n s.waiting) ≤ 1
   pub old : (k : ℕ) → x.closing ≡ Some k → (o : Op) × (slice_get book.ops k ≡ Some o) × (o.client ≡ x.owner)
   pub orderly : x.cut ≡ false → Orderly book n s.temps x.hung q seat
@@ -179,13 +179,13 @@ pub record IsServer (book : Book) (s : server.State) : Type 0 where
   -- the root is there, and names are short
   pub rooted : IsRooted s.tree.nodes
   -- each change that waits is of the file that it says, and has its room
-  pub wants : (i : ℕ) (c : Change) → slice_get s.waiting i ≡ Some c → IsWanted c.file c.what
+  pub wants : (i : ℕ) (c : FileChange) → slice_get s.waiting i ≡ Some c → IsWanted c.file c.what
   pub changes : s.tree.changes + server.entries_held s.waiting ≤ 4294967295
   pub bytes : server.bytes_held s ≤ 1073741824
-  pub lengths : (i : ℕ) (c : Change) → slice_get s.waiting i ≡ Some c → length (content_wanted c.what) ≤ 67108864
+  pub lengths : (i : ℕ) (c : FileChange) → slice_get s.waiting i ≡ Some c → length (content_wanted c.what) ≤ 67108864
   -- each change that waits is of a file of the tree
-  pub targets : (i : ℕ) (c : Change) → slice_get s.waiting i ≡ Some c → WasThere book c.file
-  pub xids : (i : ℕ) (c : Change) → slice_get s.waiting i ≡ Some c → c.xid < 4294967296
+  pub targets : (i : ℕ) (c : FileChange) → slice_get s.waiting i ≡ Some c → WasThere book c.file
+  pub xids : (i : ℕ) (c : FileChange) → slice_get s.waiting i ≡ Some c → c.xid < 4294967296
   pub leases : HasTerm s.leasing
   -- the version that the clients speak is one that is served
   pub serves : IsSpoken book.lbfs
@@ -207,8 +207,8 @@ pub record IsKept (book : Book) (k : Core) (qs : List Queue) : Type 0 where
   pub running : (p : ℕ) (o : Op) → slice_get book.ops p ≡ Some o → o.outcome ≡ told.Running → (seat : Seat) × (j : Job) × (numbered k.seats o.client ≡ Some seat) × (job seat ≡ Some j) × (j.place ≡ p)
   -- no two sessions remember one close
   pub closings : (m n p : ℕ) (x y : Session) → numbered k.sessions m ≡ Some x → numbered k.sessions n ≡ Some y → x.closing ≡ Some p → y.closing ≡ Some p → m ≡ n
-  -- a change that waits is of a session that the server has not lost
-  pub home : (i : ℕ) (c : Change) → slice_get k.server.waiting i ≡ Some c → (x : Session) × (numbered k.sessions c.session ≡ Some x) × (x.hung ≡ false)
+  -- a pending change is of a session that the server has not lost
+  pub home : (i : ℕ) (c : FileChange) → slice_get k.server.waiting i ≡ Some c → (x : Session) × (numbered k.sessions c.session ≡ Some x) × (x.hung ≡ false)
   -- temporary files stand by rising keys
   pub shelf : IsShelf k.server.temps
   -- no temporary file is of a session that was never made

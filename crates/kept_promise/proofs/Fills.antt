@@ -3,7 +3,7 @@ use Rattle.std.proofs.Common.{◌⊎◌, inl, inr, ◌≡◌, ℕ, zero, suc, �
 use Rattle.xdr_codec.specs.declared.status.Status.TheVariants as status
 use Rattle.chunk_calls.specs.Writing.{cond_most}
 use Rattle.client_state.specs.declared.task.Way.TheVariants as way
-use Rattle.kept_promise.proofs.Common.{nat_tests, slice_get, ◌==◌, ◌||◌, nat_lt, nat_le, is_some, if◌then◌else◌, insert_entry, nat_cmp, chunks_of, chunk_bytes, Chunk, cond_fault, room_fault, Temp, temp_at, temps_of, range_fault, Store, StoreCall, Call.Name, Call.Send, Ask, Told}
+use Rattle.kept_promise.proofs.Common.{nat_tests, slice_get, ◌==◌, ◌||◌, nat_lt, nat_le, is_some, if◌then◌else◌, insert_entry, nat_cmp, chunks_of, chunk_bytes, Chunk, cond_fault, room_fault, Temp, temp_at, temps_of, range_fault, Upload, UploadCall, Call.Name, Call.Send, Ask, Told}
 use Rattle.kept_promise.proofs.Statements.{PiecesOf, SameShape, AreInRow}
 use Rattle.kept_promise.proofs.Lists.{some_is, nothing_there, same_or_not, of_appended, at_end}
 use Rattle.kept_promise.proofs.Chunks.{chunks_in_row, chunks_are_named, piece_goes_in}
@@ -77,8 +77,8 @@ name_free lbfs v has i c t m short at none is =
 
 -- ---- what is held once its bytes were taken
 
-pub holds_taken : (v : List ℕ) (lbfs xid m s : ℕ) (b : List ℕ) (us : List Ask) (ts : List Told) (st : Store) (ps : List (ℕ × List ℕ)) (k : ℕ) (u : StoreCall) (c : Chunk) → length v ≤ 67108864 → slice_get st.under k ≡ Some u → u.xid ≡ xid → u.index < st.named → u.way ≡ way.Whole → slice_get (chunks_of v) u.index ≡ Some c
-    → ((i : ℕ) (w : StoreCall) → slice_get st.under i ≡ Some w → w.xid ≡ xid → i ≡ k)
+pub holds_taken : (v : List ℕ) (lbfs xid m s : ℕ) (b : List ℕ) (us : List Ask) (ts : List Told) (st : Upload) (ps : List (ℕ × List ℕ)) (k : ℕ) (u : UploadCall) (c : Chunk) → length v ≤ 67108864 → slice_get st.under k ≡ Some u → u.xid ≡ xid → u.index < st.named → u.way ≡ way.Whole → slice_get (chunks_of v) u.index ≡ Some c
+    → ((i : ℕ) (w : UploadCall) → slice_get st.under i ≡ Some w → w.xid ≡ xid → i ≡ k)
     → (UpSend us xid → ⊥) → Holds v (record { lbfs = lbfs; xid = xid; call = Send m s b } ∷ us) ts st ps → (range_fault ps c.start c.len ≡ None) × Holds v us ts st (insert_entry nat_cmp ps c.start (chunk_bytes v c))
 holds_taken v lbfs xid m s b us ts st ps k u c short at same inside whole chunk unique none h =
     let a : Ask = record { lbfs = lbfs; xid = xid; call = Send m s b } in
@@ -92,36 +92,36 @@ holds_taken v lbfs xid m s b us ts st ps k u c short at same inside whole chunk 
         done = λ i d is lt free. chunk_else v h.has u.index i c d chunk is (λ e. free k u at (sym e)) ∙ h.done i d is lt free;
         by_name = λ i w d is by_name unknown ch. chunk_else v h.has u.index w.index c d chunk ch (λ e. ways u w (h.apart i k w u is at e) whole by_name) ∙ h.by_name i w d is by_name unknown ch;
         known = λ i w d is by_name z ch. chunk_else v h.has u.index w.index c d chunk ch (λ e. ways u w (h.apart i k w u is at e) whole by_name) ∙ h.known i w d is by_name z ch;
-        up = λ i w d is sent ch. chunk_else v h.has u.index w.index c d chunk ch (λ e. none (subst (λ (z : ℕ). UpSend us z) (ap (λ (z : StoreCall). z.xid) (h.apart i k w u is at e) ∙ same) sent)) ∙ h.up i w d is (suc sent.0, sent.1, sent.2, sent.3, sent.4, sent.5) ch;
+        up = λ i w d is sent ch. chunk_else v h.has u.index w.index c d chunk ch (λ e. none (subst (λ (z : ℕ). UpSend us z) (ap (λ (z : UploadCall). z.xid) (h.apart i k w u is at e) ∙ same) sent)) ∙ h.up i w d is (suc sent.0, sent.1, sent.2, sent.3, sent.4, sent.5) ch;
         taken = λ i w d is by_way gone ch. by i w d is by_way gone ch (same_or_not w.index u.index);
         apart = h.apart;
       },
     )
   where
-    some_same : (i j : ℕ) (w z : StoreCall) → slice_get st.under i ≡ Some w → slice_get st.under j ≡ Some z → i ≡ j → w ≡ z
+    some_same : (i j : ℕ) (w z : UploadCall) → slice_get st.under i ≡ Some w → slice_get st.under j ≡ Some z → i ≡ j → w ≡ z
     some_same i j w z f g e = some_is w z (sym f ∙ ap (slice_get st.under) e ∙ g)
 
-    ways : (y w : StoreCall) → w ≡ y → y.way ≡ way.Whole → w.way ≡ way.Named → ⊥
-    ways y w e f g = not_named (sym f ∙ ap (λ (z : StoreCall). z.way) (sym e) ∙ g)
+    ways : (y w : UploadCall) → w ≡ y → y.way ≡ way.Whole → w.way ≡ way.Named → ⊥
+    ways y w e f g = not_named (sym f ∙ ap (λ (z : UploadCall). z.way) (sym e) ∙ g)
       where
         not_named : way.Whole ≡ way.Named → ⊥
         not_named e = absurd cc
 
-    by : (i : ℕ) (w : StoreCall) (d : Chunk) → slice_get st.under i ≡ Some w → w.way ≡ way.Whole → (UpSend us w.xid → ⊥) → slice_get (chunks_of v) w.index ≡ Some d → ((w.index ≡ u.index) ⊎ (w.index ≡ u.index → ⊥)) → with_chunk h.has c d ≡ true
+    by : (i : ℕ) (w : UploadCall) (d : Chunk) → slice_get st.under i ≡ Some w → w.way ≡ way.Whole → (UpSend us w.xid → ⊥) → slice_get (chunks_of v) w.index ≡ Some d → ((w.index ≡ u.index) ⊎ (w.index ≡ u.index → ⊥)) → with_chunk h.has c d ≡ true
     by i w d is by_way gone ch (inl e) = let z : d ≡ c = some_is d c (sym ch ∙ ap (slice_get (chunks_of v)) e ∙ chunk) in ap (with_chunk h.has c) z ∙ chunk_here h.has c
     by i w d is by_way gone ch (inr apart) =
         chunk_else v h.has u.index w.index c d chunk ch apart ∙ h.taken i w d is by_way (λ sent. still i w is apart gone sent) ch
       where
-        still : (i : ℕ) (w : StoreCall) → slice_get st.under i ≡ Some w → (w.index ≡ u.index → ⊥) → (UpSend us w.xid → ⊥) → UpSend (record { lbfs = lbfs; xid = xid; call = Send m s b } ∷ us) w.xid → ⊥
+        still : (i : ℕ) (w : UploadCall) → slice_get st.under i ≡ Some w → (w.index ≡ u.index → ⊥) → (UpSend us w.xid → ⊥) → UpSend (record { lbfs = lbfs; xid = xid; call = Send m s b } ∷ us) w.xid → ⊥
         still i w is apart gone (zero, m2, s2, b2, v2, e) =
             let x : xid ≡ w.xid = ap (λ (z : Ask). z.xid) (some_is (record { lbfs = lbfs; xid = xid; call = Send m s b }) _ e) in
-            apart (ap (λ (z : StoreCall). z.index) (some_same i k w u is at (unique i w is (sym x))))
+            apart (ap (λ (z : UploadCall). z.index) (some_same i k w u is at (unique i w is (sym x))))
         still i w is apart gone (suc n, m2, s2, b2, v2, e) = gone (n, m2, s2, b2, v2, e)
 
 -- ---- what is held once its bytes were known
 
-pub holds_known : (v : List ℕ) (lbfs xid m : ℕ) (bytes : List ℕ) (us : List Ask) (ts : List Told) (st : Store) (ps : List (ℕ × List ℕ)) (k : ℕ) (u : StoreCall) (c : Chunk) → length v ≤ 67108864 → slice_get st.under k ≡ Some u → u.xid ≡ xid → u.index < st.named → u.way ≡ way.Named → slice_get (chunks_of v) u.index ≡ Some c
-    → ((i : ℕ) (w : StoreCall) → slice_get st.under i ≡ Some w → w.xid ≡ xid → i ≡ k) → length bytes ≡ c.len
+pub holds_known : (v : List ℕ) (lbfs xid m : ℕ) (bytes : List ℕ) (us : List Ask) (ts : List Told) (st : Upload) (ps : List (ℕ × List ℕ)) (k : ℕ) (u : UploadCall) (c : Chunk) → length v ≤ 67108864 → slice_get st.under k ≡ Some u → u.xid ≡ xid → u.index < st.named → u.way ≡ way.Named → slice_get (chunks_of v) u.index ≡ Some c
+    → ((i : ℕ) (w : UploadCall) → slice_get st.under i ≡ Some w → w.xid ≡ xid → i ≡ k) → length bytes ≡ c.len
     → (UpSend us xid → ⊥) → (DownKnown ts xid → ⊥) → Holds v (record { lbfs = lbfs; xid = xid; call = Name m c } ∷ us) ts st ps → Holds v us (ts ++ record { xid = xid; reply = known_reply } ∷ []) st (insert_entry nat_cmp ps c.start bytes)
 holds_known v lbfs xid m bytes us ts st ps k u c short at same inside named chunk unique count none unknown h = record {
   has = with_chunk h.has c;
@@ -144,23 +144,23 @@ holds_known v lbfs xid m bytes us ts st ps k u c short at same inside named chun
     goes : (range_fault (PiecesOf v h.has (chunks_of v)) c.start c.len ≡ None) × (insert_entry nat_cmp (PiecesOf v h.has (chunks_of v)) c.start (chunk_bytes v c) ≡ PiecesOf v (with_chunk h.has c) (chunks_of v))
     goes = chunk_goes v h.has u.index c short chunk (h.by_name k u c at named (λ z. unknown (subst (λ (x : ℕ). DownKnown ts x) same z)) chunk)
 
-    xid_of : (i : ℕ) (w : StoreCall) → slice_get st.under i ≡ Some w → w.index ≡ u.index → w.xid ≡ xid
-    xid_of i w is e = ap (λ (z : StoreCall). z.xid) (h.apart i k w u is at e) ∙ same
+    xid_of : (i : ℕ) (w : UploadCall) → slice_get st.under i ≡ Some w → w.index ≡ u.index → w.xid ≡ xid
+    xid_of i w is e = ap (λ (z : UploadCall). z.xid) (h.apart i k w u is at e) ∙ same
 
     -- another name was known before
-    before : (i : ℕ) (w : StoreCall) → slice_get st.under i ≡ Some w → (w.index ≡ u.index → ⊥) → DownKnown (ts ++ t ∷ []) w.xid → DownKnown ts w.xid
+    before : (i : ℕ) (w : UploadCall) → slice_get st.under i ≡ Some w → (w.index ≡ u.index → ⊥) → DownKnown (ts ++ t ∷ []) w.xid → DownKnown ts w.xid
     before i w is apart z = elim (of_appended ts t z.0 (record { xid = w.xid; reply = known_reply }) z.1) [
-      | inl last ↦ absurd (apart (ap (λ (y : StoreCall). y.index) (some_is w u (sym is ∙ ap (slice_get st.under) (unique i w is (ap (λ (y : Told). y.xid) last.1)) ∙ at))))
+      | inl last ↦ absurd (apart (ap (λ (y : UploadCall). y.index) (some_is w u (sym is ∙ ap (slice_get st.under) (unique i w is (ap (λ (y : Told). y.xid) last.1)) ∙ at))))
       | inr was ↦ (z.0, was)
     ]
 
-    ways : {w : StoreCall} → w ≡ u → w.way ≡ way.Whole → ⊥
-    ways e f = not_named (sym f ∙ ap (λ (z : StoreCall). z.way) e ∙ named)
+    ways : {w : UploadCall} → w ≡ u → w.way ≡ way.Whole → ⊥
+    ways e f = not_named (sym f ∙ ap (λ (z : UploadCall). z.way) e ∙ named)
       where
         not_named : way.Whole ≡ way.Named → ⊥
         not_named e = absurd cc
 
-    still : (w : StoreCall) → (UpSend us w.xid → ⊥) → UpSend (record { lbfs = lbfs; xid = xid; call = Name m c } ∷ us) w.xid → ⊥
+    still : (w : UploadCall) → (UpSend us w.xid → ⊥) → UpSend (record { lbfs = lbfs; xid = xid; call = Name m c } ∷ us) w.xid → ⊥
     still w gone (zero, m2, s2, b2, v2, e) = not_sent (ap (λ (z : Ask). z.call) (some_is (record { lbfs = lbfs; xid = xid; call = Name m c }) _ e))
       where
         not_sent : Name m c ≡ Send m2 s2 b2 → ⊥

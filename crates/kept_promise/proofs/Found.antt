@@ -13,7 +13,7 @@ use Rattle.file_open.specs.Caching.{content_in, found_all, fresh_content}
 use Rattle.client_state.specs.Noting.{at as clocked}
 use Rattle.file_open.specs.Fetching.{changes as gives_up, opens_kept}
 use Rattle.file_open.specs.Rewriting.{asks_anew, rewrites_if, rewrites, renews_kept, told_anew}
-use Rattle.kept_promise.proofs.Common.{Word, changes, Op, TakenCall, op_after, op_ended, counted, Book, Core, Queue, ends, too_big, done_with, Part, content_length, content_bytes, nat_lt, ◌==◌, if◌then◌else◌, slice_get, Answer, Done, Failed, Hashes, Leased, Piece, Body, Message, Pending, WireFault, Content, Chunk, Command, Broken, broken_of, with_hashes, listed, reads_all, is_here, looked_up, read_at, with_bytes, fault_in, other_version, fetch_of, tries_most, State, local_at, local_bytes, calls_of, idle, may_ask, is_open, ended_by, cut, on_local, local_most, written_size, written, truncated, edits, writes, truncates, reads, abandons, opens, opens_if, asks_file, asks_kept, retries, reads_if, reads_on, lists_on, told_shape, told_version, told_hashes, told_first, uses_kept, told_lease, misfits, told_bytes, told_chunk, told_piece, store_of, store_at, answered, names_all, is_stored, goes_if, goes_on, told_temp, sends_whole, told_named, told_whole, told_way, told_stored, closes, asks_temp, command_step, took, got_step, BadPeer, ClientStep, Ended, Fetch, Local, ReadCall, Stage, Store, StoreCall, Task, Way}
+use Rattle.kept_promise.proofs.Common.{Word, changes, Op, TakenCall, op_after, op_ended, counted, Book, Core, Queue, ends, too_big, done_with, Part, content_length, content_bytes, nat_lt, ◌==◌, if◌then◌else◌, slice_get, Answer, Done, Failed, Hashes, Leased, Piece, Body, Message, Pending, WireFault, Content, Chunk, Command, Broken, broken_of, with_hashes, listed, reads_all, is_here, looked_up, read_at, with_bytes, fault_in, other_version, fetch_of, tries_most, State, local_at, local_bytes, calls_of, idle, may_ask, is_open, ended_by, cut, on_local, local_most, written_size, written, truncated, edits, writes, truncates, reads, abandons, opens, opens_if, asks_file, asks_kept, retries, reads_if, reads_on, lists_on, told_shape, told_version, told_hashes, told_first, uses_kept, told_lease, misfits, told_bytes, told_chunk, told_piece, store_of, store_at, answered, names_all, is_stored, goes_if, goes_on, told_temp, sends_whole, told_named, told_whole, told_way, told_stored, closes, asks_temp, command_step, took, got_step, BadPeer, ClientStep, Ended, Fetch, Local, ReadCall, Stage, Upload, UploadCall, Task, Way}
 use Rattle.trace_ends.specs.Ops.{file_with}
 use Rattle.kept_promise.proofs.Lists.{some_is, nothing_there}
 use Rattle.kept_promise.proofs.Messages.{Job, job, goal_word, stage_word, FetchOf}
@@ -199,7 +199,7 @@ piece_none s calls file xid f p (Some c) = chunk (slice_get f.chunks c.index)
 
 -- ---- an answer to a close
 
-goes_none : (s : State) (file : ℕ) (content : List ℕ) (st : Store) → FindsNone (goes_on s file content st)
+goes_none : (s : State) (file : ℕ) (content : List ℕ) (st : Upload) → FindsNone (goes_on s file content st)
 goes_none s file content st = by (is_stored (names_all s.lbfs st s.next_xid).store)
   where
     by : (b : Bool) → FindsNone (goes_if s file content (names_all s.lbfs st s.next_xid) b)
@@ -210,7 +210,7 @@ temp_none : (s : State) (calls : List Pending) (file xid temp : ℕ) (content : 
 temp_none s calls file xid temp content (Failed t u) = refl
 temp_none s calls file xid temp content (Done u) = goes_none s file content (store_of temp content)
 
-named_none : (s : State) (calls : List Pending) (file xid : ℕ) (content : List ℕ) (st : Store) (c : StoreCall) (a : Answer Unit Unit) → FindsNone (told_named s calls file xid content st c a)
+named_none : (s : State) (calls : List Pending) (file xid : ℕ) (content : List ℕ) (st : Upload) (c : UploadCall) (a : Answer Unit Unit) → FindsNone (told_named s calls file xid content st c a)
 named_none s calls file xid content st c (Done u) = goes_none s file content st
 named_none s calls file xid content st c (Failed status.HashNotFound u) = by (slice_get st.chunks c.index)
   where
@@ -219,7 +219,7 @@ named_none s calls file xid content st c (Failed status.HashNotFound u) = by (sl
     by (Some k) = refl
 named_none s calls file xid content st c (Failed t u) = refl
 
-stored_none : (s : State) (calls : List Pending) (file xid : ℕ) (content : List ℕ) (st : Store) (b : Body) (o : Option StoreCall) → FindsNone (told_stored s calls file xid content st b o)
+stored_none : (s : State) (calls : List Pending) (file xid : ℕ) (content : List ℕ) (st : Upload) (b : Body) (o : Option UploadCall) → FindsNone (told_stored s calls file xid content st b o)
 stored_none s calls file xid content st b None = refl
 stored_none s calls file xid content st b (Some c) = by c.way b
   where

@@ -20,7 +20,7 @@ use Rattle.path_calls.specs.declared.walk.Goal.TheVariants as goal
 use Rattle.path_calls.specs.Told.{told_found, told_goal, goes_down, finds, finds_anew, sees}
 use Rattle.open_close.specs.Walking.{finding, walked, finds_if, renews_if, told_walk, is_its}
 use Rattle.trace_replay.specs.Saving.{found_told, first_call, is_anew, anew_at, anew_in, found_call, AsksFound}
-use Rattle.kept_promise.proofs.Common.{Contains, Contains-push_cases, Done, Body, Message, Pending, Content, is_open, asks_kept, got_step, took, took_if, idle, Task, Stage, StoreCall, Way, store_at, told_stored, told_way, answered, reply_body, Core, Seat, Event.Hears, numbered, happens, CoreStep, client_of, owner_in, wanted_if, taken_by, Book, Queue, told_message}
+use Rattle.kept_promise.proofs.Common.{Contains, Contains-push_cases, Done, Body, Message, Pending, Content, is_open, asks_kept, got_step, took, took_if, idle, Task, Stage, UploadCall, Way, store_at, told_stored, told_way, answered, reply_body, Core, Seat, Event.Hears, numbered, happens, CoreStep, client_of, owner_in, wanted_if, taken_by, Book, Queue, told_message}
 use Rattle.kept_promise.proofs.Lists.{some_is}
 use Rattle.kept_promise.proofs.Fits.{FitLaws}
 use Rattle.kept_promise.proofs.Facts.{IsKept}
@@ -88,11 +88,11 @@ takes_found s calls file x (stage.Walking asked w) f = by (is_its w (nfs.LookupA
     by false = inl refl
 takes_found s calls file x (stage.Storing st) f = by (store_at st.under x)
   where
-    by_way : (c : StoreCall) (w : Way) → (told_way s calls file x (client.local_bytes s.opened file) (answered st x) c w (body.Nfs (nfs.LookupAnswer (Done f)))).1.send ≡ []
+    by_way : (c : UploadCall) (w : Way) → (told_way s calls file x (client.local_bytes s.opened file) (answered st x) c w (body.Nfs (nfs.LookupAnswer (Done f)))).1.send ≡ []
     by_way c way.Named = refl
     by_way c way.Whole = refl
 
-    by : (o : Option StoreCall) → AsksSo s.lbfs s s.clock false f (told_stored s calls file x (client.local_bytes s.opened file) st (body.Nfs (nfs.LookupAnswer (Done f))) o).1.send
+    by : (o : Option UploadCall) → AsksSo s.lbfs s s.clock false f (told_stored s calls file x (client.local_bytes s.opened file) st (body.Nfs (nfs.LookupAnswer (Done f))) o).1.send
     by None = inl refl
     by (Some c) = inl (by_way c c.way)
 takes_found s calls file x st f = inl refl

@@ -16,7 +16,7 @@ use Rattle.tree_reading.specs.Tree.{Tree, is_directory}
 use Rattle.tree_reading.specs.Plans.{one, nothing, move_done, gone_entry, name_entry, remove_plan, is_same, rename_plan}
 use Rattle.file_tree.specs.Step.{remove_if, remove, removed, moved, rename, rename_if}
 use Rattle.tree_reading.specs.declared.call.Changed.{Changed}
-use Rattle.tree_reading.specs.declared.call.Held.{Held}
+use Rattle.tree_reading.specs.declared.call.Reservation.{Reservation}
 use Rattle.tree_reading.specs.declared.call.Planned.TheVariants as plan
 use Rattle.tree_reading.specs.declared.reading.Standing.{Standing}
 use Rattle.tree_reading.specs.declared.entry.Entry.{Entry}
@@ -93,11 +93,11 @@ remove_walk dir name = record { dir = dir; left = []; goal = goal.Remove name }
 abbrev remove_asked : (dir : ℕ) → List ℕ → (file : ℕ) → Asked
 remove_asked dir name file = asked.Remove (record { spot = spot_of dir name; file = file })
 
-pub data RemoveComes (t : Tree) (held : Held) (busy : Bool) (dir : ℕ) (name : List ℕ) : Type 0 where
+pub data RemoveComes (t : Tree) (held : Reservation) (busy : Bool) (dir : ℕ) (name : List ℕ) : Type 0 where
   remove_turned : (s : Status) (r : NameReply) → removing dir name (asks_remove t held busy dir name) ≡ Answered (said (name_answer r)) → RefusedBy t dir (goal.Remove name) s → refusal_of (name_answer r) ≡ Some s → walk_told (remove_walk dir name) (name_answer r) ≡ told.Ends (ended.Refused s) → nfs_proc (name_answer r) ≡ nfs_proc (next_call (remove_walk dir name)) → RemoveComes t held busy dir name
   remove_waits : (n : Node) (content : List ℕ) → removing dir name (asks_remove t held busy dir name) ≡ Waits (remove_asked dir name n.id) → busy ≡ false → named t.nodes dir name ≡ Some n → n.body ≡ Plain content → IsSpared t held 1 → RemoveComes t held busy dir name
 
-pub remove_comes_so : (t : Tree) (held : Held) (busy : Bool) (dir : ℕ) (name : List ℕ) → RemoveComes t held busy dir name
+pub remove_comes_so : (t : Tree) (held : Reservation) (busy : Bool) (dir : ℕ) (name : List ℕ) → RemoveComes t held busy dir name
 remove_comes_so t held busy dir name = by (asks_remove t held busy dir name) refl
   where
     waits_for : (b : Bool) (r : Result Changed Status) (file : ℕ) → remove_comes b r ≡ Ok file → (b ≡ false) × (c : Changed) × (r ≡ Ok c) × (c.id ≡ file)
@@ -137,7 +137,7 @@ abbrev rename_asked : (from : ℕ) → List ℕ → (to : ℕ) → List ℕ → 
 rename_asked from name to to_name node file = asked.Rename (record { from = spot_of from name; to = spot_of to to_name; node = node; file = file })
 
 -- one is done at once: its entries are of names alone
-pub record IsMovedNow (t : Tree) (held : Held) (from : ℕ) (name : List ℕ) (to : ℕ) (to_name : List ℕ) (after : Tree) (done : Changed) : Type 0 where
+pub record IsMovedNow (t : Tree) (held : Reservation) (from : ℕ) (name : List ℕ) (to : ℕ) (to_name : List ℕ) (after : Tree) (done : Changed) : Type 0 where
   pub step : rename t held from name to to_name ≡ (after, Ok done)
   pub first : IsName done.first
   pub second : IsName done.second
@@ -145,12 +145,12 @@ pub record IsMovedNow (t : Tree) (held : Held) (from : ℕ) (name : List ℕ) (t
   pub plain : done.first ≡ None → (done.second ≡ None) × (after ≡ t)
   pub keeps : KeepsFiles t after
 
-pub data RenameComes (t : Tree) (held : Held) (busy : Bool) (from : ℕ) (name : List ℕ) (to : ℕ) (to_name : List ℕ) : Type 0 where
+pub data RenameComes (t : Tree) (held : Reservation) (busy : Bool) (from : ℕ) (name : List ℕ) (to : ℕ) (to_name : List ℕ) : Type 0 where
   rename_turned : (s : Status) (r : NameReply) → renaming t held from name to to_name (asks_rename t held busy from name to to_name) ≡ (t, Answered (said (name_answer r))) → RefusedBy t to (goal.RenameTo from name to_name) s → refusal_of (name_answer r) ≡ Some s → walk_told (rename_walk from name to to_name) (name_answer r) ≡ told.Ends (ended.Refused s) → nfs_proc (name_answer r) ≡ nfs_proc (next_call (rename_walk from name to to_name)) → RenameComes t held busy from name to to_name
   rename_now : (done : Changed) (after : Tree) (r : NameReply) → renaming t held from name to to_name (asks_rename t held busy from name to to_name) ≡ (after, Answered (record { answer = name_answer r; first = done.first; second = done.second })) → IsMovedNow t held from name to to_name after done → walk_told (rename_walk from name to to_name) (name_answer r) ≡ told.Ends ended.Done → nfs_proc (name_answer r) ≡ nfs_proc (next_call (rename_walk from name to to_name)) → RenameComes t held busy from name to to_name
   rename_waits : (n m : Node) (content : List ℕ) → renaming t held from name to to_name (asks_rename t held busy from name to to_name) ≡ (t, Waits (rename_asked from name to to_name n.id m.id)) → busy ≡ false → named t.nodes from name ≡ Some n → named t.nodes to to_name ≡ Some m → (m.id == n.id) ≡ false → m.body ≡ Plain content → IsSpared t held 2 → RenameComes t held busy from name to to_name
 
-module _ (t : Tree) (given : IsGiven t) (held : Held) (busy : Bool) (from : ℕ) (name : List ℕ) (to : ℕ) (to_name : List ℕ) where
+module _ (t : Tree) (given : IsGiven t) (held : Reservation) (busy : Bool) (from : ℕ) (name : List ℕ) (to : ℕ) (to_name : List ℕ) where
   abbrev asks : Result (Option (ℕ × ℕ)) Status
   asks = asks_rename t held busy from name to to_name
 
@@ -237,12 +237,12 @@ module _ (t : Tree) (given : IsGiven t) (held : Held) (busy : Bool) (from : ℕ)
 
 -- ---- one that waited, once nothing blocks it
 
-pub data RemoveSettles (t : Tree) (held : Held) (r : Removing) : Type 0 where
+pub data RemoveSettles (t : Tree) (held : Reservation) (r : Removing) : Type 0 where
   remove_fails : (s : Status) (m : NameReply) → settles t held (asked.Remove r) ≡ (t, said (name_answer m)) → RefusedBy t r.spot.dir (goal.Remove r.spot.name) s → refusal_of (name_answer m) ≡ Some s → walk_told (remove_walk r.spot.dir r.spot.name) (name_answer m) ≡ told.Ends (ended.Refused s) → nfs_proc (name_answer m) ≡ nfs_proc (next_call (remove_walk r.spot.dir r.spot.name)) → RemoveSettles t held r
   remove_goes : (n : Node) (content : List ℕ) (m : NameReply) → settles t held (asked.Remove r) ≡ (removed t r.spot.dir n.id, record { answer = name_answer m; first = Some (gone_entry n (Plain content)); second = None }) → n.id ≡ r.file → named t.nodes r.spot.dir r.spot.name ≡ Some n → n.body ≡ Plain content → HasDirectory t r.spot.dir
       → remove t held r.spot.dir r.spot.name ≡ (removed t r.spot.dir n.id, Ok (one n.id (n.version + 1) (gone_entry n (Plain content)))) → walk_told (remove_walk r.spot.dir r.spot.name) (name_answer m) ≡ told.Ends ended.Done → nfs_proc (name_answer m) ≡ nfs_proc (next_call (remove_walk r.spot.dir r.spot.name)) → RemoveSettles t held r
 
-pub remove_settles_so : (t : Tree) (held : Held) (r : Removing) → RemoveSettles t held r
+pub remove_settles_so : (t : Tree) (held : Reservation) (r : Removing) → RemoveSettles t held r
 remove_settles_so t held r = by (remove_again t.nodes r) refl
   where
     answers : Tree × Result Changed Status → Tree × Done
@@ -260,13 +260,13 @@ remove_settles_so t held r = by (remove_again t.nodes r) refl
     by (Err s) e = remove_fails s (Gone (answer.Failed s no_side)) (ap (removes_if t held r.spot) e) (inr (inl (r.file, e))) refl refl refl
     by (Ok u) e = made u e (removed_so t held r.spot.dir r.spot.name)
 
-pub data RenameSettles (t : Tree) (held : Held) (r : Renaming) : Type 0 where
+pub data RenameSettles (t : Tree) (held : Reservation) (r : Renaming) : Type 0 where
   rename_fails : (s : Status) (m : NameReply) → settles t held (asked.Rename r) ≡ (t, said (name_answer m)) → RefusedBy t r.to.dir (goal.RenameTo r.from.dir r.from.name r.to.name) s → refusal_of (name_answer m) ≡ Some s → walk_told (rename_walk r.from.dir r.from.name r.to.dir r.to.name) (name_answer m) ≡ told.Ends (ended.Refused s) → nfs_proc (name_answer m) ≡ nfs_proc (next_call (rename_walk r.from.dir r.from.name r.to.dir r.to.name)) → RenameSettles t held r
   rename_goes : (n g : Node) (content : List ℕ) (m : NameReply) → settles t held (asked.Rename r) ≡ (moved t r.from.dir n (Some g) r.to.dir r.to.name, record { answer = name_answer m; first = Some (gone_entry g (Plain content)); second = Some (name_entry n.id) }) → g.id ≡ r.file → named t.nodes r.from.dir r.from.name ≡ Some n → named t.nodes r.to.dir r.to.name ≡ Some g → (g.id == n.id) ≡ false → g.body ≡ Plain content → HasDirectory t r.from.dir × HasDirectory t r.to.dir
       → rename t held r.from.dir r.from.name r.to.dir r.to.name ≡ (moved t r.from.dir n (Some g) r.to.dir r.to.name, Ok (move_done n (Some g))) → walk_told (rename_walk r.from.dir r.from.name r.to.dir r.to.name) (name_answer m) ≡ told.Ends ended.Done → nfs_proc (name_answer m) ≡ nfs_proc (next_call (rename_walk r.from.dir r.from.name r.to.dir r.to.name)) → RenameSettles t held r
 
 -- the node and the file that a RENAME waited with are two, and the file is no directory
-pub rename_settles_so : (t : Tree) (held : Held) (r : Renaming) → IsGiven t → (r.node == r.file) ≡ false → ((d : Node) → with_id t.nodes r.file ≡ Some d → is_directory d.body ≡ false) → RenameSettles t held r
+pub rename_settles_so : (t : Tree) (held : Reservation) (r : Renaming) → IsGiven t → (r.node == r.file) ≡ false → ((d : Node) → with_id t.nodes r.file ≡ Some d → is_directory d.body ≡ false) → RenameSettles t held r
 rename_settles_so t held r given two file = by (rename_again t.nodes r) refl
   where
     answers : Tree × Result Changed Status → Tree × Done

@@ -9,7 +9,7 @@ use Rattle.wire.specs.declared.message.Message.TheVariants as message
 use Rattle.tree_nodes.specs.Nodes.{with_id}
 use Rattle.tree_reading.specs.Tree.{Tree, contents_size}
 use Rattle.tree_reading.specs.declared.call.Changed.{Changed as TreeChange}
-use Rattle.tree_reading.specs.declared.call.Held.{Held}
+use Rattle.tree_reading.specs.declared.call.Reservation.{Reservation}
 use Rattle.tree_reading.specs.declared.entry.Entry.{Entry as TreeEntry}
 use Rattle.tree_reading.specs.declared.entry.EntryKind.TheVariants as kind
 use Rattle.tree_calls.specs.Changing.{said}
@@ -39,7 +39,7 @@ use Rattle.trace_replay.specs.Faithful.{IsKind, left_by as left_of}
 use Rattle.trace_replay.specs.Naming.{entry_file, refusal_of}
 use Rattle.trace_ends.specs.Ops.{pointed_at, pointed}
 use Rattle.server_law.proofs.Trees.{IsBounded, given}
-use Rattle.kept_promise.proofs.Common.{slice_get, slice_set, cond, option_map, unwrap_or, value_from, Contains, Contains-push, MessageFits, at, Change, Entry, Op, Word, Core, Seat, Session, Event.Settles, CoreStep, numbered, with_numbered, happens, unless, quiet, Book, value_at, version_at, Reply.Walked, NameReply, name_answer, Told, Queue, told_message}
+use Rattle.kept_promise.proofs.Common.{slice_get, slice_set, cond, option_map, unwrap_or, value_from, Contains, Contains-push, MessageFits, at, FileChange, Entry, Op, Word, Core, Seat, Session, Event.Settles, CoreStep, numbered, with_numbered, happens, unless, quiet, Book, value_at, version_at, Reply.Walked, NameReply, name_answer, Told, Queue, told_message}
 use Rattle.trace_replay.specs.OwnCalls.{others_waiting}
 use Rattle.kept_promise.proofs.Lists.{some_is, nothing_there, at_replaced, of_replaced}
 use Rattle.kept_promise.proofs.PathNames.{is_creating}
@@ -69,7 +69,7 @@ use Rattle.kept_promise.proofs.Statements.{ToldFits}
 -- ---- the step
 
 -- what the server does, and what is noted of it
-abbrev pub asked_step : Core → (now : ℕ) → Change → List Change → Tree × Finished → CoreStep
+abbrev pub asked_step : Core → (now : ℕ) → FileChange → List FileChange → Tree × Finished → CoreStep
 asked_step k now c cs p = record (quiet (record k {
   steps = k.steps + 1;
   server = settled_server k.server now cs p.0 (k.server.journal ++ entries_by c.session p.1.first p.1.second);
@@ -77,7 +77,7 @@ asked_step k now c cs p = record (quiet (record k {
   entries = k.entries ++ replicate (count_of p.1.first p.1.second) (k.steps + 1);
 })) { down = record { session = c.session; message = message.Answer c.xid (body.Nfs p.1.answer) } ∷ [] }
 
-pub asked_settles : (k : Core) (now : ℕ) (c : Change) (cs : List Change) (a : Asked) → SettlesOut k now c cs → c.what ≡ wanted.Asked a → settles k now ≡ asked_step k now c cs (tree_settles k.server.tree (server.held cs) a)
+pub asked_settles : (k : Core) (now : ℕ) (c : FileChange) (cs : List FileChange) (a : Asked) → SettlesOut k now c cs → c.what ≡ wanted.Asked a → settles k now ≡ asked_step k now c cs (tree_settles k.server.tree (server.held cs) a)
 asked_settles k now c cs a out what =
     out.is
     ∙ ap (λ (w : Wanted). settled_to k (makes_change (at (record k.server { waiting = cs }) now) c w)) what
@@ -130,7 +130,7 @@ lets_for : (a : Asked) (o : Op) → o.word ≡ asked_word a → LetsGo o.word
 lets_for (asked.Remove r) o is = inl is
 lets_for (asked.Rename r) o is = inr is
 
-module _ (laws : FitLaws) (book : Book) (k : Core) (qs : List Queue) (now : ℕ) (c : Change) (cs : List Change) (a : Asked) (kept : IsKept book k qs) (noted : IsNoted book k (Settles now)) (out : SettlesOut k now c cs) (what : c.what ≡ wanted.Asked a)
+module _ (laws : FitLaws) (book : Book) (k : Core) (qs : List Queue) (now : ℕ) (c : FileChange) (cs : List FileChange) (a : Asked) (kept : IsKept book k qs) (noted : IsNoted book k (Settles now)) (out : SettlesOut k now c cs) (what : c.what ≡ wanted.Asked a)
     (x : Session) (q : Queue) (here : numbered k.sessions c.session ≡ Some x) (unhung : x.hung ≡ false) (is : numbered qs c.session ≡ Some q) (p : IsGoing book c.session x.closing x.cut (job (kept.sessions c.session x q here is).seat) c.xid a) where
   abbrev n : ℕ
   n = c.session
@@ -138,7 +138,7 @@ module _ (laws : FitLaws) (book : Book) (k : Core) (qs : List Queue) (now : ℕ)
   abbrev t : Tree
   t = k.server.tree
 
-  abbrev held : Held
+  abbrev held : Reservation
   held = server.held cs
 
   abbrev settled : Tree × Finished
@@ -339,8 +339,8 @@ module _ (laws : FitLaws) (book : Book) (k : Core) (qs : List Queue) (now : ℕ)
                 comes = inr (record { now = now; event_is = refl; change = c; ready = out.ready; session_is = refl; xid_is = refl });
                 before = (let z = (p.taken uncut).past in omega (arith, z));
                 done = done;
-                step_is = ap (λ (u : Held). (step_by t u (walk_for a).dir (walk_for a).goal).1) left_held ∙ ap (λ (z : Tree × Result TreeChange Status). z.1) step;
-                tree_is = ap (λ (z : CoreStep). z.core.server.tree) step_is ∙ ap (λ (z : Tree × Finished). z.0) settled_is ∙ sym (ap (λ (u : Held). (step_by t u (walk_for a).dir (walk_for a).goal).0) left_held ∙ ap (λ (z : Tree × Result TreeChange Status). z.0) step);
+                step_is = ap (λ (u : Reservation). (step_by t u (walk_for a).dir (walk_for a).goal).1) left_held ∙ ap (λ (z : Tree × Result TreeChange Status). z.1) step;
+                tree_is = ap (λ (z : CoreStep). z.core.server.tree) step_is ∙ ap (λ (z : Tree × Finished). z.0) settled_is ∙ sym (ap (λ (u : Reservation). (step_by t u (walk_for a).dir (walk_for a).goal).0) left_held ∙ ap (λ (z : Tree × Result TreeChange Status). z.0) step);
                 journal_is = ap (λ (z : CoreStep). z.core.server.journal) step_is ∙ ap (λ (z : Tree × Finished). k.server.journal ++ entries_by n z.1.first z.1.second) settled_is;
                 leads = leads;
                 pointed = subst (λ (b : Bool). PointedBy b x.closing j new (book.steps + 1) (entry_file done.first)) (sym (alters_for a)) (inr (file, gone_file done.first e file gone.is gone.kind_is gone.file_is, p.unmade.0, refl, refl));

@@ -9,7 +9,7 @@ use Rattle.wire.specs.declared.message.Program.TheVariants as program
 use Rattle.tree_nodes.specs.Nodes.{with_id}
 use Rattle.tree_reading.specs.Tree.{Tree, contents_size}
 use Rattle.tree_reading.specs.declared.call.Changed.{Changed as TreeChange}
-use Rattle.tree_reading.specs.declared.call.Held.{Held}
+use Rattle.tree_reading.specs.declared.call.Reservation.{Reservation}
 use Rattle.tree_reading.specs.declared.entry.Entry.{Entry as TreeEntry}
 use Rattle.tree_calls.specs.Changing.{said}
 use Rattle.tree_calls.specs.Waiting.{file_of, entries_of}
@@ -108,7 +108,7 @@ module _ (laws : FitLaws) (book : Book) (k : Core) (qs : List Queue) (n now : â„
   abbrev t : Tree
   t = k.server.tree
 
-  abbrev held : Held
+  abbrev held : Reservation
   held = server.held k.server.waiting
 
   abbrev busy : Bool

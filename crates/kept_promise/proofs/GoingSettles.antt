@@ -14,7 +14,7 @@ use Rattle.server_core.specs.declared.change.Wanted.TheVariants as wanted
 use Rattle.client_state.specs.State as client
 use Rattle.client_state.specs.declared.task.Stage.TheVariants as stage
 use Rattle.register_model.specs.declared.op.Outcome.TheVariants as told
-use Rattle.kept_promise.proofs.Common.{slice_get, Contains, MessageFits, Change, Entry, Op, Core, Seat, Session, Event.Settles, numbered, with_numbered, happens, unless, hashed_of, Book, Reply.Walked, NameReply, name_answer, Told, Queue, told_message, Reply, Indexed, Leasing, later}
+use Rattle.kept_promise.proofs.Common.{slice_get, Contains, MessageFits, FileChange, Entry, Op, Core, Seat, Session, Event.Settles, numbered, with_numbered, happens, unless, hashed_of, Book, Reply.Walked, NameReply, name_answer, Told, Queue, told_message, Reply, Indexed, Leasing, later}
 use Rattle.kept_promise.proofs.Tells.{came_told}
 use Rattle.kept_promise.proofs.Orderly.{Wanted}
 use Rattle.kept_promise.proofs.Lists.{some_is, nothing_there, true_and_false, all_append, all_unless}
@@ -45,7 +45,7 @@ none_later (asked.Remove r) e = absurd cc
 none_later (asked.Rename r) e = absurd cc
 
 -- what is answered is of the procedure that waited
-pub answer_key : (c : Change) (a : Asked) (r : NameReply) → c.what ≡ wanted.Asked a → nfs_proc (name_answer r) ≡ nfs_proc (next_call (walk_for a)) → told_key (record { xid = c.xid; reply = Walked r }) ≡ change_key c
+pub answer_key : (c : FileChange) (a : Asked) (r : NameReply) → c.what ≡ wanted.Asked a → nfs_proc (name_answer r) ≡ nfs_proc (next_call (walk_for a)) → told_key (record { xid = c.xid; reply = Walked r }) ≡ change_key c
 answer_key c a r what procs = ap (λ p. key c.xid (program.Nfs p)) procs ∙ by a ∙ sym (ap (λ w. change_key (record c { what = w })) what)
   where
     by : (a : Asked) → key c.xid (program.Nfs (nfs_proc (next_call (walk_for a)))) ≡ change_key (record c { what = wanted.Asked a })
@@ -55,14 +55,14 @@ answer_key c a r what procs = ap (λ p. key c.xid (program.Nfs p)) procs ∙ by 
 -- ---- the queue
 
 -- what is settled is told where it waited
-way_settled : (y : ℕ) (c : Change) (waits cs : List Change) (q : Queue) (t : Told) → IsOut waits c cs → told_key t ≡ change_key c → times y (on_way c.session cs (record q { downs = q.downs ++ t ∷ [] })) ≡ times y (on_way c.session waits q)
+way_settled : (y : ℕ) (c : FileChange) (waits cs : List FileChange) (q : Queue) (t : Told) → IsOut waits c cs → told_key t ≡ change_key c → times y (on_way c.session cs (record q { downs = q.downs ++ t ∷ [] })) ≡ times y (on_way c.session waits q)
 way_settled y c waits cs q t out same =
     let n : ℕ = c.session in
     let ups = map ask_key q.ups in
     let a = times_append y ups (map change_key (own n cs) ++ map told_key (q.downs ++ t ∷ [])) in
     let b = times_append y (map change_key (own n cs)) (map told_key (q.downs ++ t ∷ [])) in
     let d = times_map_append told_key y q.downs (t ∷ []) in
-    let e = ap (λ (l : List Change). times y (ups ++ (map change_key l ++ map told_key q.downs))) (out.mine ∙ ap (λ (l : List Change). c ∷ l) (sym out.none)) in
+    let e = ap (λ (l : List FileChange). times y (ups ++ (map change_key l ++ map told_key q.downs))) (out.mine ∙ ap (λ (l : List FileChange). c ∷ l) (sym out.none)) in
     let f = times_append y ups (map change_key (c ∷ own n cs) ++ map told_key q.downs) in
     let g = times_append y (map change_key (c ∷ own n cs)) (map told_key q.downs) in
     let h = times_append y (change_key c ∷ []) (map change_key (own n cs)) in
@@ -72,11 +72,11 @@ way_settled y c waits cs q t out same =
 -- ---- the frame
 
 -- the server then
-abbrev pub settled_server : server.State → (now : ℕ) → List Change → Tree → List Entry → server.State
+abbrev pub settled_server : server.State → (now : ℕ) → List FileChange → Tree → List Entry → server.State
 settled_server s now cs tree journal = record s { leasing = later s.leasing now; waiting = cs; tree = tree; journal = journal }
 
 -- what is to show where a change waits no more, and its client is told this of it
-pub record ShowsTold (book more : Book) (k : Core) (c : Change) (x : Session) (q : Queue) (s : server.State) (r : Reply) (made : Option ℕ) (h : IsSession book k.seats k.server c.session x q) : Type 0 where
+pub record ShowsTold (book more : Book) (k : Core) (c : FileChange) (x : Session) (q : Queue) (s : server.State) (r : Reply) (made : Option ℕ) (h : IsSession book k.seats k.server c.session x q) : Type 0 where
   pub goes : Goes book more made None
   pub server : IsServer more s
   pub journal_is : more.journal ≡ s.journal
@@ -90,7 +90,7 @@ pub record ShowsTold (book more : Book) (k : Core) (c : Change) (x : Session) (q
   pub wanted : x.cut ≡ false → Wanted more (job h.seat) c.xid r
   pub running : (p : ℕ) (o : Op) → slice_get more.ops p ≡ Some o → o.outcome ≡ told.Running → (e : Seat) × (j : Job) × (numbered k.seats o.client ≡ Some e) × (job e ≡ Some j) × (j.place ≡ p)
 
-module _ (book more : Book) (k : Core) (qs : List Queue) (now : ℕ) (c : Change) (cs : List Change) (x : Session) (q : Queue) (leasing : Leasing) (tree : Tree) (journal : List Entry) (index : Indexed) (r : Reply) (made : Option ℕ)
+module _ (book more : Book) (k : Core) (qs : List Queue) (now : ℕ) (c : FileChange) (cs : List FileChange) (x : Session) (q : Queue) (leasing : Leasing) (tree : Tree) (journal : List Entry) (index : Indexed) (r : Reply) (made : Option ℕ)
     (kept : IsKept book k qs) (out : IsOut k.server.waiting c cs) (here : numbered k.sessions c.session ≡ Some x) (is : numbered qs c.session ≡ Some q) (shows : ShowsTold book more k c x q (record (settled_server k.server now cs tree journal) { leasing = leasing; index = index }) r made (kept.sessions c.session x q here is)) where
   abbrev n : ℕ
   n = c.session
@@ -111,8 +111,8 @@ module _ (book more : Book) (k : Core) (qs : List Queue) (now : ℕ) (c : Change
   alone : (commits_in q.ups ≡ 0) × (length (own n cs) ≡ 0)
   alone =
       let single = h.single in
-      let one = ap (λ (l : List Change). length l) out.mine in
-      let none = ap (λ (l : List Change). length l) out.none in
+      let one = ap (λ (l : List FileChange). length l) out.mine in
+      let none = ap (λ (l : List FileChange). length l) out.none in
       (omega (arith, single, one), omega (arith, none))
 
   cut_downs : (b : Bool) → b ≡ true → q.downs ≡ [] → unless b q.downs (t ∷ []) ≡ []
@@ -174,7 +174,7 @@ module _ (book more : Book) (k : Core) (qs : List Queue) (now : ℕ) (c : Change
           temps = λ i m u lt w key_is. let o = h.temps i m u lt w key_is in (parts_later (hashed_of book.moments) (hashed_of more.moments) (h.contents m) u.1.pieces g.hashed o.0, o.1);
           temps_below = h.temps_below;
           closes = shows.closes;
-          pending = λ i d f. nothing_there d (ap (λ (l : List Change). slice_get l i) (sym out.none) ∙ f);
+          pending = λ i d f. nothing_there d (ap (λ (l : List FileChange). slice_get l i) (sym out.none) ∙ f);
           single = let z = alone.0 in let y = alone.1 in omega (arith, z, y);
           old = λ z w. let u = h.old z w in let v = g.each z u.0 u.1 in (v.0, v.1, v.2.client ∙ u.2);
           orderly = λ uncut. orderly_told more n k.server.temps x.hung x.cut q t h.seat shows.plain (shows.wanted uncut) (orderly_later book more made None n k.server.temps k.server.temps x.hung q h.seat g (λ m lt. refl) (h.orderly uncut));
@@ -187,7 +187,7 @@ module _ (book more : Book) (k : Core) (qs : List Queue) (now : ℕ) (c : Change
 
 -- ---- a change of names
 
-pub record ShowsSettled (book more : Book) (k : Core) (now : ℕ) (c : Change) (cs : List Change) (x : Session) (q : Queue) (tree : Tree) (journal : List Entry) (r : NameReply) (made : Option ℕ) (h : IsSession book k.seats k.server c.session x q) : Type 0 where
+pub record ShowsSettled (book more : Book) (k : Core) (now : ℕ) (c : FileChange) (cs : List FileChange) (x : Session) (q : Queue) (tree : Tree) (journal : List Entry) (r : NameReply) (made : Option ℕ) (h : IsSession book k.seats k.server c.session x q) : Type 0 where
   pub goes : Goes book more made None
   pub server : IsServer more (settled_server k.server now cs tree journal)
   pub journal_is : more.journal ≡ journal
@@ -197,7 +197,7 @@ pub record ShowsSettled (book more : Book) (k : Core) (now : ℕ) (c : Change) (
   pub answer : x.cut ≡ false → AnswerOf more x.taken x.closing (job h.seat) c.xid (Walked r)
   pub running : (p : ℕ) (o : Op) → slice_get more.ops p ≡ Some o → o.outcome ≡ told.Running → (e : Seat) × (j : Job) × (numbered k.seats o.client ≡ Some e) × (job e ≡ Some j) × (j.place ≡ p)
 
-module _ (book more : Book) (k : Core) (qs : List Queue) (now : ℕ) (c : Change) (cs : List Change) (a : Asked) (x : Session) (q : Queue) (tree : Tree) (journal : List Entry) (r : NameReply) (made : Option ℕ)
+module _ (book more : Book) (k : Core) (qs : List Queue) (now : ℕ) (c : FileChange) (cs : List FileChange) (a : Asked) (x : Session) (q : Queue) (tree : Tree) (journal : List Entry) (r : NameReply) (made : Option ℕ)
     (kept : IsKept book k qs) (out : IsOut k.server.waiting c cs) (here : numbered k.sessions c.session ≡ Some x) (unhung : x.hung ≡ false) (is : numbered qs c.session ≡ Some q)
     (pending : IsGoing book c.session x.closing x.cut (job (kept.sessions c.session x q here is).seat) c.xid a) (shows : ShowsSettled book more k now c cs x q tree journal r made (kept.sessions c.session x q here is)) where
   abbrev its : IsSession book k.seats k.server c.session x q
@@ -219,7 +219,7 @@ module _ (book more : Book) (k : Core) (qs : List Queue) (now : ℕ) (c : Change
     fits = shows.fits;
     answers = λ uncut.
         let talk = its.talk uncut in
-        tolds_at (IsAnswer book x.taken x.closing (job its.seat)) (IsAnswer more x.taken x.closing (job its.seat)) q.downs (λ i u at f. unwaited book more x.taken x.taken x.closing (job its.seat) c.xid (walk_for a) u (waits_here uncut) (λ same. waits_untold c.session k.server.waiting q x.hung its.seat.client.next_xid (client.calls_of its.seat.client) 0 i c u talk.balanced (ap (λ (l : List Change). slice_get l 0) out.mine) at (sym same)) f) talk.answers;
+        tolds_at (IsAnswer book x.taken x.closing (job its.seat)) (IsAnswer more x.taken x.closing (job its.seat)) q.downs (λ i u at f. unwaited book more x.taken x.taken x.closing (job its.seat) c.xid (walk_for a) u (waits_here uncut) (λ same. waits_untold c.session k.server.waiting q x.hung its.seat.client.next_xid (client.calls_of its.seat.client) 0 i c u talk.balanced (ap (λ (l : List FileChange). slice_get l 0) out.mine) at (sym same)) f) talk.answers;
     answer = shows.answer;
     closes = λ uncut j f. subst (CloseOf more x.closing its.contents its.seat.client.next_temp j (client.local_bytes its.seat.client.opened j.file)) (sym (waits_here uncut j f)) (λ later. absurd (none_later a later));
     plain = tt;

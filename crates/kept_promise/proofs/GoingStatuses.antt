@@ -12,7 +12,7 @@ use Rattle.tree_reading.specs.Plans.{remove_done, may_remove, remove_plan, Targe
 use Rattle.file_tree.specs.Step.{remove_if, remove, rename_if, rename}
 use Rattle.tree_reading.specs.Tree.{Tree, is_directory, is_within, node_of, directory_of, directory_or, file_or, or_no_entry}
 use Rattle.tree_reading.specs.declared.call.Changed.{Changed}
-use Rattle.tree_reading.specs.declared.call.Held.{Held}
+use Rattle.tree_reading.specs.declared.call.Reservation.{Reservation}
 use Rattle.tree_reading.specs.declared.call.Planned.{Planned}
 use Rattle.tree_reading.specs.declared.call.Planned.TheVariants as plan
 use Rattle.tree_reading.specs.declared.call.Spot.{Spot}
@@ -89,7 +89,7 @@ still_refused others nodes s id there = by (is_node id (stands_for nodes s.dir s
 
 -- ---- REMOVE
 
-remove_plan_refused : (t : Tree) (held : Held) (dir : ℕ) (name : List ℕ) → IsName name → Refuses remove_others (remove_plan t held dir name)
+remove_plan_refused : (t : Tree) (held : Reservation) (dir : ℕ) (name : List ℕ) → IsName name → Refuses remove_others (remove_plan t held dir name)
 remove_plan_refused t held dir name h =
     chain (IsWith remove_others) (may_remove t held dir name) _
     (chain (IsWith remove_others) (directory_of t.nodes dir) _ (directory_refused remove_others t.nodes dir) (λ d. chain (IsWith remove_others) (spelt name) _ (spelt_fails (IsWith remove_others) name h.1 h.2) (λ u. chain (IsWith remove_others) (undotted status.Inval status.Inval name) _ (undotted_refused remove_others status.Inval status.Inval name h.0)
@@ -106,7 +106,7 @@ removed_err t dir (Err e) s h = h
 removed_err t dir (Ok d) s h = absurd cc
 
 -- when it comes
-pub remove_asked : (t : Tree) (held : Held) (busy : Bool) (dir : ℕ) (name : List ℕ) (s : Status) → IsName name → asks_remove t held busy dir name ≡ Err s → IsNameRefused (status_number s) (21 ∷ 28 ∷ 10008 ∷ [])
+pub remove_asked : (t : Tree) (held : Reservation) (busy : Bool) (dir : ℕ) (name : List ℕ) (s : Status) → IsName name → asks_remove t held busy dir name ≡ Err s → IsNameRefused (status_number s) (21 ∷ 28 ∷ 10008 ∷ [])
 remove_asked t held busy dir name s h e = by busy (remove_plan t held dir name) (remove_plan_refused t held dir name h) s e
   where
     by : (b : Bool) (r : Result Changed Status) → Refuses remove_others r → Refuses remove_others (remove_comes b r)
@@ -118,7 +118,7 @@ remove_asked t held busy dir name s h e = by busy (remove_plan t held dir name) 
 pub remove_late : (nodes : List Node) (r : Removing) (s : Status) → remove_again nodes r ≡ Err s → IsNameRefused (status_number s) (21 ∷ 28 ∷ 10008 ∷ [])
 remove_late nodes r s e = chain (IsWith remove_others) (version nodes r.file) (λ v. still nodes r.spot r.file) (version_refused remove_others nodes r.file) (λ v. still_refused remove_others nodes r.spot r.file remove_busy) s e
 
-pub remove_refused : (t : Tree) (held : Held) (dir : ℕ) (name : List ℕ) (s : Status) → IsName name → (remove t held dir name).1 ≡ Err s → IsNameRefused (status_number s) (21 ∷ 28 ∷ 10008 ∷ [])
+pub remove_refused : (t : Tree) (held : Reservation) (dir : ℕ) (name : List ℕ) (s : Status) → IsName name → (remove t held dir name).1 ≡ Err s → IsNameRefused (status_number s) (21 ∷ 28 ∷ 10008 ∷ [])
 remove_refused t held dir name s h e = remove_plan_refused t held dir name h s (removed_err t dir (remove_plan t held dir name) s e)
 
 -- ---- RENAME
@@ -145,11 +145,11 @@ replace_refused nodes n m = by (is_directory n.body)
     by true = empty (is_directory m.body && (length (names nodes m.id) == 0))
     by false = file (is_directory m.body)
 
-over_refused : (t : Tree) (held : Held) (n : Node) (o : Option Node) → Refuses rename_others (rename_over t held n o)
+over_refused : (t : Tree) (held : Reservation) (n : Node) (o : Option Node) → Refuses rename_others (rename_over t held n o)
 over_refused t held n None = chain (IsWith rename_others) (spared t.changes held 1) _ (spared_refused rename_others t.changes held 1 rename_full) (λ u. done (IsWith rename_others) _)
 over_refused t held n (Some m) = chain (IsWith rename_others) (may_replace t.nodes n m) _ (replace_refused t.nodes n m) (λ u. chain (IsWith rename_others) (spared t.changes held 2) _ (spared_refused rename_others t.changes held 2 rename_full) (λ v. done (IsWith rename_others) _))
 
-target_refused : (t : Tree) (held : Held) (n : Node) (to : ℕ) (o : Option Node) → Refuses rename_others (rename_found t held n to o)
+target_refused : (t : Tree) (held : Reservation) (n : Node) (to : ℕ) (o : Option Node) → Refuses rename_others (rename_found t held n to o)
 target_refused t held n to o = by (is_same n o)
   where
     by : (b : Bool) → (let r : Result Target Status = if b then Ok itself else (or_within t.nodes n to >>= λ u. rename_over t held n o) in Refuses rename_others r)
@@ -163,7 +163,7 @@ directory_or_refused n = by (is_directory n.body)
     by true = done (IsWith rename_others) n
     by false = fails (IsWith rename_others) status.NotDir (inl (inr (inl refl)))
 
-rename_plan_refused : (t : Tree) (held : Held) (dir : ℕ) (name : List ℕ) (to : ℕ) (to_name : List ℕ) → IsName name → IsName to_name → Refuses rename_others (rename_plan t held dir name to to_name)
+rename_plan_refused : (t : Tree) (held : Reservation) (dir : ℕ) (name : List ℕ) (to : ℕ) (to_name : List ℕ) → IsName name → IsName to_name → Refuses rename_others (rename_plan t held dir name to to_name)
 rename_plan_refused t held dir name to to_name h k =
     chain (IsWith rename_others) (node_of t.nodes dir) _ (node_refused rename_others t.nodes dir) (λ d. chain (IsWith rename_others) (node_of t.nodes to) _ (node_refused rename_others t.nodes to) (λ e. chain (IsWith rename_others) (directory_or status.NotDir d) _ (directory_or_refused d) (λ x. chain (IsWith rename_others) (directory_or status.NotDir e) _ (directory_or_refused e)
     (λ y. chain (IsWith rename_others) (spelt name) _ (spelt_fails (IsWith rename_others) name h.1 h.2) (λ u. chain (IsWith rename_others) (undotted status.Inval status.Inval name) _ (undotted_refused rename_others status.Inval status.Inval name h.0)
@@ -181,7 +181,7 @@ renamed_err t dir name to to_name (Ok (plan.Free d)) s h = absurd cc
 renamed_err t dir name to to_name (Ok (plan.Over d)) s h = absurd cc
 
 -- when it comes
-pub rename_asked : (t : Tree) (held : Held) (busy : Bool) (dir : ℕ) (name : List ℕ) (to : ℕ) (to_name : List ℕ) (s : Status) → IsName name → IsName to_name → asks_rename t held busy dir name to to_name ≡ Err s → IsNameRefused (status_number s) (17 ∷ 22 ∷ 28 ∷ 10008 ∷ [])
+pub rename_asked : (t : Tree) (held : Reservation) (busy : Bool) (dir : ℕ) (name : List ℕ) (to : ℕ) (to_name : List ℕ) (s : Status) → IsName name → IsName to_name → asks_rename t held busy dir name to to_name ≡ Err s → IsNameRefused (status_number s) (17 ∷ 22 ∷ 28 ∷ 10008 ∷ [])
 rename_asked t held busy dir name to to_name s h k e = by (stands_for t.nodes to to_name) (rename_plan t held dir name to to_name) (rename_plan_refused t held dir name to to_name h k) s e
   where
     blocked : (n : Standing) (c : Changed) (file busy_ : Bool) → (let r : Result (Option ℕ) Status = if file then (if busy_ then Err status.Jukebox else Ok (Some n.id)) else Ok None in Refuses rename_others (r >>= λ f. Ok (with_node c.id f)))
@@ -203,5 +203,5 @@ rename_asked t held busy dir name to to_name s h k e = by (stands_for t.nodes to
 pub rename_late : (nodes : List Node) (r : Renaming) (s : Status) → rename_again nodes r ≡ Err s → IsNameRefused (status_number s) (17 ∷ 22 ∷ 28 ∷ 10008 ∷ [])
 rename_late nodes r s e = chain (IsWith rename_others) (version nodes r.file) (λ v. still nodes r.from r.node >>= λ u. still nodes r.to r.file) (version_refused rename_others nodes r.file) (λ v. chain (IsWith rename_others) (still nodes r.from r.node) (λ u. still nodes r.to r.file) (still_refused rename_others nodes r.from r.node rename_busy) (λ u. still_refused rename_others nodes r.to r.file rename_busy)) s e
 
-pub rename_refused : (t : Tree) (held : Held) (dir : ℕ) (name : List ℕ) (to : ℕ) (to_name : List ℕ) (s : Status) → IsName name → IsName to_name → (rename t held dir name to to_name).1 ≡ Err s → IsNameRefused (status_number s) (17 ∷ 22 ∷ 28 ∷ 10008 ∷ [])
+pub rename_refused : (t : Tree) (held : Reservation) (dir : ℕ) (name : List ℕ) (to : ℕ) (to_name : List ℕ) (s : Status) → IsName name → IsName to_name → (rename t held dir name to to_name).1 ≡ Err s → IsNameRefused (status_number s) (17 ∷ 22 ∷ 28 ∷ 10008 ∷ [])
 rename_refused t held dir name to to_name s h k e = rename_plan_refused t held dir name to to_name h k s (renamed_err t dir name to to_name (rename_plan t held dir name to to_name) s e)

@@ -19,7 +19,7 @@ use Rattle.server_core.specs.declared.event.ServerStep.{ServerStep}
 use Rattle.server_core.specs.declared.journal.Entry.{Entry}
 use Rattle.trace_ends.specs.Core.{newest_entries, server_got, changed_file}
 use Rattle.trace_ends.specs.Ops.{pointed_at}
-use Rattle.kept_promise.proofs.Common.{Op, Change, at, has_waiting, got_if, stands, Core, Session, CoreStep, with_numbered, quiet, change_of}
+use Rattle.kept_promise.proofs.Common.{Op, FileChange, at, has_waiting, got_if, stands, Core, Session, CoreStep, with_numbered, quiet, change_of}
 use Rattle.kept_promise.proofs.PathNames.{IsWalkSmall, is_going}
 use Rattle.kept_promise.proofs.Departures.{comes_by, called_going}
 use Rattle.kept_promise.proofs.ServesFiles.{making_got, count_is, newest_more, none_newest, pointed_none}
@@ -35,7 +35,7 @@ did k n x xid r = record (quiet (record k {
 })) { down = r.1.send }
 
 -- it comes to wait
-abbrev pub coming : (n xid : ℕ) → Asked → Change
+abbrev pub coming : (n xid : ℕ) → Asked → FileChange
 coming n xid a = change_of n xid (file_of a) (wanted.Asked a)
 
 abbrev pub waits_got : Core → (n now : ℕ) → Session → (xid : ℕ) → Asked → CoreStep

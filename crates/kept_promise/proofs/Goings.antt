@@ -15,7 +15,7 @@ use Rattle.tree_reading.specs.Plans.{Target, Target.itself, Target.over, spared,
 use Rattle.file_tree.specs.Step.{remove_if, remove, removed, placed, moved_at, moved, shifted, rename_if, rename, create, mkdir, rmdir}
 use Rattle.tree_reading.specs.declared.call.Changed.{Changed}
 use Rattle.tree_reading.specs.declared.call.CreateMode.TheVariants as mode
-use Rattle.tree_reading.specs.declared.call.Held.{Held}
+use Rattle.tree_reading.specs.declared.call.Reservation.{Reservation}
 use Rattle.tree_reading.specs.declared.call.Planned.{Planned}
 use Rattle.tree_reading.specs.declared.call.Planned.TheVariants as plan
 use Rattle.tree_calls.specs.Waiting.{asks_remove, asks_rename, remove_again, rename_again, spot_of}
@@ -32,11 +32,11 @@ use Rattle.kept_promise.proofs.MakingTrees.{none_versioned}
 
 -- ---- REMOVE
 
-pub data RemovedSo (t : Tree) (held : Held) (dir : ℕ) (name : List ℕ) : Type 0 where
+pub data RemovedSo (t : Tree) (held : Reservation) (dir : ℕ) (name : List ℕ) : Type 0 where
   no_remove : (s : Status) → remove t held dir name ≡ (t, Err s) → RemovedSo t held dir name
   goes : (n : Node) (content : List ℕ) → named t.nodes dir name ≡ Some n → n.body ≡ Plain content → HasDirectory t dir → IsSpared t held 1 → remove t held dir name ≡ (removed t dir n.id, Ok (one n.id (n.version + 1) (gone_entry n (Plain content)))) → RemovedSo t held dir name
 
-pub removed_so : (t : Tree) (held : Held) (dir : ℕ) (name : List ℕ) → RemovedSo t held dir name
+pub removed_so : (t : Tree) (held : Reservation) (dir : ℕ) (name : List ℕ) → RemovedSo t held dir name
 removed_so t held dir name = by (remove_plan t held dir name) refl
   where
     file : (done : Changed) → remove_plan t held dir name ≡ Ok done → (n : Node) → named t.nodes dir name ≡ Some n → done ≡ remove_done n → (b : Body) → n.body ≡ b → is_directory b ≡ false → RemovedSo t held dir name
@@ -49,7 +49,7 @@ removed_so t held dir name = by (remove_plan t held dir name) refl
 
 -- ---- RENAME
 
-pub data RenamedSo (t : Tree) (held : Held) (dir : ℕ) (name : List ℕ) (to : ℕ) (to_name : List ℕ) : Type 0 where
+pub data RenamedSo (t : Tree) (held : Reservation) (dir : ℕ) (name : List ℕ) (to : ℕ) (to_name : List ℕ) : Type 0 where
   no_rename : (s : Status) → rename_plan t held dir name to to_name ≡ Err s → RenamedSo t held dir name to to_name
   -- both names are the node's
   stays : (n : Node) → named t.nodes dir name ≡ Some n → is_same n (named t.nodes to to_name) ≡ true → rename_plan t held dir name to to_name ≡ Ok (plan.Nothing (nothing n)) → RenamedSo t held dir name to to_name
@@ -74,11 +74,11 @@ kind_same nodes n m u e = by (is_directory n.body) refl e
     by false is e = plain (is_directory m.body) e ∙ sym is
 
 -- what is known of a target that isn't the node itself
-abbrev IsTarget : Tree → Held → Node → (found : Option Node) → Type 0
+abbrev IsTarget : Tree → Reservation → Node → (found : Option Node) → Type 0
 IsTarget t held n None = IsSpared t held 1
 IsTarget t held n (Some m) = (is_directory m.body ≡ is_directory n.body) × IsSpared t held 2
 
-over_target : (t : Tree) (held : Held) (n : Node) (found : Option Node) (g : Target) → rename_over t held n found ≡ Ok g → (g ≡ over found) × IsTarget t held n found
+over_target : (t : Tree) (held : Reservation) (n : Node) (found : Option Node) (g : Target) → rename_over t held n found ≡ Ok g → (g ≡ over found) × IsTarget t held n found
 over_target t held n None g e =
     let a = bind_ok (spared t.changes held 1) (λ _. Ok (over None)) g e in
     (sym (ok_is (over None) g a.2), spared_room t held 1 a.0 a.1)
@@ -88,7 +88,7 @@ over_target t held n (Some m) g e =
     (sym (ok_is (over (Some m)) g b.2), (kind_same t.nodes n m a.0 a.1, spared_room t held 2 b.0 b.1))
 
 -- what is planned
-found_target : (t : Tree) (held : Held) (n : Node) (to : ℕ) (found : Option Node) (p : Planned) → planned_found t held n to found ≡ Ok p → ((is_same n found ≡ true) × (p ≡ planned_as n itself)) ⊎ ((is_same n found ≡ false) × (p ≡ planned_as n (over found)) × IsTarget t held n found)
+found_target : (t : Tree) (held : Reservation) (n : Node) (to : ℕ) (found : Option Node) (p : Planned) → planned_found t held n to found ≡ Ok p → ((is_same n found ≡ true) × (p ≡ planned_as n itself)) ⊎ ((is_same n found ≡ false) × (p ≡ planned_as n (over found)) × IsTarget t held n found)
 found_target t held n to found p e = by (is_same n found) refl e
   where
     by : (b : Bool) → is_same n found ≡ b → ((let r : Result Target Status = if b then Ok itself else (or_within t.nodes n to >>= λ _. rename_over t held n found) in r) >>= λ target. Ok (planned_as n target)) ≡ Ok p → ((is_same n found ≡ true) × (p ≡ planned_as n itself)) ⊎ ((is_same n found ≡ false) × (p ≡ planned_as n (over found)) × IsTarget t held n found)
@@ -99,7 +99,7 @@ found_target t held n to found p e = by (is_same n found) refl e
         let g = over_target t held n found a.0 b.2 in
         inr (is, sym (ok_is (planned_as n a.0) p a.2) ∙ ap (planned_as n) g.0, g.1)
 
-pub renamed_so : (t : Tree) (held : Held) (dir : ℕ) (name : List ℕ) (to : ℕ) (to_name : List ℕ) → RenamedSo t held dir name to to_name
+pub renamed_so : (t : Tree) (held : Reservation) (dir : ℕ) (name : List ℕ) (to : ℕ) (to_name : List ℕ) → RenamedSo t held dir name to to_name
 renamed_so t held dir name to to_name = by (rename_plan t held dir name to to_name) refl
   where
     target : (p : Planned) → rename_plan t held dir name to to_name ≡ Ok p → (n : Node) → named t.nodes dir name ≡ Some n → (found : Option Node) → named t.nodes to to_name ≡ found → is_same n found ≡ false → p ≡ planned_as n (over found) → IsTarget t held n found → RenamedSo t held dir name to to_name
@@ -116,10 +116,10 @@ renamed_so t held dir name to to_name = by (rename_plan t held dir name to to_na
         ]
 
 -- what it makes of the tree
-pub renames_moved : (t : Tree) (held : Held) (dir : ℕ) (name : List ℕ) (to : ℕ) (to_name : List ℕ) (n : Node) → named t.nodes dir name ≡ Some n → rename_plan t held dir name to to_name ≡ Ok (plan.Free (move_done n None)) → rename t held dir name to to_name ≡ (moved t dir n None to to_name, Ok (move_done n None))
+pub renames_moved : (t : Tree) (held : Reservation) (dir : ℕ) (name : List ℕ) (to : ℕ) (to_name : List ℕ) (n : Node) → named t.nodes dir name ≡ Some n → rename_plan t held dir name to to_name ≡ Ok (plan.Free (move_done n None)) → rename t held dir name to to_name ≡ (moved t dir n None to to_name, Ok (move_done n None))
 renames_moved t held dir name to to_name n at e = ap (rename_if t dir name to to_name) e ∙ ap (λ (o : Option Node). (shifted t dir o None to to_name, Ok (move_done n None))) at
 
-pub renames_over : (t : Tree) (held : Held) (dir : ℕ) (name : List ℕ) (to : ℕ) (to_name : List ℕ) (n m : Node) → named t.nodes dir name ≡ Some n → named t.nodes to to_name ≡ Some m → rename_plan t held dir name to to_name ≡ Ok (plan.Over (move_done n (Some m))) → rename t held dir name to to_name ≡ (moved t dir n (Some m) to to_name, Ok (move_done n (Some m)))
+pub renames_over : (t : Tree) (held : Reservation) (dir : ℕ) (name : List ℕ) (to : ℕ) (to_name : List ℕ) (n m : Node) → named t.nodes dir name ≡ Some n → named t.nodes to to_name ≡ Some m → rename_plan t held dir name to to_name ≡ Ok (plan.Over (move_done n (Some m))) → rename t held dir name to to_name ≡ (moved t dir n (Some m) to to_name, Ok (move_done n (Some m)))
 renames_over t held dir name to to_name n m at there e =
     ap (rename_if t dir name to to_name) e ∙ ap (λ (o : Option Node). (shifted t dir o (named t.nodes to to_name) to to_name, Ok (move_done n (Some m)))) at ∙ ap (λ (o : Option Node). (moved t dir n o to to_name, Ok (move_done n (Some m)))) there
 
@@ -128,11 +128,11 @@ renames_over t held dir name to to_name n m at there e =
 -- By the tree's step in the directory that was reached; a REMOVE and a RENAME also when they come, or since another change came between, once nothing blocks
 -- them.
 abbrev pub RefusedBy : Tree → (dir : ℕ) → Goal → Status → Type 0
-RefusedBy t dir (goal.Make name) s = (held : Held) × ((create t held dir name mode.Guarded).1 ≡ Err s)
-RefusedBy t dir (goal.MakeDir name) s = (held : Held) × ((mkdir t held dir name).1 ≡ Err s)
-RefusedBy t dir (goal.RemoveDir name) s = (held : Held) × ((rmdir t held dir name).1 ≡ Err s)
-RefusedBy t dir (goal.Remove name) s = ((held : Held) × (busy : Bool) × (asks_remove t held busy dir name ≡ Err s)) ⊎ (((file : ℕ) × (remove_again t.nodes (record { spot = spot_of dir name; file = file }) ≡ Err s)) ⊎ ((held : Held) × ((remove t held dir name).1 ≡ Err s)))
-RefusedBy t dir (goal.RenameTo from name to_name) s = ((held : Held) × (busy : Bool) × (asks_rename t held busy from name dir to_name ≡ Err s)) ⊎ (((node : ℕ) × (file : ℕ) × (rename_again t.nodes (record { from = spot_of from name; to = spot_of dir to_name; node = node; file = file }) ≡ Err s)) ⊎ ((held : Held) × ((rename t held from name dir to_name).1 ≡ Err s)))
+RefusedBy t dir (goal.Make name) s = (held : Reservation) × ((create t held dir name mode.Guarded).1 ≡ Err s)
+RefusedBy t dir (goal.MakeDir name) s = (held : Reservation) × ((mkdir t held dir name).1 ≡ Err s)
+RefusedBy t dir (goal.RemoveDir name) s = (held : Reservation) × ((rmdir t held dir name).1 ≡ Err s)
+RefusedBy t dir (goal.Remove name) s = ((held : Reservation) × (busy : Bool) × (asks_remove t held busy dir name ≡ Err s)) ⊎ (((file : ℕ) × (remove_again t.nodes (record { spot = spot_of dir name; file = file }) ≡ Err s)) ⊎ ((held : Reservation) × ((remove t held dir name).1 ≡ Err s)))
+RefusedBy t dir (goal.RenameTo from name to_name) s = ((held : Reservation) × (busy : Bool) × (asks_rename t held busy from name dir to_name ≡ Err s)) ⊎ (((node : ℕ) × (file : ℕ) × (rename_again t.nodes (record { from = spot_of from name; to = spot_of dir to_name; node = node; file = file }) ≡ Err s)) ⊎ ((held : Reservation) × ((rename t held from name dir to_name).1 ≡ Err s)))
 RefusedBy t dir g s = ⊥
 
 abbrev pub RefusedAs : Tree → Walk → Status → Type 0

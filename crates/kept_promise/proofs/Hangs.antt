@@ -6,7 +6,7 @@ use Rattle.server_core.specs.Step.{hangs, hangs_if}
 use Rattle.server_core.specs.declared.event.Event.TheVariants as event
 use Rattle.client_state.specs.State as client
 use Rattle.trace_ends.specs.Core.{hangs_if as core_hangs_if, hangs as core_hangs}
-use Rattle.kept_promise.proofs.Common.{slice_get, not, cond, ◌==◌, filter, list_any, stands, server_step, Change, Op, Core, Seat, Session, quiet, numbered, with_numbered, Book, Ask, Queue, version_at}
+use Rattle.kept_promise.proofs.Common.{slice_get, not, cond, ◌==◌, filter, list_any, stands, server_step, FileChange, Op, Core, Seat, Session, quiet, numbered, with_numbered, Book, Ask, Queue, version_at}
 use Rattle.kept_promise.proofs.Lists.{some_is, nothing_there, same_or_not, all_map}
 use Rattle.kept_promise.proofs.Keys.{times, times_append, own, on_way, change_key, ask_key, told_key, pending_key}
 use Rattle.kept_promise.proofs.Messages.{job, Rising, IsAnswer}
@@ -26,7 +26,7 @@ use Rattle.kept_promise.proofs.Unused.{IsUnused}
 -- ---- what the server still has of other sessions
 
 -- a session's own among those of others
-own_else : (m n : ℕ) → (m ≡ n → ⊥) → (ws : List Change) → own m (filter (λ c. not (c.session == n)) ws) ≡ own m ws
+own_else : (m n : ℕ) → (m ≡ n → ⊥) → (ws : List FileChange) → own m (filter (λ c. not (c.session == n)) ws) ≡ own m ws
 own_else m n apart [] = refl
 own_else m n apart (c ∷ ws) = by (c.session == n) refl (own_else m n apart ws)
   where
@@ -37,7 +37,7 @@ own_else m n apart (c ∷ ws) = by (c.session == n) refl (own_else m n apart ws)
     by true e h = h ∙ sym (ap (λ t. cond t (c ∷ own m ws) (own m ws)) (gone (eqb-true c.session n e)))
     by false e h = ap (λ l. cond (c.session == m) (c ∷ l) l) h
 
-own_gone : (n : ℕ) (ws : List Change) → own n (filter (λ c. not (c.session == n)) ws) ≡ []
+own_gone : (n : ℕ) (ws : List FileChange) → own n (filter (λ c. not (c.session == n)) ws) ≡ []
 own_gone n [] = refl
 own_gone n (c ∷ ws) = by (c.session == n) refl (own_gone n ws)
   where
@@ -73,7 +73,7 @@ was_there p (y ∷ xs) i x e = by (p y) i e (λ k f. was_there p xs k x f)
 
 -- ---- the changes that are left
 
-pub left_there : (n : ℕ) (ws : List Change) (i : ℕ) (c : Change) → slice_get (filter (λ d. not (d.session == n)) ws) i ≡ Some c → ((j : ℕ) × (slice_get ws j ≡ Some c)) × (c.session ≡ n → ⊥)
+pub left_there : (n : ℕ) (ws : List FileChange) (i : ℕ) (c : FileChange) → slice_get (filter (λ d. not (d.session == n)) ws) i ≡ Some c → ((j : ℕ) × (slice_get ws j ≡ Some c)) × (c.session ≡ n → ⊥)
 left_there n [] i c e = nothing_there c e
 left_there n (d ∷ ws) i c e = by (d.session == n) refl i e (λ k f. left_there n ws k c f)
   where
@@ -81,7 +81,7 @@ left_there n (d ∷ ws) i c e = by (d.session == n) refl i e (λ k f. left_there
         → ((k : ℕ) → slice_get (filter (λ z. not (z.session == n)) ws) k ≡ Some c → ((j : ℕ) × (slice_get ws j ≡ Some c)) × (c.session ≡ n → ⊥))
         → ((j : ℕ) × (slice_get (d ∷ ws) j ≡ Some c)) × (c.session ≡ n → ⊥)
     by true f k g later = let r = later k g in ((suc r.0.0, r.0.1), r.1)
-    by false f zero g later = let same : d ≡ c = some_is d c g in ((0, g), λ q. differ (ap (λ (z : Change). z.session == n) (sym same) ∙ f) q)
+    by false f zero g later = let same : d ≡ c = some_is d c g in ((0, g), λ q. differ (ap (λ (z : FileChange). z.session == n) (sym same) ∙ f) q)
       where
         differ : (c.session == n) ≡ false → c.session ≡ n → ⊥
         differ h q = let t : (c.session == n) ≡ true = eq-eqb c.session n q in absurd cc
@@ -130,7 +130,7 @@ talk_hung book s n x q c t =
     less : (y : ℕ) → times y (on_way n s.waiting q) ≤ times y (map pending_key (client.calls_of c.client)) → times y (on_way n (filter (λ d. not (d.session == n)) s.waiting) (record q { ups = [] })) ≤ times y (map pending_key (client.calls_of c.client))
     less y h =
         let none : own n (filter (λ d. not (d.session == n)) s.waiting) ≡ [] = own_gone n s.waiting in
-        let now : times y (on_way n (filter (λ d. not (d.session == n)) s.waiting) (record q { ups = [] })) ≡ times y (map told_key q.downs) = ap (λ (l : List Change). times y (map change_key l ++ map told_key q.downs)) none in
+        let now : times y (on_way n (filter (λ d. not (d.session == n)) s.waiting) (record q { ups = [] })) ≡ times y (map told_key q.downs) = ap (λ (l : List FileChange). times y (map change_key l ++ map told_key q.downs)) none in
         let a = times_append y (map ask_key q.ups) (map change_key (own n s.waiting) ++ map told_key q.downs) in
         let b = times_append y (map change_key (own n s.waiting)) (map told_key q.downs) in
         omega (arith, h, now, a, b)
@@ -188,7 +188,7 @@ hung_now book k qs n x q kept at is unhung =
         temps = λ i m e lt f g. let w = was_there (λ z. not (z.1.session == n)) k.server.temps i e f in h.temps w.0 m e lt w.1 g;
         temps_below = λ uncut. (tt, λ i m e lt f g. let w = was_there (λ z. not (z.1.session == n)) k.server.temps i e f in (h.temps_below uncut).1 w.0 m e lt w.1 g);
         closes = λ uncut j f. close_later book more None None x.closing h.contents c.client.next_temp j (client.local_bytes c.client.opened j.file) j.stage g spares (h.closes uncut j f);
-        pending = λ i d f. nothing_there d (ap (λ (l : List Change). slice_get l i) (sym none) ∙ f);
+        pending = λ i d f. nothing_there d (ap (λ (l : List FileChange). slice_get l i) (sym none) ∙ f);
         single = let l = ap length none in omega (arith, l);
         old = λ z f. let o = h.old z f in let u = g.each z o.0 o.1 in (u.0, u.1, u.2.client ∙ o.2);
         orderly = λ uncut. orderly_hung book more None None n k.server.temps r.temps x.hung q c g (h.orderly uncut);

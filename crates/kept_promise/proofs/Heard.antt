@@ -2,7 +2,7 @@
 use Rattle.std.proofs.Common.{inl, inr, ◌≡◌, ℕ, zero, suc, ◌+◌, ◌<◌, ◌≤◌, List, [], ◌∷◌, ◌++◌, length, Option, Some, Bool, true, false, refl, sym, ap, ◌∙◌, subst, arith, eqb-true, ne_eqb, map}
 use Rattle.client_state.specs.State as client
 use Rattle.register_model.specs.declared.op.Outcome.TheVariants as told
-use Rattle.kept_promise.proofs.Common.{nat_tests, slice_get, cond, ◌==◌, nat_le, MessageFits, Pending, Change, Op, Core, Seat, Session, numbered, unless, hashed_of, Book, Call, Call.Commit, Call.Walks, Ask, Told, Queue, told_message, call_program, reply_program}
+use Rattle.kept_promise.proofs.Common.{nat_tests, slice_get, cond, ◌==◌, nat_le, MessageFits, Pending, FileChange, Op, Core, Seat, Session, numbered, unless, hashed_of, Book, Call, Call.Commit, Call.Walks, Ask, Told, Queue, told_message, call_program, reply_program}
 use Rattle.kept_promise.proofs.Statements.{ToldFits, CallFits}
 use Rattle.kept_promise.proofs.Keys.{times, times_append, own, on_way, change_key, ask_key, told_key, pending_key, IsOurs, call_ours, found_by, there_by, key_code}
 use Rattle.kept_promise.proofs.Messages.{Job, job, job_of, AllAsks, AllTolds, Rising, IsAsked, IsAnswer, HasFetch, IsCommit, IsPiece, WaitsFor, TempUnder, CloseOf}
@@ -61,7 +61,7 @@ pub record Hearing (book : Book) (ops : List Op) (k : Core) (n : ℕ) (x : Sessi
   pub old_asks : AllAsks (IsAsked (job_of place c.task)) q.ups
   pub old_tolds : AllTolds (IsAnswer (onward book 1 ops) x.taken x.closing (job_of place c.task)) ts
   pub old_commits : AllAsks (IsCommit (onward book 1 ops) x.closing x.cut (job_of place c.task) h.contents) q.ups
-  pub old_pending : (i : ℕ) (d : Change) → slice_get (own n k.server.waiting) i ≡ Some d → WaitsFor (onward book 1 ops) d.session x.closing x.cut (job_of place c.task) d.xid d.file d.what
+  pub old_pending : (i : ℕ) (d : FileChange) → slice_get (own n k.server.waiting) i ≡ Some d → WaitsFor (onward book 1 ops) d.session x.closing x.cut (job_of place c.task) d.xid d.file d.what
   -- what goes up
   pub moves : Moves (client.calls_of h.seat.client) (client.calls_of c) t asks
   pub rising : Rising h.seat.client.next_xid asks c.next_xid
@@ -109,7 +109,7 @@ commits_unless true us vs = omega arith
 commits_unless false us vs = let e = commits_both us vs in omega (arith, e)
 
 -- an answer that was taken has left, and what was sent has come, unless the server lost the connection
-way_heard : (n y : ℕ) (w : List Change) (q : Queue) (t : Told) (ts : List Told) (asks : List Ask) → q.downs ≡ t ∷ ts → times y (on_way n w (record { ups = q.ups ++ asks; downs = ts })) + times y (told_key t ∷ []) ≡ times y (on_way n w q) + times y (map ask_key asks)
+way_heard : (n y : ℕ) (w : List FileChange) (q : Queue) (t : Told) (ts : List Told) (asks : List Ask) → q.downs ≡ t ∷ ts → times y (on_way n w (record { ups = q.ups ++ asks; downs = ts })) + times y (told_key t ∷ []) ≡ times y (on_way n w q) + times y (map ask_key asks)
 way_heard n y w q t ts asks e =
     let middle = map change_key (own n w) in
     let one = times_append y (map ask_key (q.ups ++ asks)) (middle ++ map told_key ts) in
@@ -121,7 +121,7 @@ way_heard n y w q t ts asks e =
     let six = times_append y (told_key t ∷ []) (map told_key ts) in
     omega (arith, one, two, three, was, four, five, six)
 
-way_dropped : (n y : ℕ) (w : List Change) (q : Queue) (t : Told) (ts : List Told) → q.downs ≡ t ∷ ts → times y (on_way n w (record { ups = q.ups; downs = ts })) + times y (told_key t ∷ []) ≡ times y (on_way n w q)
+way_dropped : (n y : ℕ) (w : List FileChange) (q : Queue) (t : Told) (ts : List Told) → q.downs ≡ t ∷ ts → times y (on_way n w (record { ups = q.ups; downs = ts })) + times y (told_key t ∷ []) ≡ times y (on_way n w q)
 way_dropped n y w q t ts e =
     let middle = map change_key (own n w) in
     let one = times_append y (map ask_key q.ups) (middle ++ map told_key ts) in
@@ -135,7 +135,7 @@ way_dropped n y w q t ts e =
 abbrev pub put_up : Queue → (hung : Bool) → List Ask → List Told → Queue
 put_up q hung asks ts = record { ups = unless hung q.ups asks; downs = ts }
 
-balanced_heard : (n : ℕ) (w : List Change) (q : Queue) (hung : Bool) (next top : ℕ) (calls after : List Pending) (t : Told) (ts : List Told) (asks : List Ask) → q.downs ≡ t ∷ ts → Moves calls after t asks → Rising next asks top → IsBalanced n w q hung next calls → IsBalanced n w (put_up q hung asks ts) hung top after
+balanced_heard : (n : ℕ) (w : List FileChange) (q : Queue) (hung : Bool) (next top : ℕ) (calls after : List Pending) (t : Told) (ts : List Told) (asks : List Ask) → q.downs ≡ t ∷ ts → Moves calls after t asks → Rising next asks top → IsBalanced n w q hung next calls → IsBalanced n w (put_up q hung asks ts) hung top after
 balanced_heard n w q hung next top calls after t ts asks e moves rising h = record {
   most = λ y. most_by hung y (h.most y) (moves pending_key y);
   least = λ up y. least_by hung up y (h.least up y) (moves pending_key y);

@@ -7,7 +7,7 @@ use Rattle.lease_rules.specs.Leases.{is_others}
 use Rattle.lease_table.specs.Order.{AreOrdered}
 use Rattle.callback_core.specs.Waits.{without}
 use Rattle.server_core.specs.Closing.{ready_by}
-use Rattle.server_core.specs.State.{State, Change}
+use Rattle.server_core.specs.State.{State, FileChange}
 use Rattle.trace_replay.specs.Trail.{step_if}
 use Rattle.trace_replay.specs.PendingChanges.{move_of, KeepsTime, LeasesCome, GrantsNone, FreesAnswered, GoesOn, IsFreeBy, settling_at, settlings, TakesOut, WaitInTurn}
 use Rattle.kept_promise.proofs.Common.{Contains-append_left, Contains-push, Contains-push_cases, Core, Session, Event, Event.Joins, Event.Does, Event.Serves, Event.Hears, Event.Settles, Event.Cuts, Event.Hangs, happens, numbered, Moment, Book, Queue, Opening}
@@ -86,14 +86,14 @@ left_at {X = X} keep (y ∷ ys) (suc q) x e is = by (keep y) refl (left_at keep 
 -- ---- one step
 
 -- it is taken out, or stands nearer the front by each settling, and nothing else holds it up
-abbrev Nears : (k : Core) (e : Event) (t q : ℕ) (c : Change) → Type 0
+abbrev Nears : (k : Core) (e : Event) (t q : ℕ) (c : FileChange) → Type 0
 Nears k e t q c = TakesOut (moment k e) c ⊎ ((r : ℕ) × (r + settling_at t e ≤ q) × IsFreeBy (happens k e).core.server t r c)
 
 -- where no lease is granted, and each that stands before it did so
-abbrev AllWere : (before after : List Change) → (q r : ℕ) → Type 0
-AllWere before after q r = (i : ℕ) (d : Change) → i ≤ r → slice_get after i ≡ Some d → (j : ℕ) × (j ≤ q) × (slice_get before j ≡ Some d)
+abbrev AllWere : (before after : List FileChange) → (q r : ℕ) → Type 0
+AllWere before after q r = (i : ℕ) (d : FileChange) → i ≤ r → slice_get after i ≡ Some d → (j : ℕ) × (j ≤ q) × (slice_get before j ≡ Some d)
 
-free_then : (k : Core) (e : Event) → AreOrdered k.server.leasing.leases → (t q r : ℕ) (c : Change) → IsFreeBy k.server t q c → slice_get (happens k e).core.server.waiting r ≡ Some c → AllWere k.server.waiting (happens k e).core.server.waiting q r → IsFreeBy (happens k e).core.server t r c
+free_then : (k : Core) (e : Event) → AreOrdered k.server.leasing.leases → (t q r : ℕ) (c : FileChange) → IsFreeBy k.server t q c → slice_get (happens k e).core.server.waiting r ≡ Some c → AllWere k.server.waiting (happens k e).core.server.waiting q r → IsFreeBy (happens k e).core.server t r c
 free_then k e ordered t q r c h there were = record {
   there = there;
   ended = λ i j d l le at file stands on other.
@@ -104,8 +104,8 @@ free_then k e ordered t q r c h there were = record {
       omega (arith, last, same));
 }
 
-free_same : (k : Core) (e : Event) → AreOrdered k.server.leasing.leases → (t q : ℕ) (c : Change) → IsFreeBy k.server t q c → (happens k e).core.server.waiting ≡ k.server.waiting → IsFreeBy (happens k e).core.server t q c
-free_same k e ordered t q c h same = free_then k e ordered t q q c h (ap (λ (ws : List Change). slice_get ws q) same ∙ h.there) (λ i d le at. (i, le, ap (λ (ws : List Change). slice_get ws i) (sym same) ∙ at))
+free_same : (k : Core) (e : Event) → AreOrdered k.server.leasing.leases → (t q : ℕ) (c : FileChange) → IsFreeBy k.server t q c → (happens k e).core.server.waiting ≡ k.server.waiting → IsFreeBy (happens k e).core.server t q c
+free_same k e ordered t q c h same = free_then k e ordered t q q c h (ap (λ (ws : List FileChange). slice_get ws q) same ∙ h.there) (λ i d le at. (i, le, ap (λ (ws : List FileChange). slice_get ws i) (sym same) ∙ at))
 
 at_most : (b : Bool) → step_if b ≤ 1
 at_most true = omega arith
@@ -121,11 +121,11 @@ compare (suc a) (suc b) = elim (compare a b) [
   | inr (inr gt) ↦ inr (inr (omega (arith, gt)))
 ]
 
-settle_nears : (k : Core) → AreOrdered k.server.leasing.leases → k.server.leasing.quiet ≡ 0 → (t now q : ℕ) (c : Change) → IsFreeBy k.server t q c → (o : Option Change) → ready_by k.server now ≡ o → Leaves k now o → Nears k (Settles now) t q c
+settle_nears : (k : Core) → AreOrdered k.server.leasing.leases → k.server.leasing.quiet ≡ 0 → (t now q : ℕ) (c : FileChange) → IsFreeBy k.server t q c → (o : Option FileChange) → ready_by k.server now ≡ o → Leaves k now o → Nears k (Settles now) t q c
 settle_nears k ordered awake t now q c h o e l = by o e l (nat_le t now) refl
   where
     -- something is ready at a reading that is late enough
-    soon : t ≤ now → (d : Change) × (i : ℕ) × (i ≤ q) × (slice_get k.server.waiting i ≡ Some d) × (ready_by k.server now ≡ Some d)
+    soon : t ≤ now → (d : FileChange) × (i : ℕ) × (i ≤ q) × (slice_get k.server.waiting i ≡ Some d) × (ready_by k.server now ≡ Some d)
     soon le = ready_soon k.server now q c awake (record {
       there = h.there;
       ended = λ i j d l before at file stands on other. (let z = h.ended i j d l before at file stands on other in omega (arith, z, le));
@@ -134,7 +134,7 @@ settle_nears k ordered awake t now q c h o e l = by o e l (nat_le t now) refl
     late : nat_le t now ≡ true → t ≤ now
     late is = grind (arith, nat_tests, is)
 
-    out : (d : Change) → ready_by k.server now ≡ Some d → (p : ℕ) → slice_get k.server.waiting p ≡ Some d → ((i : ℕ) → slice_get k.server.waiting i ≡ Some d → i ≡ p) → (happens k (Settles now)).core.server.waiting ≡ remove k.server.waiting p → (b : Bool) → nat_le t now ≡ b → (p < q) ⊎ ((p ≡ q) ⊎ (q < p)) → Nears k (Settles now) t q c
+    out : (d : FileChange) → ready_by k.server now ≡ Some d → (p : ℕ) → slice_get k.server.waiting p ≡ Some d → ((i : ℕ) → slice_get k.server.waiting i ≡ Some d → i ≡ p) → (happens k (Settles now)).core.server.waiting ≡ remove k.server.waiting p → (b : Bool) → nat_le t now ≡ b → (p < q) ⊎ ((p ≡ q) ⊎ (q < p)) → Nears k (Settles now) t q c
     out d is p there alone left b when (inr (inl same)) = inl (inl (now, refl, is ∙ sym there ∙ ap (slice_get k.server.waiting) same ∙ h.there))
     out d is p there alone left b when (inl lt) =
         let r = removed_below k.server.waiting p q c h.there lt in
@@ -143,58 +143,58 @@ settle_nears k ordered awake t now q c h o e l = by o e l (nat_le t now) refl
         inr (
           r.0,
           omega (arith, one, next),
-          free_then k (Settles now) ordered t q r.0 c h (ap (λ (ws : List Change). slice_get ws r.0) left ∙ r.2) (λ i d below at.
-              (let w = removed_was k.server.waiting p i d (ap (λ (ws : List Change). slice_get ws i) (sym left) ∙ at) in let le = w.2 in (w.0, omega (arith, below, next, le), w.1))),
+          free_then k (Settles now) ordered t q r.0 c h (ap (λ (ws : List FileChange). slice_get ws r.0) left ∙ r.2) (λ i d below at.
+              (let w = removed_was k.server.waiting p i d (ap (λ (ws : List FileChange). slice_get ws i) (sym left) ∙ at) in let le = w.2 in (w.0, omega (arith, below, next, le), w.1))),
         )
     out d is p there alone left false when (inr (inr gt)) =
         let none : step_if (nat_le t now) ≡ 0 = ap step_if when in
         inr (
           q,
           omega (arith, none),
-          free_then k (Settles now) ordered t q q c h (ap (λ (ws : List Change). slice_get ws q) left ∙ removed_above k.server.waiting p q c h.there gt) (λ i d below at.
-              (let w = removed_was k.server.waiting p i d (ap (λ (ws : List Change). slice_get ws i) (sym left) ∙ at) in let same = w.3 (omega (arith, below, gt)) in (w.0, omega (arith, below, same), w.1))),
+          free_then k (Settles now) ordered t q q c h (ap (λ (ws : List FileChange). slice_get ws q) left ∙ removed_above k.server.waiting p q c h.there gt) (λ i d below at.
+              (let w = removed_was k.server.waiting p i d (ap (λ (ws : List FileChange). slice_get ws i) (sym left) ∙ at) in let same = w.3 (omega (arith, below, gt)) in (w.0, omega (arith, below, same), w.1))),
         )
     out d is p there alone left true when (inr (inr gt)) =
         let s = soon (late when) in
         let same : s.0 ≡ d = some_is s.0 d (sym s.4 ∙ is) in
-        let at : s.1 ≡ p = alone s.1 (s.3 ∙ ap (λ (z : Change). Some z) same) in
+        let at : s.1 ≡ p = alone s.1 (s.3 ∙ ap (λ (z : FileChange). Some z) same) in
         let le = s.2 in
         absurd (omega (arith, le, at, gt))
 
-    by : (o : Option Change) → ready_by k.server now ≡ o → Leaves k now o → (b : Bool) → nat_le t now ≡ b → Nears k (Settles now) t q c
+    by : (o : Option FileChange) → ready_by k.server now ≡ o → Leaves k now o → (b : Bool) → nat_le t now ≡ b → Nears k (Settles now) t q c
     by None e l true when = let s = soon (late when) in nothing_there s.0 (sym e ∙ s.4)
     by None e l false when = let none : step_if (nat_le t now) ≡ 0 = ap step_if when in inr (q, omega (arith, none), free_same k (Settles now) ordered t q c h (ap (λ (s : State). s.waiting) l))
     by (Some d) e l b when = out d e l.place l.there l.alone l.left b when (compare l.place q)
 
-hang_nears : (k : Core) → AreOrdered k.server.leasing.leases → (t n q : ℕ) (c : Change) → IsFreeBy k.server t q c → (happens k (Hangs n)).core.server.waiting ≡ without k.server.waiting n → Nears k (Hangs n) t q c
+hang_nears : (k : Core) → AreOrdered k.server.leasing.leases → (t n q : ℕ) (c : FileChange) → IsFreeBy k.server t q c → (happens k (Hangs n)).core.server.waiting ≡ without k.server.waiting n → Nears k (Hangs n) t q c
 hang_nears k ordered t n q c h left = by (c.session == n) refl
   where
     by : (b : Bool) → (c.session == n) ≡ b → Nears k (Hangs n) t q c
     by true is = let same : c.session ≡ n = grind (arith, nat_tests, is) in inl (inr (ap (λ (m : ℕ). Hangs m) (sym same)))
     by false is =
-        let l = left_at (λ (d : Change). not (d.session == n)) k.server.waiting q c h.there (ap not is) in
+        let l = left_at (λ (d : FileChange). not (d.session == n)) k.server.waiting q c h.there (ap not is) in
         let le = l.before in
         inr (
           l.place,
           omega (arith, le),
-          free_then k (Hangs n) ordered t q l.place c h (ap (λ (ws : List Change). slice_get ws l.place) left ∙ l.there) (λ i d below at. l.were i d below (ap (λ (ws : List Change). slice_get ws i) (sym left) ∙ at)),
+          free_then k (Hangs n) ordered t q l.place c h (ap (λ (ws : List FileChange). slice_get ws l.place) left ∙ l.there) (λ i d below at. l.were i d below (ap (λ (ws : List FileChange). slice_get ws i) (sym left) ∙ at)),
         )
 
-serve_nears : (till : List Moment) (k : Core) → AreOrdered k.server.leasing.leases → (t n now : ℕ) (bytes : List ℕ) (q : ℕ) (c : Change) → IsFreeBy k.server t q c → GoesOn till (Serves n now bytes) (move_of (moment k (Serves n now bytes))) → Nears k (Serves n now bytes) t q c
+serve_nears : (till : List Moment) (k : Core) → AreOrdered k.server.leasing.leases → (t n now : ℕ) (bytes : List ℕ) (q : ℕ) (c : FileChange) → IsFreeBy k.server t q c → GoesOn till (Serves n now bytes) (move_of (moment k (Serves n now bytes))) → Nears k (Serves n now bytes) t q c
 serve_nears till k ordered t n now bytes q c h (inl same) = inr (q, omega arith, free_same k (Serves n now bytes) ordered t q c h same)
 serve_nears till k ordered t n now bytes q c h (inr (d, comes)) =
     let inside = within k.server.waiting q c h.there in
     inr (
       q,
       omega arith,
-      free_then k (Serves n now bytes) ordered t q q c h (ap (λ (ws : List Change). slice_get ws q) comes.behind ∙ kept_appended k.server.waiting d q c h.there) (λ i x le at.
-          elim (of_appended k.server.waiting d i x (ap (λ (ws : List Change). slice_get ws i) (sym comes.behind) ∙ at)) [
+      free_then k (Serves n now bytes) ordered t q q c h (ap (λ (ws : List FileChange). slice_get ws q) comes.behind ∙ kept_appended k.server.waiting d q c h.there) (λ i x le at.
+          elim (of_appended k.server.waiting d i x (ap (λ (ws : List FileChange). slice_get ws i) (sym comes.behind) ∙ at)) [
             | inl last ↦ (let end = last.0 in absurd (omega (arith, le, inside, end)))
             | inr old ↦ (i, le, old)
           ]),
     )
 
-nears : (till : List Moment) (book : Book) (k : Core) (qs : List Queue) (e : Event) (t q : ℕ) (c : Change) → IsKept book k qs → AreOrdered k.server.leasing.leases → k.server.leasing.quiet ≡ 0 → IsFreeBy k.server t q c → GoesOn till e (move_of (moment k e)) → Nears k e t q c
+nears : (till : List Moment) (book : Book) (k : Core) (qs : List Queue) (e : Event) (t q : ℕ) (c : FileChange) → IsKept book k qs → AreOrdered k.server.leasing.leases → k.server.leasing.quiet ≡ 0 → IsFreeBy k.server t q c → GoesOn till e (move_of (moment k e)) → Nears k e t q c
 nears till book k qs (Serves n now bytes) t q c kept ordered awake h goes = serve_nears till k ordered t n now bytes q c h goes
 nears till book k qs (Settles now) t q c kept ordered awake h goes = settle_nears k ordered awake t now q c h (ready_by k.server now) refl (leaves_ready book k qs now kept)
 nears till book k qs (Hangs n) t q c kept ordered awake h goes = hang_nears k ordered t n q c h goes
@@ -255,10 +255,10 @@ settlings_more t (x ∷ ms) m = let h = settlings_more t ms m in omega (arith, h
 
 -- ---- what is carried
 
-abbrev IsGone : Change → List Moment → Type 0
+abbrev IsGone : FileChange → List Moment → Type 0
 IsGone c ms = (n : Moment) × Contains ms n × TakesOut n c
 
-abbrev IsStill : State → (t place : ℕ) → Change → List Moment → Type 0
+abbrev IsStill : State → (t place : ℕ) → FileChange → List Moment → Type 0
 IsStill s t place c ms = (q : ℕ) × (q + settlings t ms ≤ place) × IsFreeBy s t q c
 
 -- in one step
@@ -274,15 +274,15 @@ pub record TakeTurns (past : List Moment) (k : Core) : Type 0 where
   pub numbers : NumbersAt past k
   pub goes : (early late : List Moment) (m : Moment) → past ≡ early ++ m ∷ late → GoesOn (early ++ m ∷ []) m.event (move_of m)
   pub each : (m : Moment) → Contains past m → TakesTurn m
-  pub live : (early span : List Moment) (m : Moment) (t place : ℕ) (c : Change) → past ≡ early ++ m ∷ span → IsFreeBy m.before.server t place c → IsGone c (m ∷ span) ⊎ IsStill k.server t place c (m ∷ span)
-  pub soon : (early span late : List Moment) (m : Moment) (t place : ℕ) (c : Change) → past ≡ early ++ m ∷ (span ++ late) → IsFreeBy m.before.server t place c → place < settlings t (m ∷ span) → IsGone c (m ∷ span)
+  pub live : (early span : List Moment) (m : Moment) (t place : ℕ) (c : FileChange) → past ≡ early ++ m ∷ span → IsFreeBy m.before.server t place c → IsGone c (m ∷ span) ⊎ IsStill k.server t place c (m ∷ span)
+  pub soon : (early span late : List Moment) (m : Moment) (t place : ℕ) (c : FileChange) → past ≡ early ++ m ∷ (span ++ late) → IsFreeBy m.before.server t place c → place < settlings t (m ∷ span) → IsGone c (m ∷ span)
 
 -- what is left waits on through one more
-gone_or_still : (k : Core) (e : Event) (t place q : ℕ) (c : Change) (ms : List Moment) → q + settlings t ms ≤ place → Nears k e t q c → IsGone c (ms ++ moment k e ∷ []) ⊎ IsStill (happens k e).core.server t place c (ms ++ moment k e ∷ [])
+gone_or_still : (k : Core) (e : Event) (t place q : ℕ) (c : FileChange) (ms : List Moment) → q + settlings t ms ≤ place → Nears k e t q c → IsGone c (ms ++ moment k e ∷ []) ⊎ IsStill (happens k e).core.server t place c (ms ++ moment k e ∷ [])
 gone_or_still k e t place q c ms le (inl out) = inl (moment k e, Contains-push ms (moment k e), out)
 gone_or_still k e t place q c ms le (inr (r, fewer, free)) = let more = settlings_more t ms (moment k e) in inr (r, omega (arith, le, fewer, more), free)
 
-not_both : {A : Type 0} (s : State) (t place : ℕ) (c : Change) (ms : List Moment) → place < settlings t ms → IsStill s t place c ms → A
+not_both : {A : Type 0} (s : State) (t place : ℕ) (c : FileChange) (ms : List Moment) → place < settlings t ms → IsStill s t place c ms → A
 not_both s t place c ms lt (q, le, free) = absurd (omega (arith, lt, le))
 
 module _ {all past rest : List Moment} {opening : List Opening} {k : Core} {qs : List Queue} {e : Event} {mid after : List Queue} (s : Step all past rest opening k qs e mid after) (h : TakeTurns past k) where
@@ -308,10 +308,10 @@ module _ {all past rest : List Moment} {opening : List Opening} {k : Core} {qs :
     | inr old ↦ h.goes early old.0 m old.1
   ]
 
-  nears_now : (t q : ℕ) (c : Change) → IsFreeBy k.server t q c → Nears k e t q c
+  nears_now : (t q : ℕ) (c : FileChange) → IsFreeBy k.server t q c → Nears k e t q c
   nears_now t q c free = nears (past ++ m_ ∷ []) (book_at opening k all) k qs e t q c s.kept h.ordered h.awake free goes
 
-  live_then : (early span : List Moment) (m : Moment) (t place : ℕ) (c : Change) → past ++ m_ ∷ [] ≡ early ++ m ∷ span → IsFreeBy m.before.server t place c → IsGone c (m ∷ span) ⊎ IsStill (happens k e).core.server t place c (m ∷ span)
+  live_then : (early span : List Moment) (m : Moment) (t place : ℕ) (c : FileChange) → past ++ m_ ∷ [] ≡ early ++ m ∷ span → IsFreeBy m.before.server t place c → IsGone c (m ∷ span) ⊎ IsStill (happens k e).core.server t place c (m ∷ span)
   live_then early span m t place c is free = elim (split_last past early span m m_ is) [
     | inl now ↦ subst (λ (l : List Moment). IsGone c (m ∷ l) ⊎ IsStill (happens k e).core.server t place c (m ∷ l)) (sym now.0)
         (subst (λ (z : Moment). IsGone c (z ∷ []) ⊎ IsStill (happens k e).core.server t place c (z ∷ [])) (sym now.1)
@@ -322,7 +322,7 @@ module _ {all past rest : List Moment} {opening : List Opening} {k : Core} {qs :
     ])
   ]
 
-  soon_then : (early span late : List Moment) (m : Moment) (t place : ℕ) (c : Change) → past ++ m_ ∷ [] ≡ early ++ m ∷ (span ++ late) → IsFreeBy m.before.server t place c → place < settlings t (m ∷ span) → IsGone c (m ∷ span)
+  soon_then : (early span late : List Moment) (m : Moment) (t place : ℕ) (c : FileChange) → past ++ m_ ∷ [] ≡ early ++ m ∷ (span ++ late) → IsFreeBy m.before.server t place c → place < settlings t (m ∷ span) → IsGone c (m ∷ span)
   soon_then early span late m t place c is free lt = elim (split_last past early (span ++ late) m m_ is) [
     | inl now ↦ last (none_late span late now.0)
     | inr old ↦ elim (split_more span late old.0 m_ old.1) [

@@ -4,7 +4,7 @@ use Rattle.std.proofs.lemmas.List.Folds.{list_any-append}
 use Rattle.server_core.specs.State as server
 use Rattle.chunk_calls.specs.Files as the_files
 use Rattle.client_state.specs.State as client
-use Rattle.kept_promise.proofs.Common.{nat_tests, slice_get, cond, ◌==◌, ◌||◌, nat_lt, list_any, has_room, connect, Temp, temp_at, key_of, Change, ServerStep, joined, Task, Pending, Op, Core, Seat, Session, new_session, numbered, with_numbered, joins_as, joins, Book, Queue, no_queue}
+use Rattle.kept_promise.proofs.Common.{nat_tests, slice_get, cond, ◌==◌, ◌||◌, nat_lt, list_any, has_room, connect, Temp, temp_at, key_of, FileChange, ServerStep, joined, Task, Pending, Op, Core, Seat, Session, new_session, numbered, with_numbered, joins_as, joins, Book, Queue, no_queue}
 use Rattle.kept_promise.proofs.Lists.{some_is, nothing_there, same_or_not, at_end, of_appended, kept_appended, count_more}
 use Rattle.kept_promise.proofs.Keys.{times, own, on_way, change_key, pending_key}
 use Rattle.kept_promise.proofs.Messages.{Job, job, job_of}
@@ -49,7 +49,7 @@ unmatched seat none (inr h) = nothing_there h.0 (sym (no_job seat.place seat.cli
 
 -- ---- the server
 
-pub own_none : (n : ℕ) (ws : List Change) → ((i : ℕ) (c : Change) → slice_get ws i ≡ Some c → c.session ≡ n → ⊥) → own n ws ≡ []
+pub own_none : (n : ℕ) (ws : List FileChange) → ((i : ℕ) (c : FileChange) → slice_get ws i ≡ Some c → c.session ≡ n → ⊥) → own n ws ≡ []
 own_none n [] h = refl
 own_none n (c ∷ ws) h = let e : (c.session == n) ≡ false = ne_eqb c.session n (h 0 c refl) in ap (λ t. cond t (c ∷ own n ws) (own n ws)) e ∙ own_none n ws (λ i d f. h (suc i) d f)
 
@@ -83,7 +83,7 @@ new_talk : (book : Book) (s : server.State) (n c : ℕ) (seat : Seat) → seat.c
 new_talk book s n c seat free none =
     let jobs : job (seated seat n) ≡ None = no_job seat.place seat.client.task free in
     let calls : client.calls_of (joined seat.client) ≡ [] = no_calls seat.client.task [] free refl in
-    let way : on_way n s.waiting no_queue ≡ [] = ap (λ (l : List Change). map change_key l ++ []) none in
+    let way : on_way n s.waiting no_queue ≡ [] = ap (λ (l : List FileChange). map change_key l ++ []) none in
     record {
       floor = 1;
       numbered = (omega arith, refl);
@@ -195,7 +195,7 @@ joined_now book k qs c n seat kept number at unlinked =
           temps = λ i m e lt g at. absurd (kept.unborn n m i e (omega (arith, number, made)) lt g at);
           temps_below = λ uncut. (tt, λ i m e lt g at. absurd (kept.unborn n m i e (omega (arith, number, made)) lt g at));
           closes = λ uncut j g. nothing_there j (sym (no_job seat.place seat.client.task free) ∙ g);
-          pending = λ i d g. nothing_there d (ap (λ (l : List Change). slice_get l i) (sym none) ∙ g);
+          pending = λ i d g. nothing_there d (ap (λ (l : List FileChange). slice_get l i) (sym none) ∙ g);
           single = let l = ap length none in omega (arith, l);
           old = λ i g. nothing_there i g;
           orderly = λ uncut. orderly_new more n k.server.temps (seated seat n) (no_job seat.place seat.client.task free) (λ m lt. no_temp m lt);

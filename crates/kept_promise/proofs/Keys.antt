@@ -9,7 +9,7 @@ use Rattle.path_calls.specs.declared.walk.Goal.TheVariants as goal
 use Rattle.server_core.specs.declared.change.Wanted.TheVariants as wanted
 use Rattle.tree_calls.specs.declared.asked.Asked.TheVariants as asked
 use Rattle.wire.specs.declared.message.Program.TheVariants as program
-use Rattle.kept_promise.proofs.Common.{nat_tests, slice_get, cond, ◌==◌, filter, Pending, Program, Wanted, Change, Call, Ask, Told, Queue, call_program, reply_program}
+use Rattle.kept_promise.proofs.Common.{nat_tests, slice_get, cond, ◌==◌, filter, Pending, Program, Wanted, FileChange, Call, Ask, Told, Queue, call_program, reply_program}
 use Rattle.kept_promise.proofs.Lists.{some_is, nothing_there}
 
 -- ---- keys
@@ -41,24 +41,24 @@ ask_key a = key a.xid (call_program a.call)
 abbrev pub told_key : Told → ℕ
 told_key t = key t.xid (reply_program t.reply)
 
--- which procedure a change that waits is of
+-- which procedure a pending change is of
 abbrev pub wanted_program : Wanted → Program
 wanted_program (wanted.Content content) = program.Lb lb_proc.CommitTmp
 wanted_program (wanted.Asked (asked.Remove r)) = program.Nfs nfs_proc.Remove
 wanted_program (wanted.Asked (asked.Rename r)) = program.Nfs nfs_proc.Rename
 
-abbrev pub change_key : Change → ℕ
+abbrev pub change_key : FileChange → ℕ
 change_key c = key c.xid (wanted_program c.what)
 
 abbrev pub pending_key : Pending → ℕ
 pending_key p = key p.xid p.program
 
 -- the changes of a session that wait
-abbrev pub own : (session : ℕ) → List Change → List Change
+abbrev pub own : (session : ℕ) → List FileChange → List FileChange
 own n waiting = filter (λ c. c.session == n) waiting
 
 -- what is on its way on a session, or waits there
-abbrev pub on_way : (session : ℕ) → List Change → Queue → List ℕ
+abbrev pub on_way : (session : ℕ) → List FileChange → Queue → List ℕ
 on_way n waiting q = map ask_key q.ups ++ (map change_key (own n waiting) ++ map told_key q.downs)
 
 -- ---- how often

@@ -16,7 +16,7 @@ use Rattle.tree_reading.specs.Tree.{Tree}
 use Rattle.file_tree.specs.Step.{create, mkdir, remove, rmdir, rename}
 use Rattle.tree_reading.specs.declared.call.Changed.{Changed}
 use Rattle.tree_reading.specs.declared.call.CreateMode.TheVariants as mode
-use Rattle.tree_reading.specs.declared.call.Held.{Held}
+use Rattle.tree_reading.specs.declared.call.Reservation.{Reservation}
 use Rattle.nfs3_calls.specs.declared.message.Nfs.{Nfs}
 use Rattle.nfs3_calls.specs.declared.message.Nfs.TheVariants as nfs
 use Rattle.wire.specs.declared.message.Body.TheVariants as body
@@ -62,12 +62,12 @@ listed_in book o p list h = record { dir = h.dir; found_at = h.found_at; found =
 abbrev refused_in : (book : Book) (o : Op) (status : ℕ) → IsRefused (bare book.moments) o status → IsRefused book o status
 refused_in book o status h = record { moment = h.moment; there = h.there; inside = h.inside; session = h.session; xid = h.xid; answer = h.answer; sent = h.sent; refuses = h.refuses; waits = h.waits; tells = h.tells; taken = h.taken; taken_there = h.taken_there; now = h.now; bytes = h.bytes; event_is = h.event_is; ends = h.ends; takes = h.takes }
 
-makes_in : (book : Book) (o : Op) (behind : ℕ) (asks : Nfs) (call : Tree → Held → Tree × Result Changed Status) → Makes (bare book.moments) o behind asks call → Makes book o behind asks call
+makes_in : (book : Book) (o : Op) (behind : ℕ) (asks : Nfs) (call : Tree → Reservation → Tree × Result Changed Status) → Makes (bare book.moments) o behind asks call → Makes book o behind asks call
 makes_in book o behind asks call h =
     let t = takes_on (bare book.moments) book o.client o.client h.taken h.xid (body.Nfs asks) (λ m there. there) refl h.takes in
     record { xid = h.xid; taken = h.taken; takes = t.0; after = h.after; moment = h.moment; there = h.there; comes = subst (λ (n : ℕ). ComesTo h.moment n h.xid h.taken) (sym t.1) h.comes; inside = h.inside; done = h.done; done_is = h.done_is; tree_is = h.tree_is; journal_is = h.journal_is ∙ ap (λ (n : ℕ). h.moment.before.server.journal ++ entries_by n h.done.first h.done.second) (sym t.1); pointed = h.pointed }
 
-made_in : (book : Book) (o : Op) (dirs : List (List ℕ)) (asks : (dir : ℕ) → Nfs) (call : (dir : ℕ) → Tree → Held → Tree × Result Changed Status) → MakesIn (bare book.moments) o dirs asks call → MakesIn book o dirs asks call
+made_in : (book : Book) (o : Op) (dirs : List (List ℕ)) (asks : (dir : ℕ) → Nfs) (call : (dir : ℕ) → Tree → Reservation → Tree × Result Changed Status) → MakesIn (bare book.moments) o dirs asks call → MakesIn book o dirs asks call
 made_in book o dirs asks call (dir, step, leads, made) = (dir, step, leads_in book o.begin ROOT dirs dir step leads, makes_in book o step (asks dir) (call dir) made)
 
 renamed_in : (book : Book) (o : Op) (s t : Spot) → Renames (bare book.moments) o s t → Renames book o s t

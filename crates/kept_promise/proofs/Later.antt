@@ -7,7 +7,7 @@ use Rattle.server_core.specs.State as server
 use Rattle.server_core.specs.declared.change.Wanted.TheVariants as wanted
 use Rattle.client_state.specs.State as client
 use Rattle.client_state.specs.declared.task.Stage.TheVariants as stage
-use Rattle.kept_promise.proofs.Common.{Body, slice_get, Contains, Status, Chunk, Answer, Done, Failed, Committed, Hashes, Piece, Attr, Pending, stands, Temp, key_of, Change, Fetch, Stage, Value, Op, TakenCall, Seat, Session, numbered, hashed_of, Book, Collides, Tried, Call, Call.Name, Call.Send, Call.Commit, Call.Walks, Reply, Reply.Versioned, Reply.Hashed, Reply.Bytes, Reply.Changed, Ask, Told, Queue, Reply.Walked, name_answer, Moment, changes, Wanted}
+use Rattle.kept_promise.proofs.Common.{Body, slice_get, Contains, Status, Chunk, Answer, Done, Failed, Committed, Hashes, Piece, Attr, Pending, stands, Temp, key_of, FileChange, Fetch, Stage, Value, Op, TakenCall, Seat, Session, numbered, hashed_of, Book, Collides, Tried, Call, Call.Name, Call.Send, Call.Commit, Call.Walks, Reply, Reply.Versioned, Reply.Hashed, Reply.Bytes, Reply.Changed, Ask, Told, Queue, Reply.Walked, name_answer, Moment, changes, Wanted}
 use Rattle.kept_promise.proofs.Keys.{times, own, on_way, change_key, ask_key, told_key, pending_key}
 use Rattle.kept_promise.proofs.Lists.{some_is, all_map}
 use Rattle.nfs3_calls.specs.declared.message.Nfs.{Nfs}
@@ -250,10 +250,10 @@ pub same_view : (n : ℕ) (s : server.State) → SameView n s s
 same_view n s = record { stands_is = refl; waiting = refl; temps = λ i m e lt at k. (i, at); found = λ m lt. refl }
 
 -- on its way is the same where the session's changes are
-way_same : (n : ℕ) (w v : List Change) (q : Queue) → own n v ≡ own n w → on_way n v q ≡ on_way n w q
-way_same n w v q e = ap (λ (l : List Change). map ask_key q.ups ++ (map change_key l ++ map told_key q.downs)) e
+way_same : (n : ℕ) (w v : List FileChange) (q : Queue) → own n v ≡ own n w → on_way n v q ≡ on_way n w q
+way_same n w v q e = ap (λ (l : List FileChange). map ask_key q.ups ++ (map change_key l ++ map told_key q.downs)) e
 
-balanced_later : (n : ℕ) (w v : List Change) (q : Queue) (hung : Bool) (next : ℕ) (calls : List Pending) → own n v ≡ own n w → IsBalanced n w q hung next calls → IsBalanced n v q hung next calls
+balanced_later : (n : ℕ) (w v : List FileChange) (q : Queue) (hung : Bool) (next : ℕ) (calls : List Pending) → own n v ≡ own n w → IsBalanced n w q hung next calls → IsBalanced n v q hung next calls
 balanced_later n w v q hung next calls e h = record {
   most = λ y. subst (λ (l : List ℕ). times y l ≤ times y (map pending_key calls)) (sym (way_same n w v q e)) (h.most y);
   least = λ a y. subst (λ (l : List ℕ). times y (map pending_key calls) ≤ times y l) (sym (way_same n w v q e)) (h.least a y);
@@ -262,7 +262,7 @@ balanced_later n w v q hung next calls e h = record {
   ours = h.ours;
 }
 
-pub talk_later : (book more : Book) (made ended : Option ℕ) (n : ℕ) (w v : List Change) (x : Session) (q : Queue) (seat : Seat) → Grows book more made ended → Spares x.closing made → own n v ≡ own n w → IsTalk book n w x q seat → IsTalk more n v x q seat
+pub talk_later : (book more : Book) (made ended : Option ℕ) (n : ℕ) (w v : List FileChange) (x : Session) (q : Queue) (seat : Seat) → Grows book more made ended → Spares x.closing made → own n v ≡ own n w → IsTalk book n w x q seat → IsTalk more n v x q seat
 talk_later book more made ended n w v x q seat g spares e h = record {
   floor = h.floor;
   numbered = h.numbered;
@@ -310,8 +310,8 @@ session_later book more made ended seats others s r n x q c d g was is same spar
       temps = λ i m u lt at k. let w = view.temps i m u lt at k in let o = h.temps w.0 m u lt w.1 k in (parts_later (hashed_of book.moments) (hashed_of more.moments) (h.contents m) u.1.pieces g.hashed o.0, o.1);
       temps_below = λ at. let f = h.temps_below at in subst (λ (z : Seat). AllAsks (λ a. TempUnder z.client.next_temp a.call) q.ups × ((i m : ℕ) (u : ℕ × Temp) → m < 4294967296 → slice_get r.temps i ≡ Some u → u.0 ≡ key_of n m → m < z.client.next_temp)) (sym (there at)) (f.0, λ i m u lt is k. let w = view.temps i m u lt is k in f.1 w.0 m u lt w.1 k);
       closes = λ at j q. subst (λ (z : Seat). CloseOf more x.closing h.contents z.client.next_temp j (client.local_bytes z.client.opened j.file) j.stage) (sym (there at)) (close_later book more made ended x.closing h.contents h.seat.client.next_temp j (client.local_bytes h.seat.client.opened j.file) j.stage g spares (h.closes at j (sym (jobs at) ∙ q)));
-      pending = λ i c at. waits_later book more made ended x.closing x.cut (job h.seat) (job d) c.session c.xid c.file c.what g spares jobs (h.pending i c (ap (λ (l : List Change). slice_get l i) (sym view.waiting) ∙ at));
-      single = subst (λ (l : List Change). commits_in q.ups + length l ≤ 1) (sym view.waiting) h.single;
+      pending = λ i c at. waits_later book more made ended x.closing x.cut (job h.seat) (job d) c.session c.xid c.file c.what g spares jobs (h.pending i c (ap (λ (l : List FileChange). slice_get l i) (sym view.waiting) ∙ at));
+      single = subst (λ (l : List FileChange). commits_in q.ups + length l ≤ 1) (sym view.waiting) h.single;
       old = λ k at. let o = h.old k at in let p = g.each k o.0 o.1 in (p.0, p.1, p.2.client ∙ o.2);
       orderly = λ at. subst (λ (z : Seat). Orderly more n r.temps x.hung q z) (sym (there at)) (orderly_later book more made ended n s.temps r.temps x.hung q h.seat g view.found (h.orderly at));
     }

@@ -26,7 +26,7 @@ use Rattle.tree_reading.specs.Plans.{remove_plan, rename_plan}
 use Rattle.tree_reading.specs.Reading.{standing_of}
 use Rattle.tree_reading.specs.Tree.{Tree, is_directory}
 use Rattle.tree_reading.specs.declared.call.Changed.{Changed}
-use Rattle.tree_reading.specs.declared.call.Held.{Held}
+use Rattle.tree_reading.specs.declared.call.Reservation.{Reservation}
 use Rattle.tree_reading.specs.declared.call.Planned.{Planned}
 use Rattle.tree_reading.specs.declared.call.Planned.TheVariants as planned
 use Rattle.tree_calls.specs.Telling.{or_bad_handle, id_of, told}
@@ -41,10 +41,10 @@ use Rattle.chunk_calls.specs.Writing.{cond_fault, bytes_known}
 use Rattle.chunk_index.specs.Index.{key_of, place_of}
 use Rattle.server_core.specs.declared.change.Wanted.TheVariants as wanted
 use Rattle.server_core.specs.declared.event.ServerStep.{ServerStep}
-use Rattle.server_core.specs.Closing.{answers, has_waiting, is_full, makes, makes_unless, writes_unless, names_unless, names_bytes, looked_up, commits, commits_to, commits_whole}
+use Rattle.server_core.specs.Closing.{answers, has_waiting, is_full, makes, makes_unless, writes_unless, names_unless, names_bytes, looked_up, takes_commit, takes_commit_on, commits_whole}
 use Rattle.server_core.specs.Leasing.{asking, recalled}
 use Rattle.server_core.specs.Recalling.{file_in, grants_on, recall_sent, recalls_for, comes}
-use Rattle.server_core.specs.State.{State, Change, change_of, held}
+use Rattle.server_core.specs.State.{State, FileChange, change_of, held}
 use Rattle.server_core.specs.Step.{called_under, asks as asks_outcome, asks_tree}
 use Rattle.lease_law.proofs.Calls.{named_file}
 use Rattle.server_core.specs.declared.event.Sent.{Sent}
@@ -54,7 +54,7 @@ use Rattle.kept_promise.proofs.Lists.{nothing_there}
 use Rattle.kept_promise.proofs.TreeMade.{remove_file}
 
 -- a call that waits from now on, as a change of the file that it asks to change
-pub record IsAsked (t : Tree) (n xid : ℕ) (b : Body) (c : Change) : Type 0 where
+pub record IsAsked (t : Tree) (n xid : ℕ) (b : Body) (c : FileChange) : Type 0 where
   pub session_is : c.session ≡ n
   pub xid_is : c.xid ≡ xid
   pub file_is : file_asked t b ≡ Some c.file
@@ -70,7 +70,7 @@ SameSessions s t = (t.sessions ≡ s.sessions) × (t.sessions_made ≡ s.session
 pub data Taken (s : State) (n xid : ℕ) (b : Body) (p : State × ServerStep) : Type 0 where
   stays : p.0.waiting ≡ s.waiting → p.0.leasing ≡ s.leasing → NoCalls p.1.send → SameSessions s p.0 → Taken s n xid b p
   grants : (file : Option ℕ) → ((id : ℕ) → file ≡ Some id → file_leased b ≡ Some id) → p.0.waiting ≡ s.waiting → p.0.leasing ≡ (grants_on s n file).leasing → NoCalls p.1.send → SameSessions s p.0 → Taken s n xid b p
-  comes_to : (c : Change) → IsAsked s.tree n xid b c → p.0.waiting ≡ s.waiting ++ c ∷ [] → p.0.leasing ≡ recalled s.leasing (recalls_for s c) → p.1.send ≡ map recall_sent (asking s.leasing (recalls_for s c)).1 → SameSessions s p.0 → Taken s n xid b p
+  comes_to : (c : FileChange) → IsAsked s.tree n xid b c → p.0.waiting ≡ s.waiting ++ c ∷ [] → p.0.leasing ≡ recalled s.leasing (recalls_for s c) → p.1.send ≡ map recall_sent (asking s.leasing (recalls_for s c)).1 → SameSessions s p.0 → Taken s n xid b p
 
 -- ---- the file that a name stands for
 
@@ -100,7 +100,7 @@ node_named t handle (Ok directory) is id none = nothing_there id none
 node_named t handle (Ok (a_file f)) is id at = named_file t handle f is ∙ at
 
 -- what REMOVE's name stands for
-removed_is : (t : Tree) (held : Held) (busy : Bool) (dir : ℕ) (name : List ℕ) (file : ℕ) → asks_remove t held busy dir name ≡ Ok file → option_map (λ (n : TreeNode). n.id) (named t.nodes dir name) ≡ Some file
+removed_is : (t : Tree) (held : Reservation) (busy : Bool) (dir : ℕ) (name : List ℕ) (file : ℕ) → asks_remove t held busy dir name ≡ Ok file → option_map (λ (n : TreeNode). n.id) (named t.nodes dir name) ≡ Some file
 removed_is t held busy dir name file e = by busy (remove_plan t held dir name) refl e
   where
     by : (b : Bool) (r : Result Changed Status) → remove_plan t held dir name ≡ r → remove_comes b r ≡ Ok file → option_map (λ (n : TreeNode). n.id) (named t.nodes dir name) ≡ Some file
@@ -161,7 +161,7 @@ module _ (s : State) (n xid : ℕ) (b : Body) where
       by false true = stays refl refl refl (refl, refl)
       by false false = comes_to (change_of n xid id (wanted.Content content)) (record { session_is = refl; xid_is = refl; file_is = file; kind_is = does }) refl refl refl (refl, refl)
 
-commits_taken : (s : State) (n xid : ℕ) (a : Commit) (t : Option Temp) → Taken s n xid (body.Lb (lb.CommitTmp a)) (commits s n xid a t)
+commits_taken : (s : State) (n xid : ℕ) (a : Commit) (t : Option Temp) → Taken s n xid (body.Lb (lb.CommitTmp a)) (takes_commit s n xid a t)
 commits_taken s n xid a None = stays refl refl refl (refl, refl)
 commits_taken s n xid a (Some t) = by (node_of s.tree a.handle) refl
   where
@@ -171,7 +171,7 @@ commits_taken s n xid a (Some t) = by (node_of s.tree a.handle) refl
     b : Body
     b = body.Lb (lb.CommitTmp a)
 
-    by : (o : Result Node Status) → node_of s.tree a.handle ≡ o → Taken s n xid b (commits_to (record s { temps = temps }) n xid a.size t o)
+    by : (o : Result Node Status) → node_of s.tree a.handle ≡ o → Taken s n xid b (takes_commit_on (record s { temps = temps }) n xid a.size t o)
     by (Err e) is = stays refl refl refl (refl, refl)
     by (Ok directory) is = stays refl refl refl (refl, refl)
     by (Ok (a_file f)) is = short (nat_lt size_most a.size)

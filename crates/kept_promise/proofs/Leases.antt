@@ -14,7 +14,7 @@ use Rattle.trace_replay.specs.OwnCalls.{WaitsFor, TakesCall}
 use Rattle.trace_ends.specs.Session.{taken_of as session_taken}
 use Rattle.trace_replay.specs.Saving.{lease_told, LeasedAt, TellsLease}
 use Rattle.trace_replay.specs.Book.{first_version}
-use Rattle.kept_promise.proofs.Common.{◌==◌, Contains, Contains-push_cases, Way, answered, slice_get, Answer, Done, Body, Message, Pending, got_step, took, took_if, told_stored, told_way, idle, ClientStep, Ended, Stage, Store, StoreCall, Task, store_at, Op, Opening, TakenCall, op_after, Core, Seat, Event, Event.Hears, CoreStep, numbered, session_of, acted, happens, Moment, step_of, client_of, owner_in, wanted_if, taken_by, is_in, Book, version_at, changed_before, content_of, filter, Queue, Reply, Reply.Versioned, told_message, reply_body}
+use Rattle.kept_promise.proofs.Common.{◌==◌, Contains, Contains-push_cases, Way, answered, slice_get, Answer, Done, Body, Message, Pending, got_step, took, took_if, told_stored, told_way, idle, ClientStep, Ended, Stage, Upload, UploadCall, Task, store_at, Op, Opening, TakenCall, op_after, Core, Seat, Event, Event.Hears, CoreStep, numbered, session_of, acted, happens, Moment, step_of, client_of, owner_in, wanted_if, taken_by, is_in, Book, version_at, changed_before, content_of, filter, Queue, Reply, Reply.Versioned, told_message, reply_body}
 use Rattle.kept_promise.proofs.SameVersion.{same_version}
 use Rattle.kept_promise.proofs.Lists.{some_is, of_appended, of_replaced, true_and_false}
 use Rattle.kept_promise.proofs.Messages.{Job, job, lease_xid, lease_body, AllTolds, IsLeased, LeaseTold, AnswerOf, IsAnswer}
@@ -37,7 +37,7 @@ use Rattle.kept_promise.proofs.Rights.{WasThere}
 -- ---- whose answer it is
 
 -- one that waits for no such answer meets a fault
-store_fault : (s : client.State) (calls : List Pending) (file x : ℕ) (content : List ℕ) (st : Store) (l : Leased) (o : Option StoreCall) → IsFault (told_stored s calls file x content st (body.Lb (lb.GetLeaseAnswer (Done l))) o).1.ended
+store_fault : (s : client.State) (calls : List Pending) (file x : ℕ) (content : List ℕ) (st : Upload) (l : Leased) (o : Option UploadCall) → IsFault (told_stored s calls file x content st (body.Lb (lb.GetLeaseAnswer (Done l))) o).1.ended
 store_fault s calls file x content st l None = (bad.UnknownXid x, refl)
 store_fault s calls file x content st l (Some c) = by c.way
   where

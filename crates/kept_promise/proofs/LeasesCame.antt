@@ -26,7 +26,7 @@ use Rattle.server_core.specs.Closing.{at as at_reading, leases_done, makes_chang
 use Rattle.server_core.specs.Closing as closing
 use Rattle.server_core.specs.Leasing.{asking, with_granted, with_granted_on, term_of, given_up}
 use Rattle.server_core.specs.Recalling.{term_on, recall_sent, recalls_for}
-use Rattle.server_core.specs.State.{State, Change, held, stands}
+use Rattle.server_core.specs.State.{State, FileChange, held, stands}
 use Rattle.server_core.specs.Step.{called_under, got_if_under, is_recalled, hangs_if as server_hangs_if}
 use Rattle.server_core.specs.declared.change.Wanted.{Wanted}
 use Rattle.server_core.specs.declared.change.Wanted.TheVariants as wanted
@@ -66,7 +66,7 @@ with_there leases new i l e = elim (of_both (filter (λ l. is_before l new.sessi
     by (suc m) e = inr (kept (λ l. is_behind l new.session new.file) m e)
 
 -- the one that is granted, if one is
-granted_new : (leases : List Lease) (ws : List Change) (moment n id term i : ℕ) (l : Lease) → slice_get (with_granted leases moment n id (term_of term ws id)) i ≡ Some l → (lease_of n id (moment + term) ≡ l) ⊎ IsThere leases l
+granted_new : (leases : List Lease) (ws : List FileChange) (moment n id term i : ℕ) (l : Lease) → slice_get (with_granted leases moment n id (term_of term ws id)) i ≡ Some l → (lease_of n id (moment + term) ≡ l) ⊎ IsThere leases l
 granted_new leases ws moment n id term i l e = by (waits_on ws id) e
   where
     given : (t : Bool) → slice_get (if t then leases else grant (without_ended leases moment) n id (moment + term)) i ≡ Some l → (lease_of n id (moment + term) ≡ l) ⊎ IsThere leases l
@@ -201,21 +201,21 @@ abbrev settled : (now : ℕ) → State → List Sent → State → Move
 settled now s sent t = record { event = Settles now; before = s; after = t; sent = sent }
 
 -- a settling grants the session of a COMMITTMP that is made
-settles_come : (s : State) (now : ℕ) → ((c : Change) → ready_by s now ≡ Some c → stands s c.session ≡ true) → (sent : List Sent) → LeasesCome (settled now s sent (closing.settles s now).0)
+settles_come : (s : State) (now : ℕ) → ((c : FileChange) → ready_by s now ≡ Some c → stands s c.session ≡ true) → (sent : List Sent) → LeasesCome (settled now s sent (closing.settles s now).0)
 settles_come s now ups sent = by (ready_by s now) refl
   where
-    done : (t : State) (c : Change) → ready_by s now ≡ Some c → IsContent c.what → (ws : List Change) (r : Result Changed Status) (i : ℕ) (l : Lease) → slice_get (leases_done s.leasing.leases (max s.leasing.moment now) c.session c.file (committed (term_of s.leasing.term ws c.file) r).answer) i ≡ Some l → Come (settled now s sent t) i l
+    done : (t : State) (c : FileChange) → ready_by s now ≡ Some c → IsContent c.what → (ws : List FileChange) (r : Result Changed Status) (i : ℕ) (l : Lease) → slice_get (leases_done s.leasing.leases (max s.leasing.moment now) c.session c.file (committed (term_of s.leasing.term ws c.file) r).answer) i ≡ Some l → Come (settled now s sent t) i l
     done t c is what ws (Ok d) i l at = elim (granted_new s.leasing.leases ws (max s.leasing.moment now) c.session c.file s.leasing.term i l at) [
       | inl new ↦ inr (inr (subst (IsGranted (settled now s sent t)) new (record { to = inr (now, c, refl, is, what, refl, refl); up = ups c is; ends = refl; unasked = refl })))
       | inr old ↦ inl old
     ]
     done t c is what ws (Err e) i l at = inl (i, at)
 
-    made : (ws : List Change) (c : Change) → ready_by s now ≡ Some c → (w : Wanted) → c.what ≡ w → LeasesCome (settled now s sent (makes_change (at_reading (record s { waiting = ws }) now) c w).0)
+    made : (ws : List FileChange) (c : FileChange) → ready_by s now ≡ Some c → (w : Wanted) → c.what ≡ w → LeasesCome (settled now s sent (makes_change (at_reading (record s { waiting = ws }) now) c w).0)
     made ws c is (wanted.Content content) what = λ i l at. done (makes_change (at_reading (record s { waiting = ws }) now) c (wanted.Content content)).0 c is (subst IsContent (sym what) tt) ws (stored false s.tree (replace s.tree (held ws) c.file content)).1 i l at
     made ws c is (wanted.Asked a) what = same_come (settled now s sent (makes_change (at_reading (record s { waiting = ws }) now) c (wanted.Asked a)).0) refl
 
-    by : (o : Option Change) → ready_by s now ≡ o → LeasesCome (settled now s sent (settles_by s false now o).0)
+    by : (o : Option FileChange) → ready_by s now ≡ o → LeasesCome (settled now s sent (settles_by s false now o).0)
     by None is = same_come (settled now s sent s) refl
     by (Some c) is = made (without s.waiting c.session) c is c.what refl
 
@@ -239,7 +239,7 @@ rests_same k e served_ settled = what_happens k e (λ t. t.core.server.leasing.l
     hung n false = refl
 
 -- the session of a change that is ready stands
-ready_stands : (book : Book) (k : Core) (qs : List Queue) (now : ℕ) → IsKept book k qs → (c : Change) → ready_by k.server now ≡ Some c → stands k.server c.session ≡ true
+ready_stands : (book : Book) (k : Core) (qs : List Queue) (now : ℕ) → IsKept book k qs → (c : FileChange) → ready_by k.server now ≡ Some c → stands k.server c.session ≡ true
 ready_stands book k qs now kept c is =
     let l = subst (Leaves k now) is (leaves_ready book k qs now kept) in
     let home = kept.home l.place c l.there in
@@ -279,11 +279,11 @@ got_goes s true n now (message.Answer xid b) = inr refl
 settle_goes : (s : State) (now : ℕ) → Goes s.leasing.moment (closing.settles s now).0.leasing.moment now
 settle_goes s now = by (ready_by s now)
   where
-    made : (ws : List Change) (c : Change) (w : Wanted) → Goes s.leasing.moment (makes_change (at_reading (record s { waiting = ws }) now) c w).0.leasing.moment now
+    made : (ws : List FileChange) (c : FileChange) (w : Wanted) → Goes s.leasing.moment (makes_change (at_reading (record s { waiting = ws }) now) c w).0.leasing.moment now
     made ws c (wanted.Content content) = inr refl
     made ws c (wanted.Asked a) = inr refl
 
-    by : (o : Option Change) → Goes s.leasing.moment (settles_by s false now o).0.leasing.moment now
+    by : (o : Option FileChange) → Goes s.leasing.moment (settles_by s false now o).0.leasing.moment now
     by None = inl refl
     by (Some c) = made (without s.waiting c.session) c c.what
 

@@ -14,7 +14,7 @@ use Rattle.callback_core.specs.BackCalls.{BackCall, call_at, xid_at, asks_if, as
 use Rattle.callback_core.specs.Waits.{recall_of, recalls_of, waits_on}
 use Rattle.callback_core.specs.declared.back_calls.Asked.{Asked}
 use Rattle.server_core.specs.Leasing.{with_granted, term_of}
-use Rattle.server_core.specs.State.{Change}
+use Rattle.server_core.specs.State.{FileChange}
 use Rattle.trace_replay.specs.PendingChanges.{StoodIn}
 use Rattle.kept_promise.proofs.Lists.{some_is, nothing_there, of_both, more_there, same_or_not}
 use Rattle.kept_promise.proofs.RecallsKept.{at_with, at_beside, asked_own}
@@ -102,7 +102,7 @@ with_stood leases new i l e = elim (of_both (filter (λ l. is_before l new.sessi
     by (suc m) e = inr (filtered_stood (λ l. is_behind l new.session new.file) leases m l e)
 
 -- none is granted on a file that a change waits for
-pub granted_stood : (leases : List Lease) (ws : List Change) (moment n id term f i : ℕ) (l : Lease) → waits_on ws f ≡ true → slice_get (with_granted leases moment n id (term_of term ws id)) i ≡ Some l → l.file ≡ f → StoodIn leases l
+pub granted_stood : (leases : List Lease) (ws : List FileChange) (moment n id term f i : ℕ) (l : Lease) → waits_on ws f ≡ true → slice_get (with_granted leases moment n id (term_of term ws id)) i ≡ Some l → l.file ≡ f → StoodIn leases l
 granted_stood leases ws moment n id term f i l waits e on = by (waits_on ws id) refl e
   where
     other : {A : Type 0} → id ≡ f → waits_on ws id ≡ false → A

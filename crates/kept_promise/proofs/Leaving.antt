@@ -16,7 +16,7 @@ use Rattle.client_state.specs.declared.step.Outcome.TheVariants as outcome
 use Rattle.client_state.specs.declared.task.Stage.TheVariants as stage
 use Rattle.client_state.specs.declared.task.Way.TheVariants as way
 use Rattle.register_model.specs.declared.op.Word.TheVariants as words
-use Rattle.kept_promise.proofs.Common.{nat_tests, slice_get, nat_lt, if◌then◌else◌, ◌==◌, ◌&&◌, Chunk, Answer, Done, Failed, Status, Hashes, Piece, Body, Message, Pending, WireFault, names_from, names_next, names_more, names_all, is_stored, store_of, store_at, answered, calls_most, is_none, fetch_of, with_hashes, listed, reads_from, reads_next, reads_more, reads_all, is_here, read_at, fault_in, other_version, with_bytes, Broken, broken_of, idle, refused, reads_if, reads_on, lists_on, told_shape, told_version, told_hashes, told_first, retries, misfits, told_bytes, told_chunk, told_piece, goes_if, goes_on, told_temp, sends_whole, told_named, told_whole, told_way, told_stored, took, got_step, Names, Reads, BadPeer, ClientStep, Ended, Outcome, Fetch, Local, ReadCall, Stage, Store, StoreCall, Task, Way}
+use Rattle.kept_promise.proofs.Common.{nat_tests, slice_get, nat_lt, if◌then◌else◌, ◌==◌, ◌&&◌, Chunk, Answer, Done, Failed, Status, Hashes, Piece, Body, Message, Pending, WireFault, names_from, names_next, names_more, names_all, is_stored, store_of, store_at, answered, calls_most, is_none, fetch_of, with_hashes, listed, reads_from, reads_next, reads_more, reads_all, is_here, read_at, fault_in, other_version, with_bytes, Broken, broken_of, idle, refused, reads_if, reads_on, lists_on, told_shape, told_version, told_hashes, told_first, retries, misfits, told_bytes, told_chunk, told_piece, goes_if, goes_on, told_temp, sends_whole, told_named, told_whole, told_way, told_stored, took, got_step, Names, Reads, BadPeer, ClientStep, Ended, Outcome, Fetch, Local, ReadCall, Stage, Upload, UploadCall, Task, Way}
 use Rattle.kept_promise.proofs.Lists.{some_is, nothing_there}
 use Rattle.hash_calls.specs.declared.message.Back.TheVariants as back
 use Rattle.wire.specs.declared.message.Message.TheVariants as message
@@ -116,14 +116,14 @@ names_more_most lbfs (suc k) n =
 reads_most : (cache : Entries) (index : Indexed) (file : ℕ) (f : Fetch) (next : ℕ) → (reads_all cache index file f next).next_xid ≤ next + calls_most
 reads_most cache index file f next = reads_more_most (length f.chunks - f.asked) cache index file (reads_from f next) calls_most (omega arith)
 
-names_most : (lbfs : ℕ) (st : Store) (next : ℕ) → (names_all lbfs st next).next_xid ≤ next + calls_most
+names_most : (lbfs : ℕ) (st : Upload) (next : ℕ) → (names_all lbfs st next).next_xid ≤ next + calls_most
 names_most lbfs st next = let a = (names_more_most lbfs (calls_most - length st.under) (names_from st next)).0 in let b = less_by calls_most (length st.under) in omega (arith, a, b)
 
 -- where nothing is under way none went out
-none_named : (lbfs : ℕ) (st : Store) (next : ℕ) → is_stored (names_all lbfs st next).store ≡ true → (names_all lbfs st next).next_xid ≤ next
+none_named : (lbfs : ℕ) (st : Upload) (next : ℕ) → is_stored (names_all lbfs st next).store ≡ true → (names_all lbfs st next).next_xid ≤ next
 none_named lbfs st next e = by (names_all lbfs st next).store.under e (names_more_most lbfs (calls_most - length st.under) (names_from st next)).1
   where
-    by : (us : List StoreCall) → (is_none us && (names_all lbfs st next).store.named == length (names_all lbfs st next).store.chunks) ≡ true → (names_all lbfs st next).next_xid + length st.under ≡ next + length us → (names_all lbfs st next).next_xid ≤ next
+    by : (us : List UploadCall) → (is_none us && (names_all lbfs st next).store.named == length (names_all lbfs st next).store.chunks) ≡ true → (names_all lbfs st next).next_xid + length st.under ≡ next + length us → (names_all lbfs st next).next_xid ≤ next
     by [] e n = omega (arith, n)
     by (u ∷ us) e n = absurd cc
 
@@ -189,36 +189,36 @@ told_piece_left s calls file xid f piece (Some c) = told_chunk_left s calls file
 
 -- ---- a close's answers
 
-goes_if_left : (s : client.State) (file : ℕ) (content : List ℕ) (st : Store) (b : Bool) → is_stored (names_all s.lbfs st s.next_xid).store ≡ b → IsLeft s file (goes_if s file content (names_all s.lbfs st s.next_xid) b)
+goes_if_left : (s : client.State) (file : ℕ) (content : List ℕ) (st : Upload) (b : Bool) → is_stored (names_all s.lbfs st s.next_xid).store ≡ b → IsLeft s file (goes_if s file content (names_all s.lbfs st s.next_xid) b)
 goes_if_left s file content st true e = (let n = none_named s.lbfs st s.next_xid e in let o = some_call in omega (arith, n, o), refl)
 goes_if_left s file content st false e = (names_most s.lbfs st s.next_xid, refl)
 
-goes_on_left : (s : client.State) (file : ℕ) (content : List ℕ) (st : Store) → IsLeft s file (goes_on s file content st)
+goes_on_left : (s : client.State) (file : ℕ) (content : List ℕ) (st : Upload) → IsLeft s file (goes_on s file content st)
 goes_on_left s file content st = goes_if_left s file content st (is_stored (names_all s.lbfs st s.next_xid).store) refl
 
 told_temp_left : (s : client.State) (calls : List Pending) (file xid temp : ℕ) (content : List ℕ) (a : Answer Unit Unit) → IsLeft s file (told_temp s calls file xid temp content a)
 told_temp_left s calls file xid temp content (Failed t u) = refused_left s calls file xid t
 told_temp_left s calls file xid temp content (Done u) = goes_on_left s file content (store_of temp content)
 
-sends_whole_left : (s : client.State) (file xid : ℕ) (content : List ℕ) (st : Store) (c : StoreCall) (o : Option Chunk) → IsLeft s file (sends_whole s file xid content st c o)
+sends_whole_left : (s : client.State) (file xid : ℕ) (content : List ℕ) (st : Upload) (c : UploadCall) (o : Option Chunk) → IsLeft s file (sends_whole s file xid content st c o)
 sends_whole_left s file xid content st c None = (omega arith, refl)
 sends_whole_left s file xid content st c (Some k) = (let o = some_call in omega (arith, o), refl)
 
-told_named_left : (s : client.State) (calls : List Pending) (file xid : ℕ) (content : List ℕ) (st : Store) (c : StoreCall) (a : Answer Unit Unit) → IsLeft s file (told_named s calls file xid content st c a)
+told_named_left : (s : client.State) (calls : List Pending) (file xid : ℕ) (content : List ℕ) (st : Upload) (c : UploadCall) (a : Answer Unit Unit) → IsLeft s file (told_named s calls file xid content st c a)
 told_named_left s calls file xid content st c (Done u) = goes_on_left s file content st
 told_named_left s calls file xid content st c (Failed status.HashNotFound u) = sends_whole_left s file xid content st c (slice_get st.chunks c.index)
 told_named_left s calls file xid content st c (Failed t u) = refused_left s calls file xid t
 
-told_whole_left : (s : client.State) (calls : List Pending) (file xid : ℕ) (content : List ℕ) (st : Store) (a : Answer Unit Unit) → IsLeft s file (told_whole s calls file xid content st a)
+told_whole_left : (s : client.State) (calls : List Pending) (file xid : ℕ) (content : List ℕ) (st : Upload) (a : Answer Unit Unit) → IsLeft s file (told_whole s calls file xid content st a)
 told_whole_left s calls file xid content st (Done u) = goes_on_left s file content st
 told_whole_left s calls file xid content st (Failed t u) = refused_left s calls file xid t
 
-told_way_left : (s : client.State) (calls : List Pending) (file xid : ℕ) (content : List ℕ) (st : Store) (c : StoreCall) (w : Way) (b : Body) → IsLeft s file (told_way s calls file xid content st c w b)
+told_way_left : (s : client.State) (calls : List Pending) (file xid : ℕ) (content : List ℕ) (st : Upload) (c : UploadCall) (w : Way) (b : Body) → IsLeft s file (told_way s calls file xid content st c w b)
 told_way_left s calls file xid content st c way.Named (body.Lb (lb.CondWriteAnswer a)) = told_named_left s calls file xid content st c a
 told_way_left s calls file xid content st c way.Whole (body.Lb (lb.TmpWriteAnswer a)) = told_whole_left s calls file xid content st a
 told_way_left s calls file xid content st c w b = (omega arith, refl)
 
-told_stored_left : (s : client.State) (calls : List Pending) (file xid : ℕ) (content : List ℕ) (st : Store) (b : Body) (o : Option StoreCall) → IsLeft s file (told_stored s calls file xid content st b o)
+told_stored_left : (s : client.State) (calls : List Pending) (file xid : ℕ) (content : List ℕ) (st : Upload) (b : Body) (o : Option UploadCall) → IsLeft s file (told_stored s calls file xid content st b o)
 told_stored_left s calls file xid content st b None = (omega arith, refl)
 told_stored_left s calls file xid content st b (Some c) = told_way_left s calls file xid content (answered st xid) c c.way b
 

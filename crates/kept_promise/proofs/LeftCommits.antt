@@ -15,7 +15,7 @@ use Rattle.server_core.specs.declared.event.ServerStep.{ServerStep}
 use Rattle.path_calls.specs.Walk.{begun}
 use Rattle.path_calls.specs.declared.walk.Walk.{Walk}
 use Rattle.client_state.specs.View.{walk_left}
-use Rattle.kept_promise.proofs.Common.{reply_message, nat_lt, ◌&&◌, not, cond, filter, ◌==◌, Command, parse_of, got_if, stands, connect, has_room, Change, may_ask, command_step, ended_by, ClientStep, Ended, Task, Opening, Word, word_of, Core, Seat, Session, Event, Event.Joins, Event.Does, Event.Serves, Event.Hears, Event.Settles, Event.Cuts, Event.Hangs, CoreStep, numbered, with_numbered, server_waits, session_of, serves_if, serves, is_newest, hears_if, hears_at, hears, commanded_session, commanded_sessions, does, joins_as, joins, settles, cut_session, cuts_if, cuts, hangs_if, hangs, happens, closing_with, Moment, unless, Call, Call.Commit, Ask, Told, Queue, ask_message, Loss, Loss.Nothing, Loss.Down_of, Loss.Up_of, no_queue, Call.Walks, has_waiting, Book}
+use Rattle.kept_promise.proofs.Common.{reply_message, nat_lt, ◌&&◌, not, cond, filter, ◌==◌, Command, parse_of, got_if, stands, connect, has_room, FileChange, may_ask, command_step, ended_by, ClientStep, Ended, Task, Opening, Word, word_of, Core, Seat, Session, Event, Event.Joins, Event.Does, Event.Serves, Event.Hears, Event.Settles, Event.Cuts, Event.Hangs, CoreStep, numbered, with_numbered, server_waits, session_of, serves_if, serves, is_newest, hears_if, hears_at, hears, commanded_session, commanded_sessions, does, joins_as, joins, settles, cut_session, cuts_if, cuts, hangs_if, hangs, happens, closing_with, Moment, unless, Call, Call.Commit, Ask, Told, Queue, ask_message, Loss, Loss.Nothing, Loss.Down_of, Loss.Up_of, no_queue, Call.Walks, has_waiting, Book}
 use Rattle.kept_promise.proofs.StepCases.{command_cases}
 use Rattle.kept_promise.proofs.CallsKeep.{IsByCommit, is_of_files, Waits, got_if_keeps, makes_call, walk_made}
 use Rattle.kept_promise.proofs.Statements.{CallFits}
@@ -157,7 +157,7 @@ closing_stays c place w o e is = ap (closing_with c place w) is ∙ by w
 pub got_waits : (s : server.State) (n now : ℕ) (a : Ask) (b : Bool) → CallFits a.lbfs a.xid a.call → Waits s.waiting n (λ d. change_number a.call ≡ 1) (got_if s b n (ask_message a) now).0.waiting
 got_waits s n now a b fits = by (makes_call a.call) refl
   where
-    of_commit : (d : Change) (c : Call) → IsByCommit (ask_message (record { lbfs = a.lbfs; xid = a.xid; call = c })) d → change_number c ≡ 1
+    of_commit : (d : FileChange) (c : Call) → IsByCommit (ask_message (record { lbfs = a.lbfs; xid = a.xid; call = c })) d → change_number c ≡ 1
     of_commit d (Commit temp g size) h = refl
     of_commit d _ h = absurd h
 
@@ -189,21 +189,21 @@ got_waits s n now a b fits = by (makes_call a.call) refl
 
 -- ---- changes of a session
 
-own_one : (n : ℕ) (ws : List Change) (c : Change) → length (own n (ws ++ c ∷ [])) ≤ length (own n ws) + 1
-own_one n ws c = let e = ap (λ (l : List Change). length l) (own_more n ws c) in let l = length-append (own n ws) (own n (c ∷ [])) in let s = single (c.session == n) in omega (arith, e, l, s)
+own_one : (n : ℕ) (ws : List FileChange) (c : FileChange) → length (own n (ws ++ c ∷ [])) ≤ length (own n ws) + 1
+own_one n ws c = let e = ap (λ (l : List FileChange). length l) (own_more n ws c) in let l = length-append (own n ws) (own n (c ∷ [])) in let s = single (c.session == n) in omega (arith, e, l, s)
   where
     single : (b : Bool) → length (cond b (c ∷ []) []) ≤ 1
     single true = omega arith
     single false = omega arith
 
-own_less : (n : ℕ) (c : Change) (cs : List Change) → length (own n cs) ≤ length (own n (c ∷ cs))
+own_less : (n : ℕ) (c : FileChange) (cs : List FileChange) → length (own n cs) ≤ length (own n (c ∷ cs))
 own_less n c cs = by (c.session == n)
   where
     by : (b : Bool) → length (own n cs) ≤ length (cond b (c ∷ own n cs) (own n cs))
     by true = omega arith
     by false = omega arith
 
-own_filter : (n m : ℕ) (ws : List Change) → length (own n (filter (λ c. not (c.session == m)) ws)) ≤ length (own n ws)
+own_filter : (n m : ℕ) (ws : List FileChange) → length (own n (filter (λ c. not (c.session == m)) ws)) ≤ length (own n ws)
 own_filter n m [] = omega arith
 own_filter n m (c ∷ ws) = by (c.session == m) (own_filter n m ws)
   where
@@ -234,7 +234,7 @@ were_with k m x z at same n y is gone = elim (of_with k.sessions m n z y is) [
 ]
 
 -- what is on its way there, or waits, is no more than before
-abbrev CommitsWere : Core → List Queue → (after : List Change) → (n : ℕ) → Queue → Type 0
+abbrev CommitsWere : Core → List Queue → (after : List FileChange) → (n : ℕ) → Queue → Type 0
 CommitsWere k qs after n r = (q : Queue) × (numbered qs n ≡ Some q) × (commits_in r.ups + length (own n after) ≤ commits_in q.ups + length (own n k.server.waiting))
 
 -- of each session that its client left
@@ -323,7 +323,7 @@ leaves_settles book k qs mid now kept same = leaves_plain k qs mid _ (were_same 
     by (settles_none none is) n = let e = ap (λ (t : CoreStep). length (own n t.core.server.waiting)) is in omega (arith, e)
     by (settles_one c cs out) n =
         let left = ap (λ (t : CoreStep). length (own n t.core.server.waiting)) out.is in
-        let rest = ap (λ (l : List Change). length (own n l)) (made_waiting (closing.at (record k.server { waiting = cs }) now) c c.what) in
+        let rest = ap (λ (l : List FileChange). length (own n l)) (made_waiting (closing.at (record k.server { waiting = cs }) now) c c.what) in
         let less = own_fewer k.server.waiting c cs out.out n in
         omega (arith, left, rest, less)
 
@@ -449,13 +449,13 @@ leaves_serves laws opening all k qs mid m now bytes kept f =
     one_less : (a : Ask) (us : List Ask) → change_number a.call ≡ 1 → commits_in (a ∷ us) ≡ suc (commits_in us)
     one_less a us h = omega (arith, h)
 
-    same_there : (after : List Change) → Waits k.server.waiting m (λ d. change_number f.1.call ≡ 1) after → commits_in f.2 + length (own m after) ≤ commits_in f.0.ups + length (own m k.server.waiting)
+    same_there : (after : List FileChange) → Waits k.server.waiting m (λ d. change_number f.1.call ≡ 1) after → commits_in f.2 + length (own m after) ≤ commits_in f.0.ups + length (own m k.server.waiting)
     same_there after (inl e) = let w = ap (λ ws. length (own m ws)) e in let n = commits_tail f.1 f.2 in let u = ap commits_in f.4 in omega (arith, w, n, u)
     same_there after (inr c) = let w = ap (λ ws. length (own m ws)) c.2 in let l = own_one m k.server.waiting c.0 in let n = one_less f.1 f.2 c.3 in let u = ap commits_in f.4 in omega (arith, w, l, n, u)
 
-    same_else : (after : List Change) (n : ℕ) → (n ≡ m → ⊥) → Waits k.server.waiting m (λ d. change_number f.1.call ≡ 1) after → length (own n after) ≤ length (own n k.server.waiting)
+    same_else : (after : List FileChange) (n : ℕ) → (n ≡ m → ⊥) → Waits k.server.waiting m (λ d. change_number f.1.call ≡ 1) after → length (own n after) ≤ length (own n k.server.waiting)
     same_else after n apart (inl e) = let w = ap (λ ws. length (own n ws)) e in omega (arith, w)
-    same_else after n apart (inr c) = let w = ap (λ ws. length (own n ws)) (c.2) in let o = ap (λ (l : List Change). length l) (own_there n k.server.waiting c.0 (λ e. apart (sym e ∙ c.1))) in omega (arith, w, o)
+    same_else after n apart (inr c) = let w = ap (λ ws. length (own n ws)) (c.2) in let o = ap (λ (l : List FileChange). length l) (own_there n k.server.waiting c.0 (λ e. apart (sym e ∙ c.1))) in omega (arith, w, o)
 
     by : (x : Session) → numbered k.sessions m ≡ Some x → Waits k.server.waiting m (λ d. change_number f.1.call ≡ 1) (got_if k.server (stands k.server m) m (ask_message f.1) now).0.waiting → Leaves k qs mid (serves_if k m now x (Ok (ask_message f.1)))
     by x at waits =

@@ -117,7 +117,7 @@ leaves_alike c f d o r g a b l =
     ∙ ap (λ (z : Outcome). if (d.client == c && o.file == f) then leaves d.command z r.value l else l) a
     ∙ ap (λ (z : List ℕ). if (d.client == c && o.file == f) then leaves d.command o.outcome z l else l) b
 
--- nothing was got, changed or let go
+-- nothing was got, changed or dropped
 abbrev pub LeavesAll : Outcome → Type 0
 LeavesAll (told.Opened n d) = ⊥
 LeavesAll (told.Closed v n d) = ⊥

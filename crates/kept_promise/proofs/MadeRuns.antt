@@ -16,7 +16,7 @@ use Rattle.server_rules.specs.declared.told.Told.TheVariants as announced
 use Rattle.tree_reading.specs.declared.entry.EntryKind.TheVariants as kind
 use Rattle.trace_ends.specs.Core.{newest_entries, changed_file}
 use Rattle.trace_replay.specs.Faithful.{IsSettled, IsRemoved, SettlesReady, IsSettling, IsMadeOrRefused}
-use Rattle.kept_promise.proofs.Common.{Contains-push_cases, slice_get, slice_set, Contains, stands, Change, ServerStep, File, Entry, ClientStep, Ended, Op, Opening, TakenCall, has_point, op_after, Core, Session, Event, Event.Serves, Event.Settles, CoreStep, joins, does, cuts, hangs, ops_with, settles, happens, Moment, step_of, Book, Queue}
+use Rattle.kept_promise.proofs.Common.{Contains-push_cases, slice_get, slice_set, Contains, stands, FileChange, ServerStep, File, Entry, ClientStep, Ended, Op, Opening, TakenCall, has_point, op_after, Core, Session, Event, Event.Serves, Event.Settles, CoreStep, joins, does, cuts, hangs, ops_with, settles, happens, Moment, step_of, Book, Queue}
 use Rattle.kept_promise.proofs.Lists.{some_is, nothing_there, at_end, at_replaced, kept_appended, of_appended, same_or_not, set_else, within, of_more, of_replicate, in_front}
 use Rattle.kept_promise.proofs.Turns.{also_numbered}
 use Rattle.kept_promise.proofs.Facts.{IsKept}
@@ -112,9 +112,9 @@ quiet_event all past rest opening k qs e mid after s none served = what_happens 
 
 -- where a change is ready, a settling makes it, in its own step, or tells its session why not
 abbrev pub MakesReady : Book → Type 0
-MakesReady book = (m : Moment) (now : ℕ) (c : Change) → Contains book.moments m → m.event ≡ Settles now → ready_by m.before.server now ≡ Some c → IsMadeOrRefused book m c
+MakesReady book = (m : Moment) (now : ℕ) (c : FileChange) → Contains book.moments m → m.event ≡ Settles now → ready_by m.before.server now ≡ Some c → IsMadeOrRefused book m c
 
-first_later : (book more : Book) (m : Moment) (c : Change) → ((i p : ℕ) → slice_get book.entries i ≡ Some p → slice_get more.entries i ≡ Some p) → IsMadeOrRefused book m c → IsMadeOrRefused more m c
+first_later : (book more : Book) (m : Moment) (c : FileChange) → ((i p : ℕ) → slice_get book.entries i ≡ Some p → slice_get more.entries i ≡ Some p) → IsMadeOrRefused book m c → IsMadeOrRefused more m c
 first_later book more m c later (inl made) = inl (later (length m.before.server.journal) (step_of m) made)
 first_later book more m c later (inr refused) = inr refused
 
@@ -173,7 +173,7 @@ at_more [] zero y lt = absurd (omega (arith, lt))
 at_more [] (suc n) y lt = refl
 at_more (x ∷ xs) n y lt = at_more xs n y lt
 
-made_entered : (opening : List Opening) (all past : List Moment) (k : Core) (e : Event) → length k.entries ≡ length k.server.journal → (q : Entered k (happens k e)) → KeepsPoints k.ops (happens k e).core.ops → ((now : ℕ) (c : Change) → e ≡ Settles now → ready_by k.server now ≡ Some c → (0 < length q.es) ⊎ RefusesFor (happens k e) c)
+made_entered : (opening : List Opening) (all past : List Moment) (k : Core) (e : Event) → length k.entries ≡ length k.server.journal → (q : Entered k (happens k e)) → KeepsPoints k.ops (happens k e).core.ops → ((now : ℕ) (c : FileChange) → e ≡ Settles now → ready_by k.server now ≡ Some c → (0 < length q.es) ⊎ RefusesFor (happens k e) c)
     → ((i : ℕ) (d : Entry) → slice_get q.es i ≡ Some d → d.kind ≡ kind.Remove → IsRemoved all (k.steps + 1) d)
     → AreMade opening all past k → AreMade opening all (past ++ moment k e ∷ []) (happens k e).core
 made_entered opening all past k e count q points tells goes_now h = record {
@@ -209,7 +209,7 @@ made_entered opening all past k e count q points tells goes_now h = record {
     steps : List ℕ
     steps = replicate (length q.es) (k.steps + 1)
 
-    now_first : (c : Change) → (0 < length q.es) ⊎ RefusesFor (happens k e) c → IsMadeOrRefused (book_at opening later (past ++ moment k e ∷ [])) (moment k e) c
+    now_first : (c : FileChange) → (0 < length q.es) ⊎ RefusesFor (happens k e) c → IsMadeOrRefused (book_at opening later (past ++ moment k e ∷ [])) (moment k e) c
     now_first c (inl some_) = inl (ap (λ (l : List ℕ). slice_get l (length k.server.journal)) q.entries ∙ ap (slice_get (k.entries ++ steps)) (sym count) ∙ at_more k.entries (length q.es) (k.steps + 1) some_)
     now_first c (inr refused) = inr refused
 
@@ -246,12 +246,12 @@ made_settling all past rest opening k qs now mid after s h = by (settling (book_
     commit_stays : {A : Type 0} → kind.Commit ≡ kind.Remove → A
     commit_stays z = absurd cc
 
-    made : (c : Change) (cs : List Change) (f : File) → SettlesOut k now c cs → c.what ≡ wanted.Content (content_wanted c.what) → AreMade opening all (past ++ moment k (Settles now) ∷ []) (left_by k (made_change (at_reading (record k.server { waiting = cs }) now) c (content_wanted c.what) f))
+    made : (c : FileChange) (cs : List FileChange) (f : File) → SettlesOut k now c cs → c.what ≡ wanted.Content (content_wanted c.what) → AreMade opening all (past ++ moment k (Settles now) ∷ []) (left_by k (made_change (at_reading (record k.server { waiting = cs }) now) c (content_wanted c.what) f))
     made c cs f out what =
         let home = kept.home out.out.place c out.out.there in
         let q = also_numbered k.sessions qs c.session home.0 kept.made.1 home.1 in
         let x = kept.sessions c.session home.0 q.0 home.1 q.1 in
-        let pending = subst (λ (z : Wanted). WaitsFor (book_at opening k all) c.session home.0.closing home.0.cut (job x.seat) c.xid c.file z) what (x.pending 0 c (ap (λ (l : List Change). slice_get l 0) out.out.mine)) in
+        let pending = subst (λ (z : Wanted). WaitsFor (book_at opening k all) c.session home.0.closing home.0.cut (job x.seat) c.xid c.file z) what (x.pending 0 c (ap (λ (l : List FileChange). slice_get l 0) out.out.mine)) in
         let old = x.old pending.place pending.known in
         let op : Op = record pending.op { file = c.file; point = Some (k.steps + 1) } in
         let made_op : slice_get (slice_set k.ops pending.place op) pending.place ≡ Some op = at_replaced k.ops pending.place op pending.op pending.there in
@@ -337,17 +337,17 @@ settled_event laws all past rest opening k qs (Serves n now bytes) mid after s h
 settled_event laws all past rest opening k qs e mid after s h = made_quietly opening all past k e (λ n z. absurd cc) (quiet_event all past rest opening k qs e mid after s (λ n z. absurd cc) (λ n t b z. absurd cc)) h
 
 -- a settling takes the change that is ready out and no other, which nothing holds up
-pub record LeavesReady (k : Core) (now : ℕ) (c : Change) : Type 0 where
+pub record LeavesReady (k : Core) (now : ℕ) (c : FileChange) : Type 0 where
   pub place : ℕ
   pub there : slice_get k.server.waiting place ≡ Some c
   pub alone : (i : ℕ) → slice_get k.server.waiting i ≡ Some c → i ≡ place
-  pub first : (i : ℕ) (d : Change) → i < place → slice_get k.server.waiting i ≡ Some d → meets d c ≡ false
+  pub first : (i : ℕ) (d : FileChange) → i < place → slice_get k.server.waiting i ≡ Some d → meets d c ≡ false
   pub awake : k.server.leasing.quiet ≤ max k.server.leasing.moment now
   pub left : (settles k now).core.server.waiting ≡ remove k.server.waiting place
   pub free : (i : ℕ) (l : Lease) → slice_get k.server.leasing.leases i ≡ Some l → l.file ≡ c.file → is_others l (asker c) ≡ true → l.ends ≤ max k.server.leasing.moment now
 
 -- where none is ready nothing of the server changes
-abbrev pub Leaves : Core → (now : ℕ) → Option Change → Type 0
+abbrev pub Leaves : Core → (now : ℕ) → Option FileChange → Type 0
 Leaves k now None = (settles k now).core.server ≡ k.server
 Leaves k now (Some c) = LeavesReady k now c
 
@@ -357,7 +357,7 @@ AllLeave past = (m : Moment) (now : ℕ) → Contains past m → m.event ≡ Set
 pub leaves_ready : (book : Book) (k : Core) (qs : List Queue) (now : ℕ) → IsKept book k qs → Leaves k now (ready_by k.server now)
 leaves_ready book k qs now kept = by (what_settles book k qs now kept)
   where
-    once : (c : Change) (i j : ℕ) → slice_get k.server.waiting i ≡ Some c → slice_get k.server.waiting j ≡ Some c → i ≡ j
+    once : (c : FileChange) (i j : ℕ) → slice_get k.server.waiting i ≡ Some c → slice_get k.server.waiting j ≡ Some c → i ≡ j
     once c i j a b =
         let home = kept.home i c a in
         let q = also_numbered k.sessions qs c.session home.0 kept.made.1 home.1 in
@@ -400,7 +400,7 @@ carried_settled laws = record {
 pub settles_ready : (book : Book) → MakesReady book → AllLeave book.moments → SettlesReady book
 settles_ready book makes leaves = λ m now there is. by m now there is (ready_by m.before.server now) refl (leaves m now there is)
   where
-    by : (m : Moment) (now : ℕ) → Contains book.moments m → m.event ≡ Settles now → (o : Option Change) → ready_by m.before.server now ≡ o → Leaves m.before now o → IsSettling book m now o
+    by : (m : Moment) (now : ℕ) → Contains book.moments m → m.event ≡ Settles now → (o : Option FileChange) → ready_by m.before.server now ≡ o → Leaves m.before now o → IsSettling book m now o
     by m now there is None e same = ap (λ (z : Event). (happens m.before z).core.server) is ∙ same
     by m now there is (Some c) e l = record {
       place = l.place;

@@ -6,7 +6,7 @@ use Rattle.tree_reading.specs.Tree.{Tree}
 use Rattle.tree_reading.specs.Plans.{one, gone_entry}
 use Rattle.file_tree.specs.Step.{remove}
 use Rattle.tree_reading.specs.declared.call.Changed.{Changed}
-use Rattle.tree_reading.specs.declared.call.Held.{Held}
+use Rattle.tree_reading.specs.declared.call.Reservation.{Reservation}
 use Rattle.tree_reading.specs.declared.entry.Entry.{Entry as TreeEntry}
 use Rattle.path_calls.specs.declared.walk.Goal.{Goal}
 use Rattle.path_calls.specs.declared.walk.Goal.TheVariants as goal
@@ -24,7 +24,7 @@ use Rattle.kept_promise.proofs.Goings.{RemovedSo, no_remove, goes, removed_so}
 not_both : {A : Type 0} (done : Changed) (s : Status) → ◌≡◌ {A = Result Changed Status} (Err s) (Ok done) → A
 not_both done s e = absurd cc
 
-make_enters : (t : Tree) (held : Held) (dir : ℕ) (name : List ℕ) (done : Changed) → (step_by t held dir (goal.Make name)).1 ≡ Ok done → entry_file done.first ≡ None → ⊥
+make_enters : (t : Tree) (held : Reservation) (dir : ℕ) (name : List ℕ) (done : Changed) → (step_by t held dir (goal.Make name)).1 ≡ Ok done → entry_file done.first ≡ None → ⊥
 make_enters t held dir name done is none = by (made_walk t held (record { dir = dir; left = []; goal = goal.Make name }) refl)
   where
     by : MadeSo t held (record { dir = dir; left = []; goal = goal.Make name }) → ⊥
@@ -33,7 +33,7 @@ make_enters t held dir name done is none = by (made_walk t held (record { dir = 
         let same : other ≡ done = ok_is other done (sym (ap (λ (p : Tree × Result Changed Status). p.1) step) ∙ is) in
         nothing_there t.next (sym none ∙ sym (ap (λ (c : Changed). entry_file c.first) same) ∙ ap entry_file first ∙ ap (λ (z : TreeEntry). entry_file (Some z)) entry)
 
-remove_enters : (t : Tree) (held : Held) (dir : ℕ) (name : List ℕ) (done : Changed) → (remove t held dir name).1 ≡ Ok done → entry_file done.first ≡ None → ⊥
+remove_enters : (t : Tree) (held : Reservation) (dir : ℕ) (name : List ℕ) (done : Changed) → (remove t held dir name).1 ≡ Ok done → entry_file done.first ≡ None → ⊥
 remove_enters t held dir name done is none = by (removed_so t held dir name)
   where
     by : RemovedSo t held dir name → ⊥
@@ -50,7 +50,7 @@ renames_else (goal.RenameTo from n to) e make gone = refl
 renames_else _ e make gone = absurd cc
 
 -- so what may change a file, and is done without one, is a rename
-pub fileless_rename : (t : Tree) (held : Held) (w : Walk) (done : Changed) → is_making w ≡ true → (step_by t held w.dir w.goal).1 ≡ Ok done → entry_file done.first ≡ None → changes (goal_word w.goal) ≡ true → goal_word w.goal ≡ words.Rename
+pub fileless_rename : (t : Tree) (held : Reservation) (w : Walk) (done : Changed) → is_making w ≡ true → (step_by t held w.dir w.goal).1 ≡ Ok done → entry_file done.first ≡ None → changes (goal_word w.goal) ≡ true → goal_word w.goal ≡ words.Rename
 fileless_rename t held w done making is none may = renames_else w.goal may (λ e. by w.dir w.left w.goal making is (inl e)) (λ e. by w.dir w.left w.goal making is (inr e))
   where
     by : (dir : ℕ) (left : List (List ℕ)) (g : Goal) → makes_at left g ≡ true → (step_by t held dir g).1 ≡ Ok done → (goal_word g ≡ words.Make) ⊎ (goal_word g ≡ words.Remove) → ⊥

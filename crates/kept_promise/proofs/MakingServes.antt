@@ -11,7 +11,7 @@ use Rattle.tree_nodes.specs.Nodes.{with_id}
 use Rattle.tree_reading.specs.Tree.{Tree, contents_size}
 use Rattle.tree_reading.specs.Plans.{made_entry}
 use Rattle.tree_reading.specs.declared.call.Changed.{Changed as TreeChange}
-use Rattle.tree_reading.specs.declared.call.Held.{Held}
+use Rattle.tree_reading.specs.declared.call.Reservation.{Reservation}
 use Rattle.tree_reading.specs.declared.entry.Entry.{Entry as TreeEntry}
 use Rattle.tree_reading.specs.declared.entry.EntryKind.TheVariants as kind
 use Rattle.tree_calls.specs.Changing.{said}
@@ -35,7 +35,7 @@ use Rattle.trace_replay.specs.Naming.{entry_file, refusal_of}
 use Rattle.trace_ends.specs.Core.{changed_file, is_of_file}
 use Rattle.trace_ends.specs.Ops.{pointed_at, pointed}
 use Rattle.server_law.proofs.Trees.{given, IsBounded}
-use Rattle.kept_promise.proofs.Common.{slice_get, slice_set, cond, option_map, Contains, Contains-push, message_spell, MessageFits, stands, not, at, Entry, File, Op, TakenCall, Change, Stage, Word, Core, Seat, Session, Event.Serves, CoreStep, numbered, with_numbered, happens, serves, serves_if, quiet, Book, value_at, version_at, Call.Walks, Reply.Walked, value_from, unwrap_or, NameReply, name_answer, Ask, Told, Queue, ask_message, told_message, Leasing, later}
+use Rattle.kept_promise.proofs.Common.{slice_get, slice_set, cond, option_map, Contains, Contains-push, message_spell, MessageFits, stands, not, at, Entry, File, Op, TakenCall, FileChange, Stage, Word, Core, Seat, Session, Event.Serves, CoreStep, numbered, with_numbered, happens, serves, serves_if, quiet, Book, value_at, version_at, Call.Walks, Reply.Walked, value_from, unwrap_or, NameReply, name_answer, Ask, Told, Queue, ask_message, told_message, Leasing, later}
 use Rattle.kept_promise.proofs.Statements.{ToldFits, CallFits}
 use Rattle.trace_replay.specs.Faithful.{IsKind}
 use Rattle.register_model.specs.Register.{IsFit}
@@ -71,7 +71,7 @@ use Rattle.kept_promise.proofs.Unused.{IsUnused, unused_named, unused_created, c
 -- ---- which goals
 
 -- what the tree refuses is refused
-refused_building : (t : Tree) (held : Held) (dir : ℕ) (left : List (List ℕ)) (g : Goal) (s : Status) → builds_at left g ≡ true → (step_by t held dir g).1 ≡ Err s → RefusedBy t dir g s
+refused_building : (t : Tree) (held : Reservation) (dir : ℕ) (left : List (List ℕ)) (g : Goal) (s : Status) → builds_at left g ≡ true → (step_by t held dir g).1 ≡ Err s → RefusedBy t dir g s
 refused_building t held dir [] (goal.Make name) s b e = (held, e)
 refused_building t held dir [] (goal.MakeDir name) s b e = (held, e)
 refused_building t held dir [] (goal.RemoveDir name) s b e = (held, e)
@@ -111,7 +111,7 @@ module _ (laws : FitLaws) (book : Book) (k : Core) (qs : List Queue) (n now : �
   abbrev t : Tree
   t = k.server.tree
 
-  abbrev held : Held
+  abbrev held : Reservation
   held = server.held k.server.waiting
 
   abbrev leasing : Leasing
@@ -415,7 +415,7 @@ module _ (laws : FitLaws) (book : Book) (k : Core) (qs : List Queue) (n now : �
       last_call [] (goal.Make name) e later = absurd cc
       last_call left goal_ e later = absurd cc
 
-      none_waits : (l : List Change) → length l ≡ 0 → (i : ℕ) (d : Change) → slice_get l i ≡ Some d → ⊥
+      none_waits : (l : List FileChange) → length l ≡ 0 → (i : ℕ) (d : FileChange) → slice_get l i ≡ Some d → ⊥
       none_waits [] e i d f = nothing_there d f
       none_waits (d ∷ l) e i c f = absurd (omega (arith, e))
 

@@ -13,7 +13,7 @@ use Rattle.tree_reading.specs.Plans.{spared, nothing, create_found, may_create, 
 use Rattle.file_tree.specs.Step.{created, create, mkdir_if, mkdir, remove_if, rmdir}
 use Rattle.tree_reading.specs.declared.call.Changed.{Changed}
 use Rattle.tree_reading.specs.declared.call.CreateMode.TheVariants as mode
-use Rattle.tree_reading.specs.declared.call.Held.{Held}
+use Rattle.tree_reading.specs.declared.call.Reservation.{Reservation}
 use Rattle.trace_replay.specs.Complete.{IsNameRefused}
 use Rattle.kept_promise.proofs.Common.{Contains, Contains-append_left, Contains-push}
 use Rattle.kept_promise.proofs.Checks.{FailsBy, done, fails, chain, directory_fails, spelt_fails}
@@ -36,7 +36,7 @@ undotted_refused others dot two name plain =
     subst (λ (b : Bool). Refuses others (if b then Err dot else (if is_dot_dot name then Err two else Ok tt))) (sym plain.0)
     (subst (λ (b : Bool). Refuses others (if b then Err two else Ok tt)) (sym plain.1) (done (IsWith others) tt))
 
-pub spared_refused : (others : List ℕ) (changes : ℕ) (held : Held) (n : ℕ) → Contains others 28 → Refuses others (spared changes held n)
+pub spared_refused : (others : List ℕ) (changes : ℕ) (held : Reservation) (n : ℕ) → Contains others 28 → Refuses others (spared changes held n)
 spared_refused others changes held n there = by (nat_lt changes_most (changes + held.entries + n))
   where
     by : (b : Bool) → (let r : Result Unit Status = if b then Err status.NoSpc else Ok tt in Refuses others r)
@@ -54,11 +54,11 @@ taken_there = Contains-append_left (17 ∷ []) (28 ∷ []) 17 (Contains-push [] 
 full_there : Contains made_others 28
 full_there = Contains-push (17 ∷ []) 28
 
-found_refused : (changes : ℕ) (held : Held) (o : Option Node) → Refuses made_others (create_found changes held mode.Guarded o)
+found_refused : (changes : ℕ) (held : Reservation) (o : Option Node) → Refuses made_others (create_found changes held mode.Guarded o)
 found_refused changes held None = chain (IsWith made_others) (spared changes held 1) _ (spared_refused made_others changes held 1 full_there) (λ u. done (IsWith made_others) None)
 found_refused changes held (Some n) = fails (IsWith made_others) status.Exist (inr taken_there)
 
-plan_refused : (t : Tree) (held : Held) (dir : ℕ) (name : List ℕ) → IsUndotted name → length name ≤ 255 → is_misspelt name ≡ false → Refuses made_others (create_plan t held dir name mode.Guarded)
+plan_refused : (t : Tree) (held : Reservation) (dir : ℕ) (name : List ℕ) → IsUndotted name → length name ≤ 255 → is_misspelt name ≡ false → Refuses made_others (create_plan t held dir name mode.Guarded)
 plan_refused t held dir name plain short right =
     chain (IsWith made_others) (may_create t held dir name mode.Guarded) _
     (chain (IsWith made_others) (directory_of t.nodes dir) _ (directory_refused made_others t.nodes dir) (λ d. chain (IsWith made_others) (spelt name) _ (spelt_fails (IsWith made_others) name short right) (λ u. chain (IsWith made_others) (undotted status.Inval status.Inval name) _ (undotted_refused made_others status.Inval status.Inval name plain) (λ v. found_refused t.changes held (named t.nodes dir name)))))
@@ -72,12 +72,12 @@ created_err t dir name (Err e) s h = again h
 created_err t dir name (Ok None) s h = absurd cc
 created_err t dir name (Ok (Some d)) s h = absurd cc
 
-pub create_refused : (t : Tree) (held : Held) (dir : ℕ) (name : List ℕ) (s : Status) → IsUndotted name → length name ≤ 255 → is_misspelt name ≡ false → (create t held dir name mode.Guarded).1 ≡ Err s → IsNameRefused (status_number s) (17 ∷ 28 ∷ [])
+pub create_refused : (t : Tree) (held : Reservation) (dir : ℕ) (name : List ℕ) (s : Status) → IsUndotted name → length name ≤ 255 → is_misspelt name ≡ false → (create t held dir name mode.Guarded).1 ≡ Err s → IsNameRefused (status_number s) (17 ∷ 28 ∷ [])
 create_refused t held dir name s plain short right e = plan_refused t held dir name plain short right s (created_err t dir name (create_plan t held dir name mode.Guarded) s e)
 
 -- ---- MKDIR
 
-may_mkdir_refused : (t : Tree) (held : Held) (dir : ℕ) (name : List ℕ) → IsUndotted name → length name ≤ 255 → is_misspelt name ≡ false → Refuses made_others (may_mkdir t held dir name)
+may_mkdir_refused : (t : Tree) (held : Reservation) (dir : ℕ) (name : List ℕ) → IsUndotted name → length name ≤ 255 → is_misspelt name ≡ false → Refuses made_others (may_mkdir t held dir name)
 may_mkdir_refused t held dir name plain short right =
     chain (IsWith made_others) (directory_of t.nodes dir) _ (directory_refused made_others t.nodes dir) (λ d. chain (IsWith made_others) (spelt name) _ (spelt_fails (IsWith made_others) name short right) (λ u. chain (IsWith made_others) (undotted status.Exist status.Exist name) _ (undotted_refused made_others status.Exist status.Exist name plain)
     (λ v. chain (IsWith made_others) (or_taken (named t.nodes dir name)) _ (by (named t.nodes dir name)) (λ x. spared_refused made_others t.changes held 1 full_there))))
@@ -93,7 +93,7 @@ mkdir_err t dir name (Err e) s h = again h
     again h = cc
 mkdir_err t dir name (Ok u) s h = absurd cc
 
-pub mkdir_refused : (t : Tree) (held : Held) (dir : ℕ) (name : List ℕ) (s : Status) → IsUndotted name → length name ≤ 255 → is_misspelt name ≡ false → (mkdir t held dir name).1 ≡ Err s → IsNameRefused (status_number s) (17 ∷ 28 ∷ [])
+pub mkdir_refused : (t : Tree) (held : Reservation) (dir : ℕ) (name : List ℕ) (s : Status) → IsUndotted name → length name ≤ 255 → is_misspelt name ≡ false → (mkdir t held dir name).1 ≡ Err s → IsNameRefused (status_number s) (17 ∷ 28 ∷ [])
 mkdir_refused t held dir name s plain short right e = may_mkdir_refused t held dir name plain short right s (mkdir_err t dir name (may_mkdir t held dir name) s e)
 
 -- ---- RMDIR
@@ -114,7 +114,7 @@ empty_refused nodes n = by (length (names nodes n.id) == 0)
     by true = done (IsWith gone_others) tt
     by false = fails (IsWith gone_others) status.NotEmpty (inr filled_there)
 
-rmdir_plan_refused : (t : Tree) (held : Held) (dir : ℕ) (name : List ℕ) → IsUndotted name → length name ≤ 255 → is_misspelt name ≡ false → Refuses gone_others (rmdir_plan t held dir name)
+rmdir_plan_refused : (t : Tree) (held : Reservation) (dir : ℕ) (name : List ℕ) → IsUndotted name → length name ≤ 255 → is_misspelt name ≡ false → Refuses gone_others (rmdir_plan t held dir name)
 rmdir_plan_refused t held dir name plain short right =
     chain (IsWith gone_others) (may_rmdir t held dir name) _
     (chain (IsWith gone_others) (directory_of t.nodes dir) _ (directory_refused gone_others t.nodes dir) (λ d. chain (IsWith gone_others) (spelt name) _ (spelt_fails (IsWith gone_others) name short right) (λ u. chain (IsWith gone_others) (undotted status.Inval status.Exist name) _ (undotted_refused gone_others status.Inval status.Exist name plain)
@@ -134,5 +134,5 @@ remove_err : (t : Tree) (dir : ℕ) (r : Result Changed Status) (s : Status) →
 remove_err t dir (Err e) s h = h
 remove_err t dir (Ok d) s h = absurd cc
 
-pub rmdir_refused : (t : Tree) (held : Held) (dir : ℕ) (name : List ℕ) (s : Status) → IsUndotted name → length name ≤ 255 → is_misspelt name ≡ false → (rmdir t held dir name).1 ≡ Err s → IsNameRefused (status_number s) (28 ∷ 66 ∷ [])
+pub rmdir_refused : (t : Tree) (held : Reservation) (dir : ℕ) (name : List ℕ) (s : Status) → IsUndotted name → length name ≤ 255 → is_misspelt name ≡ false → (rmdir t held dir name).1 ≡ Err s → IsNameRefused (status_number s) (28 ∷ 66 ∷ [])
 rmdir_refused t held dir name s plain short right e = rmdir_plan_refused t held dir name plain short right s (remove_err t dir (rmdir_plan t held dir name) s e)

@@ -10,7 +10,7 @@ use Rattle.tree_reading.specs.Tree.{Tree, is_directory}
 use Rattle.file_tree.specs.Step.{made, removed, new_file, new_directory}
 use Rattle.tree_reading.specs.declared.call.Changed.{Changed}
 use Rattle.tree_reading.specs.declared.call.CreateMode.TheVariants as mode
-use Rattle.tree_reading.specs.declared.call.Held.{Held}
+use Rattle.tree_reading.specs.declared.call.Reservation.{Reservation}
 use Rattle.file_tree.proofs.States.{named_id}
 use Rattle.path_calls.specs.declared.walk.Goal.{Goal}
 use Rattle.path_calls.specs.declared.walk.Goal.TheVariants as goal
@@ -31,7 +31,7 @@ use Rattle.server_law.proofs.TreeCalls.{ok_is}
 
 -- ---- the limits
 
-pub step_stays : (t : Tree) (held : Held) (dir : ℕ) (g : Goal) → Stays held t (step_by t held dir g).0
+pub step_stays : (t : Tree) (held : Reservation) (dir : ℕ) (g : Goal) → Stays held t (step_by t held dir g).0
 step_stays t held dir (goal.Make name) = create_stays t held dir name mode.Guarded
 step_stays t held dir (goal.MakeDir name) = mkdir_stays t held dir name
 step_stays t held dir (goal.RemoveDir name) = rmdir_stays t held dir name
@@ -143,7 +143,7 @@ next_none t h = ap the_files.file_of_node (next_free t h)
 
 -- ---- what is told of a change that is no file's
 
-pub names_file : (t : Tree) (held : Held) (w : Walk) (done : Changed) → is_building w ≡ true → IsNameGoal w.goal → (step_by t held w.dir w.goal).1 ≡ Ok done → entry_file done.first ≡ None
+pub names_file : (t : Tree) (held : Reservation) (w : Walk) (done : Changed) → is_building w ≡ true → IsNameGoal w.goal → (step_by t held w.dir w.goal).1 ≡ Ok done → entry_file done.first ≡ None
 names_file t held w done making names is = by (made_walk t held w making)
   where
     name_kind : (t : Tree) (g : Goal) (e : TreeEntry) → IsNameGoal g → EntryAt t g e → e.kind ≡ kind.Name

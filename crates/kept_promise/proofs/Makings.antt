@@ -21,7 +21,7 @@ use Rattle.tree_reading.specs.Plans.{create_plan, create_mode, create_found, may
 use Rattle.file_tree.specs.Step.{create, created as create_made, mkdir, mkdir_if, remove, rename, rmdir, remove_if, removed, made, new_file, new_directory}
 use Rattle.tree_reading.specs.declared.call.Changed.{Changed}
 use Rattle.tree_reading.specs.declared.call.CreateMode.TheVariants as mode
-use Rattle.tree_reading.specs.declared.call.Held.{Held}
+use Rattle.tree_reading.specs.declared.call.Reservation.{Reservation}
 use Rattle.tree_reading.specs.declared.entry.Entry.{Entry}
 use Rattle.tree_reading.specs.declared.entry.EntryKind.TheVariants as kind
 use Rattle.tree_calls.specs.Telling.{id_of, or_bad_handle}
@@ -48,7 +48,7 @@ use Rattle.kept_promise.proofs.TreeWalks.{own_handle}
 -- ---- which step
 
 -- with its answer
-abbrev pub made_by : Tree → Held → (dir : ℕ) → Goal → Tree × Done
+abbrev pub made_by : Tree → Reservation → (dir : ℕ) → Goal → Tree × Done
 made_by t held dir (goal.Make name) = creates t held dir name mode.Guarded
 made_by t held dir (goal.MakeDir name) = mkdirs t held dir name
 made_by t held dir (goal.RemoveDir name) = rmdirs t held dir name
@@ -56,7 +56,7 @@ made_by t held dir (goal.RemoveDir name) = rmdirs t held dir name
 made_by t held dir g = (t, said nfs.Null)
 
 -- the tree's own
-abbrev pub step_by : Tree → Held → (dir : ℕ) → Goal → Tree × Result Changed Status
+abbrev pub step_by : Tree → Reservation → (dir : ℕ) → Goal → Tree × Result Changed Status
 step_by t held dir (goal.Make name) = create t held dir name mode.Guarded
 step_by t held dir (goal.MakeDir name) = mkdir t held dir name
 step_by t held dir (goal.RemoveDir name) = rmdir t held dir name
@@ -97,12 +97,12 @@ AfterAt t dir (goal.RemoveDir name) after = (n : Node) × (after ≡ removed t d
 AfterAt t dir g after = ⊥
 
 -- it's refused and nothing is changed, or the tree's own step is made, with one entry; either way its answer ends the walk
-pub data MadeSo (t : Tree) (held : Held) (w : Walk) : Type 0 where
+pub data MadeSo (t : Tree) (held : Reservation) (w : Walk) : Type 0 where
   refuses : (s : Status) (r : NameReply) → made_by t held w.dir w.goal ≡ (t, said (name_answer r)) → (step_by t held w.dir w.goal).1 ≡ Err s → refusal_of (name_answer r) ≡ Some s → walk_told w (name_answer r) ≡ told.Ends (ended.Refused s) → nfs_proc (name_answer r) ≡ nfs_proc (next_call w) → MadeSo t held w
   enters : (done : Changed) (e : Entry) (r : NameReply) (after : Tree) → made_by t held w.dir w.goal ≡ (after, record { answer = name_answer r; first = Some e; second = None }) → step_by t held w.dir w.goal ≡ (after, Ok done) → done.first ≡ Some e → done.second ≡ None → EntryAt t w.goal e → AfterAt t w.dir w.goal after → walk_told w (name_answer r) ≡ told.Ends ended.Done → nfs_proc (name_answer r) ≡ nfs_proc (next_call w) → MadeSo t held w
 
 -- a file is made where its name is free, and else it's refused
-guarded_plan : (t : Tree) (held : Held) (dir : ℕ) (name : List ℕ) (done : Changed) → create_plan t held dir name mode.Guarded ≡ Ok (Some done) → ⊥
+guarded_plan : (t : Tree) (held : Reservation) (dir : ℕ) (name : List ℕ) (done : Changed) → create_plan t held dir name mode.Guarded ≡ Ok (Some done) → ⊥
 guarded_plan t held dir name done e =
     let p = bind_ok (may_create t held dir name mode.Guarded) (λ found. Ok (option_map nothing found)) (Some done) e in
     let a = bind_ok (directory_of t.nodes dir) (λ _. spelt name >>= λ _. undotted status.Inval status.Inval name >>= λ _. create_mode t held dir name mode.Guarded) p.0 p.1 in
@@ -120,7 +120,7 @@ guarded_plan t held dir name done e =
     by f (Some n) e is = absurd cc
 
 -- a directory goes
-rmdir_entry : (t : Tree) (held : Held) (dir : ℕ) (name : List ℕ) (done : Changed) → rmdir_plan t held dir name ≡ Ok done → (n : Node) × (done ≡ remove_done n) × (is_directory n.body ≡ true) × (named t.nodes dir name ≡ Some n)
+rmdir_entry : (t : Tree) (held : Reservation) (dir : ℕ) (name : List ℕ) (done : Changed) → rmdir_plan t held dir name ≡ Ok done → (n : Node) × (done ≡ remove_done n) × (is_directory n.body ≡ true) × (named t.nodes dir name ≡ Some n)
 rmdir_entry t held dir name done e =
     let p = bind_ok (may_rmdir t held dir name) (λ n. Ok (remove_done n)) done e in
     let a = bind_ok (directory_of t.nodes dir) (λ _. spelt name >>= λ _. undotted status.Inval status.Exist name >>= λ _. or_no_entry (named t.nodes dir name) >>= directory_or status.NotDir >>= λ n. or_not_empty t.nodes n >>= λ _. spared t.changes held 1 >>= λ _. Ok n) p.0 p.1 in
@@ -142,7 +142,7 @@ gone_name : (n : Node) (b : Body) → is_directory b ≡ true → (gone_entry n 
 gone_name n Directory e = refl
 gone_name n (File c) e = absurd cc
 
-made_so : (t : Tree) (held : Held) (dir : ℕ) (left : List (List ℕ)) (g : Goal) → builds_at left g ≡ true → MadeSo t held (record { dir = dir; left = left; goal = g })
+made_so : (t : Tree) (held : Reservation) (dir : ℕ) (left : List (List ℕ)) (g : Goal) → builds_at left g ≡ true → MadeSo t held (record { dir = dir; left = left; goal = g })
 made_so t held dir [] (goal.Make name) e = by (create_plan t held dir name mode.Guarded) refl
   where
     by : (r : Result (Option Changed) Status) → create_plan t held dir name mode.Guarded ≡ r → MadeSo t held (record { dir = dir; left = []; goal = goal.Make name })
@@ -171,5 +171,5 @@ made_so t held dir [] (goal.RemoveDir name) e = by (rmdir_plan t held dir name) 
         enters (remove_done f.0) (gone_entry f.0 f.0.body) (NoDir (answer.Done (both_sides (before t.nodes dir) after.nodes dir))) after (ap (λ z. with_done (removed_directory (before t.nodes dir) dir) (remove_if t dir z)) same) (ap (remove_if t dir) same) refl refl (gone_name f.0 f.0.body f.2) (f.0, refl, rmdir_in t held dir name done is, f.3, f.2) refl refl
 made_so t held dir left g e = absurd cc
 
-pub made_walk : (t : Tree) (held : Held) (w : Walk) → is_building w ≡ true → MadeSo t held w
+pub made_walk : (t : Tree) (held : Reservation) (w : Walk) → is_building w ≡ true → MadeSo t held w
 made_walk t held w e = made_so t held w.dir w.left w.goal e

@@ -32,7 +32,7 @@ use Rattle.trace_ends.specs.Core.{Event.Serves, server_waiting}
 use Rattle.trace_replay.specs.OwnCalls.{TakesCall, ComesTo, held_at}
 use Rattle.trace_replay.specs.Naming.{tree_at, entry_file, refusal_of}
 use Rattle.trace_replay.specs.Trail.{Moment, step_of}
-use Rattle.kept_promise.proofs.Common.{handle_bytes, Body, slice_get, cond, Status, Collides, ◌==◌, Contains, chunk_bytes, end_of, chunks_of, Chunk, Answer, Done, Failed, Attr, Committed, Hashes, HashRange, Piece, Range, hashes_of, piece_of, told_chunks, File, read_at, Fetch, ReadCall, Stage, Store, StoreCall, Task, Value, Op, Word, TakenCall, Seat, taken_at, hashed_of, sha1, Book, Or, value_at, version_at, Tried, Call, Call.Lease, Call.Hash, Call.Read, Call.Make, Call.Name, Call.Send, Call.Commit, Reply, Reply.Versioned, Reply.Hashed, Reply.Bytes, Reply.Changed, Ask, Told, Wanted, Call.Walks, Reply.Walked, name_answer, numbered, happens, changes}
+use Rattle.kept_promise.proofs.Common.{handle_bytes, Body, slice_get, cond, Status, Collides, ◌==◌, Contains, chunk_bytes, end_of, chunks_of, Chunk, Answer, Done, Failed, Attr, Committed, Hashes, HashRange, Piece, Range, hashes_of, piece_of, told_chunks, File, read_at, Fetch, ReadCall, Stage, Upload, UploadCall, Task, Value, Op, Word, TakenCall, Seat, taken_at, hashed_of, sha1, Book, Or, value_at, version_at, Tried, Call, Call.Lease, Call.Hash, Call.Read, Call.Make, Call.Name, Call.Send, Call.Commit, Reply, Reply.Versioned, Reply.Hashed, Reply.Bytes, Reply.Changed, Ask, Told, Wanted, Call.Walks, Reply.Walked, name_answer, numbered, happens, changes}
 use Rattle.kept_promise.proofs.Lists.{AllOf}
 use Rattle.kept_promise.proofs.Rights.{WasThere, IsHeld, IsUnmade, IsMade}
 use Rattle.server_core.specs.declared.change.Wanted.TheVariants as wanted
@@ -452,7 +452,7 @@ pub record IsGoing (book : Book) (session : ℕ) (closing : Option ℕ) (cut : B
   -- and waited for it when the call was taken
   pub taken : cut ≡ false → IsTakenFor book op.client (record { place = place; file = 0; stage = stage.Walking xid (walk_for a) }) session xid (walk_for a)
 
--- a change that waits
+-- a pending change
 abbrev pub WaitsFor : Book → (session : ℕ) → (closing : Option ℕ) → (cut : Bool) → Option Job → (xid file : ℕ) → Wanted → Type 0
 WaitsFor book session closing cut job xid file (wanted.Content content) = IsPending book closing cut job xid file content
 WaitsFor book session closing cut job xid file (wanted.Asked a) = IsGoing book session closing cut job xid a
@@ -522,10 +522,10 @@ pub record IsOwed (book : Book) (closing : Option ℕ) (j : Job) (content : List
   -- its number has a spelling
   pub small : j.file < 18446744073709551616
 
-pub record IsStoring (content : List ℕ) (st : Store) : Type 0 where
+pub record IsStoring (content : List ℕ) (st : Upload) : Type 0 where
   pub chunks : st.chunks ≡ chunks_of content
   pub named : st.named ≤ length st.chunks
-  pub inside : (k : ℕ) (c : StoreCall) → slice_get st.under k ≡ Some c → c.index < st.named
+  pub inside : (k : ℕ) (c : UploadCall) → slice_get st.under k ≡ Some c → c.index < st.named
 
 -- a command that may change a file and has not yet asked for it
 pub record IsNameOwed (book : Book) (closing : Option ℕ) (j : Job) (g : Goal) : Type 0 where

@@ -5,7 +5,7 @@ use Rattle.wire.specs.declared.message.Program.TheVariants as program
 use Rattle.hash_calls.specs.declared.message.LbProc.TheVariants as lb_proc
 use Rattle.nfs3_calls.specs.declared.message.NfsProc.TheVariants as nfs_proc
 use Rattle.client_state.specs.State as client
-use Rattle.kept_promise.proofs.Common.{slice_get, not, cond, ◌==◌, IsExpected, waiting, Pending, Program, Change, without_call, Reply, Reply.Versioned, Reply.Hashed, Reply.Bytes, Reply.Made, Reply.Named, Reply.Stored, Reply.Changed, Ask, Told, Queue, reply_program, reply_body, told_message, Reply.Walked, NameReply.LookedUp, NameReply.Shown, NameReply.Listed, NameReply.MadeFile, NameReply.MadeDir, NameReply.NoDir, NameReply.Gone, NameReply.Renamed}
+use Rattle.kept_promise.proofs.Common.{slice_get, not, cond, ◌==◌, IsExpected, waiting, Pending, Program, FileChange, without_call, Reply, Reply.Versioned, Reply.Hashed, Reply.Bytes, Reply.Made, Reply.Named, Reply.Stored, Reply.Changed, Ask, Told, Queue, reply_program, reply_body, told_message, Reply.Walked, NameReply.LookedUp, NameReply.Shown, NameReply.Listed, NameReply.MadeFile, NameReply.MadeDir, NameReply.NoDir, NameReply.Gone, NameReply.Renamed}
 use Rattle.kept_promise.proofs.Lists.{some_is, nothing_there}
 use Rattle.kept_promise.proofs.Keys.{times, times_append, code_of, pending_key, told_key, ask_key, change_key, own, found_by, there_by, key_xid, key_code}
 use Rattle.kept_promise.proofs.Taken.{times_map_append}
@@ -45,7 +45,7 @@ reply_ours r c lt e = by c r lt e
     by c r lt e = absurd (omega (arith, lt, e))
 
 -- an answer on its way is to a call that waits, of the same procedure
-pub told_there : (n : ℕ) (w : List Change) (q : Queue) (hung : Bool) (next : ℕ) (calls : List Pending) (i : ℕ) (t : Told) → IsBalanced n w q hung next calls → slice_get q.downs i ≡ Some t → (k : ℕ) × (slice_get calls k ≡ Some (told_pending t))
+pub told_there : (n : ℕ) (w : List FileChange) (q : Queue) (hung : Bool) (next : ℕ) (calls : List Pending) (i : ℕ) (t : Told) → IsBalanced n w q hung next calls → slice_get q.downs i ≡ Some t → (k : ℕ) × (slice_get calls k ≡ Some (told_pending t))
 told_there n w q hung next calls i t h at =
     let a = there_by told_key q.downs i t at in
     let b = times_append (told_key t) (map ask_key q.ups) (map change_key (own n w) ++ map told_key q.downs) in
@@ -73,7 +73,7 @@ body_program : (r : Reply) → program_of (reply_body r) ≡ reply_program r
 body_program (Hashed a) = refl
 body_program r = refl
 
-pub expected : (n : ℕ) (w : List Change) (q : Queue) (hung : Bool) (c : client.State) (i : ℕ) (t : Told) → IsBalanced n w q hung c.next_xid (client.calls_of c) → slice_get q.downs i ≡ Some t → FitsIn c.lbfs (reply_body t.reply) → IsExpected (client.waiting_of c) (told_message t)
+pub expected : (n : ℕ) (w : List FileChange) (q : Queue) (hung : Bool) (c : client.State) (i : ℕ) (t : Told) → IsBalanced n w q hung c.next_xid (client.calls_of c) → slice_get q.downs i ≡ Some t → FitsIn c.lbfs (reply_body t.reply) → IsExpected (client.waiting_of c) (told_message t)
 expected n w q hung c i t h at fits =
     let p = told_there n w q hung c.next_xid (client.calls_of c) i t h at in
     (waits_under (client.calls_of c) p.0 (told_pending t) p.1 (h.once t.xid) ∙ ap (λ z. Some z) (sym (body_program t.reply)), fits)

@@ -15,7 +15,7 @@ use Rattle.chunk_calls.specs.Writing.{cond_most}
 use Rattle.server_core.specs.declared.event.Sent.{Sent}
 use Rattle.trace_replay.specs.Saving.{name_call, name_told, name_answer}
 use Rattle.kept_promise.proofs.CallsAlike.{call_read}
-use Rattle.kept_promise.proofs.Common.{nat_lt, if◌then◌else◌, ◌==◌, ◌||◌, list_any, Contains, Contains-push_cases, Contains-append_cases, Answer, Done, Failed, Status, Body, Message, parse_of, Temp, size_most, temp_at, room_fault, piece_fault, assembled, without_temp, Node, directory, file, node_of, File, Change, called, got_if, stands, at, makes, makes_unless, makes_change, names, names_unless, names_bytes, bytes_known, cond_fault, writes_unless, commits, commits_to, commits_whole, has_waiting, is_full, Core, Event, Event.Serves, CoreStep, server_waiting, server_waits, does, joins, hears, cuts, hangs, happens, Wanted, Tree, change_of}
+use Rattle.kept_promise.proofs.Common.{nat_lt, if◌then◌else◌, ◌==◌, ◌||◌, list_any, Contains, Contains-push_cases, Contains-append_cases, Answer, Done, Failed, Status, Body, Message, parse_of, Temp, size_most, temp_at, room_fault, piece_fault, assembled, without_temp, Node, directory, file, node_of, File, FileChange, called, got_if, stands, at, makes, makes_unless, makes_change, names, names_unless, names_bytes, bytes_known, cond_fault, writes_unless, takes_commit, takes_commit_on, commits_whole, has_waiting, is_full, Core, Event, Event.Serves, CoreStep, server_waiting, server_waits, does, joins, hears, cuts, hangs, happens, Wanted, Tree, change_of}
 use Rattle.tree_calls.specs.Waiting.{file_of}
 use Rattle.server_core.specs.Recalling.{comes, recall_sent, recalls_for}
 use Rattle.server_core.specs.Leasing.{asking}
@@ -119,7 +119,7 @@ recalls_other : (recalls : List Recalled) → AreOther (map recall_sent recalls)
 recalls_other [] = tt
 recalls_other (a ∷ recalls) = (tt, recalls_other recalls)
 
-commits_other : (s : server.State) (n xid size : ℕ) (t : Temp) (nd : Result Node Status) → AreOther (commits_to s n xid size t nd).1.send
+commits_other : (s : server.State) (n xid size : ℕ) (t : Temp) (nd : Result Node Status) → AreOther (takes_commit_on s n xid size t nd).1.send
 commits_other s n xid size t (Err e) = (tt, tt)
 commits_other s n xid size t (Ok directory) = (tt, tt)
 commits_other s n xid size t (Ok (file f)) = by (nat_lt size_most size)
@@ -169,7 +169,7 @@ call_answers s n xid (body.Lb (lb.TmpWrite a)) = inr (by (temp_at s.temps n a.fd
     by None o = (tt, tt)
 call_answers s n xid (body.Lb (lb.CommitTmp a)) = inr (by (temp_at s.temps n a.fd))
   where
-    by : (t : Option Temp) → AreOther (commits s n xid a t).1.send
+    by : (t : Option Temp) → AreOther (takes_commit s n xid a t).1.send
     by None = (tt, tt)
     by (Some t) = commits_other (record s { temps = without_temp s.temps n a.fd }) n xid a.size t (node_of s.tree a.handle)
 call_answers s n xid (body.Nfs nfs.Null) = inr (tt, tt)
@@ -242,10 +242,10 @@ name_taken k e = what_happens k e (SentBy k e) (record {
     got_by m now bytes (message.Refuse xid why) is true n y r c = absurd (other_sent [] n y r tt c)
     got_by m now bytes z is false n y r c = absurd (other_sent [] n y r tt c)
 
-    made : (s : server.State) (c : Change) (a : Wanted) → AreOther (makes_change s c a).1.send
+    made : (s : server.State) (c : FileChange) (a : Wanted) → AreOther (makes_change s c a).1.send
     made s c (wanted.Content x) = (tt, tt)
     made s c (wanted.Asked a) = (tt, tt)
 
-    settled : (now : ℕ) (next : Option Change) → AreOther (settles_by k.server false now next).1.send
+    settled : (now : ℕ) (next : Option FileChange) → AreOther (settles_by k.server false now next).1.send
     settled now None = tt
     settled now (Some c) = made (at (record k.server { waiting = without k.server.waiting c.session }) now) c c.what

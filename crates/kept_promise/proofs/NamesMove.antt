@@ -8,10 +8,10 @@ use Rattle.tree_nodes.specs.declared.node.Node.{Node}
 use Rattle.tree_nodes.specs.declared.node.Body.TheVariants.{File as Plain}
 use Rattle.tree_nodes.specs.Nodes.{names, changed}
 use Rattle.tree_reading.specs.declared.call.Changed.{Changed}
-use Rattle.tree_reading.specs.declared.call.Held.{Held}
+use Rattle.tree_reading.specs.declared.call.Reservation.{Reservation}
 use Rattle.file_tree.specs.Step.{replace_if}
 use Rattle.tree_reading.specs.Plans.{replace_plan}
-use Rattle.tree_calls.specs.Waiting.{commits, file_of, settles as tree_settles}
+use Rattle.tree_calls.specs.Waiting.{gives_content, file_of, settles as tree_settles}
 use Rattle.tree_calls.specs.Changing.{said}
 use Rattle.tree_calls.specs.declared.asked.Asked.{Asked}
 use Rattle.tree_calls.specs.declared.asked.Asked.TheVariants as asked
@@ -32,7 +32,7 @@ use Rattle.server_law.proofs.Trees.{IsBounded}
 use Rattle.trace_ends.specs.Core.{server_got}
 use Rattle.trace_replay.specs.Naming.{refusal_of}
 use Rattle.trace_replay.specs.OwnCalls.{ComesTo, held_at, others_waiting}
-use Rattle.kept_promise.proofs.Common.{cond, if◌then◌else◌, ◌==◌, filter, not, slice_get, Contains, Contains-append_left, Contains-append_right, Contains-push, Contains-push_cases, Status, Message, WireFault, parse_of, Tree, Change, Wanted, server_step, stands, at, has_waiting, Op, Opening, Core, Session, Event, Event.Serves, Event.Settles, CoreStep, numbered, server_waiting, server_waits, serves_if, serves, does, joins, hears, cuts, hangs_if, hangs, happens, Moment, step_of, client_of, is_in, Book, Queue, Ask, NameReply, name_answer, ask_message, Call, Call.Walks}
+use Rattle.kept_promise.proofs.Common.{cond, if◌then◌else◌, ◌==◌, filter, not, slice_get, Contains, Contains-append_left, Contains-append_right, Contains-push, Contains-push_cases, Status, Message, WireFault, parse_of, Tree, FileChange, Wanted, server_step, stands, at, has_waiting, Op, Opening, Core, Session, Event, Event.Serves, Event.Settles, CoreStep, numbered, server_waiting, server_waits, serves_if, serves, does, joins, hears, cuts, hangs_if, hangs, happens, Moment, step_of, client_of, is_in, Book, Queue, Ask, NameReply, name_answer, ask_message, Call, Call.Walks}
 use Rattle.server_core.specs.Closing.{makes_change}
 use Rattle.kept_promise.proofs.Lists.{nothing_there, of_appended}
 use Rattle.kept_promise.proofs.Messages.{AllAsks, AsksFor, walk_for, walk_is}
@@ -80,7 +80,7 @@ names_refilled (m ∷ ms) id version content dir = by (m.id == id) (names_refill
     by true later = first (refilled version content m) refl (names (changed ms id (refilled version content)) dir) (names ms dir) later (m.parent == dir)
     by false later = first m refl (names (changed ms id (refilled version content)) dir) (names ms dir) later (m.parent == dir)
 
-commits_names : (t : Tree) (held : Held) (file : ℕ) (content : List ℕ) (dir : ℕ) → names_of (commits t held file content 0).0 dir ≡ names_of t dir
+commits_names : (t : Tree) (held : Reservation) (file : ℕ) (content : List ℕ) (dir : ℕ) → names_of (gives_content t held file content 0).0 dir ≡ names_of t dir
 commits_names t held file content dir = by (replace_plan t held file (length content))
   where
     by : (r : Result ℕ Status) → names_of (replace_if t file content r).0 dir ≡ names_of t dir
@@ -90,11 +90,11 @@ commits_names t held file content dir = by (replace_plan t held file (length con
 -- ---- what waits
 
 -- each change that waits in one state waits in another, before
-abbrev AreOfThose : List Change → List Change → Type 0
-AreOfThose after before = (i : ℕ) (c : Change) → slice_get after i ≡ Some c → (j : ℕ) × (slice_get before j ≡ Some c)
+abbrev AreOfThose : List FileChange → List FileChange → Type 0
+AreOfThose after before = (i : ℕ) (c : FileChange) → slice_get after i ≡ Some c → (j : ℕ) × (slice_get before j ≡ Some c)
 
-those_same : (after before : List Change) → after ≡ before → AreOfThose after before
-those_same after before same i c at = (i, ap (λ (l : List Change). slice_get l i) (sym same) ∙ at)
+those_same : (after before : List FileChange) → after ≡ before → AreOfThose after before
+those_same after before same i c at = (i, ap (λ (l : List FileChange). slice_get l i) (sym same) ∙ at)
 
 -- what a step of the server leaves that makes nothing by a name: names are as they were, and what waits waited before
 pub record IsStill (before after : server.State) : Type 0 where
@@ -114,11 +114,11 @@ changes_made dir [] (goal.RenameTo from n to) e = tt
 changes_made dir left g e = absurd cc
 
 -- a change of a COMMITTMP asks for nothing by a name
-commit_content : (m : Message) (c : Change) → IsByCommit m c → (content : List ℕ) × (c.what ≡ wanted.Content content)
+commit_content : (m : Message) (c : FileChange) → IsByCommit m c → (content : List ℕ) × (c.what ≡ wanted.Content content)
 commit_content (message.Call xid (body.Lb (lb.CommitTmp a))) c h = h
 commit_content m c h = absurd h
 
-content_asked : (c : Change) (content : List ℕ) (a : Asked) → c.what ≡ wanted.Content content → c.what ≡ wanted.Asked a → ⊥
+content_asked : (c : FileChange) (content : List ℕ) (a : Asked) → c.what ≡ wanted.Content content → c.what ≡ wanted.Asked a → ⊥
 content_asked c content a is asks_ = apart (sym is ∙ asks_)
   where
     apart : wanted.Content content ≡ wanted.Asked a → ⊥
@@ -153,11 +153,11 @@ others_still k e unserved unsettled = what_happens k e (λ t. IsStill k.server t
 -- ---- what is carried
 
 -- each change that waits and asks for something by a name came by a call that was taken; and so did each change of names that was made
-abbrev TakesAsked : List Moment → Change → Asked → Type 0
+abbrev TakesAsked : List Moment → FileChange → Asked → Type 0
 TakesAsked past c a = (t : TakesNaming past c.session c.xid) × (t.call ≡ next_call (walk_for a))
 
 pub record AreNamed (past : List Moment) (k : Core) : Type 0 where
-  pub waiting : (i : ℕ) (c : Change) (a : Asked) → slice_get k.server.waiting i ≡ Some c → c.what ≡ wanted.Asked a → TakesAsked past c a
+  pub waiting : (i : ℕ) (c : FileChange) (a : Asked) → slice_get k.server.waiting i ≡ Some c → c.what ≡ wanted.Asked a → TakesAsked past c a
   pub each : (m : Moment) → Contains past m → KeepsNames m ⊎ MakesNaming past m
 
 abbrev takes_later : (past : List Moment) (m : Moment) (session xid : ℕ) → TakesNaming past session xid → TakesNaming (past ++ m ∷ []) session xid
@@ -179,7 +179,7 @@ makes_later past m z n = record { session = n.session; xid = n.xid; takes = take
 -- what an event makes of it
 pub record NamesAfter (past : List Moment) (k : Core) (e : Event) : Type 0 where
   pub now : KeepsNames (moment k e) ⊎ MakesNaming (past ++ moment k e ∷ []) (moment k e)
-  pub waiting : (i : ℕ) (c : Change) (a : Asked) → slice_get (happens k e).core.server.waiting i ≡ Some c → c.what ≡ wanted.Asked a → ((j : ℕ) × (slice_get k.server.waiting j ≡ Some c)) ⊎ TakesAsked (past ++ moment k e ∷ []) c a
+  pub waiting : (i : ℕ) (c : FileChange) (a : Asked) → slice_get (happens k e).core.server.waiting i ≡ Some c → c.what ≡ wanted.Asked a → ((j : ℕ) × (slice_get k.server.waiting j ≡ Some c)) ⊎ TakesAsked (past ++ moment k e ∷ []) c a
 
 named_after : (past : List Moment) (k : Core) (e : Event) → NamesAfter past k e → AreNamed past k → AreNamed (past ++ moment k e ∷ []) (happens k e).core
 named_after past k e new h = record {
@@ -199,7 +199,7 @@ after_still past k e still = record { now = inl still.names; waiting = λ i c a 
 -- ---- what is made, and what is answered
 
 -- a step that leaves this keeps names, or it makes what this call asks for, and answers it on a session that it is done
-abbrev Turned : Core → (session xid : ℕ) → (call : Nfs) → Held → CoreStep → Type 0
+abbrev Turned : Core → (session xid : ℕ) → (call : Nfs) → Reservation → CoreStep → Type 0
 Turned k n xid call held t = ((dir : ℕ) → names_of t.core.server.tree dir ≡ names_of k.server.tree dir) ⊎ ((a : Nfs) × Contains t.down (record { session = n; message = message.Answer xid (body.Nfs a) }) × (refusal_of a ≡ None) × MakesOf call k.server.tree held t.core.server.tree)
 
 -- nothing more waits then, or what a walk's call asked for
@@ -217,7 +217,7 @@ none_refused w a done = by (refusal_of a) refl
     by None is = refl
     by (Some s) is = apart s (sym done ∙ refused_leads w a s is)
 
-makes_of : (dir : ℕ) (left : List (List ℕ)) (g : Goal) (t : Tree) (held : Held) → makes_at left g ≡ true → MakesOf (call_at dir left g) t held (step_by t held dir g).0
+makes_of : (dir : ℕ) (left : List (List ℕ)) (g : Goal) (t : Tree) (held : Reservation) → makes_at left g ≡ true → MakesOf (call_at dir left g) t held (step_by t held dir g).0
 makes_of dir [] (goal.Make n) t held e = (dir, n, refl, refl)
 makes_of dir [] (goal.MakeDir n) t held e = (dir, n, refl, refl)
 makes_of dir [] (goal.Remove n) t held e = (dir, n, refl, refl)
@@ -225,7 +225,7 @@ makes_of dir [] (goal.RemoveDir n) t held e = (dir, n, refl, refl)
 makes_of dir [] (goal.RenameTo from n to) t held e = (from, n, dir, to, refl, refl)
 makes_of dir left g t held e = absurd cc
 
-said_done : (k : Core) (n xid : ℕ) (w : Walk) (held : Held) (r : NameReply) (t : CoreStep) (done : Changed) → is_making w ≡ true → step_by k.server.tree held w.dir w.goal ≡ (t.core.server.tree, Ok done) → t.down ≡ record { session = n; message = message.Answer xid (body.Nfs (name_answer r)) } ∷ [] → walk_told w (name_answer r) ≡ told.Ends ended.Done → Turned k n xid (next_call w) held t
+said_done : (k : Core) (n xid : ℕ) (w : Walk) (held : Reservation) (r : NameReply) (t : CoreStep) (done : Changed) → is_making w ≡ true → step_by k.server.tree held w.dir w.goal ≡ (t.core.server.tree, Ok done) → t.down ≡ record { session = n; message = message.Answer xid (body.Nfs (name_answer r)) } ∷ [] → walk_told w (name_answer r) ≡ told.Ends ended.Done → Turned k n xid (next_call w) held t
 said_done k n xid w held r t done making step down leads = inr (
   name_answer r,
   subst (λ (l : List Sent). Contains l (record { session = n; message = message.Answer xid (body.Nfs (name_answer r)) })) (sym down) (Contains-push [] (record { session = n; message = message.Answer xid (body.Nfs (name_answer r)) })),
@@ -254,7 +254,7 @@ asked_makes : (a : Asked) → is_making (walk_for a) ≡ true
 asked_makes (asked.Remove r) = refl
 asked_makes (asked.Rename r) = refl
 
-settled_turned : (k : Core) (now : ℕ) (c : Change) (cs : List Change) (a : Asked) → SettlesSo k.server.tree (server.held cs) (walk_for a) a → Turned k c.session c.xid (next_call (walk_for a)) (server.held cs) (asked_step k now c cs (tree_settles k.server.tree (server.held cs) a))
+settled_turned : (k : Core) (now : ℕ) (c : FileChange) (cs : List FileChange) (a : Asked) → SettlesSo k.server.tree (server.held cs) (walk_for a) a → Turned k c.session c.xid (next_call (walk_for a)) (server.held cs) (asked_step k now c cs (tree_settles k.server.tree (server.held cs) a))
 settled_turned k now c cs a so = by so
   where
     by : SettlesSo k.server.tree (server.held cs) (walk_for a) a → Turned k c.session c.xid (next_call (walk_for a)) (server.held cs) (asked_step k now c cs (tree_settles k.server.tree (server.held cs) a))
@@ -299,10 +299,10 @@ names_serves fits all past opening k qs mid n now bytes kept f sent = by (makes_
         record {
           now = inl (λ dir. ap (λ (s : server.State). names_of s.tree dir) server_is ∙ ap (λ (t : Tree). names_of t dir) tree);
           waiting = λ i c a there asks_. inl (elim came [
-            | inl same ↦ (i, ap (λ (l : List Change). slice_get l i) (sym same) ∙ ap (λ (s : server.State). slice_get s.waiting i) (sym server_is) ∙ there)
-            | inr one ↦ elim (of_appended k.server.waiting one.0 i c (ap (λ (l : List Change). slice_get l i) (sym one.2) ∙ ap (λ (s : server.State). slice_get s.waiting i) (sym server_is) ∙ there)) [
+            | inl same ↦ (i, ap (λ (l : List FileChange). slice_get l i) (sym same) ∙ ap (λ (s : server.State). slice_get s.waiting i) (sym server_is) ∙ there)
+            | inr one ↦ elim (of_appended k.server.waiting one.0 i c (ap (λ (l : List FileChange). slice_get l i) (sym one.2) ∙ ap (λ (s : server.State). slice_get s.waiting i) (sym server_is) ∙ there)) [
               | inr old ↦ (i, old)
-              | inl last ↦ (let content = commit_content (ask_message f.1) one.0 one.3 in absurd (content_asked c content.0 a (ap (λ (z : Change). z.what) last.1 ∙ content.1) asks_))
+              | inl last ↦ (let content = commit_content (ask_message f.1) one.0 one.3 in absurd (content_asked c content.0 a (ap (λ (z : FileChange). z.what) last.1 ∙ content.1) asks_))
             ]
           ]);
         }
@@ -311,10 +311,10 @@ names_serves fits all past opening k qs mid n now bytes kept f sent = by (makes_
     some_ makes = record {
       now = now_by past2 (moment k (Serves n now bytes)) n f.1.xid takes (inl refl) both.0;
       waiting = λ i c a there asks_. elim both.1 [
-        | inl same ↦ inl (i, ap (λ (l : List Change). slice_get l i) (sym same) ∙ there)
-        | inr new ↦ elim (of_appended k.server.waiting (coming n f.1.xid new.0) i c (ap (λ (l : List Change). slice_get l i) (sym new.1) ∙ there)) [
+        | inl same ↦ inl (i, ap (λ (l : List FileChange). slice_get l i) (sym same) ∙ there)
+        | inr new ↦ elim (of_appended k.server.waiting (coming n f.1.xid new.0) i c (ap (λ (l : List FileChange). slice_get l i) (sym new.1) ∙ there)) [
           | inr old ↦ inl (i, old)
-          | inl last ↦ inr (subst (λ (z : Change). z.what ≡ wanted.Asked a → TakesAsked past2 z a) (sym last.1) (λ what. (takes, ap (λ (v : Walk). next_call v) new.2 ∙ ap (λ (b : Asked). next_call (walk_for b)) (asked_is new.0 a what))) asks_)
+          | inl last ↦ inr (subst (λ (z : FileChange). z.what ≡ wanted.Asked a → TakesAsked past2 z a) (sym last.1) (λ what. (takes, ap (λ (v : Walk). next_call v) new.2 ∙ ap (λ (b : Asked). next_call (walk_for b)) (asked_is new.0 a what))) asks_)
         ]
       ];
     }
@@ -387,7 +387,7 @@ names_settles past book k qs now kept h = by (what_settles book k qs now kept)
   where
     by : WhatSettles k now → NamesAfter past k (Settles now)
     by (settles_none none is) = after_still past k (Settles now) (still_same k.server (happens k (Settles now)).core.server (ap (λ (t : CoreStep). t.core.server) is))
-    by (settles_one c cs out) = record { now = first c.what refl; waiting = λ i d a there asks_. inl (out.out.others i d (ap (λ (l : List Change). slice_get l i) (sym left) ∙ there)) }
+    by (settles_one c cs out) = record { now = first c.what refl; waiting = λ i d a there asks_. inl (out.out.others i d (ap (λ (l : List FileChange). slice_get l i) (sym left) ∙ there)) }
       where
         before : server.State
         before = at (record k.server { waiting = cs }) now
@@ -412,7 +412,7 @@ names_settles past book k qs now kept h = by (what_settles book k qs now kept)
             (takes_later past (moment k (Settles now)) c.session c.xid was.0)
             (inr (record { now = now; event_is = refl; change = c; ready = out.ready; session_is = refl; xid_is = refl }))
             (subst (λ (call : Nfs). Turned k c.session c.xid call (held_at (moment k (Settles now))) (happens k (Settles now))) (sym was.1)
-            (subst (λ (held : Held). Turned k c.session c.xid (next_call (walk_for a)) held (happens k (Settles now))) room
+            (subst (λ (held : Reservation). Turned k c.session c.xid (next_call (walk_for a)) held (happens k (Settles now))) room
             (subst (Turned k c.session c.xid (next_call (walk_for a)) (server.held cs)) (sym (asked_settles k now c cs a out what)) (settled_turned k now c cs a so))))
 
 -- ---- any event

@@ -35,7 +35,7 @@ use Rattle.file_close.specs.Storing.{named_if}
 use Rattle.open_close.specs.Step.{takes, took_if, lease_in}
 use Rattle.lease_law.specs.Claims.{answered_by, stored_by}
 use Rattle.trace_replay.specs.Notes.{handle_asked}
-use Rattle.kept_promise.proofs.Common.{slice_get, Contains, Contains-push, Command, Answer, Done, Failed, Chunk, Hashes, Leased, Piece, Pending, Body, Broken, broken_of, State, local_bytes, Fetch, ReadCall, Store, StoreCall, Stage, Way, Names, Reads, BadPeer, ClientStep, is_here, is_stored, names_all, store_of, store_at, answered, read_at, with_hashes, with_bytes, fetch_of, listed, fault_in, other_version, tries_most, took, got_step, command_step, reads_if, lists_on, retries, told_shape, told_version, told_hashes, told_first, told_lease, uses_kept, misfits, told_bytes, told_chunk, told_piece, goes_if, told_temp, told_way, told_stored, told_whole, sends_whole, calls_of, idle, reads_all, reads_on, goes_on, Told, told_message, reply_body}
+use Rattle.kept_promise.proofs.Common.{slice_get, Contains, Contains-push, Command, Answer, Done, Failed, Chunk, Hashes, Leased, Piece, Pending, Body, Broken, broken_of, State, local_bytes, Fetch, ReadCall, Upload, UploadCall, Stage, Way, Names, Reads, BadPeer, ClientStep, is_here, is_stored, names_all, store_of, store_at, answered, read_at, with_hashes, with_bytes, fetch_of, listed, fault_in, other_version, tries_most, took, got_step, command_step, reads_if, lists_on, retries, told_shape, told_version, told_hashes, told_first, told_lease, uses_kept, misfits, told_bytes, told_chunk, told_piece, goes_if, told_temp, told_way, told_stored, told_whole, sends_whole, calls_of, idle, reads_all, reads_on, goes_on, Told, told_message, reply_body}
 use Rattle.kept_promise.proofs.Lists.{some_is, nothing_there}
 use Rattle.kept_promise.proofs.TreeWalks.{own_handle}
 use Rattle.kept_promise.proofs.Caches.{AddsNone, same_notes, reserved_notes, with_notes, unnoted_notes, set_found}
@@ -155,7 +155,7 @@ record NamesGo (next : ℕ) (n : Names) : Type 0 where
   pub plain : ArePlain n.send
   pub rises : next ≤ n.next_xid
 
-names_go : (lbfs : ℕ) (st : Store) (next : ℕ) → NamesGo next (names_all lbfs st next)
+names_go : (lbfs : ℕ) (st : Upload) (next : ℕ) → NamesGo next (names_all lbfs st next)
 names_go lbfs st next = names_keep lbfs (NamesGo next) step (calls_most - length st.under) (names_from st next) (record { plain = tt; rises = omega arith })
   where
     step : (n : Names) (c : Chunk) → NamesGo next n → slice_get n.store.chunks n.store.named ≡ Some c → NamesGo next (names_next lbfs n (Some c))
@@ -238,7 +238,7 @@ module _ (s : State) (calls : List Pending) (file xid : ℕ) where
 
   -- a close sends its COMMITTMP last
   module _ (small : file < 18446744073709551616) where
-    goes : (content : List ℕ) (st : Store) (stored : Bool) → StepPlain s (goes_if s file content (names_all s.lbfs st s.next_xid) stored) ⊎ StepCommit s (goes_if s file content (names_all s.lbfs st s.next_xid) stored)
+    goes : (content : List ℕ) (st : Upload) (stored : Bool) → StepPlain s (goes_if s file content (names_all s.lbfs st s.next_xid) stored) ⊎ StepCommit s (goes_if s file content (names_all s.lbfs st s.next_xid) stored)
     goes content st false = inl (goes_so s _ _ _ refl (same_notes s.cache) refl refl (names_go s.lbfs st s.next_xid).plain)
     goes content st true = inr (record {
       drift = refl;
@@ -255,32 +255,32 @@ module _ (s : State) (calls : List Pending) (file xid : ℕ) where
           (omega (arith, r, is_x), refl, subst (λ (n : ℕ). SendsLease ((names_all s.lbfs st s.next_xid).send ++ last ∷ []) n u.file) is_x (subst (λ (z : Task). SendsLease ((names_all s.lbfs st s.next_xid).send ++ last ∷ []) (names_all s.lbfs st s.next_xid).next_xid z.file) same asks)));
     })
 
-    goes_next : (content : List ℕ) (w : Store) → StepPlain s (goes_on s file content w) ⊎ StepCommit s (goes_on s file content w)
+    goes_next : (content : List ℕ) (w : Upload) → StepPlain s (goes_on s file content w) ⊎ StepCommit s (goes_on s file content w)
     goes_next content w = goes content w (is_stored (names_all s.lbfs w s.next_xid).store)
 
     temped : (temp : ℕ) (content : List ℕ) (a : Answer Unit Unit) → StepPlain s (told_temp s calls file xid temp content a) ⊎ StepCommit s (told_temp s calls file xid temp content a)
     temped temp content (Failed e u) = inl (ends_so s _ _ refl (same_notes s.cache) refl refl)
     temped temp content (Done u) = goes_next content (store_of temp content)
 
-    whole : (content : List ℕ) (w : Store) (c : StoreCall) (o : Option Chunk) → StepPlain s (sends_whole s file xid content w c o)
+    whole : (content : List ℕ) (w : Upload) (c : UploadCall) (o : Option Chunk) → StepPlain s (sends_whole s file xid content w c o)
     whole content w c None = ends_so s _ _ refl (same_notes s.cache) refl refl
     whole content w c (Some k) = goes_so s _ _ _ refl (same_notes s.cache) refl refl ((refl, refl), tt)
 
-    named : (content : List ℕ) (w : Store) (c : StoreCall) (a : Answer Unit Unit) (wants : Bool) → StepPlain s (named_if s calls file xid content w c a wants) ⊎ StepCommit s (named_if s calls file xid content w c a wants)
+    named : (content : List ℕ) (w : Upload) (c : UploadCall) (a : Answer Unit Unit) (wants : Bool) → StepPlain s (named_if s calls file xid content w c a wants) ⊎ StepCommit s (named_if s calls file xid content w c a wants)
     named content w c a true = inl (whole content w c (slice_get w.chunks c.index))
     named content w c (Done u) false = goes_next content w
     named content w c (Failed e u) false = inl (ends_so s _ _ refl (same_notes s.cache) refl refl)
 
-    wholly : (content : List ℕ) (w : Store) (a : Answer Unit Unit) → StepPlain s (told_whole s calls file xid content w a) ⊎ StepCommit s (told_whole s calls file xid content w a)
+    wholly : (content : List ℕ) (w : Upload) (a : Answer Unit Unit) → StepPlain s (told_whole s calls file xid content w a) ⊎ StepCommit s (told_whole s calls file xid content w a)
     wholly content w (Done u) = goes_next content w
     wholly content w (Failed e u) = inl (ends_so s _ _ refl (same_notes s.cache) refl refl)
 
-    on_way : (content : List ℕ) (w : Store) (c : StoreCall) (v : Way) (b : Body) → StepPlain s (told_way s calls file xid content w c v b) ⊎ StepCommit s (told_way s calls file xid content w c v b)
+    on_way : (content : List ℕ) (w : Upload) (c : UploadCall) (v : Way) (b : Body) → StepPlain s (told_way s calls file xid content w c v b) ⊎ StepCommit s (told_way s calls file xid content w c v b)
     on_way content w c way.Named (body.Lb (lb.CondWriteAnswer a)) = named content w c a (wants_bytes a)
     on_way content w c way.Whole (body.Lb (lb.TmpWriteAnswer a)) = wholly content w a
     on_way content w c v b = inl (ends_so s _ _ refl (same_notes s.cache) refl refl)
 
-    stored : (content : List ℕ) (w : Store) (b : Body) (o : Option StoreCall) → StepPlain s (told_stored s calls file xid content w b o) ⊎ StepCommit s (told_stored s calls file xid content w b o)
+    stored : (content : List ℕ) (w : Upload) (b : Body) (o : Option UploadCall) → StepPlain s (told_stored s calls file xid content w b o) ⊎ StepCommit s (told_stored s calls file xid content w b o)
     stored content w b None = inl (ends_so s _ _ refl (same_notes s.cache) refl refl)
     stored content w b (Some c) = on_way content (answered w xid) c c.way b
 

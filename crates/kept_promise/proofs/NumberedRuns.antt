@@ -6,7 +6,7 @@ use Rattle.client_state.specs.State as client
 use Rattle.trace_replay.specs.Numbered.{numbers_among, numbers_if, numbers_by, numbers_of, CountOn}
 use Rattle.client_state.specs.declared.task.Stage.{Stage}
 use Rattle.client_state.specs.declared.task.Stage.TheVariants as stage
-use Rattle.kept_promise.proofs.Common.{nat_tests, slice_get, Chunk, Command, Body, Message, Pending, WireFault, names_from, names_all, calls_most, reads_from, reads_chunk, command_step, got_step, idle, took, Reads, ClientStep, Fetch, Stage, Store, Opening, Word, word_of, calls_among, asked_in, Core, Seat, Session, Event, Event.Joins, Event.Does, Event.Hears, Event.Cuts, CoreStep, new_seat, new_session, joined, numbered, with_numbered, session_of, commanded_sessions, cut_session, is_newest, acted, does, joins, cuts_if, happens, Moment, Book, Queue, told_message}
+use Rattle.kept_promise.proofs.Common.{nat_tests, slice_get, Chunk, Command, Body, Message, Pending, WireFault, names_from, names_all, calls_most, reads_from, reads_chunk, command_step, got_step, idle, took, Reads, ClientStep, Fetch, Stage, Upload, Opening, Word, word_of, calls_among, asked_in, Core, Seat, Session, Event, Event.Joins, Event.Does, Event.Hears, Event.Cuts, CoreStep, new_seat, new_session, joined, numbered, with_numbered, session_of, commanded_sessions, cut_session, is_newest, acted, does, joins, cuts_if, happens, Moment, Book, Queue, told_message}
 use Rattle.kept_promise.proofs.Lists.{some_is, nothing_there, within as inside}
 use Rattle.kept_promise.proofs.Facts.{IsKept}
 use Rattle.kept_promise.proofs.SendsCalls.{number_calls}
@@ -56,7 +56,7 @@ reads_sent s file f = reads_keep (λ r. Sends s.next_xid r.next_xid r.send) s.ca
     by r c (Some bytes) h = h
     by r c None h = sends_more s.next_xid r.next_xid r.send _ h
 
-names_sent : (lbfs : ℕ) (w : Store) (next : ℕ) → Sends next (names_all lbfs w next).next_xid (names_all lbfs w next).send
+names_sent : (lbfs : ℕ) (w : Upload) (next : ℕ) → Sends next (names_all lbfs w next).next_xid (names_all lbfs w next).send
 names_sent lbfs w next = names_keep lbfs (λ n. Sends next n.next_xid n.send) (λ n c h at. sends_more next n.next_xid n.send _ h) (calls_most - length w.under) (names_from w next) (tt, omega arith)
 
 abbrev Numbers : client.State → client.State × ClientStep → Type 0

@@ -17,7 +17,7 @@ use Rattle.client_state.specs.State as client
 use Rattle.client_state.specs.declared.task.Stage.TheVariants as stage
 use Rattle.client_state.specs.declared.task.Way.TheVariants as way
 use Rattle.trace_replay.specs.Trail.{call_number}
-use Rattle.kept_promise.proofs.Common.{slice_get, ◌==◌, nat_lt, if◌then◌else◌, Chunk, Command, Answer, Done, Failed, Hashes, Piece, Body, Message, Pending, WireFault, names_from, names_next, names_more, names_all, is_stored, store_of, store_at, answered, calls_most, fetch_of, with_hashes, listed, reads_from, reads_more, reads_all, is_here, read_at, fault_in, other_version, with_bytes, Broken, broken_of, uses_kept, told_lease, closes, command_step, idle, reads_if, reads_on, lists_on, told_shape, told_version, told_hashes, told_first, retries, misfits, told_bytes, told_chunk, told_piece, goes_if, goes_on, told_temp, sends_whole, told_named, told_whole, told_way, told_stored, took, got_step, ends, Names, Reads, BadPeer, ClientStep, Fetch, ReadCall, Stage, Store, StoreCall, Way, Moment, calls_among, sent_if, calls_by, calls_from}
+use Rattle.kept_promise.proofs.Common.{slice_get, ◌==◌, nat_lt, if◌then◌else◌, Chunk, Command, Answer, Done, Failed, Hashes, Piece, Body, Message, Pending, WireFault, names_from, names_next, names_more, names_all, is_stored, store_of, store_at, answered, calls_most, fetch_of, with_hashes, listed, reads_from, reads_more, reads_all, is_here, read_at, fault_in, other_version, with_bytes, Broken, broken_of, uses_kept, told_lease, closes, command_step, idle, reads_if, reads_on, lists_on, told_shape, told_version, told_hashes, told_first, retries, misfits, told_bytes, told_chunk, told_piece, goes_if, goes_on, told_temp, sends_whole, told_named, told_whole, told_way, told_stored, took, got_step, ends, Names, Reads, BadPeer, ClientStep, Fetch, ReadCall, Stage, Upload, UploadCall, Way, Moment, calls_among, sent_if, calls_by, calls_from}
 use Rattle.path_calls.specs.declared.walk.Walk.{Walk}
 use Rattle.kept_promise.proofs.StepCases.{reads_keep, IsOfFile, walk_cases, got_cases, command_cases}
 use Rattle.file_open.specs.Rewriting.{told_anew}
@@ -112,7 +112,7 @@ piece_number : (s : client.State) (calls : List Pending) (file xid : ℕ) (f : F
 piece_number s calls file xid f piece None = omega arith
 piece_number s calls file xid f piece (Some c) = chunk_number s calls file xid f c piece (slice_get f.chunks c.index)
 
-goes_number : (s : client.State) (file : ℕ) (content : List ℕ) (st : Store) → Numbers s (goes_on s file content st)
+goes_number : (s : client.State) (file : ℕ) (content : List ℕ) (st : Upload) → Numbers s (goes_on s file content st)
 goes_number s file content st = by (is_stored (names_all s.lbfs st s.next_xid).store)
   where
     by : (b : Bool) → Numbers s (goes_if s file content (names_all s.lbfs st s.next_xid) b)
@@ -127,25 +127,25 @@ temp_number : (s : client.State) (calls : List Pending) (file xid temp : ℕ) (c
 temp_number s calls file xid temp content (Failed t u) = omega arith
 temp_number s calls file xid temp content (Done u) = goes_number s file content (store_of temp content)
 
-sends_number : (s : client.State) (file xid : ℕ) (content : List ℕ) (st : Store) (c : StoreCall) (o : Option Chunk) → Numbers s (sends_whole s file xid content st c o)
+sends_number : (s : client.State) (file xid : ℕ) (content : List ℕ) (st : Upload) (c : UploadCall) (o : Option Chunk) → Numbers s (sends_whole s file xid content st c o)
 sends_number s file xid content st c None = omega arith
 sends_number s file xid content st c (Some k) = refl
 
-named_number : (s : client.State) (calls : List Pending) (file xid : ℕ) (content : List ℕ) (st : Store) (c : StoreCall) (a : Answer Unit Unit) → Numbers s (told_named s calls file xid content st c a)
+named_number : (s : client.State) (calls : List Pending) (file xid : ℕ) (content : List ℕ) (st : Upload) (c : UploadCall) (a : Answer Unit Unit) → Numbers s (told_named s calls file xid content st c a)
 named_number s calls file xid content st c (Done u) = goes_number s file content st
 named_number s calls file xid content st c (Failed status.HashNotFound u) = sends_number s file xid content st c (slice_get st.chunks c.index)
 named_number s calls file xid content st c (Failed t u) = omega arith
 
-whole_number : (s : client.State) (calls : List Pending) (file xid : ℕ) (content : List ℕ) (st : Store) (a : Answer Unit Unit) → Numbers s (told_whole s calls file xid content st a)
+whole_number : (s : client.State) (calls : List Pending) (file xid : ℕ) (content : List ℕ) (st : Upload) (a : Answer Unit Unit) → Numbers s (told_whole s calls file xid content st a)
 whole_number s calls file xid content st (Failed t u) = omega arith
 whole_number s calls file xid content st (Done u) = goes_number s file content st
 
-way_number : (s : client.State) (calls : List Pending) (file xid : ℕ) (content : List ℕ) (st : Store) (c : StoreCall) (w : Way) (b : Body) → Numbers s (told_way s calls file xid content st c w b)
+way_number : (s : client.State) (calls : List Pending) (file xid : ℕ) (content : List ℕ) (st : Upload) (c : UploadCall) (w : Way) (b : Body) → Numbers s (told_way s calls file xid content st c w b)
 way_number s calls file xid content st c way.Named (body.Lb (lb.CondWriteAnswer a)) = named_number s calls file xid content st c a
 way_number s calls file xid content st c way.Whole (body.Lb (lb.TmpWriteAnswer a)) = whole_number s calls file xid content st a
 way_number s calls file xid content st c w b = omega arith
 
-stored_number : (s : client.State) (calls : List Pending) (file xid : ℕ) (content : List ℕ) (st : Store) (b : Body) (o : Option StoreCall) → Numbers s (told_stored s calls file xid content st b o)
+stored_number : (s : client.State) (calls : List Pending) (file xid : ℕ) (content : List ℕ) (st : Upload) (b : Body) (o : Option UploadCall) → Numbers s (told_stored s calls file xid content st b o)
 stored_number s calls file xid content st b None = omega arith
 stored_number s calls file xid content st b (Some c) = way_number s calls file xid content (answered st xid) c c.way b
 

@@ -2,7 +2,7 @@
 use Rattle.std.proofs.Common.{eqb-true, ◌⊎◌, inl, inr, ◌≡◌, ℕ, zero, suc, ◌<◌, ◌≤◌, List, [], ◌∷◌, ◌++◌, Option, Some, None, Bool, true, false, refl, sym, ap, ◌∙◌, subst, arith, eq-eqb, append-nil, map}
 use Rattle.client_state.specs.declared.task.Stage.TheVariants as stage
 use Rattle.register_model.specs.declared.op.Word.TheVariants as words
-use Rattle.kept_promise.proofs.Common.{slice_get, cond, ◌==◌, Pending, Program, Temp, Change, Failed, Stage, Store, StoreCall, Seat, unless, Book, Call, Call.Make, Call.Name, Call.Send, Call.Commit, Reply, Reply.Made, Reply.Named, Reply.Stored, Reply.Changed, Ask, Told, Queue, call_program, reply_program, Status}
+use Rattle.kept_promise.proofs.Common.{slice_get, cond, ◌==◌, Pending, Program, Temp, FileChange, Failed, Stage, Upload, UploadCall, Seat, unless, Book, Call, Call.Make, Call.Name, Call.Send, Call.Commit, Reply, Reply.Made, Reply.Named, Reply.Stored, Reply.Changed, Ask, Told, Queue, call_program, reply_program, Status}
 use Rattle.kept_promise.proofs.Lists.{some_is, nothing_there, all_at, all_in}
 use Rattle.kept_promise.proofs.Keys.{times, times_append, key, own, on_way, ask_key, told_key, change_key, pending_key, found_by, there_by, key_xid, wanted_program}
 use Rattle.kept_promise.proofs.Messages.{Job, job, stage_word, AllAsks, AllTolds}
@@ -53,7 +53,7 @@ keys_once x p (z ∷ calls) = by (pending_key z == key x p) refl (z.xid == x) re
     by false e false f h = h
 
 -- two messages with one xid are to one call, whose key is on its way twice
-one_key : (n : ℕ) (w : List Change) (q : Queue) (hung : Bool) (next : ℕ) (calls : List Pending) (x y : ℕ) (p r : Program) → IsBalanced n w q hung next calls → x ≡ y → 0 < times (key x p) (on_way n w q) → 0 < times (key y r) (on_way n w q) → (key x p ≡ key y r) × (times (key y r) (on_way n w q) ≤ 1)
+one_key : (n : ℕ) (w : List FileChange) (q : Queue) (hung : Bool) (next : ℕ) (calls : List Pending) (x y : ℕ) (p r : Program) → IsBalanced n w q hung next calls → x ≡ y → 0 < times (key x p) (on_way n w q) → 0 < times (key y r) (on_way n w q) → (key x p ≡ key y r) × (times (key y r) (on_way n w q) ≤ 1)
 one_key n w q hung next calls x y p r h same a b =
     let m1 = h.most (key x p) in
     let m2 = h.most (key y r) in
@@ -68,7 +68,7 @@ one_key n w q hung next calls x y p r h same a b =
     let o = h.once y in
     (sym f1.3 ∙ ap pending_key one ∙ f2.3, omega (arith, m2, few, o))
 
-pub up_apart : (n : ℕ) (w : List Change) (q : Queue) (hung : Bool) (next : ℕ) (calls : List Pending) (t : Told) (ts : List Told) (i : ℕ) (a : Ask) → IsBalanced n w q hung next calls → q.downs ≡ t ∷ ts → slice_get q.ups i ≡ Some a → a.xid ≡ t.xid → ⊥
+pub up_apart : (n : ℕ) (w : List FileChange) (q : Queue) (hung : Bool) (next : ℕ) (calls : List Pending) (t : Told) (ts : List Told) (i : ℕ) (a : Ask) → IsBalanced n w q hung next calls → q.downs ≡ t ∷ ts → slice_get q.ups i ≡ Some a → a.xid ≡ t.xid → ⊥
 up_apart n w q hung next calls t ts i a h first at same =
     let up = there_by ask_key q.ups i a at in
     let down = there_by told_key q.downs 0 t (ap (λ (l : List Told). slice_get l 0) first) in
@@ -81,7 +81,7 @@ up_apart n w q hung next calls t ts i a h first at same =
     omega (arith, moved, down, s2, s3, few)
 
 -- no call that is on its way up was answered
-pub up_untold : (n : ℕ) (w : List Change) (q : Queue) (hung : Bool) (next : ℕ) (calls : List Pending) (i j : ℕ) (a : Ask) (u : Told) → IsBalanced n w q hung next calls → slice_get q.ups i ≡ Some a → slice_get q.downs j ≡ Some u → a.xid ≡ u.xid → ⊥
+pub up_untold : (n : ℕ) (w : List FileChange) (q : Queue) (hung : Bool) (next : ℕ) (calls : List Pending) (i j : ℕ) (a : Ask) (u : Told) → IsBalanced n w q hung next calls → slice_get q.ups i ≡ Some a → slice_get q.downs j ≡ Some u → a.xid ≡ u.xid → ⊥
 up_untold n w q hung next calls i j a u h at told same =
     let up = there_by ask_key q.ups i a at in
     let down = there_by told_key q.downs j u told in
@@ -93,8 +93,8 @@ up_untold n w q hung next calls i j a u h at told same =
     let few = k.1 in
     omega (arith, moved, down, s2, s3, few)
 
--- nor was a change that waits
-pub waits_untold : (n : ℕ) (w : List Change) (q : Queue) (hung : Bool) (next : ℕ) (calls : List Pending) (i j : ℕ) (c : Change) (u : Told) → IsBalanced n w q hung next calls → slice_get (own n w) i ≡ Some c → slice_get q.downs j ≡ Some u → c.xid ≡ u.xid → ⊥
+-- nor was a pending change
+pub waits_untold : (n : ℕ) (w : List FileChange) (q : Queue) (hung : Bool) (next : ℕ) (calls : List Pending) (i j : ℕ) (c : FileChange) (u : Told) → IsBalanced n w q hung next calls → slice_get (own n w) i ≡ Some c → slice_get q.downs j ≡ Some u → c.xid ≡ u.xid → ⊥
 waits_untold n w q hung next calls i j c u h at told same =
     let wait = there_by change_key (own n w) i c at in
     let down = there_by told_key q.downs j u told in
@@ -107,7 +107,7 @@ waits_untold n w q hung next calls i j c u h at told same =
     let few = k.1 in
     omega (arith, moved, down, s2, s3, few)
 
-pub down_apart : (n : ℕ) (w : List Change) (q : Queue) (hung : Bool) (next : ℕ) (calls : List Pending) (t : Told) (ts : List Told) (i : ℕ) (u : Told) → IsBalanced n w q hung next calls → q.downs ≡ t ∷ ts → slice_get ts i ≡ Some u → u.xid ≡ t.xid → ⊥
+pub down_apart : (n : ℕ) (w : List FileChange) (q : Queue) (hung : Bool) (next : ℕ) (calls : List Pending) (t : Told) (ts : List Told) (i : ℕ) (u : Told) → IsBalanced n w q hung next calls → q.downs ≡ t ∷ ts → slice_get ts i ≡ Some u → u.xid ≡ t.xid → ⊥
 down_apart n w q hung next calls t ts i u h first at same =
     let there = there_by told_key ts i u at in
     let down = there_by told_key q.downs 0 t (ap (λ (l : List Told). slice_get l 0) first) in
@@ -125,7 +125,7 @@ down_apart n w q hung next calls t ts i u h first at same =
     omega (arith, moved, s2, s3, few, split, head, own_one)
 
 -- no two answers are to one call
-pub answers_apart : (n : ℕ) (w : List Change) (q : Queue) (hung : Bool) (next : ℕ) (calls : List Pending) (i j : ℕ) (t u : Told) → IsBalanced n w q hung next calls → slice_get q.downs i ≡ Some t → slice_get q.downs j ≡ Some u → t.xid ≡ u.xid → i ≡ j
+pub answers_apart : (n : ℕ) (w : List FileChange) (q : Queue) (hung : Bool) (next : ℕ) (calls : List Pending) (i j : ℕ) (t u : Told) → IsBalanced n w q hung next calls → slice_get q.downs i ≡ Some t → slice_get q.downs j ≡ Some u → t.xid ≡ u.xid → i ≡ j
 answers_apart n w q hung next calls i j t u h a b same =
     let one = there_by told_key q.downs i t a in
     let two = there_by told_key q.downs j u b in
@@ -161,7 +161,7 @@ other_reply book j x y (Changed (Failed s u)) w apart h = apart (sym (subst (λ 
 other_reply book j x y _ w apart h = tt
 
 -- its answer was taken: nothing else of a close is on its way
-pub others_fetch : (book : Book) (n : ℕ) (temps : List (ℕ × Temp)) (w : List Change) (q : Queue) (hung : Bool) (next : ℕ) (calls : List Pending) (t : Told) (ts : List Told) (seat : Seat) (j : Job) → IsBalanced n w q hung next calls → q.downs ≡ t ∷ ts → job seat ≡ Some j → WaitsFor j.stage t.xid → Orderly book n temps hung q seat
+pub others_fetch : (book : Book) (n : ℕ) (temps : List (ℕ × Temp)) (w : List FileChange) (q : Queue) (hung : Bool) (next : ℕ) (calls : List Pending) (t : Told) (ts : List Told) (seat : Seat) (j : Job) → IsBalanced n w q hung next calls → q.downs ≡ t ∷ ts → job seat ≡ Some j → WaitsFor j.stage t.xid → Orderly book n temps hung q seat
     → AllFetching q.ups × AllFetched ts
 others_fetch book n temps w q hung next calls t ts seat j b first is waits h = (
   all_at (λ (a : Ask). IsFetching a.call) q.ups (λ i a at. other_call j (locals_of seat.client) t.xid a.xid a.call waits (λ e. up_apart n w q hung next calls t ts i a b first at e) (all_in (IsInPlace (Some j) (locals_of seat.client)) q.ups i a (subst (λ (o : Option Job). AllAsks (IsInPlace o (locals_of seat.client)) q.ups) is h.asks) at)),
@@ -197,7 +197,7 @@ known_else : (t : Told) (ts : List Told) (y : ℕ) → (y ≡ t.xid → ⊥) →
 known_else t ts y apart (zero, e) = absurd (apart (sym (ap (λ (z : Told). z.xid) (some_is t _ e))))
 known_else t ts y apart (suc i, e) = (i, e)
 
-holds_dropped : (v : List ℕ) (us : List Ask) (t : Told) (ts : List Told) (st : Store) (ps : List (ℕ × List ℕ)) → ((k : ℕ) (u : StoreCall) → slice_get st.under k ≡ Some u → u.xid ≡ t.xid → ⊥) → Holds v us (t ∷ ts) st ps → Holds v us ts st ps
+holds_dropped : (v : List ℕ) (us : List Ask) (t : Told) (ts : List Told) (st : Upload) (ps : List (ℕ × List ℕ)) → ((k : ℕ) (u : UploadCall) → slice_get st.under k ≡ Some u → u.xid ≡ t.xid → ⊥) → Holds v us (t ∷ ts) st ps → Holds v us ts st ps
 holds_dropped v us t ts st ps none h = record {
   has = h.has;
   pieces_is = h.pieces_is;
@@ -216,7 +216,7 @@ refused_else t ts y apart (suc i, s, u, e) = (i, s, u, e)
 
 -- no call of the close under way has this xid, for a temporary file or of its store
 abbrev pub IsElse : Option Job → (xid : ℕ) → Type 0
-IsElse job x = ((j : Job) (st : Store) (k : ℕ) (u : StoreCall) → job ≡ Some j → j.stage ≡ stage.Storing st → slice_get st.under k ≡ Some u → u.xid ≡ x → ⊥) × ((j : Job) (y m : ℕ) → job ≡ Some j → j.stage ≡ stage.Making y m → y ≡ x → ⊥)
+IsElse job x = ((j : Job) (st : Upload) (k : ℕ) (u : UploadCall) → job ≡ Some j → j.stage ≡ stage.Storing st → slice_get st.under k ≡ Some u → u.xid ≡ x → ⊥) × ((j : Job) (y m : ℕ) → job ≡ Some j → j.stage ≡ stage.Making y m → y ≡ x → ⊥)
 
 held_dropped : (temps : List (ℕ × Temp)) (n : ℕ) (us : List Ask) (t : Told) (ts : List Told) (v : ℕ → List ℕ) (job : Option Job) → IsElse job t.xid → Held temps n us (t ∷ ts) v job → Held temps n us ts v job
 held_dropped temps n us t ts v None none h = h
@@ -263,7 +263,7 @@ ends_wait j t (inl e) = open_waits j.stage t.xid e
 ends_wait j t (inr (inl e)) = subst (λ (s : Stage). WaitsFor s t.xid) (sym e) refl
 ends_wait j t (inr (inr e)) = subst (λ (s : Stage). WaitsFor s t.xid) (sym e.3) refl
 
-pub orderly_ends : (book more : Book) (n : ℕ) (temps : List (ℕ × Temp)) (w : List Change) (q : Queue) (hung : Bool) (next : ℕ) (calls : List Pending) (t : Told) (ts : List Told) (seat d : Seat) (j : Job) (asks : List Ask) → IsBalanced n w q hung next calls → q.downs ≡ t ∷ ts → job seat ≡ Some j → EndsAt j t → Orderly book n temps hung q seat → CloseFree (job d) → AllFetching asks
+pub orderly_ends : (book more : Book) (n : ℕ) (temps : List (ℕ × Temp)) (w : List FileChange) (q : Queue) (hung : Bool) (next : ℕ) (calls : List Pending) (t : Told) (ts : List Told) (seat d : Seat) (j : Job) (asks : List Ask) → IsBalanced n w q hung next calls → q.downs ≡ t ∷ ts → job seat ≡ Some j → EndsAt j t → Orderly book n temps hung q seat → CloseFree (job d) → AllFetching asks
     → Orderly more n temps hung (record { ups = unless hung q.ups asks; downs = ts }) d
 orderly_ends book more n temps w q hung next calls t ts seat d j asks b first is over h free fetch =
     let o = others_fetch book n temps w q hung next calls t ts seat j b first is (ends_wait j t over) h in

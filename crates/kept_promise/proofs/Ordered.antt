@@ -3,7 +3,7 @@ use Rattle.std.proofs.Common.{inl, inr, ◌≡◌, ℕ, zero, suc, ◌<◌, ◌�
 use Rattle.client_state.specs.declared.task.Stage.TheVariants as stage
 use Rattle.register_model.specs.declared.op.Word.TheVariants as words
 use Rattle.trace_replay.specs.OwnCalls.{WaitsFor}
-use Rattle.kept_promise.proofs.Common.{changes, Done, Failed, Temp, temp_at, is_full, Stage, Store, Op, Seat, unless, Book, step_of, Call, Call.Lease, Call.Hash, Call.Read, Call.Make, Call.Name, Call.Send, Call.Commit, Reply, Reply.Versioned, Reply.Hashed, Reply.Bytes, Reply.Made, Reply.Named, Reply.Stored, Reply.Changed, Ask, Told, Queue, Call.Walks, Reply.Walked, Status, value_at}
+use Rattle.kept_promise.proofs.Common.{changes, Done, Failed, Temp, temp_at, is_full, Stage, Upload, Op, Seat, unless, Book, step_of, Call, Call.Lease, Call.Hash, Call.Read, Call.Make, Call.Name, Call.Send, Call.Commit, Reply, Reply.Versioned, Reply.Hashed, Reply.Bytes, Reply.Made, Reply.Named, Reply.Stored, Reply.Changed, Ask, Told, Queue, Call.Walks, Reply.Walked, Status, value_at}
 use Rattle.kept_promise.proofs.Lists.{some_is, nothing_there, at_end, of_appended, in_front, all_unless}
 use Rattle.kept_promise.proofs.Messages.{Job, job, stage_word, AllAsks, AllTolds}
 use Rattle.kept_promise.proofs.Growth.{Grows, there_later, value_later, Follows}
@@ -236,7 +236,7 @@ refused_more ts more x d = (d.0, d.1, d.2, in_front ts more d.0 (record { xid = 
 pub known_more : (ts more : List Told) (x : ℕ) → DownKnown ts x → DownKnown (ts ++ more) x
 known_more ts more x k = (k.0, in_front ts more k.0 (record { xid = x; reply = known_reply }) k.1)
 
-pub holds_told : (v : List ℕ) (us : List Ask) (ts : List Told) (st : Store) (ps : List (ℕ × List ℕ)) (t : Told) → TellsNone t.reply → Holds v us ts st ps → Holds v us (ts ++ t ∷ []) st ps
+pub holds_told : (v : List ℕ) (us : List Ask) (ts : List Told) (st : Upload) (ps : List (ℕ × List ℕ)) (t : Told) → TellsNone t.reply → Holds v us ts st ps → Holds v us (ts ++ t ∷ []) st ps
 holds_told v us ts st ps t none h = record {
   has = h.has;
   pieces_is = h.pieces_is;
@@ -293,7 +293,7 @@ commit_rest a us x plain (zero, m, f, s, v, e) = absurd (subst (λ (b : Ask). Is
 commit_rest a us x plain (suc i, m, f, s, v, e) = (i, m, f, s, v, e)
 
 -- no bytes are among them
-holds_rest : (v : List ℕ) (a : Ask) (us : List Ask) (ts : List Told) (st : Store) (ps : List (ℕ × List ℕ)) → IsQuietCall a.call → Holds v (a ∷ us) ts st ps → Holds v us ts st ps
+holds_rest : (v : List ℕ) (a : Ask) (us : List Ask) (ts : List Told) (st : Upload) (ps : List (ℕ × List ℕ)) → IsQuietCall a.call → Holds v (a ∷ us) ts st ps → Holds v us ts st ps
 holds_rest v a us ts st ps plain h = record {
   has = h.has;
   pieces_is = h.pieces_is;

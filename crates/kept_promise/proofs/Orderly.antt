@@ -11,7 +11,7 @@ use Rattle.trace_replay.specs.OwnCalls.{WaitsFor}
 use Rattle.client_state.specs.declared.task.Stage.TheVariants as stage
 use Rattle.client_state.specs.declared.task.Way.TheVariants as way
 use Rattle.register_model.specs.declared.op.Word.TheVariants as words
-use Rattle.kept_promise.proofs.Common.{slice_get, Contains, chunks_of, chunk_bytes, Chunk, Done, Failed, parse_of, is_full, Temp, store_at, Stage, Store, StoreCall, Way, Op, Seat, Event.Serves, server_waiting, Moment, step_of, Book, Call, Call.Make, Call.Name, Call.Send, Call.Commit, Reply, Reply.Made, Reply.Named, Reply.Stored, Reply.Changed, Ask, Told, Queue, Answer, Status, value_at}
+use Rattle.kept_promise.proofs.Common.{slice_get, Contains, chunks_of, chunk_bytes, Chunk, Done, Failed, parse_of, is_full, Temp, store_at, Stage, Upload, UploadCall, Way, Op, Seat, Event.Serves, server_waiting, Moment, step_of, Book, Call, Call.Make, Call.Name, Call.Send, Call.Commit, Reply, Reply.Made, Reply.Named, Reply.Stored, Reply.Changed, Ask, Told, Queue, Answer, Status, value_at}
 use Rattle.kept_promise.proofs.Statements.{PiecesOf, SameShape}
 use Rattle.kept_promise.proofs.Messages.{Job, job, stage_word, AllAsks, AllTolds}
 use Rattle.kept_promise.proofs.Shelf.{NoTemp, OneTemp}
@@ -23,9 +23,9 @@ use Rattle.kept_promise.proofs.Rights.{WasThere}
 pub record IsStore (job : Option Job) (xid : ℕ) (w : Way) : Type 0 where
   pub of : Job
   pub is : job ≡ Some of
-  pub store : Store
+  pub store : Upload
   pub at : of.stage ≡ stage.Storing store
-  pub call : StoreCall
+  pub call : UploadCall
   pub found : store_at store.under xid ≡ Some call
   pub way : call.way ≡ w
 
@@ -116,17 +116,17 @@ DownRefused ts x = (i : ℕ) × (s : Status) × (u : Unit {0}) × (slice_get ts 
 
 -- The pieces have the places and lengths of the chunks whose bytes the server took, or knew: all that were named, but those whose name is under way and
 -- not known yet, or whose bytes are on their way up.
-pub record Holds (v : List ℕ) (us : List Ask) (ts : List Told) (st : Store) (pieces : List (ℕ × List ℕ)) : Type 0 where
+pub record Holds (v : List ℕ) (us : List Ask) (ts : List Told) (st : Upload) (pieces : List (ℕ × List ℕ)) : Type 0 where
   pub has : Chunk → Bool
   pub pieces_is : SameShape pieces (PiecesOf v has (chunks_of v))
   pub later : (i : ℕ) (c : Chunk) → slice_get (chunks_of v) i ≡ Some c → st.named ≤ i → has c ≡ false
-  pub done : (i : ℕ) (c : Chunk) → slice_get (chunks_of v) i ≡ Some c → i < st.named → ((k : ℕ) (u : StoreCall) → slice_get st.under k ≡ Some u → u.index ≡ i → ⊥) → has c ≡ true
-  pub by_name : (k : ℕ) (u : StoreCall) (c : Chunk) → slice_get st.under k ≡ Some u → u.way ≡ way.Named → (DownKnown ts u.xid → ⊥) → slice_get (chunks_of v) u.index ≡ Some c → has c ≡ false
-  pub known : (k : ℕ) (u : StoreCall) (c : Chunk) → slice_get st.under k ≡ Some u → u.way ≡ way.Named → DownKnown ts u.xid → slice_get (chunks_of v) u.index ≡ Some c → has c ≡ true
-  pub up : (k : ℕ) (u : StoreCall) (c : Chunk) → slice_get st.under k ≡ Some u → UpSend us u.xid → slice_get (chunks_of v) u.index ≡ Some c → has c ≡ false
-  pub taken : (k : ℕ) (u : StoreCall) (c : Chunk) → slice_get st.under k ≡ Some u → u.way ≡ way.Whole → (UpSend us u.xid → ⊥) → slice_get (chunks_of v) u.index ≡ Some c → has c ≡ true
+  pub done : (i : ℕ) (c : Chunk) → slice_get (chunks_of v) i ≡ Some c → i < st.named → ((k : ℕ) (u : UploadCall) → slice_get st.under k ≡ Some u → u.index ≡ i → ⊥) → has c ≡ true
+  pub by_name : (k : ℕ) (u : UploadCall) (c : Chunk) → slice_get st.under k ≡ Some u → u.way ≡ way.Named → (DownKnown ts u.xid → ⊥) → slice_get (chunks_of v) u.index ≡ Some c → has c ≡ false
+  pub known : (k : ℕ) (u : UploadCall) (c : Chunk) → slice_get st.under k ≡ Some u → u.way ≡ way.Named → DownKnown ts u.xid → slice_get (chunks_of v) u.index ≡ Some c → has c ≡ true
+  pub up : (k : ℕ) (u : UploadCall) (c : Chunk) → slice_get st.under k ≡ Some u → UpSend us u.xid → slice_get (chunks_of v) u.index ≡ Some c → has c ≡ false
+  pub taken : (k : ℕ) (u : UploadCall) (c : Chunk) → slice_get st.under k ≡ Some u → u.way ≡ way.Whole → (UpSend us u.xid → ⊥) → slice_get (chunks_of v) u.index ≡ Some c → has c ≡ true
   -- each chunk is under way once
-  pub apart : (k m : ℕ) (u w : StoreCall) → slice_get st.under k ≡ Some u → slice_get st.under m ≡ Some w → u.index ≡ w.index → u ≡ w
+  pub apart : (k m : ℕ) (u w : UploadCall) → slice_get st.under k ≡ Some u → slice_get st.under m ≡ Some w → u.index ≡ w.index → u ≡ w
 
 abbrev pub HeldIn : List (ℕ × Temp) → (n : ℕ) → List Ask → List Told → (v : List ℕ) → Stage → Type 0
 HeldIn temps n us ts v (stage.Making x m) = (UpMake us x → NoTemp temps n) × ((UpMake us x → ⊥) → (DownRefused ts x → ⊥) → (t : Temp) × OneTemp temps n m t × (t.pieces ≡ [])) × (DownRefused ts x → NoTemp temps n)

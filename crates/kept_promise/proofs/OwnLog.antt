@@ -10,7 +10,7 @@ use Rattle.client_state.specs.declared.task.Stage.TheVariants as stage
 use Rattle.register_model.specs.declared.op.Word.TheVariants as words
 use Rattle.trace_replay.specs.Traffic.{IsFetchCall, IsVersionCall, IsStoreCall, bytes_in, IsOwnCall, AreOwn, named_by, named_in}
 use Rattle.register_model.specs.declared.op.Outcome.{Outcome as History}
-use Rattle.kept_promise.proofs.Common.{chunks_of, Chunk, Body, Message, Pending, lease_call, hash_call, cond_call, commit_call, names_from, names_all, calls_most, read_call, reads_from, reads_chunk, with_hashes, idle, forgets, tries_anew, lists_on, reads_if, goes_if, sends_whole, took, Reads, ClientStep, Ended, Fetch, Stage, Store, Task, Op, Word, TakenCall, op_after, no_traffic, Moment, Deal, Deal.Took, Deal.Found, Deal.Sent, deals_with, deals_of, CountsOwn, first_number, Book}
+use Rattle.kept_promise.proofs.Common.{chunks_of, Chunk, Body, Message, Pending, lease_call, hash_call, cond_call, commit_call, names_from, names_all, calls_most, read_call, reads_from, reads_chunk, with_hashes, idle, forgets, tries_anew, lists_on, reads_if, goes_if, sends_whole, took, Reads, ClientStep, Ended, Fetch, Stage, Upload, Task, Op, Word, TakenCall, op_after, no_traffic, Moment, Deal, Deal.Took, Deal.Found, Deal.Sent, deals_with, deals_of, CountsOwn, first_number, Book}
 use Rattle.kept_promise.proofs.Lists.{some_is, nothing_there}
 use Rattle.kept_promise.proofs.Messages.{Job, stage_word}
 use Rattle.kept_promise.proofs.Counted.{traffic_is}
@@ -110,7 +110,7 @@ reads_own s file v f = reads_keep (λ r. AreOwn words.Open file v (map Sent r.se
     by r c h None = subst (AreOwn words.Open file v) (sym (sent_more r.send (read_call r.next_xid file c))) (own_join words.Open file v (map Sent r.send) (Sent (read_call r.next_xid file c) ∷ []) h (refl, tt))
     by r c h (Some bytes) = h
 
-pub names_own : (lbfs : ℕ) (file : ℕ) (v : List ℕ) (w : Store) (next : ℕ) → AreOwn words.Close file v (map Sent (names_all lbfs w next).send) × ((names_all lbfs w next).store.chunks ≡ w.chunks)
+pub names_own : (lbfs : ℕ) (file : ℕ) (v : List ℕ) (w : Upload) (next : ℕ) → AreOwn words.Close file v (map Sent (names_all lbfs w next).send) × ((names_all lbfs w next).store.chunks ≡ w.chunks)
 names_own lbfs file v w next = names_keep lbfs (λ n. AreOwn words.Close file v (map Sent n.send) × (n.store.chunks ≡ w.chunks)) (λ n c h at. (subst (AreOwn words.Close file v) (sym (sent_more n.send (cond_call lbfs n.next_xid n.store.temp c))) (own_join words.Close file v (map Sent n.send) (Sent (cond_call lbfs n.next_xid n.store.temp c) ∷ []) h.0 (tt, tt)), h.1)) (calls_most - length w.under) (names_from w next) (tt, refl)
 
 -- ---- an answer
@@ -119,9 +119,9 @@ names_own lbfs file v w next = names_keep lbfs (λ n. AreOwn words.Close file v 
 abbrev pub Sends : (w : Word) (file : ℕ) (v : List ℕ) → client.State × ClientStep → Type 0
 Sends w file v r = ((u : Task) → r.1.ended ≡ None → r.0.task ≡ Some u → (stage_word u.stage ≡ w) × StageChunks u.stage v) × AreOwn w file v (map Sent r.1.send)
 
-store_is : (st : Stage) (x : ℕ) (v content : List ℕ) (w : Store) → StoreIn st x content w → StageChunks st v → (stage_word st ≡ words.Close → v ≡ content) → (stage_word st ≡ words.Close) × (v ≡ content) × (w.chunks ≡ chunks_of v)
-store_is st x v content w (inl (y, temp, is, e)) h same = let close = ap stage_word is in let v_is = same close in (close, v_is, ap (λ (z : Store). z.chunks) e ∙ ap chunks_of (sym v_is))
-store_is st x v content w (inr (old, is, e)) h same = let close = ap stage_word is in (close, same close, ap (λ (z : Store). z.chunks) e ∙ subst (λ (t : Stage). StageChunks t v) is h)
+store_is : (st : Stage) (x : ℕ) (v content : List ℕ) (w : Upload) → StoreIn st x content w → StageChunks st v → (stage_word st ≡ words.Close → v ≡ content) → (stage_word st ≡ words.Close) × (v ≡ content) × (w.chunks ≡ chunks_of v)
+store_is st x v content w (inl (y, temp, is, e)) h same = let close = ap stage_word is in let v_is = same close in (close, v_is, ap (λ (z : Upload). z.chunks) e ∙ ap chunks_of (sym v_is))
+store_is st x v content w (inr (old, is, e)) h same = let close = ap stage_word is in (close, same close, ap (λ (z : Upload). z.chunks) e ∙ subst (λ (t : Stage). StageChunks t v) is h)
 
 pub sends_cases : (s : client.State) (calls : List Pending) (file : ℕ) (v : List ℕ) (st : Stage) (x : ℕ) (b : Body) → StageChunks st v → (stage_word st ≡ words.Close → v ≡ client.local_bytes s.opened file) → Cases (λ found r. Sends (stage_word st) file v r) s calls file st x b
 sends_cases s calls file v st x b h same = record {

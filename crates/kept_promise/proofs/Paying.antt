@@ -7,7 +7,7 @@ use Rattle.wire.specs.declared.message.Message.TheVariants as message
 use Rattle.client_state.specs.declared.task.Way.TheVariants as way
 use Rattle.trace_replay.specs.Traffic.{unknown_number, unknown_in}
 use Rattle.trace_replay.specs.Owing.{Owing, asked_at, without_asked, owed_by, owing_with, owing_from, Pays, Answers, PaysAll}
-use Rattle.kept_promise.proofs.Common.{Deal.Sent, ◌==◌, not, cond, slice_get, Chunk, Failed, Body, Message, temp_call, without_store, store_at, StoreCall, Way, Deal, Deal.Took}
+use Rattle.kept_promise.proofs.Common.{Deal.Sent, ◌==◌, not, cond, slice_get, Chunk, Failed, Body, Message, temp_call, without_store, store_at, UploadCall, Way, Deal, Deal.Took}
 use Rattle.kept_promise.proofs.Lists.{some_is, nothing_there}
 use Rattle.kept_promise.proofs.StepCases.{IsUnknown}
 use Rattle.kept_promise.proofs.LogSums.{whole_number, whole_in}
@@ -55,11 +55,11 @@ asked_if way.Named x (Some c) = (x, c) ∷ []
 asked_if way.Named x None = []
 asked_if way.Whole x o = []
 
-abbrev pub asked_of : List Chunk → List StoreCall → List (ℕ × Chunk)
+abbrev pub asked_of : List Chunk → List UploadCall → List (ℕ × Chunk)
 asked_of cs [] = []
 asked_of cs (u ∷ us) = asked_if u.way u.xid (slice_get cs u.index) ++ asked_of cs us
 
-of_join : (cs : List Chunk) (us vs : List StoreCall) → asked_of cs (us ++ vs) ≡ asked_of cs us ++ asked_of cs vs
+of_join : (cs : List Chunk) (us vs : List UploadCall) → asked_of cs (us ++ vs) ≡ asked_of cs us ++ asked_of cs vs
 of_join cs [] vs = refl
 of_join cs (u ∷ us) vs = ap (λ l. asked_if u.way u.xid (slice_get cs u.index) ++ l) (of_join cs us vs) ∙ sym (appended (asked_if u.way u.xid (slice_get cs u.index)) (asked_of cs us) (asked_of cs vs))
   where
@@ -68,10 +68,10 @@ of_join cs (u ∷ us) vs = ap (λ l. asked_if u.way u.xid (slice_get cs u.index)
     appended (x ∷ xs) ys zs = ap (λ l. x ∷ l) (appended xs ys zs)
 
 -- one more is named, or sent whole
-pub asked_more : (cs : List Chunk) (us : List StoreCall) (x i : ℕ) (c : Chunk) → slice_get cs i ≡ Some c → asked_of cs (us ++ record { xid = x; index = i; way = way.Named } ∷ []) ≡ asked_of cs us ++ (x, c) ∷ []
+pub asked_more : (cs : List Chunk) (us : List UploadCall) (x i : ℕ) (c : Chunk) → slice_get cs i ≡ Some c → asked_of cs (us ++ record { xid = x; index = i; way = way.Named } ∷ []) ≡ asked_of cs us ++ (x, c) ∷ []
 asked_more cs us x i c at = of_join cs us (record { xid = x; index = i; way = way.Named } ∷ []) ∙ ap (λ o. asked_of cs us ++ (asked_if way.Named x o ++ [])) at
 
-pub asked_whole : (cs : List Chunk) (us : List StoreCall) (x i : ℕ) → asked_of cs (us ++ record { xid = x; index = i; way = way.Whole } ∷ []) ≡ asked_of cs us
+pub asked_whole : (cs : List Chunk) (us : List UploadCall) (x i : ℕ) → asked_of cs (us ++ record { xid = x; index = i; way = way.Whole } ∷ []) ≡ asked_of cs us
 asked_whole cs us x i = of_join cs us (record { xid = x; index = i; way = way.Whole } ∷ []) ∙ append-nil (asked_of cs us)
 
 without_join : (ps qs : List (ℕ × Chunk)) (x : ℕ) → without_asked (ps ++ qs) x ≡ without_asked ps x ++ without_asked qs x
@@ -83,7 +83,7 @@ without_join (p ∷ ps) qs x = by (not (p.0 == x)) (without_join ps qs x)
     by false h = h
 
 -- one is answered
-pub asked_without : (cs : List Chunk) (us : List StoreCall) (x : ℕ) → without_asked (asked_of cs us) x ≡ asked_of cs (without_store us x)
+pub asked_without : (cs : List Chunk) (us : List UploadCall) (x : ℕ) → without_asked (asked_of cs us) x ≡ asked_of cs (without_store us x)
 asked_without cs [] x = refl
 asked_without cs (u ∷ us) x = without_join (asked_if u.way u.xid (slice_get cs u.index)) (asked_of cs us) x ∙ by (u.xid == x) u.way (slice_get cs u.index) refl (asked_without cs us x)
   where
@@ -99,7 +99,7 @@ asked_without cs (u ∷ us) x = without_join (asked_if u.way u.xid (slice_get cs
     by false w o e later = ap (λ l. l ++ without_asked (asked_of cs us) x) (one u.way (slice_get cs u.index) false e) ∙ ap (λ l. asked_if u.way u.xid (slice_get cs u.index) ++ l) later
 
 -- the chunk of the one with an xid
-pub asked_found : (cs : List Chunk) (us : List StoreCall) (x : ℕ) (c : StoreCall) (k : Chunk) → store_at us x ≡ Some c → c.way ≡ way.Named → slice_get cs c.index ≡ Some k → asked_at (asked_of cs us) x ≡ Some k
+pub asked_found : (cs : List Chunk) (us : List UploadCall) (x : ℕ) (c : UploadCall) (k : Chunk) → store_at us x ≡ Some c → c.way ≡ way.Named → slice_get cs c.index ≡ Some k → asked_at (asked_of cs us) x ≡ Some k
 asked_found cs [] x c k at named chunk = nothing_there c at
 asked_found cs (u ∷ us) x c k at named chunk = by (u.xid == x) refl at (λ later. asked_found cs us x c k later named chunk)
   where
@@ -112,7 +112,7 @@ asked_found cs (u ∷ us) x c k at named chunk = by (u.xid == x) refl at (λ lat
     this w o is there e = ap (λ z. asked_at (asked_if z u.xid o ++ asked_of cs us) x) is ∙ ap (λ z. asked_at (asked_if way.Named u.xid z ++ asked_of cs us) x) there ∙ ap (λ b. cond b (Some k) (asked_at (asked_of cs us) x)) e
 
     by : (b : Bool) → (u.xid == x) ≡ b → cond b (Some u) (store_at us x) ≡ Some c → (store_at us x ≡ Some c → asked_at (asked_of cs us) x ≡ Some k) → asked_at (asked_of cs (u ∷ us)) x ≡ Some k
-    by true e is later = let same : u ≡ c = some_is u c is in this u.way (slice_get cs u.index) (ap (λ (z : StoreCall). z.way) same ∙ named) (ap (λ (z : StoreCall). slice_get cs z.index) same ∙ chunk) e
+    by true e is later = let same : u ≡ c = some_is u c is in this u.way (slice_get cs u.index) (ap (λ (z : UploadCall). z.way) same ∙ named) (ap (λ (z : UploadCall). slice_get cs z.index) same ∙ chunk) e
     by false e is later = other u.way (slice_get cs u.index) e ∙ later is
 
 -- ---- an answer comes

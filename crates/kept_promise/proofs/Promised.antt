@@ -13,7 +13,7 @@ use Rattle.register_model.specs.declared.op.Outcome.TheVariants as told
 use Rattle.register_model.specs.declared.op.Word.TheVariants as words
 use Rattle.trace_replay.specs.Book.{AreApart}
 use Rattle.trace_replay.specs.Traces.{IsWanted, HasTarget, HoldsValues, HoldsFile, HoldsFiles, HoldsContents, HoldsValue}
-use Rattle.kept_promise.proofs.Common.{nat_tests, ◌==◌, ◌&&◌, ◌||◌, nat_lt, All, slice_get, cond, Change, File, changes, is_closed, is_untold, Op, Word, Core, Session, numbered, World, hashed_of, stored_traffic, deals_of, Moment, Book, Or, history, value_at, version_at, Queue, Wanted}
+use Rattle.kept_promise.proofs.Common.{nat_tests, ◌==◌, ◌&&◌, ◌||◌, nat_lt, All, slice_get, cond, FileChange, File, changes, is_closed, is_untold, Op, Word, Core, Session, numbered, World, hashed_of, stored_traffic, deals_of, Moment, Book, Or, history, value_at, version_at, Queue, Wanted}
 use Rattle.kept_promise.proofs.Lists.{some_is, nothing_there, within}
 use Rattle.kept_promise.proofs.Keys.{own}
 use Rattle.kept_promise.proofs.Rights.{AreLeased, DoneBy, Caused, RefusedBy, IsRight, IsSound, IsFitted}
@@ -143,12 +143,12 @@ holds_files book w qs now kept = λ file. by file (the_files.file_at w.core.serv
 pub holds_contents : (book : Book) (w : World) (qs : List Queue) → IsKept book w.core qs → HoldsContents book w
 holds_contents book w qs kept = λ c file seat content at is. ((kept.seats c seat at).kept file content is).0
 
--- a change that waits is among those of its session
-pub own_there : (cs : List Change) (i : ℕ) (c : Change) → slice_get cs i ≡ Some c → (j : ℕ) × (slice_get (own c.session cs) j ≡ Some c)
+-- a pending change is among those of its session
+pub own_there : (cs : List FileChange) (i : ℕ) (c : FileChange) → slice_get cs i ≡ Some c → (j : ℕ) × (slice_get (own c.session cs) j ≡ Some c)
 own_there [] i c e = nothing_there c e
 own_there (d ∷ cs) zero c e =
     let same : d ≡ c = some_is d c e in
-    (0, ap (λ b. slice_get (cond b (d ∷ own c.session cs) (own c.session cs)) 0) (eq-eqb d.session c.session (ap (λ (z : Change). z.session) same)) ∙ ap (λ (z : Change). Some z) same)
+    (0, ap (λ b. slice_get (cond b (d ∷ own c.session cs) (own c.session cs)) 0) (eq-eqb d.session c.session (ap (λ (z : FileChange). z.session) same)) ∙ ap (λ (z : FileChange). Some z) same)
 own_there (d ∷ cs) (suc i) c e = by (d.session == c.session) (own_there cs i c e)
   where
     by : (b : Bool) → (j : ℕ) × (slice_get (own c.session cs) j ≡ Some c) → (j : ℕ) × (slice_get (cond b (d ∷ own c.session cs) (own c.session cs)) j ≡ Some c)
@@ -162,20 +162,20 @@ untold_is u e = absurd cc
 
 -- the close that a session with a change that waits remembers had sent all
 abbrev pub HaveStored : List Moment → Core → Type 0
-HaveStored all k = (n p i : ℕ) (x : Session) (o : Op) (c : Change) → numbered k.sessions n ≡ Some x → x.closing ≡ Some p → slice_get k.ops p ≡ Some o → slice_get (own n k.server.waiting) i ≡ Some c → o.word ≡ words.Close → o.traffic ≡ stored_traffic o.value (deals_of o all)
+HaveStored all k = (n p i : ℕ) (x : Session) (o : Op) (c : FileChange) → numbered k.sessions n ≡ Some x → x.closing ≡ Some p → slice_get k.ops p ≡ Some o → slice_get (own n k.server.waiting) i ≡ Some c → o.word ≡ words.Close → o.traffic ≡ stored_traffic o.value (deals_of o all)
 
-pub two_own : (n : ℕ) (ws : List Change) (i j : ℕ) (c d : Change) → slice_get ws i ≡ Some c → slice_get ws j ≡ Some d → c.session ≡ n → d.session ≡ n → length (own n ws) ≤ 1 → i ≡ j
+pub two_own : (n : ℕ) (ws : List FileChange) (i j : ℕ) (c d : FileChange) → slice_get ws i ≡ Some c → slice_get ws j ≡ Some d → c.session ≡ n → d.session ≡ n → length (own n ws) ≤ 1 → i ≡ j
 two_own n [] i j c d a b e f le = nothing_there c a
 two_own n (w ∷ ws) zero zero c d a b e f le = refl
 two_own n (w ∷ ws) zero (suc j) c d a b e f le =
-    let here : (w.session == n) ≡ true = eq-eqb w.session n (ap (λ (z : Change). z.session) (some_is w c a) ∙ e) in
+    let here : (w.session == n) ≡ true = eq-eqb w.session n (ap (λ (z : FileChange). z.session) (some_is w c a) ∙ e) in
     let first = ap (λ t. length (cond t (w ∷ own n ws) (own n ws))) here in
     let there = own_there ws j d b in
     let w2 = within (own d.session ws) there.0 d there.1 in
     let same = ap (λ (z : ℕ). length (own z ws)) f in
     absurd (omega (arith, first, le, w2, same))
 two_own n (w ∷ ws) (suc i) zero c d a b e f le =
-    let here : (w.session == n) ≡ true = eq-eqb w.session n (ap (λ (z : Change). z.session) (some_is w d b) ∙ f) in
+    let here : (w.session == n) ≡ true = eq-eqb w.session n (ap (λ (z : FileChange). z.session) (some_is w d b) ∙ f) in
     let first = ap (λ t. length (cond t (w ∷ own n ws) (own n ws))) here in
     let there = own_there ws i c a in
     let w2 = within (own c.session ws) there.0 c there.1 in
@@ -191,7 +191,7 @@ asked_is : (book : Book) (a : Asked) (o : Op) → o.word ≡ asked_word a → Is
 asked_is book (asked.Remove r) o e = e
 asked_is book (asked.Rename r) o e = e
 
-held_value : (book : Book) (w : World) (qs : List Queue) → IsKept book w.core qs → HaveStored book.moments w.core → (i : ℕ) (c : Change) → slice_get w.core.server.waiting i ≡ Some c → HoldsValue book w c
+held_value : (book : Book) (w : World) (qs : List Queue) → IsKept book w.core qs → HaveStored book.moments w.core → (i : ℕ) (c : FileChange) → slice_get w.core.server.waiting i ≡ Some c → HoldsValue book w c
 held_value book w qs kept stored i c at = by c.what refl (h.pending there.0 c there.1)
   where
     home : (x : Session) × (numbered w.core.sessions c.session ≡ Some x) × (x.hung ≡ false)

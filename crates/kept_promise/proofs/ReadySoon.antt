@@ -10,7 +10,7 @@ use Rattle.callback_core.specs.Waits.{is_free, heads_after, heads, ready}
 use Rattle.server_core.specs.Closing.{ready_by}
 use Rattle.server_core.specs.State as server
 use Rattle.trace_replay.specs.PendingChanges.{IsFreeBy}
-use Rattle.kept_promise.proofs.Common.{Change}
+use Rattle.kept_promise.proofs.Common.{FileChange}
 use Rattle.kept_promise.proofs.Lists.{some_is, nothing_there}
 
 neither : (a b : Bool) → a ≡ false → b ≡ false → (a || b) ≡ false
@@ -36,33 +36,33 @@ none_of_all p (y ∷ ys) h = neither (p y) (list_any p ys) (h zero y refl) (none
 -- ---- what is found among the first of each file
 
 -- a change at a place, or before, is found
-abbrev FoundBy : (free : Change → Bool) → (heads ws : List Change) → (place : ℕ) → Type 0
-FoundBy free hs ws place = (d : Change) × (i : ℕ) × (i ≤ place) × (slice_get ws i ≡ Some d) × (find free hs ≡ Some d)
+abbrev FoundBy : (free : FileChange → Bool) → (heads ws : List FileChange) → (place : ℕ) → Type 0
+FoundBy free hs ws place = (d : FileChange) × (i : ℕ) × (i ≤ place) × (slice_get ws i ≡ Some d) × (find free hs ≡ Some d)
 
-found_soon : (free : Change → Bool) (earlier ws : List Change) (place : ℕ) (c : Change) → slice_get ws place ≡ Some c → list_any (λ e. meets e c) earlier ≡ false → ((i : ℕ) (d : Change) → i < place → slice_get ws i ≡ Some d → meets d c ≡ false) → free c ≡ true
+found_soon : (free : FileChange → Bool) (earlier ws : List FileChange) (place : ℕ) (c : FileChange) → slice_get ws place ≡ Some c → list_any (λ e. meets e c) earlier ≡ false → ((i : ℕ) (d : FileChange) → i < place → slice_get ws i ≡ Some d → meets d c ≡ false) → free c ≡ true
     → FoundBy free (heads_after earlier ws) ws place
 found_soon free earlier [] place c at none before is = nothing_there c at
 found_soon free earlier (w ∷ ws) zero c at none before is =
     let same : c ≡ w = sym (some_is w c at) in
-    let rest : List Change = heads_after (earlier ++ w ∷ []) ws in (
+    let rest : List FileChange = heads_after (earlier ++ w ∷ []) ws in (
       w,
       zero,
       omega arith,
       refl,
-      ap (λ (b : Bool). find free (cond b rest (w ∷ rest))) (subst (λ (z : Change). list_any (λ e. meets e z) earlier ≡ false) same none)
-          ∙ ap (λ (b : Bool). cond b (Some w) (find free rest)) (subst (λ (z : Change). free z ≡ true) same is),
+      ap (λ (b : Bool). find free (cond b rest (w ∷ rest))) (subst (λ (z : FileChange). list_any (λ e. meets e z) earlier ≡ false) same none)
+          ∙ ap (λ (b : Bool). cond b (Some w) (find free rest)) (subst (λ (z : FileChange). free z ≡ true) same is),
     )
 found_soon free earlier (w ∷ ws) (suc n) c at none before is =
     by (list_any (λ e. meets e w) earlier) refl (free w) refl (found_soon free (earlier ++ w ∷ []) ws n c at (none_more (λ e. meets e c) earlier w none (before zero w (omega arith) refl)) (λ i d lt e. before (suc i) d (omega (arith, lt)) e) is)
   where
     by : (b : Bool) → list_any (λ e. meets e w) earlier ≡ b → (f : Bool) → free w ≡ f → FoundBy free (heads_after (earlier ++ w ∷ []) ws) ws n → FoundBy free (heads_after earlier (w ∷ ws)) (w ∷ ws) (suc n)
-    by true met f e (d, i, le, there, found) = let rest : List Change = heads_after (earlier ++ w ∷ []) ws in (d, suc i, omega (arith, le), there, ap (λ (b : Bool). find free (cond b rest (w ∷ rest))) met ∙ found)
-    by false met true e (d, i, le, there, found) = let rest : List Change = heads_after (earlier ++ w ∷ []) ws in (w, zero, omega arith, refl, ap (λ (b : Bool). find free (cond b rest (w ∷ rest))) met ∙ ap (λ (b : Bool). cond b (Some w) (find free rest)) e)
-    by false met false e (d, i, le, there, found) = let rest : List Change = heads_after (earlier ++ w ∷ []) ws in (d, suc i, omega (arith, le), there, ap (λ (b : Bool). find free (cond b rest (w ∷ rest))) met ∙ ap (λ (b : Bool). cond b (Some w) (find free rest)) e ∙ found)
+    by true met f e (d, i, le, there, found) = let rest : List FileChange = heads_after (earlier ++ w ∷ []) ws in (d, suc i, omega (arith, le), there, ap (λ (b : Bool). find free (cond b rest (w ∷ rest))) met ∙ found)
+    by false met true e (d, i, le, there, found) = let rest : List FileChange = heads_after (earlier ++ w ∷ []) ws in (w, zero, omega arith, refl, ap (λ (b : Bool). find free (cond b rest (w ∷ rest))) met ∙ ap (λ (b : Bool). cond b (Some w) (find free rest)) e)
+    by false met false e (d, i, le, there, found) = let rest : List FileChange = heads_after (earlier ++ w ∷ []) ws in (d, suc i, omega (arith, le), there, ap (λ (b : Bool). find free (cond b rest (w ∷ rest))) met ∙ ap (λ (b : Bool). cond b (Some w) (find free rest)) e ∙ found)
 
 -- ---- no lease holds it up
 
-freed : (leases : List Lease) (now : ℕ) (c : Change) → ((i : ℕ) (l : Lease) → slice_get leases i ≡ Some l → l.file ≡ c.file → is_others l (asker c) ≡ true → l.ends ≤ now) → is_free leases now c ≡ true
+freed : (leases : List Lease) (now : ℕ) (c : FileChange) → ((i : ℕ) (l : Lease) → slice_get leases i ≡ Some l → l.file ≡ c.file → is_others l (asker c) ≡ true → l.ends ≤ now) → is_free leases now c ≡ true
 freed leases now c ended = ap not (none_of_all (λ l. blocks l (asker c) c.file now) leases (λ i l at. by l (ended i l at) (l.file == c.file) refl (is_others l (asker c)) refl))
   where
     by : (l : Lease) → (l.file ≡ c.file → is_others l (asker c) ≡ true → l.ends ≤ now) → (f : Bool) → (l.file == c.file) ≡ f → (o : Bool) → is_others l (asker c) ≡ o → (f && (o && nat_lt now l.ends)) ≡ false
@@ -74,28 +74,28 @@ freed leases now c ended = ap not (none_of_all (λ l. blocks l (asker c) c.file 
         grind (arith, nat_tests, le)
 
 -- the first of a change's file, which is no later
-record FirstOf (ws : List Change) (place : ℕ) (c : Change) : Type 0 where
+record FirstOf (ws : List FileChange) (place : ℕ) (c : FileChange) : Type 0 where
   pub at : ℕ
-  pub change : Change
+  pub change : FileChange
   pub no_later : at ≤ place
   pub there : slice_get ws at ≡ Some change
   pub file : change.file ≡ c.file
-  pub first : (i : ℕ) (d : Change) → i < at → slice_get ws i ≡ Some d → meets d change ≡ false
+  pub first : (i : ℕ) (d : FileChange) → i < at → slice_get ws i ≡ Some d → meets d change ≡ false
 
-first_of : (ws : List Change) (place : ℕ) (c : Change) → slice_get ws place ≡ Some c → FirstOf ws place c
+first_of : (ws : List FileChange) (place : ℕ) (c : FileChange) → slice_get ws place ≡ Some c → FirstOf ws place c
 first_of [] place c e = nothing_there c e
-first_of (w ∷ ws) zero c e = record { at = 0; change = w; no_later = omega arith; there = refl; file = ap (λ (z : Change). z.file) (some_is w c e); first = λ i d lt at. absurd (omega (arith, lt)) }
+first_of (w ∷ ws) zero c e = record { at = 0; change = w; no_later = omega arith; there = refl; file = ap (λ (z : FileChange). z.file) (some_is w c e); first = λ i d lt at. absurd (omega (arith, lt)) }
 first_of (w ∷ ws) (suc place) c e = by (w.file == c.file) refl (first_of ws place c e)
   where
-    front : (h : FirstOf ws place c) → (w.file == c.file) ≡ false → (i : ℕ) (d : Change) → i < suc h.at → slice_get (w ∷ ws) i ≡ Some d → meets d h.change ≡ false
-    front h apart zero d lt at = let same = h.file in let first = ap (λ (z : Change). z.file) (some_is w d at) in grind (arith, nat_tests, apart, same, first)
+    front : (h : FirstOf ws place c) → (w.file == c.file) ≡ false → (i : ℕ) (d : FileChange) → i < suc h.at → slice_get (w ∷ ws) i ≡ Some d → meets d h.change ≡ false
+    front h apart zero d lt at = let same = h.file in let first = ap (λ (z : FileChange). z.file) (some_is w d at) in grind (arith, nat_tests, apart, same, first)
     front h apart (suc i) d lt at = h.first i d (omega (arith, lt)) at
 
     by : (b : Bool) → (w.file == c.file) ≡ b → FirstOf ws place c → FirstOf (w ∷ ws) (suc place) c
     by true is h = record { at = 0; change = w; no_later = omega arith; there = refl; file = grind (arith, nat_tests, is); first = λ i d lt at. absurd (omega (arith, lt)) }
     by false is h = let le = h.no_later in record { at = suc h.at; change = h.change; no_later = omega (arith, le); there = h.there; file = h.file; first = λ i d lt at. front h is i d lt at }
 
-pub ready_soon : (s : server.State) (now place : ℕ) (c : Change) → s.leasing.quiet ≡ 0 → IsFreeBy s (max s.leasing.moment now) place c → (d : Change) × (i : ℕ) × (i ≤ place) × (slice_get s.waiting i ≡ Some d) × (ready_by s now ≡ Some d)
+pub ready_soon : (s : server.State) (now place : ℕ) (c : FileChange) → s.leasing.quiet ≡ 0 → IsFreeBy s (max s.leasing.moment now) place c → (d : FileChange) × (i : ℕ) × (i ≤ place) × (slice_get s.waiting i ≡ Some d) × (ready_by s now ≡ Some d)
 ready_soon s now place c awake free =
     let h = first_of s.waiting place c free.there in
     let le = h.no_later in

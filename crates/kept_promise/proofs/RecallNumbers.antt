@@ -20,7 +20,7 @@ use Rattle.callback_core.specs.declared.back_calls.Asked.{Asked}
 use Rattle.server_core.specs.Closing.{at as at_reading, makes_change, settles_by, ready_by}
 use Rattle.server_core.specs.Closing as closing
 use Rattle.server_core.specs.Recalling.{recall_sent, recalls_for}
-use Rattle.server_core.specs.State.{State, Change, stands}
+use Rattle.server_core.specs.State.{State, FileChange, stands}
 use Rattle.server_core.specs.Step.{called_under, got_if_under, hangs_if as server_hangs_if}
 use Rattle.server_core.specs.declared.change.Wanted.{Wanted}
 use Rattle.server_core.specs.declared.change.Wanted.TheVariants as wanted
@@ -256,11 +256,11 @@ got_numbers_to s true m now (message.Answer xid b) n =
 pub settle_numbers : (s : State) (now n : ℕ) → (let p = closing.settles s now in NumbersGo s p.0 p.1.send n)
 settle_numbers s now n = by (ready_by s now)
   where
-    made : (ws : List Change) (c : Change) (w : Wanted) → (let p = makes_change (at_reading (record s { waiting = ws }) now) c w in NumbersGo s p.0 p.1.send n)
+    made : (ws : List FileChange) (c : FileChange) (w : Wanted) → (let p = makes_change (at_reading (record s { waiting = ws }) now) c w in NumbersGo s p.0 p.1.send n)
     made ws c (wanted.Content content) = quiet_numbers s (makes_change (at_reading (record s { waiting = ws }) now) c (wanted.Content content)).0 (makes_change (at_reading (record s { waiting = ws }) now) c (wanted.Content content)).1.send n refl refl refl
     made ws c (wanted.Asked a) = quiet_numbers s (makes_change (at_reading (record s { waiting = ws }) now) c (wanted.Asked a)).0 (makes_change (at_reading (record s { waiting = ws }) now) c (wanted.Asked a)).1.send n refl refl refl
 
-    by : (o : Option Change) → (let p = settles_by s false now o in NumbersGo s p.0 p.1.send n)
+    by : (o : Option FileChange) → (let p = settles_by s false now o in NumbersGo s p.0 p.1.send n)
     by None = quiet_numbers s s [] n refl refl refl
     by (Some c) = made (without s.waiting c.session) c c.what
 
@@ -288,11 +288,11 @@ got_sessions s true m now (message.Answer xid b) = (refl, refl)
 settle_sessions : (s : State) (now : ℕ) → (let p = closing.settles s now in (p.0.sessions ≡ s.sessions) × (p.0.sessions_made ≡ s.sessions_made))
 settle_sessions s now = by (ready_by s now)
   where
-    made : (ws : List Change) (c : Change) (w : Wanted) → (let p = makes_change (at_reading (record s { waiting = ws }) now) c w in (p.0.sessions ≡ s.sessions) × (p.0.sessions_made ≡ s.sessions_made))
+    made : (ws : List FileChange) (c : FileChange) (w : Wanted) → (let p = makes_change (at_reading (record s { waiting = ws }) now) c w in (p.0.sessions ≡ s.sessions) × (p.0.sessions_made ≡ s.sessions_made))
     made ws c (wanted.Content content) = (refl, refl)
     made ws c (wanted.Asked a) = (refl, refl)
 
-    by : (o : Option Change) → (let p = settles_by s false now o in (p.0.sessions ≡ s.sessions) × (p.0.sessions_made ≡ s.sessions_made))
+    by : (o : Option FileChange) → (let p = settles_by s false now o in (p.0.sessions ≡ s.sessions) × (p.0.sessions_made ≡ s.sessions_made))
     by None = (refl, refl)
     by (Some c) = made (without s.waiting c.session) c c.what
 

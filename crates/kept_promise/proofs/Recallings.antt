@@ -15,7 +15,7 @@ use Rattle.callback_core.specs.declared.back_calls.Asked.{Asked}
 use Rattle.server_core.specs.Leasing.{asking, term_if}
 use Rattle.server_core.specs.Recalling.{recalls_for, recall_sent}
 use Rattle.server_core.specs.State as server
-use Rattle.kept_promise.proofs.Common.{Change, stands}
+use Rattle.kept_promise.proofs.Common.{FileChange, stands}
 use Rattle.kept_promise.proofs.Lists.{some_is}
 use Rattle.kept_promise.proofs.Leading.{IsFit, sent_message}
 
@@ -26,7 +26,7 @@ term_for_small true term h = omega arith
 term_for_small false term h = h
 
 -- what is told of a file's lease is the server's term, or 0
-pub term_small : (term : ℕ) (waiting : List Change) (f : Option ℕ) → term < 4294967296 → term_if term waiting f < 4294967296
+pub term_small : (term : ℕ) (waiting : List FileChange) (f : Option ℕ) → term < 4294967296 → term_if term waiting f < 4294967296
 term_small term waiting None h = omega arith
 term_small term waiting (Some id) h = term_for_small (waits_on waiting id) term h
 
@@ -67,10 +67,10 @@ asked_fit calls (r ∷ rs) file small h = by (xid_at calls r.session) refl (aske
     by (Some xid) e rest = ((xid_small _ xid e, subst (λ (f : ℕ). f < 18446744073709551616) (sym h.0) small), rest)
 
 -- what a change asks for when it comes
-abbrev pub recalls_asked : server.State → Change → List Asked
+abbrev pub recalls_asked : server.State → FileChange → List Asked
 recalls_asked s c = (asking s.leasing (recalls_for s c)).1
 
-pub recalls_small : (s : server.State) (c : Change) → c.file < 18446744073709551616 → AllByRecursion IsFit (recalls_asked s c)
+pub recalls_small : (s : server.State) (c : FileChange) → c.file < 18446744073709551616 → AllByRecursion IsFit (recalls_asked s c)
 recalls_small s c small = asked_fit s.leasing.calls (recalls_for s c) c.file small (some_of c.file (λ r. stands s r.session) (recalls_of s.leasing.leases (asker c) c.file s.leasing.moment) (recalled_of c.file (others s.leasing.leases (asker c) c.file s.leasing.moment)))
 
 -- they are all that is sent

@@ -45,9 +45,9 @@ use Rattle.server_core.specs.declared.event.Event.{Event}
 use Rattle.server_core.specs.declared.event.Event.TheVariants as event
 use Rattle.server_core.specs.declared.event.Sent.{Sent}
 use Rattle.server_core.specs.declared.event.ServerStep.{ServerStep}
-use Rattle.server_core.specs.Closing.{at, answers, has_waiting, is_full, makes, makes_unless, writes_unless, names_unless, names_bytes, looked_up, commits, commits_to, commits_whole, makes_change_under, settles_by, settles_under, ready_by}
+use Rattle.server_core.specs.Closing.{at, answers, has_waiting, is_full, makes, makes_unless, writes_unless, names_unless, names_bytes, looked_up, takes_commit, takes_commit_on, commits_whole, makes_change_under, settles_by, settles_under, ready_by}
 use Rattle.server_core.specs.Recalling.{recall_sent, recalls_for, comes}
-use Rattle.server_core.specs.State.{State, Change, change_of, held, stands}
+use Rattle.server_core.specs.State.{State, FileChange, change_of, held, stands}
 use Rattle.server_core.specs.Step.{called_under, asks as asks_outcome, asks_tree, got_if_under, connect, has_room, hangs, hangs_if, server_step_under}
 use Rattle.lease_law.specs.Claims.{Way, recall_message, answered_by, called_by}
 use Rattle.lease_law.specs.Orderly.{IsUpTo, AreNumbered, sent_on, behind_with}
@@ -423,7 +423,7 @@ module _ (s : State) where
   plain : (t : State) (r : ServerStep) → t.leasing.calls ≡ s.leasing.calls → t.leasing.term ≡ s.leasing.term → t.sessions ≡ s.sessions → ArePlain r.send → Moves s (t, r)
   plain t r calls term sessions p = inl (record { calls = calls; term = term; sessions = sessions; plain = p })
 
-  comes_moves : (u : State) (c : Change) → u.leasing ≡ s.leasing → u.sessions ≡ s.sessions → Moves s (comes u c)
+  comes_moves : (u : State) (c : FileChange) → u.leasing ≡ s.leasing → u.sessions ≡ s.sessions → Moves s (comes u c)
   comes_moves u c leasing sessions = inr (record {
     recalls = recalls_for u c;
     calls = ap (λ g. (asks g.calls (recalls_for u c)).0) leasing;
@@ -472,9 +472,9 @@ module _ (s : State) where
         by false true = plain u (answers u n xid (lb.CommitTmpAnswer (Failed status.NoSpc tt))).1 same_calls same_term sessions (refl, tt)
         by false false = comes_moves u (change_of n xid id (wanted.Content content)) leasing sessions
 
-    commits_to_moves : (n xid size : ℕ) (t : Temp) (o : Result Node Status) → Moves s (commits_to u n xid size t o)
-    commits_to_moves n xid size t (Err e) = plain u (commits_to u n xid size t (Err e)).1 same_calls same_term sessions (refl, tt)
-    commits_to_moves n xid size t (Ok directory) = plain u (commits_to u n xid size t (Ok directory)).1 same_calls same_term sessions (refl, tt)
+    commits_to_moves : (n xid size : ℕ) (t : Temp) (o : Result Node Status) → Moves s (takes_commit_on u n xid size t o)
+    commits_to_moves n xid size t (Err e) = plain u (takes_commit_on u n xid size t (Err e)).1 same_calls same_term sessions (refl, tt)
+    commits_to_moves n xid size t (Ok directory) = plain u (takes_commit_on u n xid size t (Ok directory)).1 same_calls same_term sessions (refl, tt)
     commits_to_moves n xid size t (Ok (a_file f)) = by (nat_lt size_most size)
       where
         by : (b : Bool) → Moves s (if b then answers u n xid (lb.CommitTmpAnswer (Failed status.FBig tt)) else commits_whole u n xid f.id (assembled t size))
@@ -486,8 +486,8 @@ module _ (s : State) where
     asks_moves n xid (Some (Answered d)) = plain (asks_outcome u n xid (Some (Answered d))).0 (asks_outcome u n xid (Some (Answered d))).1 same_calls same_term sessions (refl, tt)
     asks_moves n xid (Some (Waits a)) = comes_moves u (change_of n xid (file_of a) (wanted.Asked a)) leasing sessions
 
-  commits_moves : (n xid : ℕ) (a : Commit) (t : Option Temp) → Moves s (commits s n xid a t)
-  commits_moves n xid a None = plain s (commits s n xid a None).1 refl refl refl (refl, tt)
+  commits_moves : (n xid : ℕ) (a : Commit) (t : Option Temp) → Moves s (takes_commit s n xid a t)
+  commits_moves n xid a None = plain s (takes_commit s n xid a None).1 refl refl refl (refl, tt)
   commits_moves n xid a (Some t) = commits_to_moves (record s { temps = without_temp s.temps n a.fd }) refl refl n xid a.size t (node_of s.tree a.handle)
 
   nfs_moves : (fault : Bool) (n xid : ℕ) (m : Nfs) → Moves s (asks_tree s n xid (calls_under s.tree (held s.waiting) (has_waiting s.waiting n) fault m))
@@ -511,11 +511,11 @@ module _ (s : State) where
 settle_moves : (s : State) (fault : Bool) (now : ℕ) → Moves s (settles_under s fault now)
 settle_moves s fault now = by (ready_by s now)
   where
-    made : (c : Change) (w : Wanted) → Moves s (makes_change_under (at (record s { waiting = without s.waiting c.session }) now) fault c w)
+    made : (c : FileChange) (w : Wanted) → Moves s (makes_change_under (at (record s { waiting = without s.waiting c.session }) now) fault c w)
     made c (wanted.Content content) = plain s (makes_change_under (at (record s { waiting = without s.waiting c.session }) now) fault c (wanted.Content content)).0 (makes_change_under (at (record s { waiting = without s.waiting c.session }) now) fault c (wanted.Content content)).1 refl refl refl (refl, tt)
     made c (wanted.Asked a) = plain s (makes_change_under (at (record s { waiting = without s.waiting c.session }) now) fault c (wanted.Asked a)).0 (makes_change_under (at (record s { waiting = without s.waiting c.session }) now) fault c (wanted.Asked a)).1 refl refl refl (refl, tt)
 
-    by : (o : Option Change) → Moves s (settles_by s fault now o)
+    by : (o : Option FileChange) → Moves s (settles_by s fault now o)
     by None = plain s s (settles_by s fault now None).1 refl refl refl tt
     by (Some c) = made c c.what
 

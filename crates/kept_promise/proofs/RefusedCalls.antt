@@ -18,7 +18,7 @@ use Rattle.server_core.specs.Step.{asks, asks_tree}
 use Rattle.server_core.specs.declared.change.Wanted.TheVariants as wanted
 use Rattle.server_core.specs.declared.event.Sent.{Sent}
 use Rattle.trace_replay.specs.Naming.{refusal_of, TreeTells}
-use Rattle.kept_promise.proofs.Common.{nat_lt, if◌then◌else◌, Contains, Contains-push_cases, Contains-append_cases, Failed, Status, Body, Message, parse_of, Temp, size_most, temp_at, room_fault, piece_fault, cond_fault, assembled, without_temp, File, Node, file, directory, node_of, called, got_if, at, stands, makes, makes_unless, writes_unless, names_unless, names_bytes, commits, commits_to, commits_whole, has_waiting, is_full, makes_change, Wanted, Change, Core, Event, Event.Serves, Event.Settles, CoreStep, server_waiting, server_waits, happens, change_of}
+use Rattle.kept_promise.proofs.Common.{nat_lt, if◌then◌else◌, Contains, Contains-push_cases, Contains-append_cases, Failed, Status, Body, Message, parse_of, Temp, size_most, temp_at, room_fault, piece_fault, cond_fault, assembled, without_temp, File, Node, file, directory, node_of, called, got_if, at, stands, makes, makes_unless, writes_unless, names_unless, names_bytes, takes_commit, takes_commit_on, commits_whole, has_waiting, is_full, makes_change, Wanted, FileChange, Core, Event, Event.Serves, Event.Settles, CoreStep, server_waiting, server_waits, happens, change_of}
 use Rattle.server_core.specs.Recalling.{comes, recall_sent, recalls_for}
 use Rattle.server_core.specs.Leasing.{asking}
 use Rattle.callback_core.specs.declared.back_calls.Asked.{Asked as Recalled}
@@ -70,7 +70,7 @@ recalls_other : (recalls : List Recalled) → AreOther (map recall_sent recalls)
 recalls_other [] = tt
 recalls_other (a ∷ recalls) = (tt, recalls_other recalls)
 
-commits_other : (s : server.State) (n xid size : ℕ) (t : Temp) (nd : Result Node Status) → AreOther (commits_to s n xid size t nd).1.send
+commits_other : (s : server.State) (n xid size : ℕ) (t : Temp) (nd : Result Node Status) → AreOther (takes_commit_on s n xid size t nd).1.send
 commits_other s n xid size t (Err e) = (tt, tt)
 commits_other s n xid size t (Ok directory) = (tt, tt)
 commits_other s n xid size t (Ok (file f)) = by (nat_lt size_most size)
@@ -117,7 +117,7 @@ lb_other s n xid (lb.TmpWrite a) = by (temp_at s.temps n a.fd) (piece_fault (tem
     by None o = (tt, tt)
 lb_other s n xid (lb.CommitTmp a) = by (temp_at s.temps n a.fd)
   where
-    by : (t : Option Temp) → AreOther (commits s n xid a t).1.send
+    by : (t : Option Temp) → AreOther (takes_commit s n xid a t).1.send
     by None = (tt, tt)
     by (Some t) = commits_other (record s { temps = without_temp s.temps n a.fd }) n xid a.size t (node_of s.tree a.handle)
 lb_other s n xid m = (tt, tt)
@@ -180,7 +180,7 @@ all_told k e = what_happens k e (IsTold k e) (record {
     got_by n now bytes (message.Refuse xid r) read true m y a s refused c = absurd (other_sent [] m y a tt c)
     got_by n now bytes z read false m y a s refused c = absurd (other_sent [] m y a tt c)
 
-    made : (now : ℕ) (c : Change) → ready_by k.server now ≡ Some c → (w : Wanted) → c.what ≡ w → (m y : ℕ) (a : Nfs) (s : Status) → refusal_of a ≡ Some s → Contains (makes_change (at (record k.server { waiting = without k.server.waiting c.session }) now) c w).1.send (told_on m y a) → TreeTells (moment k (Settles now)) m y a
+    made : (now : ℕ) (c : FileChange) → ready_by k.server now ≡ Some c → (w : Wanted) → c.what ≡ w → (m y : ℕ) (a : Nfs) (s : Status) → refusal_of a ≡ Some s → Contains (makes_change (at (record k.server { waiting = without k.server.waiting c.session }) now) c w).1.send (told_on m y a) → TreeTells (moment k (Settles now)) m y a
     made now c is (wanted.Content x) what m y a s refused here = absurd (other_sent (makes_change (at (record k.server { waiting = without k.server.waiting c.session }) now) c (wanted.Content x)).1.send m y a (tt, tt) here)
     made now c is (wanted.Asked w) what m y a s refused here =
         let same = same_sent c.session m c.xid y _ a here in
@@ -188,10 +188,10 @@ all_told k e = what_happens k e (IsTold k e) (record {
           settled = record { now = now; event_is = refl; change = c; ready = is; session_is = sym same.0; xid_is = sym same.1 };
           asked = w;
           what_is = what;
-          answer_is = ap (λ (o : Option Change). (tree_settles k.server.tree (server.held (without_made k.server.waiting o)) w).1.answer) is ∙ sym same.2;
+          answer_is = ap (λ (o : Option FileChange). (tree_settles k.server.tree (server.held (without_made k.server.waiting o)) w).1.answer) is ∙ sym same.2;
         })
 
-    settled : (now : ℕ) (next : Option Change) → ready_by k.server now ≡ next → (m y : ℕ) (a : Nfs) (s : Status) → refusal_of a ≡ Some s → Contains (settles_by k.server false now next).1.send (told_on m y a) → TreeTells (moment k (Settles now)) m y a
+    settled : (now : ℕ) (next : Option FileChange) → ready_by k.server now ≡ next → (m y : ℕ) (a : Nfs) (s : Status) → refusal_of a ≡ Some s → Contains (settles_by k.server false now next).1.send (told_on m y a) → TreeTells (moment k (Settles now)) m y a
     settled now None is m y a s refused c = absurd (other_sent [] m y a tt c)
     settled now (Some c) is m y a s refused here = made now c is c.what refl m y a s refused here
 

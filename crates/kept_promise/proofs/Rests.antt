@@ -3,7 +3,7 @@ use Rattle.std.proofs.Common.{inl, inr, ◌≡◌, ℕ, ◌<◌, ◌≤◌, List
 use Rattle.server_core.specs.State as server
 use Rattle.client_state.specs.State as client
 use Rattle.register_model.specs.declared.op.Outcome.TheVariants as told
-use Rattle.kept_promise.proofs.Common.{slice_get, Temp, key_of, Change, Local, Op, Core, Seat, Session, numbered, Book, Queue}
+use Rattle.kept_promise.proofs.Common.{slice_get, Temp, key_of, FileChange, Local, Op, Core, Seat, Session, numbered, Book, Queue}
 use Rattle.kept_promise.proofs.Lists.{some_is, nothing_there, same_or_not}
 use Rattle.kept_promise.proofs.Messages.{Job, job, AllAsks, IsCommit, TempUnder, WaitsFor}
 use Rattle.kept_promise.proofs.History.{Goes}
@@ -22,7 +22,7 @@ spares_none closing p e f = nothing_there p f
 
 -- no client changes either
 pub kept_rest : (book more : Book) (k : Core) (qs : List Queue) (r : server.State) → Goes book more None None → IsServer more r → r.sessions_made ≡ k.server.sessions_made → ((m : ℕ) → SameView m k.server r)
-    → ((i : ℕ) (g : Change) → slice_get r.waiting i ≡ Some g → (z : Session) × (numbered k.sessions g.session ≡ Some z) × (z.hung ≡ false))
+    → ((i : ℕ) (g : FileChange) → slice_get r.waiting i ≡ Some g → (z : Session) × (numbered k.sessions g.session ≡ Some z) × (z.hung ≡ false))
     → ((p : ℕ) (o : Op) → slice_get more.ops p ≡ Some o → o.outcome ≡ told.Running → (e : Seat) × (j : Job) × (numbered k.seats o.client ≡ Some e) × (job e ≡ Some j) × (j.place ≡ p))
     → more.journal ≡ r.journal → IsShelf r.temps → IsKept book k qs → IsKept more (turned_core k more r k.seats k.sessions) qs
 kept_rest book more k qs r goes server made view home running journal shelf h = record {

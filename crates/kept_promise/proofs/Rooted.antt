@@ -16,7 +16,7 @@ use Rattle.tree_reading.specs.Names.{is_misspelt, spelt, undotted}
 use Rattle.file_tree.specs.Opening.{may_open, can_open, counted_at, with_change, opened, opens}
 use Rattle.tree_reading.specs.Plans.{rename_plan}
 use Rattle.file_tree.specs.Step.{removed, placed, moved_at, moved, shifted, rename_if, rename, replaced}
-use Rattle.tree_reading.specs.declared.call.Held.{Held}
+use Rattle.tree_reading.specs.declared.call.Reservation.{Reservation}
 use Rattle.tree_reading.specs.declared.call.Planned.{Planned}
 use Rattle.tree_reading.specs.declared.call.Planned.TheVariants as planned
 use Rattle.tree_reading.specs.Tree.{Tree, is_directory, directory_of, or_taken, root as root_of}
@@ -158,7 +158,7 @@ moved_rooted t dir n o to to_name short other free h = by o free
     by None free = at t.nodes (t.changes + 1) h
     by (Some m) free = at (without t.nodes m.id) (t.changes + 2) (without_rooted t.nodes m.id (free m refl) h)
 
-pub rename_rooted : (t : Tree) (held : Held) (dir : ℕ) (name : List ℕ) (to : ℕ) (to_name : List ℕ) → (length name == 0) ≡ false → (length to_name == 0) ≡ false → length to_name ≤ 255 → IsRooted t.nodes → IsRooted (rename t held dir name to to_name).0.nodes
+pub rename_rooted : (t : Tree) (held : Reservation) (dir : ℕ) (name : List ℕ) (to : ℕ) (to_name : List ℕ) → (length name == 0) ≡ false → (length to_name == 0) ≡ false → length to_name ≤ 255 → IsRooted t.nodes → IsRooted (rename t held dir name to to_name).0.nodes
 rename_rooted t held dir name to to_name some to_some short h = by (rename_plan t held dir name to to_name)
   where
     free : (m : Node) → named t.nodes to to_name ≡ Some m → m.id ≡ 1 → ⊥

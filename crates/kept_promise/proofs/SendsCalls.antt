@@ -12,7 +12,7 @@ use Rattle.wire.specs.declared.message.Message.TheVariants as message
 use Rattle.path_calls.specs.declared.walk.Walk.{Walk}
 use Rattle.trace_replay.specs.Numbered.{numbers_among}
 use Rattle.trace_replay.specs.Trail.{calls_in}
-use Rattle.kept_promise.proofs.Common.{Chunk, Command, Body, Message, Pending, calls_most, command_step, got_step, idle, took, took_if, drops, has_call, reads_from, reads_more, reads_all, names_from, names_next, names_more, names_all, ClientStep, Fetch, Names, Reads, Stage, Store, Task, calls_among}
+use Rattle.kept_promise.proofs.Common.{Chunk, Command, Body, Message, Pending, calls_most, command_step, got_step, idle, took, took_if, drops, has_call, reads_from, reads_more, reads_all, names_from, names_next, names_more, names_all, ClientStep, Fetch, Names, Reads, Stage, Upload, Task, calls_among}
 use Rattle.kept_promise.proofs.StepCases.{reads_keep, names_keep, IsOfFile, Cases, takes_cases, WalkCases, walk_cases, command_cases, reads_of}
 
 -- ---- the calls of a list
@@ -74,7 +74,7 @@ names_call lbfs k n h = names_keep lbfs (λ q. AreCalls q.send) (λ q c g at. ca
 reads_sent : (s : client.State) (file : ℕ) (f : Fetch) → AreCalls (reads_of s file f).send
 reads_sent s file f = reads_call s.cache s.index file _ (reads_from f s.next_xid) refl
 
-names_sent : (s : client.State) (w : Store) → AreCalls (names_all s.lbfs w s.next_xid).send
+names_sent : (s : client.State) (w : Upload) → AreCalls (names_all s.lbfs w s.next_xid).send
 names_sent s w = names_call s.lbfs (calls_most - length w.under) (names_from w s.next_xid) refl
 
 takes_sent : (s : client.State) (calls : List Pending) (file : ℕ) (st : Stage) (x : ℕ) (b : Body) → IsOfFile st → Sent (takes s calls file st x b)

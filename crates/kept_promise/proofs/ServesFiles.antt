@@ -19,7 +19,7 @@ use Rattle.server_core.specs.Closing.{answers, looked_up as index_found}
 use Rattle.temp_files.specs.Temps.{without_temp}
 use Rattle.trace_ends.specs.Core.{newest_entries, server_got, changed_file}
 use Rattle.trace_ends.specs.Ops.{pointed_at}
-use Rattle.kept_promise.proofs.Common.{size_most, room_fault, piece_fault, temp_at, Temp, assembled, nat_lt, Op, File, at, is_full, has_waiting, cond_fault, bytes_known, makes, makes_unless, writes_unless, names_unless, names_bytes, commits, commits_to, commits_whole, server_step, stands, got_if, called, Core, Session, CoreStep, with_numbered, quiet, taken_with, change_of}
+use Rattle.kept_promise.proofs.Common.{size_most, room_fault, piece_fault, temp_at, Temp, assembled, nat_lt, Op, File, at, is_full, has_waiting, cond_fault, bytes_known, makes, makes_unless, writes_unless, names_unless, names_bytes, takes_commit, takes_commit_on, commits_whole, server_step, stands, got_if, called, Core, Session, CoreStep, with_numbered, quiet, taken_with, change_of}
 use Rattle.server_core.specs.Recalling.{comes}
 use Rattle.server_core.specs.Closing.{entries_by, count_of}
 use Rattle.tree_reading.specs.declared.entry.Entry.{Entry as TreeEntry}
@@ -37,7 +37,7 @@ use Rattle.kept_promise.proofs.CallsKeep.{IsOfFiles}
 abbrev Makes : ServerStep → ℕ → Type 0
 Makes r n = r.entries ≡ n
 
-commits_none : (s : server.State) (session xid size : ℕ) (t : Temp) (nd : Result Node Status) → Makes (commits_to s session xid size t nd).1 0
+commits_none : (s : server.State) (session xid size : ℕ) (t : Temp) (nd : Result Node Status) → Makes (takes_commit_on s session xid size t nd).1 0
 commits_none s session xid size t (Err e) = refl
 commits_none s session xid size t (Ok directory) = refl
 commits_none s session xid size t (Ok (file f)) = by (nat_lt size_most size)
@@ -84,7 +84,7 @@ called_none s session xid (body.Lb (lb.CondWrite a)) plain = by (temp_at s.temps
     by t None = taken t (bytes_known s.tree a _)
 called_none s session xid (body.Lb (lb.CommitTmp a)) plain = by (temp_at s.temps session a.fd)
   where
-    by : (t : Option Temp) → Makes (commits s session xid a t).1 0
+    by : (t : Option Temp) → Makes (takes_commit s session xid a t).1 0
     by None = refl
     by (Some t) = commits_none (record s { temps = without_temp s.temps session a.fd }) session xid a.size t (node_of s.tree a.handle)
 called_none s session xid (body.Nfs nfs.Null) plain = refl

@@ -1,4 +1,4 @@
--- A change that waits is made, and its session told.
+-- A pending change is made, and its session told.
 use Rattle.std.proofs.Common.{inl, inr, ◌≡◌, ℕ, suc, ◌+◌, ◌≤◌, List, [], ◌∷◌, ◌++◌, length, Option, Some, None, Bool, true, false, refl, sym, ap, ◌∙◌, subst, arith, eq-eqb, map, IsSome}
 use Rattle.tree_calls.specs.Waiting.{file_of}
 use Rattle.tree_calls.specs.declared.asked.Asked.{Asked}
@@ -16,7 +16,7 @@ use Rattle.register_model.specs.declared.op.Outcome.TheVariants as told
 use Rattle.register_model.specs.declared.op.Word.TheVariants as words
 use Rattle.register_model.specs.Register.{IsFit}
 use Rattle.trace_replay.specs.Faithful.{IsKind, left_by as left_of}
-use Rattle.kept_promise.proofs.Common.{slice_get, slice_set, cond, ◌==◌, sha1, Done, Failed, at, Change, File, Entry, Fetch, Stage, Op, Core, Seat, Session, numbered, with_numbered, settled_ops, settled_by, pointed, pointed_at, unless, Book, Or, value_at, Reply, Reply.Versioned, Reply.Hashed, Reply.Bytes, Reply.Made, Reply.Named, Reply.Stored, Reply.Changed, Told, Queue, reply_program, Tree, Reply.Walked, Word, Value, value_from, unwrap_or, changes, Wanted, Event.Settles, happens}
+use Rattle.kept_promise.proofs.Common.{slice_get, slice_set, cond, ◌==◌, sha1, Done, Failed, at, FileChange, File, Entry, Fetch, Stage, Op, Core, Seat, Session, numbered, with_numbered, settled_ops, settled_by, pointed, pointed_at, unless, Book, Or, value_at, Reply, Reply.Versioned, Reply.Hashed, Reply.Bytes, Reply.Made, Reply.Named, Reply.Stored, Reply.Changed, Told, Queue, reply_program, Tree, Reply.Walked, Word, Value, value_from, unwrap_or, changes, Wanted, Event.Settles, happens}
 use Rattle.server_core.specs.Recalling.{term_at}
 use Rattle.kept_promise.proofs.Recallings.{term_small}
 use Rattle.kept_promise.proofs.Lists.{some_is, nothing_there, same_or_not, at_end, at_replaced, of_replaced}
@@ -72,15 +72,15 @@ held_made book e j o t id g x there_ unmade word sound mine size same short held
 
 -- ---- what is told
 
-abbrev answer : Change → (version term : ℕ) → Told
+abbrev answer : FileChange → (version term : ℕ) → Told
 answer c version term = record { xid = c.xid; reply = Changed (Done (record { version = version; term = term })) }
 
 -- the term of the lease that it gets
-abbrev told_term : server.State → Change → List Change → ℕ
+abbrev told_term : server.State → FileChange → List FileChange → ℕ
 told_term s c cs = term_at (record s { waiting = cs }) c.file
 
 -- it is to the call that waited
-answer_key : (c : Change) (x : List ℕ) (version term : ℕ) → c.what ≡ wanted.Content x → told_key (answer c version term) ≡ change_key c
+answer_key : (c : FileChange) (x : List ℕ) (version term : ℕ) → c.what ≡ wanted.Content x → told_key (answer c version term) ≡ change_key c
 answer_key c x version term what = sym (ap (λ (w : Wanted). change_key (record c { what = w })) what)
 
 -- answers of which none has this key
@@ -108,7 +108,7 @@ same_xid : (x y : ℕ) → stage.Committing x ≡ stage.Committing y → x ≡ y
 same_xid x y e = cc
 
 -- where its client waits for nothing but the commit, what it was told before stays so
-settled_answers : (book : Book) (e : Entry) (j : ℕ) (o : Op) (c : Change) (waits cs : List Change) (x : Session) (q : Queue) (seat : Seat) → c.what ≡ wanted.Content (content_wanted c.what)
+settled_answers : (book : Book) (e : Entry) (j : ℕ) (o : Op) (c : FileChange) (waits cs : List FileChange) (x : Session) (q : Queue) (seat : Seat) → c.what ≡ wanted.Content (content_wanted c.what)
     → Grows book (made_book book (e ∷ []) j c.file o) (Some j) None → IsOut waits c cs → job seat ≡ Some (record { place = j; file = c.file; stage = stage.Committing c.xid })
     → IsTalk book c.session waits x q seat → AllTolds (IsAnswer (made_book book (e ∷ []) j c.file o) x.taken x.closing (job seat)) q.downs
 settled_answers book e j o c waits cs x q seat what g out committing t = all_but (IsAnswer book x.taken x.closing (job seat)) (IsAnswer (made_book book (e ∷ []) j c.file o) x.taken x.closing (job seat)) (change_key c) q.downs none (λ u apart h. old_reply u.xid u.reply apart h) t.answers
@@ -122,7 +122,7 @@ settled_answers book e j o c waits cs x q seat what g out committing t = all_but
         let a = t.balanced.most k in
         let b = t.balanced.once c.xid in
         let d = keys_once c.xid (wanted_program c.what) (client.calls_of seat.client) in
-        let e1 = ap (λ (l : List Change). times k (map ask_key q.ups ++ (map change_key l ++ map told_key q.downs))) out.mine in
+        let e1 = ap (λ (l : List FileChange). times k (map ask_key q.ups ++ (map change_key l ++ map told_key q.downs))) out.mine in
         let e2 = times_append k (map ask_key q.ups) (map change_key (c ∷ []) ++ map told_key q.downs) in
         let e3 = times_append k (map change_key (c ∷ [])) (map told_key q.downs) in
         let e4 = times_head k [] in
@@ -146,10 +146,10 @@ settled_answers book e j o c waits cs x q seat what g out committing t = all_but
 -- ---- the event
 
 -- the server, once a change was made
-abbrev settled_server : server.State → (now : ℕ) → Change → List Change → File → server.State
+abbrev settled_server : server.State → (now : ℕ) → FileChange → List FileChange → File → server.State
 settled_server s now c cs f = (made_change (at (record s { waiting = cs }) now) c (content_wanted c.what) f).0
 
-settled_now : FitLaws → (book : Book) (k : Core) (qs : List Queue) (now : ℕ) (c : Change) (cs : List Change) (f : File) (x : Session) (q : Queue) (j : ℕ) (o : Op) → (kept : IsKept book k qs) → IsOut k.server.waiting c cs → c.what ≡ wanted.Content (content_wanted c.what) → the_files.file_at k.server.tree c.file ≡ Some f → (here : numbered k.sessions c.session ≡ Some x) → x.hung ≡ false → (is : numbered qs c.session ≡ Some q)
+settled_now : FitLaws → (book : Book) (k : Core) (qs : List Queue) (now : ℕ) (c : FileChange) (cs : List FileChange) (f : File) (x : Session) (q : Queue) (j : ℕ) (o : Op) → (kept : IsKept book k qs) → IsOut k.server.waiting c cs → c.what ≡ wanted.Content (content_wanted c.what) → the_files.file_at k.server.tree c.file ≡ Some f → (here : numbered k.sessions c.session ≡ Some x) → x.hung ≡ false → (is : numbered qs c.session ≡ Some q)
     → (pending : IsPending book x.closing x.cut (job (kept.sessions c.session x q here is).seat) c.xid c.file (content_wanted c.what)) → pending.place ≡ j → pending.op ≡ o
     → IsKept (made_book book (entry_of c (content_wanted c.what) f ∷ []) j c.file o) (turned_core k (made_book book (entry_of c (content_wanted c.what) f ∷ []) j c.file o) (settled_server k.server now c cs f) k.seats k.sessions) (with_numbered qs c.session (record q { downs = unless x.cut q.downs (answer c (f.version + 1) (told_term k.server c cs) ∷ []) }))
 settled_now laws book k qs now c cs f x q j o kept out what there here unhung is pending place_is op_is =
@@ -283,14 +283,14 @@ settled_core book more k r ops entries a b c =
 queue_told : (sessions : List Session) (qs : List Queue) (n : ℕ) (x : Session) (q : Queue) (t : Told) → numbered sessions n ≡ Some x → numbered qs n ≡ Some q → downs_put sessions qs ((n, t) ∷ []) ≡ with_numbered qs n (record q { downs = unless x.cut q.downs (t ∷ []) })
 queue_told sessions qs n x q t at is = ap (λ (o : Option Session). downs_put_in qs (n, t) o (numbered qs n)) at ∙ ap (λ (o : Option Queue). downs_put_in qs (n, t) (Some x) o) is
 
-settled_leads : FitLaws → (book : Book) (k : Core) (qs : List Queue) (now : ℕ) (c : Change) (cs : List Change) (f : File) → IsKept book k qs → IsOut k.server.waiting c cs → c.what ≡ wanted.Content (content_wanted c.what) → the_files.file_at k.server.tree c.file ≡ Some f → Leads book qs (settled_to k (made_change (at (record k.server { waiting = cs }) now) c (content_wanted c.what) f))
+settled_leads : FitLaws → (book : Book) (k : Core) (qs : List Queue) (now : ℕ) (c : FileChange) (cs : List FileChange) (f : File) → IsKept book k qs → IsOut k.server.waiting c cs → c.what ≡ wanted.Content (content_wanted c.what) → the_files.file_at k.server.tree c.file ≡ Some f → Leads book qs (settled_to k (made_change (at (record k.server { waiting = cs }) now) c (content_wanted c.what) f))
 settled_leads laws book k qs now c cs f kept out what there =
     let n : ℕ = c.session in
     let home = kept.home out.place c out.there in
     let x : Session = home.0 in
     let q = also_numbered k.sessions qs n x kept.made.1 home.1 in
     let h = kept.sessions n x q.0 home.1 q.1 in
-    let pending = subst (λ (w : Wanted). WaitsFor book c.session x.closing x.cut (job h.seat) c.xid c.file w) what (h.pending 0 c (ap (λ (l : List Change). slice_get l 0) out.mine)) in
+    let pending = subst (λ (w : Wanted). WaitsFor book c.session x.closing x.cut (job h.seat) c.xid c.file w) what (h.pending 0 c (ap (λ (l : List FileChange). slice_get l 0) out.mine)) in
     let j : ℕ = pending.place in
     let o : Op = pending.op in
     let t : Told = answer c (f.version + 1) (told_term k.server c cs) in
@@ -321,7 +321,7 @@ asks_itself (asked.Remove r) = (refl, refl, refl)
 asks_itself (asked.Rename r) = (refl, refl, refl)
 
 -- a commit, by whether its file is there
-settled_commit : FitLaws → (book : Book) (k : Core) (qs : List Queue) (now : ℕ) (c : Change) (cs : List Change) (content : List ℕ) → IsKept book k qs → SettlesOut k now c cs → c.what ≡ wanted.Content content → (o : Option File) → the_files.file_at k.server.tree c.file ≡ o → Leads book qs (happens k (Settles now))
+settled_commit : FitLaws → (book : Book) (k : Core) (qs : List Queue) (now : ℕ) (c : FileChange) (cs : List FileChange) (content : List ℕ) → IsKept book k qs → SettlesOut k now c cs → c.what ≡ wanted.Content content → (o : Option File) → the_files.file_at k.server.tree c.file ≡ o → Leads book qs (happens k (Settles now))
 settled_commit laws book k qs now c cs content kept out what (Some f) there =
     let wants = what ∙ ap (λ (x : List ℕ). wanted.Content x) (sym (ap content_wanted what)) in
     subst (Leads book qs) (sym (out.is ∙ ap (settled_to k) (made_is book k.server now c cs f kept.server out.out there wants))) (settled_leads laws book k qs now c cs f kept out.out wants there)
@@ -329,16 +329,16 @@ settled_commit laws book k qs now c cs content kept out what None none =
     let home = kept.home out.out.place c out.out.there in
     let q = also_numbered k.sessions qs c.session home.0 kept.made.1 home.1 in
     let h = kept.sessions c.session home.0 q.0 home.1 q.1 in
-    let pending = subst (λ (w : Wanted). WaitsFor book c.session home.0.closing home.0.cut (job h.seat) c.xid c.file w) what (h.pending 0 c (ap (λ (l : List Change). slice_get l 0) out.out.mine)) in
+    let pending = subst (λ (w : Wanted). WaitsFor book c.session home.0.closing home.0.cut (job h.seat) c.xid c.file w) what (h.pending 0 c (ap (λ (l : List FileChange). slice_get l 0) out.out.mine)) in
     subst (Leads book qs) (sym (unmade_settles k now c cs content out what (node_gone book k.server c.file kept.server (kept.server.targets out.out.place c out.out.there) none))) (leads_unmade laws book k qs now c cs content kept out what none home.0 q.0 home.1 home.2 q.1 pending)
 
 -- a remove, or a rename over a file
-settled_asked : FitLaws → (book : Book) (k : Core) (qs : List Queue) (now : ℕ) (c : Change) (cs : List Change) (a : Asked) → IsKept book k qs → IsNoted book k (Settles now) → SettlesOut k now c cs → c.what ≡ wanted.Asked a → Leads book qs (happens k (Settles now))
+settled_asked : FitLaws → (book : Book) (k : Core) (qs : List Queue) (now : ℕ) (c : FileChange) (cs : List FileChange) (a : Asked) → IsKept book k qs → IsNoted book k (Settles now) → SettlesOut k now c cs → c.what ≡ wanted.Asked a → Leads book qs (happens k (Settles now))
 settled_asked laws book k qs now c cs a kept noted out what =
     let home = kept.home out.out.place c out.out.there in
     let q = also_numbered k.sessions qs c.session home.0 kept.made.1 home.1 in
     let h = kept.sessions c.session home.0 q.0 home.1 q.1 in
-    let pending = subst (λ (w : Wanted). WaitsFor book c.session home.0.closing home.0.cut (job h.seat) c.xid c.file w) what (h.pending 0 c (ap (λ (l : List Change). slice_get l 0) out.out.mine)) in
+    let pending = subst (λ (w : Wanted). WaitsFor book c.session home.0.closing home.0.cut (job h.seat) c.xid c.file w) what (h.pending 0 c (ap (λ (l : List FileChange). slice_get l 0) out.out.mine)) in
     let wants = subst (IsWanted c.file) what (kept.server.wants out.out.place c out.out.there) in
     ends_so laws book k qs now c cs a kept noted out what home.0 q.0 home.1 home.2 q.1 pending
     (settles_so k.server.tree (server.held cs) (walk_for a) a kept.server.bounded wants.2 (asks_itself a) wants.1 (λ n d. no_directory book k.server (file_of a) n kept.server (subst (λ (f : ℕ). WasThere book f) wants.0 (kept.server.targets out.out.place c out.out.there)) d))

@@ -1,4 +1,4 @@
--- A change that waits is settled: a content is replaced; or else operations are as they were, but for one whose file goes, and the journal tells of no content.
+-- A pending change is settled: a content is replaced; or else operations are as they were, but for one whose file goes, and the journal tells of no content.
 use Rattle.std.proofs.Common.{◌⊎◌, inl, inr, ◌≡◌, ℕ, zero, suc, ◌+◌, ◌<◌, List, [], ◌++◌, length, replicate, append-nil, Option, Some, None, Bool, true, false, refl, sym, ap, ◌∙◌, subst, arith}
 use Rattle.xdr_codec.specs.declared.status.Status.{Status}
 use Rattle.xdr_codec.specs.declared.status.Status.TheVariants as status
@@ -19,7 +19,7 @@ use Rattle.server_core.specs.declared.change.Wanted.TheVariants as wanted
 use Rattle.trace_replay.specs.Faithful.{change_refusal}
 use Rattle.trace_ends.specs.Core.{changed_file, is_of_file}
 use Rattle.trace_ends.specs.Ops.{pointed, pointed_at}
-use Rattle.kept_promise.proofs.Common.{slice_get, slice_set, cond, option_map, find, Contains, Contains-push, Message, name_answer, told_message, Change, Wanted, File, Entry, Op, Core, Session, CoreStep, numbered, settles, settled_ops, Book, Queue}
+use Rattle.kept_promise.proofs.Common.{slice_get, slice_set, cond, option_map, find, Contains, Contains-push, Message, name_answer, told_message, FileChange, Wanted, File, Entry, Op, Core, Session, CoreStep, numbered, settles, settled_ops, Book, Queue}
 use Rattle.kept_promise.proofs.Lists.{some_is, nothing_there}
 use Rattle.kept_promise.proofs.Rights.{WasThere, IsUnmade, gets_file}
 use Rattle.kept_promise.proofs.Turns.{also_numbered}
@@ -46,16 +46,16 @@ pub record GoesHere (k : Core) (after : List Op) : Type 0 where
   pub after_is : after ≡ slice_set k.ops place (record op { file = new; point = Some (k.steps + 1) })
 
 -- the session of a change is told why it was not made
-abbrev pub RefusesFor : CoreStep → Change → Type 0
+abbrev pub RefusesFor : CoreStep → FileChange → Type 0
 RefusesFor t c = (answer : Message) × (s : Status) × Contains t.down (record { session = c.session; message = answer }) × (change_refusal answer ≡ Some s)
 
 -- the change that was ready was made, or was refused
 abbrev pub TellsReady : (k : Core) (now : ℕ) (t : CoreStep) → List Entry → Type 0
-TellsReady k now t es = (c : Change) → ready_by k.server now ≡ Some c → (0 < length es) ⊎ RefusesFor t c
+TellsReady k now t es = (c : FileChange) → ready_by k.server now ≡ Some c → (0 < length es) ⊎ RefusesFor t c
 
 -- the file that went is the one that the ready REMOVE or RENAME was of
 pub record IsRemove (k : Core) (now : ℕ) (e : Entry) : Type 0 where
-  pub change : Change
+  pub change : FileChange
   pub ready : ready_by k.server now ≡ Some change
   pub call : Asked
   pub what_is : change.what ≡ wanted.Asked call
@@ -66,7 +66,7 @@ abbrev pub RemovesReady : (k : Core) (now : ℕ) → List Entry → Type 0
 RemovesReady k now es = (i : ℕ) (e : Entry) → slice_get es i ≡ Some e → e.kind ≡ kind.Remove → IsRemove k now e
 
 pub data Settling (k : Core) (now : ℕ) (t : CoreStep) : Type 0 where
-  makes_commit : (c : Change) (cs : List Change) (f : File) → SettlesOut k now c cs → c.what ≡ wanted.Content (content_wanted c.what) → the_files.file_at k.server.tree c.file ≡ Some f → Settling k now t
+  makes_commit : (c : FileChange) (cs : List FileChange) (f : File) → SettlesOut k now c cs → c.what ≡ wanted.Content (content_wanted c.what) → the_files.file_at k.server.tree c.file ≡ Some f → Settling k now t
   makes_else : (t.core.ops ≡ k.ops) ⊎ GoesHere k t.core.ops → (q : Entered k t) → TellsReady k now t q.es → RemovesReady k now q.es → Settling k now t
 
 -- ---- the entries of what goes
@@ -111,8 +111,8 @@ some_entered n first second e is = subst (λ (o : Option TreeEntry). 0 < length 
     by None = omega arith
     by (Some y) = omega arith
 
-tells_ready : (k : Core) (now : ℕ) (c : Change) (t : CoreStep) (es : List Entry) → ready_by k.server now ≡ Some c → (0 < length es) ⊎ RefusesFor t c → TellsReady k now t es
-tells_ready k now c t es ready h d at = subst (λ (z : Change). (0 < length es) ⊎ RefusesFor t z) (some_is c d (sym ready ∙ at)) h
+tells_ready : (k : Core) (now : ℕ) (c : FileChange) (t : CoreStep) (es : List Entry) → ready_by k.server now ≡ Some c → (0 < length es) ⊎ RefusesFor t c → TellsReady k now t es
+tells_ready k now c t es ready h d at = subst (λ (z : FileChange). (0 < length es) ⊎ RefusesFor t z) (some_is c d (sym ready ∙ at)) h
 
 gets_asked : (a : Asked) → gets_file (asked_word a) ≡ true
 gets_asked (asked.Remove r) = refl
@@ -127,7 +127,7 @@ asks_itself (asked.Rename r) = (refl, refl, refl)
 pub settling : (book : Book) (k : Core) (qs : List Queue) (now : ℕ) → IsKept book k qs → Settling k now (settles k now)
 settling book k qs now kept = by (what_settles book k qs now kept)
   where
-    asked_so : (c : Change) (cs : List Change) (a : Asked) (x : Session) → SettlesOut k now c cs → c.what ≡ wanted.Asked a → c.file ≡ file_of a → numbered k.sessions c.session ≡ Some x → (p : (place : ℕ) × (op : Op) × (x.closing ≡ Some place) × (slice_get k.ops place ≡ Some op) × IsUnmade op × (op.word ≡ asked_word a) × (op.file ≡ 0)) → SettlesSo k.server.tree (server.held cs) (walk_for a) a
+    asked_so : (c : FileChange) (cs : List FileChange) (a : Asked) (x : Session) → SettlesOut k now c cs → c.what ≡ wanted.Asked a → c.file ≡ file_of a → numbered k.sessions c.session ≡ Some x → (p : (place : ℕ) × (op : Op) × (x.closing ≡ Some place) × (slice_get k.ops place ≡ Some op) × IsUnmade op × (op.word ≡ asked_word a) × (op.file ≡ 0)) → SettlesSo k.server.tree (server.held cs) (walk_for a) a
         → Settling k now (asked_step k now c cs (tree_settles k.server.tree (server.held cs) a))
     asked_so c cs a x out what file here p (refused_late s r is why refuses leads procs) = subst (λ (z : Tree × Finished). Settling k now (asked_step k now c cs z)) (sym is) (makes_else
         (inl (ap (settled_ops k.ops (k.steps + 1) None) here ∙ pointed_none k.ops x.closing (k.steps + 1)))
@@ -174,7 +174,7 @@ settling book k qs now kept = by (what_settles book k qs now kept)
         h = kept.sessions c.session home.0 q.0 home.1 q.1
 
         pending : WaitsFor book c.session home.0.closing home.0.cut (job h.seat) c.xid c.file c.what
-        pending = h.pending 0 c (ap (λ (l : List Change). slice_get l 0) out.out.mine)
+        pending = h.pending 0 c (ap (λ (l : List FileChange). slice_get l 0) out.out.mine)
 
         commit : (content : List ℕ) → c.what ≡ wanted.Content content → (o : Option File) → the_files.file_at k.server.tree c.file ≡ o → Settling k now (settles k now)
         commit content what (Some f) there = makes_commit c cs f out (what ∙ ap (λ (x : List ℕ). wanted.Content x) (sym (ap content_wanted what))) there

@@ -9,7 +9,7 @@ use Rattle.wire.specs.declared.message.Body.TheVariants as body
 use Rattle.wire.specs.declared.message.Message.TheVariants as message
 use Rattle.wire.specs.declared.message.Pending.{Pending}
 use Rattle.wire.specs.declared.message.Side.TheVariants as side
-use Rattle.tree_reading.specs.declared.call.Held.{Held}
+use Rattle.tree_reading.specs.declared.call.Reservation.{Reservation}
 use Rattle.kept_promise.proofs.PathNames.{IsWalkSmall, is_building, is_going}
 use Rattle.tree_calls.specs.Waiting.{settles}
 use Rattle.tree_calls.specs.declared.asked.Asked.{Asked}
@@ -144,14 +144,14 @@ NameAnswersFit = (lbfs xid : ℕ) (t : Tree) (w : Walk) (r : NameReply) → xid 
 
 -- and what it answers to a call that makes or removes something
 abbrev pub MakingAnswersFit : Type 0
-MakingAnswersFit = (xid : ℕ) (t : Tree) (held : Held) (w : Walk) → xid < 2 ^ 32 → IsBounded t → IsBounded (made_by t held w.dir w.goal).0 → is_building w ≡ true → MessageFits (message.Answer xid (body.Nfs (made_by t held w.dir w.goal).1.answer))
+MakingAnswersFit = (xid : ℕ) (t : Tree) (held : Reservation) (w : Walk) → xid < 2 ^ 32 → IsBounded t → IsBounded (made_by t held w.dir w.goal).0 → is_building w ≡ true → MessageFits (message.Answer xid (body.Nfs (made_by t held w.dir w.goal).1.answer))
 
 -- and to one that removes or renames, on arrival and once it has waited
 abbrev pub GoingAnswersFit : Type 0
-GoingAnswersFit = (xid : ℕ) (t : Tree) (held : Held) (busy : Bool) (w : Walk) (after : Tree) (d : Finished) → xid < 2 ^ 32 → IsBounded t → IsBounded after → comes_by t held busy w.dir w.goal ≡ (after, Answered d) → is_going w ≡ true → MessageFits (message.Answer xid (body.Nfs d.answer))
+GoingAnswersFit = (xid : ℕ) (t : Tree) (held : Reservation) (busy : Bool) (w : Walk) (after : Tree) (d : Finished) → xid < 2 ^ 32 → IsBounded t → IsBounded after → comes_by t held busy w.dir w.goal ≡ (after, Answered d) → is_going w ≡ true → MessageFits (message.Answer xid (body.Nfs d.answer))
 
 abbrev pub SettledAnswersFit : Type 0
-SettledAnswersFit = (xid : ℕ) (t : Tree) (held : Held) (a : Asked) → xid < 2 ^ 32 → IsBounded t → IsBounded (settles t held a).0 → MessageFits (message.Answer xid (body.Nfs (settles t held a).1.answer))
+SettledAnswersFit = (xid : ℕ) (t : Tree) (held : Reservation) (a : Asked) → xid < 2 ^ 32 → IsBounded t → IsBounded (settles t held a).0 → MessageFits (message.Answer xid (body.Nfs (settles t held a).1.answer))
 
 abbrev pub PlainAnswersFit : Type 0
 PlainAnswersFit = (lbfs xid : ℕ) (r : Reply) → xid < 2 ^ 32 → IsPlain r → ToldFits lbfs (record { xid = xid; reply = r })

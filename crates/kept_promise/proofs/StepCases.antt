@@ -46,7 +46,7 @@ use Rattle.client_state.specs.declared.task.Stage.TheVariants as stage
 use Rattle.client_state.specs.declared.task.Way.TheVariants as way
 use Rattle.register_model.specs.declared.op.Word.TheVariants as words
 use Rattle.trace_replay.specs.Trail.{given_in}
-use Rattle.kept_promise.proofs.Common.{nat_tests, ◌==◌, ◌&&◌, not, if◌then◌else◌, sha1, end_from, end_of, slice_get, nat_lt, Chunk, content_length, content_bytes, Command, Answer, Done, Failed, Status, Hashes, Pair, Piece, Body, Pending, names_next, names_more, names_all, is_stored, store_of, store_at, answered, ends, local_most, written_size, written, truncated, tries_most, fetch_of, with_hashes, listed, reads_next, reads_more, reads_all, is_here, read_at, fault_in, other_version, with_bytes, Broken, broken_if, broken_pair, broken_pairs, chunks_from, with_pairs, broken_sum, broken_of, State, local_at, local_bytes, part_of, bad_peer, refused, tries_anew, retries, reads_if, reads_on, lists_on, told_shape, told_version, told_hashes, misfits, told_bytes, told_chunk, told_piece, goes_if, goes_on, sends_whole, told_named, told_way, told_stored, forgets, idle, took, is_open, may_ask, opens_if, opens, on_local, too_big, done_with, edits, writes, truncates, abandons, asks_temp, closes, command_step, Names, Reads, BadPeer, ClientStep, Ended, Outcome, Fetch, Local, ReadCall, Stage, Store, StoreCall, Task, Way, Word, no_counts, taken_traffic, Message, RpcRefusal, WireFault, calls_of, pending, has_call, denied, drops, took_if, denied_if, got_message, got_fault, got_step, nothing_done}
+use Rattle.kept_promise.proofs.Common.{nat_tests, ◌==◌, ◌&&◌, not, if◌then◌else◌, sha1, end_from, end_of, slice_get, nat_lt, Chunk, content_length, content_bytes, Command, Answer, Done, Failed, Status, Hashes, Pair, Piece, Body, Pending, names_next, names_more, names_all, is_stored, store_of, store_at, answered, ends, local_most, written_size, written, truncated, tries_most, fetch_of, with_hashes, listed, reads_next, reads_more, reads_all, is_here, read_at, fault_in, other_version, with_bytes, Broken, broken_if, broken_pair, broken_pairs, chunks_from, with_pairs, broken_sum, broken_of, State, local_at, local_bytes, part_of, bad_peer, refused, tries_anew, retries, reads_if, reads_on, lists_on, told_shape, told_version, told_hashes, misfits, told_bytes, told_chunk, told_piece, goes_if, goes_on, sends_whole, told_named, told_way, told_stored, forgets, idle, took, is_open, may_ask, opens_if, opens, on_local, too_big, done_with, edits, writes, truncates, abandons, asks_temp, closes, command_step, Names, Reads, BadPeer, ClientStep, Ended, Outcome, Fetch, Local, ReadCall, Stage, Upload, UploadCall, Task, Way, Word, no_counts, taken_traffic, Message, RpcRefusal, WireFault, calls_of, pending, has_call, denied, drops, took_if, denied_if, got_message, got_fault, got_step, nothing_done}
 use Rattle.kept_promise.proofs.Lists.{some_is, nothing_there}
 use Rattle.kept_promise.proofs.Messages.{stage_word}
 
@@ -192,8 +192,8 @@ pub data FetchNow (st : Stage) (x : ℕ) (b : Body) (f : Fetch) (bytes : ℕ) : 
       → FetchNow st x b f bytes
 
 -- the store that goes on by an answer
-abbrev pub StoreIn : Stage → (xid : ℕ) → (content : List ℕ) → Store → Type 0
-StoreIn st x content w = ((y temp : ℕ) × (st ≡ stage.Making y temp) × (w ≡ store_of temp content)) ⊎ ((old : Store) × (st ≡ stage.Storing old) × (w ≡ answered old x))
+abbrev pub StoreIn : Stage → (xid : ℕ) → (content : List ℕ) → Upload → Type 0
+StoreIn st x content w = ((y temp : ℕ) × (st ≡ stage.Making y temp) × (w ≡ store_of temp content)) ⊎ ((old : Upload) × (st ≡ stage.Storing old) × (w ≡ answered old x))
 
 -- another version showed than that of the attempt
 abbrev pub GaveUp : Stage → (xid : ℕ) → Body → Fetch → (version : ℕ) → Type 0
@@ -226,9 +226,9 @@ pub record Cases (Z : List (ℕ × ℕ) → State × ClientStep → Type 0) (s :
   pub reads : (f : Fetch) (bytes : ℕ) → FetchNow st x b f bytes → is_here (reads_of s file f).fetch ≡ false → Z (given s file f) (reads_if (looked s file f) calls file x (reads_of s file f) bytes false)
   pub opens : (f : Fetch) (bytes : ℕ) → FetchNow st x b f bytes → is_here (reads_of s file f).fetch ≡ true → Z (given s file f) (reads_if (looked s file f) calls file x (reads_of s file f) bytes true)
   -- further chunks are named, or all are stored, or one is sent whole
-  pub names : (w : Store) → StoreIn st x (local_bytes s.opened file) w → (IsUnknown b → ⊥) → bytes_came x b ≡ 0 → is_stored (names_all s.lbfs w s.next_xid).store ≡ false → Z [] (goes_if s file (local_bytes s.opened file) (names_all s.lbfs w s.next_xid) false)
-  pub commits : (w : Store) → StoreIn st x (local_bytes s.opened file) w → (IsUnknown b → ⊥) → bytes_came x b ≡ 0 → is_stored (names_all s.lbfs w s.next_xid).store ≡ true → Z [] (goes_if s file (local_bytes s.opened file) (names_all s.lbfs w s.next_xid) true)
-  pub whole : (old : Store) (c : StoreCall) (k : Chunk) → st ≡ stage.Storing old → IsUnknown b → bytes_came x b ≡ 0 → store_at old.under x ≡ Some c → c.way ≡ way.Named → slice_get old.chunks c.index ≡ Some k → Z [] (sends_whole s file x (local_bytes s.opened file) (answered old x) c (Some k))
+  pub names : (w : Upload) → StoreIn st x (local_bytes s.opened file) w → (IsUnknown b → ⊥) → bytes_came x b ≡ 0 → is_stored (names_all s.lbfs w s.next_xid).store ≡ false → Z [] (goes_if s file (local_bytes s.opened file) (names_all s.lbfs w s.next_xid) false)
+  pub commits : (w : Upload) → StoreIn st x (local_bytes s.opened file) w → (IsUnknown b → ⊥) → bytes_came x b ≡ 0 → is_stored (names_all s.lbfs w s.next_xid).store ≡ true → Z [] (goes_if s file (local_bytes s.opened file) (names_all s.lbfs w s.next_xid) true)
+  pub whole : (old : Upload) (c : UploadCall) (k : Chunk) → st ≡ stage.Storing old → IsUnknown b → bytes_came x b ≡ 0 → store_at old.under x ≡ Some c → c.way ≡ way.Named → slice_get old.chunks c.index ≡ Some k → Z [] (sends_whole s file x (local_bytes s.opened file) (answered old x) c (Some k))
 
 -- of a client with nothing under way as well
 pub given_idle : (s : State) (o : Option (ℕ × Fetch)) → given_in (idle s) o ≡ given_in s o
@@ -303,27 +303,27 @@ read Z s calls file f x p cases = by (read_at f.under x) refl
     by None e = fault Z s calls file (stage.Reading f) x (body.Nfs (nfs.ReadAnswer (Done p))) cases (bad.UnknownXid x) 0
     by (Some c) e = chunk c e (slice_get f.chunks c.index) refl
 
-goes : (Z : List (ℕ × ℕ) → State × ClientStep → Type 0) (s : State) (calls : List Pending) (file : ℕ) (st : Stage) (x : ℕ) (b : Body) → Cases Z s calls file st x b → (w : Store) → StoreIn st x (local_bytes s.opened file) w → (IsUnknown b → ⊥) → bytes_came x b ≡ 0 → Z [] (goes_on s file (local_bytes s.opened file) w)
+goes : (Z : List (ℕ × ℕ) → State × ClientStep → Type 0) (s : State) (calls : List Pending) (file : ℕ) (st : Stage) (x : ℕ) (b : Body) → Cases Z s calls file st x b → (w : Upload) → StoreIn st x (local_bytes s.opened file) w → (IsUnknown b → ⊥) → bytes_came x b ≡ 0 → Z [] (goes_on s file (local_bytes s.opened file) w)
 goes Z s calls file st x b cases w at known none = by (is_stored (names_all s.lbfs w s.next_xid).store) refl
   where
     by : (t : Bool) → is_stored (names_all s.lbfs w s.next_xid).store ≡ t → Z [] (goes_if s file (local_bytes s.opened file) (names_all s.lbfs w s.next_xid) t)
     by true e = cases.commits w at known none e
     by false e = cases.names w at known none e
 
-stored : (Z : List (ℕ × ℕ) → State × ClientStep → Type 0) (s : State) (calls : List Pending) (file : ℕ) (old : Store) (x : ℕ) (b : Body) → Cases Z s calls file (stage.Storing old) x b → Z [] (told_stored s calls file x (local_bytes s.opened file) old b (store_at old.under x))
+stored : (Z : List (ℕ × ℕ) → State × ClientStep → Type 0) (s : State) (calls : List Pending) (file : ℕ) (old : Upload) (x : ℕ) (b : Body) → Cases Z s calls file (stage.Storing old) x b → Z [] (told_stored s calls file x (local_bytes s.opened file) old b (store_at old.under x))
 stored Z s calls file old x b cases = by (store_at old.under x) refl
   where
     came_none : (d : Body) → b ≡ d → bytes_came x d ≡ 0 → bytes_came x b ≡ 0
     came_none d is e = ap (bytes_came x) is ∙ e
 
-    whole : (c : StoreCall) → store_at old.under x ≡ Some c → c.way ≡ way.Named → IsUnknown b → bytes_came x b ≡ 0 → (o : Option Chunk) → slice_get old.chunks c.index ≡ o → Z [] (sends_whole s file x (local_bytes s.opened file) (answered old x) c o)
+    whole : (c : UploadCall) → store_at old.under x ≡ Some c → c.way ≡ way.Named → IsUnknown b → bytes_came x b ≡ 0 → (o : Option Chunk) → slice_get old.chunks c.index ≡ o → Z [] (sends_whole s file x (local_bytes s.opened file) (answered old x) c o)
     whole c at name is none None e = fault Z s calls file (stage.Storing old) x b cases (bad.UnknownXid x) 0
     whole c at name is none (Some k) e = cases.whole old c k refl is none at name e
 
     go : (IsUnknown b → ⊥) → bytes_came x b ≡ 0 → Z [] (goes_on s file (local_bytes s.opened file) (answered old x))
     go known none = goes Z s calls file (stage.Storing old) x b cases (answered old x) (inr (old, refl, refl)) known none
 
-    named : (c : StoreCall) → store_at old.under x ≡ Some c → c.way ≡ way.Named → (a : Answer Unit Unit) → b ≡ body.Lb (lb.CondWriteAnswer a) → Z [] (told_named s calls file x (local_bytes s.opened file) (answered old x) c a)
+    named : (c : UploadCall) → store_at old.under x ≡ Some c → c.way ≡ way.Named → (a : Answer Unit Unit) → b ≡ body.Lb (lb.CondWriteAnswer a) → Z [] (told_named s calls file x (local_bytes s.opened file) (answered old x) c a)
     named c at name (Done u) is = go (λ z. not_done (subst IsUnknown is z)) (came_none _ is refl)
       where
         not_done : IsUnknown (body.Lb (lb.CondWriteAnswer (Done u))) → ⊥
@@ -331,13 +331,13 @@ stored Z s calls file old x b cases = by (store_at old.under x) refl
     named c at name (Failed status.HashNotFound u) is = whole c at name (subst IsUnknown (sym is) tt) (came_none _ is refl) (slice_get old.chunks c.index) refl
     named c at name (Failed t u) is = plain Z s calls file (stage.Storing old) x b cases t (λ z. subst IsUnknown is z) (came_none _ is refl)
 
-    way_ : (c : StoreCall) → store_at old.under x ≡ Some c → (w : Way) → c.way ≡ w → (d : Body) → b ≡ d → Z [] (told_way s calls file x (local_bytes s.opened file) (answered old x) c w d)
+    way_ : (c : UploadCall) → store_at old.under x ≡ Some c → (w : Way) → c.way ≡ w → (d : Body) → b ≡ d → Z [] (told_way s calls file x (local_bytes s.opened file) (answered old x) c w d)
     way_ c at way.Named name (body.Lb (lb.CondWriteAnswer a)) is = named c at name a is
     way_ c at way.Whole name (body.Lb (lb.TmpWriteAnswer (Done u))) is = go (λ z. subst IsUnknown is z) (came_none _ is refl)
     way_ c at way.Whole name (body.Lb (lb.TmpWriteAnswer (Failed t u))) is = plain Z s calls file (stage.Storing old) x b cases t (λ z. subst IsUnknown is z) (came_none _ is refl)
     way_ c at w name d is = fault Z s calls file (stage.Storing old) x b cases (bad.UnknownXid x) 0
 
-    by : (o : Option StoreCall) → store_at old.under x ≡ o → Z [] (told_stored s calls file x (local_bytes s.opened file) old b o)
+    by : (o : Option UploadCall) → store_at old.under x ≡ o → Z [] (told_stored s calls file x (local_bytes s.opened file) old b o)
     by None e = fault Z s calls file (stage.Storing old) x b cases (bad.UnknownXid x) 0
     by (Some c) e = way_ c e c.way refl b refl
 
@@ -412,7 +412,7 @@ pub now_open : (st : Stage) (x : ℕ) (b : Body) (f : Fetch) (bytes : ℕ) → F
 now_open st x b f bytes (all_told g h is eof at same f_is none) = in_open st x h g at
 now_open st x b f bytes (one_came g c k p is at found chunk fits f_is len) = ap stage_word at
 
-pub in_close : (st : Stage) (x : ℕ) (content : List ℕ) (w : Store) → StoreIn st x content w → stage_word st ≡ words.Close
+pub in_close : (st : Stage) (x : ℕ) (content : List ℕ) (w : Upload) → StoreIn st x content w → stage_word st ≡ words.Close
 in_close st x content w (inl (y, temp, is, e)) = ap stage_word is
 in_close st x content w (inr (old, is, e)) = ap stage_word is
 
@@ -544,9 +544,9 @@ pub record OfCloses (Z : List (ℕ × ℕ) → State × ClientStep → Type 0) (
   pub opens : stage_word st ≡ words.Open → (found : List (ℕ × ℕ)) (r : State × ClientStep) → GoesOn words.Open r → Z found r
   pub renews : stage_word st ≡ words.Rewrite → (r : State × ClientStep) → JustEnds x b r → IsFault r.1.ended ⊎ (bytes_came x b ≡ 0) → Z [] r
   pub ends : stage_word st ≡ words.Close → (r : State × ClientStep) → JustEnds x b r → IsFault r.1.ended ⊎ (bytes_came x b ≡ 0) → Z [] r
-  pub names : (w : Store) → StoreIn st x (local_bytes s.opened file) w → (IsUnknown b → ⊥) → bytes_came x b ≡ 0 → is_stored (names_all s.lbfs w s.next_xid).store ≡ false → Z [] (goes_if s file (local_bytes s.opened file) (names_all s.lbfs w s.next_xid) false)
-  pub commits : (w : Store) → StoreIn st x (local_bytes s.opened file) w → (IsUnknown b → ⊥) → bytes_came x b ≡ 0 → is_stored (names_all s.lbfs w s.next_xid).store ≡ true → Z [] (goes_if s file (local_bytes s.opened file) (names_all s.lbfs w s.next_xid) true)
-  pub whole : (old : Store) (c : StoreCall) (k : Chunk) → st ≡ stage.Storing old → IsUnknown b → bytes_came x b ≡ 0 → store_at old.under x ≡ Some c → c.way ≡ way.Named → slice_get old.chunks c.index ≡ Some k → Z [] (sends_whole s file x (local_bytes s.opened file) (answered old x) c (Some k))
+  pub names : (w : Upload) → StoreIn st x (local_bytes s.opened file) w → (IsUnknown b → ⊥) → bytes_came x b ≡ 0 → is_stored (names_all s.lbfs w s.next_xid).store ≡ false → Z [] (goes_if s file (local_bytes s.opened file) (names_all s.lbfs w s.next_xid) false)
+  pub commits : (w : Upload) → StoreIn st x (local_bytes s.opened file) w → (IsUnknown b → ⊥) → bytes_came x b ≡ 0 → is_stored (names_all s.lbfs w s.next_xid).store ≡ true → Z [] (goes_if s file (local_bytes s.opened file) (names_all s.lbfs w s.next_xid) true)
+  pub whole : (old : Upload) (c : UploadCall) (k : Chunk) → st ≡ stage.Storing old → IsUnknown b → bytes_came x b ≡ 0 → store_at old.under x ≡ Some c → c.way ≡ way.Named → slice_get old.chunks c.index ≡ Some k → Z [] (sends_whole s file x (local_bytes s.opened file) (answered old x) c (Some k))
 
 pub either_word : (st : Stage) → IsOfFile st → (stage_word st ≡ words.Open) ⊎ ((stage_word st ≡ words.Close) ⊎ (stage_word st ≡ words.Rewrite))
 either_word (stage.Making x temp) known = inr (inl refl)

@@ -9,7 +9,7 @@ use Rattle.client_state.specs.declared.task.Stage.TheVariants as stage
 use Rattle.register_model.specs.declared.op.Outcome.{Outcome}
 use Rattle.register_model.specs.declared.op.Outcome.TheVariants as told
 use Rattle.register_model.specs.declared.op.Word.TheVariants as words
-use Rattle.kept_promise.proofs.Common.{changes, cond, nat_tests, slice_get, slice_set, nat_le, Chunk, Answer, Done, Failed, Attr, Piece, Pending, Change, Fetch, Local, Stage, Op, Traffic, TakenCall, Core, Seat, Session, numbered, unless, hashed_of, Book, Entries, Indexed, Call, Call.Lease, Call.Hash, Call.Read, Call.Commit, Reply, Reply.Versioned, Reply.Hashed, Reply.Bytes, Reply.Changed, Ask, Told, Queue, reply_program, Call.Walks, Reply.Walked, Status}
+use Rattle.kept_promise.proofs.Common.{changes, cond, nat_tests, slice_get, slice_set, nat_le, Chunk, Answer, Done, Failed, Attr, Piece, Pending, FileChange, Fetch, Local, Stage, Op, Traffic, TakenCall, Core, Seat, Session, numbered, unless, hashed_of, Book, Entries, Indexed, Call, Call.Lease, Call.Hash, Call.Read, Call.Commit, Reply, Reply.Versioned, Reply.Hashed, Reply.Bytes, Reply.Changed, Ask, Told, Queue, reply_program, Call.Walks, Reply.Walked, Status}
 use Rattle.kept_promise.proofs.Statements.{IsSpoken, CallFits}
 use Rattle.kept_promise.proofs.Lists.{some_is, nothing_there, same_or_not, of_replaced, at_replaced, false_and_true, all_both, all_map}
 use Rattle.kept_promise.proofs.Keys.{times, times_append, own, on_way, ask_key, change_key, told_key, pending_key, found_by, there_by, key_xid}
@@ -108,7 +108,7 @@ pub asks_below : (n : ℕ) (us : List Ask) (top : ℕ) → Rising n us top → A
 asks_below n [] top r = tt
 asks_below n (a ∷ us) top r = let le = rising_to (a.xid + 1) us top r.1 in (omega (arith, le), asks_below (a.xid + 1) us top r.1)
 
-pub tolds_below : (n : ℕ) (w : List Change) (q : Queue) (hung : Bool) (next : ℕ) (calls : List Pending) → IsBalanced n w q hung next calls → AllTolds (λ t. t.xid < next) q.downs
+pub tolds_below : (n : ℕ) (w : List FileChange) (q : Queue) (hung : Bool) (next : ℕ) (calls : List Pending) → IsBalanced n w q hung next calls → AllTolds (λ t. t.xid < next) q.downs
 tolds_below n w q hung next calls h = by q.downs (λ i t at. below t (reach t i at))
   where
     reach : (t : Told) (i : ℕ) → slice_get q.downs i ≡ Some t → 0 < times (told_key t) (on_way n w q)
@@ -275,7 +275,7 @@ kept_goes book k qs n x q t ts j g s next forgotten asks cache index sent tr sea
       old_asks = all_both (λ (a : Ask). a.xid < h.seat.client.next_xid) (IsAsked (Some j)) (IsAsked (Some (on j s))) (λ a lt old. call_anew h.seat.client.next_xid j s a.xid a.call w.again lt old) q.ups (asks_below talk.floor q.ups h.seat.client.next_xid talk.rising) old_asks;
       old_tolds = (subst (AllTolds (IsAnswer more x.taken x.closing (Some (on j s)))) g.first (all_both (λ (u : Told). u.xid < h.seat.client.next_xid) (IsAnswer book x.taken x.closing (Some j)) (IsAnswer more x.taken x.closing (Some (on j s))) (λ u lt old. answer_anew more x.taken x.closing h.seat.client.next_xid j s u.xid u.reply w.again lt (answer_later book more None None x.taken x.closing (Some j) u goes.grows spares old)) q.downs bound old_tolds)).1;
       old_commits = no_commits more x.closing x.cut (Some (on j s)) h.contents q.ups w.quiet.ups;
-      old_pending = λ i d f. nothing_there d (ap (λ (l : List Change). slice_get l i) (sym w.quiet.waiting) ∙ f);
+      old_pending = λ i d f. nothing_there d (ap (λ (l : List FileChange). slice_get l i) (sym w.quiet.waiting) ∙ f);
       moves = w.moves;
       rising = w.rising;
       asked = w.asked;
@@ -284,7 +284,7 @@ kept_goes book k qs n x q t ts j g s next forgotten asks cache index sent tr sea
       commits = all_map (IsCommit book x.closing x.cut (Some (on j s)) h.contents) (IsCommit more x.closing x.cut (Some (on j s)) h.contents) (λ a m. commit_later book more None None x.closing x.cut (Some (on j s)) (Some (on j s)) h.contents a goes.grows spares (λ u. refl) m) asks w.commits;
       pieces = w.pieces;
       under = w.under;
-      few = let a = w.quiet.ups in let b = ap (λ (l : List Change). length l) w.quiet.waiting in let f = w.few in omega (arith, a, b, f);
+      few = let a = w.quiet.ups in let b = ap (λ (l : List FileChange). length l) w.quiet.waiting in let f = w.few in omega (arith, a, b, f);
       linked = (h.here g.uncut).1;
       numbers = refl;
       fetch = λ i f. subst (λ (z : Job). FetchOf more x.taken z z.stage) (some_is (on j s) i f) (fetch_of_later book more None None x.taken (on j s) s goes.grows w.fetch);
@@ -377,7 +377,7 @@ kept_stops book k qs n x q t ts j g r made opened forgotten cache index seats af
       old_asks = asked_none q.ups;
       old_tolds = answers_none more x.taken x.closing ts;
       old_commits = no_commits more x.closing x.cut None h.contents q.ups w.quiet.ups;
-      old_pending = λ i d f. nothing_there d (ap (λ (l : List Change). slice_get l i) (sym w.quiet.waiting) ∙ f);
+      old_pending = λ i d f. nothing_there d (ap (λ (l : List FileChange). slice_get l i) (sym w.quiet.waiting) ∙ f);
       moves = w.moves;
       rising = omega arith;
       asked = tt;
@@ -386,7 +386,7 @@ kept_stops book k qs n x q t ts j g r made opened forgotten cache index seats af
       commits = tt;
       pieces = tt;
       under = tt;
-      few = let a = w.quiet.ups in let b = ap (λ (l : List Change). length l) w.quiet.waiting in omega (arith, a, b);
+      few = let a = w.quiet.ups in let b = ap (λ (l : List FileChange). length l) w.quiet.waiting in omega (arith, a, b);
       linked = (h.here g.uncut).1;
       numbers = refl;
       fetch = λ i f. nothing_there i f;

@@ -17,7 +17,7 @@ use Rattle.register_model.specs.declared.op.Word.TheVariants as words
 use Rattle.trace_ends.specs.Session.{taken_of as session_taken}
 use Rattle.trace_replay.specs.Trail.{taken_of}
 use Rattle.trace_replay.specs.Traffic.{traffic_of, commit_number, commits_in as commits_said, IsFetchCall, IsVersionCall}
-use Rattle.kept_promise.proofs.Common.{changes, slice_get, Change, cut, ClientStep, Ended, Outcome, Op, Opening, Word, TakenCall, has_point, point_if, op_after, Core, Seat, Session, Event, numbered, session_of, ops_with, happens, Moment, sent_in, sent_of, SentCommit, Book, Message, Call, Call.Commit, Ask, Queue, Contains-append_left, Said, Deal, Deal.Took, Deal.Found, Deal.Sent, deals_of, stored_traffic, cond, Call.Walks, Wanted}
+use Rattle.kept_promise.proofs.Common.{changes, slice_get, FileChange, cut, ClientStep, Ended, Outcome, Op, Opening, Word, TakenCall, has_point, point_if, op_after, Core, Seat, Session, Event, numbered, session_of, ops_with, happens, Moment, sent_in, sent_of, SentCommit, Book, Message, Call, Call.Commit, Ask, Queue, Contains-append_left, Said, Deal, Deal.Took, Deal.Found, Deal.Sent, deals_of, stored_traffic, cond, Call.Walks, Wanted}
 use Rattle.kept_promise.proofs.Lists.{some_is, nothing_there, within, of_replaced, of_appended, true_and_false}
 use Rattle.kept_promise.proofs.Keys.{own}
 use Rattle.kept_promise.proofs.Messages.{job, AllAsks, IsCommit, CommitOf, IsPending, Job, IsCreating, goal_word, IsGoing, WaitsFor, asked_word}
@@ -59,7 +59,7 @@ asked_not_close : (a : Asked) → asked_word a ≡ words.Close → ⊥
 asked_not_close (asked.Remove r) e = absurd cc
 asked_not_close (asked.Rename r) e = absurd cc
 
--- the close that a session with a COMMITTMP on its way, or with a change that waits, remembers
+-- the close that a session with a COMMITTMP on its way, or with a pending change, remembers
 abbrev pub Waits : (past : List Moment) → Core → List Queue → (cut : Bool) → Type 0
 Waits past k qs cut = (n p : ℕ) (x : Session) (q : Queue) (o : Op) → numbered k.sessions n ≡ Some x → numbered qs n ≡ Some q → x.cut ≡ cut → x.closing ≡ Some p → 0 < commits_in q.ups + length (own n k.server.waiting) → slice_get k.ops p ≡ Some o → o.word ≡ words.Close → SentCommit o (sent_of past)
 
@@ -83,8 +83,8 @@ on_its_way book seats k n x q h lt = by (own n k.server.waiting) refl
             creates false none lt = later (omega (arith, lt))
         one _ all lt later = later (omega (arith, lt))
 
-    by : (cs : List Change) → own n k.server.waiting ≡ cs → OnWay book x.closing x.cut (job h.seat)
-    by (c ∷ cs) e = waiting c.what (h.pending 0 c (ap (λ (l : List Change). slice_get l 0) e))
+    by : (cs : List FileChange) → own n k.server.waiting ≡ cs → OnWay book x.closing x.cut (job h.seat)
+    by (c ∷ cs) e = waiting c.what (h.pending 0 c (ap (λ (l : List FileChange). slice_get l 0) e))
       where
         waiting : (w : Wanted) → WaitsFor book c.session x.closing x.cut (job h.seat) c.xid c.file w → OnWay book x.closing x.cut (job h.seat)
         waiting (wanted.Content content) p = inl (c.xid, c.file, content, p)

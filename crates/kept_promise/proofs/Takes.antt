@@ -5,7 +5,7 @@ use Rattle.server_core.specs.State as server
 use Rattle.chunk_calls.specs.Files as the_files
 use Rattle.client_state.specs.State as client
 use Rattle.register_model.specs.declared.op.Outcome.TheVariants as told
-use Rattle.kept_promise.proofs.Common.{slice_get, Indexed, MessageFits, Temp, key_of, Change, File, TakenCall, Core, Session, numbered, unless, hashed_of, Book, value_at, Reply, Ask, Told, Queue, told_message, call_program, reply_program, version_at, Entry, Op, Seat, Tree, Leasing}
+use Rattle.kept_promise.proofs.Common.{slice_get, Indexed, MessageFits, Temp, key_of, FileChange, File, TakenCall, Core, Session, numbered, unless, hashed_of, Book, value_at, Reply, Ask, Told, Queue, told_message, call_program, reply_program, version_at, Entry, Op, Seat, Tree, Leasing}
 use Rattle.kept_promise.proofs.Statements.{ToldFits, CallFits}
 use Rattle.kept_promise.proofs.Lists.{some_is, nothing_there, same_or_not, false_and_true, all_append, all_map, all_unless}
 use Rattle.kept_promise.proofs.Keys.{times, times_append, own, on_way, key, change_key, ask_key, told_key}
@@ -49,7 +49,7 @@ abbrev pub put_down : Queue → List Ask → (cut : Bool) → Told → Queue
 put_down q us cut t = record { ups = us; downs = unless cut q.downs (t ∷ []) }
 
 -- a message that is answered is where its call was
-pub way_moved : (n y : ℕ) (w : List Change) (q : Queue) (a : Ask) (us : List Ask) (t : Told) → q.ups ≡ a ∷ us → told_key t ≡ ask_key a → times y (on_way n w (put_down q us false t)) ≡ times y (on_way n w q)
+pub way_moved : (n y : ℕ) (w : List FileChange) (q : Queue) (a : Ask) (us : List Ask) (t : Told) → q.ups ≡ a ∷ us → told_key t ≡ ask_key a → times y (on_way n w (put_down q us false t)) ≡ times y (on_way n w q)
 way_moved n y w q a us t e same =
     let middle = map change_key (own n w) in
     let one = times_append y (map ask_key us) (middle ++ map told_key (q.downs ++ t ∷ [])) in
@@ -79,7 +79,7 @@ pub record Shows (book more : Book) (k : Core) (n : ℕ) (x : Session) (q : Queu
   pub answers : x.cut ≡ false → AllTolds (IsAnswer more (x.taken ++ record { xid = a.xid; step = book.steps + 1 } ∷ []) x.closing (job h.seat)) q.downs
   pub commits : AllAsks (IsCommit more x.closing x.cut (job h.seat) h.contents) us
   pub closes : x.cut ≡ false → (j : Job) → job h.seat ≡ Some j → CloseOf more x.closing h.contents h.seat.client.next_temp j (client.local_bytes h.seat.client.opened j.file) j.stage
-  pub pending : (i : ℕ) (c : Change) → slice_get (own n k.server.waiting) i ≡ Some c → WaitsFor more c.session x.closing x.cut (job h.seat) c.xid c.file c.what
+  pub pending : (i : ℕ) (c : FileChange) → slice_get (own n k.server.waiting) i ≡ Some c → WaitsFor more c.session x.closing x.cut (job h.seat) c.xid c.file c.what
   pub wanted : x.cut ≡ false → Wanted more (job h.seat) a.xid r
   pub held : x.cut ≡ false → Held s.temps n us (unless x.cut q.downs (record { xid = a.xid; reply = r } ∷ [])) (locals_of h.seat.client) (job h.seat)
   pub running : (p : ℕ) (o : Op) → slice_get more.ops p ≡ Some o → o.outcome ≡ told.Running → (e : Seat) × (j : Job) × (numbered k.seats o.client ≡ Some e) × (job e ≡ Some j) × (j.place ≡ p)

@@ -3,7 +3,7 @@ use Rattle.std.proofs.Common.{◌≡◌, ℕ, zero, suc, ◌<◌, ◌≤◌, Lis
 use Rattle.client_state.specs.State as client
 use Rattle.client_state.specs.declared.task.Stage.TheVariants as stage
 use Rattle.client_state.specs.declared.task.Way.TheVariants as way
-use Rattle.kept_promise.proofs.Common.{slice_get, Contains, Chunk, Answer, Done, Failed, Attr, Committed, Piece, Body, Pending, has_call, store_pending, read_pending, store_at, answered, read_at, idle, told_way, told_stored, Fetch, ReadCall, Stage, Store, StoreCall, Way, Core, Session, hashed_of, Book, Reply, Reply.Bytes, Reply.Changed, Told, Queue, reply_body, reply_program}
+use Rattle.kept_promise.proofs.Common.{slice_get, Contains, Chunk, Answer, Done, Failed, Attr, Committed, Piece, Body, Pending, has_call, store_pending, read_pending, store_at, answered, read_at, idle, told_way, told_stored, Fetch, ReadCall, Stage, Upload, UploadCall, Way, Core, Session, hashed_of, Book, Reply, Reply.Bytes, Reply.Changed, Told, Queue, reply_body, reply_program}
 use Rattle.open_close.specs.Step.{takes}
 use Rattle.kept_promise.proofs.Lists.{some_is, nothing_there, there_at}
 use Rattle.kept_promise.proofs.Keys.{times, code_of}
@@ -71,8 +71,8 @@ took_read book k qs n x q t ts j g f at noted looked r under a is = by a is
     by (Done p) is = λ named. comes_read book k qs n x q t ts j g f p r chunk.0 (record { at = at; reply_is = is; under = under; chunk = chunk.1; noted = λ len. noted p r chunk.0 is under chunk.1 len; looked = looked })
     by (Failed s v) is = λ named. comes_refused book k qs n x q t ts j g s (ap stage_word at) quiet (subst (AnswerOf book x.taken x.closing (Some j) t.xid) is (said book k qs n x q t ts j g) j f chunk.0 refl at (ap (λ z. read_chunk z t.xid) at ∙ ap (chunk_for f.chunks) under ∙ chunk.1))
 
-took_stored : (book : Book) (k : Core) (qs : List Queue) (n : ℕ) (x : Session) (q : Queue) (t : Told) (ts : List Told) (j : Job) (g : Here book k qs n x q t ts j) (st : Store) → j.file < 18446744073709551616 → j.stage ≡ stage.Storing st → (u : StoreCall) → store_at st.under t.xid ≡ Some u → store_pending u ≡ told_pending t → Took book k qs n x q t ts j g (stage.Storing st) (reply_body t.reply)
-took_stored book k qs n x q t ts j g st fits at u found same = subst (λ (o : Option StoreCall). Makes book k qs n x q t ts j g (told_stored (idle (client_at book k qs n x q t ts j g)) (client.calls_of (client_at book k qs n x q t ts j g)) j.file t.xid (local_of g) st (reply_body t.reply) o)) (sym found) (by u.way refl)
+took_stored : (book : Book) (k : Core) (qs : List Queue) (n : ℕ) (x : Session) (q : Queue) (t : Told) (ts : List Told) (j : Job) (g : Here book k qs n x q t ts j) (st : Upload) → j.file < 18446744073709551616 → j.stage ≡ stage.Storing st → (u : UploadCall) → store_at st.under t.xid ≡ Some u → store_pending u ≡ told_pending t → Took book k qs n x q t ts j g (stage.Storing st) (reply_body t.reply)
+took_stored book k qs n x q t ts j g st fits at u found same = subst (λ (o : Option UploadCall). Makes book k qs n x q t ts j g (told_stored (idle (client_at book k qs n x q t ts j g)) (client.calls_of (client_at book k qs n x q t ts j g)) j.file t.xid (local_of g) st (reply_body t.reply) o)) (sym found) (by u.way refl)
   where
     by : (w : Way) → u.way ≡ w → Makes book k qs n x q t ts j g (told_way (idle (client_at book k qs n x q t ts j g)) (client.calls_of (client_at book k qs n x q t ts j g)) j.file t.xid (local_of g) (answered st t.xid) u w (reply_body t.reply))
     by way.Named e =

@@ -8,7 +8,7 @@ use Rattle.client_state.specs.Noting.{at as clocked}
 use Rattle.open_close.specs.Step.{called, called_back}
 use Rattle.wire.specs.declared.message.Message.TheVariants as message
 use Rattle.wire.specs.declared.message.RpcRefusal.TheVariants as refusal
-use Rattle.kept_promise.proofs.Common.{Chunk, Done, Body, Message, Pending, RpcRefusal, WireFault, cond_call, commit_call, names_from, names_all, calls_most, read_call, reads_chunk, reads_from, State, local_bytes, pending, calls_of, has_call, idle, denied, took, drops, took_if, denied_if, got_message, got_fault, got_step, Reads, ClientStep, Counts, Fetch, Stage, Store, Task, Traffic, no_traffic, wanted_if, wanted_by, sent_traffic, taken_traffic, both}
+use Rattle.kept_promise.proofs.Common.{Chunk, Done, Body, Message, Pending, RpcRefusal, WireFault, cond_call, commit_call, names_from, names_all, calls_most, read_call, reads_chunk, reads_from, State, local_bytes, pending, calls_of, has_call, idle, denied, took, drops, took_if, denied_if, got_message, got_fault, got_step, Reads, ClientStep, Counts, Fetch, Stage, Upload, Task, Traffic, no_traffic, wanted_if, wanted_by, sent_traffic, taken_traffic, both}
 use Rattle.kept_promise.proofs.StepCases.{reads_keep, names_keep, IsFault, bytes_came, JustEnds, FetchNow, FetchNow.all_told, FetchNow.one_came, reads_of, Cases, took_cases, Walks, walk_cases}
 use Rattle.path_calls.specs.Walk.{next_call}
 use Rattle.path_calls.specs.declared.answers.Told.{Told as WalkTold}
@@ -106,7 +106,7 @@ all_reads s file f = reads_keep (λ r. AreReads r.send) s.cache s.index file (λ
     by r c h None = one_read r.send r.next_xid file c h
     by r c h (Some bytes) = h
 
-pub all_names : (lbfs : ℕ) (st : Store) (next : ℕ) → AreNames (names_all lbfs st next).send
+pub all_names : (lbfs : ℕ) (st : Upload) (next : ℕ) → AreNames (names_all lbfs st next).send
 all_names lbfs st next = names_keep lbfs (λ n. AreNames n.send) (λ n c h at. one_name n.send lbfs n.next_xid n.store.temp c h) (calls_most - length st.under) (names_from st next) (record { cond = refl; tmp = refl; read = refl; data_is = refl })
 
 -- ---- an answer

@@ -13,7 +13,7 @@ use Rattle.tree_reading.specs.Names.{spelt, undotted}
 use Rattle.tree_reading.specs.declared.call.Changed.{Changed}
 use Rattle.tree_reading.specs.declared.call.CreateMode.{CreateMode}
 use Rattle.tree_reading.specs.declared.call.CreateMode.TheVariants as mode
-use Rattle.tree_reading.specs.declared.call.Held.{Held}
+use Rattle.tree_reading.specs.declared.call.Reservation.{Reservation}
 use Rattle.tree_reading.specs.declared.call.Planned.{Planned}
 use Rattle.tree_reading.specs.declared.call.Planned.TheVariants as planned
 use Rattle.tree_reading.specs.Tree.{Tree, content_of, contents_size, node_of, directory_of, directory_or, file_or, or_no_entry, or_taken, changes_most}
@@ -26,17 +26,17 @@ use Rattle.server_law.proofs.TreeCalls.{bind_ok, ok_is}
 use Rattle.kept_promise.proofs.TreeTold.{entry_is}
 
 -- there is room for so many changes beside those that are held
-abbrev pub IsSpared : Tree → Held → ℕ → Type 0
+abbrev pub IsSpared : Tree → Reservation → ℕ → Type 0
 IsSpared t held n = t.changes + held.entries + n ≤ changes_most
 
 -- the limits are kept, the room that is held is there still, and no bytes came
-abbrev pub Stays : Held → Tree → Tree → Type 0
+abbrev pub Stays : Reservation → Tree → Tree → Type 0
 Stays held t u = IsBounded t → IsSpared t held 0 → IsBounded u × IsSpared u held 0 × (contents_size u.nodes ≤ contents_size t.nodes)
 
-pub stays_same : (held : Held) (t : Tree) → Stays held t t
+pub stays_same : (held : Reservation) (t : Tree) → Stays held t t
 stays_same held t h room = (h, room, omega arith)
 
-pub spared_room : (t : Tree) (held : Held) (n : ℕ) (u : Unit) → spared t.changes held n ≡ Ok u → IsSpared t held n
+pub spared_room : (t : Tree) (held : Reservation) (n : ℕ) (u : Unit) → spared t.changes held n ≡ Ok u → IsSpared t held n
 spared_room t held n u e = by (nat_lt changes_most (t.changes + held.entries + n)) refl e
   where
     by : (b : Bool) → nat_lt changes_most (t.changes + held.entries + n) ≡ b → (let r : Result Unit Status = if b then Err status.NoSpc else Ok tt in r ≡ Ok u) → t.changes + held.entries + n ≤ changes_most
@@ -56,7 +56,7 @@ fewer_size (m ∷ ms) id = by (not (m.id == id)) (fewer_size ms id)
     by true le = omega (arith, le)
     by false le = omega (arith, le)
 
-made_stays : (held : Held) (t : Tree) (n : Node) → n.id ≡ t.next → n.version ≤ t.changes + 1 → length (content_of n.body) ≡ 0 → IsSpared t held 1 → Stays held t (made t n)
+made_stays : (held : Reservation) (t : Tree) (n : Node) → n.id ≡ t.next → n.version ≤ t.changes + 1 → length (content_of n.body) ≡ 0 → IsSpared t held 1 → Stays held t (made t n)
 made_stays held t n id version none room h free =
     let raised = counted (nodes_of t) t.changes (t.changes + 1) h (omega arith) (omega (arith, room)) in
     let next = h.next in
@@ -66,7 +66,7 @@ made_stays held t n id version none room h free =
     let more = size_with t.nodes n in
     (limits_versioned (record { nodes = with_node t.nodes n; next = t.next + 1; room = 0 }) (t.changes + 1) n.parent (t.changes + 1) 0 wide (omega arith), omega (arith, room), omega (arith, same, more, none))
 
-removed_stays : (held : Held) (t : Tree) (dir id : ℕ) → IsSpared t held 1 → Stays held t (removed t dir id)
+removed_stays : (held : Reservation) (t : Tree) (dir id : ℕ) → IsSpared t held 1 → Stays held t (removed t dir id)
 removed_stays held t dir id room h free =
     let raised = counted (nodes_of t) t.changes (t.changes + 1) h (omega arith) (omega (arith, room)) in
     let fewer = limits_without (nodes_of t) (t.changes + 1) id 0 raised in
@@ -92,7 +92,7 @@ abbrev pub moves : Option Node → ℕ
 moves None = 1
 moves (Some m) = 2
 
-moved_stays : (held : Held) (t : Tree) (dir : ℕ) (n : Node) (o : Option Node) (to : ℕ) (name : List ℕ) → with_id t.nodes n.id ≡ Some n → ((m : Node) → o ≡ Some m → (m.id == n.id) ≡ false) → IsSpared t held (moves o) → Stays held t (moved t dir n o to name)
+moved_stays : (held : Reservation) (t : Tree) (dir : ℕ) (n : Node) (o : Option Node) (to : ℕ) (name : List ℕ) → with_id t.nodes n.id ≡ Some n → ((m : Node) → o ≡ Some m → (m.id == n.id) ≡ false) → IsSpared t held (moves o) → Stays held t (moved t dir n o to name)
 moved_stays held t dir n None to name at apart room h free =
     let raised = counted (nodes_of t) t.changes (t.changes + 1) h (omega arith) (omega (arith, room)) in
     let p = placed_stays t t.nodes (t.changes + 1) dir n to name raised at in
@@ -109,7 +109,7 @@ moved_stays held t dir n (Some m) to name at apart room h free =
 
 -- ---- the calls
 
-create_room : (t : Tree) (held : Held) (dir : ℕ) (name : List ℕ) (m : CreateMode) → create_plan t held dir name m ≡ Ok None → IsSpared t held 1
+create_room : (t : Tree) (held : Reservation) (dir : ℕ) (name : List ℕ) (m : CreateMode) → create_plan t held dir name m ≡ Ok None → IsSpared t held 1
 create_room t held dir name m e =
     let p = bind_ok (may_create t held dir name m) (λ found. Ok (option_map nothing found)) None e in
     let a = bind_ok (directory_of t.nodes dir) (λ _. spelt name >>= λ _. undotted status.Inval status.Inval name >>= λ _. create_mode t held dir name m) p.0 p.1 in
@@ -133,7 +133,7 @@ create_room t held dir name m e =
     by mode.Guarded f e none = found mode.Guarded (named t.nodes dir name) f e none
     by mode.Unchecked f e none = found mode.Unchecked (named t.nodes dir name) f e none
 
-pub create_stays : (t : Tree) (held : Held) (dir : ℕ) (name : List ℕ) (m : CreateMode) → Stays held t (create t held dir name m).0
+pub create_stays : (t : Tree) (held : Reservation) (dir : ℕ) (name : List ℕ) (m : CreateMode) → Stays held t (create t held dir name m).0
 create_stays t held dir name m = by (create_plan t held dir name m) refl
   where
     by : (r : Result (Option Changed) Status) → create_plan t held dir name m ≡ r → Stays held t (create_made t dir name r).0
@@ -141,7 +141,7 @@ create_stays t held dir name m = by (create_plan t held dir name m) refl
     by (Ok (Some done)) e = stays_same held t
     by (Ok None) e = made_stays held t (new_file t dir name) refl (omega arith) refl (create_room t held dir name m e)
 
-mkdir_room : (t : Tree) (held : Held) (dir : ℕ) (name : List ℕ) (u : Unit) → may_mkdir t held dir name ≡ Ok u → IsSpared t held 1
+mkdir_room : (t : Tree) (held : Reservation) (dir : ℕ) (name : List ℕ) (u : Unit) → may_mkdir t held dir name ≡ Ok u → IsSpared t held 1
 mkdir_room t held dir name u e =
     let a = bind_ok (directory_of t.nodes dir) (λ _. spelt name >>= λ _. undotted status.Exist status.Exist name >>= λ _. or_taken (named t.nodes dir name) >>= λ _. spared t.changes held 1) u e in
     let b = bind_ok (spelt name) (λ _. undotted status.Exist status.Exist name >>= λ _. or_taken (named t.nodes dir name) >>= λ _. spared t.changes held 1) u a.2 in
@@ -149,14 +149,14 @@ mkdir_room t held dir name u e =
     let d = bind_ok (or_taken (named t.nodes dir name)) (λ _. spared t.changes held 1) u c.2 in
     spared_room t held 1 u d.2
 
-pub mkdir_stays : (t : Tree) (held : Held) (dir : ℕ) (name : List ℕ) → Stays held t (mkdir t held dir name).0
+pub mkdir_stays : (t : Tree) (held : Reservation) (dir : ℕ) (name : List ℕ) → Stays held t (mkdir t held dir name).0
 mkdir_stays t held dir name = by (may_mkdir t held dir name) refl
   where
     by : (r : Result Unit Status) → may_mkdir t held dir name ≡ r → Stays held t (mkdir_if t dir name r).0
     by (Err s) e = stays_same held t
     by (Ok u) e = made_stays held t (new_directory t dir name) refl (omega arith) refl (mkdir_room t held dir name u e)
 
-pub remove_room : (t : Tree) (held : Held) (dir : ℕ) (name : List ℕ) (done : Changed) → remove_plan t held dir name ≡ Ok done → IsSpared t held 1
+pub remove_room : (t : Tree) (held : Reservation) (dir : ℕ) (name : List ℕ) (done : Changed) → remove_plan t held dir name ≡ Ok done → IsSpared t held 1
 remove_room t held dir name done e =
     let p = bind_ok (may_remove t held dir name) (λ n. Ok (remove_done n)) done e in
     let a = bind_ok (directory_of t.nodes dir) (λ _. spelt name >>= λ _. undotted status.Inval status.Inval name >>= λ _. or_no_entry (named t.nodes dir name) >>= file_or status.IsDir >>= λ n. spared t.changes held 1 >>= λ _. Ok n) p.0 p.1 in
@@ -166,7 +166,7 @@ remove_room t held dir name done e =
     let h = bind_ok (spared t.changes held 1) (λ _. Ok f.0) p.0 f.2 in
     spared_room t held 1 h.0 h.1
 
-rmdir_room : (t : Tree) (held : Held) (dir : ℕ) (name : List ℕ) (done : Changed) → rmdir_plan t held dir name ≡ Ok done → IsSpared t held 1
+rmdir_room : (t : Tree) (held : Reservation) (dir : ℕ) (name : List ℕ) (done : Changed) → rmdir_plan t held dir name ≡ Ok done → IsSpared t held 1
 rmdir_room t held dir name done e =
     let p = bind_ok (may_rmdir t held dir name) (λ n. Ok (remove_done n)) done e in
     let a = bind_ok (directory_of t.nodes dir) (λ _. spelt name >>= λ _. undotted status.Inval status.Exist name >>= λ _. or_no_entry (named t.nodes dir name) >>= directory_or status.NotDir >>= λ n. or_not_empty t.nodes n >>= λ _. spared t.changes held 1 >>= λ _. Ok n) p.0 p.1 in
@@ -177,25 +177,25 @@ rmdir_room t held dir name done e =
     let k = bind_ok (spared t.changes held 1) (λ _. Ok f.0) p.0 h.2 in
     spared_room t held 1 k.0 k.1
 
-gone_stays : (t : Tree) (held : Held) (dir : ℕ) (r : Result Changed Status) → ((done : Changed) → r ≡ Ok done → IsSpared t held 1) → Stays held t (remove_if t dir r).0
+gone_stays : (t : Tree) (held : Reservation) (dir : ℕ) (r : Result Changed Status) → ((done : Changed) → r ≡ Ok done → IsSpared t held 1) → Stays held t (remove_if t dir r).0
 gone_stays t held dir (Err s) room = stays_same held t
 gone_stays t held dir (Ok done) room = removed_stays held t dir done.id (room done refl)
 
-pub remove_stays : (t : Tree) (held : Held) (dir : ℕ) (name : List ℕ) → Stays held t (remove t held dir name).0
+pub remove_stays : (t : Tree) (held : Reservation) (dir : ℕ) (name : List ℕ) → Stays held t (remove t held dir name).0
 remove_stays t held dir name = gone_stays t held dir (remove_plan t held dir name) (λ done e. remove_room t held dir name done e)
 
-pub rmdir_stays : (t : Tree) (held : Held) (dir : ℕ) (name : List ℕ) → Stays held t (rmdir t held dir name).0
+pub rmdir_stays : (t : Tree) (held : Reservation) (dir : ℕ) (name : List ℕ) → Stays held t (rmdir t held dir name).0
 rmdir_stays t held dir name = gone_stays t held dir (rmdir_plan t held dir name) (λ done e. rmdir_room t held dir name done e)
 
 -- ---- RENAME
 
 -- what is known of one that is planned, of a node
-abbrev pub IsMove : Tree → Held → Node → (found : Option Node) → Planned → Type 0
+abbrev pub IsMove : Tree → Reservation → Node → (found : Option Node) → Planned → Type 0
 IsMove t held n found (planned.Nothing done) = Unit {0}
 IsMove t held n found (planned.Free done) = (found ≡ None) × IsSpared t held 1
 IsMove t held n found (planned.Over done) = (m : Node) × (found ≡ Some m) × ((m.id == n.id) ≡ false) × IsSpared t held 2
 
-over_move : (t : Tree) (held : Held) (n : Node) (found : Option Node) (p : Planned) → is_same n found ≡ false → (rename_over t held n found >>= λ target. Ok (planned_as n target)) ≡ Ok p → IsMove t held n found p
+over_move : (t : Tree) (held : Reservation) (n : Node) (found : Option Node) (p : Planned) → is_same n found ≡ false → (rename_over t held n found >>= λ target. Ok (planned_as n target)) ≡ Ok p → IsMove t held n found p
 over_move t held n None p other e =
     let a = bind_ok (rename_over t held n None) (λ target. Ok (planned_as n target)) p e in
     let b = bind_ok (spared t.changes held 1) (λ _. Ok (over None)) a.0 a.1 in
@@ -206,7 +206,7 @@ over_move t held n (Some m) p other e =
     let c = bind_ok (spared t.changes held 2) (λ _. Ok (over (Some m))) a.0 b.2 in
     subst (IsMove t held n (Some m)) (ap (planned_as n) (ok_is (over (Some m)) a.0 c.2) ∙ ok_is (planned_as n a.0) p a.2) (m, refl, other, spared_room t held 2 c.0 c.1)
 
-pub move_is : (t : Tree) (held : Held) (n : Node) (to : ℕ) (found : Option Node) (p : Planned) → planned_found t held n to found ≡ Ok p → IsMove t held n found p
+pub move_is : (t : Tree) (held : Reservation) (n : Node) (to : ℕ) (found : Option Node) (p : Planned) → planned_found t held n to found ≡ Ok p → IsMove t held n found p
 move_is t held n to found p e = by (is_same n found) refl e
   where
     by : (b : Bool) → is_same n found ≡ b → ((let r : Result Target Status = if b then Ok itself else (or_within t.nodes n to >>= λ _. rename_over t held n found) in r) >>= λ target. Ok (planned_as n target)) ≡ Ok p → IsMove t held n found p
@@ -217,7 +217,7 @@ move_is t held n to found p e = by (is_same n found) refl e
         over_move t held n found p is (ap (λ (r : Result Target Status). r >>= λ target. Ok (planned_as n target)) b.2 ∙ a.2)
 
 -- what a RENAME finds
-pub rename_finds : (t : Tree) (held : Held) (dir : ℕ) (name : List ℕ) (to : ℕ) (to_name : List ℕ) (p : Planned) → rename_plan t held dir name to to_name ≡ Ok p → (n : Node) × (named t.nodes dir name ≡ Some n) × (planned_found t held n to (named t.nodes to to_name) ≡ Ok p)
+pub rename_finds : (t : Tree) (held : Reservation) (dir : ℕ) (name : List ℕ) (to : ℕ) (to_name : List ℕ) (p : Planned) → rename_plan t held dir name to to_name ≡ Ok p → (n : Node) × (named t.nodes dir name ≡ Some n) × (planned_found t held n to (named t.nodes to to_name) ≡ Ok p)
 rename_finds t held dir name to to_name p e =
     let rest = λ (n : Node). planned_found t held n to (named t.nodes to to_name) in
     let a = bind_ok (node_of t.nodes dir) (λ d. node_of t.nodes to >>= λ e. directory_or status.NotDir d >>= λ _. directory_or status.NotDir e >>= λ _. spelt name >>= λ _. undotted status.Inval status.Inval name >>= λ _. spelt to_name >>= λ _. undotted status.Inval status.Inval to_name >>= λ _. or_no_entry (named t.nodes dir name) >>= rest) p e in
@@ -231,7 +231,7 @@ rename_finds t held dir name to to_name p e =
     let l = bind_ok (or_no_entry (named t.nodes dir name)) rest p k.2 in
     (l.0, entry_is (named t.nodes dir name) l.0 l.1, l.2)
 
-pub rename_stays : (t : Tree) (held : Held) (dir : ℕ) (name : List ℕ) (to : ℕ) (to_name : List ℕ) → Stays held t (rename t held dir name to to_name).0
+pub rename_stays : (t : Tree) (held : Reservation) (dir : ℕ) (name : List ℕ) (to : ℕ) (to_name : List ℕ) → Stays held t (rename t held dir name to to_name).0
 rename_stays t held dir name to to_name = by (rename_plan t held dir name to to_name) refl
   where
     none_some : (m : Node) → ◌≡◌ {A = Option Node} None (Some m) → ⊥

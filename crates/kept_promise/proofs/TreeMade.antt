@@ -10,7 +10,7 @@ use Rattle.tree_reading.specs.Chain.{◌>>=◌}
 use Rattle.tree_reading.specs.Names.{spelt, undotted}
 use Rattle.tree_reading.specs.Reading.{standing_of}
 use Rattle.tree_reading.specs.declared.call.Changed.{Changed}
-use Rattle.tree_reading.specs.declared.call.Held.{Held}
+use Rattle.tree_reading.specs.declared.call.Reservation.{Reservation}
 use Rattle.tree_reading.specs.declared.call.Spot.{Spot}
 use Rattle.tree_reading.specs.Tree.{Tree, is_directory, file_or, directory_of, or_no_entry}
 use Rattle.tree_reading.specs.Plans.{spared, may_remove, remove_done, remove_plan, is_node}
@@ -33,7 +33,7 @@ file_if : (n m : Node) (b : Bool) → (let r : Result Node Status = if b then Er
 file_if n m true e = absurd cc
 file_if n m false e = (refl, ok_is n m e)
 
-pub remove_file : (t : Tree) (held : Held) (dir : ℕ) (name : List ℕ) (done : Changed) → remove_plan t held dir name ≡ Ok done → (n : Node) × (named t.nodes dir name ≡ Some n) × (is_directory n.body ≡ false) × (done ≡ remove_done n)
+pub remove_file : (t : Tree) (held : Reservation) (dir : ℕ) (name : List ℕ) (done : Changed) → remove_plan t held dir name ≡ Ok done → (n : Node) × (named t.nodes dir name ≡ Some n) × (is_directory n.body ≡ false) × (done ≡ remove_done n)
 remove_file t held dir name done e =
     let p = bind_ok (may_remove t held dir name) (λ n. Ok (remove_done n)) done e in
     let a = bind_ok (directory_of t.nodes dir) (λ _. spelt name >>= λ _. undotted status.Inval status.Inval name >>= λ _. or_no_entry (named t.nodes dir name) >>= file_or status.IsDir >>= λ n. spared t.changes held 1 >>= λ _. Ok n) p.0 p.1 in

@@ -2,7 +2,7 @@
 use Rattle.std.proofs.Common.{◌≤◌, ◌⊎◌, inl, inr, ◌≡◌, ℕ, zero, suc, ◌<◌, List, [], ◌∷◌, length, Option, Some, None, false, refl, sym, ap, ◌∙◌, subst, arith}
 use Rattle.server_core.specs.State as server
 use Rattle.register_model.specs.declared.op.Outcome.TheVariants as told
-use Rattle.kept_promise.proofs.Common.{slice_get, slice_set, Change, Op, Core, Seat, Session, numbered, with_numbered, Book, Queue}
+use Rattle.kept_promise.proofs.Common.{slice_get, slice_set, FileChange, Op, Core, Seat, Session, numbered, with_numbered, Book, Queue}
 use Rattle.kept_promise.proofs.Lists.{some_is, nothing_there, same_or_not, at_replaced, within, set_count, set_else}
 use Rattle.kept_promise.proofs.Messages.{Job, job}
 use Rattle.kept_promise.proofs.History.{Goes}
@@ -66,7 +66,7 @@ pub record Turn (book more : Book) (k : Core) (qs : List Queue) (r : server.Stat
   pub seat : IsSeat more sessions x.owner d
   pub running : (p : ℕ) (o : Op) → slice_get more.ops p ≡ Some o → o.outcome ≡ told.Running → (e : Seat) × (j : Job) × (numbered seats o.client ≡ Some e) × (job e ≡ Some j) × (j.place ≡ p)
   pub shelf : IsShelf r.temps
-  pub home : (i : ℕ) (g : Change) → slice_get r.waiting i ≡ Some g → (z : Session) × (numbered sessions g.session ≡ Some z) × (z.hung ≡ false)
+  pub home : (i : ℕ) (g : FileChange) → slice_get r.waiting i ≡ Some g → (z : Session) × (numbered sessions g.session ≡ Some z) × (z.hung ≡ false)
 
 -- the core after it
 abbrev pub turned_core : Core → Book → server.State → List Seat → List Session → Core

@@ -8,9 +8,9 @@ use Rattle.tree_reading.specs.Chain.{◌>>=◌}
 use Rattle.tree_reading.specs.Tree.{Tree, or_stale, file_or, contents_size}
 use Rattle.tree_reading.specs.Plans.{within_file, spared, spared_bytes}
 use Rattle.file_tree.specs.Step.{replace_if}
-use Rattle.tree_reading.specs.declared.call.Held.{Held}
+use Rattle.tree_reading.specs.declared.call.Reservation.{Reservation}
 use Rattle.tree_calls.specs.declared.asked.Committing.{Committing}
-use Rattle.tree_calls.specs.Waiting.{commits, with_committed}
+use Rattle.tree_calls.specs.Waiting.{gives_content, with_committed}
 use Rattle.server_core.specs.State as server
 use Rattle.chunk_calls.specs.Files as the_files
 use Rattle.server_core.specs.Closing as closing
@@ -18,7 +18,7 @@ use Rattle.server_core.specs.declared.change.Wanted.TheVariants as wanted
 use Rattle.server_rules.specs.declared.told.Told.TheVariants as announced
 use Rattle.client_state.specs.State as client
 use Rattle.client_state.specs.declared.task.Stage.TheVariants as stage
-use Rattle.kept_promise.proofs.Common.{slice_get, at, Failed, Change, Wanted, Entry, Op, Core, Session, CoreStep, quiet, numbered, with_numbered, settles, settled_by, unless, Book, Reply.Changed, Told, Queue, told_message, value_at, later}
+use Rattle.kept_promise.proofs.Common.{slice_get, at, Failed, FileChange, Wanted, Entry, Op, Core, Session, CoreStep, quiet, numbered, with_numbered, settles, settled_by, unless, Book, Reply.Changed, Told, Queue, told_message, value_at, later}
 use Rattle.server_core.specs.Closing.{makes_change, committed_by}
 use Rattle.server_core.specs.Recalling.{term_at}
 use Rattle.kept_promise.proofs.Lists.{some_is, nothing_there, all_map}
@@ -50,21 +50,21 @@ node_gone book s f h there none = by (with_id s.tree.nodes f) refl
     by None e = refl
     by (Some n) e = absurd (there_version book f there (h.fresh f (inr (subst (λ (z : Option Node). IsSome z) (sym e) refl, none))))
 
-pub commit_gone : (t : Tree) (held : Held) (id : ℕ) (content : List ℕ) (term : ℕ) → with_id t.nodes id ≡ None → commits t held id content term ≡ (t, record { answer = answer.Failed status.Stale tt; entry = None })
+pub commit_gone : (t : Tree) (held : Reservation) (id : ℕ) (content : List ℕ) (term : ℕ) → with_id t.nodes id ≡ None → gives_content t held id content term ≡ (t, record { answer = answer.Failed status.Stale tt; entry = None })
 commit_gone t held id content term none = ap (λ (o : Option Node). with_committed term (replace_if t id content ((or_stale o >>= file_or status.IsDir >>= λ n. within_file (length content) >>= λ _. spared t.changes held 1 >>= λ _. spared_bytes (contents_size t.nodes) held (length content) >>= λ _. Ok n) >>= λ n. Ok (n.version + 1)))) none
 
 -- ---- the step
 
-abbrev pub unmade_server : server.State → (now : ℕ) → List Change → server.State
+abbrev pub unmade_server : server.State → (now : ℕ) → List FileChange → server.State
 unmade_server s now cs = record s { leasing = later s.leasing now; waiting = cs }
 
-abbrev pub unmade_told : Change → Told
+abbrev pub unmade_told : FileChange → Told
 unmade_told c = record { xid = c.xid; reply = Changed (Failed status.Stale tt) }
 
-abbrev pub unmade_step : Core → (now : ℕ) → Change → List Change → CoreStep
+abbrev pub unmade_step : Core → (now : ℕ) → FileChange → List FileChange → CoreStep
 unmade_step k now c cs = record (quiet (record k { steps = k.steps + 1; server = unmade_server k.server now cs })) { down = record { session = c.session; message = told_message (unmade_told c) } ∷ [] }
 
-pub unmade_settles : (k : Core) (now : ℕ) (c : Change) (cs : List Change) (content : List ℕ) → SettlesOut k now c cs → c.what ≡ wanted.Content content → with_id k.server.tree.nodes c.file ≡ None → settles k now ≡ unmade_step k now c cs
+pub unmade_settles : (k : Core) (now : ℕ) (c : FileChange) (cs : List FileChange) (content : List ℕ) → SettlesOut k now c cs → c.what ≡ wanted.Content content → with_id k.server.tree.nodes c.file ≡ None → settles k now ≡ unmade_step k now c cs
 unmade_settles k now c cs content out what none =
     out.is
     ∙ ap (λ (w : Wanted). settled_to k (makes_change before c w)) what
@@ -86,7 +86,7 @@ unmade_settles k now c cs content out what none =
 
 -- ---- the frame
 
-module _ (laws : FitLaws) (book : Book) (k : Core) (qs : List Queue) (now : ℕ) (c : Change) (cs : List Change) (content : List ℕ) (kept : IsKept book k qs) (out : SettlesOut k now c cs) (what : c.what ≡ wanted.Content content) (none : the_files.file_at k.server.tree c.file ≡ None)
+module _ (laws : FitLaws) (book : Book) (k : Core) (qs : List Queue) (now : ℕ) (c : FileChange) (cs : List FileChange) (content : List ℕ) (kept : IsKept book k qs) (out : SettlesOut k now c cs) (what : c.what ≡ wanted.Content content) (none : the_files.file_at k.server.tree c.file ≡ None)
     (x : Session) (q : Queue) (here : numbered k.sessions c.session ≡ Some x) (unhung : x.hung ≡ false) (is : numbered qs c.session ≡ Some q) (p : IsPending book x.closing x.cut (job (kept.sessions c.session x q here is).seat) c.xid c.file content) where
   abbrev n : ℕ
   n = c.session

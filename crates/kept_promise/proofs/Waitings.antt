@@ -6,7 +6,7 @@ use Rattle.chunk_calls.specs.Files as the_files
 use Rattle.server_core.specs.Leasing.{recalled}
 use Rattle.server_core.specs.Recalling.{recalls_for, comes}
 use Rattle.client_state.specs.State as client
-use Rattle.kept_promise.proofs.Common.{slice_get, cond, ◌==◌, at, Temp, Change, TakenCall, Core, Session, numbered, with_numbered, hashed_of, Book, Call, Call.Lease, Ask, Queue, Leasing, later}
+use Rattle.kept_promise.proofs.Common.{slice_get, cond, ◌==◌, at, Temp, FileChange, TakenCall, Core, Session, numbered, with_numbered, hashed_of, Book, Call, Call.Lease, Ask, Queue, Leasing, later}
 use Rattle.kept_promise.proofs.Lists.{some_is, nothing_there, same_or_not, of_appended, count_more, false_and_true, all_map}
 use Rattle.kept_promise.proofs.Keys.{times, times_append, own, on_way, change_key, ask_key, told_key}
 use Rattle.kept_promise.proofs.Messages.{job, AllAsks, Rising, IsAsked, IsAnswer, IsCommit, IsPiece, WaitsFor, TempUnder, content_wanted}
@@ -26,7 +26,7 @@ use Rattle.kept_promise.proofs.Leading.{Leads}
 use Rattle.kept_promise.proofs.Recallings.{recalls_asked, recalls_small, recalls_alone}
 use Rattle.kept_promise.proofs.Rights.{WasThere}
 
-pub own_more : (m : ℕ) (ws : List Change) (c : Change) → own m (ws ++ c ∷ []) ≡ own m ws ++ own m (c ∷ [])
+pub own_more : (m : ℕ) (ws : List FileChange) (c : FileChange) → own m (ws ++ c ∷ []) ≡ own m ws ++ own m (c ∷ [])
 own_more m [] c = refl
 own_more m (w ∷ ws) c = by (w.session == m) (own_more m ws c)
   where
@@ -34,20 +34,20 @@ own_more m (w ∷ ws) c = by (w.session == m) (own_more m ws c)
     by true e = ap (λ l. w ∷ l) e
     by false e = e
 
-pub own_here : (m : ℕ) (ws : List Change) (c : Change) → c.session ≡ m → own m (ws ++ c ∷ []) ≡ own m ws ++ c ∷ []
+pub own_here : (m : ℕ) (ws : List FileChange) (c : FileChange) → c.session ≡ m → own m (ws ++ c ∷ []) ≡ own m ws ++ c ∷ []
 own_here m ws c e = own_more m ws c ∙ ap (λ b. own m ws ++ cond b (c ∷ []) []) (eq-eqb c.session m e)
 
-pub own_there : (m : ℕ) (ws : List Change) (c : Change) → (c.session ≡ m → ⊥) → own m (ws ++ c ∷ []) ≡ own m ws
+pub own_there : (m : ℕ) (ws : List FileChange) (c : FileChange) → (c.session ≡ m → ⊥) → own m (ws ++ c ∷ []) ≡ own m ws
 own_there m ws c apart = own_more m ws c ∙ ap (λ b. own m ws ++ cond b (c ∷ []) []) (ne_eqb c.session m apart) ∙ nil (own m ws)
   where
-    nil : (l : List Change) → l ++ [] ≡ l
+    nil : (l : List FileChange) → l ++ [] ≡ l
     nil [] = refl
     nil (z ∷ l) = ap (λ t. z ∷ t) (nil l)
 
--- a change that waits is where its call was
-pub way_waits : (n y : ℕ) (w : List Change) (c : Change) (q : Queue) (a : Ask) (us : List Ask) → q.ups ≡ a ∷ us → c.session ≡ n → change_key c ≡ ask_key a → times y (on_way n (w ++ c ∷ []) (record q { ups = us })) ≡ times y (on_way n w q)
+-- a pending change is where its call was
+pub way_waits : (n y : ℕ) (w : List FileChange) (c : FileChange) (q : Queue) (a : Ask) (us : List Ask) → q.ups ≡ a ∷ us → c.session ≡ n → change_key c ≡ ask_key a → times y (on_way n (w ++ c ∷ []) (record q { ups = us })) ≡ times y (on_way n w q)
 way_waits n y w c q a us e here same =
-    let zero_ = ap (λ (l : List Change). times y (map ask_key us ++ (map change_key l ++ map told_key q.downs))) (own_here n w c here) in
+    let zero_ = ap (λ (l : List FileChange). times y (map ask_key us ++ (map change_key l ++ map told_key q.downs))) (own_here n w c here) in
     let one = times_append y (map ask_key us) (map change_key (own n w ++ c ∷ []) ++ map told_key q.downs) in
     let two = times_append y (map change_key (own n w ++ c ∷ [])) (map told_key q.downs) in
     let three = times_map_append change_key y (own n w) (c ∷ []) in
@@ -64,7 +64,7 @@ call_xid : (lbfs xid : ℕ) (c : Call) → CallFits lbfs xid c → xid < 4294967
 call_xid lbfs xid (Lease f) h = h.0
 call_xid lbfs xid _ h = h.0
 
-pub record ComesToWait (book : Book) (k : Core) (n : ℕ) (x : Session) (q : Queue) (a : Ask) (us : List Ask) (temps : List (ℕ × Temp)) (d : Change) (h : IsSession book k.seats k.server n x q) : Type 0 where
+pub record ComesToWait (book : Book) (k : Core) (n : ℕ) (x : Session) (q : Queue) (a : Ask) (us : List Ask) (temps : List (ℕ × Temp)) (d : FileChange) (h : IsSession book k.seats k.server n x q) : Type 0 where
   pub session_is : d.session ≡ n
   pub xid_is : d.xid ≡ a.xid
   pub key_is : change_key d ≡ ask_key a
@@ -80,7 +80,7 @@ pub record ComesToWait (book : Book) (k : Core) (n : ℕ) (x : Session) (q : Que
   pub held : x.cut ≡ false → Held temps n us q.downs (locals_of h.seat.client) (job h.seat)
   pub waits : WaitsFor (onward book 1 book.ops) d.session x.closing x.cut (job h.seat) d.xid d.file d.what
 
-kept_coming : (book : Book) (k : Core) (qs : List Queue) (n now : ℕ) (leasing : Leasing) (x : Session) (q : Queue) (a : Ask) (us : List Ask) (temps : List (ℕ × Temp)) (d : Change) (sessions : List Session) (after : List Queue) → (g : Given book k qs n now x q a us) → HasTerm leasing → ComesToWait book k n x q a us temps d (session_in book k qs n now x q a us g)
+kept_coming : (book : Book) (k : Core) (qs : List Queue) (n now : ℕ) (leasing : Leasing) (x : Session) (q : Queue) (a : Ask) (us : List Ask) (temps : List (ℕ × Temp)) (d : FileChange) (sessions : List Session) (after : List Queue) → (g : Given book k qs n now x q a us) → HasTerm leasing → ComesToWait book k n x q a us temps d (session_in book k qs n now x q a us g)
     → Around k.sessions sessions n (took x a.xid (book.steps + 1)) → Around qs after n (record q { ups = us })
     → IsKept (onward book 1 book.ops) (turned_core k (onward book 1 book.ops) (record k.server { leasing = leasing; temps = temps; waiting = k.server.waiting ++ d ∷ [] }) k.seats sessions) after
 kept_coming book k qs n now leasing x q a us temps d sessions after g leases comes around queues =
@@ -90,7 +90,7 @@ kept_coming book k qs n now leasing x q a us temps d sessions after g leases com
     let grows = grows_same book 1 in
     let c = h.seat in
     let y = took x a.xid (book.steps + 1) in
-    let waiting : List Change = k.server.waiting ++ d ∷ [] in
+    let waiting : List FileChange = k.server.waiting ++ d ∷ [] in
     let r : server.State = record k.server { leasing = leasing; temps = temps; waiting = waiting } in
     let spares : Spares x.closing None = λ p u v. nothing_there p v in
     kept_turn book more k qs r k.seats sessions after n x y (record q { ups = us }) c c None None (record {
@@ -108,21 +108,21 @@ kept_coming book k qs n now leasing x q a us temps d sessions after g leases com
         zero = kept.server.zero;
         rooted = kept.server.rooted;
         wants = λ i u at. elim (of_appended k.server.waiting d i u at) [
-          | inl new ↦ subst (λ (z : Change). IsWanted z.file z.what) (sym new.1) comes.wants
+          | inl new ↦ subst (λ (z : FileChange). IsWanted z.file z.what) (sym new.1) comes.wants
           | inr old ↦ kept.server.wants i u old
         ];
         changes = comes.changes;
         bytes = comes.bytes;
         lengths = λ i u at. elim (of_appended k.server.waiting d i u at) [
-          | inl new ↦ subst (λ (z : Change). length (content_wanted z.what) ≤ 67108864) (sym new.1) comes.length_is
+          | inl new ↦ subst (λ (z : FileChange). length (content_wanted z.what) ≤ 67108864) (sym new.1) comes.length_is
           | inr old ↦ kept.server.lengths i u old
         ];
         targets = λ i u at. elim (of_appended k.server.waiting d i u at) [
-          | inl new ↦ there_later book more None None u.file grows (subst (λ (z : Change). WasThere book z.file) (sym new.1) comes.known)
+          | inl new ↦ there_later book more None None u.file grows (subst (λ (z : FileChange). WasThere book z.file) (sym new.1) comes.known)
           | inr old ↦ there_later book more None None u.file grows (kept.server.targets i u old)
         ];
         xids = λ i u at. elim (of_appended k.server.waiting d i u at) [
-          | inl new ↦ subst (λ (z : Change). z.xid < 4294967296) (sym new.1) (subst (λ (z : ℕ). z < 4294967296) (sym comes.xid_is) (call_xid a.lbfs a.xid a.call (first_fits book k qs n now x q a us g)))
+          | inl new ↦ subst (λ (z : FileChange). z.xid < 4294967296) (sym new.1) (subst (λ (z : ℕ). z < 4294967296) (sym comes.xid_is) (call_xid a.lbfs a.xid a.call (first_fits book k qs n now x q a us g)))
           | inr old ↦ kept.server.xids i u old
         ];
         leases = leases;
@@ -173,14 +173,14 @@ kept_coming book k qs n now leasing x q a us temps d sessions after g leases com
         temps = λ i o e lt is key. let w = comes.were i e is in h.temps w.0 o e lt w.1 key;
         temps_below = λ uncut. ((subst (AllAsks (λ b. TempUnder c.client.next_temp b.call)) g.first (h.temps_below uncut).0).1, λ i o e lt is key. let w = comes.were i e is in (h.temps_below uncut).1 w.0 o e lt w.1 key);
         closes = λ uncut j u. close_later book more None None x.closing h.contents c.client.next_temp j (client.local_bytes c.client.opened j.file) j.stage grows spares (h.closes uncut j u);
-        pending = λ i u at. elim (of_appended (own n k.server.waiting) d i u (ap (λ (l : List Change). slice_get l i) (sym (own_here n k.server.waiting d comes.session_is)) ∙ at)) [
-          | inl new ↦ subst (λ (z : Change). WaitsFor more z.session x.closing x.cut (job c) z.xid z.file z.what) (sym new.1) comes.waits
+        pending = λ i u at. elim (of_appended (own n k.server.waiting) d i u (ap (λ (l : List FileChange). slice_get l i) (sym (own_here n k.server.waiting d comes.session_is)) ∙ at)) [
+          | inl new ↦ subst (λ (z : FileChange). WaitsFor more z.session x.closing x.cut (job c) z.xid z.file z.what) (sym new.1) comes.waits
           | inr old ↦ waits_later book more None None x.closing x.cut (job c) (job c) u.session u.xid u.file u.what grows spares (λ z. refl) (h.pending i u old)
         ];
         single =
             let s = h.single in
             let e = ap commits_in g.first in
-            let l = ap (λ (z : List Change). length z) (own_here n k.server.waiting d comes.session_is) in
+            let l = ap (λ (z : List FileChange). length z) (own_here n k.server.waiting d comes.session_is) in
             let w = count_more (own n k.server.waiting) d in
             let one = comes.number in
             omega (arith, s, e, l, w, one);
@@ -191,7 +191,7 @@ kept_coming book k qs n now leasing x q a us temps d sessions after g leases com
       running = kept.running;
       shelf = comes.shelf;
       home = λ i u at. elim (of_appended k.server.waiting d i u at) [
-        | inl new ↦ (y, ap (λ (z : Change). numbered sessions z.session) new.1 ∙ ap (numbered sessions) comes.session_is ∙ around.there, g.unhung)
+        | inl new ↦ (y, ap (λ (z : FileChange). numbered sessions z.session) new.1 ∙ ap (numbered sessions) comes.session_is ∙ around.there, g.unhung)
         | inr old ↦ let z = kept.home i u old in let v = later_session z.0 u.session z.1 in (v.0, v.1, v.4 ∙ z.2)
       ];
     }) kept.journal kept
@@ -207,7 +207,7 @@ kept_coming book k qs n now leasing x q a us temps d sessions after g leases com
     stays : Stays k.sessions sessions x.owner
     stays o z u = let v = later_session z o u in (v.0, v.1, v.2, λ mine. v.3)
 
-pub leads_coming : (book : Book) (k : Core) (qs : List Queue) (n now : ℕ) (x : Session) (q : Queue) (a : Ask) (us : List Ask) (temps : List (ℕ × Temp)) (d : Change) → (g : Given book k qs n now x q a us) → ComesToWait book k n x q a us temps d (session_in book k qs n now x q a us g)
+pub leads_coming : (book : Book) (k : Core) (qs : List Queue) (n now : ℕ) (x : Session) (q : Queue) (a : Ask) (us : List Ask) (temps : List (ℕ × Temp)) (d : FileChange) → (g : Given book k qs n now x q a us) → ComesToWait book k n x q a us temps d (session_in book k qs n now x q a us g)
     → Leads book (rest_of qs n q us) (served k n x a.xid (comes (record (at k.server now) { temps = temps }) d))
 leads_coming book k qs n now x q a us temps d g shows =
     let s : server.State = record (at k.server now) { temps = temps } in

@@ -4,7 +4,7 @@ use Rattle.client_state.specs.State as client
 use Rattle.client_state.specs.declared.task.Stage.TheVariants as stage
 use Rattle.register_model.specs.declared.op.Outcome.{Outcome}
 use Rattle.register_model.specs.declared.op.Outcome.TheVariants as told
-use Rattle.kept_promise.proofs.Common.{changes, slice_get, slice_set, Pending, Change, Stage, Op, Traffic, Core, Seat, Session, numbered, hashed_of, Book, Entries, Ask, Told, Queue, Word}
+use Rattle.kept_promise.proofs.Common.{changes, slice_get, slice_set, Pending, FileChange, Stage, Op, Traffic, Core, Seat, Session, numbered, hashed_of, Book, Entries, Ask, Told, Queue, Word}
 use Rattle.kept_promise.proofs.Statements.{CallFits}
 use Rattle.kept_promise.proofs.Lists.{some_is, nothing_there, same_or_not, of_replaced, at_replaced, false_and_true, all_map}
 use Rattle.kept_promise.proofs.Messages.{Job, job, stage_word, AllTolds, IsAsked, IsAnswer, Trying, FetchOf, IsPiece, TempUnder, CloseOf}
@@ -111,7 +111,7 @@ kept_finds book k qs n x q t ts j g id s a cache sent tr seats after w cached ar
       old_asks = all_map (λ (v : Ask). v.xid < h.seat.client.next_xid) (IsAsked (Some i)) (λ v lt. call_first h.seat.client.next_xid i s a w.first refl v.xid v.call lt) q.ups (asks_below talk.floor q.ups h.seat.client.next_xid talk.rising);
       old_tolds = (subst (AllTolds (IsAnswer more x.taken x.closing (Some i))) g.first (all_map (λ (v : Told). v.xid < h.seat.client.next_xid) (IsAnswer more x.taken x.closing (Some i)) (λ v lt. answer_first more x.taken x.closing h.seat.client.next_xid i s a w.first refl v.xid v.reply lt) q.downs bound)).1;
       old_commits = no_commits more x.closing x.cut (Some i) h.contents q.ups w.quiet.ups;
-      old_pending = λ m z f. nothing_there z (ap (λ (l : List Change). slice_get l m) (sym w.quiet.waiting) ∙ f);
+      old_pending = λ m z f. nothing_there z (ap (λ (l : List FileChange). slice_get l m) (sym w.quiet.waiting) ∙ f);
       moves = w.moves;
       rising = (let e = w.first.xid in omega (arith, e), let e = w.first.xid in omega (arith, e));
       asked = (w.asked, tt);
@@ -120,7 +120,7 @@ kept_finds book k qs n x q t ts j g id s a cache sent tr seats after w cached ar
       commits = no_commits more x.closing x.cut (Some i) h.contents (a ∷ []) w.none;
       pieces = (w.piece, tt);
       under = (w.under, tt);
-      few = let u = w.quiet.ups in let b = ap (λ (l : List Change). length l) w.quiet.waiting in let f = w.none in omega (arith, u, b, f);
+      few = let u = w.quiet.ups in let b = ap (λ (l : List FileChange). length l) w.quiet.waiting in let f = w.none in omega (arith, u, b, f);
       linked = (h.here g.uncut).1;
       numbers = refl;
       fetch = λ m f. subst (λ (z : Job). FetchOf more x.taken z z.stage) (some_is i m f) (w.fetch more);

@@ -37,7 +37,7 @@ use Rattle.tree_reading.specs.Tree.{Tree}
 use Rattle.file_tree.specs.Step.{create, mkdir, remove, rmdir, rename}
 use Rattle.tree_reading.specs.declared.call.Changed.{Changed}
 use Rattle.tree_reading.specs.declared.call.CreateMode.TheVariants as mode
-use Rattle.tree_reading.specs.declared.call.Held.{Held}
+use Rattle.tree_reading.specs.declared.call.Reservation.{Reservation}
 use Rattle.tree_calls.specs.Telling.{told as told_by}
 use Rattle.path_calls.specs.Walk.{next_call, call_at, goal_call, place, create_call, make_dir_call, rename_call}
 use Rattle.server_core.specs.Closing.{entries_by}
@@ -446,7 +446,7 @@ module _ (all : List Moment) (book : Book) (are : book.moments ≡ all) (order :
   pointed_name : (m : MakesWalk book h.at h.moment closing j h.op w a) → IsNameGoal w.goal → (o.file ≡ 0) × (o.point ≡ None) → (new : Op) → new.point ≡ o.point → new.file ≡ o.file → IsPointed new (step_of h.at) (entry_file m.done.first)
   pointed_name m names plain new point file = subst (IsPointed new (step_of h.at)) (sym (names_file (tree_at h.at) (held_at h.at) w m.done (name_builds w.left w.goal m.making names) names m.step_is)) (point ∙ plain.1, file ∙ plain.0)
 
-  makes : (m : MakesWalk book h.at h.moment closing j h.op w a) → step ≤ step_of m.taken.at → (new : Op) → new.end ≡ Some now → new.client ≡ o.client → (g : Goal) → w.goal ≡ g → (call : ℕ → Tree → Held → Tree × Result Changed Status) → ((t : Tree) (held : Held) → step_by t held w.dir g ≡ call w.dir t held) → IsPointed new (step_of h.at) (entry_file m.done.first) → Makes (bare all) new step (goal_call w.dir g) (call w.dir)
+  makes : (m : MakesWalk book h.at h.moment closing j h.op w a) → step ≤ step_of m.taken.at → (new : Op) → new.end ≡ Some now → new.client ≡ o.client → (g : Goal) → w.goal ≡ g → (call : ℕ → Tree → Reservation → Tree × Result Changed Status) → ((t : Tree) (held : Reservation) → step_by t held w.dir g ≡ call w.dir t held) → IsPointed new (step_of h.at) (entry_file m.done.first) → Makes (bare all) new step (goal_call w.dir g) (call w.dir)
   makes m first new end client_is g aim call same pointed = record {
     xid = m.xid;
     taken = step_of m.taken.at;
@@ -635,12 +635,12 @@ pointed_on o r at_step (Some f) point file p = (point ∙ p.0, file ∙ p.1)
 pub takes_on : (book more : Book) (c d step xid : ℕ) (call : Body) → ((m : Moment) → Contains book.moments m → Contains more.moments m) → d ≡ c → (t : TakesCall book c step xid call) → (u : TakesCall more d step xid call) × (u.session ≡ t.session)
 takes_on book more c d step xid call there same t = (record { moment = t.moment; there = there t.moment t.there; step_is = t.step_is; session = t.session; now = t.now; bytes = t.bytes; event_is = t.event_is; parsed = t.parsed; waits = record { seat = t.waits.seat; seat_is = ap (numbered t.moment.before.seats) same ∙ t.waits.seat_is; newest = t.waits.newest; own = t.waits.own } }, refl)
 
-makes_on : (all : List Moment) (o r : Op) (behind : ℕ) (asks : Nfs) (call : Tree → Held → Tree × Result Changed Status) → SameWay o r → r.point ≡ o.point → Makes (bare all) o behind asks call → Makes (bare all) r behind asks call
+makes_on : (all : List Moment) (o r : Op) (behind : ℕ) (asks : Nfs) (call : Tree → Reservation → Tree × Result Changed Status) → SameWay o r → r.point ≡ o.point → Makes (bare all) o behind asks call → Makes (bare all) r behind asks call
 makes_on all o r behind asks call s point h =
     let t = takes_on (bare all) (bare all) o.client r.client h.taken h.xid (body.Nfs asks) (λ m there. there) s.client h.takes in
     record { xid = h.xid; taken = h.taken; takes = t.0; after = h.after; moment = h.moment; there = h.there; comes = subst (λ (n : ℕ). ComesTo h.moment n h.xid h.taken) (sym t.1) h.comes; inside = inside_on o r h.taken (step_of h.moment) s.end h.inside; done = h.done; done_is = h.done_is; tree_is = h.tree_is; journal_is = h.journal_is ∙ ap (λ (n : ℕ). h.moment.before.server.journal ++ entries_by n h.done.first h.done.second) (sym t.1); pointed = pointed_on o r (step_of h.moment) (entry_file h.done.first) point s.file h.pointed }
 
-makes_in_on : (all : List Moment) (o r : Op) (dirs : List (List ℕ)) (asks : (dir : ℕ) → Nfs) (call : (dir : ℕ) → Tree → Held → Tree × Result Changed Status) → SameWay o r → r.point ≡ o.point → MakesIn (bare all) o dirs asks call → MakesIn (bare all) r dirs asks call
+makes_in_on : (all : List Moment) (o r : Op) (dirs : List (List ℕ)) (asks : (dir : ℕ) → Nfs) (call : (dir : ℕ) → Tree → Reservation → Tree × Result Changed Status) → SameWay o r → r.point ≡ o.point → MakesIn (bare all) o dirs asks call → MakesIn (bare all) r dirs asks call
 makes_in_on all o r dirs asks call s point (dir, step, leads, made) = (dir, step, subst (λ (b : ℕ). Leads (bare all) b ROOT dirs dir step) (sym s.begin) leads, makes_on all o r step (asks dir) (call dir) s point made)
 
 done_on : (all : List Moment) (c : PathCommand) (o r : Op) → o.word ≡ path_word c → SameWay o r → NameDone (bare all) o c → NameDone (bare all) r c

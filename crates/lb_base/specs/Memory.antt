@@ -9,7 +9,7 @@ pub record SourceState : Type 0 where
   pub failing : List ℕ
   pub faults : ℕ
 
--- a sink in memory: what it was given, the most that one call takes, the calls so far, the calls that fail or answer want of memory, and the faults so far
+-- a sink in memory: what it was given, the most that one call takes, the calls so far, the calls that fail or answer that memory ran out, and the faults so far
 pub record SinkState : Type 0 where
   pub held : List ℕ
   pub piece : ℕ

@@ -79,8 +79,8 @@ impl<T> Items<T> {
         self.held.is_empty()
     }
 
-    /// Adds an item at the end. The one error is want of memory: the item comes back in it, and
-    /// the list stays as it was.
+    /// Adds an item at the end. The one error is running out of memory: the item comes back in it,
+    /// and the list stays as it was.
     pub fn push(&mut self, item: T) -> Result<(), AllocFailed<T>>
         ensures ok { OnOk result (self.new ≡ self.old ++ item ∷ []) }
         ensures err { OnErr result (self.new ≡ self.old) }
@@ -100,7 +100,7 @@ impl<T> Items<T> {
 }
 
 impl<T: Copy> Items<T> {
-    /// A list of the items of a slice. The one error is want of memory.
+    /// A list of the items of a slice. The one error is running out of memory.
     pub fn copy_of(alloc: Global, items: &[T]) -> Result<Items<T>, AllocError>
         ensures { IfOk result (λ copy. copy ≡ items.now) }
     {
@@ -109,15 +109,15 @@ impl<T: Copy> Items<T> {
         Ok(Items { held })
     }
 
-    /// A second list of the same items. The one error is want of memory.
+    /// A second list of the same items. The one error is running out of memory.
     pub fn try_clone(&self, alloc: Global) -> Result<Items<T>, AllocError>
         ensures { IfOk result (λ copy. copy ≡ self.now) }
     {
         Items::copy_of(alloc, self.as_slice())
     }
 
-    /// Adds the items of a slice at the end. The one error is want of memory, and the list then
-    /// stays as it was.
+    /// Adds the items of a slice at the end. The one error is running out of memory, and the list
+    /// then stays as it was.
     pub fn extend_from_slice(&mut self, items: &[T]) -> Result<(), AllocError>
         ensures ok { OnOk result (self.new ≡ self.old ++ items.now) }
         ensures err { OnErr result (self.new ≡ self.old) }

@@ -69,7 +69,7 @@ impl Sink for SureSink {
     }
 }
 
-/// A sink in memory, of which some calls fail and some answer want of memory.
+/// A sink in memory, of which some calls fail and some answer that memory ran out.
 #[derive(Drop)]
 pub struct MemSink {
     bytes: SureSink,
@@ -89,7 +89,7 @@ impl Model for MemSink {
 
 impl MemSink {
     /// An empty sink, which takes at most `piece` bytes a call. The calls whose numbers `failing`
-    /// lists fail, those of `starved` answer want of memory; the first call is number 0.
+    /// lists fail, those of `starved` answer that memory ran out; the first call is number 0.
     pub fn new(alloc: Global, piece: usize, failing: Items<u64>, starved: Items<u64>) -> MemSink
         requires { 0 < piece }
         ensures { result ≡ record { held = []; piece = piece; calls = 0; failing = failing; starved = starved; faults = 0 } }

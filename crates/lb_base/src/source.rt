@@ -58,7 +58,8 @@ impl From<AllocError> for ReadError {
 /// How many bytes are asked for at once.
 pub const AT_ONCE: usize = 65536;
 
-/// Room for the bytes that are asked for at once, on the heap. The one error is want of memory.
+/// Room for the bytes that are asked for at once, on the heap. The one error is running out of
+/// memory.
 pub fn piece_room(alloc: Global) -> Result<Vec<u8>, AllocError>
     ensures { IfOk result (λ room. length room.items ≡ AT_ONCE) }
 {

@@ -140,7 +140,7 @@ Receives m listed bytes now m' said = Hearing m (bounded listed (parse_of (waiti
 abbrev pub Loses : Mount → State × ClientStep → (now : ℕ) → Mount → Said → Type 0
 Loses m lost now m' said = Leads (record m { client = lost.0; walk = noted m.walk lost.1.found }) lost.1.ended now lost.1.send m' said
 
--- the end of the link; want of memory is the end of the mount, and nothing is said
+-- the end of the link; running out of memory is the end of the mount, and nothing is said
 abbrev pub Stops : Mount → End → (now : ℕ) → Mount → Said → Type 0
 Stops m ends.InputEnd now m' said = Loses m (cut m.client) now m' said
 Stops m ends.Failed now m' said = Loses m (cut m.client) now m' said

@@ -28,7 +28,7 @@ fn put_answer(alloc: Global, out: &mut String, answer: &Answer) -> Result<(), Al
 }
 
 impl Answer {
-    /// The line that is written, with its line feed. The one error is want of memory.
+    /// The line that is written, with its line feed. The one error is running out of memory.
     pub fn line(&self, alloc: Global) -> Result<Bytes, AllocError>
         ensures { IfOk result (λ text. text ≡ answer_line self.now) }
     {

@@ -16,7 +16,7 @@ pub struct LocalName {
     text: String,
 }
 
-// By hand: docs/PROVING.md, "Values that are let go".
+// By hand: docs/proving/dropping.md.
 impl Drop for LocalName {
     fn drop(self) {
         let LocalName { text } = self;

@@ -34,7 +34,7 @@ pub struct Mounted<F: Files> {
     walk: Option<Walk>,
 }
 
-// By hand: docs/PROVING.md, "Values that are let go".
+// By hand: docs/proving/dropping.md.
 impl<F: Files + Drop> Drop for Mounted<F> {
     fn drop(self) {
         let Mounted {
@@ -59,7 +59,7 @@ impl<F: Files> Model for Mounted<F> {
 impl<F: Files> Mounted<F> {
     /// A client with no connection and no file, over these files of the host, whose clock and the server's
     /// may drift apart so far, in milliseconds, while a lease lasts, and which speaks the version of LBFS that
-    /// clients speak. It is refused for want of memory alone, and the files are handed back.
+    /// clients speak. It is refused for running out of memory alone, and the files are handed back.
     pub fn new(alloc: Global, files: F, drift: u64) -> Result<Mounted<F>, F>
         ensures ok { IfOk result (λ m. m ≡ record { host = record { files = F.files files; faults = F.faults files }; client = start_with drift LBFS_SPOKEN; walk = None }) }
         ensures back { IfErr result (λ f. f ≡ files) }
@@ -76,7 +76,7 @@ impl<F: Files> Mounted<F> {
 
     /// A line of the script, at a reading of the client's clock in milliseconds: what is to be sent,
     /// and the line to write where it has ended. A put whose file of the host was read waits for `go_on`. The
-    /// one error is want of memory, which is the end of the mount.
+    /// one error is running out of memory, which is the end of the mount.
     pub fn line(&mut self, alloc: Global, line: MountLine, now: u64) -> Result<Said, AllocError>
         ensures { IfOk result (λ said. Runs self.old line now self.new said) }
     {
@@ -140,8 +140,8 @@ impl<F: Files> Mounted<F> {
         )
     }
 
-    /// The link has ended so, for records or for messages. Where that was for want of memory, the
-    /// answer is want of memory.
+    /// The link has ended so, for records or for messages. Where that was for running out of
+    /// memory, the answer is running out of memory.
     pub fn ended(&mut self, alloc: Global, end: End, now: u64) -> Result<Said, AllocError>
         ensures { IfOk result (λ said. Stops self.old end now self.new said) }
     {
@@ -214,7 +214,7 @@ impl<F: Files> Mounted<F> {
         save_kept(alloc, &mut self.files, &self.client, name)
     }
 
-    /// What the client keeps is let go, the oldest first, until it has at most so many bytes. It takes no
+    /// What the client keeps is dropped, the oldest first, until it has at most so many bytes. It takes no
     /// memory.
     pub fn keep_within(&mut self, most: u64)
         ensures { self.new ≡ within most self.old }
@@ -236,7 +236,7 @@ impl<F: Files> Mounted<F> {
         self.client.linked()
     }
 
-    /// The files of the host, which the mount lets go.
+    /// The files of the host, which the mount drops.
     pub fn into_files(self) -> F
         ensures { self.host ≡ record { files = F.files result; faults = F.faults result } }
     {

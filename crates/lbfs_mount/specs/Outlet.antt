@@ -52,7 +52,7 @@ Fails held faults None new send = ⊥
 Fails held faults (Some l) None send = ⊥
 Fails held faults (Some l) (Some k) send = AppendsPrefix (held l) (held k) (out_bytes send) × Rose (faults l) (faults k)
 
--- it is let go where the client is done with it
+-- it is dropped where the client is done with it
 abbrev pub kept_if : {L : Type 0} → (linked : Bool) → Option L → Option L
 kept_if true link = link
 kept_if false link = None
@@ -81,7 +81,7 @@ SaysOutOf held faults most m (Err e) now m' o o' more = ⊥
 abbrev pub TurnsOut : {L : Type 0} → (held : L → Option (List ℕ)) → (faults : L → ℕ) → (most : ℕ) → (Mount → Said → Type 0) → (now : ℕ) → Mount → (o o' : Outlet L) → (more : Mount → Bool) → Type 0
 TurnsOut held faults most called now m' o o' more = (m : Mount) × (said : Said) × called m said × SaysOut held faults most m said now m' o o' (more m)
 
--- A record came, with which so many bytes had come since the line began. What is said of it waits only where the client stays linked; then the link is let go where the client is done with it.
+-- A record came, with which so many bytes had come since the line began. What is said of it waits only where the client stays linked; then the link is dropped where the client is done with it.
 pub record HearsOut {L : Type 0} (held : L → Option (List ℕ)) (faults : L → ℕ) (most listed : ℕ) (m : Mount) (bytes : List ℕ) (now : ℕ) (m' : Mount) (o o' : Outlet L) (more : Bool) : Type 0 where
   pub link : Option L
   pub turn : TurnsOut held faults most (λ n said. Receives m (counted listed bytes) bytes now n said) now m' o (record o' { link = link }) (λ n. more && n.client.linked)
@@ -96,6 +96,6 @@ FarewellEnds held faults old last waits (Err ends.Failed) = Fails held faults ol
 FarewellEnds held faults old last waits (Err ends.Memory) = GivesPart held old last (waits ++ farewell ∷ [])
 FarewellEnds held faults old last waits (Err e) = ⊥
 
--- then the link is shut, and let go
+-- then the link is shut, and dropped
 abbrev pub LeavesOut : {L : Type 0} → (held : L → Option (List ℕ)) → (faults : L → ℕ) → (old : Option L) → (waits : List Message) → Result Unit End → Type 0
 LeavesOut {L} held faults old waits r = (last : Option L) × FarewellEnds held faults old last waits r

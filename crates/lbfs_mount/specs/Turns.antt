@@ -19,7 +19,7 @@ abbrev pub IsTold : Option (List ℕ) → Type 0
 IsTold None = Unit {0}
 IsTold (Some text) = IsAnswer text
 
--- once a line has ended, what is kept is let go beyond so many bytes; else all stays
+-- once a line has ended, what is kept is dropped beyond so many bytes; else all stays
 abbrev pub bounded_if : (ended : Bool) → (most : ℕ) → Mount → Mount
 bounded_if true most m = within most m
 bounded_if false most m = m

@@ -78,8 +78,8 @@ where
     }
 }
 
-/// Joins a connection, and has a thread take its records. Where no thread can be started memory is
-/// wanting.
+/// Joins a connection, and has a thread take its records. Where no thread can be started memory
+/// runs out.
 pub(crate) fn connect<
     's,
     'e,

@@ -166,7 +166,7 @@ impl<F: Files + Drop, L: Link + Drop> Desk<F, L> {
 
     /// What a call of the client says is sent, and its line kept; or memory ran out. Where more records are
     /// there it waits for what is said of these.
-    fn settle(&mut self, alloc: Global, said: Result<Said, AllocError>, more: bool, now: u64)
+    fn pass_on(&mut self, alloc: Global, said: Result<Said, AllocError>, more: bool, now: u64)
         requires { IfOk said (λ s. IsTold s.line) }
         ensures sent { self.new.starved ≡ false → SendsOf self.old.most self.old.mounted said now self.new.mounted }
         ensures out { self.new.starved ≡ false → SaysOutOf L.held L.faults self.old.most self.old.mounted said now self.new.mounted (outlet self.old.link self.old.waits self.old.line) (outlet self.new.link self.new.waits self.new.line) more }
@@ -179,7 +179,7 @@ impl<F: Files + Drop, L: Link + Drop> Desk<F, L> {
         }
     }
 
-    /// The line of what was said is kept. Once it has ended the client lets go what is too much; then what
+    /// The line of what was said is kept. Once it has ended the client drops what is too much; then what
     /// was said is sent.
     fn take_said(&mut self, alloc: Global, said: Said, more: bool, now: u64)
         requires { IsTold said.line }
@@ -280,7 +280,7 @@ impl<F: Files + Drop, L: Link + Drop> Desk<F, L> {
         self.hint(alloc, &line, now);
         let said = self.mounted.line(alloc, line, now);
         self.stored = self.mounted.closing().or(self.stored);
-        self.settle(alloc, said, false, now);
+        self.pass_on(alloc, said, false, now);
         wants
     }
 
@@ -302,7 +302,7 @@ impl<F: Files + Drop, L: Link + Drop> Desk<F, L> {
     {
         let said = self.mounted.go_on(alloc, found, now);
         self.stored = self.mounted.closing().or(self.stored);
-        self.settle(alloc, said, false, now);
+        self.pass_on(alloc, said, false, now);
     }
 
     /// A connection is joined, on this link. Its number is what the thread that takes its records is
@@ -319,7 +319,7 @@ impl<F: Files + Drop, L: Link + Drop> Desk<F, L> {
         self.waits = Items::new(alloc);
         self.connection = self.connection.saturating_add(1);
         let said = self.mounted.joined(alloc);
-        self.settle(alloc, said, false, now);
+        self.pass_on(alloc, said, false, now);
         self.connection
     }
 
@@ -350,7 +350,7 @@ impl<F: Files + Drop, L: Link + Drop> Desk<F, L> {
         // A client that is done with its link says what it had to say, and no more.
         let linked = self.mounted.linked();
         let waits = may_wait(more, linked);
-        self.settle(alloc, said, waits, now);
+        self.pass_on(alloc, said, waits, now);
         let stays = self.mounted.linked();
         close_unless(stays, &mut self.link);
         self.is_open(connection)

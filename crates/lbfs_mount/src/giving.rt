@@ -1,4 +1,4 @@
-//! What goes out on the link of a mount, and how the link is let go: `specs/Outlet.antt`.
+//! What goes out on the link of a mount, and how the link is dropped: `specs/Outlet.antt`.
 
 ghost use Rattle.std.specs.Prelude.{◌≡◌, ◌⊎◌, ◌++◌, ◌&&◌, [], None, OnOk, OnErr, IsErrOf};
 ghost use Rattle.std.specs.Io.KnownBytes.{Appends};
@@ -18,7 +18,7 @@ use std::alloc::{AllocError, Global};
 use std::mem;
 use wire::message::Message;
 
-/// The link is shut, where there is one, and let go.
+/// The link is shut, where there is one, and dropped.
 pub(crate) fn close<L: Link + Drop>(link: &mut Option<L>)
     ensures { link.new ≡ None }
 {
@@ -28,7 +28,7 @@ pub(crate) fn close<L: Link + Drop>(link: &mut Option<L>)
     *link = None;
 }
 
-/// The link is shut and let go where the client is done with it.
+/// The link is shut and dropped where the client is done with it.
 pub(crate) fn close_unless<L: Link + Drop>(linked: bool, link: &mut Option<L>)
     ensures { link.new ≡ kept_if linked link.old }
 {
@@ -44,7 +44,7 @@ pub(crate) fn may_wait(more: bool, linked: bool) -> bool
     more && linked
 }
 
-/// What was said goes behind what waits. The one error is want of memory.
+/// What was said goes behind what waits. The one error is running out of memory.
 pub(crate) fn add(
     alloc: Global,
     waits: &mut Items<Message>,

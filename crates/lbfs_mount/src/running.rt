@@ -154,7 +154,7 @@ where
     ensures ends { TextEnds (IsFaulty N.L.faults dialler.new.unpaired) (line_of text.now) number (K.held sink.old) (K.held sink.new) (K.faults sink.old) (K.faults sink.new) (N.faults dialler.old.net) (N.faults dialler.new.net) result }
     ensures later { (N.faults dialler.old.net ≤ N.faults dialler.new.net) × (K.faults sink.old ≤ K.faults sink.new) }
 {
-    // Asked of the text, since a line that was read would have to be let go.
+    // Asked of the text, since a line that was read would have to be dropped.
     if is_skipped(text) {
         return Ok(());
     }

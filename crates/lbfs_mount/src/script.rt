@@ -43,7 +43,7 @@ impl Model for Script {
 }
 
 impl Script {
-    /// Nothing has come yet. The one error is want of memory.
+    /// Nothing has come yet. The one error is running out of memory.
     pub fn new(alloc: Global) -> Result<Script, AllocError>
         ensures { IfOk result (λ s. s ≡ nothing_yet) }
     {

@@ -77,7 +77,7 @@ impl<D: Turns + Drop> Shared<D> {
     }
 }
 
-/// The turns of the thread that runs the script. It can't be let go, but by the last of them: so each mount
+/// The turns of the thread that runs the script. It can't be dropped, but by the last of them: so each mount
 /// gives a farewell.
 pub(crate) struct ScriptTurns<'e, D> {
     shared: &'e Shared<D>,

@@ -32,7 +32,7 @@ fn whole_status(is_whole: bool) -> Status
     }
 }
 
-/// What is written of what was found, and the status then. The one error is want of memory.
+/// What is written of what was found, and the status then. The one error is running out of memory.
 fn check_output(
     alloc: Global,
     looked: &Result<CheckedStore, StoreError>,

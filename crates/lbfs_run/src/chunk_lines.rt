@@ -30,7 +30,7 @@ fn put_chunks(alloc: Global, out: &mut String, chunks: &[Chunk]) -> Result<(), A
 
 /// A line for each chunk of the content, with where it begins, how many bytes it has and their
 /// SHA-1 digest, and a last line with the count of chunks and that of all bytes. The one error is
-/// want of memory.
+/// running out of memory.
 pub fn cut_text(alloc: Global, content: &[u8]) -> Result<Bytes, AllocError>
     ensures { IfOk result (λ text. text ≡ cut_text content.now) }
 {

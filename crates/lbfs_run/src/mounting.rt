@@ -39,7 +39,8 @@ fn untold(alloc: Global, status: Status) -> Output
     }
 }
 
-/// What is written of how a mount ended, and the status then. The one error is want of memory.
+/// What is written of how a mount ended, and the status then. The one error is running out of
+/// memory.
 fn mount_output(alloc: Global, ended: Result<(), MountError>) -> Result<Output, AllocError>
     ensures { IfOk result (λ out. (out.status, out.text) ≡ mount_output ended) }
 {

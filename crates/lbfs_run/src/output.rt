@@ -81,7 +81,8 @@ fn ran(alloc: Global, view: View, trace: &[u8]) -> Result<Output, AllocError>
     }
 }
 
-/// What the command writes for an input that is not too long. The one error is want of memory.
+/// What the command writes for an input that is not too long. The one error is running out of
+/// memory.
 pub fn input_output(
     alloc: Global,
     command: InputCommand,
@@ -103,7 +104,7 @@ pub fn input_output(
     }
 }
 
-/// What the command writes of a generated trace. The one error is want of memory.
+/// What the command writes of a generated trace. The one error is running out of memory.
 pub fn seed_output(
     alloc: Global,
     seed: u64,

@@ -61,7 +61,7 @@ fn run_block(
 }
 
 /// The world that a generated trace of so many blocks comes to. Its text is made block by block, and
-/// never held whole. The one error is want of memory.
+/// never held whole. The one error is running out of memory.
 pub fn replayed(alloc: Global, seed: u64, blocks: u64) -> Result<World, AllocError>
     requires { blocks ≤ BLOCKS_MOST }
     ensures { IfOk result (λ v. accepted (generated_text seed blocks) ≡ Ok v.world) }

@@ -47,7 +47,8 @@ fn record_text(alloc: Global, which: usize) -> Result<Bytes, AllocError>
     Ok(Items::from_vec(text.into_bytes()))
 }
 
-/// What is written of how serving ended, and the status then. The one error is want of memory.
+/// What is written of how serving ended, and the status then. The one error is running out of
+/// memory.
 fn serve_output(alloc: Global, ended: Result<Served, ServeError>) -> Result<Output, AllocError>
     ensures { IfOk result (λ out. (out.status, out.text) ≡ serve_output ended) }
 {

@@ -10,7 +10,7 @@ use Rattle.wire.proofs.message.Message.TheSendSync as message
 use Rattle.wire.specs.contracts.message.Message.{the_row as message_row}
 use Rattle.server_core.proofs.server.Server.TheSendSync as server
 use Rattle.server_core.specs.contracts.server.Server.{the_row as server_row}
-use Rattle.server_held.specs.contracts.held.Held as held
+use Rattle.server_held.specs.contracts.held.SharedServer as held
 use Rattle.server_held.specs.contracts.kept.KeptServer as kept
 use Rattle.server_held.specs.contracts.kept.KeptServer.TheInside as kept_in
 use Rattle.server_held.specs.contracts.outboxes.Outboxes.TheInside as boxes_in

@@ -19,7 +19,7 @@ pub(crate) fn content_ids(alloc: Global, records: &Vec<Kept>) -> Result<Vec<u64>
 }
 
 /// The server's index gets the places of the chunks of these files, one file after the other: where it
-/// can't hold all, those of the last stay. What memory is wanting for is left out.
+/// can't hold all, those of the last stay. What memory runs out for is left out.
 pub(crate) fn learn_all(server: &mut Server, files: &[u64])
     ensures { server.new ≡ record server.old { index = server.new.index } }
 {

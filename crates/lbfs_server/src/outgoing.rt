@@ -18,8 +18,8 @@ pub struct Taken {
     stands: bool,
 }
 
-/// What may go out to a session: where a message of it tells what the store has (`tells`), a `settle` behind its
-/// turn has answered `Ok`. It is made by `Taken::settle` alone.
+/// What may go out to a session: where a message of it tells what the store has (`tells`), a `sync` behind its
+/// turn has answered `Ok`. It is made by `Taken::sync` alone.
 #[derive(Drop)]
 pub struct Sure {
     messages: Vec<Message>,
@@ -73,13 +73,13 @@ impl Taken {
 
     /// Makes the store sure of all that was made before what is to be said was taken; where nothing tells of it,
     /// of nothing. `Failed` comes where the store is in doubt.
-    pub fn settle<W: Wait, Y: Syncs>(self, rt: &W, syncs: &Y) -> Result<Sure, Failed>
-        ensures settled { OnOk result (any_tells self.messages.items ≡ true → Y.settled syncs.now) }
+    pub fn sync<W: Wait, Y: Syncs>(self, rt: &W, syncs: &Y) -> Result<Sure, Failed>
+        ensures sure { OnOk result (any_tells self.messages.items ≡ true → Y.is_sure syncs.now) }
         ensures same { IfOk result (λ sure. (sure.messages ≡ self.messages) × (sure.stands ≡ self.stands)) }
     {
         let Taken { messages, stands } = self;
         if any_tells(&messages) {
-            if let Err(failed) = syncs.settle(rt) {
+            if let Err(failed) = syncs.sync(rt) {
                 drop(messages);
                 return Err(failed);
             }

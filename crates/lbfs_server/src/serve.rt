@@ -18,7 +18,7 @@ use links::clock::Clock;
 use links::network::Network;
 use links::rest::Rest;
 use server_core::server::Server;
-use server_held::held::Held;
+use server_held::held::SharedServer;
 use std::alloc::Global;
 use std::sync::Wait;
 use std::thread::Threads;
@@ -116,7 +116,7 @@ fn changes_in(long: u64) -> u64
     long.saturating_sub(1)
 }
 
-/// Why nothing more is served once a store could not be closed for a reason: want of memory, or `Store`. That
+/// Why nothing more is served once a store could not be closed for a reason: running out of memory, or `Store`. That
 /// its count of faults is above the one before is looked up: of a store that comes back from other threads
 /// nothing else tells it.
 fn close_error(why: StoreError, before: u64, after: u64) -> ServeError
@@ -180,7 +180,7 @@ where
     let Ok(syncs) = store.syncs() else {
         return (Err(ServeError::Memory), store, net);
     };
-    let (post, pass) = match Post::new(alloc, Held::new(alloc, server, store)) {
+    let (post, pass) = match Post::new(alloc, SharedServer::new(alloc, server, store)) {
         Ok(made) => made,
         Err(held) => return (Err(ServeError::Memory), held.into_store(), net),
     };

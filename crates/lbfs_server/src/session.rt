@@ -56,7 +56,7 @@ fn give_out<W: Wait, H: Turns + Drop, Y: Syncs, G: Gate + Drop, L: Link + Drop>(
     ensures come { L.left link.new ≡ L.left link.old }
     ensures later { L.faults link.old ≤ L.faults link.new }
 {
-    match shared.settle_taken(rt, taken) {
+    match shared.sync_taken(rt, taken) {
         Ok(sure) => {
             let follows = give(shared.alloc(), link, &sure);
             if !follows {
@@ -248,9 +248,10 @@ fn both_on<W: Wait, H: Turns + Drop, Y: Syncs, G: Gate + Drop, L: Link + Drop, C
     unreachable!()
 }
 
-/// A session in one thread: each record is taken, and what there is to say is put out, also what comes of a
-/// change that waits, before the next one is. It answers as `session_in` does, and has shut the link where the session
-/// was closed before its input ended, but where memory was wanting before the first record.
+/// A session in one thread: each record is taken, and what there is to say is put out, also what
+/// comes of a pending change, before the next one is. It answers as `session_in` does, and has shut
+/// the link where the session was closed before its input ended, but where memory was wanting
+/// before the first record.
 pub fn session_both<W: Wait, H: Turns + Drop, Y: Syncs, G: Gate + Drop, L: Link + Drop, C: Clock>(
     rt: &W,
     shared: &Shared<H, Y, G, L>,

@@ -47,7 +47,7 @@ pub struct Shared<H: Turns, Y, G, L> {
     alloc: Global,
 }
 
-// By hand: docs/PROVING.md, "Values that are let go".
+// By hand: docs/proving/dropping.md.
 impl<H: Turns + Drop, Y: Drop, G: Drop, L: Drop> Drop for Shared<H, Y, G, L> {
     fn drop(self) {
         let Shared {
@@ -182,14 +182,14 @@ fn settles_from(quiet: u64, now: u64) -> bool
     quiet <= now
 }
 
-/// What came of a turn in which a change that waits may be made, and a session that has no xid left for what it
-/// was to be asked, if there is one. It can't be let go, but by `close_spent`.
+/// What came of a turn in which a pending change may be made, and a session that has no xid left for what it
+/// was to be asked, if there is one. It can't be dropped, but by `close_spent`.
 struct Settled {
     went: Went,
     spent: Option<u32>,
 }
 
-/// A change that waits is made, if it may be, and if the quiet is over.
+/// A pending change is made, if it may be, and if the quiet is over.
 #[tactic(auto, using(crate::proofs::Following::adds_none))]
 fn settle_in<H: Turns>(held: &mut H, alloc: Global, quiet: u64, now: u64) -> Settled
     requires { now < 2 ^ 63 }
@@ -216,7 +216,7 @@ fn gone(went: Went, own: u64) -> u64 {
     }
 }
 
-/// The session that an event may end for another reason than want of memory.
+/// The session that an event may end for another reason than running out of memory.
 fn session_of(event: &Event) -> Option<u32> {
     match event {
         Event::Got { session, .. } | Event::Hang { session } => Some(*session),
@@ -316,9 +316,9 @@ impl<H: Turns + Drop, Y: Syncs, G: Gate + Drop, L: Link + Drop> Shared<H, Y, G, 
         (pass, went)
     }
 
-    /// What is made of a record before its turn: the content that its COMMITTMP comes to, cut and hashed
-    /// while others take their turns; none where its temporary file has no such content, or memory is
-    /// wanting. The turn comes to the same without it.
+    /// What is made of a record before its turn: the content that its COMMITTMP comes to, cut and
+    /// hashed while others take their turns; none where its temporary file has no such content, or
+    /// memory runs out. The turn comes to the same without it.
     fn ahead<W: Wait>(
         &self,
         rt: &W,
@@ -402,7 +402,7 @@ impl<H: Turns + Drop, Y: Syncs, G: Gate + Drop, L: Link + Drop> Shared<H, Y, G, 
         (pass, Taken::new(messages, stands))
     }
 
-    /// A turn in which a change that waits is made, if it may be; what there is to say to a session is
+    /// A turn in which a pending change is made, if it may be; what there is to say to a session is
     /// taken.
     fn settle<W: Wait>(&self, rt: &W, pass: Pass<H>, session: u32, now: u64) -> (Pass<H>, Taken)
         requires pass { IsPassOf self.now.post pass }
@@ -513,15 +513,15 @@ impl<H: Turns + Drop, Y: Syncs, G: Gate + Drop, L: Link + Drop> Shared<H, Y, G, 
 
     /// What was taken may go out, once the store is sure of what was made before. Where it can't be,
     /// nothing is to go out on any link any more (`is_in_doubt`), not even nothing: a link ends by that.
-    pub fn settle_taken<W: Wait>(&self, rt: &W, taken: Taken) -> Result<Sure, Failed>
-        ensures settled { OnOk result (any_tells taken.messages.items ≡ true → Y.settled self.now.syncs) }
+    pub fn sync_taken<W: Wait>(&self, rt: &W, taken: Taken) -> Result<Sure, Failed>
+        ensures sure { OnOk result (any_tells taken.messages.items ≡ true → Y.is_sure self.now.syncs) }
         ensures same { IfOk result (λ sure. (sure.messages ≡ taken.messages) × (sure.stands ≡ taken.stands)) }
     {
         if self.is_in_doubt() {
             drop(taken);
             return Err(Failed);
         }
-        let settled = taken.settle(rt, &self.syncs);
+        let settled = taken.sync(rt, &self.syncs);
         if settled.is_err() {
             self.note_doubt();
         }
@@ -588,7 +588,7 @@ impl<H: Turns + Drop, Y: Syncs, G: Gate + Drop, L: Link + Drop> Shared<H, Y, G, 
         pass
     }
 
-    /// Keeps a link of a session's client, by which the session can be shut. Where memory is wanting
+    /// Keeps a link of a session's client, by which the session can be shut. Where memory runs out
     /// for it none is kept.
     pub fn keep_link<W: Wait>(&self, rt: &W, session: u32, link: L) {
         let mut links = self.links.lock(rt);

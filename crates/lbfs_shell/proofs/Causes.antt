@@ -24,7 +24,7 @@ of_sink end.TooLong r r' w m w' h c = tt
 of_sink end.Memory r r' w m w' h c = tt
 of_sink end.Network r r' w m w' h c = tt
 
--- want of memory has no cause
+-- running out of memory has no cause
 pub starved : (e : ShellEnd) (w w' : ℕ) → e ≡ end.Memory → SinkCause w w' e
 starved e w w' is = subst (λ (x : ShellEnd). SinkCause w w' x) (sym is) tt
 

@@ -45,7 +45,7 @@ fn do_one<W: Wait, P: Screen, R: Remote, F: Folder>(
     task: Task,
 ) {
     match visit(alloc, remote, folder, task) {
-        Ok(visited) => pool.settle(rt, alloc, screen, visited),
+        Ok(visited) => pool.note_done(rt, alloc, screen, visited),
         Err(AllocError) => pool.starve(rt),
     }
 }

@@ -86,7 +86,7 @@ impl Jobs {
     }
 
     /// What a task came to.
-    fn settle<P: Screen>(&mut self, alloc: Global, screen: &P, visited: Visited) {
+    fn note_done<P: Screen>(&mut self, alloc: Global, screen: &P, visited: Visited) {
         self.busy = self.busy.saturating_sub(1);
         self.tally = self.tally.with(&visited);
         if !self.is_quiet {
@@ -156,14 +156,14 @@ impl Pool {
     }
 
     /// A task was done.
-    pub(crate) fn settle<W: Wait, P: Screen>(
+    pub(crate) fn note_done<W: Wait, P: Screen>(
         &self,
         rt: &W,
         alloc: Global,
         screen: &P,
         visited: Visited,
     ) {
-        self.jobs.lock(rt).settle(alloc, screen, visited);
+        self.jobs.lock(rt).note_done(alloc, screen, visited);
         self.news.notify_all();
     }
 

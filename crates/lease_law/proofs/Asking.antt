@@ -16,7 +16,7 @@ use Rattle.callback_core.specs.BackCalls.{BackCall, unasked, with_recall, recall
 use Rattle.callback_core.specs.declared.back_calls.Asked.{Asked}
 use Rattle.server_core.specs.declared.event.Sent.{Sent}
 use Rattle.server_core.specs.Recalling.{recall_sent}
-use Rattle.server_core.specs.State.{Change}
+use Rattle.server_core.specs.State.{FileChange}
 use Rattle.lease_law.specs.Claims.{Way, IsGuarded, recall_message, answered_by, called_by}
 use Rattle.lease_law.specs.Orderly.{IsUpTo, AreAnswered, AreApart, AllApart, sent_on, behind_with}
 use Rattle.lease_law.proofs.LeasesAt.{guarded_more, guarded_marked}
@@ -169,7 +169,7 @@ known_fresh : (calls : List BackCall) (s : ℕ) (ups : List Message) (r : Recall
 known_fresh calls s ups r rs x e (inl answered) same = none_yet (call_at calls s).last x answered_by ups (drawn (call_at calls s).last x (ap (xid_at calls) (sym same) ∙ e)) answered
 known_fresh calls s ups r rs x e (inr none) same = absurd (none.0 same)
 
-module _ (waiting : List Change) (s f limit : ℕ) (way : Way) where
+module _ (waiting : List FileChange) (s f limit : ℕ) (way : Way) where
   pub asks_guarded : (rs : List Recall) (calls : List BackCall) (leases : List Lease) (behind : List Message) → AreOrdered leases → AreKnown calls s way.ups rs → IsGuarded leases waiting s f limit way behind
       → IsGuarded (all_marked leases (asks calls rs).1) waiting s f limit way (behind_with way behind (sent_on s (map recall_sent (asks calls rs).1)))
   asks_guarded [] calls leases behind ordered known g = guarded_more waiting s f limit way behind leases [] g

@@ -47,10 +47,10 @@ use Rattle.chunk_index.specs.Index.{key_of, place_of}
 use Rattle.server_core.specs.declared.change.Wanted.TheVariants as wanted
 use Rattle.server_core.specs.declared.event.Sent.{Sent}
 use Rattle.server_core.specs.declared.event.ServerStep.{ServerStep}
-use Rattle.server_core.specs.Closing.{answers, has_waiting, is_full, makes, makes_unless, writes, writes_unless, names, names_unless, names_bytes, looked_up, commits, commits_to, commits_whole}
+use Rattle.server_core.specs.Closing.{answers, has_waiting, is_full, makes, makes_unless, writes, writes_unless, names, names_unless, names_bytes, looked_up, takes_commit, takes_commit_on, commits_whole}
 use Rattle.server_core.specs.Leasing.{Leasing, with_granted, with_granted_on, term_of, given_up, heard}
 use Rattle.server_core.specs.Recalling.{file_in, term_on, grants_on, comes}
-use Rattle.server_core.specs.State.{State, Change, change_of, held, asked_kind, stands}
+use Rattle.server_core.specs.State.{State, FileChange, change_of, held, asked_kind, stands}
 use Rattle.server_core.specs.Step.{says, tells_lease, tells_hashes, called_under, asks, asks_tree, is_recalled, hears, got_under}
 use Rattle.server_core.specs.Steps.{sends, to}
 use Rattle.server_law.specs.Facts.{IsGiven}
@@ -240,7 +240,7 @@ module _ (clock : ℕ) (c : Claim) (way : Way) (behind downs : List Message) whe
 
     -- a step is the same to a claim where the state before had other temporary files
     commits_to_keep : (n xid size : ℕ) (t : Temp) (o : Result Node Status) → ((f : File) → o ≡ Ok (a_file f) → n ≡ c.session → f.id ≡ c.file → IsGuarded s.leasing.leases s.waiting c.session c.file (limit_of s.leasing c) way behind → ⊥)
-        → Stands s (commits_to s n xid size t o)
+        → Stands s (takes_commit_on s n xid size t o)
     commits_to_keep n xid size t (Err e) never = told_keeps s n xid _ refl refl refl refl
     commits_to_keep n xid size t (Ok directory) never = told_keeps s n xid _ refl refl refl refl
     commits_to_keep n xid size t (Ok (a_file f)) never = by (nat_lt size_most size)
@@ -298,7 +298,7 @@ module _ (clock : ℕ) (c : Claim) (way : Way) (behind downs : List Message) whe
         tree_keeps s p.0 ready (calls_keep_under s.tree (held s.waiting) fault (has_waiting s.waiting n) m ready.orderly.given).0 (calls_stay s.tree (held s.waiting) fault ready.orderly.given (has_waiting s.waiting n) m)
         (asks_tree s n xid p) (λ r. asks_keep (record s { tree = p.0 }) r n xid p.1)
 
-    commits_keep : (n xid : ℕ) (a : Commit) → (n ≡ c.session → IsAmong (message.Call xid (body.Lb (lb.CommitTmp a))) way.ups) → (t : Option Temp) → Stands s (commits s n xid a t)
+    commits_keep : (n xid : ℕ) (a : Commit) → (n ≡ c.session → IsAmong (message.Call xid (body.Lb (lb.CommitTmp a))) way.ups) → (t : Option Temp) → Stands s (takes_commit s n xid a t)
     commits_keep n xid a own None = told_keeps s ready s n xid _ refl refl refl refl
     commits_keep n xid a own (Some t) = same (commits_to_keep u ready_then n xid a.size t (node_of s.tree a.handle) never)
       where
@@ -311,7 +311,7 @@ module _ (clock : ℕ) (c : Claim) (way : Way) (behind downs : List Message) whe
         never : (f : File) → node_of s.tree a.handle ≡ Ok (a_file f) → n ≡ c.session → f.id ≡ c.file → IsGuarded s.leasing.leases s.waiting c.session c.file (limit_of s.leasing c) way behind → ⊥
         never f e mine file g = (all_among _ (message.Call xid (body.Lb (lb.CommitTmp a))) way.ups g.spared (own mine)).1 (named_file s.tree a.handle f e ∙ ap (λ (i : ℕ). Some i) file)
 
-        same : Stands u (commits_to u n xid a.size t (node_of s.tree a.handle)) → Stands s (commits_to u n xid a.size t (node_of s.tree a.handle))
+        same : Stands u (takes_commit_on u n xid a.size t (node_of s.tree a.handle)) → Stands s (takes_commit_on u n xid a.size t (node_of s.tree a.handle))
         same h = record { orderly = h.orderly; safe = h.safe; numbered = λ q. h.numbered (numbered_as s u c.session way.ups downs refl refl q) }
 
     called_keep : (n xid : ℕ) (b : Body) → (n ≡ c.session → IsAmong (message.Call xid b) way.ups) → Stands s (called_under s fault n xid b)

@@ -16,7 +16,7 @@ use Rattle.server_core.specs.declared.event.Sent.{Sent}
 use Rattle.server_core.specs.declared.event.ServerStep.{ServerStep}
 use Rattle.server_core.specs.Leasing.{Leasing, asking}
 use Rattle.server_core.specs.Recalling.{recalls_for, comes}
-use Rattle.server_core.specs.State.{State, Change, stands}
+use Rattle.server_core.specs.State.{State, FileChange, stands}
 use Rattle.server_law.specs.Facts.{IsGiven}
 use Rattle.lease_law.specs.Claims.{Claim, Way, version_at, limit_of, is_own, called_by, IsAmong, IsAlone, IsGuarded, IsSafe}
 use Rattle.lease_law.specs.Orderly.{IsFit, IsOrderly, IsUpTo, AreApart, AllApart, AreAnswered, AreDrawn, AreNumbered, sent_on, behind_with}
@@ -25,11 +25,11 @@ use Rattle.lease_law.proofs.Asking.{AreKnown, asks_guarded, asks_unsent, asks_nu
 
 -- ---- a claim
 
-abbrev pub SafeIn : Leasing → Tree → List Change → (clock : ℕ) → Claim → Way → List Message → Type 0
+abbrev pub SafeIn : Leasing → Tree → List FileChange → (clock : ℕ) → Claim → Way → List Message → Type 0
 SafeIn g t ws clock c way behind = (limit_of g c ≤ clock) ⊎ ((version_at t c.file ≡ Some c.version) × ((limit_of g c ≤ g.quiet) ⊎ IsGuarded g.leases ws c.session c.file (limit_of g c) way behind))
 
 -- it stays where its version does, and where what guards it does, or its time is over
-pub safe_map : (g h : Leasing) (t u : Tree) (ws vs : List Change) (clock now : ℕ) (c : Claim) (way after : Way) (behind more : List Message) → h.term ≡ g.term → h.quiet ≡ g.quiet → clock ≤ now
+pub safe_map : (g h : Leasing) (t u : Tree) (ws vs : List FileChange) (clock now : ℕ) (c : Claim) (way after : Way) (behind more : List Message) → h.term ≡ g.term → h.quiet ≡ g.quiet → clock ≤ now
     → (version_at t c.file ≡ Some c.version → version_at u c.file ≡ Some c.version)
     → (IsGuarded g.leases ws c.session c.file (limit_of g c) way behind → (limit_of g c ≤ now) ⊎ IsGuarded h.leases vs c.session c.file (limit_of g c) after more)
     → SafeIn g t ws clock c way behind → SafeIn h u vs now c after more
@@ -44,7 +44,7 @@ safe_map g h t u ws vs clock now c way after behind more term quiet le version g
     by (inl spent) = inl (omega (arith, spent, term))
     by (inr l) = inr (version is, inr (subst (λ (n : ℕ). IsGuarded h.leases vs c.session c.file n after more) same l))
 
-pub guarded_alone : (leases : List Lease) (ws vs : List Change) (s f limit : ℕ) (way : Way) (behind : List Message) → IsAlone vs s f → IsGuarded leases ws s f limit way behind → IsGuarded leases vs s f limit way behind
+pub guarded_alone : (leases : List Lease) (ws vs : List FileChange) (s f limit : ℕ) (way : Way) (behind : List Message) → IsAlone vs s f → IsGuarded leases ws s f limit way behind → IsGuarded leases vs s f limit way behind
 guarded_alone leases ws vs s f limit way behind alone g = record { lease = g.lease; there = g.there; lasts = g.lasts; unread = g.unread; spared = g.spared; alone = alone }
 
 pub all_among : {A : Type 0} (P : A → Type 0) (x : A) (xs : List A) → AllByRecursion P xs → IsAmong x xs → P x
@@ -129,18 +129,18 @@ module _ (s : State) (clock : ℕ) (c : Claim) (way : Way) (behind downs : List 
     safe = λ h.
         subst (λ (g : Leasing). SafeIn g t.tree t.waiting clock c way (behind_with way behind (sent_on c.session r.send))) (sym leasing)
         (subst (λ (u : Tree). SafeIn s.leasing u t.waiting clock c way (behind_with way behind (sent_on c.session r.send))) (sym tree)
-        (subst (λ (ws : List Change). SafeIn s.leasing s.tree ws clock c way (behind_with way behind (sent_on c.session r.send))) (sym waiting)
+        (subst (λ (ws : List FileChange). SafeIn s.leasing s.tree ws clock c way (behind_with way behind (sent_on c.session r.send))) (sym waiting)
         (safe_more (sent_on c.session r.send) h)));
     numbered = λ h. subst (λ (ms : List Sent). AreNumbered t c.session way.ups (behind_with way downs (sent_on c.session ms))) (sym sent) (answered_numbered s t c.session n way downs m sessions (ap (λ (g : Leasing). g.calls) leasing) plain h);
   }
 
 -- ---- a change comes
 
-fits_last : (ws : List Change) (d : Change) → AllByRecursion IsFit ws → IsFit d → AllByRecursion IsFit (ws ++ d ∷ [])
+fits_last : (ws : List FileChange) (d : FileChange) → AllByRecursion IsFit ws → IsFit d → AllByRecursion IsFit (ws ++ d ∷ [])
 fits_last [] d h f = (f, tt)
 fits_last (w ∷ ws) d h f = (h.0, fits_last ws d h.1 f)
 
-alone_last : (ws : List Change) (d : Change) (s f : ℕ) → IsAlone ws s f → is_own s f d ≡ false → IsAlone (ws ++ d ∷ []) s f
+alone_last : (ws : List FileChange) (d : FileChange) (s f : ℕ) → IsAlone ws s f → is_own s f d ≡ false → IsAlone (ws ++ d ∷ []) s f
 alone_last ws d s f alone other = list_any-append (is_own s f) ws (d ∷ []) ∙ ap (λ (b : Bool). b || (is_own s f d || false)) alone ∙ ap (λ (b : Bool). b || false) other
 
 module _ (s : State) (clock : ℕ) (c : Claim) (way : Way) (behind downs : List Message) where
@@ -156,7 +156,7 @@ module _ (s : State) (clock : ℕ) (c : Claim) (way : Way) (behind downs : List 
       by true e later = ((λ same. no (sym gone ∙ ap (stands s) (sym same) ∙ e)), later)
       by false e later = later
 
-  pub comes_keeps : IsOrderly s clock → (stands s c.session ≡ true → AreAnswered s.leasing.calls c.session way.ups) → (d : Change) → IsFit d → (IsGuarded s.leasing.leases s.waiting c.session c.file (limit_of s.leasing c) way behind → is_own c.session c.file d ≡ false)
+  pub comes_keeps : IsOrderly s clock → (stands s c.session ≡ true → AreAnswered s.leasing.calls c.session way.ups) → (d : FileChange) → IsFit d → (IsGuarded s.leasing.leases s.waiting c.session c.file (limit_of s.leasing c) way behind → is_own c.session c.file d ≡ false)
       → Keeps s clock c way behind downs (comes s d)
   comes_keeps o answered d fit other = record {
     orderly = record { early = o.early; ordered = all_marked_ordered (asking s.leasing (recalls_for s d)).1 s.leasing.leases o.ordered; changes = fits_last s.waiting d o.changes fit; given = o.given };

@@ -1,4 +1,4 @@
--- Any event of the server, and want of memory.
+-- Any event of the server, and running out of memory.
 use Rattle.std.proofs.Common.{◌≡◌, inl, inr, ℕ, ◌+◌, ◌<◌, ◌≤◌, List, [], ◌∷◌, Option, Bool, true, false, refl, sym, ap, ◌∙◌, subst, arith}
 use Rattle.std.specs.Prelude.{◌==◌, ◌||◌, not, cond, filter, max, unwrap_or}
 use Rattle.std.specs.List.{list_any, AllByRecursion}
@@ -52,7 +52,7 @@ module _ (s : State) (clock now : ℕ) (le : clock ≤ now) (c : Claim) (way : W
   sent_none : (b : List Message) (r : ServerStep) → r.send ≡ [] → behind_with way b (sent_on c.session r.send) ≡ b
   sent_none b r none = ap (λ (ms : List Sent). behind_with way b (sent_on c.session ms)) none ∙ behind_none way b
 
-  -- a step that sends nothing, and after which files are the same, and leases, and changes that wait, but for some of these
+  -- a step that sends nothing, and after which files are the same, and leases, and pending changes, but for some of these
   idle_keeps : IsOrderly s clock → (t : State) (r : ServerStep) → t.leasing.term ≡ s.leasing.term → t.leasing.quiet ≡ s.leasing.quiet → t.leasing.moment ≡ s.leasing.moment → t.leasing.leases ≡ s.leasing.leases → t.tree ≡ s.tree
       → AllByRecursion IsFit t.waiting → (IsAlone s.waiting c.session c.file → IsAlone t.waiting c.session c.file) → r.send ≡ [] → (AreNumbered s c.session way.ups downs → AreNumbered t c.session way.ups downs) → KeepsFor s clock now c way behind downs (t, r)
   idle_keeps o t r term quiet moment leases tree fits alone none numbered = record {
@@ -174,7 +174,7 @@ module _ (s : State) (clock now : ℕ) (c : Claim) (way : Way) (behind downs : L
       by true = idle_keeps s clock now le c way behind downs o (hangs s n) (sends []) refl refl refl refl refl (all_left IsFit (λ e. not (e.session == n)) s.waiting o.changes) (λ a. none_left (is_own c.session c.file) (λ e. not (e.session == n)) s.waiting a) refl (hung_numbered s n c.session way.ups downs)
       by false = idle_keeps s clock now le c way behind downs o s (sends []) refl refl refl refl refl o.changes (λ a. a) refl (λ q. q)
 
-  -- ---- want of memory
+  -- ---- running out of memory
 
   missed_same : (u : State) (b : Body) → ((missed_call u b).leasing ≡ u.leasing) × ((missed_call u b).tree ≡ u.tree) × ((missed_call u b).waiting ≡ u.waiting) × ((missed_call u b).sessions ≡ u.sessions)
   missed_same u (body.Lb (lb.CondWrite a)) = (refl, refl, refl, refl)

@@ -22,9 +22,9 @@ use Rattle.tree_nodes.specs.Nodes.{with_id}
 use Rattle.tree_reading.specs.Tree.{Tree}
 use Rattle.tree_reading.specs.Plans.{replace_plan}
 use Rattle.tree_reading.specs.declared.call.Changed.{Changed}
-use Rattle.tree_reading.specs.declared.call.Held.{Held}
+use Rattle.tree_reading.specs.declared.call.Reservation.{Reservation}
 use Rattle.file_tree.specs.Step.{replace, replace_if}
-use Rattle.tree_calls.specs.Waiting.{with_committed, commits_under as tree_commits_under}
+use Rattle.tree_calls.specs.Waiting.{with_committed, gives_content_under}
 use Rattle.chunk_calls.specs.Files.{File, file_at, file_of_body, file_of_node}
 use Rattle.chunk_calls.specs.Answers.{Node, directory, file as a_file, node_with, node_found, node_named, node_of}
 use Rattle.server_core.specs.Leasing.{Leasing, with_granted}
@@ -32,7 +32,7 @@ use Rattle.tree_calls.specs.declared.asked.Committing.{Committing}
 use Rattle.server_core.specs.declared.change.Wanted.TheVariants as wanted
 use Rattle.server_core.specs.Closing.{leases_done, makes_change_under}
 use Rattle.server_core.specs.Recalling.{term_at, term_on, grants_on}
-use Rattle.server_core.specs.State.{State, Change, held}
+use Rattle.server_core.specs.State.{State, FileChange, held}
 use Rattle.lease_law.specs.Orderly.{IsOrderly}
 use Rattle.server_law.proofs.Asked.{asked_holds}
 use Rattle.server_law.proofs.Trees.{replaced_own}
@@ -43,7 +43,7 @@ use Rattle.lease_law.proofs.Calls.{term_full, named_file}
 
 -- ---- nobody's change waits for the file
 
-weaker : (p q : Change → Bool) (ws : List Change) → ((w : Change) → q w ≡ false → p w ≡ false) → list_any q ws ≡ false → list_any p ws ≡ false
+weaker : (p q : FileChange → Bool) (ws : List FileChange) → ((w : FileChange) → q w ≡ false → p w ≡ false) → list_any q ws ≡ false → list_any p ws ≡ false
 weaker p q [] h none = refl
 weaker p q (w ∷ ws) h none = both (p w) (list_any p ws) (h w (first (q w) (list_any q ws) none)) (weaker p q ws h (second (q w) (list_any q ws) none))
   where
@@ -59,7 +59,7 @@ weaker p q (w ∷ ws) h none = both (p w) (list_any p ws) (h w (first (q w) (lis
     both true b e f = e
     both false b e f = f
 
-none_waits : (ws : List Change) (session file term : ℕ) → (term_for (waits_on ws file) term == 0) ≡ false → IsAlone ws session file
+none_waits : (ws : List FileChange) (session file term : ℕ) → (term_for (waits_on ws file) term == 0) ≡ false → IsAlone ws session file
 none_waits ws session file term some = weaker (is_own session file) (λ w. is_about w file) ws (λ w e. other (asker w == session) (is_about w file) e) (free (waits_on ws file) some)
   where
     free : (b : Bool) → (term_for b term == 0) ≡ false → b ≡ false
@@ -79,7 +79,7 @@ unstored f (m ∷ ms) h = (((λ x e r. none x r), h.0), unstored f ms h.1)
     none : {A : Type 0} (x : ℕ) → ◌≡◌ {A = Option ℕ} None (Some x) → A
     none x e = absurd cc
 
-pub granted_guards : (g : Leasing) (ws : List Change) (session file term base : ℕ) (way : Way) → AreOrdered g.leases → (term == 0) ≡ false → base ≤ g.moment → AllByRecursion (λ m. stored_by m ≡ Some file → ⊥) way.ups → IsAlone ws session file
+pub granted_guards : (g : Leasing) (ws : List FileChange) (session file term base : ℕ) (way : Way) → AreOrdered g.leases → (term == 0) ≡ false → base ≤ g.moment → AllByRecursion (λ m. stored_by m ≡ Some file → ⊥) way.ups → IsAlone ws session file
     → IsGuarded (with_granted g.leases g.moment session file term) ws session file (base + term) way []
 granted_guards g ws session file term base way ordered some before free alone = by (term == 0) some
   where
@@ -122,7 +122,7 @@ named_version t handle f e = by (named_by handle) refl e
     by None is e = absurd cc
     by (Some id) is e = let same : id ≡ f.id = some_is id f.id (sym is ∙ named_file t handle f (ap (node_named t) is ∙ e)) in subst (λ (i : ℕ). version_at t i ≡ Some f.version) same (found (with_id t.nodes id) e)
 
-pub committed_version : (t : Tree) (held : Held) (fault : Bool) (id : ℕ) (content : List ℕ) (term : ℕ) (a : Committed) → (tree_commits_under t held fault id content term).1.answer ≡ Done a → (version_at (tree_commits_under t held fault id content term).0 id ≡ Some a.version) × (a.term ≡ term)
+pub committed_version : (t : Tree) (held : Reservation) (fault : Bool) (id : ℕ) (content : List ℕ) (term : ℕ) (a : Committed) → (gives_content_under t held fault id content term).1.answer ≡ Done a → (version_at (gives_content_under t held fault id content term).0 id ≡ Some a.version) × (a.term ≡ term)
 committed_version t held fault id content term a = asked_holds (λ q. (with_committed term q).1.answer ≡ Done a → (version_at q.0 id ≡ Some a.version) × (a.term ≡ term)) fault t (replace t held id content) (by (replace_plan t held id (length content)) refl) (λ e. failed e)
   where
     failed : {A : Type 0} {x : Status} → ◌≡◌ {A = Answer Committed Unit} (Failed x tt) (Done a) → A
@@ -156,11 +156,11 @@ told_claims s clock n base handle f way o named some before free =
     )
 
 -- and by a COMMITTMP that was made
-pub committed_claims : (s : State) (clock : ℕ) (fault : Bool) (d : Change) (content : List ℕ) (base : ℕ) (way : Way) (a : Committed) → IsOrderly s clock
-    → (tree_commits_under s.tree (held s.waiting) fault d.file content (term_at s d.file)).1.answer ≡ Done a → (a.term == 0) ≡ false → base ≤ s.leasing.moment
+pub committed_claims : (s : State) (clock : ℕ) (fault : Bool) (d : FileChange) (content : List ℕ) (base : ℕ) (way : Way) (a : Committed) → IsOrderly s clock
+    → (gives_content_under s.tree (held s.waiting) fault d.file content (term_at s d.file)).1.answer ≡ Done a → (a.term == 0) ≡ false → base ≤ s.leasing.moment
     → AllByRecursion (λ m. stored_by m ≡ Some d.file → ⊥) way.ups → IsClaim (makes_change_under s fault d (wanted.Content content)).0 clock (record { session = d.session; file = d.file; version = a.version; base = base }) way []
 committed_claims s clock fault d content base way a o is some before free =
-    let p : Tree × Committing = tree_commits_under s.tree (held s.waiting) fault d.file content (term_at s d.file) in
+    let p : Tree × Committing = gives_content_under s.tree (held s.waiting) fault d.file content (term_at s d.file) in
     let told = committed_version s.tree (held s.waiting) fault d.file content (term_at s d.file) a is in
     let early = o.early in
     let some_at : (term_at s d.file == 0) ≡ false = ap (λ (t : ℕ). t == 0) (sym told.1) ∙ some in

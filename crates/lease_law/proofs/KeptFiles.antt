@@ -18,7 +18,7 @@ use Rattle.tree_reading.specs.Tree.{Tree, is_directory, directory_of, directory_
 use Rattle.tree_reading.specs.Plans.{spared, create_plan, may_mkdir, may_rmdir, or_not_empty, remove_done, remove_plan, rmdir_plan, rename_plan, replace_plan, is_node}
 use Rattle.tree_reading.specs.declared.call.Changed.{Changed}
 use Rattle.tree_reading.specs.declared.call.CreateMode.{CreateMode}
-use Rattle.tree_reading.specs.declared.call.Held.{Held}
+use Rattle.tree_reading.specs.declared.call.Reservation.{Reservation}
 use Rattle.tree_reading.specs.declared.call.Planned.{Planned}
 use Rattle.tree_reading.specs.declared.call.Planned.TheVariants as planned
 use Rattle.tree_reading.specs.declared.reading.Standing.{Standing}
@@ -31,7 +31,7 @@ use Rattle.tree_calls.specs.declared.asked.Asked.{Asked}
 use Rattle.tree_calls.specs.declared.asked.Asked.TheVariants as asked
 use Rattle.tree_calls.specs.Telling.{id_of}
 use Rattle.tree_calls.specs.Changing.{mode_of}
-use Rattle.tree_calls.specs.Waiting.{file_of, rename_comes, over_comes, with_node, still, remove_again, rename_again, removes_if_under, renames_if_under, settles_under, commits_under, creates_in_under, mkdirs_in_under, rmdirs_in_under, renaming_under, asks_rename, renames_in_under, calls_under}
+use Rattle.tree_calls.specs.Waiting.{file_of, rename_comes, over_comes, with_node, still, remove_again, rename_again, removes_if_under, renames_if_under, settles_under, gives_content_under, creates_in_under, mkdirs_in_under, rmdirs_in_under, renaming_under, asks_rename, renames_in_under, calls_under}
 use Rattle.chunk_calls.specs.Files.{File, file_of_body, file_of_node, file_at}
 use Rattle.server_law.proofs.Asked.{asked_holds}
 use Rattle.server_law.proofs.Trees.{IsGiven, NoFile, no_file, file_below, file_node, made_files, removed_files, replaced_other, moved_at_files, without_none}
@@ -68,7 +68,7 @@ made_stay t n d h new there is f g at =
     let lt = file_below t f g h at in
     made_files t n d f h new there is ∙ ap (λ (b : Bool). if b then file_of_node (Some n) else file_at t f) (differs n.id f (λ e. omega (arith, lt, new, e))) ∙ at
 
-create_stay : (t : Tree) (held : Held) (dir : ℕ) (name : List ℕ) (m : CreateMode) → IsGiven t → AllStay t (create t held dir name m).0
+create_stay : (t : Tree) (held : Reservation) (dir : ℕ) (name : List ℕ) (m : CreateMode) → IsGiven t → AllStay t (create t held dir name m).0
 create_stay t held dir name m h = by (create_plan t held dir name m) refl
   where
     by : (r : Result (Option Changed) Status) → create_plan t held dir name m ≡ r → AllStay t (created t dir name r).0
@@ -76,7 +76,7 @@ create_stay t held dir name m h = by (create_plan t held dir name m) refl
     by (Ok (Some done)) e = same_stay t
     by (Ok None) e = let d = create_in t held dir name m None e in made_stay t (new_file t dir name) d.0 h refl d.1 d.2
 
-mkdir_stay : (t : Tree) (held : Held) (dir : ℕ) (name : List ℕ) → IsGiven t → AllStay t (mkdir t held dir name).0
+mkdir_stay : (t : Tree) (held : Reservation) (dir : ℕ) (name : List ℕ) → IsGiven t → AllStay t (mkdir t held dir name).0
 mkdir_stay t held dir name h = by (may_mkdir t held dir name) refl
   where
     by : (r : Result Unit Status) → may_mkdir t held dir name ≡ r → AllStay t (mkdir_if t dir name r).0
@@ -98,7 +98,7 @@ gone_stay t dir id none gone f g at = removed_stay t dir id none f apart g at
     apart : f ≡ id → ⊥
     apart e = some_none (sym gone ∙ ap (file_at t) (sym e) ∙ at)
 
-directory_goes : (t : Tree) (held : Held) (dir : ℕ) (name : List ℕ) (done : Changed) → rmdir_plan t held dir name ≡ Ok done → (n : Node) × (named t.nodes dir name ≡ Some n) × (is_directory n.body ≡ true) × (done.id ≡ n.id)
+directory_goes : (t : Tree) (held : Reservation) (dir : ℕ) (name : List ℕ) (done : Changed) → rmdir_plan t held dir name ≡ Ok done → (n : Node) × (named t.nodes dir name ≡ Some n) × (is_directory n.body ≡ true) × (done.id ≡ n.id)
 directory_goes t held dir name done e =
     let p = bind_ok (may_rmdir t held dir name) (λ n. Ok (remove_done n)) done e in
     let a = bind_ok (directory_of t.nodes dir) (λ _. spelt name >>= λ _. undotted status.Inval status.Exist name >>= λ _. or_no_entry (named t.nodes dir name) >>= directory_or status.NotDir >>= λ n. or_not_empty t.nodes n >>= λ _. spared t.changes held 1 >>= λ _. Ok n) p.0 p.1 in
@@ -116,7 +116,7 @@ directory_goes t held dir name done e =
     directory_if n m true e = (refl, ok_is n m e)
     directory_if n m false e = absurd cc
 
-rmdir_stay : (t : Tree) (held : Held) (dir : ℕ) (name : List ℕ) → IsGiven t → AllStay t (rmdir t held dir name).0
+rmdir_stay : (t : Tree) (held : Reservation) (dir : ℕ) (name : List ℕ) → IsGiven t → AllStay t (rmdir t held dir name).0
 rmdir_stay t held dir name h = by (rmdir_plan t held dir name) refl
   where
     by : (r : Result Changed Status) → rmdir_plan t held dir name ≡ r → AllStay t (remove_if t dir r).0
@@ -126,7 +126,7 @@ rmdir_stay t held dir name h = by (rmdir_plan t held dir name) refl
         let none = no_file t.nodes n.0.id n.0 (named_id t.nodes dir name n.0 h.apart n.1) n.2 in
         subst (λ (i : ℕ). AllStay t (removed t dir i)) (sym n.3) (gone_stay t dir n.0.id (no_file_in t dir (rmdir_in t held dir name done e)) none)
 
-remove_stay : (t : Tree) (held : Held) (dir : ℕ) (name : List ℕ) (n : Node) → named t.nodes dir name ≡ Some n → OthersStay t n.id (remove t held dir name).0
+remove_stay : (t : Tree) (held : Reservation) (dir : ℕ) (name : List ℕ) (n : Node) → named t.nodes dir name ≡ Some n → OthersStay t n.id (remove t held dir name).0
 remove_stay t held dir name n is = by (remove_plan t held dir name) refl
   where
     by : (r : Result Changed Status) → remove_plan t held dir name ≡ r → OthersStay t n.id (remove_if t dir r).0
@@ -163,7 +163,7 @@ shifted_over t dir None m to name at other from into = λ f apart. same_stay t f
 shifted_over t dir (Some n) m to name at other from into = over_stay t dir n m to name (at n refl) (other n refl) from into
 
 -- but the node that goes for it, if one does
-rename_stay : (t : Tree) (held : Held) (dir : ℕ) (name : List ℕ) (to : ℕ) (to_name : List ℕ) → IsGiven t → (o : Option Node) → named t.nodes to to_name ≡ o → (r : Result Planned Status) → rename_plan t held dir name to to_name ≡ r
+rename_stay : (t : Tree) (held : Reservation) (dir : ℕ) (name : List ℕ) (to : ℕ) (to_name : List ℕ) → IsGiven t → (o : Option Node) → named t.nodes to to_name ≡ o → (r : Result Planned Status) → rename_plan t held dir name to to_name ≡ r
     → (f : ℕ) → ((m : Node) (done : Changed) → o ≡ Some m → r ≡ Ok (planned.Over done) → f ≡ m.id → ⊥) → Stays t (rename_if t dir name to to_name r).0 f
 rename_stay t held dir name to to_name h o there (Err s) e f apart = same_stay t f
 rename_stay t held dir name to to_name h o there (Ok (planned.Nothing done)) e f apart = same_stay t f
@@ -196,7 +196,7 @@ still_named nodes dir name id u e = by (is_node id (stands_for nodes dir name)) 
     by true is e = some_standing (named nodes dir name) id is
     by false is e = absurd cc
 
-module _ (t : Tree) (held : Held) (fault : Bool) (h : IsGiven t) where
+module _ (t : Tree) (held : Reservation) (fault : Bool) (h : IsGiven t) where
   stored_stay : (P : Tree → Type 0) (p : Tree × Result Changed Status) → P p.0 → P t → P (stored fault t p).0
   stored_stay P p made none = asked_holds (λ q. P q.0) fault t p made none
 
@@ -225,7 +225,7 @@ module _ (t : Tree) (held : Held) (fault : Bool) (h : IsGiven t) where
           node_is : (a b : Node) → Some a ≡ Some b → a ≡ b
           node_is a b e = cc
 
-  pub commits_stay : (id : ℕ) (content : List ℕ) (term : ℕ) → OthersStay t id (commits_under t held fault id content term).0
+  pub commits_stay : (id : ℕ) (content : List ℕ) (term : ℕ) → OthersStay t id (gives_content_under t held fault id content term).0
   commits_stay id content term = stored_stay (OthersStay t id) (replace t held id content) (by (replace_plan t held id (length content))) (λ f apart. same_stay t f)
     where
       by : (r : Result ℕ Status) → OthersStay t id (replace_if t id content r).0

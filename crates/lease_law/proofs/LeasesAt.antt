@@ -12,7 +12,7 @@ use Rattle.lease_table.proofs.Lists.{if_passes, find_filtered, some_is}
 use Rattle.lease_table.proofs.Keeping.{at_granted, one_at, found_on, with_ordered}
 use Rattle.lease_table.proofs.Held.{grant_ordered, at_mark}
 use Rattle.server_core.specs.Leasing.{with_granted}
-use Rattle.server_core.specs.State.{Change}
+use Rattle.server_core.specs.State.{FileChange}
 use Rattle.lease_law.specs.Claims.{Way, IsAmong, IsUnread, Spares, IsGuarded, IsAlone, recall_message, answered_by}
 use Rattle.lease_law.specs.Orderly.{behind_with}
 
@@ -82,7 +82,7 @@ none_recalled recall f ups h = all_spared recall None f ups (λ m q. ((λ x e r.
     none : {A : Type 0} (x : ℕ) → ◌≡◌ {A = Option ℕ} None (Some x) → A
     none x e = absurd cc
 
-module _ (waiting : List Change) (s f limit : ℕ) (way : Way) (behind : List Message) where
+module _ (waiting : List FileChange) (s f limit : ℕ) (way : Way) (behind : List Message) where
   -- by the same lease in another list
   pub guarded_still : (leases more : List Lease) → lease_at more s f ≡ lease_at leases s f → IsGuarded leases waiting s f limit way behind → IsGuarded more waiting s f limit way behind
   guarded_still leases more same g = record { lease = g.lease; there = same ∙ g.there; lasts = g.lasts; unread = g.unread; spared = g.spared; alone = g.alone }

@@ -22,14 +22,14 @@ use Rattle.callback_core.specs.Waits.{is_free, heads_after, heads, ready, withou
 use Rattle.tree_reading.specs.Tree.{Tree}
 use Rattle.tree_calls.specs.declared.asked.Committing.{Committing}
 use Rattle.tree_calls.specs.declared.asked.Done.{Done as Outcome}
-use Rattle.tree_calls.specs.Waiting.{committed, commits_under as tree_commits_under, settles_under as tree_settles_under, file_of}
+use Rattle.tree_calls.specs.Waiting.{committed, gives_content_under, settles_under as tree_settles_under, file_of}
 use Rattle.server_core.specs.declared.change.Wanted.{Wanted}
 use Rattle.server_core.specs.declared.change.Wanted.TheVariants as wanted
 use Rattle.server_core.specs.declared.event.ServerStep.{ServerStep}
 use Rattle.server_core.specs.Closing.{at, leases_done, grants_done, committed_by, settled_by, makes_change_under, settles_by, ready_by, settles_under, told_change, entries_by, index_with, count_of}
 use Rattle.server_core.specs.Leasing.{Leasing, later, with_granted, ready_at}
 use Rattle.server_core.specs.Recalling.{term_at}
-use Rattle.server_core.specs.State.{State, Change, held}
+use Rattle.server_core.specs.State.{State, FileChange, held}
 use Rattle.server_law.specs.Facts.{IsGiven}
 use Rattle.server_law.proofs.TreeCalls.{settles_keep_under, commits_keep_under}
 use Rattle.lease_law.specs.Claims.{Claim, Way, version_at, limit_of, is_own, IsAlone, IsGuarded, IsSafe}
@@ -98,7 +98,7 @@ module _ {X : Type 0} where
       by false e later = later e
 
 -- the heads are among those that wait
-none_heads : (q : Change → Bool) (earlier ws : List Change) → list_any q ws ≡ false → list_any q (heads_after earlier ws) ≡ false
+none_heads : (q : FileChange → Bool) (earlier ws : List FileChange) → list_any q ws ≡ false → list_any q (heads_after earlier ws) ≡ false
 none_heads q earlier [] none = refl
 none_heads q earlier (w ∷ ws) none = by (list_any (λ e. meets e w) earlier) (none_heads q (earlier ++ w ∷ []) ws (any_second (q w) (list_any q ws) none))
   where
@@ -106,7 +106,7 @@ none_heads q earlier (w ∷ ws) none = by (list_any (λ e. meets e w) earlier) (
     by true later = later
     by false later = any_join (q w) (list_any q (heads_after (earlier ++ w ∷ []) ws)) (any_first (q w) (list_any q ws) none) later
 
-all_heads : (P : Change → Type 0) (earlier ws : List Change) → AllByRecursion P ws → AllByRecursion P (heads_after earlier ws)
+all_heads : (P : FileChange → Type 0) (earlier ws : List FileChange) → AllByRecursion P ws → AllByRecursion P (heads_after earlier ws)
 all_heads P earlier [] h = tt
 all_heads P earlier (w ∷ ws) h = by (list_any (λ e. meets e w) earlier) (all_heads P (earlier ++ w ∷ []) ws h.1)
   where
@@ -115,13 +115,13 @@ all_heads P earlier (w ∷ ws) h = by (list_any (λ e. meets e w) earlier) (all_
     by false later = (h.0, later)
 
 -- what is known of it: it is fit, no lease blocks it, the quiet is over, and it is no session's own that has none waiting
-pub record IsReadyChange (g : Leasing) (moment : ℕ) (ws : List Change) (d : Change) : Type 0 where
+pub record IsReadyChange (g : Leasing) (moment : ℕ) (ws : List FileChange) (d : FileChange) : Type 0 where
   pub fit : IsFit d
   pub free : is_blocked g.leases (asker d) d.file moment ≡ false
   pub loud : g.quiet ≤ moment
   pub own : (session file : ℕ) → IsAlone ws session file → is_own session file d ≡ false
 
-ready_change : (g : Leasing) (moment : ℕ) (ws : List Change) (d : Change) → AllByRecursion IsFit ws → ready_at g moment ws ≡ Some d → IsReadyChange g moment ws d
+ready_change : (g : Leasing) (moment : ℕ) (ws : List FileChange) (d : FileChange) → AllByRecursion IsFit ws → ready_at g moment ws ≡ Some d → IsReadyChange g moment ws d
 ready_change g moment ws d fits e = by (nat_le g.quiet moment) refl e
   where
     no : (b : Bool) → not b ≡ true → b ≡ false
@@ -141,7 +141,7 @@ ready_change g moment ws d fits e = by (nat_le g.quiet moment) refl e
 
 module _ (clock : ℕ) (c : Claim) (way : Way) (behind downs : List Message) where
   -- a claim on the change's file is spent
-  spent_by : (s : State) (moment : ℕ) (d : Change) → moment ≤ clock → IsReadyChange s.leasing moment s.waiting d → c.file ≡ d.file → 0 < c.session → IsSafe s clock c way behind → limit_of s.leasing c ≤ clock
+  spent_by : (s : State) (moment : ℕ) (d : FileChange) → moment ≤ clock → IsReadyChange s.leasing moment s.waiting d → c.file ≡ d.file → 0 < c.session → IsSafe s clock c way behind → limit_of s.leasing c ≤ clock
   spent_by s moment d le r file some (inl spent) = spent
   spent_by s moment d le r file some (inr (v, inl quiet)) = let q = r.loud in omega (arith, quiet, q, le)
   spent_by s moment d le r file some (inr (v, inr g)) =
@@ -156,7 +156,7 @@ module _ (clock : ℕ) (c : Claim) (way : Way) (behind downs : List Message) whe
       not_own false b h k = refl
 
   -- and any other stays, where the tree keeps its file
-  others_keep : (s : State) (h : Leasing) (u : Tree) (vs : List Change) (d : Change) (more : List Message) → h.term ≡ s.leasing.term → h.quiet ≡ s.leasing.quiet → OthersStay s.tree d.file u → (c.file ≡ d.file → limit_of s.leasing c ≤ clock)
+  others_keep : (s : State) (h : Leasing) (u : Tree) (vs : List FileChange) (d : FileChange) (more : List Message) → h.term ≡ s.leasing.term → h.quiet ≡ s.leasing.quiet → OthersStay s.tree d.file u → (c.file ≡ d.file → limit_of s.leasing c ≤ clock)
       → ((c.file ≡ d.file → ⊥) → IsGuarded s.leasing.leases s.waiting c.session c.file (limit_of s.leasing c) way behind → (limit_of s.leasing c ≤ clock) ⊎ IsGuarded h.leases vs c.session c.file (limit_of s.leasing c) way more) → IsSafe s clock c way behind → SafeIn h u vs clock c way more
   others_keep s h u vs d more term quiet stays over guard q = by (c.file == d.file) refl
     where
@@ -176,7 +176,7 @@ pub max_least : (a b k : ℕ) → a ≤ k → b ≤ k → max a b ≤ k
 max_least a b k p q = omega (arith, p, q)
 
 module _ (clock : ℕ) (c : Claim) (way : Way) (behind downs : List Message) (some : 0 < c.session) where
-  module _ (s : State) (o : IsOrderly s clock) (now : ℕ) (le : now ≤ clock) (fault : Bool) (d : Change) (r : IsReadyChange s.leasing (later s.leasing now).moment s.waiting d) where
+  module _ (s : State) (o : IsOrderly s clock) (now : ℕ) (le : now ≤ clock) (fault : Bool) (d : FileChange) (r : IsReadyChange s.leasing (later s.leasing now).moment s.waiting d) where
     abbrev rest : State
     rest = at (record s { waiting = without s.waiting d.session }) now
 
@@ -229,7 +229,7 @@ module _ (clock : ℕ) (c : Claim) (way : Way) (behind downs : List Message) (so
 
     made_keeps : (w : Wanted) → d.what ≡ w → Keeps s clock c way behind downs (makes_change_under rest fault d w)
     made_keeps (wanted.Content content) is =
-        committed_keeps content (tree_commits_under s.tree (held (without s.waiting d.session)) fault d.file content (term_at rest d.file))
+        committed_keeps content (gives_content_under s.tree (held (without s.waiting d.session)) fault d.file content (term_at rest d.file))
         (commits_keep_under s.tree (held (without s.waiting d.session)) fault d.file content (term_at rest d.file) o.given).0
         (commits_stay s.tree (held (without s.waiting d.session)) fault o.given d.file content (term_at rest d.file))
     made_keeps (wanted.Asked a) is =
@@ -242,7 +242,7 @@ module _ (clock : ℕ) (c : Claim) (way : Way) (behind downs : List Message) (so
   pub settle_keeps : (s : State) → IsOrderly s clock → (now : ℕ) → now ≤ clock → (fault : Bool) → Keeps s clock c way behind downs (settles_under s fault now)
   settle_keeps s o now le fault = by (ready_by s now) refl
     where
-      by : (next : Option Change) → ready_by s now ≡ next → Keeps s clock c way behind downs (settles_by s fault now next)
+      by : (next : Option FileChange) → ready_by s now ≡ next → Keeps s clock c way behind downs (settles_by s fault now next)
       by None e = record {
         orderly = o;
         safe = λ q. subst (IsSafe s clock c way) (sym (behind_none way behind)) q;

@@ -17,7 +17,7 @@ use Rattle.lease_table.specs.Leases.{lease_at}
 use Rattle.tree_reading.specs.Tree.{Tree}
 use Rattle.chunk_calls.specs.Files.{file_at}
 use Rattle.server_core.specs.Leasing.{Leasing}
-use Rattle.server_core.specs.State.{State, Change}
+use Rattle.server_core.specs.State.{State, FileChange}
 
 -- ---- messages
 
@@ -61,15 +61,15 @@ abbrev pub Spares : Option ℕ → (file : ℕ) → Message → Type 0
 Spares recall file m = ((xid : ℕ) → answered_by m ≡ Some xid → recall ≡ Some xid → ⊥) × (stored_by m ≡ Some file → ⊥)
 
 -- a change of the file that the session's lease doesn't hold up: its own COMMITTMP
-abbrev pub is_own : (session file : ℕ) → Change → Bool
+abbrev pub is_own : (session file : ℕ) → FileChange → Bool
 is_own session file c = (asker c == session) && is_about c file
 
 -- none waits
-abbrev pub IsAlone : List Change → (session file : ℕ) → Type 0
+abbrev pub IsAlone : List FileChange → (session file : ℕ) → Type 0
 IsAlone waiting session file = list_any (is_own session file) waiting ≡ false
 
 -- a lease of the session on the file lasts until this reading at least, and nobody gives it up before these messages are read
-pub record IsGuarded (leases : List Lease) (waiting : List Change) (session file limit : ℕ) (way : Way) (behind : List Message) : Type 0 where
+pub record IsGuarded (leases : List Lease) (waiting : List FileChange) (session file limit : ℕ) (way : Way) (behind : List Message) : Type 0 where
   pub lease : Lease
   pub there : lease_at leases session file ≡ Some lease
   pub lasts : limit ≤ lease.ends

@@ -11,7 +11,7 @@ use Rattle.server_core.specs.declared.event.Event.{Event}
 use Rattle.server_core.specs.declared.event.Event.TheVariants as event
 use Rattle.server_core.specs.declared.event.Sent.{Sent}
 use Rattle.server_core.specs.declared.event.ServerStep.{ServerStep}
-use Rattle.server_core.specs.State.{State, Change, kind_of, stands}
+use Rattle.server_core.specs.State.{State, FileChange, kind_of, stands}
 use Rattle.server_law.specs.Facts.{IsGiven}
 use Rattle.lease_law.specs.Claims.{Way, Claim, answered_by, called_by, IsAmong, IsClaim}
 
@@ -21,8 +21,8 @@ abbrev pub IsOfFile : (file : ℕ) → Wanted → Type 0
 IsOfFile file (wanted.Content content) = Unit {0}
 IsOfFile file (wanted.Asked a) = file ≡ file_of a
 
--- a change that waits is what it is by what it is to make, and is about the file that this changes
-pub record IsFit (c : Change) : Type 0 where
+-- a pending change is what it is by what it is to make, and is about the file that this changes
+pub record IsFit (c : FileChange) : Type 0 where
   pub kind : c.kind ≡ kind_of c.what
   pub file : IsOfFile c.file c.what
 

@@ -13,7 +13,7 @@ ghost use Rattle.lease_law.specs.Claims.{Claim, Way, IsClaim, IsNote, noted_at, 
 ghost use Rattle.lease_law.specs.Orderly.{IsOrderly, AreNumbered, IsTimed, IsOnWay, Lasts};
 
 /// What a client may rely on by a lease goes on, whatever happens at the server, and whether its store
-/// fails or memory is wanting (`missed`): the claim is held, or the server's clock has come to its end.
+/// fails or memory runs out (`missed`): the claim is held, or the server's clock has come to its end.
 /// And by a note that hasn't ended the file has the version that is noted, where the clocks keep their
 /// rule (`fresh`). It does nothing: a caller learns this by calling it.
 pub fn claims_last()

@@ -1,7 +1,7 @@
 -- The rules on a single lease (Gray and Cheriton, SOSP 1989). Who has a lease on a file is asked before the file is
 -- changed, until the lease ends.
 use Rattle.std.specs.Prelude.{ℕ, ◌+◌, ◌-◌, List, filter, Option, Some, None, Bool, true, false, not, ◌&&◌, ◌||◌, ◌==◌, nat_lt, if◌then◌else◌}
-use Rattle.lease_rules.specs.declared.lease.Held.{Held}
+use Rattle.lease_rules.specs.declared.lease.LeaseEntry.{LeaseEntry}
 use Rattle.lease_rules.specs.declared.lease.Lease.{Lease}
 
 -- whose it is, and on which file
@@ -61,7 +61,7 @@ without_ended leases now = filter (λ l. nat_lt now l.ends) leases
 -- ---- how they are kept
 
 -- what is kept under a file and a session, as a lease
-abbrev pub lease_from : (ℕ × ℕ) × Held → Lease
+abbrev pub lease_from : (ℕ × ℕ) × LeaseEntry → Lease
 lease_from e = record { session = e.0.1; file = e.0.0; ends = e.1.ends; recall = e.1.recall }
 
 -- what is asked for by the RECALL with an xid stands under the session, that xid and the file: from the first such place on, to the last

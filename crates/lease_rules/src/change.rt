@@ -1,4 +1,4 @@
-//! A change that waits: whose leases hold it up, and which others it waits behind
+//! A pending change: whose leases hold it up, and which others it waits behind
 //! (`specs/Changes.antt`).
 
 ghost use Rattle.std.specs.Prelude.{◌≡◌};
@@ -33,7 +33,7 @@ impl Kind {
 
 /// A change of a file that waits to be made.
 #[derive(Drop)]
-pub struct Change<P> {
+pub struct PendingChange<P> {
     /// The session that asked for it.
     pub session: u32,
     /// The xid of its call.
@@ -50,7 +50,7 @@ pub struct Change<P> {
     pub what: P,
 }
 
-impl<P> Change<P> {
+impl<P> PendingChange<P> {
     /// The session whose leases don't hold it up; 0 where all do.
     pub fn asker(&self) -> u32
         ensures { result ≡ asker self.now }
@@ -66,7 +66,7 @@ impl<P> Change<P> {
     }
 
     /// Whether both change the same file.
-    pub fn meets(&self, other: &Change<P>) -> bool
+    pub fn meets(&self, other: &PendingChange<P>) -> bool
         ensures { result ≡ meets self.now other.now }
     {
         self.is_about(other.file)
@@ -100,7 +100,7 @@ impl From<AllocError> for AskError {
 }
 
 /// Whether a change waits behind one that came earlier.
-pub fn waits_behind<P>(earlier: &[Change<P>], change: &Change<P>) -> bool
+pub fn waits_behind<P>(earlier: &[PendingChange<P>], change: &PendingChange<P>) -> bool
     ensures { result ≡ waits_behind earlier.now change.now }
 {
     earlier.iter().any(|other| other.meets(change))

@@ -20,7 +20,7 @@ pub struct Lease {
 
 /// What is kept of a lease under its file and its session.
 #[derive(Clone, Copy)]
-pub struct Held {
+pub struct LeaseEntry {
     /// The first reading of the server's clock at which it stands no more, in milliseconds.
     pub ends: u64,
     /// The xid of the RECALL that asked for it back, if one did.
@@ -36,14 +36,14 @@ pub fn end_of(now: u64, term: u32) -> u64
 }
 
 /// Whether a lease on the file holds up a change of it that the session asked for.
-pub fn blocks(key: &(u64, u32), held: &Held, file: u64, session: u32, now: u64) -> bool
+pub fn blocks(key: &(u64, u32), held: &LeaseEntry, file: u64, session: u32, now: u64) -> bool
     ensures { result ≡ blocks (lease_from (key.now, held.now)) session file now }
 {
     key.0 == file && (session == 0 || key.1 != session) && now < held.ends
 }
 
 /// Whether a lease on the file is to be asked for back.
-pub fn is_wanted_back(key: &(u64, u32), held: &Held, file: u64, session: u32, now: u64) -> bool
+pub fn is_wanted_back(key: &(u64, u32), held: &LeaseEntry, file: u64, session: u32, now: u64) -> bool
     ensures { result ≡ is_wanted_back (lease_from (key.now, held.now)) session file now }
 {
     blocks(key, held, file, session, now) && held.recall.is_none()

@@ -6,7 +6,7 @@ ghost use Rattle.lease_rules.specs.Leases.{without_ended};
 ghost use Rattle.lease_rules.specs.Places.{place_in, without_place, places_of};
 ghost use Rattle.lease_rules.specs.declared.lease.Lease.{Lease};
 
-use crate::change::Change;
+use crate::change::PendingChange;
 
 /// Who keeps leases.
 pub trait KeepsLeases {
@@ -24,7 +24,7 @@ pub trait KeepsLeases {
 }
 
 /// Takes out the change at a place, if there is one.
-pub fn take_out<P>(waits: &mut Vec<Change<P>>, at: Option<usize>) -> Option<Change<P>>
+pub fn take_out<P>(waits: &mut Vec<PendingChange<P>>, at: Option<usize>) -> Option<PendingChange<P>>
     requires { IfSome at (λ i. i < length waits.old.items) }
     ensures change { result ≡ place_in waits.old.items at }
     ensures rest { waits.new.items ≡ without_place waits.old.items at }
@@ -41,9 +41,9 @@ pub fn take_out<P>(waits: &mut Vec<Change<P>>, at: Option<usize>) -> Option<Chan
 /// goes. The session's leases stay: its client may go by each until it ends.
 pub fn hang<L: KeepsLeases, P>(
     leases: &mut L,
-    waits: &mut Vec<Change<P>>,
+    waits: &mut Vec<PendingChange<P>>,
     at: Option<usize>,
-) -> Option<Change<P>>
+) -> Option<PendingChange<P>>
     requires { IfSome at (λ i. i < length waits.old.items) }
     ensures change { result ≡ place_in waits.old.items at }
     ensures rest { waits.new.items ≡ without_place waits.old.items at }

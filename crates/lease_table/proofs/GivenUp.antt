@@ -10,7 +10,7 @@ use Rattle.std.specs.Ordering.{is_le, is_lt}
 use Rattle.std.specs.declared.ops.Bound.TheVariants.{Included}
 use Rattle.std.proofs.lemmas.Bool.Decides.{nat_tests}
 use Rattle.std.proofs.lemmas.List.Elements.{All-head, All-tail}
-use Rattle.lease_rules.specs.declared.lease.Held.{Held}
+use Rattle.lease_rules.specs.declared.lease.LeaseEntry.{LeaseEntry}
 use Rattle.lease_rules.specs.declared.lease.Lease.{Lease}
 use Rattle.lease_table.specs.Leases.{is_on, without_lease, without_session}
 use Rattle.lease_table.specs.Kept.{by_two, Entries, lease_from, leases_of, held_at, FitsKey}
@@ -18,7 +18,7 @@ use Rattle.lease_table.proofs.Lists.{filter_kept_all, some_is}
 use Rattle.lease_table.proofs.UnderKeys.{at_two}
 
 abbrev Entry : Type 0
-Entry = (ℕ × ℕ) × Held
+Entry = (ℕ × ℕ) × LeaseEntry
 
 -- the session's, and it passes a further test
 abbrev its : (Entry → Bool) → (s : ℕ) → Entry → Bool

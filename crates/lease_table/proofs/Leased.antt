@@ -11,7 +11,7 @@ use Rattle.std.specs.declared.ops.Bound.TheVariants.{Included}
 use Rattle.std.proofs.lemmas.Bool.Decides.{nat_tests}
 use Rattle.std.proofs.lemmas.List.Elements.{All-head, All-tail}
 use Rattle.lease_table.proofs.Entries.{same_key}
-use Rattle.lease_rules.specs.declared.lease.Held.{Held}
+use Rattle.lease_rules.specs.declared.lease.LeaseEntry.{LeaseEntry}
 use Rattle.lease_rules.specs.declared.lease.Lease.{Lease}
 use Rattle.lease_table.specs.Leases.{is_on, is_recall, remembers, blocks, is_wanted_back, is_blocked, others, lease_at, grant, mark, marked, without_lease, without_recalled, without_ended}
 use Rattle.lease_table.specs.Order.{AreOrdered}
@@ -25,7 +25,7 @@ use Rattle.lease_table.proofs.UnderKeys.{two_total, two_exact, put_is, removed_i
 pub has_is : (es : Entries) (s f : ℕ) → is_some (lease_at (leases_of es) s f) ≡ is_some (held_at es s f)
 has_is es s f = ap is_some (found_is es s f) ∙ by (held_at es s f)
   where
-    by : (o : Option Held) → is_some (option_map (λ h. lease_from ((f, s), h)) o) ≡ is_some o
+    by : (o : Option LeaseEntry) → is_some (option_map (λ h. lease_from ((f, s), h)) o) ≡ is_some o
     by None = refl
     by (Some h) = refl
 
@@ -33,7 +33,7 @@ module _ (es : Entries) (rs ts : Keys) (kept : AreKept es rs ts) (s f : ℕ) whe
   pub granted_is : (ends : ℕ) → leases_of (insert_entry by_two es (f, s) (record { ends = ends; recall = None })) ≡ grant (leases_of es) s f ends
   granted_is ends = put_is es kept.sorted s f (record { ends = ends; recall = None })
 
-  pub marked_is : (h : Held) (x : ℕ) → held_at es s f ≡ Some h → leases_of (insert_entry by_two es (f, s) (record h { recall = Some x })) ≡ marked (leases_of es) s f x
+  pub marked_is : (h : LeaseEntry) (x : ℕ) → held_at es s f ≡ Some h → leases_of (insert_entry by_two es (f, s) (record h { recall = Some x })) ≡ marked (leases_of es) s f x
   marked_is h x e = put_is es kept.sorted s f (record h { recall = Some x }) ∙ sym (ap (mark (leases_of es) x) (found_is es s f ∙ ap (option_map (λ k. lease_from ((f, s), k))) e))
 
   pub not_marked : (x : ℕ) → held_at es s f ≡ None → leases_of es ≡ marked (leases_of es) s f x
@@ -64,18 +64,18 @@ all_filter leases ordered p passes = filter_all p leases (each leases (all_found
 
 -- a lease that is found is kept under its key
 record IsHeld (es : Entries) (l : Lease) : Type 0 where
-  held : Held
+  held : LeaseEntry
   there : held_at es l.session l.file ≡ Some held
   is : l ≡ lease_from ((l.file, l.session), held)
 
 is_held : (es : Entries) (l : Lease) → lease_at (leases_of es) l.session l.file ≡ Some l → IsHeld es l
 is_held es l e = by (held_at es l.session l.file) refl (sym (found_is es l.session l.file) ∙ e)
   where
-    by : (o : Option Held) → held_at es l.session l.file ≡ o → option_map (λ h. lease_from ((l.file, l.session), h)) o ≡ Some l → IsHeld es l
+    by : (o : Option LeaseEntry) → held_at es l.session l.file ≡ o → option_map (λ h. lease_from ((l.file, l.session), h)) o ≡ Some l → IsHeld es l
     by None h i = absurd cc
     by (Some k) h i = record { held = k; there = h; is = sym (some_is (lease_from ((l.file, l.session), k)) l i) }
 
-fits_at : (es : Entries) (s f : ℕ) (h : Held) → All FitsKey (keys_of es) → held_at es s f ≡ Some h → FitsKey (f, s)
+fits_at : (es : Entries) (s f : ℕ) (h : LeaseEntry) → All FitsKey (keys_of es) → held_at es s f ≡ Some h → FitsKey (f, s)
 fits_at [] s f h all e = absurd cc
 fits_at (x ∷ es) s f h all e = by (is_at (by_two (f, s)) x.0) refl e (fits_at es s f h (All-tail FitsKey x.0 (keys_of es) all))
   where
@@ -83,7 +83,7 @@ fits_at (x ∷ es) s f h all e = by (is_at (by_two (f, s)) x.0) refl e (fits_at 
     by true i e later = subst FitsKey (sym (same_key by_two two_total two_exact (f, s) x.0 i)) (All-head FitsKey x.0 (keys_of es) all)
     by false i e later = later e
 
-held_some : (o : Option Held) (p : Held → Bool) (q : Option Held → Bool) → (q None ≡ false) → ((h : Held) → q (Some h) ≡ p h) → q o ≡ true → (h : Held) × (o ≡ Some h) × (p h ≡ true)
+held_some : (o : Option LeaseEntry) (p : LeaseEntry → Bool) (q : Option LeaseEntry → Bool) → (q None ≡ false) → ((h : LeaseEntry) → q (Some h) ≡ p h) → q o ≡ true → (h : LeaseEntry) × (o ≡ Some h) × (p h ≡ true)
 held_some None p q none some e = absurd (true≢false (sym e ∙ none))
 held_some (Some h) p q none some e = (h, refl, sym (some h) ∙ e)
 
@@ -96,11 +96,11 @@ module _ (es : Entries) (rs ts : Keys) (kept : AreKept es rs ts) where
 
   -- ---- the answer to a RECALL
 
-  recalled_held : (s x f : ℕ) → is_listed rs s x f ≡ true → (h : Held) × (held_at es s f ≡ Some h) × (is_recall h.recall x ≡ true)
+  recalled_held : (s x f : ℕ) → is_listed rs s x f ≡ true → (h : LeaseEntry) × (held_at es s f ≡ Some h) × (is_recall h.recall x ≡ true)
   recalled_held s x f e = held_some (held_at es s f) (λ h. is_recall h.recall x) (λ o. is_recalled o x) refl (λ h. refl) (sym (kept.recalled s x f) ∙ e)
 
   pub recalled_there : (s x f : ℕ) → is_listed rs s x f ≡ true → IsSome (held_at es s f)
-  recalled_there s x f e = let h = recalled_held s x f e in subst (λ (o : Option Held). IsSome o) (sym h.1) refl
+  recalled_there s x f e = let h = recalled_held s x f e in subst (λ (o : Option LeaseEntry). IsSome o) (sym h.1) refl
 
   pub recalled_dropped : (s x f : ℕ) → is_listed rs s x f ≡ true → (less : List Lease) → less ≡ without_lease (leases_of es) s f → without_recalled less s x ≡ without_recalled (leases_of es) s x
   recalled_dropped s x f e less is =
@@ -121,11 +121,11 @@ module _ (es : Entries) (rs ts : Keys) (kept : AreKept es rs ts) where
 
   -- ---- leases that have ended
 
-  ended_held : (reading f s : ℕ) → is_listed ts reading f s ≡ true → (h : Held) × (held_at es s f ≡ Some h) × ((h.ends == reading) ≡ true)
+  ended_held : (reading f s : ℕ) → is_listed ts reading f s ≡ true → (h : LeaseEntry) × (held_at es s f ≡ Some h) × ((h.ends == reading) ≡ true)
   ended_held reading f s e = held_some (held_at es s f) (λ h. h.ends == reading) (λ o. is_ending o reading) refl (λ h. refl) (sym (kept.ending reading f s) ∙ e)
 
   pub ended_there : (reading f s : ℕ) → is_listed ts reading f s ≡ true → IsSome (held_at es s f)
-  ended_there reading f s e = let h = ended_held reading f s e in subst (λ (o : Option Held). IsSome o) (sym h.1) refl
+  ended_there reading f s e = let h = ended_held reading f s e in subst (λ (o : Option LeaseEntry). IsSome o) (sym h.1) refl
 
   pub ended_dropped : (now reading f s : ℕ) → reading ≤ now → is_listed ts reading f s ≡ true → (less : List Lease) → less ≡ without_lease (leases_of es) s f → without_ended less now ≡ without_ended (leases_of es) now
   ended_dropped now reading f s past e less is =
@@ -158,8 +158,8 @@ first : (b c : Bool) → (b && c) ≡ true → b ≡ true
 first true c h = refl
 first false c h = h
 
-module _ (f : ℕ) (t : (ℕ × ℕ) × Held → Bool) (there : (e : (ℕ × ℕ) × Held) → t e ≡ true → (e.0.0 == f) ≡ true) where
-  in_range : (e : (ℕ × ℕ) × Held) → FitsKey e.0 → t e ≡ true → range_contains by_two (Included (f, 0)) (Included (f, 4294967295)) e.0 ≡ true
+module _ (f : ℕ) (t : (ℕ × ℕ) × LeaseEntry → Bool) (there : (e : (ℕ × ℕ) × LeaseEntry) → t e ≡ true → (e.0.0 == f) ≡ true) where
+  in_range : (e : (ℕ × ℕ) × LeaseEntry) → FitsKey e.0 → t e ≡ true → range_contains by_two (Included (f, 0)) (Included (f, 4294967295)) e.0 ≡ true
   in_range e fit h =
       let same : e.0.0 ≡ f = grind (arith, nat_tests, there e h) in
       subst (λ (g : ℕ). range_contains by_two (Included (f, 0)) (Included (f, 4294967295)) (g, e.0.1) ≡ true) (sym same) (on_file f e.0.1 fit.1)

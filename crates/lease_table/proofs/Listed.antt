@@ -14,7 +14,7 @@ use Rattle.std.proofs.lemmas.Map.Views.{All-keys-insert_entry, All-map-remove_en
 use Rattle.lease_table.specs.Reserved.{at}
 use Rattle.lease_table.proofs.Entries.{at_inserted, at_removed, sorted_inserted, sorted_removed, same_entries}
 use Rattle.lease_table.proofs.Merged.{length_inserted}
-use Rattle.lease_rules.specs.declared.lease.Held.{Held}
+use Rattle.lease_rules.specs.declared.lease.LeaseEntry.{LeaseEntry}
 use Rattle.lease_table.specs.Leases.{is_recall}
 use Rattle.lease_table.specs.Kept.{by_two, by_three, Entries, Keys, held_at, is_listed, is_recalled, is_ending, marks, FitsKey, AreKept, unlisted, listed}
 use Rattle.lease_table.proofs.Keeping.{is_same, same_session, same_file}
@@ -22,7 +22,7 @@ use Rattle.lease_table.proofs.UnderKeys.{two_total, two_exact, three_total, thre
 
 -- ---- a lease is looked up where one is put in, or taken out
 
-pub held_put : (es : Entries) (s f : ℕ) (h : Held) (t g : ℕ) → held_at (insert_entry by_two es (f, s) h) t g ≡ cond (is_same s f t g) (Some h) (held_at es t g)
+pub held_put : (es : Entries) (s f : ℕ) (h : LeaseEntry) (t g : ℕ) → held_at (insert_entry by_two es (f, s) h) t g ≡ cond (is_same s f t g) (Some h) (held_at es t g)
 held_put es s f h t g = at_inserted by_two two_total two_exact es (f, s) h (g, t) ∙ ap (λ b. cond b (Some h) (held_at es t g)) (at_two g t f s)
 
 turned : (s f t g : ℕ) → (g == f && t == s) ≡ is_same s f t g
@@ -84,7 +84,7 @@ module _ {K V : Type 0} (R : K → K → Ordering) where
 
 few_marks : (es : Entries) → sum_by (λ h. marks h.recall) (values_of es) ≤ length es
 few_marks [] = omega arith
-few_marks (e ∷ es) = omega (arith, sum_by-cons (λ (h : Held). marks h.recall) e.1 (values_of es), at_most_one e.1.recall, few_marks es)
+few_marks (e ∷ es) = omega (arith, sum_by-cons (λ (h : LeaseEntry). marks h.recall) e.1 (values_of es), at_most_one e.1.recall, few_marks es)
   where
     at_most_one : (o : Option ℕ) → marks o ≤ 1
     at_most_one None = omega arith
@@ -99,7 +99,7 @@ listed_sorted : (rs : Keys) (s f : ℕ) (o : Option ℕ) → IsStrictlySortedBy 
 listed_sorted rs s f None sorted = sorted
 listed_sorted rs s f (Some x) sorted = sorted_inserted by_three three_total three_exact rs (s, x, f) (record {}) sorted
 
-module _ (es : Entries) (rs ts : Keys) (kept : AreKept es rs ts) (s f : ℕ) (h : Held) (new : held_at es s f ≡ None) where
+module _ (es : Entries) (rs ts : Keys) (kept : AreKept es rs ts) (s f : ℕ) (h : LeaseEntry) (new : held_at es s f ≡ None) where
   not_recalled : (y : ℕ) → is_listed rs s y f ≡ false
   not_recalled y = kept.recalled s y f ∙ ap (λ o. is_recalled o y) new
 
@@ -150,8 +150,8 @@ module _ (es : Entries) (rs ts : Keys) (kept : AreKept es rs ts) (s f : ℕ) (h 
   sums : sum_by (λ h. marks h.recall) (values_of (insert_entry by_two es (f, s) h)) + unwrap_or (option_map (λ h. marks h.recall) (held_at es s f)) 0 ≡ sum_by (λ h. marks h.recall) (values_of es) + marks h.recall
   sums = sum_by-insert_entry (λ h. marks h.recall) two_total es (f, s) h kept.sorted
 
-  nothing : unwrap_or (option_map (λ (h : Held). marks h.recall) (held_at es s f)) 0 ≡ 0
-  nothing = ap (λ o. unwrap_or (option_map (λ (h : Held). marks h.recall) o) 0) new
+  nothing : unwrap_or (option_map (λ (h : LeaseEntry). marks h.recall) (held_at es s f)) 0 ≡ 0
+  nothing = ap (λ o. unwrap_or (option_map (λ (h : LeaseEntry). marks h.recall) o) 0) new
 
   pub put_length : length (insert_entry by_two es (f, s) h) ≡ length es + 1
   put_length = length_inserted by_two two_total two_exact es (f, s) h new
@@ -174,7 +174,7 @@ unlisted_sorted : (rs : Keys) (s f : ℕ) (o : Option ℕ) → IsStrictlySortedB
 unlisted_sorted rs s f None sorted = sorted
 unlisted_sorted rs s f (Some x) sorted = sorted_removed by_three three_total three_exact rs (s, x, f) sorted
 
-module _ (es : Entries) (rs ts : Keys) (kept : AreKept es rs ts) (s f : ℕ) (h : Held) (there : held_at es s f ≡ Some h) where
+module _ (es : Entries) (rs ts : Keys) (kept : AreKept es rs ts) (s f : ℕ) (h : LeaseEntry) (there : held_at es s f ≡ Some h) where
   is_its : (y : ℕ) → is_listed rs s y f ≡ is_recall h.recall y
   is_its y = kept.recalled s y f ∙ ap (λ o. is_recalled o y) there
 
@@ -231,12 +231,12 @@ module _ (es : Entries) (rs ts : Keys) (kept : AreKept es rs ts) (s f : ℕ) (h 
   removed_length = length_removed by_two es (f, s) h there
 
   sums_left : sum_by (λ h. marks h.recall) (values_of (remove_entry (is_at (by_two (f, s))) es)) + marks h.recall ≡ sum_by (λ h. marks h.recall) (values_of es)
-  sums_left = omega (arith, sum_by-remove_entry (λ h. marks h.recall) (is_at (by_two (f, s))) es, ap (λ o. unwrap_or (option_map (λ (h : Held). marks h.recall) o) 0) there)
+  sums_left = omega (arith, sum_by-remove_entry (λ h. marks h.recall) (is_at (by_two (f, s))) es, ap (λ o. unwrap_or (option_map (λ (h : LeaseEntry). marks h.recall) o) 0) there)
 
   pub kept_removed : AreKept (remove_entry (is_at (by_two (f, s))) es) (unlisted rs s h.recall f) (remove_entry (is_at (by_three (h.ends, f, s))) ts)
   kept_removed = record {
     sorted = sorted_removed by_two two_total two_exact es (f, s) kept.sorted;
-    fit = All-map-remove_entry (is_at (by_two (f, s))) (λ (e : (ℕ × ℕ) × Held). e.0) FitsKey es kept.fit;
+    fit = All-map-remove_entry (is_at (by_two (f, s))) (λ (e : (ℕ × ℕ) × LeaseEntry). e.0) FitsKey es kept.fit;
     recalls_sorted = unlisted_sorted rs s f h.recall kept.recalls_sorted;
     recalled = λ t y g. removed_recalled h.recall refl t y g ∙ ap (λ o. is_recalled o y) (sym (held_removed es kept.sorted s f t g));
     few = omega (arith, unlisted_length h.recall refl, kept.few, sums_left);
@@ -252,7 +252,7 @@ module _ (es : Entries) (rs ts : Keys) (kept : AreKept es rs ts) (s f : ℕ) (h 
       same = grind (arith, nat_tests)
 
   -- to put another in place of it is to take it out, and put the other in
-  pub put_anew : (other : Held) → insert_entry by_two (remove_entry (is_at (by_two (f, s))) es) (f, s) other ≡ insert_entry by_two es (f, s) other
+  pub put_anew : (other : LeaseEntry) → insert_entry by_two (remove_entry (is_at (by_two (f, s))) es) (f, s) other ≡ insert_entry by_two es (f, s) other
   put_anew other =
       same_entries by_two two_total two_exact _ _ (sorted_inserted by_two two_total two_exact _ (f, s) other (sorted_removed by_two two_total two_exact es (f, s) kept.sorted)) (sorted_inserted by_two two_total two_exact es (f, s) other kept.sorted)
       (λ q. held_put (remove_entry (is_at (by_two (f, s))) es) s f other q.1 q.0 ∙ ap (cond (is_same s f q.1 q.0) (Some other)) (held_removed es kept.sorted s f q.1 q.0) ∙ by q (is_same s f q.1 q.0) ∙ sym (held_put es s f other q.1 q.0))
@@ -267,14 +267,14 @@ pub kept_is : {es others : Entries} {rs recalls ts ends : Keys} → others ≡ e
 kept_is {es} {others} {rs} {recalls} {ts} {ends} e f g k = subst (λ (x : Entries). AreKept x recalls ends) (sym e) (subst (λ (y : Keys). AreKept es y ends) (sym f) (subst (λ (z : Keys). AreKept es rs z) (sym g) k))
 
 module _ (es : Entries) (rs ts : Keys) (kept : AreKept es rs ts) (s f : ℕ) where
-  module _ (h : Held) (new : held_at es s f ≡ None) (below_file : f < 2 ^ 64) (below_session : s < 2 ^ 32) (others : Entries) (recalls ends : Keys) (is : others ≡ insert_entry by_two es (f, s) h) where
+  module _ (h : LeaseEntry) (new : held_at es s f ≡ None) (below_file : f < 2 ^ 64) (below_session : s < 2 ^ 32) (others : Entries) (recalls ends : Keys) (is : others ≡ insert_entry by_two es (f, s) h) where
     pub added_kept : recalls ≡ listed rs s h.recall f → ends ≡ insert_entry by_three ts (h.ends, f, s) (record {}) → AreKept others recalls ends
     added_kept r t = kept_is is r t (kept_put es rs ts kept s f h new below_file below_session)
 
     pub added_length : length others ≡ length es + 1
     added_length = ap length is ∙ put_length es rs ts kept s f h new
 
-  module _ (h : Held) (there : held_at es s f ≡ Some h) (recalls ends : Keys) (r : recalls ≡ unlisted rs s h.recall f) (t : ends ≡ remove_entry (is_at (by_three (h.ends, f, s))) ts) where
+  module _ (h : LeaseEntry) (there : held_at es s f ≡ Some h) (recalls ends : Keys) (r : recalls ≡ unlisted rs s h.recall f) (t : ends ≡ remove_entry (is_at (by_three (h.ends, f, s))) ts) where
     left : AreKept (remove_entry (is_at (by_two (f, s))) es) (unlisted rs s h.recall f) (remove_entry (is_at (by_three (h.ends, f, s))) ts)
     left = kept_removed es rs ts kept s f h there
 
@@ -290,7 +290,7 @@ module _ (es : Entries) (rs ts : Keys) (kept : AreKept es rs ts) (s f : ℕ) whe
     pub fewer_ends : length ends < length es
     fewer_ends = omega (arith, ap (λ (x : Keys). length x) t, left.all, removed_length es rs ts kept s f h there)
 
-    module _ (other : Held) (others : Entries) (is : others ≡ insert_entry by_two es (f, s) other) where
+    module _ (other : LeaseEntry) (others : Entries) (is : others ≡ insert_entry by_two es (f, s) other) where
       anew : others ≡ insert_entry by_two (remove_entry (is_at (by_two (f, s))) es) (f, s) other
       anew = is ∙ sym (put_anew es rs ts kept s f h there other)
 

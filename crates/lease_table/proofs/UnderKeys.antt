@@ -19,7 +19,7 @@ use Rattle.std.proofs.lemmas.List.Kept.{AllPairs-cons}
 use Rattle.std.proofs.lemmas.Map.Keys.{sorted_head, sorted_tail}
 use Rattle.std.proofs.lemmas.Map.Lookups.{exact_unsigned}
 use Rattle.lease_table.specs.Reserved.{IsExact}
-use Rattle.lease_rules.specs.declared.lease.Held.{Held}
+use Rattle.lease_rules.specs.declared.lease.LeaseEntry.{LeaseEntry}
 use Rattle.lease_rules.specs.declared.lease.Lease.{Lease}
 use Rattle.lease_table.specs.Leases.{is_on, is_before, is_behind, lease_at, with_lease, without_lease}
 use Rattle.lease_table.specs.Order.{ComesBefore, AreOrdered}
@@ -67,7 +67,7 @@ at_three a b c x y z =
 
 -- ---- a lease under a key, against another key
 
-on_is : (e : (ℕ × ℕ) × Held) (s f : ℕ) → is_at (by_two (f, s)) e.0 ≡ is_on (lease_from e) s f
+on_is : (e : (ℕ × ℕ) × LeaseEntry) (s f : ℕ) → is_at (by_two (f, s)) e.0 ≡ is_on (lease_from e) s f
 on_is e s f = at_two f s e.0.0 e.0.1
 
 -- what a comparison of keys says of leases
@@ -75,7 +75,7 @@ record IsCompared (l : Lease) (s f : ℕ) (r : Ordering) : Type 0 where
   before : is_before l s f ≡ match_ordering r false false true
   behind : is_behind l s f ≡ match_ordering r true false false
 
-compared : (e : (ℕ × ℕ) × Held) (s f : ℕ) → IsCompared (lease_from e) s f (by_two (f, s) e.0)
+compared : (e : (ℕ × ℕ) × LeaseEntry) (s f : ℕ) → IsCompared (lease_from e) s f (by_two (f, s) e.0)
 compared e s f = record { before = before e.0.0 e.0.1; behind = behind e.0.0 e.0.1 }
   where
     before : (g t : ℕ) → (nat_lt g f || (g == f && nat_lt t s)) ≡ match_ordering (ordering_then (nat_cmp f g) (nat_cmp s t)) false false true
@@ -112,7 +112,7 @@ above j k (y ∷ ys) h a = (two_total.trans j k y h a.0, above j k ys h a.1)
 
 -- ---- a lease is put in, or taken out
 
-pub put_is : (es : Entries) → IsStrictlySortedBy by_two (keys_of es) → (s f : ℕ) (h : Held) → leases_of (insert_entry by_two es (f, s) h) ≡ with_lease (leases_of es) (lease_from ((f, s), h))
+pub put_is : (es : Entries) → IsStrictlySortedBy by_two (keys_of es) → (s f : ℕ) (h : LeaseEntry) → leases_of (insert_entry by_two es (f, s) h) ≡ with_lease (leases_of es) (lease_from ((f, s), h))
 put_is [] sorted s f h = refl
 put_is (e ∷ es) sorted s f h = by (by_two (f, s) e.0) refl (compared e s f) (put_is es (sorted_tail by_two e.0 (keys_of es) sorted) s f h)
   where
@@ -180,7 +180,7 @@ pub ordered_is : (es : Entries) → IsStrictlySortedBy by_two (keys_of es) → A
 ordered_is [] sorted = λ i j d less last. absurd (omega arith)
 ordered_is (e ∷ es) sorted = AllPairs-cons ComesBefore (lease_from e) (leases_of es) (later es (sorted_head by_two e.0 (keys_of es) sorted)) (ordered_is es (sorted_tail by_two e.0 (keys_of es) sorted))
   where
-    flipped : (x : (ℕ × ℕ) × Held) → by_two e.0 x.0 ≡ Less → ComesBefore (lease_from e) (lease_from x)
+    flipped : (x : (ℕ × ℕ) × LeaseEntry) → by_two e.0 x.0 ≡ Less → ComesBefore (lease_from e) (lease_from x)
     flipped x h = (compared e x.0.1 x.0.0).before ∙ ap (λ r. match_ordering r false false true) (two_total.antisymm x.0 e.0 ∙ ap ordering_reverse h)
 
     later : (xs : Entries) → AllByRecursion (λ y. by_two e.0 y ≡ Less) (keys_of xs) → All (ComesBefore (lease_from e)) (leases_of xs)

@@ -158,7 +158,7 @@ abbrev pub IsAlone : Option Note → (commits : ℕ) → Type 0
 IsAlone None n = Unit {0}
 IsAlone (Some q) n = n ≡ 0
 
--- one call is under way at most, as a call, as a change that waits, or as an answer; none where the client waits for none; and no note stands beside a COMMITTMP
+-- one call is under way at most, as a call, as a pending change, or as an answer; none where the client waits for none; and no note stands beside a COMMITTMP
 pub record AreSingle (ups : List Up) (downs : List Down) (waits cut : Bool) (sent : Option ℕ) (note : Option Note) : Type 0 where
   pub single : calls ups + one_if waits + answers_in downs ≤ 1
   pub idle : cut ≡ false → sent ≡ None → calls ups + one_if waits + answers_in downs ≡ 0

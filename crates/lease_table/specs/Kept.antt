@@ -7,7 +7,7 @@ use Rattle.std.specs.Map.{keys_of, values_of, remove_entry}
 use Rattle.std.specs.Ordering.{nat_cmp, ordering_then}
 use Rattle.std.specs.declared.cmp.Ordering.{Ordering}
 use Rattle.lease_table.specs.Reserved.{at}
-use Rattle.lease_rules.specs.declared.lease.Held.{Held}
+use Rattle.lease_rules.specs.declared.lease.LeaseEntry.{LeaseEntry}
 use Rattle.lease_rules.specs.declared.lease.Lease.{Lease}
 use Rattle.lease_rules.specs.Leases.{is_recall}
 pub use Rattle.lease_rules.specs.Leases.{lease_from}
@@ -23,13 +23,13 @@ by_three x y = ordering_then (ordering_then (nat_cmp x.0 y.0) (nat_cmp x.1 y.1))
 -- ---- leases, each under its file and its session
 
 abbrev pub Entries : Type 0
-Entries = List ((ℕ × ℕ) × Held)
+Entries = List ((ℕ × ℕ) × LeaseEntry)
 
 -- the list of them, by file, and by session within a file
 abbrev pub leases_of : Entries → List Lease
 leases_of es = map lease_from es
 
-abbrev pub held_at : Entries → (session file : ℕ) → Option Held
+abbrev pub held_at : Entries → (session file : ℕ) → Option LeaseEntry
 held_at es session file = at by_two es (file, session)
 
 -- ---- what stands beside them
@@ -41,12 +41,12 @@ abbrev pub is_listed : Keys → (a b c : ℕ) → Bool
 is_listed keys a b c = is_some (at by_three keys (a, b, c))
 
 -- the RECALL with this xid asked for the lease
-abbrev pub is_recalled : Option Held → (xid : ℕ) → Bool
+abbrev pub is_recalled : Option LeaseEntry → (xid : ℕ) → Bool
 is_recalled None xid = false
 is_recalled (Some h) xid = is_recall h.recall xid
 
 -- the lease ends at this reading
-abbrev pub is_ending : Option Held → (ends : ℕ) → Bool
+abbrev pub is_ending : Option LeaseEntry → (ends : ℕ) → Bool
 is_ending None ends = false
 is_ending (Some h) ends = h.ends == ends
 

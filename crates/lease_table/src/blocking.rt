@@ -12,19 +12,19 @@ ghost use Rattle.lease_table.specs.Kept.{FitsKey, by_two, lease_from, leases_of}
 use crate::keyed::Keyed;
 use crate::range::is_within;
 use lb_base::items::Items;
-use lease_rules::lease::{Held, blocks, is_wanted_back};
+use lease_rules::lease::{LeaseEntry, blocks, is_wanted_back};
 use std::alloc::{AllocError, Global};
 use std::collections::btree_map::Range;
 
 /// Whether one of these leases holds up a change of the file.
-fn any_blocks(mut leases: Range<'_, (u64, u32), Held>, file: u64, session: u32, now: u64) -> bool
+fn any_blocks(mut leases: Range<'_, (u64, u32), LeaseEntry>, file: u64, session: u32, now: u64) -> bool
     ensures { result ≡ list_any (λ e. blocks (lease_from e) session file now) leases.entry }
 {
     leases.any(|(key, held)| blocks(key, held, file, session, now))
 }
 
 /// Whether one of these leases that stands on the file holds up a change of it.
-fn any_spared_blocks(leases: &[((u64, u32), Held)], file: u64, session: u32, now: u64) -> bool
+fn any_spared_blocks(leases: &[((u64, u32), LeaseEntry)], file: u64, session: u32, now: u64) -> bool
     ensures { result ≡ list_any (λ e. range_contains by_two (Included (file, 0)) (Included (file, 4294967295)) e.0 && blocks (lease_from e) session file now) leases.now }
 {
     leases.iter().any(|(key, held)| {
@@ -44,7 +44,7 @@ pub fn blocked(leases: &Keyed, file: u64, session: u32, now: u64) -> bool
 /// The sessions of those of these leases that are to be asked for back.
 fn wanted_back(
     alloc: Global,
-    leases: &[((u64, u32), Held)],
+    leases: &[((u64, u32), LeaseEntry)],
     file: u64,
     session: u32,
     now: u64,

@@ -7,11 +7,11 @@ ghost use Rattle.lease_table.specs.Leases.{lease_at, with_lease, grant, lease_of
 ghost use Rattle.lease_table.specs.Kept.{AreKept, by_two, held_at, leases_of};
 
 use crate::keyed::{Ends, Keyed, Recalls, list, one_ended, one_recalled, unlist};
-use lease_rules::lease::Held;
+use lease_rules::lease::LeaseEntry;
 use std::alloc::AllocError;
 
-/// Makes room for so many further leases, and for what may stand beside each. The one error is want
-/// of memory.
+/// Makes room for so many further leases, and for what may stand beside each. The one error is
+/// running out of memory.
 pub fn reserve(
     leases: &mut Keyed,
     recalls: &mut Recalls,
@@ -50,7 +50,7 @@ fn add(
     ends: &mut Ends,
     session: u32,
     file: u64,
-    held: Held,
+    held: LeaseEntry,
 )
     requires kept { AreKept leases.old.entries recalls.old.entries ends.old.entries }
     requires new { held_at leases.old.entries session file ≡ None }
@@ -76,8 +76,8 @@ fn replace(
     ends: &mut Ends,
     session: u32,
     file: u64,
-    old: Held,
-    held: Held,
+    old: LeaseEntry,
+    held: LeaseEntry,
 )
     requires kept { AreKept leases.old.entries recalls.old.entries ends.old.entries }
     requires there { held_at leases.old.entries session file ≡ Some old }
@@ -96,7 +96,7 @@ fn replace(
     leases.put((file, session), held);
 }
 
-/// Grants a lease, where there is room or room is made. The one error is want of memory.
+/// Grants a lease, where there is room or room is made. The one error is running out of memory.
 pub fn grant(
     leases: &mut Keyed,
     recalls: &mut Recalls,
@@ -124,7 +124,7 @@ pub fn grant(
     ensures sure_there { IsSome (held_at leases.old.entries session file) → IsOk result }
     ensures sure { leases.old.taken < leases.old.places → length leases.old.entries < recalls.old.places → length leases.old.entries < ends.old.places → IsOk result }
 {
-    let held = Held {
+    let held = LeaseEntry {
         ends: until,
         recall: None,
     };
@@ -183,7 +183,7 @@ pub fn mark(
 {
     match leases.get((file, session)) {
         Some(old) => {
-            let held = Held {
+            let held = LeaseEntry {
                 ends: old.ends,
                 recall: Some(xid),
             };

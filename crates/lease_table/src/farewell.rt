@@ -12,11 +12,11 @@ ghost use Rattle.lease_table.specs.Kept.{AreKept, FitsKey, by_two, held_at, leas
 use crate::changes::drop_one;
 use crate::keyed::{Ends, Keyed, Recalls};
 use crate::range::is_within;
-use lease_rules::lease::Held;
+use lease_rules::lease::LeaseEntry;
 use std::collections::btree_map::Range;
 
 /// The file of the first of these leases that is the session's.
-fn held_by(leases: Range<'_, (u64, u32), Held>, session: u32) -> Option<u64>
+fn held_by(leases: Range<'_, (u64, u32), LeaseEntry>, session: u32) -> Option<u64>
     ensures { result ≡ option_map (λ e. e.0.0) (find (λ e. e.0.1 == session) leases.entry) }
 {
     for (key, _held) in leases {
@@ -28,7 +28,7 @@ fn held_by(leases: Range<'_, (u64, u32), Held>, session: u32) -> Option<u64>
 }
 
 /// The file of the first of these leases that is the session's, and on this file or a later one.
-fn spared_by(leases: &[((u64, u32), Held)], session: u32, from: u64) -> Option<u64>
+fn spared_by(leases: &[((u64, u32), LeaseEntry)], session: u32, from: u64) -> Option<u64>
     ensures { result ≡ option_map (λ e. e.0.0) (find (λ e. range_contains by_two (Included (from, 0)) (Included (18446744073709551615, 4294967295)) e.0 && e.0.1 == session) leases.now) }
 {
     match leases.iter().find(|(key, _)| is_within(key, &(from, 0), &(u64::MAX, u32::MAX))

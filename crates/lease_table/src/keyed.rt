@@ -6,10 +6,10 @@ ghost use Rattle.std.specs.Map.{remove_entry};
 ghost use Rattle.lease_table.specs.Kept.{by_three, is_listed, listed, unlisted};
 
 use crate::map::ReservedMap;
-use lease_rules::lease::{Held, first_recall, last_recall};
+use lease_rules::lease::{LeaseEntry, first_recall, last_recall};
 
 /// Leases by file, and by session within a file.
-pub type Keyed = ReservedMap<(u64, u32), Held>;
+pub type Keyed = ReservedMap<(u64, u32), LeaseEntry>;
 
 /// The RECALLs that leases remember, by session, xid and file.
 pub type Recalls = ReservedMap<(u32, u32, u64), ()>;
@@ -18,7 +18,7 @@ pub type Recalls = ReservedMap<(u32, u32, u64), ()>;
 pub type Ends = ReservedMap<(u64, u64, u32), ()>;
 
 /// Takes out what stands beside a lease.
-pub fn unlist(recalls: &mut Recalls, ends: &mut Ends, session: u32, file: u64, held: Held)
+pub fn unlist(recalls: &mut Recalls, ends: &mut Ends, session: u32, file: u64, held: LeaseEntry)
     ensures recalls { recalls.new.entries ≡ unlisted recalls.old.entries session held.recall file }
     ensures recalls_places { recalls.new.places ≡ recalls.old.places }
     ensures ends { ends.new.entries ≡ remove_entry (is_at (by_three (held.ends, file, session))) ends.old.entries }
@@ -31,7 +31,7 @@ pub fn unlist(recalls: &mut Recalls, ends: &mut Ends, session: u32, file: u64, h
 }
 
 /// Puts in what stands beside a lease. There are places.
-pub fn list(recalls: &mut Recalls, ends: &mut Ends, session: u32, file: u64, held: Held)
+pub fn list(recalls: &mut Recalls, ends: &mut Ends, session: u32, file: u64, held: LeaseEntry)
     requires recalls { length recalls.old.entries < recalls.old.places }
     requires ends { length ends.old.entries < ends.old.places }
     ensures recalls { recalls.new.entries ≡ listed recalls.old.entries session held.recall file }

@@ -80,8 +80,8 @@ impl<K: Ord + Copy + Drop, V: Copy + Drop> ReservedMap<K, V> {
         self.spare.capacity() - self.spare.len()
     }
 
-    /// Reserves places for so many further entries. The one error is want of memory; no entry
-    /// changes.
+    /// Reserves places for so many further entries. The one error is running out of memory; no
+    /// entry changes.
     pub fn reserve(&mut self, count: usize) -> Result<(), AllocError>
         ensures ok { OnOk result (self.new.taken + count ≤ self.new.places) }
         ensures entries { self.new.entries ≡ self.old.entries }
@@ -92,8 +92,8 @@ impl<K: Ord + Copy + Drop, V: Copy + Drop> ReservedMap<K, V> {
         self.spare.reserve(count)
     }
 
-    /// Reserves places for so many entries, and for so many further ones. The one error is want of
-    /// memory, as which a count past the type's end counts too; no entry changes.
+    /// Reserves places for so many entries, and for so many further ones. The one error is running
+    /// out of memory, as which a count past the type's end counts too; no entry changes.
     pub fn reserve_beyond(&mut self, all: usize, further: usize) -> Result<(), AllocError>
         ensures ok { OnOk result (all + further ≤ self.new.places) }
         ensures entries { self.new.entries ≡ self.old.entries }
@@ -143,8 +143,8 @@ impl<K: Ord + Copy + Drop, V: Copy + Drop> ReservedMap<K, V> {
         pair::one_within(&self.map, &self.spare, first, last)
     }
 
-    /// The entries from the first key up to the last, by rising key. The one error is want of
-    /// memory.
+    /// The entries from the first key up to the last, by rising key. The one error is running out
+    /// of memory.
     pub fn between(&self, alloc: Global, first: K, last: K) -> Result<Vec<(K, V)>, AllocError>
         requires { IsLeBy K.cmp first last }
         ensures { IfOk result (λ entries. entries.items ≡ entries_between K.cmp (Included first) (Included last) self.now.entries) }

@@ -31,7 +31,7 @@ pub fn len<K: Ord, V>(map: &BTreeMap<K, V>, spare: &Vec<(K, V)>) -> usize
     map.len() + spare.len()
 }
 
-/// Makes places for so many entries in all. The one error is want of memory.
+/// Makes places for so many entries in all. The one error is running out of memory.
 pub fn reserve_beyond<K: Ord, V>(
     spare: &mut Vec<(K, V)>,
     all: usize,

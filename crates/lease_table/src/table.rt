@@ -55,7 +55,8 @@ impl Leases {
         self.leases.free().min(beside - self.leases.len())
     }
 
-    /// Makes room for so many further leases. The one error is want of memory; no lease changes.
+    /// Makes room for so many further leases. The one error is running out of memory; no lease
+    /// changes.
     pub fn reserve(&mut self, count: usize) -> Result<(), AllocError>
         ensures ok { OnOk result (count ≤ self.new.room) }
         ensures leases { self.new.leases ≡ self.old.leases }
@@ -67,7 +68,7 @@ impl Leases {
 
     /// Grants a lease on a file to a session, in place of the one that it has on it, from this
     /// reading of the server's clock on, and for this term, both in milliseconds. The one error is
-    /// want of memory, which never comes where there is room or the session has a lease on the file;
+    /// running out of memory, which never comes where there is room or the session has a lease on the file;
     /// all then stays as it was.
     pub fn grant(&mut self, session: u32, file: u64, now: u64, term: u32) -> Result<(), AllocError>
         requires { now + term < 2 ^ 64 }
@@ -154,7 +155,7 @@ impl Leases {
     /// The sessions, in their order, whose leases on the file are to be asked for back where this
     /// session asks for a change of it: those of others that have not ended at this reading of the
     /// server's clock, and that no RECALL asked for. Session 0 is nobody, so it leaves none out. The
-    /// one error is want of memory.
+    /// one error is running out of memory.
     pub fn others(
         &self,
         alloc: Global,

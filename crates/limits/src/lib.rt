@@ -12,11 +12,11 @@
 /// The most bytes of a file.
 pub const FILE_MOST: u64 = 67_108_864;
 
-/// The most bytes that the contents of all files may have, with the sizes of the changes that wait.
+/// The most bytes that the contents of all files may have, with the sizes of the pending changes.
 pub const TREE_MOST: u64 = 1_073_741_824;
 
-/// How many changes of the tree there may ever be: entries of the journal, with those of the changes
-/// that wait.
+/// How many changes of the tree there may ever be: entries of the journal, with those of the
+/// pending changes.
 pub const CHANGES_MOST: u64 = 4_294_967_295;
 
 /// The most bytes of a name in a directory.

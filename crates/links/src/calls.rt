@@ -13,7 +13,7 @@ pub struct Calls {
     failing: Items<u64>,
 }
 
-// By hand: docs/PROVING.md, "Values that are let go".
+// By hand: docs/proving/dropping.md.
 impl Drop for Calls {
     fn drop(self) {
         let Calls { made: _, failing } = self;

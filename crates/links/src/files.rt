@@ -20,7 +20,7 @@ pub struct HostFile {
     pub bytes: Bytes,
 }
 
-// By hand: docs/PROVING.md, "Values that are let go".
+// By hand: docs/proving/dropping.md.
 impl Drop for HostFile {
     fn drop(self) {
         let HostFile { name, bytes } = self;

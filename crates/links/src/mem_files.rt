@@ -81,8 +81,8 @@ fn take_out(files: &mut Vec<HostFile>, name: &[u8])
     files.retain(|file| !is_of(name, file));
 }
 
-/// Puts a file in the place of all of its name. The one error is want of memory; all files are then
-/// as before.
+/// Puts a file in the place of all of its name. The one error is running out of memory; all files
+/// are then as before.
 fn put(
     alloc: Global,
     files: &mut Vec<HostFile>,
@@ -107,7 +107,7 @@ pub struct SureFiles {
     files: Vec<HostFile>,
 }
 
-// By hand: docs/PROVING.md, "Values that are let go".
+// By hand: docs/proving/dropping.md.
 impl Drop for SureFiles {
     fn drop(self) {
         let SureFiles { files } = self;
@@ -180,7 +180,7 @@ pub struct MemFiles {
     faults: u64,
 }
 
-// By hand: docs/PROVING.md, "Values that are let go".
+// By hand: docs/proving/dropping.md.
 impl Drop for MemFiles {
     fn drop(self) {
         let MemFiles {

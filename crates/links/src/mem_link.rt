@@ -28,7 +28,7 @@ pub struct SureLink {
     alloc: Global,
 }
 
-// By hand: docs/PROVING.md, "Values that are let go".
+// By hand: docs/proving/dropping.md.
 impl Drop for SureLink {
     fn drop(self) {
         let SureLink {
@@ -129,7 +129,7 @@ impl Link for SureLink {
     }
 }
 
-/// A link in memory, of which some calls fail and some answer want of memory.
+/// A link in memory, of which some calls fail and some answer that memory ran out.
 pub struct MemLink {
     incoming: MemSource,
     outgoing: MemSink,
@@ -139,7 +139,7 @@ pub struct MemLink {
     alloc: Global,
 }
 
-// By hand: docs/PROVING.md, "Values that are let go".
+// By hand: docs/proving/dropping.md.
 impl Drop for MemLink {
     fn drop(self) {
         let MemLink {

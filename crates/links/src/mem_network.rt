@@ -24,7 +24,7 @@ pub struct SureNetwork {
     alloc: Global,
 }
 
-// By hand: docs/PROVING.md, "Values that are let go".
+// By hand: docs/proving/dropping.md.
 impl Drop for SureNetwork {
     fn drop(self) {
         let SureNetwork {
@@ -120,7 +120,7 @@ pub struct MemNetwork {
     faults: u64,
 }
 
-// By hand: docs/PROVING.md, "Values that are let go".
+// By hand: docs/proving/dropping.md.
 impl Drop for MemNetwork {
     fn drop(self) {
         let MemNetwork {

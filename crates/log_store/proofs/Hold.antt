@@ -4,7 +4,7 @@ use Rattle.log_store.specs.Lines.{Log, Records, changed, is_clear, larges}
 use Rattle.log_store.specs.Disk.{Files, Disk, Leaves, Stayed, Looked}
 use Rattle.log_store.specs.Sound.{OneOf, IsSound}
 use Rattle.log_store.specs.Making.{Added}
-use Rattle.log_store.specs.Store.{Held, Relieved, Applied}
+use Rattle.log_store.specs.Store.{HoldsRecords, Relieved, Applied}
 use Rattle.log_store.specs.declared.carrying.Unfinished.{Unfinished}
 use Rattle.log_store.specs.declared.edit.Edit.{Edit}
 use Rattle.log_store.specs.declared.which.Which.{Which}
@@ -12,7 +12,7 @@ use Rattle.log_store.proofs.Steps.{and_then, weaker, looked_one}
 use Rattle.log_store.proofs.Logs.{covers, all_clear}
 use Rattle.log_store.proofs.Redo.{looked_sound, relieved_by_looks, relieved_on}
 
-pub held_looked : (records : Records) (past : List Records) (pending more : List Which) (doubt : Bool) (old new : Disk) → IsSound records past pending old → Looked old new → more ≡ pending → Held records past more doubt new
+pub held_looked : (records : Records) (past : List Records) (pending more : List Which) (doubt : Bool) (old new : Disk) → IsSound records past pending old → Looked old new → more ≡ pending → HoldsRecords records past more doubt new
 held_looked records past pending more doubt old new s did is = λ sure. subst (λ (p : List Which). IsSound records past p new) (sym is) (looked_sound records past pending old new s did)
 
 pub looked_first : (records : Records) (past : List Records) (pending more : List Which) (doubt : Bool) (d0 d1 d2 : Disk) → IsSound records past pending d0 → Looked d0 d1 → Relieved records past more doubt d1 d2 → Relieved records past more doubt d0 d2
@@ -65,6 +65,6 @@ not_relieved edits records past pending doubt old new r none x = record {
   failed = failed_by r x.held;
 }
   where
-    failed_by : (q : Result (Unit {0}) Unfinished) → Held records past pending doubt new → OnErr q (Held records past pending doubt new)
+    failed_by : (q : Result (Unit {0}) Unfinished) → HoldsRecords records past pending doubt new → OnErr q (HoldsRecords records past pending doubt new)
     failed_by (Ok u) h = tt
     failed_by (Err e) h = h

@@ -4,7 +4,7 @@ use Rattle.log_store.specs.Names.{same, same_which, is_among}
 use Rattle.log_store.specs.Lines.{Log, Records, over, latest, task_of, all_lines, names}
 use Rattle.log_store.specs.Disk.{Files, File, Missing, Loose, Firm, Disk, Leaves, Passes, Agrees, Landed, Only, Same, taken, Moved, MovedOnDisk, Wrote, Flushed, Renamed, Removed, FlushedFolder, FlushedAll, firmed, FlushedLog, Cut, Stayed, Looked}
 use Rattle.log_store.specs.Sound.{kept, resolved, shown, shown_file, moves, Loads, OneOf, IsSound, IsFirm, IsAtRest, IsQuiet, IsRest, AreThere, AreLeft, WroteFirm, LineDone, Passed, Redone, Finished, Emptied, Carried, UnlessInDoubt, unfinished_by}
-use Rattle.log_store.specs.Store.{Relieved, Held}
+use Rattle.log_store.specs.Store.{Relieved, HoldsRecords}
 use Rattle.store.specs.declared.store.StoreError.{StoreError}
 use Rattle.store.specs.declared.store.StoreError.TheVariants as errors
 use Rattle.log_store.specs.declared.carrying.Unfinished.{Unfinished}

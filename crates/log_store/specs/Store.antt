@@ -15,8 +15,8 @@ use Rattle.log_store.specs.declared.which.FileName.{FileName}
 use Rattle.log_store.specs.declared.which.FileName.TheVariants.{Record, New}
 
 -- what a store knows of its folder between two calls: these are the records, unless it is in doubt
-abbrev pub Held : Records → List Records → List Which → Bool → Disk → Type 0
-Held records past pending doubt d = doubt ≡ false → IsSound records past pending d
+abbrev pub HoldsRecords : Records → List Records → List Which → Bool → Disk → Type 0
+HoldsRecords records past pending doubt d = doubt ≡ false → IsSound records past pending d
 
 -- What a program that ended, or a cut of power, left of a folder: these files and this log are seen. What of it wasn't
 -- flushed may go at the next cut; what is left then stands for one of these records.
@@ -36,7 +36,7 @@ pub record IsRead (c : Files) (l : Log) (d : Disk) : Type 0 where
 pub record Relieved (records : Records) (past : List Records) (pending : List Which) (doubt : Bool) (old new : Disk) : Type 0 where
   pub leaves : Leaves old new (OneOf (records ∷ past))
   pub left : (c : Files) (l : Log) → new.may_leave c l → OneOf (records ∷ past) c l
-  pub held : Held records past pending doubt new
+  pub held : HoldsRecords records past pending doubt new
 
 abbrev pub bytes_in : Option (Vec ℕ Global) → Option (List ℕ)
 bytes_in None = None
@@ -103,4 +103,4 @@ pub record Applied (edits : List Edit) (records : Records) (past : List Records)
   pub leaves : Leaves old new (OneOf (changed edits records ∷ records ∷ past))
   pub left : (c : Files) (l : Log) → new.may_leave c l → OneOf (changed edits records ∷ records ∷ past) c l
   pub made : OnOk result ((doubt ≡ false) × IsSound (changed edits records) (records ∷ past) pending new)
-  pub failed : OnErr result (Held records past pending doubt new)
+  pub failed : OnErr result (HoldsRecords records past pending doubt new)

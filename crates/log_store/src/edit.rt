@@ -87,7 +87,7 @@ pub fn is_clear(edits: &[Edit<'_>], pending: &[Which]) -> bool
     }
 }
 
-/// Adds the records of such edits to a list. The one error is want of memory.
+/// Adds the records of such edits to a list. The one error is running out of memory.
 #[tactic(auto, using(crate::proofs::Logs::among_front))]
 pub(crate) fn push_larges(pending: &mut Vec<Which>, edits: &[Edit<'_>]) -> Result<(), AllocError>
     ensures done { OnOk result (pending.new.items ≡ pending.old.items ++ larges edits.now) }

@@ -72,7 +72,7 @@ fn remove_new<D: Folder>(folder: &mut D, name: FileName)
     }
 }
 
-/// Adds the records among these files to others. The one error is want of memory.
+/// Adds the records among these files to others. The one error is running out of memory.
 fn push_records(records: &mut Vec<Which>, names: &[FileName]) -> Result<(), AllocError>
     ensures stays { (n : Which) → Contains records.old.items n → Contains records.new.items n }
     ensures done { OnOk result ((n : Which) → Contains names.now (file_name.Record n) → Contains records.new.items n) }

@@ -87,7 +87,7 @@ fn put_line(out: &mut Vec<u8>, edit: &Edit<'_>) -> Result<(), AllocError>
     }
 }
 
-/// Writes the entry of edits behind what is there. The one error is want of memory.
+/// Writes the entry of edits behind what is there. The one error is running out of memory.
 pub fn put_entry(out: &mut Vec<u8>, edits: &[Edit<'_>]) -> Result<(), AllocError>
     ensures { OnOk result (out.new.items ≡ out.old.items ++ entry_bytes edits.now) }
 {
@@ -111,7 +111,7 @@ fn word(bytes: &[u8]) -> u64
     ])
 }
 
-/// What a sign, a count and the bytes behind them say. The one error is want of memory.
+/// What a sign, a count and the bytes behind them say. The one error is running out of memory.
 fn task_in(alloc: Global, sign: u8, count: u64, behind: &[u8]) -> Result<Option<Task>, AllocError>
     ensures { IfOk result (λ task. task ≡ task_in sign count behind.now) }
 {
@@ -130,7 +130,7 @@ fn task_in(alloc: Global, sign: u8, count: u64, behind: &[u8]) -> Result<Option<
     }
 }
 
-/// The line in front of these bytes. The one error is want of memory.
+/// The line in front of these bytes. The one error is running out of memory.
 #[tactic(auto, using(crate::proofs::Coding::line_made))]
 fn line_in(alloc: Global, bytes: &[u8]) -> Result<Option<Line>, AllocError>
     ensures { IfOk result (λ line. line ≡ line_in bytes.now) }
@@ -159,7 +159,7 @@ fn size_of(line: &Line) -> usize
 }
 
 /// Adds the lines of an entry to others, and answers whether it has such lines alone. The one error is
-/// want of memory.
+/// running out of memory.
 pub fn add_lines(alloc: Global, lines: &mut Vec<Line>, entry: &[u8]) -> Result<bool, AllocError>
     ensures { (edits : List Edit) → AreWords edits → entry.now ≡ entry_bytes edits → IfOk result (λ whole. (whole ≡ true) × (lines.new.items ≡ lines.old.items ++ lines_of edits)) }
 {

@@ -35,7 +35,7 @@ fn front_of(number: u64, count: u64) -> [u8; 16]
     ]
 }
 
-/// Writes the frame of a payload behind what is there. The one error is want of memory.
+/// Writes the frame of a payload behind what is there. The one error is running out of memory.
 pub fn put_frame(out: &mut Vec<u8>, number: u64, payload: &[u8]) -> Result<(), AllocError>
     ensures { OnOk result (out.new.items ≡ out.old.items ++ frame number payload.now) }
 {

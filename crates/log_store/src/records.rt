@@ -6,7 +6,7 @@ ghost use Rattle.store.specs.declared.store.StoreError.TheVariants as errors;
 ghost use Rattle.log_store.specs.Lines.{Records, Log, changed, is_clear};
 ghost use Rattle.log_store.specs.Disk.{Files, Looked};
 ghost use Rattle.log_store.specs.Sound.{IsSound, Loads, AreThere};
-ghost use Rattle.log_store.specs.Store.{Held, IsLeft, Applied, Relieved, Loaded, Closed, bytes_in, doubts};
+ghost use Rattle.log_store.specs.Store.{HoldsRecords, IsLeft, Applied, Relieved, Loaded, Closed, bytes_in, doubts};
 ghost use Rattle.log_store.specs.declared.carrying.Unfinished.TheVariants as unfinished;
 
 use crate::carrying::{Unfinished, carry_out};
@@ -33,7 +33,7 @@ pub struct LogStore<D> {
 impl<D: Folder> LogStore<D> {
     /// Carries the log out. Where it isn't known whether it was emptied, the store is in doubt.
     fn carry_out(&mut self) -> Result<(), Unfinished>
-        ensures does { D.told → (records : Records) (past : List Records) → self.old.doubt ≡ false → Held records past self.old.pending.items self.old.doubt (D.state self.old.folder) → Relieved records past self.new.pending.items self.new.doubt (D.state self.old.folder) (D.state self.new.folder) }
+        ensures does { D.told → (records : Records) (past : List Records) → self.old.doubt ≡ false → HoldsRecords records past self.old.pending.items self.old.doubt (D.state self.old.folder) → Relieved records past self.new.pending.items self.new.doubt (D.state self.old.folder) (D.state self.new.folder) }
         ensures empty { OnOk result ((self.new.pending.items ≡ []) × (self.new.doubt ≡ false)) }
         ensures kept { OnErr result (self.new.pending.items ≡ self.old.pending.items) }
         ensures later { D.faults self.old.folder ≤ D.faults self.new.folder }
@@ -58,7 +58,7 @@ impl<D: Folder> LogStore<D> {
 
     /// Carries the log out, if it can be.
     fn relieve(&mut self) -> Result<(), Unfinished>
-        ensures does { D.told → (records : Records) (past : List Records) → self.old.doubt ≡ false → Held records past self.old.pending.items self.old.doubt (D.state self.old.folder) → Relieved records past self.new.pending.items self.new.doubt (D.state self.old.folder) (D.state self.new.folder) }
+        ensures does { D.told → (records : Records) (past : List Records) → self.old.doubt ≡ false → HoldsRecords records past self.old.pending.items self.old.doubt (D.state self.old.folder) → Relieved records past self.new.pending.items self.new.doubt (D.state self.old.folder) (D.state self.new.folder) }
         ensures sure { OnOk result (self.new.doubt ≡ false) }
         ensures pending { (self.new.pending.items ≡ []) ⊎ (self.new.pending.items ≡ self.old.pending.items) }
         ensures later { D.faults self.old.folder ≤ D.faults self.new.folder }
@@ -90,7 +90,7 @@ impl<D: Folder> LogStore<D> {
     /// Makes room for edits, where it is scarce: the log is carried out, and room kept again for what
     /// finds none. Edits that need none go on without.
     fn save_room(&mut self, edits: &[Edit<'_>]) -> Result<(), Unfinished>
-        ensures does { D.told → (records : Records) (past : List Records) → self.old.doubt ≡ false → Held records past self.old.pending.items self.old.doubt (D.state self.old.folder) → Relieved records past self.new.pending.items self.new.doubt (D.state self.old.folder) (D.state self.new.folder) }
+        ensures does { D.told → (records : Records) (past : List Records) → self.old.doubt ≡ false → HoldsRecords records past self.old.pending.items self.old.doubt (D.state self.old.folder) → Relieved records past self.new.pending.items self.new.doubt (D.state self.old.folder) (D.state self.new.folder) }
         ensures sure { self.old.doubt ≡ false → OnOk result (self.new.doubt ≡ false) }
         ensures pending { (self.new.pending.items ≡ []) ⊎ (self.new.pending.items ≡ self.old.pending.items) }
         ensures later { D.faults self.old.folder ≤ D.faults self.new.folder }
@@ -110,7 +110,7 @@ impl<D: Folder> LogStore<D> {
 
     /// Brings the log to where edits may be added: it names no new file that they write.
     fn make_way(&mut self, edits: &[Edit<'_>]) -> Result<(), Unfinished>
-        ensures does { D.told → (records : Records) (past : List Records) → self.old.doubt ≡ false → Held records past self.old.pending.items self.old.doubt (D.state self.old.folder) → Relieved records past self.new.pending.items self.new.doubt (D.state self.old.folder) (D.state self.new.folder) }
+        ensures does { D.told → (records : Records) (past : List Records) → self.old.doubt ≡ false → HoldsRecords records past self.old.pending.items self.old.doubt (D.state self.old.folder) → Relieved records past self.new.pending.items self.new.doubt (D.state self.old.folder) (D.state self.new.folder) }
         ensures sure { self.old.doubt ≡ false → OnOk result (self.new.doubt ≡ false) }
         ensures clear { OnOk result (is_clear edits.now self.new.pending.items ≡ true) }
         ensures later { D.faults self.old.folder ≤ D.faults self.new.folder }
@@ -131,7 +131,7 @@ impl<D: Folder> LogStore<D> {
     /// once the folder's log was flushed. `Ok` says that it was made. An error comes where a call failed or
     /// memory ran out, and nothing is changed then; `InDoubt` where that isn't known, and from then on.
     pub fn apply(&mut self, edits: &[Edit<'_>]) -> Result<(), Unfinished>
-        ensures does { D.told → (records : Records) (past : List Records) → Held records past self.old.pending.items self.old.doubt (D.state self.old.folder) → self.old.doubt ≡ false → Applied edits.now records past self.new.pending.items self.new.doubt (D.state self.old.folder) (D.state self.new.folder) result }
+        ensures does { D.told → (records : Records) (past : List Records) → HoldsRecords records past self.old.pending.items self.old.doubt (D.state self.old.folder) → self.old.doubt ≡ false → Applied edits.now records past self.new.pending.items self.new.doubt (D.state self.old.folder) (D.state self.new.folder) result }
         ensures made { OnOk result (self.old.doubt ≡ false) }
         ensures known { doubts result ≡ self.new.doubt }
         ensures later { D.faults self.old.folder ≤ D.faults self.new.folder }
@@ -240,7 +240,7 @@ impl<D: Folder> LogStore<D> {
     /// Carries all out; the folder then holds the records' files alone. `Ok` says that it was done. From
     /// then on the store is in doubt, until a folder is loaded again.
     pub fn close(&mut self) -> Result<(), Unfinished>
-        ensures does { D.told → (records : Records) (past : List Records) → Held records past self.old.pending.items self.old.doubt (D.state self.old.folder) → self.old.doubt ≡ false → Closed records past (D.state self.old.folder) (D.state self.new.folder) result }
+        ensures does { D.told → (records : Records) (past : List Records) → HoldsRecords records past self.old.pending.items self.old.doubt (D.state self.old.folder) → self.old.doubt ≡ false → Closed records past (D.state self.old.folder) (D.state self.new.folder) result }
         ensures made { OnOk result (self.old.doubt ≡ false) }
         ensures known { self.new.doubt ≡ true }
         ensures later { D.faults self.old.folder ≤ D.faults self.new.folder }

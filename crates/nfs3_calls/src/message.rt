@@ -138,7 +138,7 @@ pub enum Nfs {
 }
 
 // Written by hand, it is proved here alone; derived, each crate above would prove how each part is
-// let go.
+// dropped.
 impl Drop for Nfs {
     fn drop(self) {
         match self {

@@ -159,13 +159,13 @@ hears s (Err e) = got_fault s s.task e
 abbrev pub got_step : State → Result Message WireFault → (now : ℕ) → State × ClientStep
 got_step s m now = hears (at s now) m
 
--- ---- want of memory
+-- ---- running out of memory
 
 -- A write of some bytes takes memory, unless it is told that the file would have too many. (A number past 128 bits can't be told.)
 abbrev pub WriteTakes : (offset : ℕ) → List Part → Local → Type 0
 WriteTakes offset content l = (content_length content ≡ 0 → ⊥) × (written_size (length l.bytes) offset (content_length content) < 2 ^ 128 → written_size (length l.bytes) offset (content_length content) ≤ local_most)
 
--- Which commands may meet want of memory: those that send a call, and those that make a local content. What is told at once takes none.
+-- Which commands may meet running out of memory: those that send a call, and those that make a local content. What is told at once takes none.
 abbrev pub MayMissCommand : State → Command → Type 0
 MayMissCommand s (command.Open file) = MayMissOpen s file s.task
 MayMissCommand s (command.Rewrite file) = MayMissOpen s file s.task
@@ -190,7 +190,7 @@ abbrev pub IsCommitting : Option Task → Type 0
 IsCommitting None = ⊥
 IsCommitting (Some t) = InCommit t.stage
 
--- only an answer to a call of the operation under way may meet want of memory
+-- only an answer to a call of the operation under way may meet running out of memory
 abbrev pub MayMiss : State → Result Message WireFault → Type 0
 MayMiss s (Ok (message.Answer xid b)) = (has_call (pending s.task) xid ≡ true) × (IsCommitting s.task → ⊥)
 MayMiss s m = ⊥

@@ -93,7 +93,7 @@ abbrev pub told_walk : State → (calls : List Pending) → (xid : ℕ) → Walk
 told_walk s calls xid w a true = walked s calls xid (is_look w.goal) (walk_told w a)
 told_walk s calls xid w a false = unknown s xid
 
--- ---- want of memory
+-- ---- running out of memory
 
 -- it takes memory only where it sends a call
 abbrev pub MayMissWalk : State → PathCommand → Option Task → Type 0

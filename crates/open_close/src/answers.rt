@@ -11,7 +11,7 @@ ghost use Rattle.client_state.specs.declared.task.Stage.TheVariants as stage;
 
 use client_state::state::ClientState;
 use client_state::step::ClientStep;
-use client_state::task::{Fetch, Store};
+use client_state::task::{Fetch, Upload};
 use file_close::{calls, closing, stores};
 use file_open::{fetch, kept, opening, rewriting};
 use hash_calls::message::Lb;
@@ -192,7 +192,7 @@ pub fn took_stored(
     alloc: Global,
     state: &mut ClientState,
     file: u64,
-    store: Store,
+    store: Upload,
     xid: u32,
     body: &Body,
 ) -> Result<ClientStep, AllocError>

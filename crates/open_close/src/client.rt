@@ -38,7 +38,7 @@ pub struct Client {
     state: ClientState,
 }
 
-/// By hand, so that the crates above prove nothing of how the parts go.
+/// By hand, so that the crates above prove nothing of how the parts are dropped.
 impl Drop for Client {
     fn drop(self) {
         let Client { state } = self;
@@ -77,7 +77,7 @@ fn missed(alloc: Global) -> ClientStep
 impl Client {
     /// A client with no connection and no file, whose clock and the server's may drift apart so far, in
     /// milliseconds, while a lease lasts, and whose calls are of this version of LBFS. The one error is
-    /// want of memory.
+    /// running out of memory.
     pub fn new(alloc: Global, drift: u64, lbfs: u32) -> Result<Client, AllocError>
         ensures { IfOk result (λ c. c ≡ start_with drift lbfs) }
     {
@@ -176,7 +176,7 @@ impl Client {
         self.state.evict(file);
     }
 
-    /// Any place stands in the index under any key: nobody trusts it. The one error is want of memory,
+    /// Any place stands in the index under any key: nobody trusts it. The one error is running out of memory,
     /// and changes nothing.
     pub fn forge(&mut self, key: Key, place: Place) -> Result<(), AllocError>
         ensures ok { OnOk result (self.new ≡ forged self.old key place) }
@@ -193,8 +193,8 @@ impl Client {
     }
 
     /// The places of the chunks of what is kept of a file enter the index, if anything is kept of it: a
-    /// hint, as a forged place is. Says whether some were left out, for want of memory. An `Err`, which is
-    /// want of memory too, changes nothing.
+    /// hint, as a forged place is. Says whether some were left out, for running out of memory. An `Err`, which is
+    /// running out of memory too, changes nothing.
     pub fn learn(&mut self, alloc: Global, file: u64) -> Result<bool, AllocError>
         ensures ok { IfOk result (λ left_out. Learns self.old file left_out self.new) }
         ensures err { OnErr result (self.new ≡ self.old) }
@@ -204,8 +204,8 @@ impl Client {
 
     /// A content is kept that is no file's, in place of the one that was offered before, and the places of
     /// its chunks enter the index: so a chunk of a fetch that has its bytes doesn't travel. While an
-    /// operation is under way nothing is done. Says whether some places were left out, for want of memory.
-    /// An `Err`, which is want of memory too, changes nothing.
+    /// operation is under way nothing is done. Says whether some places were left out, for running out of memory.
+    /// An `Err`, which is running out of memory too, changes nothing.
     pub fn offer(&mut self, alloc: Global, content: SharedBytes) -> Result<bool, AllocError>
         requires { length content ≤ FILE_MOST }
         ensures ok { IfOk result (λ left_out. Offers self.old content left_out self.new) }
@@ -218,7 +218,7 @@ impl Client {
     /// enter the index, each under the digest of its bytes: so a chunk of a fetch that is one of them doesn't
     /// travel. They are no file's, so they are never opened. While an operation is under way nothing is done,
     /// and neither where they have more bytes than a file may have. Says whether some places were left out,
-    /// for want of memory. An `Err`, which is want of memory too, changes nothing.
+    /// for running out of memory. An `Err`, which is running out of memory too, changes nothing.
     pub fn warm(&mut self, alloc: Global, items: &[Bytes]) -> Result<bool, AllocError>
         ensures ok { IfOk result (λ left_out. Warms self.old items.now left_out self.new) }
         ensures err { OnErr result (self.new ≡ self.old) }

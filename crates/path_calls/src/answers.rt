@@ -203,7 +203,7 @@ fn told_change<D, F>(answer: &Answer<D, F>) -> Told
 }
 
 impl Walk {
-    /// What comes of the answer to its call. The one error is want of memory, for the names of a page.
+    /// What comes of the answer to its call. The one error is running out of memory, for the names of a page.
     pub fn told(self, alloc: Global, answer: &Nfs) -> Result<Told, AllocError>
         ensures told { IfOk result (λ t. t ≡ walk_told self answer.now) }
         ensures sure { OnErr result (MayMissTold answer.now) }

@@ -110,7 +110,7 @@ fn goal_left(goal: &Goal) -> u128
 }
 
 impl Walk {
-    /// Its next call. The one error is want of memory.
+    /// Its next call. The one error is running out of memory.
     pub fn next_call(&self, alloc: Global) -> Result<Nfs, AllocError>
         ensures { IfOk result (λ c. c ≡ next_call self.now) }
     {

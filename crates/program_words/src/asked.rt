@@ -74,7 +74,7 @@ impl Model for StorePath {
 }
 
 impl StorePath {
-    /// A copy of this path. The one error is want of memory.
+    /// A copy of this path. The one error is running out of memory.
     pub fn copy_of(alloc: Global, path: &str) -> Result<StorePath, AllocError>
         ensures { IfOk result (λ p. p ≡ path.now) }
     {

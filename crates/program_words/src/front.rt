@@ -163,7 +163,7 @@ fn front_entered_of(alloc: Global, matches: &ArgMatches) -> Result<Option<Front>
 
 /// What the words, which are those behind the program's name, ask for: nothing where they aren't those of
 /// `shell` or `share`, where `clap` finds a fault in them, or a number isn't in its range. The one error is
-/// want of memory.
+/// running out of memory.
 pub fn front_of(alloc: Global, words: &[String]) -> Result<Option<Front>, AllocError>
     ensures { IfOk result (λ front. front ≡ front_of (map (λ w. string_bytes w) words.now)) }
 {

@@ -47,7 +47,7 @@ fn with_fronts<'a>(alloc: Global, named: Command<'a>) -> Result<Command<'a>, All
     below(all, share_line(alloc))
 }
 
-/// The commands for people. The one error is want of memory.
+/// The commands for people. The one error is running out of memory.
 #[tactic(auto, unfolding(crate::specs::FrontLine::front))]
 pub(crate) fn front<'a>(alloc: Global) -> Result<Command<'a>, AllocError>
     ensures { IfOk result (λ c. app_of c ≡ front) }

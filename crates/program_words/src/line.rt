@@ -140,7 +140,7 @@ fn with_commands<'a>(alloc: Global, named: Command<'a>) -> Result<Command<'a>, A
     below(all, check_line(alloc))
 }
 
-/// All commands of the program. The one error is want of memory.
+/// All commands of the program. The one error is running out of memory.
 #[tactic(auto, unfolding(crate::specs::Line::lbfs))]
 pub fn lbfs<'a>(alloc: Global) -> Result<Command<'a>, AllocError>
     ensures { IfOk result (λ c. app_of c ≡ lbfs) }

@@ -190,9 +190,9 @@ fn put_reason(alloc: Global, text: &mut String, words: &[String]) -> Result<(), 
     }
 }
 
-/// What is told of words that ask for nothing: a line that says what is wrong with them, and the words of the
-/// command that was meant; where they are none, or a call for help, all words that there are. The one error is want
-/// of memory.
+/// What is told of words that ask for nothing: a line that says what is wrong with them, and the
+/// words of the command that was meant; where they are none, or a call for help, all words that
+/// there are. The one error is running out of memory.
 pub fn refusal(alloc: Global, words: &[String]) -> Result<String, AllocError> {
     let mut text = String::new(alloc);
     put_reason(alloc, &mut text, words)?;

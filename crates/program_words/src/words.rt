@@ -225,7 +225,7 @@ fn entered_of(alloc: Global, matches: &ArgMatches) -> Result<Option<Asked>, Allo
 }
 
 /// What the words, which are those behind the program's name, ask for: nothing where `clap` finds a
-/// fault in them, or a number isn't in its range. The one error is want of memory.
+/// fault in them, or a number isn't in its range. The one error is running out of memory.
 pub fn asked_of(alloc: Global, words: &[String]) -> Result<Option<Asked>, AllocError>
     ensures asked { IfOk result (λ asked. asked ≡ asked_of (map (λ w. string_bytes w) words.now)) }
     ensures few { IfOk result (λ asked. IsFew (command_in asked)) }

@@ -49,7 +49,7 @@ impl From<GiveError> for End {
     }
 }
 
-// A message that no record can hold is told as want of memory: no end makes one.
+// A message that no record can hold is told as running out of memory: no end makes one.
 impl From<MarkError> for End {
     ghost from_gives = { λ _ e. e ≡ ends.Memory };
 

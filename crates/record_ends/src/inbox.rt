@@ -28,7 +28,7 @@ pub struct Inbox {
     room: Vec<u8>,
 }
 
-// By hand: docs/PROVING.md, "Values that are let go".
+// By hand: docs/proving/dropping.md.
 impl Drop for Inbox {
     fn drop(self) {
         let Inbox {
@@ -80,7 +80,7 @@ fn take_piece<L: Link>(
 }
 
 impl Inbox {
-    /// Nothing has come yet. The one error is want of memory.
+    /// Nothing has come yet. The one error is running out of memory.
     pub fn new(alloc: Global) -> Result<Inbox, AllocError>
         ensures { IfOk result (λ inbox. inbox ≡ nothing_kept) }
     {

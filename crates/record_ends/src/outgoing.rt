@@ -34,7 +34,7 @@ fn spelled(alloc: Global, messages: &[Message]) -> Result<Vec<u8>, MarkError>
 ///
 /// Of a link that tells what it was given, `Ok` says that it was given the bytes of all messages, in
 /// order, and `Err` that it was given a front of them. The one error beside `Failed`, which comes
-/// only where the link's count rose, is want of memory; a message that no record can hold is told as
+/// only where the link's count rose, is running out of memory; a message that no record can hold is told as
 /// that.
 pub fn put_out<L: Link>(alloc: Global, link: &mut L, messages: &[Message]) -> Result<(), End>
     ensures ok { OnOk result (Appends (L.held link.old) (L.held link.new) (out_bytes messages.now)) }

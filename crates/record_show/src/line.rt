@@ -35,7 +35,7 @@ pub enum Line {
     },
 }
 
-/// Writes the line. The one error is want of memory.
+/// Writes the line. The one error is running out of memory.
 pub fn put_line(out: &mut String, line: &Line) -> Result<(), AllocError>
     ensures { OnOk result (string_bytes out.new ≡ string_bytes out.old ++ line_text line.now) }
 {

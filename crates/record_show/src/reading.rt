@@ -98,7 +98,7 @@ fn said_in(alloc: Global, contents: &[u8]) -> Said
     said
 }
 
-/// What is shown of a record. The one error is want of memory.
+/// What is shown of a record. The one error is running out of memory.
 pub fn line_of(alloc: Global, contents: &[u8]) -> Result<Line, AllocError>
     ensures { IfOk result (λ line. line ≡ line_of contents.now) }
 {

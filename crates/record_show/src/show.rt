@@ -41,7 +41,7 @@ fn put_end(out: &mut String, spoilt: Option<Refusal>, rest: usize) -> Result<(),
 
 /// A line for each record of a stream of bytes, and what then is left of it: `limit` where a
 /// fragment's header breaks a limit of records, else `rest` with the number of bytes that are no
-/// whole record, if there are any. The one error is want of memory.
+/// whole record, if there are any. The one error is running out of memory.
 pub fn shown(alloc: Global, input: &[u8]) -> Result<Bytes, AllocError>
     ensures { IfOk result (λ text. text ≡ shown input.now) }
 {

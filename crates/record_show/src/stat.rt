@@ -24,7 +24,7 @@ pub enum AcceptStat {
     ProcUnavail,
     /// Its arguments weren't understood.
     GarbageArgs,
-    /// The server could not do it, for want of memory perhaps.
+    /// The server could not do it, for running out of memory perhaps.
     SystemErr,
 }
 

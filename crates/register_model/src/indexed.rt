@@ -19,8 +19,8 @@ pub struct IndexedHistory {
     is_by_file: bool,
 }
 
-// Written by hand, it is proved here alone; derived, each crate above would prove how each part is let
-// go.
+// Written by hand, it is proved here alone; derived, each crate above would prove how each part is
+// dropped.
 impl Drop for IndexedHistory {
     fn drop(self) {
         let IndexedHistory {
@@ -47,8 +47,8 @@ impl Model for IndexedHistory {
 }
 
 impl History {
-    /// The history with its index, in the time of sorting its changes. The one error is want of
-    /// memory.
+    /// The history with its index, in the time of sorting its changes. The one error is running out
+    /// of memory.
     pub fn indexed(self, alloc: Global) -> Result<IndexedHistory, AllocError>
         ensures { IfOk result (λ h. h ≡ self) }
     {

@@ -97,7 +97,7 @@ fn word_alone(ended: &Outcome) -> &'static str
     }
 }
 
-/// How an operation ended. The one error is want of memory.
+/// How an operation ended. The one error is running out of memory.
 pub fn put_outcome(alloc: Global, out: &mut String, ended: &Outcome) -> Result<(), AllocError>
     ensures { OnOk result (string_bytes out.new ≡ string_bytes out.old ++ outcome_text ended.now) }
 {

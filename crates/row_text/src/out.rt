@@ -1,8 +1,8 @@
 //! What is printed, as it grows.
 //!
-//! Each part is added by a call that never fails: where memory is wanting for one, what stands here is
+//! Each part is added by a call that never fails: where memory runs out for one, what stands here is
 //! short of it from then on, and `done` gives the error. So what prints has no early exits; each would
-//! be one more way for the prover to follow, with all that is let go of there.
+//! be one more way for the prover to follow, with all that is dropped of there.
 
 use std::alloc::{AllocError, Global};
 use std::fmt::{Debug, Write};
@@ -42,7 +42,7 @@ impl Out {
         }
     }
 
-    /// Adds an item to others. One for which memory is wanting is let go by a call, so that the compiler
+    /// Adds an item to others. One for which memory runs out is dropped by a call, so that the compiler
     /// doesn't do it part by part.
     pub fn push<T: Drop>(&mut self, all: &mut Vec<T>, item: T) {
         let pushed = all.push(item);

@@ -27,7 +27,7 @@ pub fn number(word: &str) -> u64 {
     word.parse::<u64>().unwrap_or(0)
 }
 
-/// A copy of the items; none where memory is wanting.
+/// A copy of the items; none where memory runs out.
 pub fn copied<T: Copy>(alloc: Global, items: &[T], out: &mut Out) -> Items<T> {
     match Items::copy_of(alloc, items) {
         Ok(copy) => copy,

@@ -11,7 +11,7 @@ use trace_text::line::Line;
 /// The most bytes of a content that are printed.
 const MOST_SHOWN: u64 = 131_072;
 
-/// The bytes of a content; none where memory is wanting.
+/// The bytes of a content; none where memory runs out.
 fn built(alloc: Global, content: &Content, out: &mut Out) -> Bytes {
     match build(alloc, content) {
         Ok(bytes) => bytes,

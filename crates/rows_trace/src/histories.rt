@@ -61,7 +61,7 @@ fn word_of(name: &str) -> Word {
     }
 }
 
-/// The value that these bytes are; none where memory is wanting.
+/// The value that these bytes are; none where memory runs out.
 pub fn value(alloc: Global, bytes: &[u8], out: &mut Out) -> SharedBytes {
     match SharedBytes::new(alloc, copied(alloc, bytes, out)) {
         Ok(value) => value,

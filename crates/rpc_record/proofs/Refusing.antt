@@ -202,7 +202,7 @@ gives_fault {A} {B} kind body make i fault small (inr (inr b)) =
     ∙ own_type kind body make b.0 (i.at + 4) kind k small refl
     ∙ ap (λ (r : Result (A × Input) Fault). read_then r (λ a. Ok (make b.0 a.0, a.1))) b.4
 
--- want of memory is no error of reading
+-- running out of memory is no error of reading
 then_never : {A B : Type 0} (r : Result A Fault) (go : A → Result B HeaderError) → ((a : A) → ¬ (go a ≡ refused_with Memory)) → ¬ (read_then r go ≡ refused_with Memory)
 then_never (Ok a) go never e = never a e
 then_never {A} {B} (Err fault) go never e = let bad = errors_are {A = B} (Xdr fault) Memory e in absurd cc

@@ -23,7 +23,7 @@ EndsEarly i fault = ((length i.rest < 4) × (fault ≡ Short i.at)) ⊎ ((4 ≤ 
 abbrev pub BodyFault : {A : Type 0} → ℕ → Format A → Input → Fault → Type 0
 BodyFault kind body i fault = (xid : ℕ) × (more : List ℕ) × (i.rest ≡ u32_form.spell xid ++ (u32_form.spell kind ++ more)) × u32_form.Fits xid × (body.read (record { at = i.at + 8; rest = more }) ≡ Err fault)
 
--- each error comes exactly where its cause stands; want of memory is none of reading's
+-- each error comes exactly where its cause stands; running out of memory is none of reading's
 pub record IsRefusal {A B : Type 0} (kind : ℕ) (body : Format A) (read : Input → Result (B × Input) HeaderError) : Type 0 where
   pub bad_type : (i : Input) (value : ℕ) → IsBytes i.rest → (read i ≡ Err (BadType value)) ↔ NoType i.rest value
   pub fault : (i : Input) (fault : Fault) → IsBytes i.rest → (read i ≡ Err (Xdr fault)) ↔ (EndsEarly i fault ⊎ (OtherType kind i fault ⊎ BodyFault kind body i fault))

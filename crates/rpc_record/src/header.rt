@@ -79,7 +79,7 @@ pub enum Accept {
     ProcUnavail,
     /// 4: the arguments could not be read.
     GarbageArgs,
-    /// 5: the server could not do it, as for want of memory.
+    /// 5: the server could not do it, as for running out of memory.
     SystemErr,
 }
 
@@ -103,7 +103,7 @@ pub enum ReplyHead {
 }
 
 // Written by hand, these are proved here alone; derived, each crate above would prove how the bytes of
-// a header are let go.
+// a header are dropped.
 impl Drop for Auth {
     fn drop(self) {
         let Auth { flavor: _, body } = self;

@@ -95,7 +95,7 @@ fn read_reply(alloc: Global, reader: &mut Reader) -> Result<Reply, HeaderError>
     Ok(Reply { xid, head })
 }
 
-/// The header of a call; want of memory leaves a part of it.
+/// The header of a call; running out of memory leaves a part of it.
 fn write_call(call: &Call, writer: &mut Writer) -> Result<(), AllocError>
     ensures spelled { OnOk result (writer.new ≡ writer.old ++ call_spell call.now) }
     ensures fits { OnOk result (length call.now.head.cred.body ≤ AUTH_MOST → length call.now.head.verf.body ≤ AUTH_MOST → CallFits call.now) }
@@ -104,7 +104,7 @@ fn write_call(call: &Call, writer: &mut Writer) -> Result<(), AllocError>
     call.head.write(writer)
 }
 
-/// The header of a reply; want of memory leaves a part of it.
+/// The header of a reply; running out of memory leaves a part of it.
 fn write_reply(reply: &Reply, writer: &mut Writer) -> Result<(), AllocError>
     ensures spelled { OnOk result (writer.new ≡ writer.old ++ reply_spell reply.now) }
     ensures fits { OnOk result (short_reply reply.now.head → ReplyFits reply.now) }
@@ -116,8 +116,8 @@ fn write_reply(reply: &Reply, writer: &mut Writer) -> Result<(), AllocError>
 impl Call {
     /// Reads the header of a call: `BadType` where the message's type is neither a call's nor a
     /// reply's, `Xdr` with the first fault where an item could not be read (a reply's type is
-    /// `BadValue` at its place), and `Memory`. After an `Err`, want of memory too, the reader is
-    /// where it was.
+    /// `BadValue` at its place), and `Memory`. After an `Err`, running out of memory too, the
+    /// reader is where it was.
     pub fn read(alloc: Global, reader: &mut Reader) -> Result<Call, HeaderError>
         ensures gives { HeaderGives result reader.new (call_read reader.old) }
         ensures stays { OnErr result (reader.new ≡ reader.old) }
@@ -146,8 +146,8 @@ impl Call {
 impl Reply {
     /// Reads the header of a reply: `BadType` where the message's type is neither a call's nor a
     /// reply's, `Xdr` with the first fault where an item could not be read (a call's type is
-    /// `BadValue` at its place), and `Memory`. After an `Err`, want of memory too, the reader is
-    /// where it was.
+    /// `BadValue` at its place), and `Memory`. After an `Err`, running out of memory too, the
+    /// reader is where it was.
     pub fn read(alloc: Global, reader: &mut Reader) -> Result<Reply, HeaderError>
         ensures gives { HeaderGives result reader.new (reply_read reader.old) }
         ensures stays { OnErr result (reader.new ≡ reader.old) }

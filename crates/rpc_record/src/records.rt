@@ -170,7 +170,7 @@ impl Records {
     ///
     /// As soon as all four bytes of a header are there that no record may have, it says why, beside
     /// the records before it; from then on it gives no record, and the same refusal ever after.
-    /// The one error is want of memory: the piece was then not taken.
+    /// The one error is running out of memory: the piece was then not taken.
     pub fn feed(&mut self, alloc: Global, piece: &[u8]) -> Result<Fed, AllocError>
         ensures ok { IfOk result (λ given. fed self.old piece.now ≡ (self.new, given)) }
         ensures err { OnErr result (self.new ≡ self.old) }

@@ -19,7 +19,7 @@ pub struct SendList<T> {
     rest: Items<T>,
 }
 
-/// By hand, so that the crates above prove nothing of how the parts go.
+/// By hand, so that the crates above prove nothing of how the parts are dropped.
 impl<T: Drop> Drop for SendList<T> {
     fn drop(self) {
         let SendList { first, rest } = self;
@@ -77,7 +77,8 @@ impl<T> SendList<T> {
 }
 
 impl<T: Drop> SendList<T> {
-    /// One more message, behind the others. The one error is want of memory, and changes nothing.
+    /// One more message, behind the others. The one error is running out of memory, and changes
+    /// nothing.
     pub fn push(&mut self, message: T) -> Result<(), AllocError>
         ensures ok { OnOk result (self.new ≡ self.old ++ message ∷ []) }
         ensures err { OnErr result (self.new ≡ self.old) }
@@ -121,7 +122,7 @@ fn add_rest<T: Drop>(alloc: Global, all: &mut Items<T>, rest: Items<T>) -> Resul
     Ok(())
 }
 
-/// The messages of a step go behind those that there are. The one error is want of memory, and some of
+/// The messages of a step go behind those that there are. The one error is running out of memory, and some of
 /// them may be gone then.
 pub fn append<T: Drop>(
     alloc: Global,

@@ -25,7 +25,7 @@ use Rattle.tree_reading.specs.declared.reading.Standing.{Standing}
 use Rattle.file_tree.specs.Step.{created, mkdir_if, remove_if}
 use Rattle.tree_reading.specs.Tree.{Tree, or_stale, file_or}
 use Rattle.tree_reading.specs.declared.call.Changed.{Changed}
-use Rattle.tree_reading.specs.declared.call.Held.{Held}
+use Rattle.tree_reading.specs.declared.call.Reservation.{Reservation}
 use Rattle.tree_reading.specs.declared.entry.Entry.{Entry as TreeEntry}
 use Rattle.tree_calls.specs.Telling.{id_of, or_bad_handle, answer_of, piece, told}
 use Rattle.tree_calls.specs.Changing.{before, with_done, mode_of, created as created_answer, made_directory, removed_directory}
@@ -78,18 +78,18 @@ called_asks s fault session xid nfs.Null = told_as s session xid nfs.NullAnswer 
 called_asks s fault session xid (nfs.Read r) = told_as s session xid (nfs.ReadAnswer (read_answer (node_of s.tree r.handle) r)) (nfs.ReadAnswer (answer_of None (piece s.tree.nodes r))) (ap (λ x. nfs.ReadAnswer x) (read_told s.tree r))
 called_asks s fault session xid m = refl
 
--- the same by what was found of the changes that wait, and by what the tree makes of the call
-called_by : (s new : State) (fault : Bool) (session xid : ℕ) (m : Nfs) (h : Held) (busy : Bool) (t : Tree) (o : Option Outcome) (step : ServerStep)
+-- the same by what was found of the pending changes, and by what the tree makes of the call
+called_by : (s new : State) (fault : Bool) (session xid : ℕ) (m : Nfs) (h : Reservation) (busy : Bool) (t : Tree) (o : Option Outcome) (step : ServerStep)
     → h ≡ held s.waiting → busy ≡ has_waiting s.waiting session → calls_under s.tree h busy fault m ≡ (t, o) → asks (record s { tree = t }) session xid o ≡ (new, step) → called_under s fault session xid (body.Nfs m) ≡ (new, step)
 called_by s new fault session xid m h busy t o step needs has done made =
     called_asks s fault session xid m
-    ∙ ap (λ (x : Held). asks_tree s session xid (calls_under s.tree x (has_waiting s.waiting session) fault m)) (sym needs)
+    ∙ ap (λ (x : Reservation). asks_tree s session xid (calls_under s.tree x (has_waiting s.waiting session) fault m)) (sym needs)
     ∙ ap (λ (b : Bool). asks_tree s session xid (calls_under s.tree h b fault m)) (sym has)
     ∙ ap (λ (p : Tree × Option Outcome). asks_tree s session xid p) done
     ∙ made
 
 -- where the store failed or didn't
-pub served_by : (before after : ℕ) (s new : State) (session xid : ℕ) (m : Nfs) (h : Held) (busy : Bool) (t : Tree) (o : Option Outcome) (step : ServerStep)
+pub served_by : (before after : ℕ) (s new : State) (session xid : ℕ) (m : Nfs) (h : Reservation) (busy : Bool) (t : Tree) (o : Option Outcome) (step : ServerStep)
     → h ≡ held s.waiting → busy ≡ has_waiting s.waiting session → IsCalled before after (λ fault. calls_under s.tree h busy fault m) (t, o) → asks (record s { tree = t }) session xid o ≡ (new, step)
     → IsServed before after (λ fault. called_under s fault session xid (body.Nfs m)) (new, step)
 served_by before after s new session xid m h busy t o step needs has done made =
@@ -111,7 +111,7 @@ same_refused : (fault : Bool) (t : Tree) (s : Status) → stored fault t (t, Err
 same_refused false t s = refl
 same_refused true t s = refl
 
-module _ (t : Tree) (h : Held) (busy fault : Bool) where
+module _ (t : Tree) (h : Reservation) (busy fault : Bool) where
   abbrev Step : Type 0
   Step = Tree × Result Changed Status
 
@@ -175,7 +175,7 @@ quiet_free None q w = w
 quiet_free (Some (Answered d)) q w = w
 quiet_free (Some (Waits a)) q w = q
 
-module _ (t : Tree) (h : Held) where
+module _ (t : Tree) (h : Reservation) where
   free_removing : (dir : ℕ) (name : List ℕ) (busy : Bool) (r : Result Changed Status) → IsWaiting (Some (removing dir name (remove_comes busy r))) → busy ≡ false
   free_removing dir name false r w = refl
   free_removing dir name true (Err s) w = absurd w
@@ -246,7 +246,7 @@ module _ (t : Tree) (h : Held) where
       by false e = absurd (quiet_free (calls_under t h busy fault m).1 (quiet t h busy fault m e) w)
 
 -- the same of what a call came to
-module _ (before after : ℕ) (t t' : Tree) (h : Held) (busy : Bool) (m : Nfs) (o : Option Outcome) (done : IsCalled before after (λ fault. calls_under t h busy fault m) (t', o)) (waits : IsWaiting o) where
+module _ (before after : ℕ) (t t' : Tree) (h : Reservation) (busy : Bool) (m : Nfs) (o : Option Outcome) (done : IsCalled before after (λ fault. calls_under t h busy fault m) (t', o)) (waits : IsWaiting o) where
   it_waits : IsWaiting (calls_under t h busy done.fault m).1
   it_waits = subst IsWaiting (ap (λ (p : Tree × Option Outcome). p.1) (sym done.is)) waits
 
@@ -280,7 +280,7 @@ room_quiet s None b q = tt
 room_quiet s (Some (Answered d)) b q = omega (arith, b.room, ap one_if q.0, ap one_if q.1)
 room_quiet s (Some (Waits a)) b q = absurd q
 
-pub room_for : (before after : ℕ) (s : ServerState) (t t' : Tree) (h : Held) (busy : Bool) (m : Nfs) (o : Option Outcome) → IsBounded s → (enters t h busy m ≡ true → HasRoom s) → IsCalled before after (λ fault. calls_under t h busy fault m) (t', o) → RoomFor s o
+pub room_for : (before after : ℕ) (s : ServerState) (t t' : Tree) (h : Reservation) (busy : Bool) (m : Nfs) (o : Option Outcome) → IsBounded s → (enters t h busy m ≡ true → HasRoom s) → IsCalled before after (λ fault. calls_under t h busy fault m) (t', o) → RoomFor s o
 room_for before after s t t' h busy m o bounded room done = by (enters t h busy m) refl
   where
     by : (b : Bool) → enters t h busy m ≡ b → RoomFor s o

@@ -13,10 +13,10 @@ use Rattle.temp_files.specs.Temps.{Temp, Temps, temp_at, without_temp, assembled
 use Rattle.server_core.specs.declared.event.ServerStep.{ServerStep}
 use Rattle.chunk_calls.specs.Answers.{Node, directory, file, node_of, target_in}
 use Rattle.server_core.specs.Asking.{commit_target, admits}
-use Rattle.server_core.specs.Closing.{answers, has_waiting, is_full, commits_whole, commits_to, commits}
+use Rattle.server_core.specs.Closing.{answers, has_waiting, is_full, commits_whole, takes_commit_on, takes_commit}
 use Rattle.server_core.specs.Recalling.{comes}
 use Rattle.server_core.specs.Steps.{to}
-use Rattle.server_core.specs.State.{State, Change, change_of, size_wanted, waiting_size}
+use Rattle.server_core.specs.State.{State, FileChange, change_of, size_wanted, waiting_size}
 use Rattle.server_core.specs.declared.change.Wanted.TheVariants as wanted
 use Rattle.temp_files.proofs.Joins.{joined_size}
 
@@ -34,7 +34,7 @@ whole_size t size content is = omega (arith, joined_size 0 size t.pieces content
 
 -- whether it can be done doesn't rest on the temporary files
 commits_as : (s : State) (left : Temps) (session xid size : ℕ) (t : Temp) (n : Result Node Status)
-    → commits_to (record s { temps = left }) session xid size t n ≡ ends_by (record s { temps = left }) session xid (commit_target s session size t (target_in n)) (assembled t size)
+    → takes_commit_on (record s { temps = left }) session xid size t n ≡ ends_by (record s { temps = left }) session xid (commit_target s session size t (target_in n)) (assembled t size)
 commits_as s left session xid size t (Err e) = refl
 commits_as s left session xid size t (Ok directory) = refl
 commits_as s left session xid size t (Ok (file f)) = by (nat_lt size_most size) (assembled t size) refl
@@ -67,10 +67,10 @@ commits_as s left session xid size t (Ok (file f)) = by (nat_lt size_most size) 
 pub commit_refused : (s : State) (session xid : ℕ) (a : Commit) (t : Temp) (e : Status) (temps : Temps) (o : ServerStep)
     → temp_at s.temps session a.fd ≡ Some t → commit_target s session a.size t (target_in (node_of s.tree a.handle)) ≡ Err e
     → temps ≡ without_temp s.temps session a.fd → o ≡ to session (message.Answer xid (body.Lb (lb.CommitTmpAnswer (Failed e tt))))
-    → commits s session xid a (temp_at s.temps session a.fd) ≡ (record s { temps = temps }, o)
+    → takes_commit s session xid a (temp_at s.temps session a.fd) ≡ (record s { temps = temps }, o)
 commit_refused s session xid a t e temps o at target ended said =
     let left : Temps = without_temp s.temps session a.fd in
-    ap (λ (x : Option Temp). commits s session xid a x) at
+    ap (λ (x : Option Temp). takes_commit s session xid a x) at
     ∙ commits_as s left session xid a.size t (node_of s.tree a.handle)
     ∙ ap (λ (x : Result ℕ Status). ends_by (record s { temps = left }) session xid x (assembled t a.size)) target
     ∙ ap (λ (l : Temps). (record s { temps = l }, to session (message.Answer xid (body.Lb (lb.CommitTmpAnswer (Failed e tt)))))) (sym ended)
@@ -80,10 +80,10 @@ commit_refused s session xid a t e temps o at target ended said =
 pub commit_taken : (s n : State) (session xid id : ℕ) (a : Commit) (t : Temp) (content : List ℕ) (o : ServerStep)
     → temp_at s.temps session a.fd ≡ Some t → commit_target s session a.size t (target_in (node_of s.tree a.handle)) ≡ Ok id
     → Some content ≡ assembled t a.size → admits s session xid id a.fd content ≡ (n, o)
-    → commits s session xid a (temp_at s.temps session a.fd) ≡ (n, o)
+    → takes_commit s session xid a (temp_at s.temps session a.fd) ≡ (n, o)
 commit_taken s n session xid id a t content o at target whole waits =
     let left : Temps = without_temp s.temps session a.fd in
-    ap (λ (x : Option Temp). commits s session xid a x) at
+    ap (λ (x : Option Temp). takes_commit s session xid a x) at
     ∙ commits_as s left session xid a.size t (node_of s.tree a.handle)
     ∙ ap (λ (x : Result ℕ Status). ends_by (record s { temps = left }) session xid x (assembled t a.size)) target
     ∙ ap (λ (x : Option (List ℕ)). ends_by (record s { temps = left }) session xid (Ok id) x) (sym whole)
@@ -116,6 +116,6 @@ target_fits s session size t (Ok n) id h = by (nat_lt size_most size) (is_some (
 
 -- ---- the bytes that wait
 
-pub waiting_size_more : (ws : List Change) (c : Change) → waiting_size (ws ++ c ∷ []) ≡ waiting_size ws + size_wanted c.what
+pub waiting_size_more : (ws : List FileChange) (c : FileChange) → waiting_size (ws ++ c ∷ []) ≡ waiting_size ws + size_wanted c.what
 waiting_size_more [] c = search arith
 waiting_size_more (w ∷ ws) c = omega (arith, waiting_size_more ws c)

@@ -16,13 +16,13 @@ use Rattle.chunk_calls.specs.Answers.{Node, directory, file as a_file, node_of, 
 use Rattle.lease_rules.specs.declared.lease.Lease.{Lease}
 use Rattle.server_core.specs.Leasing.{with_granted_on}
 use Rattle.server_core.specs.Recalling.{file_in, term_on, leased_file}
-use Rattle.chunk_calls.specs.Calling.{Called, calls, commits, Takes, index_left, chunks_entered, LeavesPlaces}
+use Rattle.chunk_calls.specs.Calling.{Called, calls, is_committmp, Takes, index_left, chunks_entered, LeavesPlaces}
 use Rattle.chunk_calls.specs.Entering.{IsLacking}
 use Rattle.chunk_calls.specs.Writing.{made, made_unless, wrote_unless, named_unless, named_bytes, cond_fault, bytes_known}
 use Rattle.server_core.specs.declared.event.ServerStep.{ServerStep}
 use Rattle.server_core.specs.Closing.{makes, makes_unless, writes_unless, names_unless, names_bytes}
 use Rattle.server_core.specs.Steps.{to, told_if}
-use Rattle.server_core.specs.State.{State, Change}
+use Rattle.server_core.specs.State.{State, FileChange}
 use Rattle.server_core.specs.Step.{called, chunks_called, missed_call, TakesMemory, Lacks}
 
 -- what is left, where the session is granted a lease on this file, if on any
@@ -73,7 +73,7 @@ module _ (s : State) (session xid : ℕ) where
   names_agree a t (Some e) = refl
   names_agree a t None = bytes_agree a t (bytes_known s.tree a (place_of s.index.pairs (key_of a.digest))) (found s.index (key_of a.digest))
 
-  pub called_agrees : (m : Lb) → commits m ≡ false → Agrees s session xid m
+  pub called_agrees : (m : Lb) → is_committmp m ≡ false → Agrees s session xid m
   called_agrees (lb.CommitTmp a) other = absurd (true≢false other)
   called_agrees (lb.MkTmpFile a) other = makes_agree a.fd (node_of s.tree a.handle)
   called_agrees (lb.TmpWrite a) other = writes_agree a (temp_at s.temps session a.fd) (piece_fault (temp_at s.temps session a.fd) a.offset (length a.bytes))
@@ -86,14 +86,14 @@ module _ (s : State) (session xid : ℕ) where
 
   -- ---- what it is, by what the call came to
 
-  module _ (m : Lb) (file : Option ℕ) (term : ℕ) (named : file ≡ leased_file s.tree m) (lasts : term ≡ term_on s file) (other : commits m ≡ false) where
+  module _ (m : Lb) (file : Option ℕ) (term : ℕ) (named : file ≡ leased_file s.tree m) (lasts : term ≡ term_on s file) (other : is_committmp m ≡ false) where
     pub called_by : called s session xid (body.Lb m) ≡ called_with s session xid file term m
     called_by =
         called_agrees m other
         ∙ ap (λ (f : Option ℕ). called_with s session xid f (term_on s f) m) (sym named)
         ∙ ap (λ (t : ℕ). called_with s session xid file t m) (sym lasts)
 
-    module _ (temps : Temps) (index : Indexed) (waiting : List Change) (leases : List Lease) (told : Option Lb) (left : Bool) (o : ServerStep)
+    module _ (temps : Temps) (index : Indexed) (waiting : List FileChange) (leases : List Lease) (told : Option Lb) (left : Bool) (o : ServerStep)
         (waits : waiting ≡ s.waiting) (granted : leases ≡ leases_then s session file term) (said : o ≡ told_if session xid told) where
       abbrev after : State
       after = record s { temps = temps; index = index; waiting = waiting; leasing = record s.leasing { leases = leases } }
@@ -102,7 +102,7 @@ module _ (s : State) (session xid : ℕ) where
       after_is : left_by s (leases_then s session file term) (record { temps = temps; index = index; answer = told }) ≡ after
       after_is =
           ap (λ (l : List Lease). left_by s l (record { temps = temps; index = index; answer = told })) (sym granted)
-          ∙ ap (λ (l : List Change). record s { temps = temps; index = index; waiting = l; leasing = record s.leasing { leases = leases } }) (sym waits)
+          ∙ ap (λ (l : List FileChange). record s { temps = temps; index = index; waiting = l; leasing = record s.leasing { leases = leases } }) (sym waits)
 
       pub called_is : (left ≡ false → comes_to s session term m ≡ record { temps = temps; index = index; answer = told }) → left ≡ false → called s session xid (body.Lb m) ≡ (after, record o { missed = left })
       called_is is whole =
@@ -131,7 +131,7 @@ module _ (s : State) (session xid : ℕ) where
                 ∙ ap (λ (c : Called). record (told_if session xid c.answer) { missed = true }) (leaves some).1,
           )
 
-  -- ---- want of memory
+  -- ---- running out of memory
 
   pub takes_memory : (m : Lb) → Takes s.tree s.temps s.index session m → TakesMemory s session (body.Lb m)
   takes_memory (lb.GetHash r) t = t
@@ -162,13 +162,13 @@ module _ (s : State) (session xid : ℕ) where
   pub place_takes : (m : Lb) (file : Option ℕ) (term : ℕ) → file ≡ leased_file s.tree m → term ≡ term_on s file → (term == 0) ≡ false → TakesMemory s session (body.Lb m)
   place_takes m file term named lasts some = lease_takes m (leased_some m file term named lasts some)
 
-  abbrev state_with : List Change → List Lease → State
+  abbrev state_with : List FileChange → List Lease → State
   state_with waiting leases = record s { waiting = waiting; leasing = record s.leasing { leases = leases } }
 
-  pub place_missed : (m : Lb) (file : Option ℕ) (term : ℕ) (waiting : List Change) (leases : List Lease) → file ≡ leased_file s.tree m → term ≡ term_on s file → (term == 0) ≡ false → waiting ≡ s.waiting → leases ≡ s.leasing.leases
+  pub place_missed : (m : Lb) (file : Option ℕ) (term : ℕ) (waiting : List FileChange) (leases : List Lease) → file ≡ leased_file s.tree m → term ≡ term_on s file → (term == 0) ≡ false → waiting ≡ s.waiting → leases ≡ s.leasing.leases
       → state_with waiting leases ≡ missed_call s (body.Lb m)
   place_missed m file term waiting leases named lasts some waits same =
-      ap (λ (l : List Change). state_with l leases) waits
+      ap (λ (l : List FileChange). state_with l leases) waits
       ∙ ap (λ (l : List Lease). state_with s.waiting l) same
       ∙ lease_misses m (leased_some m file term named lasts some)
 
@@ -176,11 +176,11 @@ module _ (s : State) (session xid : ℕ) where
   missed_agrees (lb.CondWrite a) = refl
   missed_agrees m = refl
 
-  pub missed_is : (m : Lb) (temps : Temps) (index : Indexed) (waiting : List Change) (leases : List Lease) → temps ≡ s.temps → index ≡ index_left s.index m → waiting ≡ s.waiting → leases ≡ s.leasing.leases
+  pub missed_is : (m : Lb) (temps : Temps) (index : Indexed) (waiting : List FileChange) (leases : List Lease) → temps ≡ s.temps → index ≡ index_left s.index m → waiting ≡ s.waiting → leases ≡ s.leasing.leases
       → record s { temps = temps; index = index; waiting = waiting; leasing = record s.leasing { leases = leases } } ≡ missed_call s (body.Lb m)
   missed_is m temps index waiting leases same left waits stand =
       ap (λ (l : Temps). record s { temps = l; index = index; waiting = waiting; leasing = record s.leasing { leases = leases } }) same
-      ∙ ap (λ (l : List Change). record s { index = index; waiting = l; leasing = record s.leasing { leases = leases } }) waits
+      ∙ ap (λ (l : List FileChange). record s { index = index; waiting = l; leasing = record s.leasing { leases = leases } }) waits
       ∙ ap (λ (l : List Lease). record s { index = index; leasing = record s.leasing { leases = l } }) stand
       ∙ ap (λ (i : Indexed). record s { index = i }) left
       ∙ missed_agrees m

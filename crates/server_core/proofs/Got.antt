@@ -18,10 +18,10 @@ use Rattle.tree_reading.specs.Plans.{replace_plan, spared, spared_bytes, within_
 use Rattle.file_tree.specs.Step.{replaced, replace_if}
 use Rattle.tree_reading.specs.Tree.{Tree, contents_size, or_stale, file_or}
 use Rattle.tree_reading.specs.declared.call.Changed.{Changed}
-use Rattle.tree_reading.specs.declared.call.Held.{Held}
+use Rattle.tree_reading.specs.declared.call.Reservation.{Reservation}
 use Rattle.file_tree.specs.Stores.{stored}
 use Rattle.tree_calls.specs.Calling.{IsCalled}
-use Rattle.tree_calls.specs.Waiting.{with_committed, commits_under}
+use Rattle.tree_calls.specs.Waiting.{with_committed, gives_content_under}
 use Rattle.tree_calls.specs.declared.asked.Committing.{Committing}
 use Rattle.chunk_calls.specs.Files.{file_of_node, file_at, chunks_at}
 
@@ -44,17 +44,17 @@ there_then t id version content n at =
     own : (i : ℕ) → (i == i) ≡ true
     own i = grind (arith, nat_tests)
 
-abbrev planned : Tree → Held → ℕ → Option Node → Result ℕ Status
+abbrev planned : Tree → Reservation → ℕ → Option Node → Result ℕ Status
 planned t h len o = (or_stale o >>= file_or status.IsDir >>= λ (n : Node). within_file len >>= λ _. spared t.changes h 1 >>= λ _. spared_bytes (contents_size t.nodes) h len >>= λ _. Ok n) >>= λ (n : Node). Ok (n.version + 1)
 
-replaced_then : (t : Tree) (h : Held) (id version : ℕ) (content : List ℕ) (len : ℕ) → replace_plan t h id len ≡ Ok version → chunks_at id (file_at (replaced t id version content) id) ≡ Some (id, chunks_of content)
+replaced_then : (t : Tree) (h : Reservation) (id version : ℕ) (content : List ℕ) (len : ℕ) → replace_plan t h id len ≡ Ok version → chunks_at id (file_at (replaced t id version content) id) ≡ Some (id, chunks_of content)
 replaced_then t h id version content len plan = by (with_id t.nodes id) refl plan
   where
     by : (o : Option Node) → with_id t.nodes id ≡ o → planned t h len o ≡ Ok version → chunks_at id (file_at (replaced t id version content) id) ≡ Some (id, chunks_of content)
     by None at e = absurd cc
     by (Some n) at e = there_then t id version content n at
 
-module _ (t : Tree) (h : Held) (id : ℕ) (content : List ℕ) (term : ℕ) (t' : Tree) (d : Committing) where
+module _ (t : Tree) (h : Reservation) (id : ℕ) (content : List ℕ) (term : ℕ) (t' : Tree) (d : Committing) where
   abbrev committed_as : Tree × Result Changed Status → Type 0
   committed_as p = with_committed term p ≡ (t', d)
 
@@ -76,7 +76,7 @@ module _ (t : Tree) (h : Held) (id : ℕ) (content : List ℕ) (term : ℕ) (t' 
       by_changes false k = absurd (subst (λ (q : Tree × Committing). IsDone q.1.answer) (sym k) done)
 
 -- of a commit that was done the index gets the places of the content
-pub got_places : (before after : ℕ) (t : Tree) (h : Held) (id : ℕ) (content : List ℕ) (term : ℕ) (t' : Tree) (d : Committing) (a : Committed) → IsCalled before after (λ fault. commits_under t h fault id content term) (t', d) → d.answer ≡ answer.Done a
+pub got_places : (before after : ℕ) (t : Tree) (h : Reservation) (id : ℕ) (content : List ℕ) (term : ℕ) (t' : Tree) (d : Committing) (a : Committed) → IsCalled before after (λ fault. gives_content_under t h fault id content term) (t', d) → d.answer ≡ answer.Done a
     → chunks_at id (file_at t' id) ≡ Some (id, chunks_of content)
 got_places before after t h id content term t' d a called is =
     by_fault t h id content term t' d called.fault (replace_plan t h id (length content)) refl called.is (subst IsDone (sym is) tt)

@@ -1,4 +1,4 @@
--- What a step does that met want of memory, or did not: of a GETHASH and a change that is made, whose chunks enter the index; and event by event.
+-- What a step does that met running out of memory, or did not: of a GETHASH and a change that is made, whose chunks enter the index; and event by event.
 use Rattle.std.proofs.Common.{◌≡◌, refl, sym, ap, ◌∙◌, subst, ℕ, List, [], ◌++◌, Option, Some, None, Bool, true, false, inl, inr}
 use Rattle.std.specs.Prelude.{Result, Ok, Err, ◌==◌, if◌then◌else◌, max}
 use Rattle.chunk_index.specs.Index.{Indexed}
@@ -15,10 +15,10 @@ use Rattle.server_core.specs.declared.event.ServerStep.{ServerStep}
 use Rattle.tree_reading.specs.Tree.{Tree}
 use Rattle.file_tree.specs.Step.{replace}
 use Rattle.tree_reading.specs.declared.call.Changed.{Changed}
-use Rattle.tree_reading.specs.declared.call.Held.{Held}
+use Rattle.tree_reading.specs.declared.call.Reservation.{Reservation}
 use Rattle.file_tree.specs.Stores.{stored}
 use Rattle.tree_calls.specs.Calling.{IsCalled}
-use Rattle.tree_calls.specs.Waiting.{with_committed, commits as tree_commits, commits_under as tree_commits_under, settles_under as tree_settles_under}
+use Rattle.tree_calls.specs.Waiting.{with_committed, gives_content as gives_content, gives_content_under, settles_under as tree_settles_under}
 use Rattle.tree_calls.specs.declared.asked.Asked.{Asked}
 use Rattle.tree_calls.specs.declared.asked.Committing.{Committing}
 use Rattle.tree_calls.specs.declared.asked.Done.{Done}
@@ -27,7 +27,7 @@ use Rattle.server_core.specs.declared.change.Wanted.TheVariants as wanted
 use Rattle.server_core.specs.declared.journal.Entry.{Entry}
 use Rattle.server_core.specs.Closing.{at, entries_by, count_of, index_with, leases_done, committed_by, settled_by, told_change, makes_change, makes_change_under, ready_by, settles, settles_by, settles_under}
 use Rattle.server_core.specs.Served.{IsServed}
-use Rattle.server_core.specs.State.{State, Change, held}
+use Rattle.server_core.specs.State.{State, FileChange, held}
 use Rattle.server_core.specs.Recalling.{term_at}
 use Rattle.chunk_calls.specs.Entering.{IsLacking}
 use Rattle.chunk_cut.specs.declared.chunk.Chunk.{Chunk}
@@ -46,16 +46,16 @@ abbrev committed_body : Committing → Body
 committed_body d = body.Lb (lb.CommitTmpAnswer d.answer)
 
 -- the leases that stand then
-abbrev leases_then : State → Change → Committing → List Lease
+abbrev leases_then : State → FileChange → Committing → List Lease
 leases_then s c d = leases_done s.leasing.leases s.leasing.moment c.session c.file d.answer
 
-committed_by_all : (s : State) (fault : Bool) (c : Change) (content : List ℕ) (h : Held) (term : ℕ) (t : Tree) (d : Committing) (journal : List Entry) (index : Indexed) (leases : List Lease) (entries : ℕ) (left : Bool) (o : ServerStep)
-    → h ≡ held s.waiting → term ≡ term_at s c.file → tree_commits_under s.tree h fault c.file content term ≡ (t, d) → journal ≡ s.journal ++ entries_by c.session d.entry None → index ≡ index_with s.index c.file content d.answer
+committed_by_all : (s : State) (fault : Bool) (c : FileChange) (content : List ℕ) (h : Reservation) (term : ℕ) (t : Tree) (d : Committing) (journal : List Entry) (index : Indexed) (leases : List Lease) (entries : ℕ) (left : Bool) (o : ServerStep)
+    → h ≡ held s.waiting → term ≡ term_at s c.file → gives_content_under s.tree h fault c.file content term ≡ (t, d) → journal ≡ s.journal ++ entries_by c.session d.entry None → index ≡ index_with s.index c.file content d.answer
     → leases ≡ leases_then s c d → entries ≡ count_of d.entry None → o ≡ told_change c entries (body.Lb (lb.CommitTmpAnswer d.answer)) → left ≡ false
     → makes_change_under s fault c (wanted.Content content) ≡ (committed_state s t journal index leases, record o { missed = left })
 committed_by_all s fault c content h term t d journal index leases entries left o needs lasts done entered places granted counts said none =
-    ap (λ (x : Held). committed_by s c content (tree_commits_under s.tree x fault c.file content (term_at s c.file))) (sym needs)
-    ∙ ap (λ (x : ℕ). committed_by s c content (tree_commits_under s.tree h fault c.file content x)) (sym lasts)
+    ap (λ (x : Reservation). committed_by s c content (gives_content_under s.tree x fault c.file content (term_at s c.file))) (sym needs)
+    ∙ ap (λ (x : ℕ). committed_by s c content (gives_content_under s.tree h fault c.file content x)) (sym lasts)
     ∙ ap (λ (p : Tree × Committing). committed_by s c content p) done
     ∙ ap (λ (l : List Entry). (committed_state s t l (index_with s.index c.file content d.answer) (leases_then s c d), told_change c (count_of d.entry None) (committed_body d))) (sym entered)
     ∙ ap (λ (i : Indexed). (committed_state s t journal i (leases_then s c d), told_change c (count_of d.entry None) (committed_body d))) (sym places)
@@ -64,16 +64,16 @@ committed_by_all s fault c content h term t d journal index leases entries left 
     ∙ ap (λ (x : ServerStep). (committed_state s t journal index leases, record x { missed = false })) (sym said)
     ∙ ap (λ (b : Bool). (committed_state s t journal index leases, record o { missed = b })) (sym none)
 
-pub committed_all : (before after : ℕ) (s : State) (c : Change) (content : List ℕ) (h : Held) (term : ℕ) (t : Tree) (d : Committing) (journal : List Entry) (index : Indexed) (leases : List Lease) (entries : ℕ) (left : Bool) (o : ServerStep)
-    → h ≡ held s.waiting → term ≡ term_at s c.file → IsCalled before after (λ fault. tree_commits_under s.tree h fault c.file content term) (t, d) → journal ≡ s.journal ++ entries_by c.session d.entry None → index ≡ index_with s.index c.file content d.answer
+pub committed_all : (before after : ℕ) (s : State) (c : FileChange) (content : List ℕ) (h : Reservation) (term : ℕ) (t : Tree) (d : Committing) (journal : List Entry) (index : Indexed) (leases : List Lease) (entries : ℕ) (left : Bool) (o : ServerStep)
+    → h ≡ held s.waiting → term ≡ term_at s c.file → IsCalled before after (λ fault. gives_content_under s.tree h fault c.file content term) (t, d) → journal ≡ s.journal ++ entries_by c.session d.entry None → index ≡ index_with s.index c.file content d.answer
     → leases ≡ leases_then s c d → entries ≡ count_of d.entry None → o ≡ told_change c entries (body.Lb (lb.CommitTmpAnswer d.answer)) → left ≡ false
     → IsServed before after (λ fault. makes_change_under s fault c (wanted.Content content)) (committed_state s t journal index leases, record o { missed = left })
 committed_all before after s c content h term t d journal index leases entries left o needs lasts done entered places granted counts said none =
     record { fault = done.fault; cause = done.cause; is = committed_by_all s done.fault c content h term t d journal index leases entries left o needs lasts done.is entered places granted counts said none }
 
 -- places are left out only where the content was got, and then the store didn't fail
-got_unfailed : (fault : Bool) (s : State) (h : Held) (id term : ℕ) (content : List ℕ) (t : Tree) (d : Committing) (index new : Indexed) → tree_commits_under s.tree h fault id content term ≡ (t, d) → IsLacking index (chunks_got id content d.answer) new
-    → tree_commits s.tree h id content term ≡ (t, d)
+got_unfailed : (fault : Bool) (s : State) (h : Reservation) (id term : ℕ) (content : List ℕ) (t : Tree) (d : Committing) (index new : Indexed) → gives_content_under s.tree h fault id content term ≡ (t, d) → IsLacking index (chunks_got id content d.answer) new
+    → gives_content s.tree h id content term ≡ (t, d)
 got_unfailed false s h id term content t d index new done lack = done
 got_unfailed true s h id term content t d index new done lack = by (replace s.tree h id content) done
   where
@@ -85,14 +85,14 @@ got_unfailed true s h id term content t d index new done lack = by (replace s.tr
         by_changes true k = k
         by_changes false k = absurd (subst (λ (q : Tree × Committing). IsLacking index (chunks_got id content q.1.answer) new) (sym k) lack)
 
-pub committed_some : (before after : ℕ) (s : State) (c : Change) (content : List ℕ) (h : Held) (term : ℕ) (t : Tree) (d : Committing) (journal : List Entry) (index : Indexed) (leases : List Lease) (entries : ℕ) (left : Bool) (o : ServerStep)
-    → h ≡ held s.waiting → term ≡ term_at s c.file → IsCalled before after (λ fault. tree_commits_under s.tree h fault c.file content term) (t, d) → journal ≡ s.journal ++ entries_by c.session d.entry None → IsLacking s.index (chunks_got c.file content d.answer) index
+pub committed_some : (before after : ℕ) (s : State) (c : FileChange) (content : List ℕ) (h : Reservation) (term : ℕ) (t : Tree) (d : Committing) (journal : List Entry) (index : Indexed) (leases : List Lease) (entries : ℕ) (left : Bool) (o : ServerStep)
+    → h ≡ held s.waiting → term ≡ term_at s c.file → IsCalled before after (λ fault. gives_content_under s.tree h fault c.file content term) (t, d) → journal ≡ s.journal ++ entries_by c.session d.entry None → IsLacking s.index (chunks_got c.file content d.answer) index
     → leases ≡ leases_then s c d → entries ≡ count_of d.entry None → o ≡ told_change c entries (body.Lb (lb.CommitTmpAnswer d.answer)) → left ≡ true
     → Lacks s.index (change_entered s c (wanted.Content content)) (makes_change s c (wanted.Content content)) (committed_state s t journal index leases) (record o { missed = left })
 committed_some before after s c content h term t d journal index leases entries left o needs lasts called entered lack granted counts said some =
     let done = got_unfailed called.fault s h c.file term content t d s.index index called.is lack in
     subst (λ (p : Tree × Committing). Lacks s.index (chunks_got c.file content p.1.answer) (committed_by s c content p) (committed_state s t journal index leases) (record o { missed = left }))
-    (sym (ap (λ (x : Held). tree_commits s.tree x c.file content (term_at s c.file)) (sym needs) ∙ ap (λ (x : ℕ). tree_commits s.tree h c.file content x) (sym lasts) ∙ done)) (
+    (sym (ap (λ (x : Reservation). gives_content s.tree x c.file content (term_at s c.file)) (sym needs) ∙ ap (λ (x : ℕ). gives_content s.tree h c.file content x) (sym lasts) ∙ done)) (
       index,
       lack,
       ap (λ (l : List Entry). committed_state s t l index leases) entered
@@ -103,17 +103,17 @@ committed_some before after s c content h term t d journal index leases entries 
     )
 
 -- a REMOVE or RENAME
-settled_by_all : (s : State) (fault : Bool) (c : Change) (a : Asked) (h : Held) (t : Tree) (d : Done) (journal : List Entry) (entries : ℕ) (o : ServerStep)
+settled_by_all : (s : State) (fault : Bool) (c : FileChange) (a : Asked) (h : Reservation) (t : Tree) (d : Done) (journal : List Entry) (entries : ℕ) (o : ServerStep)
     → h ≡ held s.waiting → tree_settles_under s.tree h fault a ≡ (t, d) → journal ≡ s.journal ++ entries_by c.session d.first d.second → entries ≡ count_of d.first d.second
     → o ≡ told_change c entries (body.Nfs d.answer) → makes_change_under s fault c (wanted.Asked a) ≡ (record s { tree = t; journal = journal }, o)
 settled_by_all s fault c a h t d journal entries o needs done entered counts said =
-    ap (λ (x : Held). settled_by s c (tree_settles_under s.tree x fault a)) (sym needs)
+    ap (λ (x : Reservation). settled_by s c (tree_settles_under s.tree x fault a)) (sym needs)
     ∙ ap (λ (p : Tree × Done). settled_by s c p) done
     ∙ ap (λ (l : List Entry). (record s { tree = t; journal = l }, told_change c (count_of d.first d.second) (body.Nfs d.answer))) (sym entered)
     ∙ ap (λ (n : ℕ). (record s { tree = t; journal = journal }, told_change c n (body.Nfs d.answer))) (sym counts)
     ∙ ap (λ (x : ServerStep). (record s { tree = t; journal = journal }, x)) (sym said)
 
-pub settled_all : (before after : ℕ) (s : State) (c : Change) (a : Asked) (h : Held) (t : Tree) (d : Done) (journal : List Entry) (entries : ℕ) (o : ServerStep)
+pub settled_all : (before after : ℕ) (s : State) (c : FileChange) (a : Asked) (h : Reservation) (t : Tree) (d : Done) (journal : List Entry) (entries : ℕ) (o : ServerStep)
     → h ≡ held s.waiting → IsCalled before after (λ fault. tree_settles_under s.tree h fault a) (t, d) → journal ≡ s.journal ++ entries_by c.session d.first d.second → entries ≡ count_of d.first d.second
     → o ≡ told_change c entries (body.Nfs d.answer) → IsServed before after (λ fault. makes_change_under s fault c (wanted.Asked a)) (record s { tree = t; journal = journal }, o)
 settled_all before after s c a h t d journal entries o needs done entered counts said =
@@ -122,30 +122,30 @@ settled_all before after s c a h t d journal entries o needs done entered counts
 -- ---- the change that is made next
 
 -- what is left where it has left the queue
-abbrev left_by : State → (waiting : List Change) → (leases : List Lease) → (moment : ℕ) → State
+abbrev left_by : State → (waiting : List FileChange) → (leases : List Lease) → (moment : ℕ) → State
 left_by s waiting leases moment = record s { waiting = waiting; leasing = record s.leasing { leases = leases; moment = moment } }
 
-left_is : (s : State) (now moment : ℕ) (c : Change) (rest : List Change) (leases : List Lease) → rest ≡ without s.waiting c.session → leases ≡ s.leasing.leases → moment ≡ max s.leasing.moment now → left_by s rest leases moment ≡ at (record s { waiting = without s.waiting c.session }) now
+left_is : (s : State) (now moment : ℕ) (c : FileChange) (rest : List FileChange) (leases : List Lease) → rest ≡ without s.waiting c.session → leases ≡ s.leasing.leases → moment ≡ max s.leasing.moment now → left_by s rest leases moment ≡ at (record s { waiting = without s.waiting c.session }) now
 left_is s now moment c rest leases others same later =
-    ap (λ (l : List Change). left_by s l leases moment) others
+    ap (λ (l : List FileChange). left_by s l leases moment) others
     ∙ ap (λ (l : List Lease). left_by s (without s.waiting c.session) l moment) same
     ∙ ap (λ (m : ℕ). left_by s (without s.waiting c.session) s.leasing.leases m) later
 
-pub settles_all : (before after : ℕ) (s new : State) (now moment : ℕ) (c : Change) (rest : List Change) (leases : List Lease) (o : ServerStep) → ready_by s now ≡ Some c → rest ≡ without s.waiting c.session → leases ≡ s.leasing.leases → moment ≡ max s.leasing.moment now
+pub settles_all : (before after : ℕ) (s new : State) (now moment : ℕ) (c : FileChange) (rest : List FileChange) (leases : List Lease) (o : ServerStep) → ready_by s now ≡ Some c → rest ≡ without s.waiting c.session → leases ≡ s.leasing.leases → moment ≡ max s.leasing.moment now
     → IsServed before after (λ fault. makes_change_under (left_by s rest leases moment) fault c c.what) (new, o) → IsServed before after (λ fault. settles_under s fault now) (new, o)
 settles_all before after s new now moment c rest leases o next others same later made = record {
   fault = made.fault;
   cause = made.cause;
-  is = ap (λ (r : Option Change). settles_by s made.fault now r) next
+  is = ap (λ (r : Option FileChange). settles_by s made.fault now r) next
       ∙ ap (λ (t : State). makes_change_under t made.fault c c.what) (sym (left_is s now moment c rest leases others same later))
       ∙ made.is;
 }
 
-pub settles_some : (s new : State) (now moment : ℕ) (c : Change) (rest : List Change) (leases : List Lease) (o : ServerStep) → ready_by s now ≡ Some c → rest ≡ without s.waiting c.session → leases ≡ s.leasing.leases → moment ≡ max s.leasing.moment now
+pub settles_some : (s new : State) (now moment : ℕ) (c : FileChange) (rest : List FileChange) (leases : List Lease) (o : ServerStep) → ready_by s now ≡ Some c → rest ≡ without s.waiting c.session → leases ≡ s.leasing.leases → moment ≡ max s.leasing.moment now
     → Lacks s.index (change_entered (left_by s rest leases moment) c c.what) (makes_change (left_by s rest leases moment) c c.what) new o
     → Lacks s.index (chunks_of_change s (ready_by s now)) (settles s now) new o
 settles_some s new now moment c rest leases o next others same later made =
-    subst (λ (r : Option Change). Lacks s.index (chunks_of_change s r) (settles_by s false now r) new o) (sym next)
+    subst (λ (r : Option FileChange). Lacks s.index (chunks_of_change s r) (settles_by s false now r) new o) (sym next)
     (subst (λ (e : Option (ℕ × List Chunk)). Lacks s.index e (makes_change (at (record s { waiting = without s.waiting c.session }) now) c c.what) new o) (entered c.what)
     (subst (λ (t : State). Lacks s.index (change_entered t c c.what) (makes_change t c c.what) new o) (left_is s now moment c rest leases others same later) made))
   where
@@ -155,14 +155,14 @@ settles_some s new now moment c rest leases o next others same later made =
     entered (wanted.Asked a) = refl
 
 -- where there is none
-pub settles_none : (before after : ℕ) (s : State) (now : ℕ) (rest : List Change) (leases : List Lease) (o : ServerStep) → ready_by s now ≡ None → rest ≡ s.waiting → leases ≡ s.leasing.leases → o ≡ record { send = []; told = told.NotReady; entries = 0; missed = false }
+pub settles_none : (before after : ℕ) (s : State) (now : ℕ) (rest : List FileChange) (leases : List Lease) (o : ServerStep) → ready_by s now ≡ None → rest ≡ s.waiting → leases ≡ s.leasing.leases → o ≡ record { send = []; told = told.NotReady; entries = 0; missed = false }
     → IsServed before after (λ fault. settles_under s fault now) (left_by s rest leases s.leasing.moment, o)
 settles_none before after s now rest leases o next all same said = record {
   fault = false;
   cause = tt;
-  is = ap (λ (r : Option Change). settles_by s false now r) next
+  is = ap (λ (r : Option FileChange). settles_by s false now r) next
       ∙ ap (λ (x : ServerStep). (s, x)) (sym said)
-      ∙ ap (λ (l : List Change). (left_by s l s.leasing.leases s.leasing.moment, o)) (sym all)
+      ∙ ap (λ (l : List FileChange). (left_by s l s.leasing.leases s.leasing.moment, o)) (sym all)
       ∙ ap (λ (l : List Lease). (left_by s rest l s.leasing.moment, o)) (sym same);
 }
 

@@ -32,16 +32,16 @@ use Rattle.lease_rules.specs.declared.lease.Lease.{Lease}
 use Rattle.server_core.specs.Leasing.{later, with_granted, ready_at}
 use Rattle.server_core.specs.Steps.{to}
 use Rattle.server_core.specs.Recalling.{term_at, comes}
-use Rattle.server_core.specs.State.{State, Change, change_of, held, entries_held, bytes_held}
+use Rattle.server_core.specs.State.{State, FileChange, change_of, held, entries_held, bytes_held}
 use Rattle.tree_reading.specs.Tree.{Tree}
 use Rattle.tree_reading.specs.declared.entry.Entry.{Entry as TreeEntry}
-use Rattle.tree_calls.specs.Waiting.{commits_under as tree_commits_under, settles_under as tree_settles_under}
+use Rattle.tree_calls.specs.Waiting.{gives_content_under, settles_under as tree_settles_under}
 use Rattle.tree_calls.specs.declared.asked.Committing.{Committing}
 use Rattle.tree_calls.specs.declared.asked.Done.{Done as Outcome}
 
 -- ---- limits
 
--- the most bytes of the tree, with those of the changes that wait
+-- the most bytes of the tree, with those of the pending changes
 abbrev pub tree_most : ℕ
 tree_most = TREE_MOST
 
@@ -96,8 +96,8 @@ names s session xid a t = names_unless s session xid a t (cond_fault a t)
 
 -- ---- COMMITTMP
 
--- a session has at most one change that waits
-abbrev pub has_waiting : List Change → (session : ℕ) → Bool
+-- a session has at most one pending change
+abbrev pub has_waiting : List FileChange → (session : ℕ) → Bool
 has_waiting waiting session = list_any (λ c. c.session == session) waiting
 
 -- whether a change with so many bytes has no place: by the changes ever made, or by the bytes of the tree
@@ -112,15 +112,15 @@ commits_whole s session xid id (Some content) =
     else comes s (change_of session xid id (wanted.Content content))
 
 -- the file that the handle names is to get the content of a temporary file, which has ended
-abbrev pub commits_to : State → (session xid size : ℕ) → Temp → Result Node Status → State × ServerStep
-commits_to s session xid size t (Err e) = answers s session xid (lb.CommitTmpAnswer (Failed e tt))
-commits_to s session xid size t (Ok directory) = answers s session xid (lb.CommitTmpAnswer (Failed status.IsDir tt))
-commits_to s session xid size t (Ok (file f)) = if nat_lt size_most size then answers s session xid (lb.CommitTmpAnswer (Failed status.FBig tt)) else commits_whole s session xid f.id (assembled t size)
+abbrev pub takes_commit_on : State → (session xid size : ℕ) → Temp → Result Node Status → State × ServerStep
+takes_commit_on s session xid size t (Err e) = answers s session xid (lb.CommitTmpAnswer (Failed e tt))
+takes_commit_on s session xid size t (Ok directory) = answers s session xid (lb.CommitTmpAnswer (Failed status.IsDir tt))
+takes_commit_on s session xid size t (Ok (file f)) = if nat_lt size_most size then answers s session xid (lb.CommitTmpAnswer (Failed status.FBig tt)) else commits_whole s session xid f.id (assembled t size)
 
 -- Whatever is answered, the temporary file ends, if there was one.
-abbrev pub commits : State → (session xid : ℕ) → Commit → Option Temp → State × ServerStep
-commits s session xid a None = answers s session xid (lb.CommitTmpAnswer (Failed status.BadFd tt))
-commits s session xid a (Some t) = commits_to (record s { temps = without_temp s.temps session a.fd }) session xid a.size t (node_of s.tree a.handle)
+abbrev pub takes_commit : State → (session xid : ℕ) → Commit → Option Temp → State × ServerStep
+takes_commit s session xid a None = answers s session xid (lb.CommitTmpAnswer (Failed status.BadFd tt))
+takes_commit s session xid a (Some t) = takes_commit_on (record s { temps = without_temp s.temps session a.fd }) session xid a.size t (node_of s.tree a.handle)
 
 -- ---- entries of the journal
 
@@ -150,7 +150,7 @@ abbrev pub at : State → ℕ → State
 at s now = record s { leasing = later s.leasing now }
 
 -- what is told of a change that has left the queue
-abbrev pub told_change : Change → (entries : ℕ) → Body → ServerStep
+abbrev pub told_change : FileChange → (entries : ℕ) → Body → ServerStep
 told_change c entries b = record { send = record { session = c.session; message = message.Answer c.xid b } ∷ []; told = told.Settled c.session c.xid; entries = entries; missed = false }
 
 -- the places of the chunks of a content enter the index where a file got it
@@ -163,37 +163,37 @@ abbrev pub leases_done : List Lease → (moment session id : ℕ) → Answer Com
 leases_done leases moment session id (Done a) = with_granted leases moment session id a.term
 leases_done leases moment session id (Failed e u) = leases
 
-abbrev pub grants_done : State → Change → Answer Committed Unit → State
+abbrev pub grants_done : State → FileChange → Answer Committed Unit → State
 grants_done s c a = record s { leasing = record s.leasing { leases = leases_done s.leasing.leases s.leasing.moment c.session c.file a } }
 
 -- a COMMITTMP, by what the tree makes of it
-abbrev pub committed_by : State → Change → List ℕ → Tree × Committing → State × ServerStep
+abbrev pub committed_by : State → FileChange → List ℕ → Tree × Committing → State × ServerStep
 committed_by s c content p = (record (grants_done s c p.1.answer) { tree = p.0; journal = s.journal ++ entries_by c.session p.1.entry None; index = index_with s.index c.file content p.1.answer }, told_change c (count_of p.1.entry None) (body.Lb (lb.CommitTmpAnswer p.1.answer)))
 
 -- a REMOVE or RENAME, by what the tree makes of it
-abbrev pub settled_by : State → Change → Tree × Outcome → State × ServerStep
+abbrev pub settled_by : State → FileChange → Tree × Outcome → State × ServerStep
 settled_by s c p = (record s { tree = p.0; journal = s.journal ++ entries_by c.session p.1.first p.1.second }, told_change c (count_of p.1.first p.1.second) (body.Nfs p.1.answer))
 
 -- The change, which waits no longer, is made if all is as it was when it came (`specs/Waiting.antt` of `tree_calls`). What the others that wait need is left
 -- free. fault: whether the store fails, if it is asked; the change is then answered IO, and has left the queue for good.
-abbrev pub makes_change_under : State → (fault : Bool) → Change → Wanted → State × ServerStep
-makes_change_under s fault c (wanted.Content content) = committed_by s c content (tree_commits_under s.tree (held s.waiting) fault c.file content (term_at s c.file))
+abbrev pub makes_change_under : State → (fault : Bool) → FileChange → Wanted → State × ServerStep
+makes_change_under s fault c (wanted.Content content) = committed_by s c content (gives_content_under s.tree (held s.waiting) fault c.file content (term_at s c.file))
 makes_change_under s fault c (wanted.Asked a) = settled_by s c (tree_settles_under s.tree (held s.waiting) fault a)
 
 -- a change that no lease blocks is made; where there is none nothing changes, the moment neither
-abbrev pub settles_by : State → (fault : Bool) → ℕ → Option Change → State × ServerStep
+abbrev pub settles_by : State → (fault : Bool) → ℕ → Option FileChange → State × ServerStep
 settles_by s fault now None = (s, record { send = []; told = told.NotReady; entries = 0; missed = false })
 settles_by s fault now (Some c) = makes_change_under (at (record s { waiting = without s.waiting c.session }) now) fault c c.what
 
 -- the change that is made at a reading, if one is
-abbrev pub ready_by : State → ℕ → Option Change
+abbrev pub ready_by : State → ℕ → Option FileChange
 ready_by s now = ready_at s.leasing (later s.leasing now).moment s.waiting
 
 abbrev pub settles_under : State → (fault : Bool) → ℕ → State × ServerStep
 settles_under s fault now = settles_by s fault now (ready_by s now)
 
 -- where the store doesn't fail
-abbrev pub makes_change : State → Change → Wanted → State × ServerStep
+abbrev pub makes_change : State → FileChange → Wanted → State × ServerStep
 makes_change s c w = makes_change_under s false c w
 
 abbrev pub settles : State → ℕ → State × ServerStep

@@ -2,7 +2,7 @@
 use Rattle.std.specs.Prelude.{ℕ, ◌+◌, List, [], Option, Some, None, Bool, true, false, ◌==◌, max, nat_le, if◌then◌else◌}
 use Rattle.lease_rules.specs.Leases.{term_for, without_ended}
 use Rattle.lease_rules.specs.declared.lease.Lease.{Lease}
-use Rattle.lease_rules.specs.declared.change.Change.{Change}
+use Rattle.lease_rules.specs.declared.change.PendingChange.{PendingChange}
 use Rattle.lease_rules.specs.declared.change.Recall.{Recall}
 use Rattle.lease_table.specs.Leases.{grant, without_recalled}
 use Rattle.callback_core.specs.BackCalls.{BackCall, asks, answered, hung, all_marked}
@@ -67,16 +67,16 @@ unheard g session = record g { calls = hung g.calls session }
 
 module _ {P : Type 0} where
   -- the term of a lease on a file: 0 while a change of the file waits
-  abbrev pub term_of : (term : ℕ) → List (Change P) → (file : ℕ) → ℕ
+  abbrev pub term_of : (term : ℕ) → List (PendingChange P) → (file : ℕ) → ℕ
   term_of term waiting file = term_for (waits_on waiting file) term
 
   -- the same, if there is a file
-  abbrev pub term_if : (term : ℕ) → List (Change P) → (file : Option ℕ) → ℕ
+  abbrev pub term_if : (term : ℕ) → List (PendingChange P) → (file : Option ℕ) → ℕ
   term_if term waiting None = 0
   term_if term waiting (Some id) = term_of term waiting id
 
   -- ---- made
 
   -- the change that is made at this moment: of the first of each file, the one that came first of those that no lease blocks
-  abbrev pub ready_at : Leasing → (moment : ℕ) → List (Change P) → Option (Change P)
+  abbrev pub ready_at : Leasing → (moment : ℕ) → List (PendingChange P) → Option (PendingChange P)
   ready_at g moment waiting = if nat_le g.quiet moment then ready g.leases moment waiting else None

@@ -16,7 +16,7 @@ use Rattle.chunk_calls.specs.Answers.{Node, directory, file as a_file, node_of}
 use Rattle.server_core.specs.declared.event.Sent.{Sent}
 use Rattle.server_core.specs.declared.event.ServerStep.{ServerStep}
 use Rattle.server_core.specs.Leasing.{granted, with_granted_on, asking, recalled, term_of, term_if}
-use Rattle.server_core.specs.State.{State, Change, stands}
+use Rattle.server_core.specs.State.{State, FileChange, stands}
 use Rattle.server_core.specs.Steps.{sends}
 
 -- ---- what is granted
@@ -55,7 +55,7 @@ leased_file t m = None
 abbrev pub recalls_on : State → (file asker : ℕ) → List Recall
 recalls_on s id asker = filter (λ r. stands s r.session) (recalls_of s.leasing.leases asker id s.leasing.moment)
 
-abbrev pub recalls_for : State → Change → List Recall
+abbrev pub recalls_for : State → FileChange → List Recall
 recalls_for s c = recalls_on s c.file (asker c)
 
 -- the RECALL of a lease, under its xid
@@ -63,7 +63,7 @@ abbrev pub recall_sent : Asked → Sent
 recall_sent a = record { session = a.session; message = message.Call a.xid (body.Back (back.Recall (handle_bytes a.file))) }
 
 -- A change waits from now on, behind the others, and the leases that hold it up are asked for.
-abbrev pub comes : State → Change → State × ServerStep
+abbrev pub comes : State → FileChange → State × ServerStep
 comes s c =
     let recalls : List Recall = recalls_for s c in
     (record s { waiting = s.waiting ++ c ∷ []; leasing = recalled s.leasing recalls }, sends (map recall_sent (asking s.leasing recalls).1))

@@ -3,11 +3,11 @@ use Rattle.std.specs.Prelude.{ℕ, ◌+◌, ◌==◌, List, [], ◌∷◌, lengt
 use Rattle.std.specs.List.{list_any}
 use Rattle.tree_nodes.specs.declared.node.Body.TheVariants.{File as Content}
 use Rattle.tree_reading.specs.Tree.{Tree, contents_size, empty as root_alone}
-use Rattle.tree_reading.specs.declared.call.Held.{Held}
+use Rattle.tree_reading.specs.declared.call.Reservation.{Reservation}
 use Rattle.tree_calls.specs.Waiting.{entries_of}
 use Rattle.tree_calls.specs.declared.asked.Asked.{Asked}
 use Rattle.tree_calls.specs.declared.asked.Asked.TheVariants as asked
-use Rattle.lease_rules.specs.declared.change.Change.{Change as Waiting}
+use Rattle.lease_rules.specs.declared.change.PendingChange.{PendingChange as Waiting}
 use Rattle.lease_rules.specs.declared.change.Kind.{Kind}
 use Rattle.lease_rules.specs.declared.change.Kind.TheVariants as kind
 use Rattle.server_core.specs.declared.change.Wanted.{Wanted}
@@ -18,9 +18,9 @@ use Rattle.chunk_index.specs.Index.{Indexed}
 use Rattle.temp_files.specs.Temps.{Temps}
 use Rattle.chunk_index.specs.Places.{no_index}
 
--- a change that waits
-abbrev pub Change : Type 0
-Change = Waiting Wanted
+-- a pending change
+abbrev pub FileChange : Type 0
+FileChange = Waiting Wanted
 
 pub record State : Type 0 where
   -- the files and directories, and how many changes were ever made, those that an opening tree tells of included
@@ -31,8 +31,8 @@ pub record State : Type 0 where
   pub temps : Temps
   -- where the bytes of a digest may be found
   pub index : Indexed
-  -- the changes that wait, the one that came first before the others
-  pub waiting : List Change
+  -- the pending changes, the one that came first before the others
+  pub waiting : List FileChange
   -- the sessions that stand
   pub sessions : List ℕ
   -- how many sessions were ever made
@@ -73,21 +73,21 @@ kind_of (wanted.Content content) = kind.Commit
 kind_of (wanted.Asked a) = asked_kind a
 
 -- the change of a session's call: what it is by what it is to make
-abbrev pub change_of : (session xid file : ℕ) → Wanted → Change
+abbrev pub change_of : (session xid file : ℕ) → Wanted → FileChange
 change_of session xid file what = record { session = session; xid = xid; file = file; kind = kind_of what; entries = entries_wanted what; bytes = size_wanted what; what = what }
 
-abbrev pub entries_held : List Change → ℕ
+abbrev pub entries_held : List FileChange → ℕ
 entries_held [] = 0
 entries_held (c ∷ cs) = entries_wanted c.what + entries_held cs
 
-abbrev pub waiting_size : List Change → ℕ
+abbrev pub waiting_size : List FileChange → ℕ
 waiting_size [] = 0
 waiting_size (c ∷ cs) = size_wanted c.what + waiting_size cs
 
 -- what they need, which the calls that come leave free
-abbrev pub held : List Change → Held
+abbrev pub held : List FileChange → Reservation
 held cs = record { entries = entries_held cs; bytes = waiting_size cs }
 
--- the bytes of the tree: its contents, and those of the changes that wait
+-- the bytes of the tree: its contents, and those of the pending changes
 abbrev pub bytes_held : State → ℕ
 bytes_held s = contents_size s.tree.nodes + waiting_size s.waiting

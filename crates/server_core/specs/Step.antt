@@ -30,20 +30,20 @@ use Rattle.server_rules.specs.declared.told.Told.TheVariants as told
 use Rattle.server_core.specs.declared.change.Wanted.{Wanted}
 use Rattle.server_core.specs.declared.change.Wanted.TheVariants as wanted
 pub use Rattle.server_core.specs.State.{stands}
-use Rattle.server_core.specs.State.{State, Change, empty, change_of, held}
+use Rattle.server_core.specs.State.{State, FileChange, empty, change_of, held}
 use Rattle.server_core.specs.Leasing.{heard, unheard}
 use Rattle.server_core.specs.Recalling.{file_in, term_at, term_on, grants_on, comes}
 use Rattle.tree_nodes.specs.declared.node.Body.{Body as NodeBody}
 use Rattle.file_tree.specs.Opening.{opens}
 use Rattle.tree_reading.specs.Tree.{Tree}
-use Rattle.tree_calls.specs.Waiting.{calls_under, enters, file_of, Takes, commits as tree_commits}
+use Rattle.tree_calls.specs.Waiting.{calls_under, enters, file_of, Takes, gives_content as gives_content}
 use Rattle.tree_calls.specs.declared.asked.Done.{Done}
 use Rattle.tree_calls.specs.declared.asked.Outcome.{Outcome}
 use Rattle.tree_calls.specs.declared.asked.Outcome.TheVariants.{Answered, Waits}
 use Rattle.chunk_calls.specs.Answers.{Node, file, node_of, lease_answer, hash_answer, chunks_told, IsFile}
 use Rattle.server_core.specs.Answers.{read_answer}
 use Rattle.server_core.specs.Asking.{CanWait}
-use Rattle.server_core.specs.Closing.{at, has_waiting, entries_by, count_of, makes, writes, names, looked_up, commits, ready_by, settles_under}
+use Rattle.server_core.specs.Closing.{at, has_waiting, entries_by, count_of, makes, writes, names, looked_up, takes_commit, ready_by, settles_under}
 use Rattle.server_core.specs.Steps.{sends, to}
 use Rattle.chunk_calls.specs.Writing.{cond_fault, bytes_known}
 
@@ -83,7 +83,7 @@ called_under s fault session xid (body.Lb (lb.GetHash r)) = tells_hashes s sessi
 called_under s fault session xid (body.Lb (lb.MkTmpFile a)) = makes s session xid a.fd (node_of s.tree a.handle)
 called_under s fault session xid (body.Lb (lb.TmpWrite a)) = writes s session xid a (temp_at s.temps session a.fd)
 called_under s fault session xid (body.Lb (lb.CondWrite a)) = names s session xid a (temp_at s.temps session a.fd)
-called_under s fault session xid (body.Lb (lb.CommitTmp a)) = commits s session xid a (temp_at s.temps session a.fd)
+called_under s fault session xid (body.Lb (lb.CommitTmp a)) = takes_commit s session xid a (temp_at s.temps session a.fd)
 called_under s fault session xid (body.Nfs nfs.Null) = says s session xid (body.Nfs nfs.NullAnswer)
 called_under s fault session xid (body.Nfs (nfs.Read r)) = says s session xid (body.Nfs (nfs.ReadAnswer (read_answer (node_of s.tree r.handle) r)))
 called_under s fault session xid (body.Nfs m) = asks_tree s session xid (calls_under s.tree (held s.waiting) (has_waiting s.waiting session) fault m)
@@ -186,7 +186,7 @@ clears_index s = with_index s (cleared s.index)
 abbrev pub gives_up : State → (session : ℕ) → State
 gives_up s session = record s { leasing = record s.leasing { leases = without_leases s.leasing.leases session } }
 
--- ---- what is wanted of an event, and want of memory
+-- ---- what is wanted of an event, and running out of memory
 
 -- the readings that an event may have
 abbrev pub IsTimed : Event → Type 0
@@ -195,12 +195,12 @@ IsTimed (event.Got session m now) = now < 2 ^ 63
 IsTimed (event.Settle now) = now < 2 ^ 63
 IsTimed (event.Hang session) = Unit {0}
 
--- what a call leaves that met want of memory: a CONDWRITE has looked its digest up by then
+-- what a call leaves that met running out of memory: a CONDWRITE has looked its digest up by then
 abbrev pub missed_call : State → Body → State
 missed_call s (body.Lb (lb.CondWrite a)) = looked_up s a
 missed_call s b = s
 
--- what a step leaves that met want of memory and did nothing: all as it was, but for the moment of its reading, and a look-up
+-- what a step leaves that met running out of memory and did nothing: all as it was, but for the moment of its reading, and a look-up
 abbrev pub missed_at : State → Event → State
 missed_at s (event.Got session (message.Call xid b) now) = missed_call (at s now) b
 missed_at s (event.Got session m now) = at s now
@@ -218,11 +218,11 @@ chunks_got id content (answer.Done a) = Some (id, chunks_of content)
 chunks_got id content (answer.Failed e u) = None
 
 -- those of a change that waits no longer
-abbrev pub change_entered : State → Change → Wanted → Option (ℕ × List Chunk)
-change_entered s c (wanted.Content content) = chunks_got c.file content (tree_commits s.tree (held s.waiting) c.file content (term_at s c.file)).1.answer
+abbrev pub change_entered : State → FileChange → Wanted → Option (ℕ × List Chunk)
+change_entered s c (wanted.Content content) = chunks_got c.file content (gives_content s.tree (held s.waiting) c.file content (term_at s c.file)).1.answer
 change_entered s c (wanted.Asked a) = None
 
-abbrev pub chunks_of_change : State → Option Change → Option (ℕ × List Chunk)
+abbrev pub chunks_of_change : State → Option FileChange → Option (ℕ × List Chunk)
 chunks_of_change s None = None
 chunks_of_change s (Some c) = change_entered (record s { waiting = without s.waiting c.session }) c c.what
 
@@ -251,7 +251,7 @@ TakesMemory s session (body.Lb (lb.CommitTmp a)) = CanWait s session a (temp_at 
 TakesMemory s session (body.Nfs m) = (enters s.tree (held s.waiting) (has_waiting s.waiting session) m ≡ true) ⊎ Takes s.tree (held s.waiting) (has_waiting s.waiting session) m
 TakesMemory s session _ = ⊥
 
--- A step may do nothing for want of memory where a connection is to be made, and at a call of a session that stands, if it takes memory. A change
+-- A step may do nothing for running out of memory where a connection is to be made, and at a call of a session that stands, if it takes memory. A change
 -- is always made, since what it takes was taken when it came; nor is anything wanted where a connection is lost.
 abbrev pub MayMiss : State → Event → Type 0
 MayMiss s event.Connect = has_room s ≡ true
@@ -262,13 +262,13 @@ MayMiss s e = ⊥
 abbrev pub Lacks : Indexed → Option (ℕ × List Chunk) → State × ServerStep → State → ServerStep → Type 0
 Lacks index entered done new step = (left : Indexed) × IsLacking index entered left × (new ≡ with_index done.0 left) × (step ≡ record done.1 { missed = true })
 
--- what a call does that met want of memory: it is refused, or done but for places that are left out of the index
+-- what a call does that met running out of memory: it is refused, or done but for places that are left out of the index
 abbrev pub MissesCall : State → (session xid : ℕ) → Body → State → ServerStep → Type 0
 MissesCall s session xid b new step =
     (TakesMemory s session b × (new ≡ missed_call s b) × (step ≡ record (to session (message.Refuse xid refusal.SystemErr)) { missed = true }))
     ⊎ Lacks s.index (chunks_called s b) (called s session xid b) new step
 
--- what an event does that met want of memory: nothing, or all but that places are left out of the index
+-- what an event does that met running out of memory: nothing, or all but that places are left out of the index
 pub data Misses (s : State) (e : Event) (new : State) (step : ServerStep) : Type 0 where
   nothing : MayMiss s e → new ≡ missed_at s e → step ≡ missed_step e → Misses s e new step
   lacks : Lacks s.index (chunks_entered s e) (server_step s e) new step → Misses s e new step

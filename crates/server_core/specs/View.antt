@@ -8,7 +8,7 @@ use Rattle.server_core.specs.Closing.{tree_most, count_of}
 use Rattle.server_core.specs.declared.recalling.Recalling.{Recalling}
 use Rattle.server_core.specs.Leasing.{Leasing, asking}
 use Rattle.server_core.specs.Recalling.{recalls_on, recall_sent}
-use Rattle.server_core.specs.State.{State, Change, change_of, waiting_size}
+use Rattle.server_core.specs.State.{State, FileChange, change_of, waiting_size}
 
 -- there is no moment before which no change is made
 abbrev pub leasing_of : ServerState → Leasing
@@ -19,7 +19,7 @@ abbrev pub state_of : ServerState → State
 state_of s = record { tree = s.tree.tree; journal = s.journal.items; temps = s.temps; index = s.index; waiting = s.waits.waits; sessions = s.sessions.standing; sessions_made = s.sessions.made; leasing = leasing_of s }
 
 -- a change is what it is by what it is to make
-abbrev pub IsMade : Change → Type 0
+abbrev pub IsMade : FileChange → Type 0
 IsMade c = c ≡ change_of c.session c.xid c.file c.what
 
 -- What always holds of the tree, of temporary files and of leases stands with them.

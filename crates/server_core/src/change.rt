@@ -5,7 +5,7 @@ ghost use Rattle.std.specs.Prelude.{◌≡◌};
 ghost use Rattle.server_core.specs.State.{asked_kind, kind_of, change_of, entries_wanted, size_wanted};
 
 use chunk_calls::contents::ContentPair;
-use lease_rules::change::{Change, Kind};
+use lease_rules::change::{PendingChange, Kind};
 use tree_calls::asked::Asked;
 
 /// What a change is to make.
@@ -59,13 +59,13 @@ fn size_wanted(what: &Wanted) -> u64
 
 /// The change that a session asked for, under this xid. It waits for the file that gets a content, or
 /// that goes.
-pub fn change_of(session: u32, xid: u32, file: u64, what: Wanted) -> Change<Wanted>
+pub fn change_of(session: u32, xid: u32, file: u64, what: Wanted) -> PendingChange<Wanted>
     ensures { result ≡ change_of session xid file what }
 {
     let kind = kind_of(&what);
     let entries = entries_wanted(&what);
     let bytes = size_wanted(&what);
-    Change {
+    PendingChange {
         session,
         xid,
         file,

@@ -11,7 +11,7 @@ ghost use Rattle.temp_files.specs.Temps.{temp_at, without_temp, whole_of};
 ghost use Rattle.chunk_calls.specs.Answers.{node_of, target_in};
 ghost use Rattle.server_core.specs.Asking.{commit_target, CanWait, admits};
 ghost use Rattle.lease_rules.specs.Changes.{asker};
-ghost use Rattle.server_core.specs.Closing.{commits, has_waiting, is_full, tree_most};
+ghost use Rattle.server_core.specs.Closing.{takes_commit, has_waiting, is_full, tree_most};
 ghost use Rattle.server_core.specs.Recalling.{comes};
 ghost use Rattle.server_core.specs.Steps.{to};
 ghost use Rattle.server_core.specs.State.{entries_held, waiting_size, size_wanted};
@@ -28,7 +28,7 @@ use chunk_calls::contents::take_content;
 use file_tree::places::places;
 use hash_calls::call::Commit;
 use hash_calls::message::Lb;
-use lease_rules::change::Change;
+use lease_rules::change::PendingChange;
 use limits::{CHANGES_MOST, FILE_MOST, TREE_MOST};
 use std::alloc::{AllocError, Global};
 use store::store::Store;
@@ -48,7 +48,7 @@ fn refuse_commit(alloc: Global, session: u32, xid: u32, status: Status) -> Serve
 impl ServerState {
     /// A COMMITTMP. Whether it can be done is found first, and memory taken only where it can. An
     /// `Err` changes nothing.
-    pub fn commit<S: Store>(
+    pub fn take_commit<S: Store>(
         &mut self,
         alloc: Global,
         store: &mut S,
@@ -58,7 +58,7 @@ impl ServerState {
     ) -> Result<ServerStep, AllocError>
         requires bounded { IsBounded self.old }
         requires spare { entries_held self.old.waits.waits ≤ S.spare store.old }
-        ensures ok { IfOk result (λ o. commits (state_of self.old) session xid commit.now (temp_at (state_of self.old).temps session commit.now.fd) ≡ (state_of self.new, o)) }
+        ensures ok { IfOk result (λ o. takes_commit (state_of self.old) session xid commit.now (temp_at (state_of self.old).temps session commit.now.fd) ≡ (state_of self.new, o)) }
         ensures done { IfOk result (λ o. o.missed ≡ false) }
         ensures err { OnErr result (state_of self.new ≡ state_of self.old) }
         ensures takes { OnErr result (CanWait (state_of self.old) session commit.now (temp_at (state_of self.old).temps session commit.now.fd)) }
@@ -170,7 +170,7 @@ impl ServerState {
     }
 
     /// What a change of a file asks for that comes now. No lease of the asker's holds it up; 0 is
-    /// nobody. Nothing changes. The one error is want of memory.
+    /// nobody. Nothing changes. The one error is running out of memory.
     pub fn recalls(&self, alloc: Global, file: u64, asker: u32) -> Result<Recalling, AllocError>
         ensures { IfOk result (λ r. IsRecalling (state_of self.now) file asker r) }
     {
@@ -186,7 +186,7 @@ impl ServerState {
     }
 
     /// A change waits from now on, behind the others, and what it asks for is sent. It takes no memory.
-    pub fn wait(&mut self, change: Change<Wanted>, recalling: Recalling) -> ServerStep
+    pub fn wait(&mut self, change: PendingChange<Wanted>, recalling: Recalling) -> ServerStep
         requires bounded { IsBounded self.old }
         requires made { IsMade change }
         requires new { has_waiting (state_of self.old).waiting change.session ≡ false }

@@ -15,7 +15,7 @@ pub enum Event {
         message: Message,
         now: u64,
     },
-    /// A change that waits may be made, at a reading of the server's clock in milliseconds.
+    /// A pending change may be made, at a reading of the server's clock in milliseconds.
     Settle {
         now: u64,
     },

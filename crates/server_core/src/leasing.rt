@@ -1,5 +1,5 @@
 //! Which leases are granted, and what answers to RECALLs do. `specs/Leasing.antt` and
-//! `specs/Recalling.antt` say it. It knows the leases and the changes that wait, and no server.
+//! `specs/Recalling.antt` say it. It knows the leases and the pending changes, and no server.
 
 ghost use Rattle.std.specs.Prelude.{◌≡◌, ◌<◌, ◌^◌, ◌==◌, OnOk, OnErr, false};
 ghost use Rattle.wire.specs.declared.message.Body.TheVariants as body;

@@ -23,7 +23,7 @@ use std::alloc::{AllocError, Global};
 use store::store::Store;
 use tree_calls::asked::{Done, Outcome};
 use tree_calls::{calls, entering};
-use tree_reading::call::Held;
+use tree_reading::call::Reservation;
 use wire::message::{Body, RpcRefusal};
 
 impl ServerState {
@@ -59,7 +59,7 @@ impl ServerState {
     }
 
     /// Takes memory for what a call may leave behind it, if it is not refused. Nothing else changes.
-    fn reserve_for(&mut self, call: &Nfs, held: Held, busy: bool) -> Result<(), AllocError>
+    fn reserve_for(&mut self, call: &Nfs, held: Reservation, busy: bool) -> Result<(), AllocError>
         requires { IsBounded self.old }
         ensures same { state_of self.new ≡ state_of self.old }
         ensures bounded { IsBounded self.new }

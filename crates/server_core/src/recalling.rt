@@ -51,7 +51,7 @@ fn sent_of(alloc: Global, asked: &[Asked]) -> Result<SendList<Sent>, AllocError>
 
 /// What a change of a file asks for that comes at this moment: all leases that hold it up and that no
 /// RECALL asked for yet, but those of sessions that don't stand. No lease of the asker's holds it up;
-/// 0 is nobody. Nothing changes. The one error is want of memory.
+/// 0 is nobody. Nothing changes. The one error is running out of memory.
 pub fn recalls<P: Drop>(
     alloc: Global,
     waits: &Waits<P>,

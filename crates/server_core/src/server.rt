@@ -59,7 +59,7 @@ impl Model for Server {
 
 impl Server {
     /// A server with the root directory alone, and no session, which grants leases for this term in
-    /// milliseconds, and none where it is 0. The one error is want of memory.
+    /// milliseconds, and none where it is 0. The one error is running out of memory.
     pub fn new(alloc: Global, term: u32) -> Result<Server, AllocError>
         ensures { IfOk result (λ server. server ≡ with_term empty term) }
     {
@@ -68,7 +68,7 @@ impl Server {
     }
 
     /// A server over a tree, with no session, which grants leases for this term in milliseconds, and none
-    /// where it is 0. The one error is want of memory.
+    /// where it is 0. The one error is running out of memory.
     pub fn with_tree(alloc: Global, tree: Tree, term: u32) -> Result<Server, AllocError>
         ensures { IfOk result (λ server. server ≡ with_term (with_tree tree.tree) term) }
     {
@@ -105,7 +105,7 @@ impl Server {
         self.state.tree.can_open(dir, name)
     }
 
-    /// The tree opens with a node more, if it may have it. The one error is want of memory, as which
+    /// The tree opens with a node more, if it may have it. The one error is running out of memory, as which
     /// a content past the limits counts too, and an id of 2^63 or more; the server then stays as it
     /// was.
     pub fn open(&mut self, dir: u64, name: Name, body: Body) -> Result<(), AllocError>
@@ -129,8 +129,8 @@ impl Server {
         self.state.tree.stands_for(dir, name)
     }
 
-    /// Puts a place into the index of chunks, under a key. The one error is want of memory, and the
-    /// server then stays as it was.
+    /// Puts a place into the index of chunks, under a key. The one error is running out of memory,
+    /// and the server then stays as it was.
     pub fn forge(&mut self, key: u64, place: Place) -> Result<(), AllocError>
         ensures ok { OnOk result (self.new ≡ forges self.old key place) }
         ensures err { OnErr result (self.new ≡ self.old) }
@@ -142,7 +142,7 @@ impl Server {
     }
 
     /// The places of the chunks of a file's content enter the index, if there is such a file: a hint, as a
-    /// forged place is. Says whether some were left out, for want of memory.
+    /// forged place is. Says whether some were left out, for running out of memory.
     pub fn learn(&mut self, file: u64) -> bool
         ensures all { result ≡ false → self.new ≡ learns self.old file }
         ensures lacks { result ≡ true → LearnsSome self.old file self.new }
@@ -219,7 +219,7 @@ impl Server {
     }
 
     /// Lets the temporary files of all sessions hold so much memory together at most from now on: what
-    /// would need more is answered as where memory is wanting. Nothing changes.
+    /// would need more is answered as where memory runs out. Nothing changes.
     pub fn bound_temps(&mut self, most: u64)
         ensures { self.new ≡ self.old }
     {
@@ -236,10 +236,10 @@ impl Server {
 
     /// One event, whose reading of the clock is below 2^63. Each change is given to the store before
     /// it is made, and before its answer goes out; where the store fails the answer is IO, and nothing
-    /// has changed but that a change that waited is gone. Where memory is wanting the step says so: a
+    /// has changed but that a change that waited is gone. Where memory runs out the step says so: a
     /// call is answered SYSTEM_ERR and a connection told so, and all stays as it was, but for the
     /// moment of the reading and a look-up; or all is done but that places are left out of the index of
-    /// chunks. A change that waits is made without memory, and a connection lost; an answer to a RECALL is
+    /// chunks. A pending change is made without memory, and a connection lost; an answer to a RECALL is
     /// heard without any.
     pub fn step<S: Store>(&mut self, alloc: Global, store: &mut S, event: Event) -> ServerStep
         requires timed { IsTimed event }

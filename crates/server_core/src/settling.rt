@@ -1,9 +1,9 @@
-//! How a change that waits is made. `settles` in `specs/Closing.antt` says it.
+//! How a pending change is made. `settles` in `specs/Closing.antt` says it.
 
 ghost use Rattle.std.specs.Prelude.{◌≡◌, ℕ, ◌+◌, ◌≤◌, ◌<◌, ◌^◌, ◌++◌, length, false, true, vec_capacity};
 ghost use Rattle.file_tree.specs.Stores.{Keeps};
 ghost use Rattle.tree_calls.specs.Calling.{IsCalled};
-ghost use Rattle.tree_calls.specs.Waiting.{commits_under, entries_of};
+ghost use Rattle.tree_calls.specs.Waiting.{gives_content_under, entries_of};
 ghost use Rattle.server_core.specs.Closing.{ready_by, settles, settles_under, leases_done, makes_change, makes_change_under, index_with, entered_by, one_if, entries_by, count_of};
 ghost use Rattle.server_core.specs.Served.{IsServed};
 ghost use Rattle.server_core.specs.State.{change_of, entries_held, entries_wanted};
@@ -26,13 +26,13 @@ use chunk_index::index::Index;
 use file_tree::tree::Tree;
 use hash_calls::call::Committed;
 use hash_calls::message::Lb;
-use lease_rules::change::Change;
+use lease_rules::change::PendingChange;
 use server_rules::told::Told;
 use std::alloc::Global;
 use store::store::Store;
 use tree_calls::asked::{Asked, Committing, Done};
 use tree_calls::settling;
-use tree_reading::call::Held;
+use tree_reading::call::Reservation;
 use tree_reading::entry::Entry as TreeEntry;
 use wire::message::Body;
 use xdr_codec::answer::Answer;
@@ -80,17 +80,17 @@ pub fn enter_both(
 
 /// Gives a file a content that waited, if the file is there and the store keeps it; then the places of
 /// its chunks enter the index. A lease for this term is told.
-fn commit<S: Store>(
+fn give_content<S: Store>(
     tree: &mut Tree,
     store: &mut S,
     index: &mut Index,
     file: u64,
     content: ContentPair,
-    held: Held,
+    held: Reservation,
     term: u32,
 ) -> (Committing, bool)
     requires { held.entries + 1 ≤ S.spare store.old }
-    ensures done { IsCalled (S.faults store.old) (S.faults store.new) (λ fault. commits_under tree.old.tree held fault file content term) (tree.new.tree, result.0) }
+    ensures done { IsCalled (S.faults store.old) (S.faults store.new) (λ fault. gives_content_under tree.old.tree held fault file content term) (tree.new.tree, result.0) }
     ensures all { result.1 ≡ false → index.new ≡ index_with index.old file content result.0.answer }
     ensures lacks { result.1 ≡ true → IsLacking index.old (chunks_got file content result.0.answer) index.new }
     ensures keeps { Keeps (S.records store.old) tree.old.tree (S.records store.new) tree.new.tree }
@@ -98,7 +98,7 @@ fn commit<S: Store>(
     ensures later { S.faults store.old ≤ S.faults store.new }
 {
     let (content, copy) = content.split();
-    let done = settling::commit(tree, store, file, content, copy, held, term);
+    let done = settling::give_content(tree, store, file, content, copy, held, term);
     let left_out = match &done.answer {
         Answer::Done(_) => enter_content(index, tree, file),
         Answer::Failed(..) => false,
@@ -127,7 +127,7 @@ fn grant_done<P: Drop>(
 
 impl ServerState {
     /// The change is made that came first of those that no lease blocks, if there is one; else nothing
-    /// changes. Places of its chunks for which memory is wanting are left out of the index, and nothing
+    /// changes. Places of its chunks for which memory runs out are left out of the index, and nothing
     /// else.
     pub fn settle<S: Store>(&mut self, alloc: Global, store: &mut S, now: u64) -> ServerStep
         requires bounded { IsBounded self.old }
@@ -153,7 +153,7 @@ impl ServerState {
         &mut self,
         alloc: Global,
         store: &mut S,
-        change: Change<Wanted>,
+        change: PendingChange<Wanted>,
     ) -> ServerStep
         requires settling { IsSettling self.old }
         requires made { IsMade change }
@@ -165,7 +165,7 @@ impl ServerState {
         ensures spare { entries_held self.new.waits.waits ≤ S.spare store.new }
         ensures later { S.faults store.old ≤ S.faults store.new }
     {
-        let Change {
+        let PendingChange {
             session,
             xid,
             file,
@@ -203,7 +203,7 @@ impl ServerState {
     {
         let held = held(&self.waits);
         let term = term_on(&self.waits, self.term, Some(file));
-        let (done, left_out) = commit(
+        let (done, left_out) = give_content(
             &mut self.tree,
             store,
             &mut self.index,

@@ -8,7 +8,7 @@ ghost use Rattle.wire.specs.declared.message.Message.TheVariants as message;
 ghost use Rattle.wire.specs.declared.message.RpcRefusal.TheVariants as refusal;
 ghost use Rattle.server_core.specs.Closing.{at};
 ghost use Rattle.server_core.specs.Steps.{sends, to, told_if};
-ghost use Rattle.chunk_calls.specs.Calling.{commits};
+ghost use Rattle.chunk_calls.specs.Calling.{is_committmp};
 ghost use Rattle.file_tree.specs.Stores.{Keeps};
 ghost use Rattle.server_core.specs.Served.{IsServed};
 ghost use Rattle.server_core.specs.State.{entries_held};
@@ -49,7 +49,7 @@ pub struct ServerState {
     pub temps: Temps,
     /// Where the bytes of a digest may be found.
     pub index: Index,
-    /// The changes that wait, in the order of their arrival, and the leases.
+    /// The pending changes, in the order of their arrival, and the leases.
     pub waits: Waits<Wanted>,
     /// The sessions that stand, and how many were ever made.
     pub sessions: Sessions,
@@ -103,7 +103,7 @@ impl ServerState {
         }
     }
 
-    /// A connection is made. Where memory is wanting all stays as it was.
+    /// A connection is made. Where memory runs out all stays as it was.
     fn connect(&mut self, alloc: Global) -> ServerStep
         requires { IsBounded self.old }
         ensures exact { result.missed ≡ false → connect (state_of self.old) (has_room (state_of self.old)) ≡ (state_of self.new, result) }
@@ -171,7 +171,7 @@ impl ServerState {
         steps::nothing(alloc)
     }
 
-    /// A call of a session that stands. Where memory is wanting it is refused, and all stays as it
+    /// A call of a session that stands. Where memory runs out it is refused, and all stays as it
     /// was, but for a look-up; or places are left out of the index.
     fn call<S: Store>(
         &mut self,
@@ -245,7 +245,7 @@ impl ServerState {
         ensures later { S.faults store.old ≤ S.faults store.new }
     {
         match call {
-            Lb::CommitTmp(commit) => self.commit(alloc, store, session, xid, commit),
+            Lb::CommitTmp(commit) => self.take_commit(alloc, store, session, xid, commit),
             _ => self.call_chunks(alloc, session, xid, call),
         }
     }
@@ -261,7 +261,7 @@ impl ServerState {
         call: &mut Lb,
     ) -> Result<ServerStep, AllocError>
         requires bounded { IsBounded self.old }
-        requires other { commits call.old ≡ false }
+        requires other { is_committmp call.old ≡ false }
         ensures ok { IfOk result (λ o. o.missed ≡ false → called (state_of self.old) session xid (body.Lb call.old) ≡ (state_of self.new, o)) }
         ensures lacks { IfOk result (λ o. o.missed ≡ true → Lacks (state_of self.old).index (chunks_called (state_of self.old) (body.Lb call.old)) (called (state_of self.old) session xid (body.Lb call.old)) (state_of self.new) o) }
         ensures err { OnErr result (state_of self.new ≡ missed_call (state_of self.old) (body.Lb call.old)) }

@@ -60,7 +60,7 @@ pub fn send_all(send: SendList<Sent>) -> ServerStep
     }
 }
 
-/// The RECALL of a lease, under its xid. The one error is want of memory.
+/// The RECALL of a lease, under its xid. The one error is running out of memory.
 pub fn recall(alloc: Global, asked: &Asked) -> Result<Sent, AllocError>
     ensures { IfOk result (λ s. s ≡ recall_sent asked.now) }
 {
@@ -105,7 +105,7 @@ pub fn tell_change(alloc: Global, session: u32, xid: u32, entries: u32, body: Bo
     step
 }
 
-/// The refusal of a call that memory is wanting for.
+/// The refusal of a call that memory runs out for.
 pub fn miss_call(alloc: Global, session: u32, xid: u32) -> ServerStep
     ensures { result ≡ record (to session (message.Refuse xid refusal.SystemErr)) { missed = true } }
 {
@@ -114,7 +114,7 @@ pub fn miss_call(alloc: Global, session: u32, xid: u32) -> ServerStep
     step
 }
 
-/// What a connection is told that memory is wanting for.
+/// What a connection is told that memory runs out for.
 pub fn miss_connection(alloc: Global) -> ServerStep
     ensures { result ≡ record (sends []) { told = told.Memory; missed = true } }
 {

@@ -9,7 +9,7 @@ ghost use Rattle.store.specs.declared.store.StoreError.TheVariants as errors;
 
 use lb_base::source::Failed;
 use std::alloc::{AllocError, Global};
-use store::record::{Change, Head, Kept};
+use store::record::{RecordChange, Head, Kept};
 use store::store::{Store, StoreError};
 
 /// A store that keeps nothing.
@@ -31,7 +31,7 @@ impl Store for NoStore {
         Ok(())
     }
 
-    fn apply(&mut self, head: Head, first: Change, second: Option<Change>) -> Result<(), Failed> {
+    fn apply(&mut self, head: Head, first: RecordChange, second: Option<RecordChange>) -> Result<(), Failed> {
         let _head = head;
         drop(first);
         drop(second);

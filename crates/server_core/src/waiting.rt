@@ -1,4 +1,4 @@
-//! What the changes that wait need. `specs/State.antt` says how much.
+//! What the pending changes need. `specs/State.antt` says how much.
 
 ghost use Rattle.std.specs.Prelude.{◌≡◌};
 ghost use Rattle.std.specs.List.{AllByRecursion};
@@ -7,13 +7,13 @@ ghost use Rattle.server_core.specs.View.{IsMade};
 
 use crate::change::Wanted;
 use callback_core::waits::Waits;
-use tree_reading::call::Held;
+use tree_reading::call::Reservation;
 
-/// What the changes that wait need.
-pub fn held(waits: &Waits<Wanted>) -> Held
+/// What the pending changes need.
+pub fn held(waits: &Waits<Wanted>) -> Reservation
     requires { AllByRecursion IsMade waits.now.waits }
     ensures { result ≡ held waits.now.waits }
 {
     let (entries, bytes) = waits.sizes();
-    Held { entries, bytes }
+    Reservation { entries, bytes }
 }

@@ -15,7 +15,7 @@ use Rattle.server_core.specs.declared.journal.Entry.{Entry}
 use Rattle.server_held.specs.declared.entries.Entered.{Entered}
 use Rattle.server_held.specs.declared.entries.Entered.TheVariants.{Opened, Made}
 use Rattle.server_held.specs.Kept.{KeptState, Steps, journal_of}
-use Rattle.server_held.specs.declared.held.Held.{Held}
+use Rattle.server_held.specs.declared.held.SharedServer.{SharedServer}
 use Rattle.server_held.specs.declared.held.Went.{Went}
 use Rattle.server_held.specs.Held.{given_up, given_up_if, hung, is_farewell, Took, Joined, Left, After, Unheard, Unread}
 use Rattle.server_law.specs.Growth.{Grows, MayAdd}
@@ -53,35 +53,35 @@ told_more old new same grows =
     (made, ap (λ (es : List Entered). Opened old.opened ∷ es) behind ∙ first, omega (arith, long, few))
 
 module _ {S : Type 0} (records : S → Option (List Kept)) (faults : S → ℕ) where
-  abbrev HeldGrows : Held S → Held S → Type 0
+  abbrev HeldGrows : SharedServer S → SharedServer S → Type 0
   HeldGrows old new = MayAdd (journal_of old.kept) (journal_of new.kept)
 
-  pub took_grows : (old : Held S) (e : Event) (said : Went) (new : Held S) → Took records faults old e said new → HeldGrows old new
+  pub took_grows : (old : SharedServer S) (e : Event) (said : Went) (new : SharedServer S) → Took records faults old e said new → HeldGrows old new
   took_grows old e said new t = told_more old.kept new.kept t.store.opening (then_same old.kept.server t.between new.kept.server (steps_grow _ _ old.kept.server e t.between t.step t.stepped)
       (ap (λ (x : State). x.journal) t.hangs ∙ hung_same t.between t.lost))
 
-  joined_grows : (old : Held S) (said : Went) (new : Held S) → Joined records faults old said new → HeldGrows old new
+  joined_grows : (old : SharedServer S) (said : Went) (new : SharedServer S) → Joined records faults old said new → HeldGrows old new
   joined_grows old said new t = told_more old.kept new.kept t.store.opening (then_same old.kept.server t.between new.kept.server (steps_grow _ _ old.kept.server event.Connect t.between t.step t.stepped)
       (ap (λ (x : State). x.journal) t.hangs ∙ hung_same t.between t.lost))
 
-  left_grows : (old : Held S) (session : ℕ) (new : Held S) → Left records faults old session new → HeldGrows old new
+  left_grows : (old : SharedServer S) (session : ℕ) (new : SharedServer S) → Left records faults old session new → HeldGrows old new
   left_grows old session new l = told_more old.kept new.kept l.store.opening (same old.kept.server new.kept.server (ap (λ (x : State). x.journal) l.hangs ∙ hang_same old.kept.server session (stands old.kept.server session)))
 
-  pub after_grows : (old : Held S) (e : Event) (said : Went) (new : Held S) → After records faults old e said new → HeldGrows old new
+  pub after_grows : (old : SharedServer S) (e : Event) (said : Went) (new : SharedServer S) → After records faults old e said new → HeldGrows old new
   after_grows old event.Connect said new h = joined_grows old said new h
   after_grows old (event.Got session message now) said new h = took_grows old (event.Got session message now) said new h
   after_grows old (event.Settle now) said new h = took_grows old (event.Settle now) said new h
   after_grows old (event.Hang session) said new h = left_grows old session new h.0
 
-  unawaited_grows : (old : Held S) (session : ℕ) (b : Bool) → HeldGrows old (given_up_if b old session)
+  unawaited_grows : (old : SharedServer S) (session : ℕ) (b : Bool) → HeldGrows old (given_up_if b old session)
   unawaited_grows old session true = told_more old.kept (given_up old session).kept refl (same old.kept.server (given_up old session).kept.server refl)
   unawaited_grows old session false = told_more old.kept old.kept refl (same old.kept.server old.kept.server refl)
 
-  unheard_grows : (old : Held S) (session : ℕ) (fault : WireFault) (said : Went) (new : Held S) → Unheard records faults old session fault said new → HeldGrows old new
+  unheard_grows : (old : SharedServer S) (session : ℕ) (fault : WireFault) (said : Went) (new : SharedServer S) → Unheard records faults old session fault said new → HeldGrows old new
   unheard_grows old session (UnknownXid xid) said new h = subst (λ n. HeldGrows old n) (sym h.0) (unawaited_grows old session (is_farewell xid said))
   unheard_grows old session (NotRpc at) said new h = left_grows old session new h.0
   unheard_grows old session (Garbage at) said new h = left_grows old session new h.0
 
-  pub unread_grows : (old : Held S) (session : ℕ) (error : WireError) (said : Went) (new : Held S) → Unread records faults old session error said new → HeldGrows old new
+  pub unread_grows : (old : SharedServer S) (session : ℕ) (error : WireError) (said : Went) (new : SharedServer S) → Unread records faults old session error said new → HeldGrows old new
   unread_grows old session errors.Memory said new h = left_grows old session new h.0
   unread_grows old session (errors.Fault fault) said new h = unheard_grows old session fault said new h

@@ -15,7 +15,7 @@ use Rattle.store.specs.declared.record.Kept.{Kept}
 use Rattle.server_held.specs.Kept.{Steps, StoreKeeps}
 use Rattle.server_held.proofs.Keeping.{store_more, steps_later}
 use Rattle.server_held.proofs.Telling.{keeps_more}
-use Rattle.server_held.specs.declared.held.Held.{Held}
+use Rattle.server_held.specs.declared.held.SharedServer.{SharedServer}
 use Rattle.server_held.specs.declared.held.Went.{Went}
 use Rattle.server_held.specs.declared.held.Went.TheVariants as went
 use Rattle.server_held.specs.Held.{Joined, Left, joined_as, hung}
@@ -66,12 +66,12 @@ keeps_all : (boxes : Slab (Outbox Message)) (session : ℕ) → KeepsOthers boxe
 keeps_all boxes session = record { there = λ other messages differ holds. holds; back = λ other messages differ holds. holds }
 
 -- the boxes of all other sessions are as before, where this one was made
-others_of : {S : Type 0} (before after : ℕ) (old between : Held S) (session : ℕ) (new : Held S) (step : ServerStep) → Steps before after old.kept.server event.Connect between.kept.server step → step.told ≡ told.Session session → between.boxes ≡ old.boxes → KeepsOthers between.boxes new.boxes session → KeepsOthers old.boxes new.boxes between.kept.server.sessions_made
+others_of : {S : Type 0} (before after : ℕ) (old between : SharedServer S) (session : ℕ) (new : SharedServer S) (step : ServerStep) → Steps before after old.kept.server event.Connect between.kept.server step → step.told ≡ told.Session session → between.boxes ≡ old.boxes → KeepsOthers between.boxes new.boxes session → KeepsOthers old.boxes new.boxes between.kept.server.sessions_made
 others_of before after old between session new step steps made boxes others = subst (λ z. KeepsOthers old.boxes new.boxes z) (made_last before after old.kept.server between.kept.server step session steps made) (subst (λ z. KeepsOthers z new.boxes session) boxes others)
 
 module _ {S : Type 0} (records : S → Option (List Kept)) (faults : S → ℕ) where
   -- a session that was made is given an empty box
-  pub joined : (old between : Held S) (session : ℕ) (new : Held S) (step : ServerStep) → Steps (faults old.kept.store) (faults between.kept.store) old.kept.server event.Connect between.kept.server step → StoreKeeps records faults old.kept between.kept → step.told ≡ told.Session session → between.boxes ≡ old.boxes → new.kept ≡ between.kept → Holds new.boxes session [] → KeepsOthers between.boxes new.boxes session → Joined records faults old (went.Open session) new
+  pub joined : (old between : SharedServer S) (session : ℕ) (new : SharedServer S) (step : ServerStep) → Steps (faults old.kept.store) (faults between.kept.store) old.kept.server event.Connect between.kept.server step → StoreKeeps records faults old.kept between.kept → step.told ≡ told.Session session → between.boxes ≡ old.boxes → new.kept ≡ between.kept → Holds new.boxes session [] → KeepsOthers between.boxes new.boxes session → Joined records faults old (went.Open session) new
   joined old between session new step steps kept made boxes same empty others = record {
     step = step;
     between = between.kept.server;
@@ -89,7 +89,7 @@ module _ {S : Type 0} (records : S → Option (List Kept)) (faults : S → ℕ) 
   }
 
   -- or memory was wanting for the box, and it was hung
-  pub joined_lost : (old between lacking : Held S) (session : ℕ) (new : Held S) (step : ServerStep) → Steps (faults old.kept.store) (faults between.kept.store) old.kept.server event.Connect between.kept.server step → StoreKeeps records faults old.kept between.kept → step.told ≡ told.Session session → between.boxes ≡ old.boxes → lacking.kept ≡ between.kept → KeepsOthers between.boxes lacking.boxes session → Left records faults lacking session new → Joined records faults old went.Memory new
+  pub joined_lost : (old between lacking : SharedServer S) (session : ℕ) (new : SharedServer S) (step : ServerStep) → Steps (faults old.kept.store) (faults between.kept.store) old.kept.server event.Connect between.kept.server step → StoreKeeps records faults old.kept between.kept → step.told ≡ told.Session session → between.boxes ≡ old.boxes → lacking.kept ≡ between.kept → KeepsOthers between.boxes lacking.boxes session → Left records faults lacking session new → Joined records faults old went.Memory new
   joined_lost old between lacking session new step steps kept made boxes same keeps left =
       let after : StoreKeeps records faults between.kept new.kept = subst (λ k. StoreKeeps records faults k new.kept) same left.store in
       record {
@@ -109,7 +109,7 @@ module _ {S : Type 0} (records : S → Option (List Kept)) (faults : S → ℕ) 
       }
 
   -- no session was made
-  pub unjoined : (old : Held S) (said : Went) (new : Held S) (step : ServerStep) → Steps (faults old.kept.store) (faults new.kept.store) old.kept.server event.Connect new.kept.server step → StoreKeeps records faults old.kept new.kept → new.boxes ≡ old.boxes → said ≡ joined_as step.told [] → ((session : ℕ) → ¬ (said ≡ went.Open session)) → (said ≡ went.Full → step.told ≡ told.Full) → Joined records faults old said new
+  pub unjoined : (old : SharedServer S) (said : Went) (new : SharedServer S) (step : ServerStep) → Steps (faults old.kept.store) (faults new.kept.store) old.kept.server event.Connect new.kept.server step → StoreKeeps records faults old.kept new.kept → new.boxes ≡ old.boxes → said ≡ joined_as step.told [] → ((session : ℕ) → ¬ (said ≡ went.Open session)) → (said ≡ went.Full → step.told ≡ told.Full) → Joined records faults old said new
   unjoined old said new step steps kept boxes is shut full = record {
     step = step;
     between = new.kept.server;

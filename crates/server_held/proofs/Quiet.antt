@@ -2,7 +2,7 @@
 use Rattle.std.specs.Prelude.{◌≡◌, ℕ, [], Option, Some, None, Bool, true, false}
 use Rattle.std.proofs.Common.{refl, sym, ap, ◌∙◌}
 use Rattle.server_core.specs.Closing.{makes_change_under, ready_by, settles_by}
-use Rattle.server_core.specs.State.{State, Change}
+use Rattle.server_core.specs.State.{State, FileChange}
 use Rattle.server_core.specs.Step.{Misses, nothing, lacks}
 use Rattle.server_core.specs.declared.change.Wanted.{Wanted}
 use Rattle.server_core.specs.declared.change.Wanted.TheVariants as wanted
@@ -13,11 +13,11 @@ use Rattle.server_held.specs.declared.held.Went.TheVariants as went
 use Rattle.server_held.specs.Held.{settled_as}
 use Rattle.server_held.specs.Kept.{Steps}
 
-is_told : (s : State) (fault : Bool) (c : Change) (w : Wanted) (t : Told) → (makes_change_under s fault c w).1.told ≡ t → ¬ (settled_as t ≡ went.NotReady)
+is_told : (s : State) (fault : Bool) (c : FileChange) (w : Wanted) (t : Told) → (makes_change_under s fault c w).1.told ≡ t → ¬ (settled_as t ≡ went.NotReady)
 is_told s fault c (wanted.Content content) t is not = let opens : went.Open c.session ≡ went.NotReady = ap settled_as is ∙ not in cc
 is_told s fault c (wanted.Asked a) t is not = let opens : went.Open c.session ≡ went.NotReady = ap settled_as is ∙ not in cc
 
-quiet_of : (s : State) (fault : Bool) (now : ℕ) (next : Option Change) (step : ServerStep) → (settles_by s fault now next).1.told ≡ step.told → (settles_by s fault now next).1.send ≡ step.send → settled_as step.told ≡ went.NotReady → step.send ≡ []
+quiet_of : (s : State) (fault : Bool) (now : ℕ) (next : Option FileChange) (step : ServerStep) → (settles_by s fault now next).1.told ≡ step.told → (settles_by s fault now next).1.send ≡ step.send → settled_as step.told ≡ went.NotReady → step.send ≡ []
 quiet_of s fault now None step told sent not = sym sent
 quiet_of s fault now (Some c) step told sent not = absurd (is_told _ fault c c.what step.told told not)
 

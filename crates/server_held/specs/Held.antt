@@ -21,7 +21,7 @@ use Rattle.callback_core.specs.BackCalls.{waiting_at}
 use Rattle.server_core.specs.Step.{gives_up, hangs_if, stands}
 use Rattle.store.specs.declared.record.Kept.{Kept}
 use Rattle.server_held.specs.Kept.{Steps, StoreKeeps}
-use Rattle.server_held.specs.declared.held.Held.{Held}
+use Rattle.server_held.specs.declared.held.SharedServer.{SharedServer}
 use Rattle.server_held.specs.declared.held.Went.{Went}
 use Rattle.server_held.specs.declared.held.Went.TheVariants as went
 use Rattle.wire.specs.declared.message.TheConstants.{LBFS_SERVED}
@@ -93,20 +93,20 @@ joined_as t lost = went.Memory
 
 module _ {S : Type 0} where
   -- what may come on a session's connection: calls, and answers to what was asked for there
-  abbrev pub waits_for : Held S → (session : ℕ) → Waiting
+  abbrev pub waits_for : SharedServer S → (session : ℕ) → Waiting
   waits_for h session = waiting_at h.kept.server.leasing.calls session
 
   -- a session gave up all the leases that it has
-  abbrev pub given_up : Held S → (session : ℕ) → Held S
+  abbrev pub given_up : SharedServer S → (session : ℕ) → SharedServer S
   given_up h session = record h { kept = record h.kept { server = gives_up h.kept.server session } }
 
   -- the same, if it said so
-  abbrev pub given_up_if : Bool → Held S → (session : ℕ) → Held S
+  abbrev pub given_up_if : Bool → SharedServer S → (session : ℕ) → SharedServer S
   given_up_if true h session = given_up h session
   given_up_if false h session = h
 
   -- what is said of a session that an event was of: whether it stands then
-  abbrev pub Stands : Held S → (session : ℕ) → Went → Type 0
+  abbrev pub Stands : SharedServer S → (session : ℕ) → Went → Type 0
   Stands new session (went.Open k) = (k ≡ session) × (messages : List Message) × Holds new.boxes session messages
   Stands new session went.Closed = Lacks new.boxes session
   Stands new session went.Memory = Unit {0}
@@ -114,7 +114,7 @@ module _ {S : Type 0} where
   Stands new session went.Full = ⊥
 
   -- what is said of an event; where no change could be made nothing was sent
-  abbrev pub Answers : Event → ServerStep → Held S → Went → Type 0
+  abbrev pub Answers : Event → ServerStep → SharedServer S → Went → Type 0
   Answers (event.Got session message now) step new said = Stands new session said
   Answers (event.Settle now) step new said = (said ≡ went.Memory) ⊎ (said ≡ settled_as step.told) × (said ≡ went.NotReady → step.send ≡ [])
   Answers event.Connect step new said = Unit {0}
@@ -122,7 +122,7 @@ module _ {S : Type 0} where
 
 module _ {S : Type 0} (records : S → Option (List Kept)) (faults : S → ℕ) where
   -- These messages are in the boxes of their sessions. A session for whose message memory was wanting was hung instead, and memory didn't suffice.
-  pub record Delivered (old : Held S) (sent : List Sent) (sufficed : Bool) (new : Held S) : Type 0 where
+  pub record Delivered (old : SharedServer S) (sent : List Sent) (sufficed : Bool) (new : SharedServer S) : Type 0 where
     pub lost : List ℕ
     pub hangs : new.kept.server ≡ hung old.kept.server lost
     pub told : Adds old.boxes sent lost new.boxes
@@ -130,7 +130,7 @@ module _ {S : Type 0} (records : S → Option (List Kept)) (faults : S → ℕ) 
     pub store : StoreKeeps records faults old.kept new.kept
 
   -- The event was one step, whose messages are in the boxes of their sessions. A session for whose message memory was wanting was hung instead.
-  pub record Took (old : Held S) (e : Event) (said : Went) (new : Held S) : Type 0 where
+  pub record Took (old : SharedServer S) (e : Event) (said : Went) (new : SharedServer S) : Type 0 where
     pub step : ServerStep
     pub between : State
     pub lost : List ℕ
@@ -142,7 +142,7 @@ module _ {S : Type 0} (records : S → Option (List Kept)) (faults : S → ℕ) 
     pub store : StoreKeeps records faults old.kept new.kept
 
   -- A session was made, which is open and has an empty box; where memory was wanting for the box it was hung, and no other. Or none was made, and no box changed.
-  pub record Joined (old : Held S) (said : Went) (new : Held S) : Type 0 where
+  pub record Joined (old : SharedServer S) (said : Went) (new : SharedServer S) : Type 0 where
     pub step : ServerStep
     pub between : State
     pub lost : List ℕ
@@ -158,35 +158,35 @@ module _ {S : Type 0} (records : S → Option (List Kept)) (faults : S → ℕ) 
     pub store : StoreKeeps records faults old.kept new.kept
 
   -- the session was hung, and its box went
-  pub record Left (old : Held S) (session : ℕ) (new : Held S) : Type 0 where
+  pub record Left (old : SharedServer S) (session : ℕ) (new : SharedServer S) : Type 0 where
     pub hangs : new.kept.server ≡ (hangs_if old.kept.server (stands old.kept.server session) session).0
     pub gone : Lacks new.boxes session
     pub others : KeepsOthers old.boxes new.boxes session
     pub store : StoreKeeps records faults old.kept new.kept
 
   -- what an event makes
-  abbrev pub After : Held S → Event → Went → Held S → Type 0
+  abbrev pub After : SharedServer S → Event → Went → SharedServer S → Type 0
   After old event.Connect said new = Joined old said new
   After old (event.Got session message now) said new = Took old (event.Got session message now) said new
   After old (event.Settle now) said new = Took old (event.Settle now) said new
   After old (event.Hang session) said new = Left old session new × (said ≡ went.Closed)
 
   -- What a record makes that is no message: it hangs its session. An answer for which nobody waits is no event, but for a farewell.
-  abbrev pub Unheard : Held S → (session : ℕ) → WireFault → Went → Held S → Type 0
+  abbrev pub Unheard : SharedServer S → (session : ℕ) → WireFault → Went → SharedServer S → Type 0
   Unheard old session (UnknownXid xid) said new = (new ≡ given_up_if (is_farewell xid said) old session) × Stands new session said
   Unheard old session (NotRpc at) said new = Left old session new × (said ≡ went.Closed)
   Unheard old session (Garbage at) said new = Left old session new × (said ≡ went.Closed)
 
   -- the same; or memory was wanting for the message, and the session was hung
-  abbrev pub Unread : Held S → (session : ℕ) → WireError → Went → Held S → Type 0
+  abbrev pub Unread : SharedServer S → (session : ℕ) → WireError → Went → SharedServer S → Type 0
   Unread old session errors.Memory said new = Left old session new × (said ≡ went.Memory)
   Unread old session (errors.Fault fault) said new = Unheard old session fault said new
 
   -- what a record of a session makes: the event of its message
-  abbrev pub Heard : Held S → (session now : ℕ) → Result Message WireFault → Went → Held S → Type 0
+  abbrev pub Heard : SharedServer S → (session now : ℕ) → Result Message WireFault → Went → SharedServer S → Type 0
   Heard old session now (Ok message) said new = Took old (event.Got session message now) said new
   Heard old session now (Err fault) said new = Unheard old session fault said new
 
   -- the same; or memory was wanting for the message
-  abbrev pub HeardOrLeft : Held S → (session now : ℕ) → Result Message WireFault → Went → Held S → Type 0
+  abbrev pub HeardOrLeft : SharedServer S → (session now : ℕ) → Result Message WireFault → Went → SharedServer S → Type 0
   HeardOrLeft old session now parsed said new = Heard old session now parsed said new ⊎ Unread old session errors.Memory said new

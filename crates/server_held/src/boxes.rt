@@ -18,7 +18,7 @@ pub struct Outbox<T> {
     pub messages: Items<T>,
 }
 
-// By hand: docs/PROVING.md, "Values that are let go".
+// By hand: docs/proving/dropping.md.
 impl<T: Drop> Drop for Outbox<T> {
     fn drop(self) {
         let Outbox {
@@ -76,8 +76,8 @@ pub fn is_still_in<T>(boxes: &Slab<Outbox<T>>) -> bool
     true
 }
 
-/// Adds a message to the box under a key, where there is one. The one error is want of memory, and
-/// changes nothing.
+/// Adds a message to the box under a key, where there is one. The one error is running out of
+/// memory, and changes nothing.
 fn put_at<T: Drop>(boxes: &mut Slab<Outbox<T>>, key: usize, message: T) -> Result<(), AllocError>
     ensures ok { (one : Outbox T) → get boxes.old key ≡ Some one → OnOk result (get boxes.new key ≡ Some (record one { messages = one.messages ++ message ∷ [] })) }
     ensures err { (one : Outbox T) → get boxes.old key ≡ Some one → OnErr result (get boxes.new key ≡ Some one) }
@@ -165,7 +165,7 @@ pub fn close_in<T: Drop>(boxes: &mut Slab<Outbox<T>>, session: u32)
     }
 }
 
-/// Gives a session an empty box. The one error is want of memory; the session has none then.
+/// Gives a session an empty box. The one error is running out of memory; the session has none then.
 fn open_new<T: Drop>(
     alloc: Global,
     boxes: &mut Slab<Outbox<T>>,
@@ -186,8 +186,8 @@ fn open_new<T: Drop>(
     Ok(())
 }
 
-/// Gives a session an empty box, in place of one that it had. The one error is want of memory; the
-/// session has none then.
+/// Gives a session an empty box, in place of one that it had. The one error is running out of
+/// memory; the session has none then.
 pub fn open_in<T: Drop>(
     alloc: Global,
     boxes: &mut Slab<Outbox<T>>,

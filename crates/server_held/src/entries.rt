@@ -11,7 +11,7 @@ pub enum Entered {
     Made(Entry),
 }
 
-// By hand: docs/PROVING.md, "Values that are let go".
+// By hand: docs/proving/dropping.md.
 impl Drop for Entered {
     fn drop(self) {
         match self {

@@ -57,16 +57,16 @@ pub enum Went {
 }
 
 /// What the threads of a server share.
-pub struct Held<S: Store> {
+pub struct SharedServer<S: Store> {
     /// The server, and what keeps its tree from one start to the next.
     kept: KeptServer<S>,
     boxes: Outboxes<Message>,
 }
 
-// By hand: docs/PROVING.md, "Values that are let go".
-impl<S: Store + Drop> Drop for Held<S> {
+// By hand: docs/proving/dropping.md.
+impl<S: Store + Drop> Drop for SharedServer<S> {
     fn drop(self) {
-        let Held { kept, boxes } = self;
+        let SharedServer { kept, boxes } = self;
         drop(kept);
         drop(boxes);
     }
@@ -125,17 +125,17 @@ fn settled_as(told: Told) -> Went
     }
 }
 
-impl<S: Store + Drop> Held<S> {
+impl<S: Store + Drop> SharedServer<S> {
     /// A server that was opened with its tree, and its store, which keeps that tree and has room for what
     /// waits; there is nothing to say to any session. It takes no memory.
-    pub fn new(alloc: Global, server: Server, store: S) -> Held<S>
+    pub fn new(alloc: Global, server: Server, store: S) -> SharedServer<S>
         requires room { entries_held server.waiting ≤ S.spare store }
         requires opened { HoldsSince server.tree server }
         requires kept { KeepsTree (S.records store) server.tree }
         ensures kept { result.kept ≡ record { server = server; store = store; opened = server } }
         ensures boxes { (session : ℕ) → Lacks result.boxes session }
     {
-        Held {
+        SharedServer {
             kept: KeptServer::new(server, store),
             boxes: Outboxes::new(alloc),
         }
@@ -192,7 +192,7 @@ impl<S: Store + Drop> Held<S> {
         }
     }
 
-    /// A connection is made. A session that was made is given an empty box; where memory is wanting for
+    /// A connection is made. A session that was made is given an empty box; where memory runs out for
     /// it, it is hung.
     fn connect(&mut self, alloc: Global) -> Went
         ensures { Joined S.records S.faults self.old result self.new }
@@ -242,7 +242,7 @@ impl<S: Store + Drop> Held<S> {
         }
     }
 
-    /// A change that waits may be made.
+    /// A pending change may be made.
     fn settle(&mut self, alloc: Global, now: u64) -> Went
         requires { now < 2 ^ 63 }
         ensures { Took S.records S.faults self.old (event.Settle now) result self.new }
@@ -314,13 +314,13 @@ impl<S: Store + Drop> Held<S> {
         ensures accounted { HoldsSince self.kept.opened.tree self.kept.server }
         ensures kept { KeepsTree (S.records result) self.kept.server.tree }
     {
-        let Held { kept, boxes } = self;
+        let SharedServer { kept, boxes } = self;
         drop(boxes);
         kept.into_store()
     }
 }
 
-impl<S: Store + Drop> Journaled for Held<S> {
+impl<S: Store + Drop> Journaled for SharedServer<S> {
     type Entry = Entered;
 
     ghost journal = { λ h. journal_of h.kept };
@@ -330,7 +330,7 @@ impl<S: Store + Drop> Journaled for Held<S> {
     }
 }
 
-impl<S: Store + Drop> Turns for Held<S> {
+impl<S: Store + Drop> Turns for SharedServer<S> {
     /// Whether a session stands.
     fn stands(&self, session: u32) -> bool
         ensures some { IsTrue result → (messages : List Message) × Holds self.now.boxes session messages }
@@ -387,8 +387,8 @@ impl<S: Store + Drop> Turns for Held<S> {
         self.kept.spent()
     }
 
-    /// One event of the server. What it sends goes into the boxes of its sessions; where memory is
-    /// wanting for that the session is hung.
+    /// One event of the server. What it sends goes into the boxes of its sessions; where memory
+    /// runs out for that the session is hung.
     fn event(&mut self, alloc: Global, event: Event) -> Went
         requires { IsTimed event }
         ensures after { After S.records S.faults self.old event result self.new }
@@ -412,7 +412,7 @@ impl<S: Store + Drop> Turns for Held<S> {
     /// A record of a session came, and was read before (`read_record`): the event of its message, where an
     /// answer is to what was asked for on the session's connection. A record that is no message hangs the
     /// session, and an answer that nobody waits for is no event, but by a farewell the session gives up all
-    /// its leases; want of memory hangs it too.
+    /// its leases; running out of memory hangs it too.
     fn heard(
         &mut self,
         alloc: Global,

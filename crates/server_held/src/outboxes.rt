@@ -19,7 +19,7 @@ pub struct Outboxes<T> {
     alloc: Global,
 }
 
-// By hand: docs/PROVING.md, "Values that are let go".
+// By hand: docs/proving/dropping.md.
 impl<T: Drop> Drop for Outboxes<T> {
     fn drop(self) {
         let Outboxes { boxes, alloc: _ } = self;
@@ -89,8 +89,8 @@ impl<T: Drop> Outboxes<T> {
         is_still_in(&self.boxes)
     }
 
-    /// Gives a session an empty box, in place of one that it had. The one error is want of memory;
-    /// the session has none then.
+    /// Gives a session an empty box, in place of one that it had. The one error is running out of
+    /// memory; the session has none then.
     pub fn open(&mut self, session: u32) -> Result<(), AllocError>
         ensures opened { OnOk result (Holds self.new session []) }
         ensures err { OnErr result (Lacks self.new session) }
@@ -100,7 +100,7 @@ impl<T: Drop> Outboxes<T> {
     }
 
     /// Adds a message at the end of a session's box; where it has none, the message goes. The one
-    /// error is want of memory, and changes nothing.
+    /// error is running out of memory, and changes nothing.
     pub fn put(&mut self, session: u32, message: T) -> Result<(), AllocError>
         ensures put { (messages : List T) → Holds self.old session messages → OnOk result (Holds self.new session (messages ++ message ∷ [])) }
         ensures kept { (messages : List T) → Holds self.old session messages → OnErr result (Holds self.new session messages) }

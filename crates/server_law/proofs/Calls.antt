@@ -10,7 +10,7 @@ use Rattle.tree_reading.specs.Tree.{Tree}
 use Rattle.tree_reading.specs.Plans.{replace_plan}
 use Rattle.file_tree.specs.Step.{create, mkdir, remove, rmdir, rename, replace, replace_if}
 use Rattle.tree_reading.specs.declared.call.Changed.{Changed}
-use Rattle.tree_reading.specs.declared.call.Held.{Held}
+use Rattle.tree_reading.specs.declared.call.Reservation.{Reservation}
 use Rattle.tree_calls.specs.declared.asked.Asked.{Asked}
 use Rattle.tree_calls.specs.declared.asked.Asked.TheVariants as asked
 use Rattle.tree_calls.specs.declared.asked.Done.{Done}
@@ -19,7 +19,7 @@ use Rattle.tree_calls.specs.declared.asked.Outcome.TheVariants.{Answered, Waits}
 use Rattle.tree_calls.specs.Telling.{id_of, told}
 use Rattle.file_tree.specs.Stores.{stored}
 use Rattle.tree_calls.specs.Changing.{before, mode_of, created, made_directory, removed_directory, removed, renamed, with_done, renames_under}
-use Rattle.tree_calls.specs.Waiting.{told_outcome, commits_under, with_committed, settles_under, removes_if_under, renames_if_under, remove_again, rename_again, calls_under, creates_in_under, mkdirs_in_under, rmdirs_in_under, removes_in, removing, asks_remove, renaming_under, asks_rename, renames_in_under}
+use Rattle.tree_calls.specs.Waiting.{told_outcome, gives_content_under, with_committed, settles_under, removes_if_under, renames_if_under, remove_again, rename_again, calls_under, creates_in_under, mkdirs_in_under, rmdirs_in_under, removes_in, removing, asks_remove, renaming_under, asks_rename, renames_in_under}
 use Rattle.server_law.proofs.Asked.{asked_holds}
 use Rattle.server_law.proofs.Changes.{TellsChange, tells_create, tells_mkdir, tells_remove, tells_rmdir, tells_rename}
 use Rattle.server_law.proofs.Facts.{IsTelling, tells_none, tells_replaced}
@@ -59,7 +59,7 @@ module _ (t : Tree) (session : ℕ) (u : Tree) where
 
 -- ---- what waited
 
-module _ (t : Tree) (session : ℕ) (held : Held) (fault : Bool) (h : IsGiven t) where
+module _ (t : Tree) (session : ℕ) (held : Reservation) (fault : Bool) (h : IsGiven t) where
   -- where IO is told nothing is made
   asked_has : (f : List Node → Result Changed Status → Done) (p : Tree × Result Changed Status) → TellsDone t session (with_done f p) → TellsDone t session (with_done f (t, Err status.Io)) → TellsDone t session (with_done f (stored fault t p))
   asked_has f p made failed = asked_holds (λ q. TellsDone t session (with_done f q)) fault t p made failed
@@ -91,7 +91,7 @@ module _ (t : Tree) (session : ℕ) (held : Held) (fault : Bool) (h : IsGiven t)
       by (Err s) e = tells_none t session
       by (Ok version) e = let g = replace_in t held id (length content) version e in tells_replaced t session id version content g.0 g.1 g.2
 
-  pub tells_commits : (id : ℕ) (content : List ℕ) (term : ℕ) → IsTelling t session (commits_under t held fault id content term).1.entry None (commits_under t held fault id content term).0
+  pub tells_commits : (id : ℕ) (content : List ℕ) (term : ℕ) → IsTelling t session (gives_content_under t held fault id content term).1.entry None (gives_content_under t held fault id content term).0
   tells_commits id content term = asked_holds (λ q. IsTelling t session (with_committed term q).1.entry None q.0) fault t (replace t held id content) (tells_commit id content term) (tells_none t session)
 
   -- ---- any call

@@ -13,7 +13,7 @@ use Rattle.tree_reading.specs.Plans.{Target, itself, over, nothing, move_done, m
 use Rattle.file_tree.specs.Step.{created, create, mkdir_if, mkdir, remove_if, remove, rmdir, shifted, moved, rename_if, rename, replace_if, replace, removed}
 use Rattle.tree_reading.specs.declared.call.Changed.{Changed}
 use Rattle.tree_reading.specs.declared.call.CreateMode.{CreateMode}
-use Rattle.tree_reading.specs.declared.call.Held.{Held}
+use Rattle.tree_reading.specs.declared.call.Reservation.{Reservation}
 use Rattle.tree_reading.specs.declared.call.Planned.{Planned}
 use Rattle.tree_reading.specs.declared.call.Planned.TheVariants as planned_as
 use Rattle.tree_reading.proofs.Admitted.{IsPlannedGone, remove_there, rmdir_there, rename_there}
@@ -39,7 +39,7 @@ there_quiet (Some n) done e = let is : nothing n ≡ done = some_is (nothing n) 
     some_is : (x y : Changed) → Some x ≡ Some y → x ≡ y
     some_is x y e = cc
 
-pub tells_create : (t : Tree) (session : ℕ) (held : Held) (dir : ℕ) (name : List ℕ) (m : CreateMode) → IsGiven t → TellsChange t session (create t held dir name m).0 (create t held dir name m).1
+pub tells_create : (t : Tree) (session : ℕ) (held : Reservation) (dir : ℕ) (name : List ℕ) (m : CreateMode) → IsGiven t → TellsChange t session (create t held dir name m).0 (create t held dir name m).1
 tells_create t session held dir name m h = by (create_plan t held dir name m) refl
   where
     by : (r : Result (Option Changed) Status) → create_plan t held dir name m ≡ r → TellsChange t session (created t dir name r).0 (created t dir name r).1
@@ -50,7 +50,7 @@ tells_create t session held dir name m h = by (create_plan t held dir name m) re
         quiet t session done q.0 q.1
     by (Ok None) e = let d = create_in t held dir name m None e in tells_file t session dir name d.0 h d.1 d.2
 
-pub tells_mkdir : (t : Tree) (session : ℕ) (held : Held) (dir : ℕ) (name : List ℕ) → IsGiven t → TellsChange t session (mkdir t held dir name).0 (mkdir t held dir name).1
+pub tells_mkdir : (t : Tree) (session : ℕ) (held : Reservation) (dir : ℕ) (name : List ℕ) → IsGiven t → TellsChange t session (mkdir t held dir name).0 (mkdir t held dir name).1
 tells_mkdir t session held dir name h = by (may_mkdir t held dir name) refl
   where
     by : (r : Result Unit Status) → may_mkdir t held dir name ≡ r → TellsChange t session (mkdir_if t dir name r).0 (mkdir_if t dir name r).1
@@ -66,10 +66,10 @@ tells_gone t session dir name (Ok done) h known =
     let n = k.0.0 in
     subst (λ (c : Changed). IsTelling t session c.first c.second (removed t dir c.id)) (sym k.0.2) (tells_removed t session dir n (named_id t.nodes dir name n h.apart k.0.1) (no_file_in t dir k.1))
 
-pub tells_remove : (t : Tree) (session : ℕ) (held : Held) (dir : ℕ) (name : List ℕ) → IsGiven t → TellsChange t session (remove t held dir name).0 (remove t held dir name).1
+pub tells_remove : (t : Tree) (session : ℕ) (held : Reservation) (dir : ℕ) (name : List ℕ) → IsGiven t → TellsChange t session (remove t held dir name).0 (remove t held dir name).1
 tells_remove t session held dir name h = tells_gone t session dir name (remove_plan t held dir name) h (λ done e. (remove_there t held dir name done e, remove_in t held dir name done e))
 
-pub tells_rmdir : (t : Tree) (session : ℕ) (held : Held) (dir : ℕ) (name : List ℕ) → IsGiven t → TellsChange t session (rmdir t held dir name).0 (rmdir t held dir name).1
+pub tells_rmdir : (t : Tree) (session : ℕ) (held : Reservation) (dir : ℕ) (name : List ℕ) → IsGiven t → TellsChange t session (rmdir t held dir name).0 (rmdir t held dir name).1
 tells_rmdir t session held dir name h = tells_gone t session dir name (rmdir_plan t held dir name) h (λ done e. (rmdir_there t held dir name done e, rmdir_in t held dir name done e))
 
 -- ---- RENAME: what its plan is of
@@ -88,13 +88,13 @@ over_is x y e = ap (λ (r : Result Target Status). under r) e
     under (Ok itself) = x
     under (Ok (over o)) = o
 
-over_found : (t : Tree) (held : Held) (n : Node) (o x : Option Node) → rename_over t held n o ≡ Ok (over x) → o ≡ x
+over_found : (t : Tree) (held : Reservation) (n : Node) (o x : Option Node) → rename_over t held n o ≡ Ok (over x) → o ≡ x
 over_found t held n None x e = over_is None x (bind_ok (spared t.changes held 1) (λ _. Ok (over None)) (over x) e).2
 over_found t held n (Some m) x e =
     let p = bind_ok (may_replace t.nodes n m) (λ _. spared t.changes held 2 >>= λ _. Ok (over (Some m))) (over x) e in
     over_is (Some m) x (bind_ok (spared t.changes held 2) (λ _. Ok (over (Some m))) (over x) p.2).2
 
-target_is : (t : Tree) (held : Held) (n : Node) (to : ℕ) (o x : Option Node) → rename_found t held n to o ≡ Ok (over x) → o ≡ x
+target_is : (t : Tree) (held : Reservation) (n : Node) (to : ℕ) (o x : Option Node) → rename_found t held n to o ≡ Ok (over x) → o ≡ x
 target_is t held n to o x e = by (is_same n o) e
   where
     by : (b : Bool) → (let r : Result Target Status = if b then Ok itself else (or_within t.nodes n to >>= λ _. rename_over t held n o) in r ≡ Ok (over x)) → o ≡ x
@@ -109,7 +109,7 @@ target_is t held n to o x e = by (is_same n o) e
         no e = let z : false ≡ true = ap (λ (r : Result Target Status). is_over r) e in absurd cc
     by false e = over_found t held n o x (bind_ok (or_within t.nodes n to) (λ _. rename_over t held n o) (over x) e).2
 
-move_of : (t : Tree) (held : Held) (n : Node) (to : ℕ) (o : Option Node) (target : Target) → rename_found t held n to o ≡ Ok target → IsMove n o (planned n target)
+move_of : (t : Tree) (held : Reservation) (n : Node) (to : ℕ) (o : Option Node) (target : Target) → rename_found t held n to o ≡ Ok target → IsMove n o (planned n target)
 move_of t held n to o itself e = (refl, refl)
 move_of t held n to o (over None) e = (target_is t held n to o None e, refl)
 move_of t held n to o (over (Some m)) e = (m, target_is t held n to o (Some m) e, refl)
@@ -118,7 +118,7 @@ entry_ok : (o : Option Node) (n : Node) → or_no_entry o ≡ Ok n → o ≡ Som
 entry_ok None n e = absurd cc
 entry_ok (Some m) n e = ap Some (ok_is m n e)
 
-move_is : (t : Tree) (held : Held) (dir : ℕ) (name : List ℕ) (to : ℕ) (to_name : List ℕ) (p : Planned) → rename_plan t held dir name to to_name ≡ Ok p → (n : Node) × (named t.nodes dir name ≡ Some n) × IsMove n (named t.nodes to to_name) p
+move_is : (t : Tree) (held : Reservation) (dir : ℕ) (name : List ℕ) (to : ℕ) (to_name : List ℕ) (p : Planned) → rename_plan t held dir name to to_name ≡ Ok p → (n : Node) × (named t.nodes dir name ≡ Some n) × IsMove n (named t.nodes to to_name) p
 move_is t held dir name to to_name p e =
     let rest = λ (n : Node). planned_found t held n to (named t.nodes to to_name) in
     let a = bind_ok (node_of t.nodes dir) (λ d. node_of t.nodes to >>= λ e. directory_or status.NotDir d >>= λ _. directory_or status.NotDir e >>= λ _. spelt name >>= λ _. undotted status.Inval status.Inval name >>= λ _. spelt to_name >>= λ _. undotted status.Inval status.Inval to_name >>= λ _. or_no_entry (named t.nodes dir name) >>= rest) p e in
@@ -135,7 +135,7 @@ move_is t held dir name to to_name p e =
 
 -- ---- RENAME
 
-pub tells_rename : (t : Tree) (session : ℕ) (held : Held) (dir : ℕ) (name : List ℕ) (to : ℕ) (to_name : List ℕ) → IsGiven t → TellsChange t session (rename t held dir name to to_name).0 (rename t held dir name to to_name).1
+pub tells_rename : (t : Tree) (session : ℕ) (held : Reservation) (dir : ℕ) (name : List ℕ) (to : ℕ) (to_name : List ℕ) → IsGiven t → TellsChange t session (rename t held dir name to to_name).0 (rename t held dir name to to_name).1
 tells_rename t session held dir name to to_name h = by (rename_plan t held dir name to to_name) refl
   where
     free : (n : Node) (done : Changed) → HasDirectory t dir → HasDirectory t to → named t.nodes dir name ≡ Some n → done ≡ move_done n None → IsTelling t session done.first done.second (shifted t dir (named t.nodes dir name) None to to_name)
@@ -168,7 +168,7 @@ tells_rename t session held dir name to to_name h = by (rename_plan t held dir n
 
 -- ---- COMMITTMP
 
-pub tells_replace : (t : Tree) (session : ℕ) (held : Held) (id : ℕ) (content : List ℕ) → TellsChange t session (replace t held id content).0 (replace t held id content).1
+pub tells_replace : (t : Tree) (session : ℕ) (held : Reservation) (id : ℕ) (content : List ℕ) → TellsChange t session (replace t held id content).0 (replace t held id content).1
 tells_replace t session held id content = by (replace_plan t held id (length content)) refl
   where
     by : (r : Result ℕ Status) → replace_plan t held id (length content) ≡ r → TellsChange t session (replace_if t id content r).0 (replace_if t id content r).1

@@ -21,19 +21,19 @@ use Rattle.tree_reading.specs.Tree.{Tree}
 use Rattle.tree_reading.specs.declared.entry.Entry.{Entry as TreeEntry}
 use Rattle.tree_calls.specs.declared.asked.Outcome.{Outcome}
 use Rattle.tree_calls.specs.declared.asked.Outcome.TheVariants.{Answered, Waits}
-use Rattle.tree_calls.specs.Waiting.{calls_under, commits_under as tree_commits_under, settles_under as tree_settles_under}
+use Rattle.tree_calls.specs.Waiting.{calls_under, gives_content_under, settles_under as tree_settles_under}
 use Rattle.server_core.specs.declared.change.Wanted.{Wanted}
 use Rattle.server_core.specs.declared.change.Wanted.TheVariants as wanted
 use Rattle.server_core.specs.declared.event.Event.{Event}
 use Rattle.server_core.specs.declared.event.Event.TheVariants as event
 use Rattle.server_core.specs.declared.journal.Entry.{Entry}
 use Rattle.chunk_calls.specs.Answers.{Node, directory, file, node_of}
-use Rattle.server_core.specs.Closing.{answers, at, entries_by, has_waiting, is_full, makes, makes_unless, writes, writes_unless, names, names_unless, names_bytes, looked_up, commits, commits_to, commits_whole, makes_change_under, ready_by, settles_by}
+use Rattle.server_core.specs.Closing.{answers, at, entries_by, has_waiting, is_full, makes, makes_unless, writes, writes_unless, names, names_unless, names_bytes, looked_up, takes_commit, takes_commit_on, commits_whole, makes_change_under, ready_by, settles_by}
 use Rattle.chunk_calls.specs.Writing.{cond_fault}
 use Rattle.callback_core.specs.Waits.{without}
 use Rattle.server_core.specs.declared.event.ServerStep.{ServerStep}
 use Rattle.server_core.specs.Recalling.{comes, term_at}
-use Rattle.server_core.specs.State.{State, Change, change_of, held}
+use Rattle.server_core.specs.State.{State, FileChange, change_of, held}
 use Rattle.server_core.specs.Step.{connect, has_room, called_under, asks, asks_tree, is_recalled, hears, got_under, got_if_under, stands, hangs_if, server_step_under, server_step, Misses, nothing, lacks, missed_at, with_index, gives_up}
 use Rattle.server_law.specs.Facts.{Fact, fact_at, fact_after, facts_after, AreNext, Holds}
 use Rattle.server_law.proofs.Calls.{TellsOutcome, tells_calls, tells_settles, tells_commits}
@@ -130,7 +130,7 @@ module _ (opening : Tree) (s : State) (fault : Bool) (h : Holds opening s) where
       by false true = g
       by false false = same opening n waits.0 refl refl g
 
-  commits_kept : (session xid : ℕ) (a : Commit) (t : Option Temp) → Holds opening (commits s session xid a t).0
+  commits_kept : (session xid : ℕ) (a : Commit) (t : Option Temp) → Holds opening (takes_commit s session xid a t).0
   commits_kept session xid a None = h
   commits_kept session xid a (Some t) = by (node_of s.tree a.handle)
     where
@@ -144,7 +144,7 @@ module _ (opening : Tree) (s : State) (fault : Bool) (h : Holds opening s) where
       sized id true = g
       sized id false = whole_kept left g session xid id (assembled t a.size)
 
-      by : (n : Result Node Status) → Holds opening (commits_to left session xid a.size t n).0
+      by : (n : Result Node Status) → Holds opening (takes_commit_on left session xid a.size t n).0
       by (Err e) = g
       by (Ok directory) = g
       by (Ok (file f)) = sized f.id (nat_lt size_most a.size)
@@ -184,16 +184,16 @@ module _ (opening : Tree) (s : State) (fault : Bool) (h : Holds opening s) where
 
   -- ---- a change that waited
 
-  change_told : (c : Change) (w : Wanted) → Holds opening (makes_change_under s fault c w).0
+  change_told : (c : FileChange) (w : Wanted) → Holds opening (makes_change_under s fault c w).0
   change_told c (wanted.Content content) =
-      more opening s (makes_change_under s fault c (wanted.Content content)).0 c.session (tree_commits_under s.tree (held s.waiting) fault c.file content (term_at s c.file)).1.entry None (tells_commits s.tree c.session (held s.waiting) fault h.given c.file content (term_at s c.file)) refl (commits_keep_under s.tree (held s.waiting) fault c.file content (term_at s c.file) h.given).0 h
+      more opening s (makes_change_under s fault c (wanted.Content content)).0 c.session (gives_content_under s.tree (held s.waiting) fault c.file content (term_at s c.file)).1.entry None (tells_commits s.tree c.session (held s.waiting) fault h.given c.file content (term_at s c.file)) refl (commits_keep_under s.tree (held s.waiting) fault c.file content (term_at s c.file) h.given).0 h
   change_told c (wanted.Asked a) =
       more opening s (makes_change_under s fault c (wanted.Asked a)).0 c.session (tree_settles_under s.tree (held s.waiting) fault a).1.first (tree_settles_under s.tree (held s.waiting) fault a).1.second (tells_settles s.tree c.session (held s.waiting) fault h.given a) refl (settles_keep_under s.tree (held s.waiting) fault a h.given).0 h
 
 -- ---- any event
 
 -- a moment, and what waits, are no part of it
-settle_told : (opening : Tree) (s : State) (fault : Bool) (now : ℕ) (next : Option Change) → Holds opening s → Holds opening (settles_by s fault now next).0
+settle_told : (opening : Tree) (s : State) (fault : Bool) (now : ℕ) (next : Option FileChange) → Holds opening s → Holds opening (settles_by s fault now next).0
 settle_told opening s fault now None h = h
 settle_told opening s fault now (Some c) h =
     let n : State = at (record s { waiting = without s.waiting c.session }) now in
@@ -232,7 +232,7 @@ opening_told s none given = record {
   given = given;
 }
 
--- ---- want of memory
+-- ---- running out of memory
 
 missed_tree : (s : State) (e : Event) → (missed_at s e).tree ≡ s.tree
 missed_tree s event.Connect = refl

@@ -14,7 +14,7 @@ use Rattle.tree_reading.specs.Chain.{◌>>=◌}
 use Rattle.tree_reading.specs.Names.{spelt, undotted}
 use Rattle.tree_reading.specs.declared.call.Changed.{Changed}
 use Rattle.tree_reading.specs.declared.call.CreateMode.{CreateMode}
-use Rattle.tree_reading.specs.declared.call.Held.{Held}
+use Rattle.tree_reading.specs.declared.call.Reservation.{Reservation}
 use Rattle.tree_reading.specs.declared.call.Planned.{Planned}
 use Rattle.tree_reading.specs.declared.call.Planned.TheVariants as planned
 use Rattle.tree_reading.specs.Tree.{Tree, is_directory, contents_size, node_of, or_stale, directory_or, directory_of, file_or, or_no_entry, or_taken, changes_most, file_most, tree_most}
@@ -30,9 +30,9 @@ use Rattle.tree_calls.specs.declared.asked.Asked.TheVariants as asked
 use Rattle.tree_calls.specs.Telling.{id_of}
 use Rattle.tree_calls.specs.Changing.{mode_of}
 use Rattle.file_tree.specs.Stores.{stored}
-use Rattle.tree_calls.specs.Waiting.{commits, commits_under, with_committed, settles, settles_under, removes_if_under, renames_if_under, remove_again, rename_again, calls, calls_under, creates_in_under, mkdirs_in_under, rmdirs_in_under, renaming_under, asks_rename, renames_in_under}
+use Rattle.tree_calls.specs.Waiting.{gives_content, gives_content_under, with_committed, settles, settles_under, removes_if_under, renames_if_under, remove_again, rename_again, calls, calls_under, creates_in_under, mkdirs_in_under, rmdirs_in_under, renaming_under, asks_rename, renames_in_under}
 use Rattle.chunk_calls.specs.Files.{File, file_of_body, file_of_node, file_at}
-use Rattle.server_core.specs.State.{Change, entries_wanted, size_wanted, entries_held, waiting_size}
+use Rattle.server_core.specs.State.{FileChange, entries_wanted, size_wanted, entries_held, waiting_size}
 use Rattle.server_law.proofs.Asked.{asked_holds}
 use Rattle.server_law.proofs.Trees.{file_node, NoFile, no_file, Keeps, keeps_same, made_keeps, removed_keeps, replaced_keeps, moved_keeps}
 
@@ -69,13 +69,13 @@ no_file_in t dir h = no_file t.nodes dir h.0 h.1 h.2
 
 -- ---- CREATE and MKDIR
 
-pub create_in : (t : Tree) (held : Held) (dir : ℕ) (name : List ℕ) (m : CreateMode) (o : Option Changed) → create_plan t held dir name m ≡ Ok o → HasDirectory t dir
+pub create_in : (t : Tree) (held : Reservation) (dir : ℕ) (name : List ℕ) (m : CreateMode) (o : Option Changed) → create_plan t held dir name m ≡ Ok o → HasDirectory t dir
 create_in t held dir name m o e =
     let p = bind_ok (may_create t held dir name m) (λ found. Ok (option_map nothing found)) o e in
     let a = bind_ok (directory_of t.nodes dir) (λ _. spelt name >>= λ _. undotted status.Inval status.Inval name >>= λ _. create_mode t held dir name m) p.0 p.1 in
     directory_is t dir a.0 a.1
 
-create_keeps : (t : Tree) (held : Held) (dir : ℕ) (name : List ℕ) (m : CreateMode) → Keeps t (create t held dir name m).0
+create_keeps : (t : Tree) (held : Reservation) (dir : ℕ) (name : List ℕ) (m : CreateMode) → Keeps t (create t held dir name m).0
 create_keeps t held dir name m = by (create_plan t held dir name m) refl
   where
     by : (r : Result (Option Changed) Status) → create_plan t held dir name m ≡ r → Keeps t (create_made t dir name r).0
@@ -83,12 +83,12 @@ create_keeps t held dir name m = by (create_plan t held dir name m) refl
     by (Ok (Some done)) e = keeps_same t
     by (Ok None) e = let d = create_in t held dir name m None e in made_keeps t (new_file t dir name) d.0 refl d.1 d.2
 
-pub mkdir_in : (t : Tree) (held : Held) (dir : ℕ) (name : List ℕ) (u : Unit) → may_mkdir t held dir name ≡ Ok u → HasDirectory t dir
+pub mkdir_in : (t : Tree) (held : Reservation) (dir : ℕ) (name : List ℕ) (u : Unit) → may_mkdir t held dir name ≡ Ok u → HasDirectory t dir
 mkdir_in t held dir name u e =
     let a = bind_ok (directory_of t.nodes dir) (λ _. spelt name >>= λ _. undotted status.Exist status.Exist name >>= λ _. or_taken (named t.nodes dir name) >>= λ _. spared t.changes held 1) u e in
     directory_is t dir a.0 a.1
 
-mkdir_keeps : (t : Tree) (held : Held) (dir : ℕ) (name : List ℕ) → Keeps t (mkdir t held dir name).0
+mkdir_keeps : (t : Tree) (held : Reservation) (dir : ℕ) (name : List ℕ) → Keeps t (mkdir t held dir name).0
 mkdir_keeps t held dir name = by (may_mkdir t held dir name) refl
   where
     by : (r : Result Unit Status) → may_mkdir t held dir name ≡ r → Keeps t (mkdir_if t dir name r).0
@@ -101,22 +101,22 @@ removes_keeps : (t : Tree) (dir : ℕ) (r : Result Changed Status) → ((done : 
 removes_keeps t dir (Err s) known = keeps_same t
 removes_keeps t dir (Ok done) known = removed_keeps t dir done.id (no_file_in t dir (known done refl))
 
-pub remove_in : (t : Tree) (held : Held) (dir : ℕ) (name : List ℕ) (done : Changed) → remove_plan t held dir name ≡ Ok done → HasDirectory t dir
+pub remove_in : (t : Tree) (held : Reservation) (dir : ℕ) (name : List ℕ) (done : Changed) → remove_plan t held dir name ≡ Ok done → HasDirectory t dir
 remove_in t held dir name done e =
     let p = bind_ok (may_remove t held dir name) (λ n. Ok (remove_done n)) done e in
     let a = bind_ok (directory_of t.nodes dir) (λ _. spelt name >>= λ _. undotted status.Inval status.Inval name >>= λ _. or_no_entry (named t.nodes dir name) >>= file_or status.IsDir >>= λ n. spared t.changes held 1 >>= λ _. Ok n) p.0 p.1 in
     directory_is t dir a.0 a.1
 
-pub rmdir_in : (t : Tree) (held : Held) (dir : ℕ) (name : List ℕ) (done : Changed) → rmdir_plan t held dir name ≡ Ok done → HasDirectory t dir
+pub rmdir_in : (t : Tree) (held : Reservation) (dir : ℕ) (name : List ℕ) (done : Changed) → rmdir_plan t held dir name ≡ Ok done → HasDirectory t dir
 rmdir_in t held dir name done e =
     let p = bind_ok (may_rmdir t held dir name) (λ n. Ok (remove_done n)) done e in
     let a = bind_ok (directory_of t.nodes dir) (λ _. spelt name >>= λ _. undotted status.Inval status.Exist name >>= λ _. or_no_entry (named t.nodes dir name) >>= directory_or status.NotDir >>= λ n. or_not_empty t.nodes n >>= λ _. spared t.changes held 1 >>= λ _. Ok n) p.0 p.1 in
     directory_is t dir a.0 a.1
 
-remove_keeps : (t : Tree) (held : Held) (dir : ℕ) (name : List ℕ) → Keeps t (remove t held dir name).0
+remove_keeps : (t : Tree) (held : Reservation) (dir : ℕ) (name : List ℕ) → Keeps t (remove t held dir name).0
 remove_keeps t held dir name = removes_keeps t dir (remove_plan t held dir name) (λ done e. remove_in t held dir name done e)
 
-rmdir_keeps : (t : Tree) (held : Held) (dir : ℕ) (name : List ℕ) → Keeps t (rmdir t held dir name).0
+rmdir_keeps : (t : Tree) (held : Reservation) (dir : ℕ) (name : List ℕ) → Keeps t (rmdir t held dir name).0
 rmdir_keeps t held dir name = removes_keeps t dir (rmdir_plan t held dir name) (λ done e. rmdir_in t held dir name done e)
 
 -- ---- RENAME
@@ -132,7 +132,7 @@ directory_ok : (n d : Node) → directory_or status.NotDir n ≡ Ok d → is_dir
 directory_ok n d e = directory_if n d (is_directory n.body) e
 
 -- both directories are there
-pub rename_in : (t : Tree) (held : Held) (dir : ℕ) (name : List ℕ) (to : ℕ) (to_name : List ℕ) (p : Planned) → rename_plan t held dir name to to_name ≡ Ok p → HasDirectory t dir × HasDirectory t to
+pub rename_in : (t : Tree) (held : Reservation) (dir : ℕ) (name : List ℕ) (to : ℕ) (to_name : List ℕ) (p : Planned) → rename_plan t held dir name to to_name ≡ Ok p → HasDirectory t dir × HasDirectory t to
 rename_in t held dir name to to_name p e =
     let rest = λ (n : Node). planned_found t held n to (named t.nodes to to_name) in
     let a = bind_ok (node_of t.nodes dir) (λ d. node_of t.nodes to >>= λ e. directory_or status.NotDir d >>= λ _. directory_or status.NotDir e >>= λ _. spelt name >>= λ _. undotted status.Inval status.Inval name >>= λ _. spelt to_name >>= λ _. undotted status.Inval status.Inval to_name >>= λ _. or_no_entry (named t.nodes dir name) >>= rest) p e in
@@ -145,7 +145,7 @@ shifted_keeps : (t : Tree) (dir : ℕ) (n o : Option Node) (to : ℕ) (to_name :
 shifted_keeps t dir None o to to_name d e at apart = keeps_same t
 shifted_keeps t dir (Some n) o to to_name d e at apart = moved_keeps t dir n o to to_name (λ m is. apart n m refl is) (at n refl) (no_file_in t dir d) (no_file_in t to e)
 
-rename_keeps : (t : Tree) (held : Held) (dir : ℕ) (name : List ℕ) (to : ℕ) (to_name : List ℕ) → Keeps t (rename t held dir name to to_name).0
+rename_keeps : (t : Tree) (held : Reservation) (dir : ℕ) (name : List ℕ) (to : ℕ) (to_name : List ℕ) → Keeps t (rename t held dir name to to_name).0
 rename_keeps t held dir name to to_name = by (rename_plan t held dir name to to_name) refl
   where
     by : (r : Result Planned Status) → rename_plan t held dir name to to_name ≡ r → Keeps t (rename_if t dir name to to_name r).0
@@ -172,19 +172,19 @@ within_is len le = by (nat_lt file_most len) refl
         no lt = let z : nat_lt file_most len ≡ false = grind (arith, nat_tests, le) in absurd cc
     by false lt = refl
 
-spared_is : (changes : ℕ) (held : Held) (n : ℕ) → changes + held.entries + n ≤ changes_most → spared changes held n ≡ Ok tt
+spared_is : (changes : ℕ) (held : Reservation) (n : ℕ) → changes + held.entries + n ≤ changes_most → spared changes held n ≡ Ok tt
 spared_is changes held n le = let z : nat_lt changes_most (changes + held.entries + n) ≡ false = grind (arith, nat_tests, le) in ap (λ (b : Bool). let r : Result Unit Status = if b then Err status.NoSpc else Ok tt in r) z
 
-bytes_are : (bytes : ℕ) (held : Held) (len : ℕ) → bytes + held.bytes + len ≤ tree_most → spared_bytes bytes held len ≡ Ok tt
+bytes_are : (bytes : ℕ) (held : Reservation) (len : ℕ) → bytes + held.bytes + len ≤ tree_most → spared_bytes bytes held len ≡ Ok tt
 bytes_are bytes held len le = let z : nat_lt tree_most (bytes + held.bytes + len) ≡ false = grind (arith, nat_tests, le) in ap (λ (b : Bool). let r : Result Unit Status = if b then Err status.NoSpc else Ok tt in r) z
 
 -- there is room for a change beside those that are held
-pub record HasRoom (t : Tree) (held : Held) (content : List ℕ) : Type 0 where
+pub record HasRoom (t : Tree) (held : Reservation) (content : List ℕ) : Type 0 where
   pub count : t.changes + held.entries + 1 ≤ changes_most
   pub short : length content ≤ file_most
   pub small : contents_size t.nodes + held.bytes + length content ≤ tree_most
 
-replace_may : (t : Tree) (held : Held) (id : ℕ) (content : List ℕ) (g : File) → file_at t id ≡ Some g → HasRoom t held content → replace_plan t held id (length content) ≡ Ok (g.version + 1)
+replace_may : (t : Tree) (held : Reservation) (id : ℕ) (content : List ℕ) (g : File) → file_at t id ≡ Some g → HasRoom t held content → replace_plan t held id (length content) ≡ Ok (g.version + 1)
 replace_may t held id content g at room =
     let n = file_node t id g at in
     let a : node_of t.nodes id ≡ Ok n.node = ap or_stale n.there in
@@ -200,7 +200,7 @@ replace_may t held id content g at room =
     ∙ ap (λ (v : ℕ). let r : Result ℕ Status = Ok (v + 1) in r) n.version
 
 -- where the file is there, and there is room, the change is made
-pub commits_made : (t : Tree) (held : Held) (id : ℕ) (content : List ℕ) (g : File) → file_at t id ≡ Some g → HasRoom t held content → commits t held id content 0 ≡ (replaced t id (g.version + 1) content, record { answer = answer.Done (record { version = g.version + 1; term = 0 }); entry = Some (commit_entry id (g.version + 1) content) })
+pub commits_made : (t : Tree) (held : Reservation) (id : ℕ) (content : List ℕ) (g : File) → file_at t id ≡ Some g → HasRoom t held content → gives_content t held id content 0 ≡ (replaced t id (g.version + 1) content, record { answer = answer.Done (record { version = g.version + 1; term = 0 }); entry = Some (commit_entry id (g.version + 1) content) })
 commits_made t held id content g at room = ap (λ (r : Result ℕ Status). with_committed 0 (replace_if t id content r)) (replace_may t held id content g at room)
 
 file_found : (t : Tree) (id : ℕ) (n : Node) → with_id t.nodes id ≡ Some n → is_directory n.body ≡ false → (g : File) × (file_at t id ≡ Some g) × (g.version ≡ n.version)
@@ -210,7 +210,7 @@ file_found t id n there is = by n.body refl is
     by Directory e is = absurd cc
     by (Plain c) e is = (record { id = n.id; version = n.version; content = c }, ap file_of_node there ∙ ap (file_of_body n) e, refl)
 
-pub replace_in : (t : Tree) (held : Held) (id len version : ℕ) → replace_plan t held id len ≡ Ok version → (g : File) × (file_at t id ≡ Some g) × (version ≡ g.version + 1)
+pub replace_in : (t : Tree) (held : Reservation) (id len version : ℕ) → replace_plan t held id len ≡ Ok version → (g : File) × (file_at t id ≡ Some g) × (version ≡ g.version + 1)
 replace_in t held id len version e =
     let p = bind_ok (may_replace_content t held id len) (λ n. Ok (n.version + 1)) version e in
     let f = bind_ok (node_of t.nodes id >>= file_or status.IsDir) (λ n. within_file len >>= λ _. spared t.changes held 1 >>= λ _. spared_bytes (contents_size t.nodes) held len >>= λ _. Ok n) p.0 p.1 in
@@ -230,19 +230,19 @@ replace_in t held id len version e =
     file_if n m true e = absurd cc
     file_if n m false e = (refl, ok_is n m e)
 
-pub commits_keep : (t : Tree) (held : Held) (id : ℕ) (content : List ℕ) (term : ℕ) → Keeps t (commits t held id content term).0
+pub commits_keep : (t : Tree) (held : Reservation) (id : ℕ) (content : List ℕ) (term : ℕ) → Keeps t (gives_content t held id content term).0
 commits_keep t held id content term = by (replace_plan t held id (length content)) refl
   where
     by : (r : Result ℕ Status) → replace_plan t held id (length content) ≡ r → Keeps t (replace_if t id content r).0
     by (Err s) e = keeps_same t
     by (Ok version) e = let g = replace_in t held id (length content) version e in subst (λ (v : ℕ). Keeps t (replaced t id v content)) (sym g.2) (replaced_keeps t id content g.0 g.1)
 
-pub commits_keep_under : (t : Tree) (held : Held) (fault : Bool) (id : ℕ) (content : List ℕ) (term : ℕ) → Keeps t (commits_under t held fault id content term).0
+pub commits_keep_under : (t : Tree) (held : Reservation) (fault : Bool) (id : ℕ) (content : List ℕ) (term : ℕ) → Keeps t (gives_content_under t held fault id content term).0
 commits_keep_under t held fault id content term = asked_holds (λ q. Keeps t q.0) fault t (replace t held id content) (commits_keep t held id content term) (keeps_same t)
 
 -- ---- any call, and REMOVE and RENAME once they're made, whatever the store does
 
-module _ (t : Tree) (held : Held) (fault : Bool) where
+module _ (t : Tree) (held : Reservation) (fault : Bool) where
   asked_keeps : (p : Tree × Result Changed Status) → Keeps t p.0 → Keeps t (stored fault t p).0
   asked_keeps p k = asked_holds (λ q. Keeps t q.0) fault t p k (keeps_same t)
 
@@ -288,24 +288,24 @@ module _ (t : Tree) (held : Held) (fault : Bool) where
   calls_keep_under busy m = keeps_same t
 
 -- where it doesn't fail
-pub settles_keep : (t : Tree) (held : Held) (a : Asked) → Keeps t (settles t held a).0
+pub settles_keep : (t : Tree) (held : Reservation) (a : Asked) → Keeps t (settles t held a).0
 settles_keep t held a = settles_keep_under t held false a
 
-pub calls_keep : (t : Tree) (held : Held) (busy : Bool) (m : Nfs) → Keeps t (calls t held busy m).0
+pub calls_keep : (t : Tree) (held : Reservation) (busy : Bool) (m : Nfs) → Keeps t (calls t held busy m).0
 calls_keep t held busy m = calls_keep_under t held false busy m
 
--- ---- what the changes that wait need
+-- ---- what the pending changes need
 
-pub entries_more : (ws : List Change) (c : Change) → entries_held (ws ++ c ∷ []) ≡ entries_held ws + entries_wanted c.what
+pub entries_more : (ws : List FileChange) (c : FileChange) → entries_held (ws ++ c ∷ []) ≡ entries_held ws + entries_wanted c.what
 entries_more [] c = omega arith
 entries_more (w ∷ ws) c = let later = entries_more ws c in omega (arith, later)
 
-pub sizes_more : (ws : List Change) (c : Change) → waiting_size (ws ++ c ∷ []) ≡ waiting_size ws + size_wanted c.what
+pub sizes_more : (ws : List FileChange) (c : FileChange) → waiting_size (ws ++ c ∷ []) ≡ waiting_size ws + size_wanted c.what
 sizes_more [] c = omega arith
 sizes_more (w ∷ ws) c = let later = sizes_more ws c in omega (arith, later)
 
 -- fewer changes need no more
-pub fewer_need : (p : Change → Bool) (ws : List Change) → (entries_held (filter p ws) ≤ entries_held ws) × (waiting_size (filter p ws) ≤ waiting_size ws)
+pub fewer_need : (p : FileChange → Bool) (ws : List FileChange) → (entries_held (filter p ws) ≤ entries_held ws) × (waiting_size (filter p ws) ≤ waiting_size ws)
 fewer_need p [] = (omega arith, omega arith)
 fewer_need p (w ∷ ws) = by (p w) (fewer_need p ws)
   where

@@ -12,7 +12,7 @@ ghost use Rattle.server_law.specs.Facts.{Holds, IsGiven};
 /// Whatever happens to a server, and whether its store fails or not, its tree holds of each file what
 /// the last entry of its journal says that tells of that file (a version, a length and a digest, or
 /// that it is gone), and what the opening tree had where no entry does; and along the journal a file's
-/// versions rise by one, from 1 where it is made; and so it is where memory is wanting (`missed`), and
+/// versions rise by one, from 1 where it is made; and so it is where memory runs out (`missed`), and
 /// where a session gives its leases up (`given_up`). Each entry is one change of the tree. It does nothing: a
 /// caller learns this by calling it.
 pub fn journal_tells()
@@ -23,7 +23,7 @@ pub fn journal_tells()
 {}
 
 /// Each step adds at most two entries to the journal, behind those that it has, whether its store fails
-/// or not (`step`), and also where memory is wanting (`missed`). It does nothing: a caller learns this by
+/// or not (`step`), and also where memory runs out (`missed`). It does nothing: a caller learns this by
 /// calling it.
 pub fn journal_grows()
     ensures step { (s : State) (fault : Bool) (e : Event) → Grows s (server_step_under s fault e).0 }

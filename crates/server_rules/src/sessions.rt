@@ -71,7 +71,7 @@ impl Sessions {
     }
 
     /// Makes one session more and tells its number, or tells none where there is no place. The one error
-    /// is want of memory, which comes only where there is a place, and all then stays as it was.
+    /// is running out of memory, which comes only where there is a place, and all then stays as it was.
     pub fn join(&mut self) -> Result<Option<u32>, AllocError>
         ensures room { IfOk result (λ made. is_some made ≡ has_room self.old) }
         ensures number { IfOk result (λ made. IfSome made (λ session. session ≡ self.old.made + 1)) }

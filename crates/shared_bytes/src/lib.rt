@@ -12,13 +12,13 @@ use std::alloc::{AllocError, AllocFailed, Global};
 use std::marker::Model;
 use std::sync::Arc;
 
-/// One owner of some bytes, which never change. Contracts see their list. They are let go with their
+/// One owner of some bytes, which never change. Contracts see their list. They are dropped with their
 /// last owner.
 pub struct SharedBytes {
     held: Option<Arc<Bytes>>,
 }
 
-/// By hand, so that the crates above prove nothing of how the parts go.
+/// By hand, so that the crates above prove nothing of how the parts are dropped.
 impl Drop for SharedBytes {
     fn drop(self) {
         let SharedBytes { held } = self;
@@ -43,7 +43,7 @@ impl SharedBytes {
         SharedBytes { held: None }
     }
 
-    /// The first owner of these bytes. They aren't copied. The one error is want of memory, and gives
+    /// The first owner of these bytes. They aren't copied. The one error is running out of memory, and gives
     /// them back.
     pub fn new(alloc: Global, bytes: Bytes) -> Result<SharedBytes, AllocFailed<Bytes>>
         ensures ok { IfOk result (λ shared. shared ≡ bytes) }
@@ -54,7 +54,7 @@ impl SharedBytes {
     }
 
     /// One more owner of the same bytes. It copies none and takes no memory. The one error is that
-    /// there are 2^63 owners, which is told as want of memory.
+    /// there are 2^63 owners, which is told as running out of memory.
     pub fn share(&self) -> Result<SharedBytes, AllocError>
         ensures { IfOk result (λ shared. shared ≡ self.now) }
     {

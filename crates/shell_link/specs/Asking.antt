@@ -86,7 +86,7 @@ pub data Runs (old : State) (c : Command) : Heard → State → Option Ended →
   hears : (h g : Heard) (s t : State) (m : Result Message WireFault) (now : ℕ) (step : ClientStep) → Runs old c h s None → Heeds h m g → Hears s m now t step → Runs old c g t step.ended
   loses : (h : Heard) (s : State) (ended : Option Ended) → Runs old c h s ended → Runs old c h (cut s).0 (kept ended (cut s).1.ended)
 
--- where more was heard than can be counted, it ends as for want of memory
+-- where more was heard than can be counted, it ends as for running out of memory
 abbrev pub told_of : (makes : Bool) → Heard → Option Ended → Answer
 told_of m h (Some e) = answer_of m h e.outcome
 told_of m h None = answer.Failed why.Memory

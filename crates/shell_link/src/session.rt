@@ -264,7 +264,8 @@ impl<'e, D: Dials, C: Clock> Session<'e, D, C>
 where
     D::L: Drop,
 {
-    /// A client that isn't connected yet, and notes no lease. The one error is want of memory.
+    /// A client that isn't connected yet, and notes no lease. The one error is running out of
+    /// memory.
     #[tactic(auto, using(crate::proofs::Noting::notes_nothing))]
     pub fn new(alloc: Global, dialler: &'e D, clock: &'e C) -> Result<Session<'e, D, C>, AllocError>
         ensures start { IfOk result (λ s. s.client ≡ start_with DRIFT LBFS_SPOKEN) }

@@ -60,18 +60,18 @@ pub data Replaces {R : Type 0} (asks : R → Command → Answer → R → Type 0
   at_close : (b : Answer) (s : R) (c : Answer) (t : R) (d : Answer) → asks old (command.Trunc file 0) b s → is_done b ≡ true → asks s (command.Write file 0 content) c t → is_done c ≡ true → asks t (command.Close file) d new → a ≡ closed_as d → Replaces asks old file content a new
 
 -- a file that wasn't stored is abandoned
-abbrev pub SettlesIf : {R : Type 0} → (asks : R → Command → Answer → R → Type 0) → R → ℕ → (is_closed : Bool) → R → Type 0
-SettlesIf asks old file true new = new ≡ old
-SettlesIf asks old file false new = (b : Answer) × asks old (command.Abandon file) b new
+abbrev pub AbandonsIf : {R : Type 0} → (asks : R → Command → Answer → R → Type 0) → R → ℕ → (is_closed : Bool) → R → Type 0
+AbandonsIf asks old file true new = new ≡ old
+AbandonsIf asks old file false new = (b : Answer) × asks old (command.Abandon file) b new
 
-abbrev pub Settles : {R : Type 0} → (asks : R → Command → Answer → R → Type 0) → R → ℕ → Answer → R → Type 0
-Settles asks old file a new = SettlesIf asks old file (is_closed a) new
+abbrev pub Abandons : {R : Type 0} → (asks : R → Command → Answer → R → Type 0) → R → ℕ → Answer → R → Type 0
+Abandons asks old file a new = AbandonsIf asks old file (is_closed a) new
 
 -- an open file gets these bytes
 pub record Stores {R : Type 0} (asks : R → Command → Answer → R → Type 0) (old : R) (file : ℕ) (bytes : List ℕ) (a : Answer) (new : R) : Type 0 where
   pub between : R
   pub replaces : Replaces asks old file (part.Bytes bytes ∷ []) a between
-  pub settles : Settles asks between file a new
+  pub abandons : Abandons asks between file a new
 
 abbrev pub StoresIf : {R : Type 0} → (asks : R → Command → Answer → R → Type 0) → R → Option ℕ → List ℕ → (opened a : Answer) → R → Type 0
 StoresIf asks old (Some file) bytes opened a new = Stores asks old file bytes a new

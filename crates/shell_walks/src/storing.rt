@@ -2,7 +2,7 @@
 
 ghost use Rattle.std.specs.Prelude.{◌≡◌, ◌∷◌, [], IfOk, bytes_eq};
 ghost use Rattle.command_text.specs.declared.content.Part.TheVariants as part;
-ghost use Rattle.shell_walks.specs.Storing.{is_done, is_closed, made_file, opened_file, failed_as, closed_as, left_as, renewed_as, Replaces, Settles, Stores, RenewsId, RenewsIf, RenewsSeen, Renews, StoresAt, StoresMade, is_missing, may_store, MakesElse, Makes, StoresChanged, PutsOpen, MakesUnless, Opens, Puts};
+ghost use Rattle.shell_walks.specs.Storing.{is_done, is_closed, made_file, opened_file, failed_as, closed_as, left_as, renewed_as, Replaces, Abandons, Stores, RenewsId, RenewsIf, RenewsSeen, Renews, StoresAt, StoresMade, is_missing, may_store, MakesElse, Makes, StoresChanged, PutsOpen, MakesUnless, Opens, Puts};
 
 use crate::asking::{Deed, ask_on, open};
 use crate::remote::{Answer, Remote, Seen, Why};
@@ -119,8 +119,8 @@ fn replace<R: Remote>(alloc: Global, remote: &mut R, file: u64, content: Content
 }
 
 /// A file that wasn't stored is abandoned.
-fn settle<R: Remote>(alloc: Global, remote: &mut R, file: u64, answer: &Answer)
-    ensures { Settles R.asks remote.old file answer.now remote.new }
+fn abandon_unstored<R: Remote>(alloc: Global, remote: &mut R, file: u64, answer: &Answer)
+    ensures { Abandons R.asks remote.old file answer.now remote.new }
 {
     if !is_closed(answer) {
         drop(remote.ask(alloc, Command::Abandon(file)));
@@ -138,7 +138,7 @@ fn store<R: Remote>(
 {
     let content = content_of(alloc, bytes)?;
     let answer = replace(alloc, remote, file, content);
-    settle(alloc, remote, file, &answer);
+    abandon_unstored(alloc, remote, file, &answer);
     Ok(answer)
 }
 

@@ -1,5 +1,5 @@
 //! What is written, and said, of what a command came to: `specs/Telling.antt`. Each `put_` puts its text
-//! behind what is there; the one error is want of memory.
+//! behind what is there; the one error is running out of memory.
 
 ghost use Rattle.std.specs.Prelude.{◌≡◌, ◌+◌, ◌-◌, ◌++◌, ◌∷◌, [], IfOk, OnOk, codes, decimal, length, replicate};
 ghost use Rattle.shell_walks.specs.declared.remote.Why.TheVariants as whys;

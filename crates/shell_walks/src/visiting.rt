@@ -550,7 +550,7 @@ fn get_directory<R: Remote, F: Folder>(
 }
 
 /// What the fetching of a file came to, or the directory that it is.
-fn settle_get<R: Remote, F: Folder>(
+fn end_get<R: Remote, F: Folder>(
     alloc: Global,
     remote: &mut R,
     folder: &mut F,
@@ -586,7 +586,7 @@ fn get_file<R: Remote, F: Folder>(
     ensures touches { OnOk result (Touches F.finds F.reads F.writes F.lists F.makes F.tries local.now folder.old folder.new) }
 {
     let got = get(alloc, remote, folder, id, path, local)?;
-    settle_get(alloc, remote, folder, path, local, deep, got)
+    end_get(alloc, remote, folder, path, local, deep, got)
 }
 
 /// A file is fetched over one that is there, of whose bytes none travels.

@@ -64,7 +64,7 @@ pub struct LocalPath {
     text: String,
 }
 
-// By hand: docs/PROVING.md, "Values that are let go".
+// By hand: docs/proving/dropping.md.
 impl Drop for LocalPath {
     fn drop(self) {
         let LocalPath { text } = self;

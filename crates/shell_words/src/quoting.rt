@@ -118,7 +118,7 @@ fn in_quotes(alloc: Global, text: bool, name: &[u8]) -> Result<Bytes, AllocError
 }
 
 /// A name as it is shown: as it is where that can be read back, else in quotes, with escapes. Bytes of a
-/// text are shown as they are, others as `\xNN`. The one error is want of memory.
+/// text are shown as they are, others as `\xNN`. The one error is running out of memory.
 pub fn quoted(alloc: Global, name: &[u8]) -> Result<Bytes, AllocError>
     ensures { IfOk result (λ out. out ≡ quoted name.now) }
 {

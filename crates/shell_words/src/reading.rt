@@ -254,7 +254,7 @@ impl Reading {
         }
     }
 
-    /// The next byte of the line. The one error is want of memory, and nothing is known of the reading
+    /// The next byte of the line. The one error is running out of memory, and nothing is known of the reading
     /// then.
     pub fn take(&mut self, alloc: Global, b: u8) -> Result<(), AllocError>
         ensures { OnOk result (self.new ≡ stepped self.old b) }

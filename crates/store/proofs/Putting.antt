@@ -4,8 +4,8 @@ use Rattle.std.specs.List.{filter}
 use Rattle.store.specs.declared.record.Kept.{Kept}
 use Rattle.store.specs.declared.record.Kept.TheVariants as kept
 use Rattle.store.specs.declared.record.Head.{Head}
-use Rattle.store.specs.declared.record.Change.{Change}
-use Rattle.store.specs.declared.record.Change.TheVariants as change
+use Rattle.store.specs.declared.record.RecordChange.{RecordChange}
+use Rattle.store.specs.declared.record.RecordChange.TheVariants as change
 use Rattle.store.specs.Records.{takes_place, with_record, place_of, is_head, is_of, headless, changed, applied, places}
 
 put_there_if : (r x : Kept) (xs : List Kept) (b : Bool) → (place_of r xs < length xs → with_record r xs ≡ set xs (place_of r xs) r) → (if b then 0 else suc (place_of r xs)) < suc (length xs) → (if b then r ∷ xs else x ∷ with_record r xs) ≡ set (x ∷ xs) (if b then 0 else suc (place_of r xs)) r
@@ -86,7 +86,7 @@ headless_less : (p : Kept → Bool) (xs : List Kept) → length (headless (filte
 headless_less p [] = omega arith
 headless_less p (x ∷ xs) = rw (headless_if (p x) x (filter p xs)) (less_if (p x) (is_head x) x (headless (filter p xs)) (headless xs) (headless_less p xs))
 
-headless_changed : (c : Change) (xs : List Kept) → length (headless (changed c xs)) ≤ length (headless xs) + 1
+headless_changed : (c : RecordChange) (xs : List Kept) → length (headless (changed c xs)) ≤ length (headless xs) + 1
 headless_changed (change.Node n) xs = headless_put (kept.Node n) xs
 headless_changed (change.Content n) xs = headless_put (kept.Content n) xs
 headless_changed (change.Drop id) xs = omega (arith, headless_less (λ r. not (is_of id r)) xs)
@@ -94,10 +94,10 @@ headless_changed (change.Drop id) xs = omega (arith, headless_less (λ r. not (i
 headless_twice : (xs : List Kept) → length (headless (headless xs)) ≤ length (headless xs)
 headless_twice xs = headless_less (λ r. not (is_head r)) xs
 
-headless_applied : (head : Head) (a : Change) (b : Option Change) (xs : List Kept) → length (headless (applied head a b xs)) ≤ length (headless xs) + places b
+headless_applied : (head : Head) (a : RecordChange) (b : Option RecordChange) (xs : List Kept) → length (headless (applied head a b xs)) ≤ length (headless xs) + places b
 headless_applied head a None xs = omega (arith, headless_changed a (kept.Head head ∷ headless xs), headless_twice xs)
 headless_applied head a (Some b) xs = omega (arith, headless_changed b (changed a (kept.Head head ∷ headless xs)), headless_changed a (kept.Head head ∷ headless xs), headless_twice xs)
 
 -- the room that is left
-pub spare_left : (head : Head) (a : Change) (b : Option Change) (xs ys : List Kept) (capacity capacity' : ℕ) → ys ≡ applied head a b xs → capacity ≤ capacity' → capacity - (length (headless xs) + 1) ≤ capacity' - (length (headless ys) + 1) + places b
+pub spare_left : (head : Head) (a : RecordChange) (b : Option RecordChange) (xs ys : List Kept) (capacity capacity' : ℕ) → ys ≡ applied head a b xs → capacity ≤ capacity' → capacity - (length (headless xs) + 1) ≤ capacity' - (length (headless ys) + 1) + places b
 spare_left head a b xs ys capacity capacity' same more = rw same (omega (arith, more, headless_applied head a b xs))

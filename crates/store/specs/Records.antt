@@ -4,8 +4,8 @@ use Rattle.std.specs.List.{filter}
 use Rattle.store.specs.declared.record.Head.{Head}
 use Rattle.store.specs.declared.record.Kept.{Kept}
 use Rattle.store.specs.declared.record.Kept.TheVariants as kept
-use Rattle.store.specs.declared.record.Change.{Change}
-use Rattle.store.specs.declared.record.Change.TheVariants as change
+use Rattle.store.specs.declared.record.RecordChange.{RecordChange}
+use Rattle.store.specs.declared.record.RecordChange.TheVariants as change
 
 abbrev pub is_head : Kept → Bool
 is_head (kept.Head h) = true
@@ -41,12 +41,12 @@ abbrev pub with_record : Kept → List Kept → List Kept
 with_record r [] = r ∷ []
 with_record r (x ∷ xs) = let later : List Kept = with_record r xs in if takes_place r x then r ∷ xs else x ∷ later
 
-abbrev pub changed : Change → List Kept → List Kept
+abbrev pub changed : RecordChange → List Kept → List Kept
 changed (change.Node n) records = with_record (kept.Node n) records
 changed (change.Content c) records = with_record (kept.Content c) records
 changed (change.Drop id) records = filter (λ r. not (is_of id r)) records
 
-abbrev pub changed_too : Option Change → List Kept → List Kept
+abbrev pub changed_too : Option RecordChange → List Kept → List Kept
 changed_too None records = records
 changed_too (Some c) records = changed c records
 
@@ -54,11 +54,11 @@ abbrev pub headless : List Kept → List Kept
 headless records = filter (λ r. not (is_head r)) records
 
 -- the head becomes the only one, in front; then the changes are made, in order; all else stays
-abbrev pub applied : Head → Change → Option Change → List Kept → List Kept
+abbrev pub applied : Head → RecordChange → Option RecordChange → List Kept → List Kept
 applied head a b records = changed_too b (changed a (kept.Head head ∷ headless records))
 
 -- how many places they need
-abbrev pub places : Option Change → ℕ
+abbrev pub places : Option RecordChange → ℕ
 places None = 1
 places (Some c) = 2
 

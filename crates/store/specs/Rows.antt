@@ -2,7 +2,7 @@
 use Rattle.std.specs.Prelude.{◌≡◌, ℕ, List, [], ◌∷◌, Some, None, refl}
 use Rattle.store.specs.declared.record.Kept.{Kept}
 use Rattle.store.specs.declared.record.Kept.TheVariants as kept
-use Rattle.store.specs.declared.record.Change.TheVariants as change
+use Rattle.store.specs.declared.record.RecordChange.TheVariants as change
 use Rattle.store.specs.declared.record.NodeKind.TheVariants as kind
 use Rattle.store.specs.Records.{applied}
 

@@ -7,7 +7,7 @@ ghost use Rattle.store.specs.Records.{is_head, is_of, takes_place, with_record, 
 ghost use Rattle.store.specs.declared.record.Kept.TheVariants as kept;
 ghost use Rattle.store.specs.declared.record.Kept.{Kept};
 
-use crate::record::{Change, ContentRecord, Head, Kept, NodeRecord};
+use crate::record::{RecordChange, ContentRecord, Head, Kept, NodeRecord};
 use lb_base::items::{Bytes, Items};
 use std::alloc::{AllocError, Global};
 
@@ -44,7 +44,7 @@ fn takes_place(one: &Kept, other: &Kept) -> bool
     }
 }
 
-/// A second record like this one. The one error is want of memory.
+/// A second record like this one. The one error is running out of memory.
 pub fn copy_of(alloc: Global, one: &Kept) -> Result<Kept, AllocError>
     ensures { IfOk result (λ copy. copy ≡ one.now) }
 {
@@ -113,16 +113,16 @@ fn take_out(records: &mut Vec<Kept>, id: u64)
 }
 
 /// Makes a change. It takes no memory.
-fn change(records: &mut Vec<Kept>, change: Change)
+fn change(records: &mut Vec<Kept>, change: RecordChange)
     requires { length records.old.items < vec_capacity records.old }
     ensures done { records.new.items ≡ changed change records.old.items }
     ensures capacity { vec_capacity records.old ≤ vec_capacity records.new }
     ensures len { length records.new.items ≤ length records.old.items + 1 }
 {
     match change {
-        Change::Node(node) => put(records, Kept::Node(node)),
-        Change::Content(content) => put(records, Kept::Content(content)),
-        Change::Drop(id) => take_out(records, id),
+        RecordChange::Node(node) => put(records, Kept::Node(node)),
+        RecordChange::Content(content) => put(records, Kept::Content(content)),
+        RecordChange::Drop(id) => take_out(records, id),
     }
 }
 
@@ -148,7 +148,7 @@ fn set_head(records: &mut Vec<Kept>, head: Head)
 }
 
 /// Makes the head the only one, in front, and then the changes, in their order. It takes no memory.
-pub fn apply(records: &mut Vec<Kept>, head: Head, first: Change, second: Option<Change>)
+pub fn apply(records: &mut Vec<Kept>, head: Head, first: RecordChange, second: Option<RecordChange>)
     requires { length (headless records.old.items) + places second < vec_capacity records.old }
     ensures done { records.new.items ≡ applied head first second records.old.items }
     ensures capacity { vec_capacity records.old ≤ vec_capacity records.new }
@@ -160,7 +160,7 @@ pub fn apply(records: &mut Vec<Kept>, head: Head, first: Change, second: Option<
     }
 }
 
-/// Makes room for a head and this many records more. The one error is want of memory.
+/// Makes room for a head and this many records more. The one error is running out of memory.
 pub fn reserve(records: &mut Vec<Kept>, count: u32) -> Result<(), AllocError>
     ensures room { OnOk result (length records.new.items + (count + 1) ≤ vec_capacity records.new) }
     ensures same { records.new.items ≡ records.old.items }
@@ -169,7 +169,7 @@ pub fn reserve(records: &mut Vec<Kept>, count: u32) -> Result<(), AllocError>
     records.reserve(count as usize + 1)
 }
 
-/// Copies of all records. The one error is want of memory.
+/// Copies of all records. The one error is running out of memory.
 pub fn copies(alloc: Global, records: &[Kept]) -> Result<Vec<Kept>, AllocError>
     ensures { IfOk result (λ v. v.items ≡ records.now) }
 {

@@ -49,7 +49,7 @@ pub enum Kept {
 
 /// A change of what a store keeps.
 #[derive(Drop)]
-pub enum Change {
+pub enum RecordChange {
     /// A node takes the place of the one that has its id, or is added at the end.
     Node(NodeRecord),
     /// A content takes the place of the one that has its id, or is added at the end.

@@ -8,7 +8,7 @@ ghost use Rattle.store.specs.Records.{applied, places};
 ghost use Rattle.store.specs.declared.record.Kept.{Kept};
 ghost use Rattle.store.specs.declared.store.StoreError.TheVariants as errors;
 
-use crate::record::{Change, Head, Kept};
+use crate::record::{RecordChange, Head, Kept};
 use lb_base::source::Failed;
 use std::alloc::{AllocError, Global};
 
@@ -49,7 +49,7 @@ pub trait Store {
         ensures later { faults self.old ≤ faults self.new }
         ensures cause { IsErrOf result errors.Failed → Rose (faults self.old) (faults self.new) };
 
-    /// Makes room for at least this many changes. The one error is want of memory.
+    /// Makes room for at least this many changes. The one error is running out of memory.
     fn reserve(&mut self, count: u32) -> Result<(), AllocError>
         ensures room { OnOk result (count ≤ spare self.new) }
         ensures spare { spare self.old ≤ spare self.new }
@@ -59,7 +59,7 @@ pub trait Store {
     /// Makes the head the only one, in front of all records, and then one change or two, in their
     /// order. Each takes one place of what was reserved, and no memory. `Failed` comes only where
     /// the count of faults rose, and all records are then as before.
-    fn apply(&mut self, head: Head, first: Change, second: Option<Change>) -> Result<(), Failed>
+    fn apply(&mut self, head: Head, first: RecordChange, second: Option<RecordChange>) -> Result<(), Failed>
         requires { places second ≤ spare self.old }
         ensures ok { OnOk result (records self.new ≡ option_map (λ held. applied head first second held) (records self.old)) }
         ensures err { OnErr result (records self.new ≡ records self.old) }

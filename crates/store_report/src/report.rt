@@ -190,7 +190,7 @@ fn report_if(
     })
 }
 
-/// What is said of a store in which this was found. The one error is want of memory.
+/// What is said of a store in which this was found. The one error is running out of memory.
 #[tactic(auto, using(crate::proofs::Lines::length_texts))]
 pub fn report_of(alloc: Global, found: &CheckedStore) -> Result<Report, AllocError>
     ensures { IfOk result (λ r. (r.is_whole, r.text) ≡ report (map (λ w. string_bytes w) found.now.findings.items) found.now.records.items) }
@@ -220,7 +220,7 @@ fn line_of_first(
 }
 
 /// The line of the first record that breaks a rule, where every file is read as its record; else nothing. The
-/// one error is want of memory.
+/// one error is running out of memory.
 pub fn first_broken(alloc: Global, found: &CheckedStore) -> Result<Option<String>, AllocError>
     ensures { IfOk result (λ line. text_in line ≡ first_broken (map (λ w. string_bytes w) found.now.findings.items) found.now.records.items) }
 {

@@ -13,13 +13,13 @@ use store::store::{Store, StoreError};
 
 /// Makes sure what a store was given. Threads share it, beside the store.
 pub trait Syncs {
-    /// What is known once `settle` has answered `Ok`; only `settle` tells it.
-    ghost settled: { Self → Type 0 };
+    /// What is known once `sync` has answered `Ok`; only `sync` tells it.
+    ghost is_sure: { Self → Type 0 };
 
     /// `Ok` comes only once all that the store was given before the call outlasts a cut of power; where
     /// nothing is flushed, once the store is known not to be in doubt. One that failed fails for ever.
-    fn settle<W: Wait>(&self, rt: &W) -> Result<(), Failed>
-        ensures { OnOk result (settled self.now) };
+    fn sync<W: Wait>(&self, rt: &W) -> Result<(), Failed>
+        ensures { OnOk result (is_sure self.now) };
 }
 
 /// A store with such an object.
@@ -27,7 +27,7 @@ pub trait Synced: Store {
     /// The object.
     type Y: Syncs + Drop + Sync;
 
-    /// The object, which threads share. The one error is want of memory.
+    /// The object, which threads share. The one error is running out of memory.
     fn syncs(&self) -> Result<Self::Y, AllocError>;
 
     /// From now on nothing is flushed. It is for before the store is loaded.
@@ -37,7 +37,7 @@ pub trait Synced: Store {
         ensures faults { Self.faults self.new ≡ Self.faults self.old };
 
     /// Nothing more will be given: all is made sure. An error comes where anything that the store was
-    /// given could not be made sure, by the object too: want of memory, or `Failed`, where the count of
+    /// given could not be made sure, by the object too: running out of memory, or `Failed`, where the count of
     /// faults rose.
     fn close(&mut self) -> Result<(), StoreError>
         ensures kept { Self.records self.new ≡ Self.records self.old }

@@ -26,7 +26,7 @@ pub struct DiskFolder<R> {
     faults: u64,
 }
 
-// By hand: docs/PROVING.md, "Values that are let go".
+// By hand: docs/proving/dropping.md.
 impl<R: Drop> Drop for DiskFolder<R> {
     fn drop(self) {
         let DiskFolder {
@@ -37,7 +37,7 @@ impl<R: Drop> Drop for DiskFolder<R> {
     }
 }
 
-/// Tells why a folder isn't opened, unless memory is wanting.
+/// Tells why a folder isn't opened, unless memory runs out.
 fn tell_unopened<R: Eprint>(rt: &R, place: &str, why: TryLockError) -> StoreError {
     match why {
         TryLockError::WouldBlock => {
@@ -55,7 +55,7 @@ fn tell_unopened<R: Eprint>(rt: &R, place: &str, why: TryLockError) -> StoreErro
 
 impl<R: Files<File = File> + AllocGlobal + Eprint + Clone + Drop> DiskFolder<R> {
     /// A folder that is locked, in which a change of an earlier form was carried out. Where that isn't had
-    /// the reason is told, unless memory is wanting. One that has what is no store's isn't opened, and stays
+    /// the reason is told, unless memory runs out. One that has what is no store's isn't opened, and stays
     /// as it is. With `unsynced` nothing is flushed.
     pub fn open(
         rt: R,
@@ -122,7 +122,7 @@ impl<R: Files<File = File> + AllocGlobal + Eprint + Clone + Drop> DiskFolder<R> 
         }
     }
 
-    /// The same where want of memory is told apart, and isn't counted.
+    /// The same where running out of memory is told apart, and isn't counted.
     fn counted_apart<A>(&mut self, done: io::Result<A>) -> Result<A, StoreError>
         ensures later { self.old.faults ≤ self.new.faults }
         ensures cause { IsErrOf result errors.Failed → Rose self.old.faults self.new.faults }

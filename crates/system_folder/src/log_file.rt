@@ -51,7 +51,7 @@ pub struct LogFile {
     frame: Vec<u8>,
 }
 
-// By hand: docs/PROVING.md, "Values that are let go".
+// By hand: docs/proving/dropping.md.
 impl Drop for LogFile {
     fn drop(self) {
         let LogFile {

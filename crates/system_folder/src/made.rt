@@ -33,7 +33,8 @@ pub(crate) fn content_id(name: FileName) -> Option<u64> {
     }
 }
 
-/// Writes the second name of such a content's file behind a path. The one error is want of memory.
+/// Writes the second name of such a content's file behind a path. The one error is running out of
+/// memory.
 pub fn put_made_name(path: &mut String, id: u64) -> Result<(), AllocError>
     ensures { OnOk result (string_bytes path.new ≡ string_bytes path.old ++ made_name id) }
 {
@@ -47,7 +48,7 @@ fn are_lost(bytes: &[u8]) -> bool
     bytes.len() < MADE.len() || bytes == [0; 8].as_slice()
 }
 
-/// The bytes of a content whose file has these, by whether its second name is there. The one error is want of memory.
+/// The bytes of a content whose file has these, by whether its second name is there. The one error is running out of memory.
 fn as_read(bytes: Vec<u8>, is_made: bool) -> Result<Vec<u8>, AllocError>
     ensures { IfOk result (λ r. r.items ≡ as_read is_made bytes.items) }
 {
@@ -60,8 +61,8 @@ fn as_read(bytes: Vec<u8>, is_made: bool) -> Result<Vec<u8>, AllocError>
     Ok(bytes)
 }
 
-/// The bytes of a content by what its own file has, and whether its second name is there (`as_read`). The one error is want
-/// of memory.
+/// The bytes of a content by what its own file has, and whether its second name is there
+/// (`as_read`). The one error is running out of memory.
 pub fn unless_made<R: Files<File = File>>(
     rt: &R,
     bytes: Vec<u8>,

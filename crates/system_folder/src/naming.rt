@@ -31,7 +31,7 @@ pub fn held_by(name: &[u8]) -> Option<Which>
     lettered(*letter, digits)
 }
 
-/// Writes the name of a record's file behind a path. The one error is want of memory.
+/// Writes the name of a record's file behind a path. The one error is running out of memory.
 pub fn put_name(path: &mut String, which: Which) -> Result<(), AllocError>
     ensures { OnOk result (string_bytes path.new ≡ string_bytes path.old ++ name_of which) }
 {

@@ -90,7 +90,7 @@ pub struct Needs {
     all: Need,
 }
 
-// By hand: docs/PROVING.md, "Values that are let go".
+// By hand: docs/proving/dropping.md.
 impl Drop for Needs {
     fn drop(self) {
         let Needs { records, all: _all } = self;

@@ -33,7 +33,7 @@ struct Written {
     file: File,
 }
 
-// By hand: docs/PROVING.md, "Values that are let go".
+// By hand: docs/proving/dropping.md.
 impl Drop for Written {
     fn drop(self) {
         let Written { name: _name, file } = self;
@@ -69,7 +69,7 @@ pub(crate) struct OpenFolder<R> {
     lost: bool,
 }
 
-// By hand: docs/PROVING.md, "Values that are let go".
+// By hand: docs/proving/dropping.md.
 impl<R: Drop> Drop for OpenFolder<R> {
     fn drop(self) {
         let OpenFolder {
@@ -408,7 +408,7 @@ impl<R: Files<File = File> + AllocGlobal + Clone + Drop> OpenFolder<R> {
         Ok(())
     }
 
-    /// Writes the file that was named; where it finds no room what can be let go for it goes.
+    /// Writes the file that was named; where it finds no room what can be dropped for it goes.
     fn write_or_make_room(
         &mut self,
         name: FileName,

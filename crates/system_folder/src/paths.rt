@@ -32,7 +32,7 @@ pub struct Paths {
     beside: String,
 }
 
-// By hand: docs/PROVING.md, "Values that are let go".
+// By hand: docs/proving/dropping.md.
 impl Drop for Paths {
     fn drop(self) {
         let Paths { folder, at, beside } = self;
@@ -50,7 +50,7 @@ fn roomy(alloc: Global, text: &str) -> Result<String, AllocError> {
 }
 
 impl Paths {
-    /// The paths of the folder at a place. The one error is want of memory.
+    /// The paths of the folder at a place. The one error is running out of memory.
     pub fn new(alloc: Global, place: &str) -> Result<Paths, AllocError> {
         let mut folder = roomy(alloc, place)?;
         folder.push_str("/")?;

@@ -102,7 +102,7 @@ pieces_of (Some t) = t.pieces
 
 -- ---- what is told
 
--- the status that a refusal is answered with; want of memory has none
+-- the status that a refusal is answered with; running out of memory has none
 abbrev pub status_of : TempError → Option Status
 status_of refusal.FdInUse = Some status.FdInUse
 status_of refusal.BadFd = Some status.BadFd
@@ -111,7 +111,7 @@ status_of refusal.Inval = Some status.Inval
 status_of refusal.FBig = Some status.FBig
 status_of refusal.Memory = None
 
--- the fault is told, exactly where there is one, and want of memory only where there is none
+-- the fault is told, exactly where there is one, and running out of memory only where there is none
 abbrev pub Tells : {T : Type 0} → Result T TempError → Option Status → Type 0
 Tells (Ok _) fault = fault ≡ None
 Tells (Err e) fault = fault ≡ status_of e

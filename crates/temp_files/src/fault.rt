@@ -27,7 +27,7 @@ pub enum TempError {
 impl TempError {
     ghost use Rattle.temp_files.specs.Temps.{status_of};
 
-    /// The status that the refusal is answered with; want of memory has none.
+    /// The status that the refusal is answered with; running out of memory has none.
     pub fn status(self) -> Option<Status>
         ensures { result ≡ status_of self }
     {

@@ -71,7 +71,7 @@ impl Front {
     }
 
     /// Makes the bytes its own, with room for this many; shared ones are copied. The one error is
-    /// want of memory.
+    /// running out of memory.
     fn make_own(&mut self, alloc: Global, count: usize) -> Result<(), AllocError>
         ensures { self.new ≡ self.old }
     {
@@ -94,7 +94,7 @@ impl Front {
     }
 
     /// Moves all pieces behind the bytes, where each begins where the one before it ends; `count` is
-    /// how many bytes all have. The one error is want of memory, and each piece then has the bytes
+    /// how many bytes all have. The one error is running out of memory, and each piece then has the bytes
     /// that it had.
     pub fn gather_all(
         &mut self,
@@ -123,7 +123,7 @@ impl Front {
         }
     }
 
-    /// Makes the bytes shared, if they aren't, without copying them. The one error is want of memory.
+    /// Makes the bytes shared, if they aren't, without copying them. The one error is running out of memory.
     fn make_shared(&mut self, alloc: Global) -> Result<(), AllocError>
         ensures { self.new ≡ self.old }
     {
@@ -146,7 +146,7 @@ impl Front {
         }
     }
 
-    /// One more owner of the bytes, which aren't copied. The one error is want of memory.
+    /// One more owner of the bytes, which aren't copied. The one error is running out of memory.
     pub fn share(&mut self, alloc: Global) -> Result<SharedBytes, AllocError>
         ensures bytes { IfOk result (λ shared. shared ≡ self.old) }
         ensures same { self.new ≡ self.old }

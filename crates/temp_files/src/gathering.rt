@@ -1,4 +1,4 @@
-//! How pieces are moved to the front (`specs/Laid.antt`). Each is let go as soon as its bytes are
+//! How pieces are moved to the front (`specs/Laid.antt`). Each is dropped as soon as its bytes are
 //! moved, so that they are never all held twice.
 
 ghost use Rattle.std.specs.Prelude.{◌≡◌, ◌<◌, length, IsTrue, vec_capacity};

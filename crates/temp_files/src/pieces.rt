@@ -124,8 +124,8 @@ impl Pieces {
         Ok(())
     }
 
-    /// Puts a piece at a place where it may be. The one error is want of memory, and all then stays
-    /// as it was.
+    /// Puts a piece at a place where it may be. The one error is running out of memory, and all
+    /// then stays as it was.
     pub fn put(&mut self, offset: u64, bytes: Bytes) -> Result<(), AllocError>
         requires { range_fault self.old offset (length bytes) ≡ None }
         ensures ok { OnOk result (self.new ≡ and_piece self.old offset bytes) }
@@ -163,7 +163,7 @@ impl Pieces {
 
     /// An owner of the bytes of all pieces, one behind the other, where each begins where the one
     /// before it ends; `count` is how many these are. Memory that they lack is taken first, and then
-    /// each piece let go as its bytes are moved. The one error is want of memory; all stays as it was.
+    /// each piece dropped as its bytes are moved. The one error is running out of memory; all stays as it was.
     pub fn share(&mut self, alloc: Global, count: usize) -> Result<SharedBytes, AllocError>
         ensures bytes { IfOk result (λ bytes. bytes ≡ all_bytes self.old) }
         ensures same { self.new ≡ self.old }

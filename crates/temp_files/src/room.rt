@@ -1,5 +1,5 @@
 //! How much memory the temporary files of all sessions may hold together. No clause of a call speaks of it:
-//! a piece for which there is no room is refused as one for which memory is wanting.
+//! a piece for which there is no room is refused as one for which memory runs out.
 //!
 //! Half of the room is shared out: each session may always hold its share. The other half is for whoever
 //! comes first, so that few sessions can hold large contents, and those that hold much keep nobody from a
@@ -24,7 +24,7 @@ pub fn cost_of(pieces: usize, bytes: u64) -> u64 {
 
 /// What is held, counted.
 #[derive(Clone, Copy)]
-pub struct Held {
+pub struct Usage {
     /// By all sessions.
     pub all: u64,
     /// By all sessions but the one that asks, above their shares.
@@ -77,7 +77,7 @@ impl Room {
     }
 
     /// Takes room for so much more of one session, by what is held. An `Err` changes nothing.
-    pub fn take(&mut self, held: Held, more: u64) -> Result<(), AllocError>
+    pub fn take(&mut self, held: Usage, more: u64) -> Result<(), AllocError>
         ensures err { OnErr result (self.new ≡ self.old) }
     {
         let own = held.own.saturating_add(more).saturating_sub(self.share());

@@ -63,8 +63,8 @@ impl Temp {
         self.pieces.check(offset, count)
     }
 
-    /// Puts a piece at a place where it may be. The one error is want of memory, and the temporary
-    /// file then stays as it was.
+    /// Puts a piece at a place where it may be. The one error is running out of memory, and the
+    /// temporary file then stays as it was.
     pub fn put(&mut self, offset: u64, bytes: Bytes) -> Result<(), AllocError>
         requires { range_fault self.old.pieces offset (length bytes) ≡ None }
         ensures ok { OnOk result (self.new ≡ with_piece self.old offset bytes) }
@@ -96,8 +96,8 @@ impl Temp {
     }
 
     /// An owner of the bytes of all pieces, one behind the other, where each begins where the one
-    /// before it ends; `count` is how many these are. The one error is want of memory; all stays as
-    /// it was.
+    /// before it ends; `count` is how many these are. The one error is running out of memory; all
+    /// stays as it was.
     pub fn share(&mut self, alloc: Global, count: usize) -> Result<SharedBytes, AllocError>
         ensures bytes { IfOk result (λ bytes. bytes ≡ all_bytes self.old.pieces) }
         ensures same { self.new ≡ self.old }

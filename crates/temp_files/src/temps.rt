@@ -14,7 +14,7 @@ ghost use Rattle.temp_files.specs.Temps.{key_of, temp_at, with_temp, without_tem
 
 use crate::fault::TempError;
 use crate::pieces::SIZE_MOST;
-use crate::room::{Held, Room, cost_of};
+use crate::room::{Usage, Room, cost_of};
 use crate::temp::Temp;
 use lb_base::items::Bytes;
 use server_rules::sessions::stays;
@@ -91,7 +91,7 @@ fn piece_fault(
     }
 }
 
-/// Puts a piece into a temporary file where it may be. The one error is want of memory, and all then
+/// Puts a piece into a temporary file where it may be. The one error is running out of memory, and all then
 /// stays as it was.
 fn put(
     temps: &mut Keyed,
@@ -131,8 +131,8 @@ fn covers(temps: &Keyed, session: u32, fd: u32, size: u64) -> Result<bool, TempE
     }
 }
 
-/// An owner of the content of a temporary file whose pieces cover 0 to the size. The one error is want
-/// of memory; all stays as it was.
+/// An owner of the content of a temporary file whose pieces cover 0 to the size. The one error is
+/// running out of memory; all stays as it was.
 fn share_of(
     alloc: Global,
     temps: &mut Keyed,
@@ -151,7 +151,7 @@ fn share_of(
 }
 
 /// Takes out a temporary file whose pieces cover 0 to the size, and gives two owners of its content.
-/// The one error is want of memory, and all then stays as it was.
+/// The one error is running out of memory, and all then stays as it was.
 fn take_whole(
     alloc: Global,
     temps: &mut Keyed,
@@ -218,7 +218,7 @@ fn take(
 
 /// What all temporary files cost in memory, and which part of that is a session's, where each session has
 /// such a share. Those of one session stand behind each other.
-fn held_by(temps: &Keyed, session: u32, share: u64) -> Held {
+fn held_by(temps: &Keyed, session: u32, share: u64) -> Usage {
     let (mut all, mut above, mut own) = (0u64, 0u64, 0u64);
     let (mut one, mut its) = (session, 0u64);
     for (_key, temp) in temps.iter() {
@@ -236,7 +236,7 @@ fn held_by(temps: &Keyed, session: u32, share: u64) -> Held {
         }
     }
     above = above.saturating_add(its.saturating_sub(share));
-    Held { all, above, own }
+    Usage { all, above, own }
 }
 
 /// Takes room for a piece of so many bytes. The one error is that there is none.
@@ -324,8 +324,8 @@ impl Temps {
         Ok(())
     }
 
-    /// The refusal that putting so many bytes at a place would meet, want of memory left aside. It
-    /// takes no memory.
+    /// The refusal that putting so many bytes at a place would meet, running out of memory left
+    /// aside. It takes no memory.
     pub fn check(&self, session: u32, fd: u32, offset: u64, count: u64) -> Result<(), TempError>
         ensures told { Tells result (piece_fault (temp_at self.now session fd) offset count) }
         ensures sure { ¬ IsErrOf result refusal.Memory }
@@ -351,7 +351,7 @@ impl Temps {
     /// Ends a temporary file, and gives two owners of its whole content, where its pieces cover 0 to
     /// the size once each and nothing beyond, and else none: `BadFd` where there is no such file,
     /// `FBig` where the size is beyond 67,108,864 bytes. Memory that the content lacks is taken first
-    /// (`Memory` where it runs out), and then each piece let go as its bytes are moved. All stays as it
+    /// (`Memory` where it runs out), and then each piece dropped as its bytes are moved. All stays as it
     /// was where the call is refused.
     pub fn take(
         &mut self,
@@ -370,8 +370,8 @@ impl Temps {
     }
 
     /// An owner of the whole content of a temporary file, where its pieces cover 0 to the size once
-    /// each and nothing beyond; none where they don't, where there is no such file, or where memory is
-    /// wanting. The pieces are joined for it, and all stays as it was.
+    /// each and nothing beyond; none where they don't, where there is no such file, or where memory
+    /// runs out. The pieces are joined for it, and all stays as it was.
     pub fn share(&mut self, session: u32, fd: u32, size: u64) -> Option<SharedBytes>
         ensures exact { IfSome result (λ bytes. Some bytes ≡ whole_of (temp_at self.old session fd) size) }
         ensures same { self.new ≡ self.old }

@@ -66,7 +66,7 @@ fn closed(alloc: Global, version: u64, len: u64, sha1: &[u8]) -> Result<Outcome,
     })
 }
 
-/// An outcome as it is told. The one error is want of memory.
+/// An outcome as it is told. The one error is running out of memory.
 pub fn told_of(alloc: Global, outcome: &step::Outcome) -> Result<Outcome, AllocError>
     ensures { IfOk result (λ o. o ≡ told_of outcome.now) }
 {

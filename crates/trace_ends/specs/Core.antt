@@ -30,8 +30,8 @@ use Rattle.register_model.specs.declared.op.Word.{Word}
 use Rattle.trace_text.specs.declared.line.Who.TheVariants as who
 use Rattle.trace_ends.specs.declared.adjusting.Adjustment.{Adjustment}
 use Rattle.trace_ends.specs.declared.adjusting.Adjustment.TheVariants as adjustment
-use Rattle.trace_ends.specs.declared.adjusting.Change.{Change}
-use Rattle.trace_ends.specs.declared.adjusting.Change.TheVariants as changing
+use Rattle.trace_ends.specs.declared.adjusting.CacheChange.{CacheChange}
+use Rattle.trace_ends.specs.declared.adjusting.CacheChange.TheVariants as changing
 use Rattle.trace_ends.specs.Commands.{word_of, file_of, value_at_begin}
 use Rattle.trace_ends.specs.Ops.{begun, op_after, place_after, place_with, pointed_at, ops_with}
 use Rattle.trace_ends.specs.Session.{Seat, Session, commanded_session, is_newest, new_session, session_of, settled_ops, taken_of, taken_with}
@@ -216,7 +216,7 @@ abbrev pub joins : Core → (number : ℕ) → Option Seat → CoreStep
 joins k number None = quiet k
 joins k number (Some seat) = let r = server_step k.server event.Connect in joins_as k number seat r.0 r.1.told
 
--- ---- a change that waits is made
+-- ---- a pending change is made
 
 abbrev pub settled_by : Core → (changed : Option ℕ) → Told → List Op
 settled_by k changed (told.Settled session xid) = settled_ops k.ops (k.steps + 1) changed (numbered k.sessions session)
@@ -281,7 +281,7 @@ happens k (Hangs number) = hangs k number (numbered k.sessions number)
 -- ---- an index or a cache alone
 
 -- what a change of its index or its cache makes of a client
-abbrev pub client_changed : Change → client.State → client.State
+abbrev pub client_changed : CacheChange → client.State → client.State
 client_changed (changing.Forge key place) = λ s. client.forged s key place
 client_changed changing.Clear = client.index_cleared
 client_changed (changing.Evict file) = λ s. client.evicted s file

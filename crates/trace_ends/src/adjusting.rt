@@ -29,7 +29,7 @@ pub enum Adjustment {
     Warm { client: u64, content: Content },
 }
 
-// By hand: docs/PROVING.md, "Values that are let go".
+// By hand: docs/proving/dropping.md.
 impl Drop for Adjustment {
     fn drop(self) {
         match self {
@@ -47,7 +47,7 @@ impl Drop for Adjustment {
 
 /// A change of one client's index or cache alone.
 #[derive(Clone, Copy)]
-pub enum Change {
+pub enum CacheChange {
     /// The index gets this place for the key.
     Forge { key: u64, place: Place },
     /// The index has no place any more.
@@ -57,7 +57,7 @@ pub enum Change {
 }
 
 /// A client, if there is one of this number, has its index or cache changed so.
-fn change_client(core: &mut Core, client: u64, change: Change) -> Result<(), AllocError>
+fn change_client(core: &mut Core, client: u64, change: CacheChange) -> Result<(), AllocError>
     ensures { OnOk result (core_of core.new ≡ with_client (core_of core.old) client (client_changed change) (numbered core.old.seats.items client)) }
 {
     match place_of(core.seats.len(), client) {
@@ -97,7 +97,7 @@ fn warm(alloc: Global, core: &mut Core, client: u64, content: &Content) -> Resul
     warm_client(alloc, core, client, &items)
 }
 
-/// An index or a cache is changed, and nothing else. The one error is want of memory.
+/// An index or a cache is changed, and nothing else. The one error is running out of memory.
 pub fn adjust(alloc: Global, core: &mut Core, adjustment: &Adjustment) -> Result<(), AllocError>
     ensures { OnOk result (core_of core.new ≡ adjusted (core_of core.old) adjustment.now) }
 {
@@ -106,7 +106,7 @@ pub fn adjust(alloc: Global, core: &mut Core, adjustment: &Adjustment) -> Result
             let (key, place) = (*key, *place);
             match *who {
                 Who::Server => core.server.forge(key, place),
-                Who::Client(client) => change_client(core, client, Change::Forge { key, place }),
+                Who::Client(client) => change_client(core, client, CacheChange::Forge { key, place }),
             }
         }
         Adjustment::Clear(who) => match *who {
@@ -114,9 +114,9 @@ pub fn adjust(alloc: Global, core: &mut Core, adjustment: &Adjustment) -> Result
                 core.server.clear_index();
                 Ok(())
             }
-            Who::Client(client) => change_client(core, client, Change::Clear),
+            Who::Client(client) => change_client(core, client, CacheChange::Clear),
         },
-        Adjustment::Evict { client, file } => change_client(core, *client, Change::Evict(*file)),
+        Adjustment::Evict { client, file } => change_client(core, *client, CacheChange::Evict(*file)),
         Adjustment::Warm { client, content } => warm(alloc, core, *client, content),
     }
 }

@@ -16,7 +16,8 @@ use session_rules::numbers::place_of;
 use session_rules::session::Session;
 use std::alloc::{AllocError, Global};
 
-/// What the server tells a client that connects. A server in want of memory can tell nothing.
+/// What the server tells a client that connects. A server in running out of memory can tell
+/// nothing.
 fn connect(alloc: Global, server: &mut Server) -> Result<Told, AllocError>
     ensures server { OnOk result ((server_step server.old event.Connect).0 ≡ server.new) }
     ensures told { IfOk result (λ told. (server_step server.old event.Connect).1.told ≡ told) }
@@ -33,7 +34,7 @@ fn connect(alloc: Global, server: &mut Server) -> Result<Told, AllocError>
 
 impl Core {
     /// A client joins, if there is one of this number: a step of the server, and one of its own. The
-    /// one error is want of memory, as of each event: the two ends may be left half-way then.
+    /// one error is running out of memory, as of each event: the two ends may be left half-way then.
     pub fn joins(&mut self, alloc: Global, client: u64) -> Result<CoreStep, AllocError>
         ensures { IfOk result (λ t. core_step_of self.new t ≡ happens (core_of self.old) (Joins client)) }
     {

@@ -77,8 +77,8 @@ fn put_value(
     }
 }
 
-/// What was sent and received, with a step's share. No run comes to 2^64 bytes, so there it is want
-/// of memory.
+/// What was sent and received, with a step's share. No run comes to 2^64 bytes, so there it is
+/// running out of memory.
 fn counted(traffic: Traffic, counts: Counts) -> Result<Traffic, AllocError>
     ensures { IfOk result (λ t. t ≡ counted traffic counts) }
 {

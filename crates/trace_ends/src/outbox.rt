@@ -14,7 +14,7 @@ use wire::message::Message;
 use wire::spell::spell_marked;
 
 /// A message's record of one fragment. Neither end sends more than a record may have, so the one
-/// error that can come is want of memory.
+/// error that can come is running out of memory.
 fn record_of(alloc: Global, message: &Message) -> Result<Bytes, AllocError>
     ensures { IfOk result (λ bytes. bytes ≡ marked (message_spell message.now)) }
 {

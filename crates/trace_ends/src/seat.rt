@@ -11,7 +11,7 @@ ghost use Rattle.trace_ends.specs.Core.{client_changed};
 ghost use Rattle.trace_ends.specs.Session.{may_warm, new_seat};
 ghost use Rattle.trace_ends.specs.Ops.{place_after, place_with};
 
-use crate::adjusting::Change;
+use crate::adjusting::CacheChange;
 use crate::places::{place_after, place_with};
 use client_state::step::ClientStep;
 use command_text::command::Command;
@@ -31,8 +31,8 @@ pub struct Seat {
     place: Option<usize>,
 }
 
-// Written by hand, it is proved here alone; derived, each crate above would prove how each part is let
-// go.
+// Written by hand, it is proved here alone; derived, each crate above would prove how each part is
+// dropped.
 impl Drop for Seat {
     fn drop(self) {
         let Seat {
@@ -64,7 +64,7 @@ impl Runs for Seat {
 
 impl Seat {
     /// A client that has not joined, takes its clock and the server's to drift apart so far, in
-    /// milliseconds, and speaks this version of LBFS. The one error is want of memory.
+    /// milliseconds, and speaks this version of LBFS. The one error is running out of memory.
     pub fn new(alloc: Global, drift: u64, lbfs: u32) -> Result<Seat, AllocError>
         ensures { IfOk result (λ seat. seat ≡ new_seat drift lbfs) }
     {
@@ -138,17 +138,17 @@ impl Seat {
         Ok(acts)
     }
 
-    /// The client's index or cache is changed so, and nothing else. The one error is want of memory.
-    pub fn changes(&mut self, change: Change) -> Result<(), AllocError>
+    /// The client's index or cache is changed so, and nothing else. The one error is running out of memory.
+    pub fn changes(&mut self, change: CacheChange) -> Result<(), AllocError>
         ensures { OnOk result (self.new ≡ record self.old { client = client_changed change self.old.client }) }
     {
         match change {
-            Change::Forge { key, place } => self.client.forge(key, place),
-            Change::Clear => {
+            CacheChange::Forge { key, place } => self.client.forge(key, place),
+            CacheChange::Clear => {
                 self.client.clear_index();
                 Ok(())
             }
-            Change::Evict(file) => {
+            CacheChange::Evict(file) => {
                 self.client.evict(file);
                 Ok(())
             }
@@ -162,7 +162,7 @@ impl Seat {
         self.session.is_none() && self.client.cache().is_empty()
     }
 
-    /// The client gets these items of a cache file. The one error is want of memory.
+    /// The client gets these items of a cache file. The one error is running out of memory.
     #[tactic(auto, using(client_state::proofs::Warming::all_entered))]
     pub fn warms(&mut self, alloc: Global, items: &[Bytes]) -> Result<(), AllocError>
         ensures { OnOk result (self.new ≡ record self.old { client = warms self.old.client items.now }) }

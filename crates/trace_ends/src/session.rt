@@ -75,7 +75,8 @@ pub fn is_newest(newest: Option<u32>, number: u64) -> bool
     }
 }
 
-/// A number in 32 bits. No trace has 2^32 clients or sessions, so there it is want of memory.
+/// A number in 32 bits. No trace has 2^32 clients or sessions, so there it is running out of
+/// memory.
 pub fn short_number(number: u64) -> Result<u32, AllocError>
     ensures { IfOk result (λ short. short ≡ number) }
 {

@@ -33,8 +33,8 @@ pub struct Core {
     pub entries: Vec<u64>,
 }
 
-// Written by hand, it is proved here alone; derived, each crate above would prove how each part is let
-// go.
+// Written by hand, it is proved here alone; derived, each crate above would prove how each part is
+// dropped.
 impl Drop for Core {
     fn drop(self) {
         let Core {
@@ -55,7 +55,8 @@ impl Drop for Core {
     }
 }
 
-/// The count with so many steps more. No run comes to 2^64 steps, so there it is want of memory.
+/// The count with so many steps more. No run comes to 2^64 steps, so there it is running out of
+/// memory.
 pub fn count_on(steps: u64, more: u64) -> Result<u64, AllocError>
     ensures { IfOk result (λ n. n ≡ steps + more) }
 {
@@ -79,7 +80,7 @@ fn seat_more(
 }
 
 impl Core {
-    /// No file, no client and no session. The one error is want of memory.
+    /// No file, no client and no session. The one error is running out of memory.
     pub fn new(alloc: Global) -> Result<Core, AllocError>
         ensures { IfOk result (λ core. core_of core ≡ record { server = empty; drift = 0; lbfs = 1; seats = []; sessions = []; steps = 0; ops = []; entries = [] }) }
     {
@@ -97,7 +98,7 @@ impl Core {
     }
 
     /// The tree opens with a file or directory of this name, where that is free in the directory. The one
-    /// error is want of memory, and all then stays as it was.
+    /// error is running out of memory, and all then stays as it was.
     pub fn open(&mut self, dir: u64, name: Name, body: Body) -> Result<(), AllocError>
         ensures { OnOk result (core_of self.new ≡ record (core_of self.old) { server = opens_with (core_of self.old).server dir name body }) }
     {
@@ -126,7 +127,7 @@ impl Core {
     }
 
     /// Puts `count` clients in the place of those that are there, none of which has joined. The one error
-    /// is want of memory.
+    /// is running out of memory.
     pub fn seat_all(&mut self, alloc: Global, count: u64) -> Result<(), AllocError>
         ensures { OnOk result (core_of self.new ≡ record (core_of self.old) { seats = replicate count (new_seat self.old.drift self.old.lbfs) }) }
     {
@@ -134,7 +135,7 @@ impl Core {
         seat_more(alloc, &mut self.seats, self.drift, self.lbfs, count)
     }
 
-    /// The operations and the number of steps. The ends are let go.
+    /// The operations and the number of steps. The ends are dropped.
     pub fn history(self) -> (Items<Op>, u64)
         ensures { result ≡ (self.ops.items, self.steps) }
     {

@@ -66,7 +66,7 @@ pub fn put_opening(out: &mut String, seed: u64) -> Result<(), AllocError>
     put_joins(out)
 }
 
-/// The whole trace of so many blocks. The one error is want of memory.
+/// The whole trace of so many blocks. The one error is running out of memory.
 pub fn text(alloc: Global, seed: u64, blocks: u64) -> Result<Bytes, AllocError>
     requires { blocks ≤ BLOCKS_MOST }
     ensures { IfOk result (λ text. text ≡ generated_text seed blocks) }

@@ -4,7 +4,7 @@ use Rattle.command_text.specs.declared.command.Command.{Command}
 use Rattle.command_text.specs.declared.command.Command.TheVariants as command
 use Rattle.command_text.specs.declared.path.PathCommand.{PathCommand}
 use Rattle.command_text.specs.declared.path.PathCommand.TheVariants as path
-use Rattle.server_core.specs.State.{Change}
+use Rattle.server_core.specs.State.{FileChange}
 use Rattle.register_model.specs.declared.op.Op.{Op}
 use Rattle.register_model.specs.declared.op.Outcome.{Outcome}
 use Rattle.register_model.specs.declared.op.Outcome.TheVariants as told
@@ -20,7 +20,7 @@ use Rattle.trace_ends.specs.Core.{Event.Cuts}
 -- nothing is on its way on a session, none of its changes waits, and the server did not see its connection lost
 pub record IsAlone (w : World) (number : ℕ) : Type 0 where
   pub still : is_still w number ≡ true
-  pub waiting : (i : ℕ) (c : Change) → slice_get w.core.server.waiting i ≡ Some c → c.session ≡ number → ⊥
+  pub waiting : (i : ℕ) (c : FileChange) → slice_get w.core.server.waiting i ≡ Some c → c.session ≡ number → ⊥
   pub stands : (x : Session) → numbered w.core.sessions number ≡ Some x → x.hung ≡ false
 
 -- so it is on the newest session of a client, if it has one

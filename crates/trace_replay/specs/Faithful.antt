@@ -18,7 +18,7 @@ use Rattle.lease_rules.specs.Changes.{asker, meets}
 use Rattle.lease_rules.specs.Leases.{is_others}
 use Rattle.lease_rules.specs.declared.lease.Lease.{Lease}
 use Rattle.server_core.specs.Closing.{ready_by}
-use Rattle.server_core.specs.State.{Change}
+use Rattle.server_core.specs.State.{FileChange}
 use Rattle.server_core.specs.declared.change.Wanted.TheVariants as wanted
 use Rattle.tree_calls.specs.declared.asked.Asked.{Asked}
 use Rattle.server_core.specs.declared.journal.Entry.{Entry}
@@ -212,7 +212,7 @@ pub record IsSettled (book : Book) (number step : ℕ) : Type 0 where
   pub event_is : moment.event ≡ Settles now
   pub step_is : step_of moment ≡ step
   pub number_is : length moment.before.server.journal ≡ number
-  pub change : Change
+  pub change : FileChange
   pub ready : ready_by moment.before.server now ≡ Some change
   pub entry : Entry
   pub entry_is : slice_get book.journal number ≡ Some entry
@@ -241,7 +241,7 @@ pub record IsRemoved (moments : List Moment) (step : ℕ) (e : Entry) : Type 0 w
   pub now : ℕ
   pub event_is : moment.event ≡ Settles now
   pub step_is : step_of moment ≡ step
-  pub change : Change
+  pub change : FileChange
   pub ready : ready_by moment.before.server now ≡ Some change
   pub call : Asked
   pub what_is : change.what ≡ wanted.Asked call
@@ -255,22 +255,22 @@ change_refusal (message.Answer xid (body.Nfs m)) = refusal_of m
 change_refusal m = None
 
 -- The change was made in this step, as the journal's next; or its session was told why it was not.
-abbrev pub IsMadeOrRefused : Book → Moment → Change → Type 0
+abbrev pub IsMadeOrRefused : Book → Moment → FileChange → Type 0
 IsMadeOrRefused book m c = (slice_get book.entries (length m.before.server.journal) ≡ Some (step_of m)) ⊎ ((answer : Message) × (s : Status) × Contains (happens m.before m.event).down (record { session = c.session; message = answer }) × (change_refusal answer ≡ Some s))
 
 -- A settling takes the change that is ready out, wherever it stands, and no other; it is made, or its session told why not. It is the first of its file, by then
 -- each lease on that has ended, but for the session's own under its COMMITTMP, and the quiet after the server's start is over.
-pub record TakesReady (book : Book) (m : Moment) (now : ℕ) (c : Change) : Type 0 where
+pub record TakesReady (book : Book) (m : Moment) (now : ℕ) (c : FileChange) : Type 0 where
   pub place : ℕ
   pub there : slice_get m.before.server.waiting place ≡ Some c
   pub left : (happens m.before m.event).core.server.waiting ≡ remove m.before.server.waiting place
-  pub first : (i : ℕ) (d : Change) → i < place → slice_get m.before.server.waiting i ≡ Some d → meets d c ≡ false
+  pub first : (i : ℕ) (d : FileChange) → i < place → slice_get m.before.server.waiting i ≡ Some d → meets d c ≡ false
   pub awake : m.before.server.leasing.quiet ≤ max m.before.server.leasing.moment now
   pub free : (i : ℕ) (l : Lease) → slice_get m.before.server.leasing.leases i ≡ Some l → l.file ≡ c.file → is_others l (asker c) ≡ true → l.ends ≤ max m.before.server.leasing.moment now
   pub done : IsMadeOrRefused book m c
 
 -- where none is ready nothing of the server changes
-abbrev pub IsSettling : Book → Moment → (now : ℕ) → Option Change → Type 0
+abbrev pub IsSettling : Book → Moment → (now : ℕ) → Option FileChange → Type 0
 IsSettling book m now None = (happens m.before m.event).core.server ≡ m.before.server
 IsSettling book m now (Some c) = TakesReady book m now c
 

@@ -10,7 +10,7 @@ use Rattle.tree_nodes.specs.Nodes.{names}
 use Rattle.tree_reading.specs.Tree.{Tree}
 use Rattle.file_tree.specs.Step.{create, mkdir, remove, rmdir, rename}
 use Rattle.tree_reading.specs.declared.call.CreateMode.TheVariants as mode
-use Rattle.tree_reading.specs.declared.call.Held.{Held}
+use Rattle.tree_reading.specs.declared.call.Reservation.{Reservation}
 use Rattle.path_calls.specs.Walk.{place, create_call, make_dir_call, rename_call}
 use Rattle.register_model.specs.declared.op.Op.{Op}
 use Rattle.trace_ends.specs.Core.{Event.Serves, server_waiting, happens}
@@ -39,7 +39,7 @@ ChangesNames (nfs.Rename a) = Unit {0}
 ChangesNames m = ⊥
 
 -- what it makes of a tree, where the others that wait keep their room
-abbrev pub MakesOf : Nfs → Tree → Held → Tree → Type 0
+abbrev pub MakesOf : Nfs → Tree → Reservation → Tree → Type 0
 MakesOf (nfs.Create a) t held after = (dir : ℕ) × (name : List ℕ) × (nfs.Create a ≡ create_call dir name) × (after ≡ (create t held dir name mode.Guarded).0)
 MakesOf (nfs.MkDir a) t held after = (dir : ℕ) × (name : List ℕ) × (nfs.MkDir a ≡ make_dir_call dir name) × (after ≡ (mkdir t held dir name).0)
 MakesOf (nfs.Remove a) t held after = (dir : ℕ) × (name : List ℕ) × (a ≡ place dir name) × (after ≡ (remove t held dir name).0)

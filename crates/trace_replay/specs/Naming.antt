@@ -21,7 +21,7 @@ use Rattle.tree_reading.specs.Reading.{attr_of, stands_for}
 use Rattle.file_tree.specs.Step.{create, mkdir, remove, rmdir, rename}
 use Rattle.tree_reading.specs.declared.call.Changed.{Changed}
 use Rattle.tree_reading.specs.declared.call.CreateMode.TheVariants as mode
-use Rattle.tree_reading.specs.declared.call.Held.{Held}
+use Rattle.tree_reading.specs.declared.call.Reservation.{Reservation}
 use Rattle.tree_reading.specs.declared.reading.Standing.{Standing}
 use Rattle.tree_reading.specs.declared.entry.Entry.{Entry}
 use Rattle.path_calls.specs.Walk.{pages_most, place, create_call, make_dir_call, rename_call}
@@ -133,7 +133,7 @@ IsPointed o step (Some file) = (o.point ≡ Some step) × (o.file ≡ file)
 
 -- The server took this call of the operation, whose client waited for the answer. In that step, or in the one in which it settled what the call left
 -- waiting, it made of its tree what this makes of it, and it was not refused: the others that waited kept their room. The journal grew by its entries.
-pub record Makes (book : Book) (o : Op) (behind : ℕ) (asks : Nfs) (call : Tree → Held → Tree × Result Changed Status) : Type 0 where
+pub record Makes (book : Book) (o : Op) (behind : ℕ) (asks : Nfs) (call : Tree → Reservation → Tree × Result Changed Status) : Type 0 where
   pub xid : ℕ
   pub taken : ℕ
   pub takes : TakesCall book o.client taken xid (body.Nfs asks)
@@ -149,7 +149,7 @@ pub record Makes (book : Book) (o : Op) (behind : ℕ) (asks : Nfs) (call : Tree
   pub pointed : IsPointed o (step_of moment) (entry_file done.first)
 
 -- the same, in the directory that a path led to
-abbrev pub MakesIn : Book → Op → List (List ℕ) → (asks : (dir : ℕ) → Nfs) → ((dir : ℕ) → Tree → Held → Tree × Result Changed Status) → Type 0
+abbrev pub MakesIn : Book → Op → List (List ℕ) → (asks : (dir : ℕ) → Nfs) → ((dir : ℕ) → Tree → Reservation → Tree × Result Changed Status) → Type 0
 MakesIn book o dirs asks call = (dir : ℕ) × (step : ℕ) × Leads book o.begin ROOT dirs dir step × Makes book o step (asks dir) (call dir)
 
 -- a rename, whose first name's directory is found first

@@ -4,10 +4,10 @@ use Rattle.wire.specs.Parse.{parse_of}
 use Rattle.wire.specs.declared.message.Body.{Body}
 use Rattle.wire.specs.declared.message.Message.TheVariants as message
 use Rattle.client_state.specs.State.{pending, has_call}
-use Rattle.tree_reading.specs.declared.call.Held.{Held}
+use Rattle.tree_reading.specs.declared.call.Reservation.{Reservation}
 use Rattle.callback_core.specs.Waits.{without_made}
 use Rattle.server_core.specs.Closing.{ready_by}
-use Rattle.server_core.specs.State.{State, Change, held}
+use Rattle.server_core.specs.State.{State, FileChange, held}
 use Rattle.trace_ends.specs.Session.{Seat}
 use Rattle.trace_ends.specs.Core.{Event, Event.Serves, Event.Settles, server_waiting}
 use Rattle.trace_ends.specs.Numbers.{numbered}
@@ -37,7 +37,7 @@ pub record TakesCall (book : Book) (client step xid : ℕ) (call : Body) : Type 
 pub record SettlesCall (m : Moment) (session xid : ℕ) : Type 0 where
   pub now : ℕ
   pub event_is : m.event ≡ Settles now
-  pub change : Change
+  pub change : FileChange
   pub ready : ready_by m.before.server now ≡ Some change
   pub session_is : change.session ≡ session
   pub xid_is : change.xid ≡ xid
@@ -47,10 +47,10 @@ abbrev pub ComesTo : Moment → (session xid taken : ℕ) → Type 0
 ComesTo m session xid taken = (step_of m ≡ taken) ⊎ SettlesCall m session xid
 
 -- the changes that wait at an event, but for the one that it settles
-abbrev pub others_waiting : Event → State → List Change
+abbrev pub others_waiting : Event → State → List FileChange
 others_waiting (Settles now) s = without_made s.waiting (ready_by s now)
 others_waiting e s = s.waiting
 
 -- what they need, which is left free
-abbrev pub held_at : Moment → Held
+abbrev pub held_at : Moment → Reservation
 held_at m = held (others_waiting m.event m.before.server)

@@ -22,7 +22,7 @@ use Rattle.lease_rules.specs.declared.lease.Lease.{Lease}
 use Rattle.callback_core.specs.BackCalls.{waiting_at}
 use Rattle.callback_core.specs.Waits.{without}
 use Rattle.server_core.specs.Closing.{ready_by}
-use Rattle.server_core.specs.State.{State, Change, stands}
+use Rattle.server_core.specs.State.{State, FileChange, stands}
 use Rattle.server_core.specs.declared.change.Wanted.{Wanted}
 use Rattle.server_core.specs.declared.change.Wanted.TheVariants as wanted
 use Rattle.server_core.specs.declared.event.Sent.{Sent}
@@ -77,7 +77,7 @@ IsContent (wanted.Asked a) = ⊥
 abbrev pub GrantsTo : Move → (session file : ℕ) → Type 0
 GrantsTo v session file =
     ((now xid : ℕ) × (bytes : List ℕ) × (call : Body) × (v.event ≡ Serves session now bytes) × (parse_of server_waiting bytes ≡ Ok (message.Call xid call)) × (file_leased call ≡ Some file))
-    ⊎ ((now : ℕ) × (c : Change) × (v.event ≡ Settles now) × (ready_by v.before now ≡ Some c) × IsContent c.what × (c.session ≡ session) × (c.file ≡ file))
+    ⊎ ((now : ℕ) × (c : FileChange) × (v.event ≡ Settles now) × (ready_by v.before now ≡ Some c) × IsContent c.what × (c.session ≡ session) × (c.file ≡ file))
 
 -- granted in this step: to a session that stands, from the moment on, for the term; and nobody has asked for it
 pub record IsGranted (v : Move) (l : Lease) : Type 0 where
@@ -110,7 +110,7 @@ pub record StoodIn (leases : List Lease) (l : Lease) : Type 0 where
 
 -- No lease is granted on a file while a change of it is pending: each that there is stood before, and ended then, and one that a RECALL asked for remembers it.
 abbrev pub GrantsNone : Move → Type 0
-GrantsNone v = (i j : ℕ) (c : Change) (l : Lease) → slice_get v.after.waiting i ≡ Some c → slice_get v.after.leasing.leases j ≡ Some l → l.file ≡ c.file → StoodIn v.before.leasing.leases l
+GrantsNone v = (i j : ℕ) (c : FileChange) (l : Lease) → slice_get v.after.waiting i ≡ Some c → slice_get v.after.leasing.leases j ≡ Some l → l.file ≡ c.file → StoodIn v.before.leasing.leases l
 
 -- An answer to a RECALL gives up the leases of its session that remember it, and no others.
 pub record GivesUp (v : Move) (session xid : ℕ) : Type 0 where
@@ -134,7 +134,7 @@ AsksFor till v l =
     ⊎ (XIDS_MOST ≤ length (recall_numbers l.session till))
 
 -- So it is with each lease that holds a change up, hasn't ended at this reading, and was asked for by no RECALL, as far as its session stands.
-abbrev pub AsksForAll : (till : List Moment) → Move → (now : ℕ) → Change → Type 0
+abbrev pub AsksForAll : (till : List Moment) → Move → (now : ℕ) → FileChange → Type 0
 AsksForAll till v now c = (i : ℕ) (l : Lease) → slice_get v.before.leasing.leases i ≡ Some l → l.file ≡ c.file → is_others l (asker c) ≡ true → max v.before.leasing.moment now < l.ends → l.recall ≡ None → stands v.before l.session ≡ true → AsksFor till v l
 
 -- ---- a change comes
@@ -159,7 +159,7 @@ kind_asked b = None
 
 -- The server takes a call of a session, which is a change from now on: of the file that it asks to change, behind all others. And the leases that hold it up are
 -- asked for.
-pub record Comes (till : List Moment) (v : Move) (session now : ℕ) (bytes : List ℕ) (c : Change) : Type 0 where
+pub record Comes (till : List Moment) (v : Move) (session now : ℕ) (bytes : List ℕ) (c : FileChange) : Type 0 where
   pub call : Body
   pub read : parse_of server_waiting bytes ≡ Ok (message.Call c.xid call)
   pub session_is : c.session ≡ session
@@ -170,8 +170,8 @@ pub record Comes (till : List Moment) (v : Move) (session now : ℕ) (bytes : Li
 
 -- How the list of pending changes goes on: one comes, one is taken out by a settling, or the change of a session goes with it; and the others stay, in order.
 abbrev pub GoesOn : (till : List Moment) → Event → Move → Type 0
-GoesOn till (Serves session now bytes) v = (v.after.waiting ≡ v.before.waiting) ⊎ ((c : Change) × Comes till v session now bytes c)
-GoesOn till (Settles now) v = (v.after.waiting ≡ v.before.waiting) ⊎ ((place : ℕ) × (c : Change) × (ready_by v.before now ≡ Some c) × (slice_get v.before.waiting place ≡ Some c) × (v.after.waiting ≡ remove v.before.waiting place))
+GoesOn till (Serves session now bytes) v = (v.after.waiting ≡ v.before.waiting) ⊎ ((c : FileChange) × Comes till v session now bytes c)
+GoesOn till (Settles now) v = (v.after.waiting ≡ v.before.waiting) ⊎ ((place : ℕ) × (c : FileChange) × (ready_by v.before now ≡ Some c) × (slice_get v.before.waiting place ≡ Some c) × (v.after.waiting ≡ remove v.before.waiting place))
 GoesOn till (Hangs session) v = v.after.waiting ≡ without v.before.waiting session
 GoesOn till e v = v.after.waiting ≡ v.before.waiting
 
@@ -179,14 +179,14 @@ GoesOn till e v = v.after.waiting ≡ v.before.waiting
 
 -- From this reading on nothing holds the change at this place up but others before it: neither it nor one of its file that stands before it is held up by a lease,
 -- since each on that ends by then, but for the session's own under its COMMITTMP.
-pub record IsFreeBy (s : State) (reading place : ℕ) (c : Change) : Type 0 where
+pub record IsFreeBy (s : State) (reading place : ℕ) (c : FileChange) : Type 0 where
   pub there : slice_get s.waiting place ≡ Some c
-  pub ended : (i j : ℕ) (d : Change) (l : Lease) → i ≤ place → slice_get s.waiting i ≡ Some d → d.file ≡ c.file → slice_get s.leasing.leases j ≡ Some l → l.file ≡ c.file → is_others l (asker d) ≡ true → l.ends ≤ reading
+  pub ended : (i j : ℕ) (d : FileChange) (l : Lease) → i ≤ place → slice_get s.waiting i ≡ Some d → d.file ≡ c.file → slice_get s.leasing.leases j ≡ Some l → l.file ≡ c.file → is_others l (asker d) ≡ true → l.ends ≤ reading
 
 -- At each moment at which nothing holds it up, it is ready, or one that stands before it: that a settling makes (`TakesReady`).
 abbrev pub AreReady : Book → Type 0
-AreReady book = (m : Moment) (now place : ℕ) (c : Change) → Contains book.moments m → IsFreeBy m.before.server (max m.before.server.leasing.moment now) place c
-    → (d : Change) × (i : ℕ) × (i ≤ place) × (slice_get m.before.server.waiting i ≡ Some d) × (ready_by m.before.server now ≡ Some d)
+AreReady book = (m : Moment) (now place : ℕ) (c : FileChange) → Contains book.moments m → IsFreeBy m.before.server (max m.before.server.leasing.moment now) place c
+    → (d : FileChange) × (i : ℕ) × (i ≤ place) × (slice_get m.before.server.waiting i ≡ Some d) × (ready_by m.before.server now ≡ Some d)
 
 -- how many settlings there are at this reading or a later one
 abbrev pub settling_at : (reading : ℕ) → Event → ℕ
@@ -198,13 +198,13 @@ settlings reading [] = 0
 settlings reading (m ∷ ms) = settling_at reading m.event + settlings reading ms
 
 -- the change is taken out in this step: by a settling, or its session is lost
-abbrev pub TakesOut : Moment → Change → Type 0
+abbrev pub TakesOut : Moment → FileChange → Type 0
 TakesOut m c = ((now : ℕ) × (m.event ≡ Settles now) × (ready_by m.before.server now ≡ Some c)) ⊎ (m.event ≡ Hangs c.session)
 
 -- Where from a moment and a reading on nothing holds it up but others before it, it is taken out by as many settlings as its place, counted from 1: whatever else
 -- happens among them, and whatever comes.
 abbrev pub AreSettledSoon : Book → Type 0
-AreSettledSoon book = (early span late : List Moment) (m : Moment) (reading place : ℕ) (c : Change) → book.moments ≡ early ++ m ∷ (span ++ late) → IsFreeBy m.before.server reading place c → place < settlings reading (m ∷ span)
+AreSettledSoon book = (early span late : List Moment) (m : Moment) (reading place : ℕ) (c : FileChange) → book.moments ≡ early ++ m ∷ (span ++ late) → IsFreeBy m.before.server reading place c → place < settlings reading (m ∷ span)
     → (n : Moment) × Contains (m ∷ span) n × TakesOut n c
 
 -- ---- all of it

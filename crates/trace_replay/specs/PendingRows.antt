@@ -12,7 +12,7 @@ use Rattle.xdr_codec.specs.declared.handle.TheConstants.{ROOT}
 use Rattle.server_core.specs.declared.change.Wanted.TheVariants as wanted
 use Rattle.server_core.specs.declared.event.Sent.{Sent}
 use Rattle.server_core.specs.State as server
-use Rattle.server_core.specs.State.{State, Change, change_of}
+use Rattle.server_core.specs.State.{State, FileChange, change_of}
 use Rattle.server_core.specs.Step.{opens_with}
 use Rattle.trace_ends.specs.Core.{Event, Event.Serves, Event.Settles, Event.Hangs}
 use Rattle.trace_replay.specs.Book.{Book}
@@ -30,11 +30,11 @@ abbrev lease : (session file ends : ℕ) → Option ℕ → Lease
 lease session file ends recall = record { session = session; file = file; ends = ends; recall = recall }
 
 -- a close of a file
-abbrev close : (session file : ℕ) → Change
+abbrev close : (session file : ℕ) → FileChange
 close session file = change_of session 5 file (wanted.Content [])
 
 -- sessions 1 to 4 stand, these changes are pending, and these leases stand
-abbrev state : List Change → List Lease → State
+abbrev state : List FileChange → List Lease → State
 state waiting leases = record two_files { waiting = waiting; sessions = 1 ∷ 2 ∷ 3 ∷ 4 ∷ []; sessions_made = 4; leasing = record two_files.leasing { term = 1000; leases = leases } }
 
 abbrev served : (before after : State) → List Sent → Move
@@ -76,17 +76,17 @@ forgotten h = let w = h 0 0 (close 2 2) (lease 3 2 1000 None) refl refl refl in 
 in_front : GoesOn [] (Serves 4 0 []) (served (state (close 2 2 ∷ []) []) (state (close 4 2 ∷ close 2 2 ∷ []) []) []) → ⊥
 in_front (inl same) = absurd (cons_nil (tail same))
   where
-    tail : {x y : Change} {xs ys : List Change} → x ∷ xs ≡ y ∷ ys → xs ≡ ys
+    tail : {x y : FileChange} {xs ys : List FileChange} → x ∷ xs ≡ y ∷ ys → xs ≡ ys
     tail e = cc
 
-    cons_nil : {x : Change} {xs : List Change} → x ∷ xs ≡ [] → ⊥
+    cons_nil : {x : FileChange} {xs : List FileChange} → x ∷ xs ≡ [] → ⊥
     cons_nil e = absurd cc
 in_front (inr (c, comes)) = let e = ap session_of (head comes.behind) in absurd (omega (arith, e))
   where
-    session_of : Change → ℕ
+    session_of : FileChange → ℕ
     session_of c = c.session
 
-    head : {x y : Change} {xs ys : List Change} → x ∷ xs ≡ y ∷ ys → x ≡ y
+    head : {x y : FileChange} {xs ys : List FileChange} → x ∷ xs ≡ y ∷ ys → x ≡ y
     head e = cc
 
 -- a change is lost as another session's connection is
@@ -174,7 +174,7 @@ second_made book t = by t.place t.there t.first
     apart : Some (close 2 2) ≡ Some (close 3 2) → ⊥
     apart e = absurd cc
 
-    by : (place : ℕ) → slice_get (close 2 2 ∷ close 3 2 ∷ []) place ≡ Some (close 3 2) → ((i : ℕ) (d : Change) → i < place → slice_get (close 2 2 ∷ close 3 2 ∷ []) i ≡ Some d → meets d (close 3 2) ≡ false) → ⊥
+    by : (place : ℕ) → slice_get (close 2 2 ∷ close 3 2 ∷ []) place ≡ Some (close 3 2) → ((i : ℕ) (d : FileChange) → i < place → slice_get (close 2 2 ∷ close 3 2 ∷ []) i ≡ Some d → meets d (close 3 2) ≡ false) → ⊥
     by zero at first = apart at
     by (suc place) at first = absurd (no_true (first 0 (close 2 2) (omega arith) refl))
       where

@@ -171,7 +171,7 @@ pub lost_answer : text_of (accepted (header ++ codes "file a t:a\njoin 1 0 0\ndo
 unfolding calls_most fronted key_of lease_on_form leased_form record_of digits encode_with decode_pairs sha1 digest_bytes hash_after compress rounds schedule first_words closed_ends next_end outcome_form time_form kind_form attr_form u32_form u64_form bool_form bytes_form fixed_form count_form opaque_spell opaque_read hashes_form pair_form hash_range_form piece_form range_form new_temp_form temp_piece_form cond_piece_form commit_form committed_form direction_form front_form auth_form call_form versions_form accept_form denial_form reply_form
 lost_answer = refl
 
--- the server sees the connection lost, and the change that waits is gone
+-- the server sees the connection lost, and the pending change is gone
 pub hung_close : text_of (accepted (header ++ codes "file a t:a\njoin 1 0 0\ndo 1 0 open #2\npass 1 3 0 0\ndo 1 0 write #2 0 t:b\ndo 1 0 close #2\npass 1 9 0 0\nhang 1 0\nhang 1 0\nsettle 0\n"))
     ≡ codes "lbfs-history 1\nop 1 client 1 open file 2 begin 3 end 7 point 4 Opened 1 86f7e437faa5a7fce15d1ddcb9eaeaea377667b8 cond 0 tmp 0 read 1 data 1\nop 2 client 1 write file 2 begin 8 end 8 point - Done cond 0 tmp 0 read 0 data 0\nop 3 client 1 close file 2 begin 9 end - point - Running cond 1 tmp 1 read 0 data 1\nend ops 3 steps 18\n"
 unfolding calls_most fronted key_of lease_on_form leased_form record_of digits encode_with decode_pairs sha1 digest_bytes hash_after compress rounds schedule first_words closed_ends next_end outcome_form time_form kind_form attr_form u32_form u64_form bool_form bytes_form fixed_form count_form opaque_spell opaque_read hashes_form pair_form hash_range_form piece_form range_form new_temp_form temp_piece_form cond_piece_form commit_form committed_form direction_form front_form auth_form call_form versions_form accept_form denial_form reply_form

@@ -74,7 +74,8 @@ times_with t (timing.Term term) = Ok (record t { term = term })
 times_with t (timing.Drift drift) = Ok (record t { clocks = at_first t.term drift })
 times_with t (timing.Reads r) = read_by t (read_at t.clocks r)
 
--- what a line answers and leaves of the clocks: a fault, or want of memory, leaves all as it was
+-- what a line answers and leaves of the clocks: a fault, or running out of memory, leaves all as it
+-- was
 abbrev pub IsTaken : {T : Type 0} → Result T NoteError → Result Times ClockFault → (old new : Times) → Type 0
 IsTaken (Ok _) ran old new = ran ≡ Ok new
 IsTaken (Err (Fault f)) ran old new = (ran ≡ Err f) × (new ≡ old)

@@ -19,7 +19,7 @@ use Rattle.register_model.specs.declared.op.Op.{Op}
 use Rattle.register_model.specs.declared.op.Outcome.TheVariants as told
 use Rattle.register_model.specs.declared.op.Word.TheVariants as word
 use Rattle.chunk_calls.specs.Files.{File, file_at}
-use Rattle.server_core.specs.State.{Change}
+use Rattle.server_core.specs.State.{FileChange}
 use Rattle.server_core.specs.declared.change.Wanted.{Wanted}
 use Rattle.server_core.specs.declared.change.Wanted.TheVariants as wanted
 use Rattle.tree_calls.specs.declared.asked.Asked.TheVariants as asked
@@ -48,7 +48,7 @@ abbrev pub Gives : Result History TraceError → Result World Refused → Type 0
 Gives (Ok h) ran = (w : World) × (ran ≡ Ok w) × (h ≡ history_of w)
 Gives (Err e) ran = Fails e ran
 
--- What a change that waits is to make: a close's value, of a close that had sent all of its traffic; or that its file goes, by a remove, or by a rename over it.
+-- What a pending change is to make: a close's value, of a close that had sent all of its traffic; or that its file goes, by a remove, or by a rename over it.
 abbrev pub IsWanted : Book → Op → Wanted → Type 0
 IsWanted book o (wanted.Content content) = (o.word ≡ word.Close) × (length o.value ≡ length content) × Or book (o.value ≡ content) × (o.traffic ≡ stored_traffic o.value (deals_of o book.moments))
 IsWanted book o (wanted.Asked (asked.Remove r)) = o.word ≡ word.Remove
@@ -59,9 +59,9 @@ abbrev pub HasTarget : Op → Wanted → (file : ℕ) → Type 0
 HasTarget o (wanted.Content content) file = o.file ≡ file
 HasTarget o (wanted.Asked a) file = o.file ≡ 0
 
--- A change that waits is that of an operation that is still running, or was lost. It came on a session of the operation's client that the server did not see lost,
+-- A pending change is that of an operation that is still running, or was lost. It came on a session of the operation's client that the server did not see lost,
 -- and it is of the last operation that sent calls there and may change a file.
-pub record HoldsValue (book : Book) (w : World) (c : Change) : Type 0 where
+pub record HoldsValue (book : Book) (w : World) (c : FileChange) : Type 0 where
   pub place : ℕ
   pub op : Op
   pub there : slice_get w.core.ops place ≡ Some op
@@ -77,8 +77,8 @@ pub record HoldsValue (book : Book) (w : World) (c : Change) : Type 0 where
 
 -- so has each, and no two are of one session
 pub record HoldsValues (book : Book) (w : World) : Type 0 where
-  pub values : (i : ℕ) (c : Change) → slice_get w.core.server.waiting i ≡ Some c → HoldsValue book w c
-  pub single : (i j : ℕ) (c d : Change) → slice_get w.core.server.waiting i ≡ Some c → slice_get w.core.server.waiting j ≡ Some d → c.session ≡ d.session → i ≡ j
+  pub values : (i : ℕ) (c : FileChange) → slice_get w.core.server.waiting i ≡ Some c → HoldsValue book w c
+  pub single : (i j : ℕ) (c d : FileChange) → slice_get w.core.server.waiting i ≡ Some c → slice_get w.core.server.waiting j ≡ Some d → c.session ≡ d.session → i ≡ j
 
 -- the server's tree has of each file what the history says that it is, if it is there, and the version
 abbrev pub HoldsFile : Book → World → (file : ℕ) → Option File → Value → Type 0

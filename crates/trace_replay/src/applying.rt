@@ -23,7 +23,7 @@ use tree_nodes::content::Content as Whole;
 use tree_nodes::node::Body;
 
 /// The size with a content more, and that content for the server. No tree comes to 2^64 bytes, so there
-/// it is want of memory.
+/// it is running out of memory.
 fn size_and_content(alloc: Global, size: u64, content: &Content) -> Result<(u64, Whole), AllocError>
     ensures { IfOk result (λ made. made ≡ (size + length (content_bytes content.now), content_bytes content.now)) }
 {
@@ -44,8 +44,8 @@ fn does(client: u64, now: u64, command: Command) -> Event
     }
 }
 
-/// The server grants leases of so many milliseconds. No header has a term of 2^32, so there it is want of
-/// memory.
+/// The server grants leases of so many milliseconds. No header has a term of 2^32, so there it is
+/// running out of memory.
 fn grants(core: &mut Core, term: u64) -> Result<(), AllocError>
     ensures { OnOk result (core_of core.new ≡ record (core_of core.old) { server = with_term core.old.server term }) }
 {

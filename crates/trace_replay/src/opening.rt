@@ -35,7 +35,7 @@ impl OpeningFile {
         OpeningFile { file, content }
     }
 
-    /// The file with its bytes. The one error is want of memory.
+    /// The file with its bytes. The one error is running out of memory.
     fn build(&self, alloc: Global) -> Result<Opening, AllocError>
         ensures { IfOk result (λ o. o ≡ self.now) }
     {
@@ -47,7 +47,7 @@ impl OpeningFile {
     }
 }
 
-/// The files with their bytes, in order. The one error is want of memory.
+/// The files with their bytes, in order. The one error is running out of memory.
 pub fn build_all(alloc: Global, files: &[OpeningFile]) -> Result<Items<Opening>, AllocError>
     ensures { IfOk result (λ opening. opening ≡ files.now) }
 {

@@ -32,8 +32,8 @@ pub struct WorldState {
     pub wires: Vec<Wire>,
 }
 
-// Written by hand, it is proved here alone; derived, each crate above would prove how each part is let
-// go.
+// Written by hand, it is proved here alone; derived, each crate above would prove how each part is
+// dropped.
 impl Drop for WorldState {
     fn drop(self) {
         let WorldState {
@@ -110,7 +110,7 @@ fn taken_by(
 }
 
 impl WorldState {
-    /// The world before the first line. The one error is want of memory.
+    /// The world before the first line. The one error is running out of memory.
     pub fn new(alloc: Global) -> Result<WorldState, AllocError>
         ensures { IfOk result (λ world. world_of world ≡ start) }
     {
@@ -124,8 +124,8 @@ impl WorldState {
         })
     }
 
-    /// The history that the world has come to. The ends are let go before the bytes of the opening
-    /// files are made. The one error is want of memory.
+    /// The history that the world has come to. The ends are dropped before the bytes of the opening
+    /// files are made. The one error is running out of memory.
     pub fn history(self, alloc: Global) -> Result<History, AllocError>
         ensures { IfOk result (λ history. history ≡ history_of (world_of self)) }
     {

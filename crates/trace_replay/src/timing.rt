@@ -108,7 +108,7 @@ impl Times {
     }
 
     /// What a line says of the clocks is taken. The errors are the first fault by the clock rule, and
-    /// want of memory, and after either all is as before.
+    /// running out of memory, and after either all is as before.
     pub fn take(&mut self, alloc: Global, timing: Timing) -> Result<(), NoteError>
         ensures { IsTaken result (times_with (times_of self.old) timing) (times_of self.old) (times_of self.new) }
     {

@@ -72,7 +72,7 @@ pub enum Turn {
         amount: Amount,
         now: u64,
     },
-    /// A change that waits may be made.
+    /// A pending change may be made.
     Settle(u64),
     /// The client sees its connection lost.
     Cut(u64),

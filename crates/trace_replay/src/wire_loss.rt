@@ -29,8 +29,8 @@ fn lose_up(alloc: Global, wires: &mut Vec<Wire>, number: u32)
     }
 }
 
-/// A session is made, or what is on its way down or up one is dropped. The one error is want of
-/// memory for a session that is made.
+/// A session is made, or what is on its way down or up one is dropped. The one error is running out
+/// of memory for a session that is made.
 pub fn lose(alloc: Global, wires: &mut Vec<Wire>, loss: Loss) -> Result<(), AllocError>
     ensures { OnOk result (wires.new.items ≡ lost_by wires.old.items (loss_of loss)) }
 {

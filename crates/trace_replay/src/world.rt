@@ -26,8 +26,8 @@ pub struct World {
     times: Times,
 }
 
-// Written by hand, it is proved here alone; derived, each crate above would prove how each part is let
-// go.
+// Written by hand, it is proved here alone; derived, each crate above would prove how each part is
+// dropped.
 impl Drop for World {
     fn drop(self) {
         let World { state, times } = self;
@@ -47,7 +47,7 @@ impl Model for World {
 }
 
 impl World {
-    /// The world before the first line. The one error is want of memory.
+    /// The world before the first line. The one error is running out of memory.
     pub fn new(alloc: Global) -> Result<World, AllocError>
         ensures { IfOk result (λ world. world ≡ timed_start) }
     {
@@ -105,8 +105,8 @@ impl World {
         self.state.core.server.journal().len()
     }
 
-    /// The history that the world has come to. The ends are let go before the bytes of the opening
-    /// files are made. The one error is want of memory.
+    /// The history that the world has come to. The ends are dropped before the bytes of the opening
+    /// files are made. The one error is running out of memory.
     pub fn history(self, alloc: Global) -> Result<History, AllocError>
         ensures { IfOk result (λ history. history ≡ history_of self.world) }
     {

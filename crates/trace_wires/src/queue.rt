@@ -75,8 +75,8 @@ pub struct Queue {
     behind: VecDeque<Bytes>,
 }
 
-// Written by hand, it is proved here alone; derived, each crate above would prove how each part is let
-// go.
+// Written by hand, it is proved here alone; derived, each crate above would prove how each part is
+// dropped.
 impl Drop for Queue {
     fn drop(self) {
         let Queue {
@@ -125,7 +125,7 @@ impl Queue {
         }
     }
 
-    /// Puts a piece on its way. The one error is want of memory.
+    /// Puts a piece on its way. The one error is running out of memory.
     pub fn put(&mut self, piece: Bytes) -> Result<(), AllocError>
         ensures { OnOk result (self.new ≡ self.old ++ piece) }
     {
@@ -186,7 +186,7 @@ fn left_of(amount: Amount, most: u64, count: u64) -> u64
 }
 
 /// Delivers so many bytes of a queue to an end, or as many as there are, and gives the records that
-/// they complete. The one error is want of memory.
+/// they complete. The one error is running out of memory.
 pub fn deliver(
     alloc: Global,
     queue: &mut Queue,

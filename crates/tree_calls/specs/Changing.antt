@@ -19,7 +19,7 @@ use Rattle.tree_reading.specs.Tree.{Tree}
 use Rattle.tree_reading.specs.declared.call.Changed.{Changed}
 use Rattle.tree_reading.specs.declared.call.CreateMode.{CreateMode}
 use Rattle.tree_reading.specs.declared.call.CreateMode.TheVariants as mode
-use Rattle.tree_reading.specs.declared.call.Held.{Held}
+use Rattle.tree_reading.specs.declared.call.Reservation.{Reservation}
 use Rattle.file_tree.specs.Stores.{stored}
 use Rattle.tree_calls.specs.declared.asked.Done.{Done}
 
@@ -93,28 +93,28 @@ renamed a b dir to nodes (Err s) = refused_rename s
 abbrev pub with_done : (List Node → Result Changed Status → Done) → Tree × Result Changed Status → Tree × Done
 with_done f p = (p.0, f p.0.nodes p.1)
 
-abbrev pub creates_under : Tree → Held → Bool → ℕ → List ℕ → CreateMode → Tree × Done
+abbrev pub creates_under : Tree → Reservation → Bool → ℕ → List ℕ → CreateMode → Tree × Done
 creates_under t held fault dir name m = with_done (created (before t.nodes dir) dir) (stored fault t (create t held dir name m))
 
-abbrev pub mkdirs_under : Tree → Held → Bool → ℕ → List ℕ → Tree × Done
+abbrev pub mkdirs_under : Tree → Reservation → Bool → ℕ → List ℕ → Tree × Done
 mkdirs_under t held fault dir name = with_done (made_directory (before t.nodes dir) dir) (stored fault t (mkdir t held dir name))
 
-abbrev pub rmdirs_under : Tree → Held → Bool → ℕ → List ℕ → Tree × Done
+abbrev pub rmdirs_under : Tree → Reservation → Bool → ℕ → List ℕ → Tree × Done
 rmdirs_under t held fault dir name = with_done (removed_directory (before t.nodes dir) dir) (stored fault t (rmdir t held dir name))
 
-abbrev pub renames_under : Tree → Held → Bool → ℕ → List ℕ → ℕ → List ℕ → Tree × Done
+abbrev pub renames_under : Tree → Reservation → Bool → ℕ → List ℕ → ℕ → List ℕ → Tree × Done
 renames_under t held fault dir name to to_name = with_done (renamed (before t.nodes dir) (before t.nodes to) dir to) (stored fault t (rename t held dir name to to_name))
 
 -- ---- where the store doesn't fail
 
-abbrev pub creates : Tree → Held → ℕ → List ℕ → CreateMode → Tree × Done
+abbrev pub creates : Tree → Reservation → ℕ → List ℕ → CreateMode → Tree × Done
 creates t held dir name m = creates_under t held false dir name m
 
-abbrev pub mkdirs : Tree → Held → ℕ → List ℕ → Tree × Done
+abbrev pub mkdirs : Tree → Reservation → ℕ → List ℕ → Tree × Done
 mkdirs t held dir name = mkdirs_under t held false dir name
 
-abbrev pub rmdirs : Tree → Held → ℕ → List ℕ → Tree × Done
+abbrev pub rmdirs : Tree → Reservation → ℕ → List ℕ → Tree × Done
 rmdirs t held dir name = rmdirs_under t held false dir name
 
-abbrev pub renames : Tree → Held → ℕ → List ℕ → ℕ → List ℕ → Tree × Done
+abbrev pub renames : Tree → Reservation → ℕ → List ℕ → ℕ → List ℕ → Tree × Done
 renames t held dir name to to_name = renames_under t held false dir name to to_name

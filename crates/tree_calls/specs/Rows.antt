@@ -21,7 +21,7 @@ use Rattle.tree_nodes.specs.declared.node.Body.TheVariants.{Directory, File}
 use Rattle.tree_reading.specs.Tree.{Tree, root, empty}
 use Rattle.file_tree.specs.Step.{create, rename, remove, replace}
 use Rattle.tree_reading.specs.declared.call.CreateMode.TheVariants as mode
-use Rattle.tree_reading.specs.declared.call.Held.{Held}
+use Rattle.tree_reading.specs.declared.call.Reservation.{Reservation}
 use Rattle.tree_reading.specs.declared.call.Spot.{Spot}
 use Rattle.tree_reading.specs.declared.entry.EntryKind.TheVariants as line
 use Rattle.tree_calls.specs.declared.asked.Asked.{Asked}
@@ -29,7 +29,7 @@ use Rattle.tree_calls.specs.declared.asked.Asked.TheVariants as asked
 use Rattle.tree_calls.specs.declared.asked.Outcome.{Outcome}
 use Rattle.tree_calls.specs.declared.asked.Outcome.TheVariants as outcome
 use Rattle.tree_calls.specs.Telling.{told}
-use Rattle.tree_calls.specs.Waiting.{calls, settles, commits, calls_under, settles_under, commits_under, file_of}
+use Rattle.tree_calls.specs.Waiting.{calls, settles, gives_content, calls_under, settles_under, gives_content_under, file_of}
 
 -- ---- a tree: a file "a", a directory "d" that has a directory "s" and a file "x", and an empty directory "e"
 
@@ -47,13 +47,13 @@ tree = record {
 }
 
 -- nothing waits; so many entries wait that no change has room; so many that one has
-abbrev none : Held
+abbrev none : Reservation
 none = record { entries = 0; bytes = 0 }
 
-abbrev full : Held
+abbrev full : Reservation
 full = record { entries = 4294967286; bytes = 0 }
 
-abbrev nearly : Held
+abbrev nearly : Reservation
 nearly = record { entries = 4294967285; bytes = 0 }
 
 -- a name in a directory; one in none, by a handle of another form
@@ -113,7 +113,7 @@ outcome_short (Some (outcome.Answered d)) = told_short d.answer
 outcome_short (Some (outcome.Waits a)) = waits (file_of a)
 
 -- of calls where so much is held, and a change of the session waits or none
-abbrev come : Held → Bool → List Nfs → List Brief
+abbrev come : Reservation → Bool → List Nfs → List Brief
 come held busy ms = map (λ (m : Nfs). outcome_short (calls tree held busy m).1) ms
 
 -- ---- CREATE and MKDIR
@@ -133,7 +133,7 @@ row_create = refl
 row_mkdir : come full true (makes_directory (wrong long) ∷ makes_directory (at 9 long) ∷ makes_directory (at 2 long) ∷ makes_directory (at 3 long) ∷ makes_directory (at 3 []) ∷ makes_directory (at 3 slashed) ∷ makes_directory (at 3 zeroed) ∷ makes_directory (at 3 dot) ∷ makes_directory (at 3 dot_dot) ∷ makes_directory (at 3 (codes "x")) ∷ makes_directory (at 3 longest) ∷ []) ≡ refused BadHandle ∷ refused Stale ∷ refused NotDir ∷ refused NameTooLong ∷ refused Acces ∷ refused Acces ∷ refused Acces ∷ refused Exist ∷ refused Exist ∷ refused Exist ∷ refused NoSpc ∷ []
 row_mkdir = refl
 
--- a change that waits is no hindrance
+-- a pending change is no hindrance
 row_making_room : come nearly true (makes (at 1 longest) (Guarded kept) ∷ makes (at 3 (codes "n")) (Unchecked kept) ∷ makes_directory (at 3 longest) ∷ []) ≡ done ∷ done ∷ done ∷ []
 row_making_room = refl
 
@@ -288,21 +288,21 @@ row_refused = refl
 
 -- ---- COMMITTMP
 
-row_committed : (commits tree none 4 (codes "new") 9).1 ≡ record { answer = answer.Done (record { version = 4; term = 9 }); entry = Some (record { file = 4; version = 4; kind = line.Commit; len = 3; sha1 = sha1 (codes "new") }) }
+row_committed : (gives_content tree none 4 (codes "new") 9).1 ≡ record { answer = answer.Done (record { version = 4; term = 9 }); entry = Some (record { file = 4; version = 4; kind = line.Commit; len = 3; sha1 = sha1 (codes "new") }) }
 row_committed = refl
 
-row_commit_gone : commits (remove tree none 3 (codes "x")).0 none 4 (codes "new") 9 ≡ ((remove tree none 3 (codes "x")).0, record { answer = answer.Failed Stale tt; entry = None })
+row_commit_gone : gives_content (remove tree none 3 (codes "x")).0 none 4 (codes "new") 9 ≡ ((remove tree none 3 (codes "x")).0, record { answer = answer.Failed Stale tt; entry = None })
 row_commit_gone = refl
 
 -- ---- a store that fails: what would be done is told IO, and nothing is done; what is refused, waits or changes nothing is as ever
 
-abbrev come_failing : Held → Bool → List Nfs → List Brief
+abbrev come_failing : Reservation → Bool → List Nfs → List Brief
 come_failing held busy ms = map (λ (m : Nfs). outcome_short (calls_under tree held busy true m).1) ms
 
 row_fault : come_failing none false (makes (at 1 (codes "n")) (Guarded kept) ∷ makes (at 1 (codes "a")) (Unchecked kept) ∷ makes (at 1 (codes "a")) (Guarded kept) ∷ makes_directory (at 3 (codes "n")) ∷ nfs.RmDir (at 1 (codes "e")) ∷ nfs.RmDir (at 1 (codes "d")) ∷ moves (at 1 (codes "a")) (at 1 (codes "a")) ∷ moves (at 1 (codes "a")) (at 1 (codes "n")) ∷ moves (at 1 (codes "e")) (at 3 (codes "s")) ∷ moves (at 1 (codes "a")) (at 3 (codes "x")) ∷ nfs.Remove (at 1 (codes "a")) ∷ nfs.GetAttr (handle_bytes 2) ∷ []) ≡ refused Io ∷ done ∷ refused Exist ∷ refused Io ∷ refused Io ∷ refused NotEmpty ∷ done ∷ refused Io ∷ refused Io ∷ waits 4 ∷ waits 2 ∷ done ∷ []
 row_fault = refl
 
-row_fault_changes_nothing : ((calls_under tree none false true (makes (at 1 (codes "n")) (Guarded kept))).0 ≡ tree) × (settles_under tree none true removes_a ≡ (tree, record { answer = nfs.RemoveAnswer (answer.Failed Io (record { before = None; after = None })); first = None; second = None })) × (commits_under tree none true 4 (codes "new") 9 ≡ (tree, record { answer = answer.Failed Io tt; entry = None }))
+row_fault_changes_nothing : ((calls_under tree none false true (makes (at 1 (codes "n")) (Guarded kept))).0 ≡ tree) × (settles_under tree none true removes_a ≡ (tree, record { answer = nfs.RemoveAnswer (answer.Failed Io (record { before = None; after = None })); first = None; second = None })) × (gives_content_under tree none true 4 (codes "new") 9 ≡ (tree, record { answer = answer.Failed Io tt; entry = None }))
 row_fault_changes_nothing = (refl, refl, refl)
 
 -- what changed meanwhile comes before the store

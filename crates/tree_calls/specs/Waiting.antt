@@ -13,7 +13,7 @@ use Rattle.tree_reading.specs.Plans.{create_plan, may_mkdir, remove_plan, rmdir_
 use Rattle.file_tree.specs.Step.{remove, replace}
 use Rattle.tree_reading.specs.Tree.{Tree}
 use Rattle.tree_reading.specs.declared.call.Changed.{Changed}
-use Rattle.tree_reading.specs.declared.call.Held.{Held}
+use Rattle.tree_reading.specs.declared.call.Reservation.{Reservation}
 use Rattle.tree_reading.specs.declared.call.Planned.{Planned}
 use Rattle.tree_reading.specs.declared.call.Planned.TheVariants as planned
 use Rattle.tree_reading.specs.declared.call.Spot.{Spot}
@@ -40,7 +40,7 @@ abbrev pub entries_of : Asked → ℕ
 entries_of (asked.Remove r) = 1
 entries_of (asked.Rename r) = 2
 
--- ---- on arrival: a session may have one change that waits. Else it's told JUKEBOX, which comes before want of space, the last of the tree's refusals.
+-- ---- on arrival: a session may have one pending change. Else it's told JUKEBOX, which comes before want of space, the last of the tree's refusals.
 
 abbrev pub busy_first : Bool → Status → Status
 busy_first false s = s
@@ -87,16 +87,16 @@ remove_again nodes r = version nodes r.file >>= λ _. still nodes r.spot r.file
 abbrev pub rename_again : List Node → Renaming → Result Unit Status
 rename_again nodes r = version nodes r.file >>= λ _. still nodes r.from r.node >>= λ _. still nodes r.to r.file
 
-abbrev pub removes_if_under : Tree → Held → Bool → Spot → Result Unit Status → Tree × Done
+abbrev pub removes_if_under : Tree → Reservation → Bool → Spot → Result Unit Status → Tree × Done
 removes_if_under t held fault s (Err e) = (t, said (nfs.RemoveAnswer (answer.Failed e no_side)))
 removes_if_under t held fault s (Ok u) = with_done (removed (before t.nodes s.dir) s.dir) (stored fault t (remove t held s.dir s.name))
 
-abbrev pub renames_if_under : Tree → Held → Bool → Spot → Spot → Result Unit Status → Tree × Done
+abbrev pub renames_if_under : Tree → Reservation → Bool → Spot → Spot → Result Unit Status → Tree × Done
 renames_if_under t held fault s to (Err e) = (t, refused_rename e)
 renames_if_under t held fault s to (Ok u) = renames_under t held fault s.dir s.name to.dir to.name
 
--- held is what the other changes that wait will need; fault: whether the store fails, if it is asked
-abbrev pub settles_under : Tree → Held → Bool → Asked → Tree × Done
+-- held is what the other pending changes will need; fault: whether the store fails, if it is asked
+abbrev pub settles_under : Tree → Reservation → Bool → Asked → Tree × Done
 settles_under t held fault (asked.Remove r) = removes_if_under t held fault r.spot (remove_again t.nodes r)
 settles_under t held fault (asked.Rename r) = renames_if_under t held fault r.from r.to (rename_again t.nodes r)
 
@@ -109,20 +109,20 @@ committed term (Err s) = record { answer = answer.Failed s tt; entry = None }
 abbrev pub with_committed : ℕ → Tree × Result Changed Status → Tree × Committing
 with_committed term p = (p.0, committed term p.1)
 
-abbrev pub commits_under : Tree → Held → Bool → ℕ → List ℕ → ℕ → Tree × Committing
-commits_under t held fault file content term = with_committed term (stored fault t (replace t held file content))
+abbrev pub gives_content_under : Tree → Reservation → Bool → ℕ → List ℕ → ℕ → Tree × Committing
+gives_content_under t held fault file content term = with_committed term (stored fault t (replace t held file content))
 
 -- ---- any call, in the directory that its handle names
 
-abbrev pub creates_in_under : Tree → Held → Bool → NewFile → Result ℕ Status → Tree × Done
+abbrev pub creates_in_under : Tree → Reservation → Bool → NewFile → Result ℕ Status → Tree × Done
 creates_in_under t held fault f (Err s) = (t, said (nfs.CreateAnswer (answer.Failed s no_side)))
 creates_in_under t held fault f (Ok dir) = creates_under t held fault dir f.place.name (mode_of f.how)
 
-abbrev pub mkdirs_in_under : Tree → Held → Bool → List ℕ → Result ℕ Status → Tree × Done
+abbrev pub mkdirs_in_under : Tree → Reservation → Bool → List ℕ → Result ℕ Status → Tree × Done
 mkdirs_in_under t held fault name (Err s) = (t, said (nfs.MkDirAnswer (answer.Failed s no_side)))
 mkdirs_in_under t held fault name (Ok dir) = mkdirs_under t held fault dir name
 
-abbrev pub rmdirs_in_under : Tree → Held → Bool → List ℕ → Result ℕ Status → Tree × Done
+abbrev pub rmdirs_in_under : Tree → Reservation → Bool → List ℕ → Result ℕ Status → Tree × Done
 rmdirs_in_under t held fault name (Err s) = (t, said (nfs.RmDirAnswer (answer.Failed s no_side)))
 rmdirs_in_under t held fault name (Ok dir) = rmdirs_under t held fault dir name
 
@@ -130,26 +130,26 @@ abbrev pub removing : ℕ → List ℕ → Result ℕ Status → Outcome
 removing dir name (Err s) = Answered (said (nfs.RemoveAnswer (answer.Failed s no_side)))
 removing dir name (Ok file) = Waits (asked.Remove (record { spot = spot_of dir name; file = file }))
 
-abbrev pub asks_remove : Tree → Held → Bool → ℕ → List ℕ → Result ℕ Status
+abbrev pub asks_remove : Tree → Reservation → Bool → ℕ → List ℕ → Result ℕ Status
 asks_remove t held busy dir name = remove_comes busy (remove_plan t held dir name)
 
-abbrev pub removes_in : Tree → Held → Bool → List ℕ → Result ℕ Status → Outcome
+abbrev pub removes_in : Tree → Reservation → Bool → List ℕ → Result ℕ Status → Outcome
 removes_in t held busy name (Err s) = Answered (said (nfs.RemoveAnswer (answer.Failed s no_side)))
 removes_in t held busy name (Ok dir) = removing dir name (asks_remove t held busy dir name)
 
 abbrev pub answered : Tree × Done → Tree × Outcome
 answered p = (p.0, Answered p.1)
 
-abbrev pub renaming_under : Tree → Held → Bool → ℕ → List ℕ → ℕ → List ℕ → Result (Option (ℕ × ℕ)) Status → Tree × Outcome
+abbrev pub renaming_under : Tree → Reservation → Bool → ℕ → List ℕ → ℕ → List ℕ → Result (Option (ℕ × ℕ)) Status → Tree × Outcome
 renaming_under t held fault dir name to to_name (Err s) = (t, Answered (refused_rename s))
 renaming_under t held fault dir name to to_name (Ok None) = answered (renames_under t held fault dir name to to_name)
 renaming_under t held fault dir name to to_name (Ok (Some p)) = (t, Waits (asked.Rename (record { from = spot_of dir name; to = spot_of to to_name; node = p.0; file = p.1 })))
 
-abbrev pub asks_rename : Tree → Held → Bool → ℕ → List ℕ → ℕ → List ℕ → Result (Option (ℕ × ℕ)) Status
+abbrev pub asks_rename : Tree → Reservation → Bool → ℕ → List ℕ → ℕ → List ℕ → Result (Option (ℕ × ℕ)) Status
 asks_rename t held busy dir name to to_name = rename_comes busy (stands_for t.nodes to to_name) (rename_plan t held dir name to to_name)
 
 -- the form of both handles comes first
-abbrev pub renames_in_under : Tree → Held → Bool → Bool → List ℕ → List ℕ → Result ℕ Status → Result ℕ Status → Tree × Outcome
+abbrev pub renames_in_under : Tree → Reservation → Bool → Bool → List ℕ → List ℕ → Result ℕ Status → Result ℕ Status → Tree × Outcome
 renames_in_under t held busy fault name to_name (Ok dir) (Ok to) = renaming_under t held fault dir name to to_name (asks_rename t held busy dir name to to_name)
 renames_in_under t held busy fault name to_name (Ok dir) (Err s) = (t, Answered (refused_rename s))
 renames_in_under t held busy fault name to_name (Err s) to = (t, Answered (refused_rename s))
@@ -171,7 +171,7 @@ changes (nfs.Rename r) = true
 changes m = false
 
 -- Of a message that is no call nothing comes. busy: a change of the session waits.
-abbrev pub calls_under : Tree → Held → Bool → Bool → Nfs → Tree × Option Outcome
+abbrev pub calls_under : Tree → Reservation → Bool → Bool → Nfs → Tree × Option Outcome
 calls_under t held busy fault (nfs.Create f) = some (answered (creates_in_under t held fault f (id_of f.place.dir)))
 calls_under t held busy fault (nfs.MkDir d) = some (answered (mkdirs_in_under t held fault d.place.name (id_of d.place.dir)))
 calls_under t held busy fault (nfs.Remove p) = (t, Some (removes_in t held busy p.name (id_of p.dir)))
@@ -180,7 +180,7 @@ calls_under t held busy fault (nfs.Rename r) = some (renames_in_under t held bus
 calls_under t held busy fault m = (t, told_outcome (told t.nodes m))
 
 -- whether a call that may change the tree isn't refused: it may then make entries, at once or once it has waited
-abbrev pub enters : Tree → Held → Bool → Nfs → Bool
+abbrev pub enters : Tree → Reservation → Bool → Nfs → Bool
 enters t held busy (nfs.Create f) = is_ok (id_of f.place.dir >>= λ dir. create_plan t held dir f.place.name (mode_of f.how))
 enters t held busy (nfs.MkDir d) = is_ok (id_of d.place.dir >>= λ dir. may_mkdir t held dir d.place.name)
 enters t held busy (nfs.Remove p) = is_ok (id_of p.dir >>= λ dir. asks_remove t held busy dir p.name)
@@ -189,7 +189,7 @@ enters t held busy (nfs.Rename r) = is_ok (id_of r.from.dir >>= λ dir. id_of r.
 enters t held busy m = false
 
 -- memory is taken by calls that aren't refused
-abbrev pub Takes : Tree → Held → Bool → Nfs → Type 0
+abbrev pub Takes : Tree → Reservation → Bool → Nfs → Type 0
 Takes t held busy (nfs.Create f) = IsOk (id_of f.place.dir >>= λ dir. create_plan t held dir f.place.name (mode_of f.how))
 Takes t held busy (nfs.MkDir d) = IsOk (id_of d.place.dir >>= λ dir. may_mkdir t held dir d.place.name)
 Takes t held busy (nfs.Remove p) = IsOk (id_of p.dir >>= λ dir. asks_remove t held busy dir p.name)
@@ -199,32 +199,32 @@ Takes t held busy m = TakesTold t.nodes m
 
 -- ---- where the store doesn't fail
 
-abbrev pub removes_if : Tree → Held → Spot → Result Unit Status → Tree × Done
+abbrev pub removes_if : Tree → Reservation → Spot → Result Unit Status → Tree × Done
 removes_if t held s r = removes_if_under t held false s r
 
-abbrev pub renames_if : Tree → Held → Spot → Spot → Result Unit Status → Tree × Done
+abbrev pub renames_if : Tree → Reservation → Spot → Spot → Result Unit Status → Tree × Done
 renames_if t held s to r = renames_if_under t held false s to r
 
-abbrev pub settles : Tree → Held → Asked → Tree × Done
+abbrev pub settles : Tree → Reservation → Asked → Tree × Done
 settles t held a = settles_under t held false a
 
-abbrev pub commits : Tree → Held → ℕ → List ℕ → ℕ → Tree × Committing
-commits t held file content term = commits_under t held false file content term
+abbrev pub gives_content : Tree → Reservation → ℕ → List ℕ → ℕ → Tree × Committing
+gives_content t held file content term = gives_content_under t held false file content term
 
-abbrev pub creates_in : Tree → Held → NewFile → Result ℕ Status → Tree × Done
+abbrev pub creates_in : Tree → Reservation → NewFile → Result ℕ Status → Tree × Done
 creates_in t held f r = creates_in_under t held false f r
 
-abbrev pub mkdirs_in : Tree → Held → List ℕ → Result ℕ Status → Tree × Done
+abbrev pub mkdirs_in : Tree → Reservation → List ℕ → Result ℕ Status → Tree × Done
 mkdirs_in t held name r = mkdirs_in_under t held false name r
 
-abbrev pub rmdirs_in : Tree → Held → List ℕ → Result ℕ Status → Tree × Done
+abbrev pub rmdirs_in : Tree → Reservation → List ℕ → Result ℕ Status → Tree × Done
 rmdirs_in t held name r = rmdirs_in_under t held false name r
 
-abbrev pub renaming : Tree → Held → ℕ → List ℕ → ℕ → List ℕ → Result (Option (ℕ × ℕ)) Status → Tree × Outcome
+abbrev pub renaming : Tree → Reservation → ℕ → List ℕ → ℕ → List ℕ → Result (Option (ℕ × ℕ)) Status → Tree × Outcome
 renaming t held dir name to to_name r = renaming_under t held false dir name to to_name r
 
-abbrev pub renames_in : Tree → Held → Bool → List ℕ → List ℕ → Result ℕ Status → Result ℕ Status → Tree × Outcome
+abbrev pub renames_in : Tree → Reservation → Bool → List ℕ → List ℕ → Result ℕ Status → Result ℕ Status → Tree × Outcome
 renames_in t held busy name to_name dir to = renames_in_under t held busy false name to_name dir to
 
-abbrev pub calls : Tree → Held → Bool → Nfs → Tree × Option Outcome
+abbrev pub calls : Tree → Reservation → Bool → Nfs → Tree × Option Outcome
 calls t held busy m = calls_under t held busy false m

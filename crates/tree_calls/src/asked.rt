@@ -51,7 +51,7 @@ impl Model for NewSpot {
 }
 
 impl NewSpot {
-    /// A name in a directory. The one error is want of memory.
+    /// A name in a directory. The one error is running out of memory.
     pub fn new(alloc: Global, dir: u64, name: &Name) -> Result<NewSpot, AllocError>
         ensures { IfOk result (λ s. s ≡ spot_of dir name.now) }
     {
@@ -94,7 +94,7 @@ pub struct Renaming {
     pub file: u64,
 }
 
-/// A change that waits.
+/// A pending change.
 #[derive(Drop)]
 pub enum Asked {
     Remove(Removing),

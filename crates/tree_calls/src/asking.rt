@@ -21,7 +21,7 @@ use nfs3_calls::message::Nfs;
 use nfs3_calls::place::Place;
 use std::alloc::{AllocError, Global};
 use store::store::Store;
-use tree_reading::call::{Changed, Held, Planned};
+use tree_reading::call::{Changed, Reservation, Planned};
 use tree_reading::reading::Standing;
 use xdr_codec::answer::Answer;
 use xdr_codec::status::Status;
@@ -111,7 +111,7 @@ pub fn refuse_remove(status: Status) -> Done
 /// What REMOVE comes to on arrival: the file that it waits for.
 pub fn asks_remove(
     tree: &Tree,
-    held: Held,
+    held: Reservation,
     busy: bool,
     dir: u64,
     name: &[u8],
@@ -121,12 +121,12 @@ pub fn asks_remove(
     remove_comes(busy, tree.plan_remove(dir, name, held))
 }
 
-/// REMOVE. The one error is want of memory, where the call waits.
+/// REMOVE. The one error is running out of memory, where the call waits.
 pub fn remove<S: Store>(
     alloc: Global,
     tree: &Tree,
     store: &mut S,
-    held: Held,
+    held: Reservation,
     busy: bool,
     place: &Place,
 ) -> Result<Outcome, AllocError>
@@ -154,7 +154,7 @@ pub fn remove<S: Store>(
 /// What RENAME comes to on arrival: the node that it moves and the file that it waits for, or none.
 pub fn asks_rename(
     tree: &Tree,
-    held: Held,
+    held: Reservation,
     busy: bool,
     dir: u64,
     name: &[u8],
@@ -167,7 +167,7 @@ pub fn asks_rename(
     rename_comes(busy, found, tree.plan_rename(dir, name, to, to_name, held))
 }
 
-/// What waits of a RENAME over a file. The one error is want of memory.
+/// What waits of a RENAME over a file. The one error is running out of memory.
 fn renaming_of(
     alloc: Global,
     dir: u64,
@@ -189,14 +189,14 @@ fn renaming_of(
     })
 }
 
-/// RENAME in a directory. The one error is want of memory, where the call is not refused, and the
-/// tree is then as it was.
+/// RENAME in a directory. The one error is running out of memory, where the call is not refused,
+/// and the tree is then as it was.
 #[tactic(auto, using(crate::proofs::Steps::renamed_now, crate::proofs::Steps::renaming_refused, crate::proofs::Steps::renaming_waits, crate::proofs::Steps::kept_ready, crate::proofs::Steps::kept_same))]
 pub fn rename<S: Store>(
     alloc: Global,
     tree: &mut Tree,
     store: &mut S,
-    held: Held,
+    held: Reservation,
     busy: bool,
     dir: u64,
     name: &Name,

@@ -1,7 +1,7 @@
 //! Any call of NFS (`calls` in `specs/Waiting.antt`).
 
 ghost use Rattle.std.specs.Prelude.{◌≡◌, ◌+◌, ◌≤◌, Bool, false, IfOk, OnErr};
-ghost use Rattle.tree_reading.specs.declared.call.Held.{Held};
+ghost use Rattle.tree_reading.specs.declared.call.Reservation.{Reservation};
 ghost use Rattle.file_tree.specs.Stores.{Keeps};
 ghost use Rattle.tree_calls.specs.Calling.{IsCalled, places_of, places_of_call};
 ghost use Rattle.tree_calls.specs.Telling.{id_of, told, TakesTold};
@@ -17,14 +17,14 @@ use nfs3_calls::message::Nfs;
 use nfs3_calls::place::Rename;
 use std::alloc::{AllocError, Global};
 use store::store::Store;
-use tree_reading::call::Held;
+use tree_reading::call::Reservation;
 
 #[tactic(auto, using(crate::proofs::Steps::rename_misnamed, crate::proofs::Steps::rename_to_misnamed, crate::proofs::Steps::kept_same))]
 fn rename<S: Store>(
     alloc: Global,
     tree: &mut Tree,
     store: &mut S,
-    held: Held,
+    held: Reservation,
     busy: bool,
     rename: &Rename,
 ) -> Result<Outcome, AllocError>
@@ -72,15 +72,15 @@ fn told(alloc: Global, tree: &Tree, call: &Nfs) -> Result<Option<Outcome>, Alloc
 #[tactic(auto, using(crate::proofs::Steps::told_calls, crate::proofs::Steps::told_takes, crate::proofs::Steps::told_waits))]
 fn unchanging(alloc: Global, tree: &Tree, call: &Nfs) -> Result<Option<Outcome>, AllocError>
     requires { changes call.now ≡ false }
-    ensures ok { (held : Held) (busy fault : Bool) → IfOk result (λ o. calls_under tree.now.tree held busy fault call.now ≡ (tree.now.tree, o)) }
-    ensures takes { (held : Held) (busy : Bool) → OnErr result (Takes tree.now.tree held busy call.now) }
+    ensures ok { (held : Reservation) (busy fault : Bool) → IfOk result (λ o. calls_under tree.now.tree held busy fault call.now ≡ (tree.now.tree, o)) }
+    ensures takes { (held : Reservation) (busy : Bool) → OnErr result (Takes tree.now.tree held busy call.now) }
     ensures nothing { IfOk result (λ o. places_of_call o ≡ 0) }
 {
     told(alloc, tree, call)
 }
 
-/// What a call comes to, where the changes that wait need so much, and one of the session's own
-/// waits or not; nothing where the message is no call. The one error is want of memory, where the
+/// What a call comes to, where the pending changes need so much, and one of the session's own waits
+/// or not; nothing where the message is no call. The one error is running out of memory, where the
 /// call is not refused, and the tree is then as it was.
 #[tactic(auto, using(crate::proofs::Steps::some_answered, crate::proofs::Steps::some_outcome))]
 pub fn call<S: Store>(
@@ -88,7 +88,7 @@ pub fn call<S: Store>(
     tree: &mut Tree,
     store: &mut S,
     call: &Nfs,
-    held: Held,
+    held: Reservation,
     busy: bool,
 ) -> Result<Option<Outcome>, AllocError>
     ensures ok { IfOk result (λ o. IsCalled (S.faults store.old) (S.faults store.new) (λ fault. calls_under tree.old.tree held busy fault call.now) (tree.new.tree, o)) }

@@ -26,7 +26,7 @@ use nfs3_calls::message::Nfs;
 use nfs3_calls::place::Place;
 use std::alloc::{AllocError, Global};
 use store::store::Store;
-use tree_reading::call::{Changed, CreateMode, Held};
+use tree_reading::call::{Changed, CreateMode, Reservation};
 use xdr_codec::answer::Answer;
 use xdr_codec::handle::Handle;
 use xdr_codec::status::Status;
@@ -55,12 +55,12 @@ fn made_of(tree: &Tree, before: Option<Before>, dir: u64, handle: Handle, change
 }
 
 /// What a node that is to be made needs: its handle, its name twice, a place in the tree and two in
-/// the store, which both are as they were. The one error is want of memory.
+/// the store, which both are as they were. The one error is running out of memory.
 fn prepared<S: Store>(
     alloc: Global,
     tree: &mut Tree,
     store: &mut S,
-    held: Held,
+    held: Reservation,
     name: &Name,
 ) -> Result<(Handle, NamePair), AllocError>
     ensures handle { IfOk result (λ p. p.0 ≡ handle_bytes tree.old.tree.next) }
@@ -107,7 +107,7 @@ fn created(
     }
 }
 
-/// CREATE of a file that is there. The one error is want of memory for its handle.
+/// CREATE of a file that is there. The one error is running out of memory for its handle.
 fn find_file(alloc: Global, tree: &Tree, dir: u64, there: Changed) -> Result<Done, AllocError>
     ensures { IfOk result (λ o. o ≡ created (before tree.now.tree.nodes dir) dir tree.now.tree.nodes (Ok there)) }
 {
@@ -116,14 +116,14 @@ fn find_file(alloc: Global, tree: &Tree, dir: u64, there: Changed) -> Result<Don
     Ok(created(tree, before, dir, handle, Ok(there)))
 }
 
-/// CREATE of a file that is to be made. The one error is want of memory, and the tree is then as it
-/// was.
+/// CREATE of a file that is to be made. The one error is running out of memory, and the tree is
+/// then as it was.
 #[tactic(auto, using(crate::proofs::Steps::file_made, crate::proofs::Steps::file_id, crate::proofs::Steps::kept_ready, crate::proofs::Steps::kept_same))]
 fn make_file<S: Store>(
     alloc: Global,
     tree: &mut Tree,
     store: &mut S,
-    held: Held,
+    held: Reservation,
     dir: u64,
     name: &Name,
     mode: CreateMode,
@@ -141,14 +141,14 @@ fn make_file<S: Store>(
     Ok(created(tree, before, dir, handle, outcome))
 }
 
-/// CREATE. The one error is want of memory, where the call is not refused, and the tree is then as it
+/// CREATE. The one error is running out of memory, where the call is not refused, and the tree is then as it
 /// was.
 #[tactic(auto, using(crate::proofs::Steps::create_misnamed, crate::proofs::Steps::create_refused, crate::proofs::Steps::create_there, crate::proofs::Steps::kept_same))]
 pub fn create<S: Store>(
     alloc: Global,
     tree: &mut Tree,
     store: &mut S,
-    held: Held,
+    held: Reservation,
     new: &NewFile,
 ) -> Result<Done, AllocError>
     ensures ok { IfOk result (λ o. IsCalled (S.faults store.old) (S.faults store.new) (λ fault. creates_in_under tree.old.tree held fault new.now (id_of new.now.place.dir)) (tree.new.tree, o)) }
@@ -198,14 +198,14 @@ fn made_directory(
     }
 }
 
-/// MKDIR of a directory that is to be made. The one error is want of memory, and the tree is then as
+/// MKDIR of a directory that is to be made. The one error is running out of memory, and the tree is then as
 /// it was.
 #[tactic(auto, using(crate::proofs::Steps::directory_made, crate::proofs::Steps::directory_id, crate::proofs::Steps::kept_ready, crate::proofs::Steps::kept_same))]
 fn make_directory<S: Store>(
     alloc: Global,
     tree: &mut Tree,
     store: &mut S,
-    held: Held,
+    held: Reservation,
     dir: u64,
     name: &Name,
 ) -> Result<Done, AllocError>
@@ -222,14 +222,14 @@ fn make_directory<S: Store>(
     Ok(made_directory(tree, before, dir, handle, outcome))
 }
 
-/// MKDIR. The one error is want of memory, where the call is not refused, and the tree is then as it
+/// MKDIR. The one error is running out of memory, where the call is not refused, and the tree is then as it
 /// was.
 #[tactic(auto, using(crate::proofs::Steps::mkdir_misnamed, crate::proofs::Steps::mkdir_refused, crate::proofs::Steps::kept_same))]
 pub fn mkdir<S: Store>(
     alloc: Global,
     tree: &mut Tree,
     store: &mut S,
-    held: Held,
+    held: Reservation,
     new: &NewDir,
 ) -> Result<Done, AllocError>
     ensures ok { IfOk result (λ o. IsCalled (S.faults store.old) (S.faults store.new) (λ fault. mkdirs_in_under tree.old.tree held fault new.now.place.name (id_of new.now.place.dir)) (tree.new.tree, o)) }
@@ -279,7 +279,7 @@ fn removed_directory(
 fn remove_directory<S: Store>(
     tree: &mut Tree,
     store: &mut S,
-    held: Held,
+    held: Reservation,
     dir: u64,
     name: &[u8],
 ) -> Done
@@ -294,13 +294,13 @@ fn remove_directory<S: Store>(
     removed_directory(tree, before, dir, outcome)
 }
 
-/// RMDIR. The one error is want of memory for the store's place, where the call is not refused, and the
+/// RMDIR. The one error is running out of memory for the store's place, where the call is not refused, and the
 /// tree is then as it was.
 #[tactic(auto, using(crate::proofs::Steps::rmdir_misnamed, crate::proofs::Steps::rmdir_refused, crate::proofs::Steps::called_ready, crate::proofs::Steps::kept_ready, crate::proofs::Steps::kept_same))]
 pub fn rmdir<S: Store>(
     tree: &mut Tree,
     store: &mut S,
-    held: Held,
+    held: Reservation,
     place: &Place,
 ) -> Result<Done, AllocError>
     ensures ok { IfOk result (λ o. IsCalled (S.faults store.old) (S.faults store.new) (λ fault. rmdirs_in_under tree.old.tree held fault place.now.name (id_of place.now.dir)) (tree.new.tree, o)) }
@@ -361,7 +361,7 @@ fn renamed(
 pub fn rename<S: Store>(
     tree: &mut Tree,
     store: &mut S,
-    held: Held,
+    held: Reservation,
     dir: u64,
     name: &[u8],
     to: u64,

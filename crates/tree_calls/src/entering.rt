@@ -12,9 +12,9 @@ use file_tree::tree::Tree;
 use nfs3_calls::making::{NewDir, NewFile};
 use nfs3_calls::message::Nfs;
 use nfs3_calls::place::{Place, Rename};
-use tree_reading::call::Held;
+use tree_reading::call::Reservation;
 
-fn create_enters(tree: &Tree, held: Held, new: &NewFile) -> bool
+fn create_enters(tree: &Tree, held: Reservation, new: &NewFile) -> bool
     ensures { result ≡ enters tree.now.tree held false (nfs.Create new.now) }
 {
     let name = new.place.name.as_slice();
@@ -24,7 +24,7 @@ fn create_enters(tree: &Tree, held: Held, new: &NewFile) -> bool
     }
 }
 
-fn mkdir_enters(tree: &Tree, held: Held, new: &NewDir) -> bool
+fn mkdir_enters(tree: &Tree, held: Reservation, new: &NewDir) -> bool
     ensures { result ≡ enters tree.now.tree held false (nfs.MkDir new.now) }
 {
     let name = new.place.name.as_slice();
@@ -34,7 +34,7 @@ fn mkdir_enters(tree: &Tree, held: Held, new: &NewDir) -> bool
     }
 }
 
-fn remove_enters(tree: &Tree, held: Held, busy: bool, place: &Place) -> bool
+fn remove_enters(tree: &Tree, held: Reservation, busy: bool, place: &Place) -> bool
     ensures { result ≡ enters tree.now.tree held busy (nfs.Remove place.now) }
 {
     match id_of(&place.dir) {
@@ -43,7 +43,7 @@ fn remove_enters(tree: &Tree, held: Held, busy: bool, place: &Place) -> bool
     }
 }
 
-fn rmdir_enters(tree: &Tree, held: Held, place: &Place) -> bool
+fn rmdir_enters(tree: &Tree, held: Reservation, place: &Place) -> bool
     ensures { result ≡ enters tree.now.tree held false (nfs.RmDir place.now) }
 {
     match id_of(&place.dir) {
@@ -52,7 +52,7 @@ fn rmdir_enters(tree: &Tree, held: Held, place: &Place) -> bool
     }
 }
 
-fn rename_enters(tree: &Tree, held: Held, busy: bool, rename: &Rename) -> bool
+fn rename_enters(tree: &Tree, held: Reservation, busy: bool, rename: &Rename) -> bool
     ensures { result ≡ enters tree.now.tree held busy (nfs.Rename rename.now) }
 {
     let Ok(dir) = id_of(&rename.from.dir) else {
@@ -68,7 +68,7 @@ fn rename_enters(tree: &Tree, held: Held, busy: bool, rename: &Rename) -> bool
 
 /// Whether a call that may change the tree is not refused, so that it may make entries, at once or
 /// once it has waited. It changes nothing.
-pub fn enters(tree: &Tree, call: &Nfs, held: Held, busy: bool) -> bool
+pub fn enters(tree: &Tree, call: &Nfs, held: Reservation, busy: bool) -> bool
     ensures { result ≡ enters tree.now.tree held busy call.now }
 {
     match call {

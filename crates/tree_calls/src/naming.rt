@@ -20,7 +20,7 @@ pub fn id_of(handle: &Handle) -> Result<u64, Status>
     }
 }
 
-/// A name in a directory. The one error is want of memory.
+/// A name in a directory. The one error is running out of memory.
 pub fn spot_of(alloc: Global, dir: u64, name: &Name) -> Result<Spot, AllocError>
     ensures { IfOk result (λ s. s ≡ spot_of dir name.now) }
 {

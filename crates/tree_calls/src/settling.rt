@@ -1,11 +1,11 @@
-//! What waited, once nothing blocks it (`settles` and `commits` in `specs/Waiting.antt`). None of
+//! What waited, once nothing blocks it (`settles` and `gives_content` in `specs/Waiting.antt`). None of
 //! this takes memory.
 
 ghost use Rattle.std.specs.Prelude.{◌≡◌, ◌+◌, ◌≤◌, Ok};
 ghost use Rattle.file_tree.specs.Stores.{Keeps};
 ghost use Rattle.tree_calls.specs.Calling.{IsCalled};
 ghost use Rattle.tree_calls.specs.Changing.{before, removed};
-ghost use Rattle.tree_calls.specs.Waiting.{still, remove_again, rename_again, removes_if_under, renames_if_under, settles_under, committed, commits_under, spot_of, entries_of};
+ghost use Rattle.tree_calls.specs.Waiting.{still, remove_again, rename_again, removes_if_under, renames_if_under, settles_under, committed, gives_content_under, spot_of, entries_of};
 
 use crate::asked::{Asked, Committing, Done, Removing, Renaming};
 use crate::asking::refuse_remove;
@@ -19,7 +19,7 @@ use nfs3_calls::message::Nfs;
 use shared_bytes::SharedBytes;
 use store::store::Store;
 use tree_nodes::content::Content;
-use tree_reading::call::{Changed, Held, Spot};
+use tree_reading::call::{Changed, Reservation, Spot};
 use tree_reading::checks::is_node;
 use xdr_codec::answer::Answer;
 use xdr_codec::status::Status;
@@ -67,7 +67,7 @@ fn removed(tree: &Tree, before: Option<Before>, dir: u64, outcome: Result<Change
 
 /// REMOVE of the file of a name, which was checked again.
 #[tactic(auto, using(crate::proofs::Steps::removed_step))]
-fn remove<S: Store>(tree: &mut Tree, store: &mut S, spot: &Spot, held: Held) -> Done
+fn remove<S: Store>(tree: &mut Tree, store: &mut S, spot: &Spot, held: Reservation) -> Done
     requires { held.entries + 1 ≤ S.spare store.old }
     ensures done { IsCalled (S.faults store.old) (S.faults store.new) (λ fault. removes_if_under tree.old.tree held fault spot.now (Ok tt)) (tree.new.tree, result) }
     ensures keeps { Keeps (S.records store.old) tree.old.tree (S.records store.new) tree.new.tree }
@@ -80,7 +80,7 @@ fn remove<S: Store>(tree: &mut Tree, store: &mut S, spot: &Spot, held: Held) -> 
 }
 
 #[tactic(auto, using(crate::proofs::Steps::remove_again_refused, crate::proofs::Steps::remove_checked, crate::proofs::Steps::kept_same))]
-fn settle_remove<S: Store>(tree: &mut Tree, store: &mut S, removing: &Removing, held: Held) -> Done
+fn settle_remove<S: Store>(tree: &mut Tree, store: &mut S, removing: &Removing, held: Reservation) -> Done
     requires { held.entries + 1 ≤ S.spare store.old }
     ensures done { IsCalled (S.faults store.old) (S.faults store.new) (λ fault. removes_if_under tree.old.tree held fault removing.now.spot (remove_again tree.old.tree.nodes removing.now)) (tree.new.tree, result) }
     ensures keeps { Keeps (S.records store.old) tree.old.tree (S.records store.new) tree.new.tree }
@@ -94,7 +94,7 @@ fn settle_remove<S: Store>(tree: &mut Tree, store: &mut S, removing: &Removing, 
 }
 
 #[tactic(auto, using(crate::proofs::Steps::rename_again_refused, crate::proofs::Steps::rename_checked, crate::proofs::Steps::kept_same))]
-fn settle_rename<S: Store>(tree: &mut Tree, store: &mut S, renaming: Renaming, held: Held) -> Done
+fn settle_rename<S: Store>(tree: &mut Tree, store: &mut S, renaming: Renaming, held: Reservation) -> Done
     requires { held.entries + 2 ≤ S.spare store.old }
     ensures done { IsCalled (S.faults store.old) (S.faults store.new) (λ fault. renames_if_under tree.old.tree held fault renaming.from renaming.to (rename_again tree.old.tree.nodes renaming)) (tree.new.tree, result) }
     ensures keeps { Keeps (S.records store.old) tree.old.tree (S.records store.new) tree.new.tree }
@@ -121,7 +121,7 @@ fn settle_rename<S: Store>(tree: &mut Tree, store: &mut S, renaming: Renaming, h
 
 /// Makes a change that waited, if all is as it was when it came. The store has a place for each of its
 /// entries. It takes no memory.
-pub fn settle<S: Store>(tree: &mut Tree, store: &mut S, asked: Asked, held: Held) -> Done
+pub fn settle<S: Store>(tree: &mut Tree, store: &mut S, asked: Asked, held: Reservation) -> Done
     requires { held.entries + entries_of asked ≤ S.spare store.old }
     ensures done { IsCalled (S.faults store.old) (S.faults store.new) (λ fault. settles_under tree.old.tree held fault asked) (tree.new.tree, result) }
     ensures keeps { Keeps (S.records store.old) tree.old.tree (S.records store.new) tree.new.tree }
@@ -155,18 +155,18 @@ fn committed(term: u32, outcome: Result<Changed, Status>) -> Committing
 /// Gives a file a content that waited, if the file is there; the answer tells how long a lease
 /// holds. The store gets another owner of its bytes. It takes no memory.
 #[tactic(auto, using(crate::proofs::Steps::committed_step))]
-pub fn commit<S: Store>(
+pub fn give_content<S: Store>(
     tree: &mut Tree,
     store: &mut S,
     file: u64,
     content: Content,
     copy: SharedBytes,
-    held: Held,
+    held: Reservation,
     term: u32,
 ) -> Committing
     requires copy { copy ≡ content }
     requires spare { held.entries + 1 ≤ S.spare store.old }
-    ensures done { IsCalled (S.faults store.old) (S.faults store.new) (λ fault. commits_under tree.old.tree held fault file content term) (tree.new.tree, result) }
+    ensures done { IsCalled (S.faults store.old) (S.faults store.new) (λ fault. gives_content_under tree.old.tree held fault file content term) (tree.new.tree, result) }
     ensures keeps { Keeps (S.records store.old) tree.old.tree (S.records store.new) tree.new.tree }
     ensures spare { held.entries ≤ S.spare store.new }
     ensures later { S.faults store.old ≤ S.faults store.new }

@@ -105,7 +105,7 @@ fn tell_attr(tree: &Tree, handle: &Handle) -> Nfs
     }
 }
 
-/// The answer to a LOOKUP. The one error is want of memory for a handle.
+/// The answer to a LOOKUP. The one error is running out of memory for a handle.
 fn tell_found(alloc: Global, tree: &Tree, place: &Place) -> Result<Nfs, AllocError>
     ensures ok { IfOk result (λ m. m ≡ nfs.LookupAnswer (answer_of None (found tree.now.tree.nodes place.now))) }
     ensures takes { OnErr result (IsOk (found tree.now.tree.nodes place.now)) }
@@ -127,7 +127,7 @@ fn tell_granted(tree: &Tree, access: &Access) -> Nfs
     }
 }
 
-/// The answer to a READ. The one error is want of memory for its bytes.
+/// The answer to a READ. The one error is running out of memory for its bytes.
 fn tell_piece(tree: &Tree, range: &Range) -> Result<Nfs, AllocError>
     ensures ok { IfOk result (λ m. m ≡ nfs.ReadAnswer (answer_of None (piece tree.now.tree.nodes range.now))) }
     ensures takes { OnErr result (IsOk (piece tree.now.tree.nodes range.now)) }
@@ -139,7 +139,7 @@ fn tell_piece(tree: &Tree, range: &Range) -> Result<Nfs, AllocError>
     }
 }
 
-/// The answer to a READDIR. The one error is want of memory for its entries.
+/// The answer to a READDIR. The one error is running out of memory for its entries.
 fn tell_listing(tree: &Tree, range: &ListRange) -> Result<Nfs, AllocError>
     ensures ok { IfOk result (λ m. m ≡ nfs.ReadDirAnswer (answer_of None (listing tree.now.tree.nodes range.now))) }
     ensures takes { OnErr result (IsOk (listing tree.now.tree.nodes range.now)) }
@@ -162,7 +162,7 @@ fn tell_info(tree: &Tree, handle: &Handle) -> Nfs
 }
 
 /// What a call is answered that changes nothing; nothing where the message is none of these calls.
-/// The one error is want of memory for what is given.
+/// The one error is running out of memory for what is given.
 pub fn tell(alloc: Global, tree: &Tree, call: &Nfs) -> Result<Option<Nfs>, AllocError>
     ensures ok { IfOk result (λ o. o ≡ told tree.now.tree.nodes call.now) }
     ensures takes { OnErr result (TakesTold tree.now.tree.nodes call.now) }

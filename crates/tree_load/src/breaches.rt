@@ -186,7 +186,7 @@ fn held_to(is_well: bool, head: Head) -> Head
     if is_well { head } else { widest() }
 }
 
-/// All records that break a rule, each with the first that it breaks. The one error is want of memory.
+/// All records that break a rule, each with the first that it breaks. The one error is running out of memory.
 #[tactic(auto, using(crate::proofs::Broken::none_broken, crate::proofs::Broken::head_broken, crate::proofs::Broken::headless))]
 pub fn broken(alloc: Global, records: &[Kept]) -> Result<Vec<Broken>, AllocError>
     ensures { IfOk result (λ v. v.items ≡ broken records.now) }

@@ -23,7 +23,7 @@ pub struct Coming {
     chunks: Option<Items<Chunk>>,
 }
 
-// By hand: docs/PROVING.md, "Values that are let go".
+// By hand: docs/proving/dropping.md.
 impl Drop for Coming {
     fn drop(self) {
         let Coming { one, chunks } = self;
@@ -53,7 +53,7 @@ impl Coming {
         Coming { one, chunks: None }
     }
 
-    /// Cuts a content into its chunks, where there is one. Where memory is wanting they stay unknown.
+    /// Cuts a content into its chunks, where there is one. Where memory runs out they stay unknown.
     fn cut(&mut self, alloc: Global)
         ensures { self.new ≡ self.old }
     {
@@ -86,7 +86,7 @@ fn cut_each<R: Threads + Sync>(rt: &R, alloc: Global, coming: &mut [Coming])
 }
 
 /// These records, of whose contents the chunks are known where there was memory for them. The one error
-/// is want of memory.
+/// is running out of memory.
 pub fn cut_all<R: Threads + Sync>(
     rt: &R,
     alloc: Global,

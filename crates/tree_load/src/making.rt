@@ -34,7 +34,7 @@ pub struct Parted {
     pub contents: BTreeMap<u64, Stored>,
 }
 
-/// A content whose chunks may be known; else it is cut. The one error is want of memory.
+/// A content whose chunks may be known; else it is cut. The one error is running out of memory.
 fn content_of(
     alloc: Global,
     bytes: SharedBytes,
@@ -183,8 +183,8 @@ fn join(alloc: Global, changes: u64, parted: Parted) -> Result<Vec<Node>, AllocE
     Ok(made)
 }
 
-/// The root and the nodes of records, of which no two nodes have one id. The one error is want of
-/// memory.
+/// The root and the nodes of records, of which no two nodes have one id. The one error is running
+/// out of memory.
 pub fn nodes_of<R: Threads + Sync>(
     rt: &R,
     alloc: Global,

@@ -40,7 +40,7 @@ pub struct Known<'a> {
     pub tops: Vec<usize>,
 }
 
-/// What is known of these records, of which there is one. The one error is want of memory.
+/// What is known of these records, of which there is one. The one error is running out of memory.
 #[tactic(auto, using(crate::proofs::Climbs::steps_within))]
 pub fn learn<'a>(alloc: Global, records: &'a [Kept]) -> Result<Known<'a>, AllocError>
     requires { 0 < length records.now }

@@ -55,7 +55,7 @@ impl Content {
         }
     }
 
-    /// A content of these bytes. The one error is want of memory.
+    /// A content of these bytes. The one error is running out of memory.
     pub fn new(alloc: Global, bytes: SharedBytes) -> Result<Content, AllocError>
         ensures { IfOk result (λ c. c ≡ bytes) }
     {

@@ -25,7 +25,7 @@ fn under_ids(alloc: Global, nodes: Vec<Node>) -> Result<BTreeMap<u64, Node>, All
 }
 
 /// A table of these nodes, of which no two have one id or one name: they are added by rising ids.
-/// The one error is want of memory, as which 2^32 nodes or more count too.
+/// The one error is running out of memory, as which 2^32 nodes or more count too.
 pub fn from_list(alloc: Global, nodes: Vec<Node>, next: u64) -> Result<Table, AllocError>
     requires apart { AreApart nodes.items }
     requires below { AllByRecursion (λ n. n.id < next) nodes.items }

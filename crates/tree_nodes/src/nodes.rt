@@ -51,7 +51,7 @@ impl Nodes {
     }
 
     /// These nodes, of which no two have one id or one name, in their order. The ids below `next` are
-    /// never given. The one error is want of memory, as which 2^32 nodes or more count too.
+    /// never given. The one error is running out of memory, as which 2^32 nodes or more count too.
     pub fn from_list(alloc: Global, nodes: Vec<Node>, next: u64) -> Result<Nodes, AllocError>
         requires apart { AreApart nodes.items }
         requires below { AllByRecursion (λ n. n.id < next) nodes.items }
@@ -115,7 +115,7 @@ impl Nodes {
         table::places(&self.table.slots, &self.table.order, dir)
     }
 
-    /// Makes room for so many nodes more. The one error is want of memory, as which 2^32 nodes or more
+    /// Makes room for so many nodes more. The one error is running out of memory, as which 2^32 nodes or more
     /// count too.
     pub fn reserve(&mut self, count: u32) -> Result<(), AllocError>
         ensures room { OnOk result (count ≤ self.new.room) }

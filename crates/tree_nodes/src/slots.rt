@@ -123,7 +123,7 @@ impl Slots {
         slot::put(&mut self.held, place, node)
     }
 
-    /// Makes room for so many places more. The one error is want of memory.
+    /// Makes room for so many places more. The one error is running out of memory.
     pub fn reserve(&mut self, count: usize) -> Result<(), AllocError>
         ensures room { OnOk result (length self.old.items + count ≤ self.new.capacity) }
         ensures more { self.old.capacity ≤ self.new.capacity }

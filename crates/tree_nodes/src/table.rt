@@ -302,7 +302,7 @@ impl Table {
         self.slots.put(place, node);
     }
 
-    /// Makes room for so many nodes more. The one error is want of memory, as which 2^32 nodes or more
+    /// Makes room for so many nodes more. The one error is running out of memory, as which 2^32 nodes or more
     /// count too.
     pub fn reserve(&mut self, count: u32) -> Result<(), AllocError>
         requires sound { IsSound self.old }

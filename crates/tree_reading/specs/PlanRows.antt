@@ -3,7 +3,7 @@ use Rattle.std.specs.Prelude.{◌≡◌, ℕ, List, [], ◌∷◌, map, Result, 
 use Rattle.xdr_codec.specs.declared.status.Status.{Status}
 use Rattle.xdr_codec.specs.declared.status.Status.TheVariants.{NoEnt, Acces, Exist, NotDir, IsDir, Inval, FBig, NoSpc, NameTooLong, NotEmpty, Stale, NotSupp}
 use Rattle.tree_reading.specs.declared.call.CreateMode.TheVariants.{Unchecked, Guarded, Exclusive}
-use Rattle.tree_reading.specs.declared.call.Held.{Held}
+use Rattle.tree_reading.specs.declared.call.Reservation.{Reservation}
 use Rattle.tree_reading.specs.declared.call.Spot.{Spot}
 use Rattle.tree_reading.specs.declared.call.Call.{Call}
 use Rattle.tree_reading.specs.declared.call.Call.TheVariants.{Create, MkDir, Remove, RmDir, Rename, Replace}
@@ -11,21 +11,21 @@ use Rattle.tree_reading.specs.Plans.{may}
 use Rattle.tree_reading.specs.Rows.{tree, long, longest, slashed, zeroed, dot, dot_dot}
 
 -- nothing waits
-abbrev pub none : Held
+abbrev pub none : Reservation
 none = record { entries = 0; bytes = 0 }
 
 -- so many entries wait that no change has room
-abbrev full : Held
+abbrev full : Reservation
 full = record { entries = 4294967286; bytes = 0 }
 
 -- so many that one has
-abbrev nearly : Held
+abbrev nearly : Reservation
 nearly = record { entries = 4294967285; bytes = 0 }
 
 abbrev at : ℕ → List ℕ → Spot
 at dir name = record { dir = dir; name = name }
 
-abbrev answers : Held → List Call → List (Result Unit Status)
+abbrev answers : Reservation → List Call → List (Result Unit Status)
 answers held calls = map (may tree held) calls
 
 -- ---- CREATE, in the order of its checks: two faults at once name the first

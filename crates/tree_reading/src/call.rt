@@ -14,9 +14,9 @@ pub enum CreateMode {
     Exclusive,
 }
 
-/// How many entries and bytes the changes that wait will need, but for the change that is made.
+/// How many entries and bytes the pending changes will need, but for the change that is made.
 #[derive(Clone, Copy, Drop)]
-pub struct Held {
+pub struct Reservation {
     pub entries: u64,
     pub bytes: u64,
 }

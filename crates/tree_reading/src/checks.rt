@@ -4,7 +4,7 @@ ghost use Rattle.std.specs.Prelude.{◌≡◌, ◌-◌, ◌<◌, ◌^◌, ◌==�
 ghost use Rattle.tree_nodes.specs.Nodes.{names};
 ghost use Rattle.tree_reading.specs.Plans.{spared, spared_bytes, within_file, or_not_empty, or_within, may_replace, is_node};
 
-use crate::call::Held;
+use crate::call::Reservation;
 use crate::finding::{is_directory, is_within};
 use crate::reading::Standing;
 use limits::{FILE_MOST, TREE_MOST};
@@ -14,7 +14,7 @@ use tree_nodes::nodes::Nodes;
 use xdr_codec::status::Status;
 
 /// Whether so many changes more may be made.
-pub fn spared(changes: u64, held: Held, more: u64) -> Result<(), Status>
+pub fn spared(changes: u64, held: Reservation, more: u64) -> Result<(), Status>
     ensures { result ≡ spared changes held more }
 {
     if are_too_many(changes, held.entries, more) {
@@ -24,7 +24,7 @@ pub fn spared(changes: u64, held: Held, more: u64) -> Result<(), Status>
 }
 
 /// Whether a content of so many bytes has room beside the bytes of a tree.
-pub fn spared_bytes(bytes: u64, held: Held, len: u64) -> Result<(), Status>
+pub fn spared_bytes(bytes: u64, held: Reservation, len: u64) -> Result<(), Status>
     ensures { result ≡ spared_bytes bytes held len }
 {
     if bytes as u128 + held.bytes as u128 + len as u128 > TREE_MOST as u128 {

@@ -8,7 +8,7 @@ ghost use Rattle.tree_reading.specs.Plans.{create_found, may_create, may_mkdir, 
 ghost use Rattle.tree_reading.specs.declared.call.CreateMode.TheVariants.{Guarded, Unchecked};
 ghost use Rattle.tree_reading.specs.View.{lent, lent_option, tree_of, AreBounded, IsNodeBounded};
 
-use crate::call::{Changed, CreateMode, Held, Planned};
+use crate::call::{Changed, CreateMode, Reservation, Planned};
 use crate::finding::{self, named_within};
 use crate::names::{spelt, undotted};
 use crate::{answers, checks};
@@ -17,7 +17,7 @@ use tree_nodes::nodes::Nodes;
 use xdr_codec::status::Status;
 
 /// What CREATE finds where no name may be taken: nothing.
-fn found_guarded(found: Option<&Node>, changes: u64, held: Held) -> Result<Option<&Node>, Status>
+fn found_guarded(found: Option<&Node>, changes: u64, held: Reservation) -> Result<Option<&Node>, Status>
     ensures { lent_option result ≡ create_found changes held Guarded (option_copied found.entry) }
 {
     finding::or_taken(found)?;
@@ -26,7 +26,7 @@ fn found_guarded(found: Option<&Node>, changes: u64, held: Held) -> Result<Optio
 }
 
 /// What CREATE finds where a file that has the name stays as it is.
-fn found_unchecked(found: Option<&Node>, changes: u64, held: Held) -> Result<Option<&Node>, Status>
+fn found_unchecked(found: Option<&Node>, changes: u64, held: Reservation) -> Result<Option<&Node>, Status>
     ensures { lent_option result ≡ create_found changes held Unchecked (option_copied found.entry) }
 {
     match found {
@@ -42,7 +42,7 @@ fn found_unchecked(found: Option<&Node>, changes: u64, held: Held) -> Result<Opt
 pub fn may_create<'a>(
     nodes: &'a Nodes,
     changes: u64,
-    held: Held,
+    held: Reservation,
     dir: u64,
     name: &[u8],
     mode: CreateMode,
@@ -63,7 +63,7 @@ pub fn may_create<'a>(
 pub fn may_mkdir(
     nodes: &Nodes,
     changes: u64,
-    held: Held,
+    held: Reservation,
     dir: u64,
     name: &[u8],
 ) -> Result<(), Status>
@@ -80,7 +80,7 @@ pub fn may_mkdir(
 pub fn may_remove<'a>(
     nodes: &'a Nodes,
     changes: u64,
-    held: Held,
+    held: Reservation,
     dir: u64,
     name: &[u8],
 ) -> Result<&'a Node, Status>
@@ -102,7 +102,7 @@ pub fn may_remove<'a>(
 pub fn may_rmdir<'a>(
     nodes: &'a Nodes,
     changes: u64,
-    held: Held,
+    held: Reservation,
     dir: u64,
     name: &[u8],
 ) -> Result<&'a Node, Status>
@@ -126,7 +126,7 @@ pub fn may_replace_content<'a>(
     nodes: &'a Nodes,
     changes: u64,
     bytes: u64,
-    held: Held,
+    held: Reservation,
     id: u64,
     len: u64,
 ) -> Result<&'a Node, Status>
@@ -147,7 +147,7 @@ pub fn may_replace_content<'a>(
 pub fn create(
     nodes: &Nodes,
     changes: u64,
-    held: Held,
+    held: Reservation,
     dir: u64,
     name: &[u8],
     mode: CreateMode,
@@ -164,7 +164,7 @@ pub fn create(
 pub fn remove(
     nodes: &Nodes,
     changes: u64,
-    held: Held,
+    held: Reservation,
     dir: u64,
     name: &[u8],
 ) -> Result<Changed, Status>
@@ -179,7 +179,7 @@ pub fn remove(
 pub fn rmdir(
     nodes: &Nodes,
     changes: u64,
-    held: Held,
+    held: Reservation,
     dir: u64,
     name: &[u8],
 ) -> Result<Changed, Status>
@@ -195,7 +195,7 @@ pub fn replace(
     nodes: &Nodes,
     changes: u64,
     bytes: u64,
-    held: Held,
+    held: Reservation,
     id: u64,
     len: u64,
 ) -> Result<u64, Status>
@@ -213,7 +213,7 @@ pub fn replace(
 fn rename_over(
     nodes: &Nodes,
     changes: u64,
-    held: Held,
+    held: Reservation,
     node: &Node,
     found: Option<&Node>,
 ) -> Result<Planned, Status>
@@ -249,7 +249,7 @@ fn is_same(node: &Node, found: Option<&Node>) -> bool
 fn rename_found(
     nodes: &Nodes,
     changes: u64,
-    held: Held,
+    held: Reservation,
     node: &Node,
     to: u64,
     found: Option<&Node>,
@@ -271,7 +271,7 @@ fn rename_found(
 pub fn rename(
     nodes: &Nodes,
     changes: u64,
-    held: Held,
+    held: Reservation,
     dir: u64,
     name: &[u8],
     to: u64,

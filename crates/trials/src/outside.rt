@@ -1,5 +1,5 @@
-//! The outside of a run, in memory: what it is given, and which of its calls fail. Where memory is
-//! wanting for a part, the output is short of it; so no part has an early exit.
+//! The outside of a run, in memory: what it is given, and which of its calls fail. Where memory
+//! runs out for a part, the output is short of it; so no part has an early exit.
 
 use crate::trial::Trial;
 use crate::tried_store::TriedStore;

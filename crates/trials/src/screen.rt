@@ -119,7 +119,7 @@ impl<'a> Source for Typist<'a> {
 pub struct Screen<'a> {
     text: Vec<u8>,
     piece: usize,
-    /// The call that fails, and the one that answers want of memory, numbered from 0.
+    /// The call that fails, and the one that answers that memory ran out, numbered from 0.
     failing: Option<u64>,
     starved: Option<u64>,
     calls: u64,

@@ -16,7 +16,7 @@ use record_ends::end::End;
 use row_text::out::Out;
 use server_core::event::Event;
 use server_core::server::Server;
-use server_held::held::{Held, Went};
+use server_held::held::{SharedServer, Went};
 use server_held::turns::Turns;
 use std::alloc::{AllocError, Global};
 use std::rt::Clock;
@@ -30,10 +30,10 @@ use turn_post::post::{Pass, Post};
 use wire::message::{Message, RpcRefusal};
 
 /// What is handed from turn to turn.
-type MemHeld = Held<TriedStore>;
+type MemHeld = SharedServer<TriedStore>;
 
 /// What the threads of a server share. What its turns are of is a parameter: that a thread may be given
-/// `Held` is then shown once, where the threads are run (`run_beside`).
+/// `SharedServer` is then shown once, where the threads are run (`run_beside`).
 pub(crate) type SharedOf<H, R> = Shared<H, TriedSyncs, OpenGate, PortLink<R>>;
 
 type PortShared<R> = SharedOf<MemHeld, R>;
@@ -342,7 +342,7 @@ pub fn put<R: Threads + Wait + Clock + Sync + Send + Copy + Drop>(
     put_held(
         rt,
         alloc,
-        Held::new(alloc, server, store),
+        SharedServer::new(alloc, server, store),
         syncs,
         port,
         kind,

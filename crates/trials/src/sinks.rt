@@ -27,8 +27,8 @@ fn put_sure(alloc: Global, out: &mut Out) {
     out.text("\n")
 }
 
-/// What comes of giving three times to a sink that takes two bytes at once, whose second call answers
-/// want of memory, and whose third one fails; and whether it has all then.
+/// What comes of giving three times to a sink that takes two bytes at once, whose second call
+/// answers that memory ran out, and whose third one fails; and whether it has all then.
 pub fn put(alloc: Global, out: &mut Out) {
     let failing = copied(alloc, &[2u64], out);
     let starved = copied(alloc, &[1u64], out);

@@ -21,7 +21,7 @@ impl Tally {
         }
     }
 
-    /// Adds a number. The one error is want of memory, and changes nothing.
+    /// Adds a number. The one error is running out of memory, and changes nothing.
     pub fn add(&mut self, number: u64) -> Result<(), AllocError>
         ensures ok { OnOk result (self.new.entries.items ≡ self.old.entries.items ++ number ∷ []) }
         ensures err { OnErr result (self.new.entries.items ≡ self.old.entries.items) }

@@ -9,7 +9,7 @@ use std::alloc::{AllocError, Global};
 use std::sync::atomic::{AtomicBool, AtomicU64, Ordering};
 use std::sync::{Arc, Wait};
 use store::mem_store::MemStore;
-use store::record::{Change, Head, Kept};
+use store::record::{RecordChange, Head, Kept};
 use store::store::{Store, StoreError};
 use synced_store::checks::{CheckedStore, Checks};
 use synced_store::syncs::{Synced, Syncs};
@@ -41,9 +41,9 @@ pub struct TriedSyncs {
 }
 
 impl Syncs for TriedSyncs {
-    ghost settled = { λ _. Unit {0} };
+    ghost is_sure = { λ _. Unit {0} };
 
-    fn settle<W: Wait>(&self, _rt: &W) -> Result<(), Failed> {
+    fn sync<W: Wait>(&self, _rt: &W) -> Result<(), Failed> {
         if self.settles.next() {
             Ok(())
         } else {
@@ -113,7 +113,7 @@ impl Store for TriedStore {
         self.store.reserve(count)
     }
 
-    fn apply(&mut self, head: Head, first: Change, second: Option<Change>) -> Result<(), Failed> {
+    fn apply(&mut self, head: Head, first: RecordChange, second: Option<RecordChange>) -> Result<(), Failed> {
         match self.store.apply(head, first, second) {
             Ok(()) => Ok(()),
             Err(Failed) => {

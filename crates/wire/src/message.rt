@@ -59,7 +59,7 @@ pub enum RpcRefusal {
     ProcUnavail,
     /// The arguments are outside their grammar, or don't fill the record (GARBAGE_ARGS, 4).
     GarbageArgs,
-    /// Want of memory (SYSTEM_ERR, 5). `parse` never gives it to a call.
+    /// Running out of memory (SYSTEM_ERR, 5). `parse` never gives it to a call.
     SystemErr,
     /// Only the versions from `low` to `high` of RPC (RPC_MISMATCH, a reject_stat). `parse` gives 2
     /// and 2.
@@ -128,7 +128,7 @@ pub struct Waiting {
 }
 
 // Written by hand, it is proved here alone; derived, each crate above would prove how each part of a
-// message is let go.
+// message is dropped.
 impl Drop for Body {
     fn drop(self) {
         match self {

@@ -44,8 +44,8 @@ pub fn parse(alloc: Global, bytes: &[u8], expected: &Waiting) -> Result<Message,
     }
 }
 
-/// The message that a record is, or what is wrong with it, as `parse` says; the one error is want of
-/// memory.
+/// The message that a record is, or what is wrong with it, as `parse` says; the one error is
+/// running out of memory.
 pub fn message_of(
     alloc: Global,
     bytes: &[u8],

@@ -56,7 +56,7 @@ impl Handle {
     }
 
     /// The handle that this file system gives for a file's number: 16 bytes, its mark and the
-    /// number, the highest byte first. The one error is want of memory.
+    /// number, the highest byte first. The one error is running out of memory.
     pub fn of_file(alloc: Global, id: u64) -> Result<Handle, AllocError>
         ensures { IfOk result (λ h. h ≡ handle_bytes id) }
     {

@@ -48,8 +48,8 @@ macro_rules! read_as {
     };
 }
 
-/// Reads one item from the front of a record, as `Item::read` does; after an `Err`, want of memory
-/// too, the reader is where it was.
+/// Reads one item from the front of a record, as `Item::read` does; after an `Err`, running out of
+/// memory too, the reader is where it was.
 pub fn read_item<T: Item>(alloc: Global, reader: &mut Reader) -> Result<T, ReadError>
     ensures gives { Gives result reader.new (T.form.read reader.old) }
     ensures stays { OnErr result (reader.new ≡ reader.old) }

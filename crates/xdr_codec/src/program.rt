@@ -99,7 +99,7 @@ fn all_args<M: ProgramBody>(
     at_end(body, rest)
 }
 
-/// The arguments of a procedure, which fill what is left of a record. After an `Err`, want of memory
+/// The arguments of a procedure, which fill what is left of a record. After an `Err`, running out of memory
 /// too, the reader is where it was.
 pub fn read_args<M: ProgramBody>(
     alloc: Global,
@@ -137,8 +137,8 @@ fn all_results<M: ProgramBody>(
     at_end(body, rest)
 }
 
-/// What a procedure gave, which fills what is left of a record. After an `Err`, want of memory too,
-/// the reader is where it was.
+/// What a procedure gave, which fills what is left of a record. After an `Err`, running out of
+/// memory too, the reader is where it was.
 pub fn read_results<M: ProgramBody>(
     alloc: Global,
     procedure: M::Procedure,
@@ -153,7 +153,7 @@ pub fn read_results<M: ProgramBody>(
     // The reader then stands behind them, at the end.
     ensures ends { IfOk result (λ m. (M.results_form procedure).read rest.old ≡ Ok (m, rest.new)) }
     ensures stays { OnErr result (rest.new ≡ rest.old) }
-    // Where results hold nothing that is copied, no memory is wanting.
+    // Where results hold nothing that is copied, no memory is taken.
     ensures calm { IsErrOf result ReadError.Memory → M.MayWant procedure }
 {
     let start = rest.here();
@@ -164,7 +164,8 @@ pub fn read_results<M: ProgramBody>(
     read
 }
 
-/// The one spelling. The one error is want of memory; then nothing is left of what was written.
+/// The one spelling. The one error is running out of memory; then nothing is left of what was
+/// written.
 pub fn write<M: ProgramBody>(alloc: Global, body: &M) -> Result<Bytes, AllocError>
     ensures spelled { IfOk result (λ bytes. bytes ≡ M.spell body.now) }
     ensures fits { OnOk result (M.IsShort body.now → M.Fits body.now) }

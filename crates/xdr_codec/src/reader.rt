@@ -2,7 +2,7 @@
 //!
 //! The place of a refusal is where the item that failed begins, counted from the record's first
 //! byte. An opaque is one item, which begins at its length: `Short` and `BadFill` of its bytes name
-//! the length's place too. After a refusal, and where memory is wanting, the reader stays where it
+//! the length's place too. After a refusal, and where memory runs out, the reader stays where it
 //! was. `specs/Xdr.antt` states what each item is.
 
 ghost use Rattle.std.specs.Prelude.{◌≡◌, ℕ, ◌+◌, ◌<◌, ◌≤◌, ◌^◌, length, IfOk, OnErr, IsErrOf};

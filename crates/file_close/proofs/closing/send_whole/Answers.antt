@@ -1,10 +1,10 @@
 use Rattle.std.proofs.Common.{◌+◌, ◌<◌, sym, subst}
 use Rattle.client_state.specs.View.{store_left}
-use Rattle.client_state.specs.declared.task.Store.{Store}
+use Rattle.client_state.specs.declared.task.Upload.{Upload}
 use Rattle.file_close.proofs.Sending.{whole_xids}
 use Rattle.file_close.proofs.closing.send_whole.Goals as goal
 
 pub wait-requires-clause-xids : goal.wait-requires-clause-xids
 wait-requires-clause-xids c =
     let next = c.args.state.now.next_xid in
-    subst (λ (st : Store). next + 1 + store_left st < 4294967296) (sym c.in_ok-store.ensures) (whole_xids c.args.store c.args.call next next c.requires.xids)
+    subst (λ (st : Upload). next + 1 + store_left st < 4294967296) (sym c.in_ok-store.ensures) (whole_xids c.args.store c.args.call next next c.requires.xids)

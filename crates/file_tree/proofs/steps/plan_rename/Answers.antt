@@ -1,6 +1,6 @@
 use Rattle.std.proofs.Common.{◌≡◌, Result, Ok, Err, IfOk, List, ℕ, sym}
 use Rattle.xdr_codec.specs.declared.status.Status.{Status}
-use Rattle.tree_reading.specs.declared.call.Held.{Held}
+use Rattle.tree_reading.specs.declared.call.Reservation.{Reservation}
 use Rattle.tree_reading.specs.declared.call.Planned.{Planned}
 use Rattle.tree_reading.specs.Tree.{Tree}
 use Rattle.tree_reading.specs.Plans.{rename_plan, IsPlannedMove}
@@ -9,7 +9,7 @@ use Rattle.tree_reading.proofs.Admitted.{rename_there}
 use Rattle.file_tree.proofs.Limits.{bounds}
 use Rattle.file_tree.proofs.steps.plan_rename.Goals as goal
 
-planned_ok : (t : Tree) (held : Held) (dir : ℕ) (name : List ℕ) (to : ℕ) (to_name : List ℕ) (r : Result Planned Status) → r ≡ rename_plan t held dir name to to_name → IfOk r (IsPlannedMove t dir name to to_name)
+planned_ok : (t : Tree) (held : Reservation) (dir : ℕ) (name : List ℕ) (to : ℕ) (to_name : List ℕ) (r : Result Planned Status) → r ≡ rename_plan t held dir name to to_name → IfOk r (IsPlannedMove t dir name to to_name)
 planned_ok t held dir name to to_name (Ok p) e = rename_there t held dir name to to_name p (sym e)
 planned_ok t held dir name to to_name (Err s) e = tt
 

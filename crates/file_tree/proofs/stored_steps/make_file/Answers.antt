@@ -1,5 +1,5 @@
 use Rattle.std.proofs.Common.{ℕ, List, Some, sym, ap, ◌∙◌}
-use Rattle.store.specs.declared.record.Change.TheVariants as change
+use Rattle.store.specs.declared.record.RecordChange.TheVariants as change
 use Rattle.store.specs.declared.record.NodeKind.TheVariants as node_kind
 use Rattle.file_tree.specs.Step.{create}
 use Rattle.file_tree.proofs.Stepping.{created_kept}

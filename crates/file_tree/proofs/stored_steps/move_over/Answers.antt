@@ -1,5 +1,5 @@
 use Rattle.std.proofs.Common.{ℕ, List, sym, ap, ◌∙◌}
-use Rattle.store.specs.declared.record.Change.TheVariants as change
+use Rattle.store.specs.declared.record.RecordChange.TheVariants as change
 use Rattle.tree_nodes.specs.Nodes.{named}
 use Rattle.file_tree.specs.Step.{rename}
 use Rattle.file_tree.specs.Stores.{id_found, kind_found}

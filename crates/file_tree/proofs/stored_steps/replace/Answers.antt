@@ -1,5 +1,5 @@
 use Rattle.std.proofs.Common.{ℕ, List, sym, ap}
-use Rattle.store.specs.declared.record.Change.TheVariants as change
+use Rattle.store.specs.declared.record.RecordChange.TheVariants as change
 use Rattle.file_tree.proofs.Stepping.{replace_kept}
 use Rattle.file_tree.proofs.stored_steps.replace.Goals as goal
 

@@ -7,5 +7,5 @@ pub returns : goal.returns
 returns g c = record {
   between = c.replace-answer.new.remote;
   replaces = subst (λ (x : List Part). Replaces g.R.Remote.asks c.args.remote.now c.args.file x c.replace-answer.result c.replace-answer.new.remote) c.in_ok-content.ensures c.replace-answer.ensures;
-  settles = c.settle.ensures;
+  abandons = c.abandon_unstored.ensures;
 }

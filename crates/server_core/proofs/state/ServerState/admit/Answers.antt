@@ -3,8 +3,8 @@ use Rattle.temp_files.specs.Temps.{temp_at, without_temp, whole_of}
 use Rattle.temp_files.proofs.Entries.{some_same}
 use Rattle.server_core.proofs.Coming.{is_made, recalls_commit, admits_as}
 use Rattle.server_core.specs.Closing.{has_waiting, is_full}
-use Rattle.tree_reading.specs.declared.call.Held.{Held}
-use Rattle.server_core.specs.State.{State, Change, change_of, entries_held, size_wanted}
+use Rattle.tree_reading.specs.declared.call.Reservation.{Reservation}
+use Rattle.server_core.specs.State.{State, FileChange, change_of, entries_held, size_wanted}
 use Rattle.server_core.specs.View.{state_of}
 use Rattle.server_core.specs.declared.change.Wanted.TheVariants as wanted
 use Rattle.server_core.proofs.Closes.{whole_of_size}
@@ -25,7 +25,7 @@ wait-requires-clause-made g c = is_made c.change_of-change.result c.args.session
 
 pub wait-requires-clause-new : goal.wait-requires-clause-new
 wait-requires-clause-new g c =
-    ap (λ (x : Change). has_waiting c.reserve.new.self.waits.waits x.session) c.change_of-change.ensures
+    ap (λ (x : FileChange). has_waiting c.reserve.new.self.waits.waits x.session) c.change_of-change.ensures
     ∙ ap (λ (s : State). has_waiting s.waiting c.args.session) c.reserve.ensures.same
     ∙ c.requires.new
 
@@ -37,7 +37,7 @@ pub wait-requires-clause-size : goal.wait-requires-clause-size
 wait-requires-clause-size g c =
     let size : length c.in_ok-content.content ≡ c.args.commit.now.size = whole_of_size (temp_at c.reserve.new.self.temps c.args.session c.args.commit.now.fd) c.args.commit.now.size c.in_ok-content.content c.in_ok-content.ensures.content in
     let place = has_place (state_of c.reserve.new.self) c.args.commit.now.size (ap (λ (s : State). is_full s c.args.commit.now.size) c.reserve.ensures.same ∙ c.requires.room) in
-    omega (arith, size, place, ap (λ (x : Change). size_wanted x.what) c.change_of-change.ensures)
+    omega (arith, size, place, ap (λ (x : FileChange). size_wanted x.what) c.change_of-change.ensures)
 
 pub wait-requires-clause-room : goal.wait-requires-clause-room
 wait-requires-clause-room g c = c.in_ok-reserve.ensures.room
@@ -56,5 +56,5 @@ returns-clause-ok g c content is =
 pub returns-clause-spare : goal.returns-clause-spare
 returns-clause-spare g c =
     let before = c.reserve.new.self.waits.waits in
-    let change : Change = change_of c.args.session c.args.xid c.args.file (wanted.Content c.in_ok-content.content) in
-    omega (arith, ap entries_held c.wait.ensures.waiting, ap (λ (x : Change). entries_held (before ++ x ∷ [])) c.change_of-change.ensures, entries_more before change, ap (λ (h : Held). h.entries) c.held.ensures, c.in_ok-places.ensures, c.in_ok-reserve-2.ensures.room)
+    let change : FileChange = change_of c.args.session c.args.xid c.args.file (wanted.Content c.in_ok-content.content) in
+    omega (arith, ap entries_held c.wait.ensures.waiting, ap (λ (x : FileChange). entries_held (before ++ x ∷ [])) c.change_of-change.ensures, entries_more before change, ap (λ (h : Reservation). h.entries) c.held.ensures, c.in_ok-places.ensures, c.in_ok-reserve-2.ensures.room)

@@ -2,7 +2,7 @@ use Rattle.std.proofs.Common.{◌≡◌, ◌∙◌, sym, ap, subst, inl, Bool}
 use Rattle.tree_calls.specs.Calling.{IsCalled}
 use Rattle.tree_calls.specs.Waiting.{calls_under, enters}
 use Rattle.tree_reading.specs.Tree.{Tree}
-use Rattle.tree_reading.specs.declared.call.Held.{Held}
+use Rattle.tree_reading.specs.declared.call.Reservation.{Reservation}
 use Rattle.server_core.specs.declared.state.ServerState.{ServerState}
 use Rattle.server_core.specs.Closing.{has_waiting}
 use Rattle.server_core.specs.State.{State}
@@ -48,7 +48,7 @@ returns-in-Err-clause-takes g c =
     let held = c.held-held.result in
     let busy = c.has-busy.result in
     inl (
-    ap (λ (h : Held). enters s.tree.tree h (has_waiting s.waits.waits c.args.session) call) (sym c.held-held.ensures)
+    ap (λ (h : Reservation). enters s.tree.tree h (has_waiting s.waits.waits c.args.session) call) (sym c.held-held.ensures)
     ∙ ap (λ (b : Bool). enters s.tree.tree held b call) (sym c.has-busy.ensures)
     ∙ ap (λ (x : State). enters x.tree held busy call) (sym c.reserve_for.ensures.same)
     ∙ came_enters (g.S.Store.faults c.args.store.now) (g.S.Store.faults c.call.new.store) c.reserve_for.new.self.tree.tree c.call.new.tree.tree held busy call c.in_ok-outcome.outcome c.in_ok-outcome.ensures.ok c.in-Err.ensures.waits

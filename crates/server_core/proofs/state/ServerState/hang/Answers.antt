@@ -1,6 +1,6 @@
 use Rattle.std.proofs.Common.{length, ap, arith, subst, sym, List}
 use Rattle.std.specs.List.{AllByRecursion}
-use Rattle.server_core.specs.State.{Change, entries_held, waiting_size}
+use Rattle.server_core.specs.State.{FileChange, entries_held, waiting_size}
 use Rattle.server_core.specs.View.{IsMade}
 use Rattle.server_core.proofs.Hangs.{less_others, few_others, fewer_others, made_others}
 use Rattle.server_core.proofs.state.ServerState.hang.Goals as goal
@@ -13,7 +13,7 @@ returns-clause-bounded c =
     record {
       bytes = omega (arith, b.bytes, less_others c.args.session before, ap waiting_size items);
       room = omega (arith, b.room, few_others c.args.session before, ap length items);
-      made = subst (λ (l : List Change). AllByRecursion IsMade l) (sym items) (made_others c.args.session before b.made);
+      made = subst (λ (l : List FileChange). AllByRecursion IsMade l) (sym items) (made_others c.args.session before b.made);
       early = b.early;
     }
 

@@ -2,7 +2,7 @@ use Rattle.std.proofs.Common.{◌≡◌, refl, ℕ, ◌+◌, ◌≤◌, ◌∙�
 use Rattle.std.specs.List.{AllByRecursion}
 use Rattle.callback_core.specs.Waits.{ready, without, without_made}
 use Rattle.server_core.specs.Leasing.{ready_at}
-use Rattle.server_core.specs.State.{Change, entries_held, waiting_size}
+use Rattle.server_core.specs.State.{FileChange, entries_held, waiting_size}
 use Rattle.server_core.specs.View.{state_of, leasing_of, IsMade}
 use Rattle.server_core.proofs.Hangs.{less_others, made_others, taken_entries, taken_place, taken_made}
 use Rattle.server_core.proofs.Missing.{settles_all, settles_some, settles_none}
@@ -34,7 +34,7 @@ make_change-requires-clause-settling g c =
     record {
       bytes = omega (arith, b.bytes, less_others change.session waits, ap waiting_size rest);
       room = omega (arith, b.room, taken_place waits at.0 change at.1, ap length rest);
-      made = subst (λ (l : List Change). AllByRecursion IsMade l) (sym rest) (made_others change.session waits b.made);
+      made = subst (λ (l : List FileChange). AllByRecursion IsMade l) (sym rest) (made_others change.session waits b.made);
       early = search arith;
       spare = search arith;
     }
