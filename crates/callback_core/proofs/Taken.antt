@@ -8,7 +8,7 @@ use Rattle.std.proofs.lemmas.List.Edits.{length-remove}
 use Rattle.std.proofs.lemmas.List.Elements.{All-head, All-tail}
 use Rattle.std.proofs.lemmas.List.Quantifiers.{all_pairs_push, all_pairs_remove}
 use Rattle.std.proofs.lemmas.List.Sums.{sum_by-append, sum_by-remove}
-use Rattle.lease_table.proofs.Lists.{filter_all, pairs_head, pairs_tail, some_is}
+use Rattle.lease_table.proofs.lemmas.Lists.{filter_all, pairs_head, pairs_tail, some_is}
 use Rattle.lease_rules.specs.declared.change.PendingChange.{PendingChange}
 use Rattle.callback_core.specs.Waits.{change_of, has_wait, without, without_made, entries_of, bytes_of, AreOthers, AreBounded}
 use Rattle.lease_rules.specs.Places.{place_in, without_place}

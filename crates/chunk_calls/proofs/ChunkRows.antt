@@ -13,11 +13,11 @@ use Rattle.chunk_cut.specs.Ends.{AreEndsFrom, IsNextEnd}
 use Rattle.chunk_cut.specs.Places.{end_from, end_of}
 use Rattle.chunk_cut.specs.Search.{ends}
 use Rattle.chunk_cut.specs.declared.chunk.Chunk.{Chunk}
-use Rattle.chunk_cut.proofs.Only.{are_ends, chunks_are}
+use Rattle.chunk_cut.proofs.lemmas.Only.{are_ends, chunks_are}
 use Rattle.hash_calls.specs.declared.call.HashRange.{HashRange}
 use Rattle.chunk_calls.specs.Answers.{chunks_most, meets, told_chunks}
 use Rattle.chunk_calls.specs.Chunks.{AreInRow, ends_behind, begins_before, IsWithin}
-use Rattle.temp_files.proofs.Entries.{some_same}
+use Rattle.temp_files.proofs.lemmas.Entries.{some_same}
 
 -- ---- the chunks of a content
 

@@ -1,7 +1,7 @@
 pub mod Chains
 pub mod Feeding
 pub mod Found
-pub mod Only
 pub mod Scanned
 pub mod Sliding
 pub mod Windows
+pub mod lemmas

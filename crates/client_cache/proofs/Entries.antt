@@ -3,7 +3,7 @@ use Rattle.std.proofs.Common.{◌≡◌, refl, sym, ap, ◌∙◌, ℕ, ◌≤�
 use Rattle.std.specs.Prelude.{is_some, unwrap_or}
 use Rattle.std.specs.Map.{remove_entry, set_value}
 use Rattle.lru.specs.LruCache.{LruCache, lru_cache, promoted, put_entries}
-use Rattle.chunk_index.proofs.Recent.{put_leaves, promoted_is, set_len, set_promoted, front_fits, within, front_if}
+use Rattle.chunk_index.proofs.lemmas.Recent.{put_leaves, promoted_is, set_len, set_promoted, front_fits, within, front_if}
 use Rattle.client_cache.specs.declared.kept.Note.{Note}
 use Rattle.client_cache.specs.declared.kept.Kept.{Kept}
 use Rattle.client_cache.specs.Cache.{Entries, files_most, kept_of, nothing, fronted, reserved, keeps, notes, evicts, with_content}

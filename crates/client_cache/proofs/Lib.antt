@@ -1,4 +1,3 @@
 mod Entries
-pub mod Held
 mod Shown
-pub mod There
+pub mod lemmas

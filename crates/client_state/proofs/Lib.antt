@@ -1,7 +1,2 @@
-pub mod Bounds
-pub mod Edits
-pub mod Keeping
-pub mod Locals
 mod OldestFirst
-pub mod Pending
-pub mod Warming
+pub mod lemmas

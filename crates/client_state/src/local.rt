@@ -24,7 +24,7 @@ fn first_of(bytes: &[u8], count: u64) -> &[u8]
 }
 
 /// The bytes from a place on.
-#[tactic(auto, using(crate::proofs::Edits::drop_past))]
+#[tactic(auto, using(crate::proofs::lemmas::Edits::drop_past))]
 fn rest_of(bytes: &[u8], offset: u64) -> &[u8]
     ensures { result.now ≡ drop offset bytes.now }
 {
@@ -52,7 +52,7 @@ pub fn written_size(size: u64, offset: u64, count: u128) -> Result<u128, AllocEr
 }
 
 /// The bytes before a place: a gap is filled with zeros. There is room for a whole of this size.
-#[tactic(auto, using(crate::proofs::Edits::filled_first))]
+#[tactic(auto, using(crate::proofs::lemmas::Edits::filled_first))]
 fn filled(alloc: Global, bytes: &[u8], offset: u64, size: u64) -> Result<Vec<u8>, AllocError>
     ensures { IfOk result (λ v. v.items ≡ take offset bytes.now ++ replicate (offset - length bytes.now) 0) }
 {
@@ -63,7 +63,7 @@ fn filled(alloc: Global, bytes: &[u8], offset: u64, size: u64) -> Result<Vec<u8>
 }
 
 /// The content with some bytes written at a place.
-#[tactic(auto, using(crate::proofs::Edits::written_some, crate::proofs::Edits::written_length))]
+#[tactic(auto, using(crate::proofs::lemmas::Edits::written_some, crate::proofs::lemmas::Edits::written_length))]
 pub fn written(
     alloc: Global,
     bytes: &[u8],
@@ -83,7 +83,7 @@ pub fn written(
 }
 
 /// The content cut to a size, or filled with zeros up to it.
-#[tactic(auto, using(crate::proofs::Edits::truncated_length))]
+#[tactic(auto, using(crate::proofs::lemmas::Edits::truncated_length))]
 pub fn truncated(alloc: Global, bytes: &[u8], size: u64) -> Result<SharedBytes, AllocError>
     ensures truncated { IfOk result (λ b. b ≡ truncated bytes.now size) }
     ensures size { IfOk result (λ b. length b ≡ size) }

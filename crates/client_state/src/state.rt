@@ -141,7 +141,7 @@ impl ClientState {
     }
 
     /// The calls of the operation under way.
-    #[tactic(auto, using(crate::proofs::Pending::own_first))]
+    #[tactic(auto, using(crate::proofs::lemmas::Pending::own_first))]
     pub fn own_calls(&self) -> &[Pending]
         requires { IsSound self.now }
         ensures { result.now ≡ pending self.now.task }
@@ -176,7 +176,7 @@ impl ClientState {
 
     /// The operation under way has come this far, this is the next xid, and these calls wait, of which
     /// so many are its own. It takes no memory.
-    #[tactic(auto, using(crate::proofs::Pending::drop_front, crate::proofs::Pending::front_fits))]
+    #[tactic(auto, using(crate::proofs::lemmas::Pending::drop_front, crate::proofs::lemmas::Pending::front_fits))]
     pub fn set_waiting(
         &mut self,
         calls: Items<Pending>,
@@ -330,7 +330,7 @@ impl ClientState {
     }
 
     /// As `put`, of a content whose chunks may have been found ahead, which stay with it.
-    #[tactic(auto, using(crate::proofs::Bounds::locals_with))]
+    #[tactic(auto, using(crate::proofs::lemmas::Bounds::locals_with))]
     pub fn put_cut(&mut self, file: u64, version: u64, bytes: CutBytes) -> Result<(), AllocError>
         requires base { IsBase self.old }
         requires small { length bytes ≤ FILE_MOST }
@@ -351,7 +351,7 @@ impl ClientState {
 
     /// The file is no longer open, and this was its local content; nothing where it wasn't open. It
     /// takes no memory.
-    #[tactic(auto, using(crate::proofs::Bounds::locals_without, crate::proofs::Locals::remove_is_without))]
+    #[tactic(auto, using(crate::proofs::lemmas::Bounds::locals_without, crate::proofs::lemmas::Locals::remove_is_without))]
     pub fn take_local(&mut self, file: u64) -> CutBytes
         requires { IsBase self.old }
         ensures bytes { result ≡ local_bytes self.old.opened.entries file }

@@ -14,7 +14,7 @@ use Rattle.clock_rule.specs.declared.rule.ClockFault.TheVariants.{Client}
 use Rattle.clock_rule.specs.declared.window.Window.{Window}
 use Rattle.clock_rule.specs.Clocks.{breaks, notes_of, last_reading, first_broken, drift_fault, fault_of}
 use Rattle.clock_rule.specs.Windows.{Covers, Rises, ArePassed, IsReach, AreLeast, Fits}
-use Rattle.clock_rule.proofs.Lists.{none_found, in_front, any_kept, pairs_taken}
+use Rattle.clock_rule.proofs.lemmas.Lists.{none_found, in_front, any_kept, pairs_taken}
 
 -- ---- the rule on two events, in numbers
 

@@ -1,5 +1,3 @@
-pub mod Lists
 pub mod Least
 pub mod Windows
-pub mod Keeping
-pub mod Whole
+pub mod lemmas

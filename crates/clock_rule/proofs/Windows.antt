@@ -7,7 +7,7 @@ use Rattle.clock_rule.specs.declared.rule.Note.{Note}
 use Rattle.clock_rule.specs.declared.window.Window.{Window}
 use Rattle.clock_rule.specs.Clocks.{notes_of}
 use Rattle.clock_rule.specs.Windows.{Covers, Rises, Fits, IsWindowOf, HasNoWindow, IsFresh, IsWithWindow, AreKept}
-use Rattle.clock_rule.proofs.Lists.{some_is, at_end, of_appended, kept_appended, of_replaced, at_replaced, else_replaced}
+use Rattle.clock_rule.proofs.lemmas.Lists.{some_is, at_end, of_appended, kept_appended, of_replaced, at_replaced, else_replaced}
 use Rattle.clock_rule.proofs.Least.{notes_of_other, fits_same}
 
 -- a fresh window fits where nothing was noted of its client

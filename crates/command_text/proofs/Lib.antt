@@ -1,6 +1,4 @@
-pub mod Again
-pub mod Contents
 pub mod Cuts
-pub mod Decimals
 pub mod Joined
 pub mod Numbers
+pub mod lemmas

@@ -87,7 +87,7 @@ fn push_zeros(bytes: &mut Vec<u8>, count: u64) -> Result<(), AllocError>
 }
 
 /// Adds a mark.
-#[tactic(auto, using(crate::proofs::Contents::mark_is))]
+#[tactic(auto, using(crate::proofs::lemmas::Contents::mark_is))]
 fn push_mark(bytes: &mut Vec<u8>) -> Result<(), AllocError>
     ensures { OnOk result (bytes.new.items ≡ bytes.old.items ++ mark) }
 {

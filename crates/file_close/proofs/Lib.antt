@@ -1,3 +1,3 @@
 pub mod Cuts
 pub mod Going
-pub mod Sending
+pub mod lemmas

@@ -26,7 +26,7 @@ pub struct Names {
 }
 
 /// The next chunk is named in a version of LBFS, if there is one.
-#[tactic(auto, using(client_state::proofs::Bounds::chunk_bounded))]
+#[tactic(auto, using(client_state::proofs::lemmas::Bounds::chunk_bounded))]
 fn name_next(lbfs: u32, names: &mut Names) -> Result<(), AllocError>
     requires xid { names.old.next_xid + 1 < 4294967296 }
     requires lens { All IsChunkBounded names.old.store.chunks }

@@ -53,7 +53,7 @@ pub fn close(alloc: Global, state: &mut ClientState, file: u64) -> Result<Client
 }
 
 /// A temporary file of the next number is asked for. An `Err` changes nothing.
-#[tactic(auto, using(client_state::proofs::Pending::held_of))]
+#[tactic(auto, using(client_state::proofs::lemmas::Pending::held_of))]
 fn ask_temp(alloc: Global, state: &mut ClientState, file: u64) -> Result<ClientStep, AllocError>
     requires sound { IsSound state.old }
     requires idle { state.old.task ≡ None }
@@ -218,7 +218,7 @@ pub fn store(
 }
 
 /// The bytes of a chunk go out in the place of its name. An `Err` changes nothing.
-#[tactic(auto, using(crate::proofs::Sending::whole_xids, crate::proofs::Sending::whole_within))]
+#[tactic(auto, using(crate::proofs::lemmas::Sending::whole_xids, crate::proofs::lemmas::Sending::whole_within))]
 fn send_whole(
     alloc: Global,
     state: &mut ClientState,

@@ -8,7 +8,7 @@ use Rattle.sha1.specs.Sha1.{sha1}
 use Rattle.chunk_cut.specs.declared.chunk.Chunk.{Chunk}
 use Rattle.chunk_index.specs.Index.{Indexed, key_of, place_of}
 use Rattle.chunk_index.specs.declared.place.Place.{Place}
-use Rattle.client_cache.proofs.Held.{at_kept}
+use Rattle.client_cache.proofs.lemmas.Held.{at_kept}
 use Rattle.client_cache.specs.Cache.{Entries, kept_of, content_of, fresh_of, bytes_in, content_in as content_in_kept}
 use Rattle.client_cache.specs.declared.kept.Content.{Content}
 use Rattle.client_cache.specs.declared.kept.Kept.{Kept}

@@ -1,7 +1,6 @@
-pub mod Comings
 pub mod Ends
 pub mod Going
 pub mod Keeping
-pub mod Pieces
 pub mod Sending
 pub mod Slots
+pub mod lemmas

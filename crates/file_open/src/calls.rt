@@ -80,7 +80,7 @@ fn take_chunk(
 }
 
 /// The next chunk is looked up, if there is one, and where it isn't kept it is asked for.
-#[tactic(auto, using(client_state::proofs::Bounds::chunk_bounded, crate::proofs::Slots::slot_there))]
+#[tactic(auto, using(client_state::proofs::lemmas::Bounds::chunk_bounded, crate::proofs::Slots::slot_there))]
 fn read_next(
     alloc: Global,
     cache: &Cache,

@@ -102,7 +102,7 @@ pub fn use_kept(
 }
 
 /// A content that is fresh is opened by a command. An `Err` changes nothing.
-#[tactic(auto, using(client_state::proofs::Pending::held_of, client_state::proofs::Pending::sound_kept))]
+#[tactic(auto, using(client_state::proofs::lemmas::Pending::held_of, client_state::proofs::lemmas::Pending::sound_kept))]
 pub fn open_fresh(
     alloc: Global,
     state: &mut ClientState,

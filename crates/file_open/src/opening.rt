@@ -66,7 +66,7 @@ fn open_kept(alloc: Global, state: &mut ClientState, file: u64) -> Result<Client
 }
 
 /// A file is asked for, where a connection is joined. An `Err` changes nothing.
-#[tactic(auto, using(client_state::proofs::Pending::held_of, client_state::proofs::Pending::sound_again))]
+#[tactic(auto, using(client_state::proofs::lemmas::Pending::held_of, client_state::proofs::lemmas::Pending::sound_again))]
 fn ask_linked(alloc: Global, state: &mut ClientState, file: u64) -> Result<ClientStep, AllocError>
     requires sound { IsSound state.old }
     requires idle { state.old.task ≡ None }
@@ -322,7 +322,7 @@ fn list_on(
 }
 
 /// A piece can be, and its chunks are listed. An `Err` changes nothing.
-#[tactic(auto, using(crate::proofs::Pieces::few_pairs))]
+#[tactic(auto, using(crate::proofs::lemmas::Pieces::few_pairs))]
 fn add_piece(
     alloc: Global,
     state: &mut ClientState,
@@ -351,7 +351,7 @@ fn add_piece(
 }
 
 /// A piece of a file's chunks has come. An `Err` changes nothing.
-#[tactic(auto, using(crate::proofs::Pieces::may_retry))]
+#[tactic(auto, using(crate::proofs::lemmas::Pieces::may_retry))]
 pub fn told_hashes(
     alloc: Global,
     state: &mut ClientState,

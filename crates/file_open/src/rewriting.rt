@@ -55,7 +55,7 @@ fn renew_kept(alloc: Global, state: &mut ClientState, file: u64) -> Result<Clien
 }
 
 /// The file's version is asked for, where a connection is joined. An `Err` changes nothing.
-#[tactic(auto, using(client_state::proofs::Pending::held_of, client_state::proofs::Pending::sound_again))]
+#[tactic(auto, using(client_state::proofs::lemmas::Pending::held_of, client_state::proofs::lemmas::Pending::sound_again))]
 fn ask_linked(alloc: Global, state: &mut ClientState, file: u64) -> Result<ClientStep, AllocError>
     requires sound { IsSound state.old }
     requires idle { state.old.task ≡ None }
@@ -94,7 +94,7 @@ pub fn renew_found(
 }
 
 /// The file's content is fresh: it is open with nothing in it. An `Err` changes nothing.
-#[tactic(auto, using(client_state::proofs::Pending::sound_put))]
+#[tactic(auto, using(client_state::proofs::lemmas::Pending::sound_put))]
 fn empty_fresh(
     alloc: Global,
     state: &mut ClientState,

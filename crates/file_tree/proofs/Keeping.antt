@@ -9,7 +9,7 @@ use Rattle.store.specs.declared.record.ContentRecord.{ContentRecord}
 use Rattle.store.specs.declared.record.Kept.{Kept}
 use Rattle.store.specs.declared.record.Kept.TheVariants as kept
 use Rattle.store.specs.declared.record.NodeRecord.{NodeRecord}
-use Rattle.tree_nodes.proofs.Lists.{with_id_with, with_id_without, with_id_changed}
+use Rattle.tree_nodes.proofs.lemmas.Lists.{with_id_with, with_id_without, with_id_changed}
 use Rattle.tree_nodes.specs.Nodes.{with_id, with_node, without, versioned}
 use Rattle.tree_nodes.specs.declared.node.Node.{Node}
 use Rattle.tree_nodes.specs.declared.node.Body.{Body}

@@ -16,7 +16,7 @@ use Rattle.file_tree.specs.Opening.{may_open, counted_at, with_change}
 use Rattle.tree_reading.specs.Tree.{Tree, is_directory, content_of, contents_size, directory_of, or_taken, file_most, tree_most}
 use Rattle.tree_reading.specs.View.{IsNodeBounded}
 use Rattle.file_tree.specs.View.{AreIdsApart, IsWithinLimits, is_directory_at, counted_if, counted_below}
-use Rattle.file_tree.proofs.Limits.{limits_with, limits_versioned, size_with, size_same}
+use Rattle.file_tree.proofs.lemmas.Limits.{limits_with, limits_versioned, size_with, size_same}
 
 -- ---- a node more
 

@@ -14,9 +14,9 @@ use Rattle.tree_nodes.specs.Nodes.{named}
 use Rattle.tree_nodes.specs.declared.node.Node.{Node}
 use Rattle.tree_nodes.specs.declared.node.Body.{Body}
 use Rattle.tree_nodes.specs.declared.node.Body.TheVariants.{Directory, File}
-use Rattle.tree_reading.proofs.Admitted.{rename_there}
-use Rattle.file_tree.proofs.States.{some_node}
-use Rattle.file_tree.proofs.Stored.{create_stored, mkdir_stored, remove_stored, rmdir_stored, rename_stored, replace_stored}
+use Rattle.tree_reading.proofs.lemmas.Admitted.{rename_there}
+use Rattle.file_tree.proofs.lemmas.States.{some_node}
+use Rattle.file_tree.proofs.lemmas.Stored.{create_stored, mkdir_stored, remove_stored, rmdir_stored, rename_stored, replace_stored}
 use Rattle.tree_reading.specs.Plans.{create_plan, may_mkdir, remove_plan, rmdir_plan, rename_plan, replace_plan}
 use Rattle.file_tree.specs.Step.{made, new_file, new_directory, removed, moved, replaced, created, create, mkdir_if, mkdir, remove_if, remove, rmdir, rename_if, rename, shifted, replace_if, replace}
 use Rattle.file_tree.specs.Storing.{kind_of, node_change, with_given, create_gives, mkdir_gives, remove_gives, rename_gives, shift_gives, replace_gives, IsStored}

@@ -25,7 +25,7 @@ pub fn ids_come_once()
 /// A store that kept a tree whose ids stand once, and is given what a call gives it
 /// (`specs/Storing.antt`), keeps the tree that the call leaves: of each of the six changes, also where
 /// it is refused, which gives nothing. Of no record it keeps the root alone.
-#[tactic(auto, using(crate::proofs::Stored::empty_stored))]
+#[tactic(auto, using(crate::proofs::lemmas::Stored::empty_stored))]
 pub fn calls_keep()
     ensures empty { IsStored [] empty }
     ensures create { (t : Tree) (held : Reservation) (dir : ℕ) (name : List ℕ) (m : CreateMode) (records : List Kept) → IsStored records t → IsStored (with_given (create_gives t dir name (create_plan t held dir name m)) records) (create t held dir name m).0 }

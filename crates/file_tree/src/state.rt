@@ -175,7 +175,7 @@ fn let_go(node: Node) -> u64
 }
 
 /// How many bytes the nodes contain.
-#[tactic(auto, using(crate::proofs::Limits::size_from, crate::proofs::Limits::size_past))]
+#[tactic(auto, using(crate::proofs::lemmas::Limits::size_from, crate::proofs::lemmas::Limits::size_past))]
 fn bytes_in(nodes: &Nodes) -> u64
     requires { contents_size nodes.now.nodes ≤ tree_most }
     ensures { result ≡ contents_size nodes.now.nodes }

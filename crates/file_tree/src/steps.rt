@@ -87,7 +87,7 @@ pub fn plan_rename(
 }
 
 /// Why such a call would be refused, up to want of space.
-#[tactic(auto, using(crate::proofs::Limits::bounds))]
+#[tactic(auto, using(crate::proofs::lemmas::Limits::bounds))]
 pub fn may(tree: &TreeState, call: &Call, held: Reservation) -> Result<(), Status>
     requires { IsState tree.now }
     ensures { result ≡ may (state_of tree.now) held call.now }

@@ -110,7 +110,7 @@ impl Tree {
     }
 
     /// What a store's head says once a node was made. It takes no memory.
-    #[tactic(auto, using(crate::proofs::Limits::bounds))]
+    #[tactic(auto, using(crate::proofs::lemmas::Limits::bounds))]
     pub fn head_made(&self) -> Head
         ensures { result ≡ record { next = self.now.tree.next + 1; changes = self.now.tree.changes + 1 } }
     {
@@ -121,7 +121,7 @@ impl Tree {
     }
 
     /// What a store's head says once so many changes more were made. It takes no memory.
-    #[tactic(auto, using(crate::proofs::Limits::bounds))]
+    #[tactic(auto, using(crate::proofs::lemmas::Limits::bounds))]
     pub fn head_changed(&self, count: u8) -> Head
         ensures { result ≡ record { next = self.now.tree.next; changes = self.now.tree.changes + count } }
     {
@@ -139,7 +139,7 @@ impl Tree {
     }
 
     /// CREATE. It needs the place of one node, and takes no memory.
-    #[tactic(auto, using(tree_reading::proofs::Admitted::create_free))]
+    #[tactic(auto, using(tree_reading::proofs::lemmas::Admitted::create_free))]
     pub fn create(
         &mut self,
         dir: u64,
@@ -170,7 +170,7 @@ impl Tree {
     }
 
     /// MKDIR. It needs the place of one node, and takes no memory.
-    #[tactic(auto, using(tree_reading::proofs::Admitted::mkdir_free))]
+    #[tactic(auto, using(tree_reading::proofs::lemmas::Admitted::mkdir_free))]
     pub fn mkdir(&mut self, dir: u64, name: Name, held: Reservation) -> Result<Changed, Status>
         requires { 0 < self.old.room }
         ensures done { mkdir self.old.tree held dir name ≡ (self.new.tree, result) }
@@ -186,7 +186,7 @@ impl Tree {
     }
 
     /// REMOVE, once nothing blocks it. It takes no memory.
-    #[tactic(auto, using(crate::proofs::Limits::bounds, tree_reading::proofs::Admitted::remove_there))]
+    #[tactic(auto, using(crate::proofs::lemmas::Limits::bounds, tree_reading::proofs::lemmas::Admitted::remove_there))]
     pub fn remove(&mut self, dir: u64, name: &[u8], held: Reservation) -> Result<Changed, Status>
         ensures done { remove self.old.tree held dir name.now ≡ (self.new.tree, result) }
         ensures room { self.old.room ≤ self.new.room }
@@ -198,7 +198,7 @@ impl Tree {
     }
 
     /// RMDIR. It takes no memory.
-    #[tactic(auto, using(crate::proofs::Limits::bounds, tree_reading::proofs::Admitted::rmdir_there))]
+    #[tactic(auto, using(crate::proofs::lemmas::Limits::bounds, tree_reading::proofs::lemmas::Admitted::rmdir_there))]
     pub fn rmdir(&mut self, dir: u64, name: &[u8], held: Reservation) -> Result<Changed, Status>
         ensures done { rmdir self.old.tree held dir name.now ≡ (self.new.tree, result) }
         ensures room { self.old.room ≤ self.new.room }
@@ -225,7 +225,7 @@ impl Tree {
     }
 
     /// COMMITTMP, once its content is whole and nothing blocks it. It takes no memory.
-    #[tactic(auto, using(crate::proofs::Limits::bounds, tree_reading::proofs::Admitted::replace_there))]
+    #[tactic(auto, using(crate::proofs::lemmas::Limits::bounds, tree_reading::proofs::lemmas::Admitted::replace_there))]
     pub fn replace(&mut self, id: u64, content: Content, held: Reservation) -> Result<Changed, Status>
         ensures done { replace self.old.tree held id content ≡ (self.new.tree, result) }
         ensures room { self.old.room ≤ self.new.room }
@@ -268,7 +268,7 @@ impl Tree {
     }
 
     /// What REMOVE comes to. It changes nothing and takes no memory.
-    #[tactic(auto, using(crate::proofs::Limits::bounds))]
+    #[tactic(auto, using(crate::proofs::lemmas::Limits::bounds))]
     pub fn plan_remove(&self, dir: u64, name: &[u8], held: Reservation) -> Result<Changed, Status>
         ensures { result ≡ remove_plan self.now.tree held dir name.now }
     {
@@ -276,7 +276,7 @@ impl Tree {
     }
 
     /// What RMDIR comes to. It changes nothing and takes no memory.
-    #[tactic(auto, using(crate::proofs::Limits::bounds))]
+    #[tactic(auto, using(crate::proofs::lemmas::Limits::bounds))]
     pub fn plan_rmdir(&self, dir: u64, name: &[u8], held: Reservation) -> Result<Changed, Status>
         ensures { result ≡ rmdir_plan self.now.tree held dir name.now }
     {
@@ -285,7 +285,7 @@ impl Tree {
 
     /// The version that a file comes to by a content of so many bytes. It changes nothing and takes no
     /// memory.
-    #[tactic(auto, using(crate::proofs::Limits::bounds))]
+    #[tactic(auto, using(crate::proofs::lemmas::Limits::bounds))]
     pub fn plan_replace(&self, id: u64, len: u64, held: Reservation) -> Result<u64, Status>
         ensures { result ≡ replace_plan self.now.tree held id len }
     {
@@ -316,7 +316,7 @@ impl Tree {
 
     /// LOOKUP: the id of what a name stands for, its attributes and the directory's. It takes no
     /// memory.
-    #[tactic(auto, using(crate::proofs::Limits::bounds))]
+    #[tactic(auto, using(crate::proofs::lemmas::Limits::bounds))]
     pub fn lookup(&self, dir: u64, name: &[u8]) -> Result<Looked, Status>
         ensures { result ≡ lookup self.now.tree.nodes dir name.now }
     {
@@ -324,7 +324,7 @@ impl Tree {
     }
 
     /// The attributes of a file or directory. It takes no memory.
-    #[tactic(auto, using(crate::proofs::Limits::bounds))]
+    #[tactic(auto, using(crate::proofs::lemmas::Limits::bounds))]
     pub fn attr(&self, id: u64) -> Result<Attr, Status>
         ensures { result ≡ attr self.now.tree.nodes id }
     {
@@ -339,7 +339,7 @@ impl Tree {
     }
 
     /// The node of an id, if there is one. It takes no memory.
-    #[tactic(auto, using(crate::proofs::Limits::bounds))]
+    #[tactic(auto, using(crate::proofs::lemmas::Limits::bounds))]
     pub fn node(&self, id: u64) -> Option<&Node>
         ensures node { option_copied result ≡ with_id self.now.tree.nodes id }
         ensures short { IfSome result (λ n. length (content_of n.now.body) ≤ file_most) }
@@ -369,7 +369,7 @@ impl Tree {
     }
 
     /// READ: a copy of the bytes of a file from an offset on, at most `count` and at most 65,536.
-    #[tactic(auto, using(crate::proofs::Limits::bounds))]
+    #[tactic(auto, using(crate::proofs::lemmas::Limits::bounds))]
     pub fn read(&self, id: u64, offset: u64, count: u32) -> Result<Piece, TreeError>
         ensures { Answers (read self.now.tree.nodes id offset count) result }
     {
@@ -378,7 +378,7 @@ impl Tree {
     }
 
     /// READDIR: copies of the entries behind a cookie, in an answer of at most `count` bytes.
-    #[tactic(auto, using(crate::proofs::Limits::bounds))]
+    #[tactic(auto, using(crate::proofs::lemmas::Limits::bounds))]
     pub fn list(
         &self,
         dir: u64,

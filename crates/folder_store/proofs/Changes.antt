@@ -13,7 +13,7 @@ use Rattle.log_store.specs.Names.{same_which}
 use Rattle.log_store.specs.Lines.{Records, changed, made_by}
 use Rattle.log_store.specs.Disk.{Disk}
 use Rattle.log_store.specs.Store.{Applied}
-use Rattle.log_store.proofs.Logs.{is_same}
+use Rattle.log_store.proofs.lemmas.Logs.{is_same}
 use Rattle.log_store.specs.declared.carrying.Unfinished.{Unfinished}
 use Rattle.log_store.specs.declared.edit.Edit.{Edit}
 use Rattle.log_store.specs.declared.which.Which.{Which}

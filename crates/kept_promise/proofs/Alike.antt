@@ -20,8 +20,8 @@ use Rattle.trace_ends.specs.Core.{adjusted, with_client}
 use Rattle.kept_promise.proofs.Common.{Contains, Contains-push_cases, in_header, ended, run, run_from, content_bytes, stands, at, makes_change, lines_of, line_of, Line, LineFault, Turn, Event, Event.Joins, Event.Does, Event.Settles, Event.Cuts, Event.Hangs, File, FileChange, Core, Seat, Session, numbered, does, hears, joins, settles, cuts, hangs_if, hangs, happens, World, Wire, start, happened, all_happened, up_taken, up_events, up_at, up_length, up_all, down_taken, down_events, down_at, down_length, round, is_still, passes, asked, asked_by, at_events, count_of, turned, Moment, moments_of, up_moments_at, down_moments_at, round_moments, passes_moments, turn_moments, moments_from, moments, Wanted, Tree, step_of}
 use Rattle.kept_promise.proofs.Lists.{some_is}
 use Rattle.kept_promise.proofs.Rights.{AreAlike}
-use Rattle.server_law.proofs.Trees.{IsGiven, IsSince, IsLater, later_join, Keeps, keeps_same, file_below}
-use Rattle.server_law.proofs.TreeCalls.{commits_keep, settles_keep}
+use Rattle.server_law.proofs.lemmas.Trees.{IsGiven, IsSince, IsLater, later_join, Keeps, keeps_same, file_below}
+use Rattle.server_law.proofs.lemmas.TreeCalls.{commits_keep, settles_keep}
 use Rattle.tree_nodes.specs.declared.node.Body.TheVariants.{Directory, File as Plain}
 use Rattle.kept_promise.proofs.TreeOpens.{opens_file, opens_directory, opens_counted}
 use Rattle.kept_promise.proofs.CallsKeep.{got_tree, got_dirs}

@@ -19,8 +19,8 @@ use Rattle.server_core.specs.Step.{asks, asks_tree}
 use Rattle.tree_calls.specs.Waiting.{calls}
 use Rattle.tree_calls.specs.declared.asked.Outcome.{Outcome}
 use Rattle.tree_calls.specs.declared.asked.Outcome.TheVariants.{Answered, Waits as ToWait}
-use Rattle.server_law.proofs.Trees.{Keeps, keeps_same}
-use Rattle.server_law.proofs.TreeCalls.{calls_keep}
+use Rattle.server_law.proofs.lemmas.Trees.{Keeps, keeps_same}
+use Rattle.server_law.proofs.lemmas.TreeCalls.{calls_keep}
 use Rattle.kept_promise.proofs.TreeNameCalls.{calls_dirs}
 use Rattle.kept_promise.proofs.TreeNames.{KeepsDirs, dirs_same}
 use Rattle.path_calls.specs.Walk.{call_at}

@@ -9,15 +9,15 @@ use Rattle.xdr_codec.specs.declared.answer.Answer.TheVariants as answer
 use Rattle.xdr_codec.specs.declared.status.Status.{Status}
 use Rattle.nfs3_calls.specs.Calls.{before_form, wcc_form, made_form, moved_form}
 use Rattle.nfs3_calls.specs.declared.message.Nfs.TheVariants as nfs
-use Rattle.wire.proofs.Sizes.{small_fits}
+use Rattle.wire.proofs.lemmas.Sizes.{small_fits}
 use Rattle.wire.specs.Message.{MessageFits}
 use Rattle.wire.specs.declared.message.Body.TheVariants as body
 use Rattle.wire.specs.declared.message.Message.TheVariants as message
 use Rattle.tree_reading.specs.Tree.{Tree, node_of}
 use Rattle.tree_reading.specs.Reading.{attr, attr_of}
 use Rattle.tree_reading.specs.declared.call.Changed.{Changed}
-use Rattle.tree_reading.proofs.Found.{id_bounded}
-use Rattle.file_tree.proofs.Limits.{bounds}
+use Rattle.tree_reading.proofs.lemmas.Found.{id_bounded}
+use Rattle.file_tree.proofs.lemmas.Limits.{bounds}
 use Rattle.tree_calls.specs.Changing.{known, before, before_of, both_sides, no_side, made_of, created, made_directory, removed_directory, removed, renamed, refused_rename, renames, said}
 use Rattle.tree_calls.specs.Waiting.{removing, renaming, answered, asks_remove, asks_rename, spot_of, removes_if, renames_if, remove_again, rename_again, settles}
 use Rattle.tree_calls.specs.declared.asked.Asked.{Asked}
@@ -25,8 +25,8 @@ use Rattle.tree_calls.specs.declared.asked.Asked.TheVariants as asked
 use Rattle.tree_calls.specs.declared.asked.Done.{Done}
 use Rattle.tree_calls.specs.declared.asked.Outcome.{Outcome}
 use Rattle.tree_calls.specs.declared.asked.Outcome.TheVariants.{Answered, Waits}
-use Rattle.server_law.proofs.TreeCalls.{bind_ok, ok_is}
-use Rattle.server_law.proofs.Trees.{nodes_of, IsBounded}
+use Rattle.server_law.proofs.lemmas.TreeCalls.{bind_ok, ok_is}
+use Rattle.server_law.proofs.lemmas.Trees.{nodes_of, IsBounded}
 use Rattle.path_calls.specs.declared.walk.Goal.{Goal}
 use Rattle.path_calls.specs.declared.walk.Goal.TheVariants as goal
 use Rattle.file_tree.specs.Step.{create, mkdir, rmdir, remove, rename}

@@ -17,9 +17,9 @@ use Rattle.lease_rules.specs.Leases.{is_others}
 use Rattle.lease_rules.specs.declared.change.Recall.{Recall}
 use Rattle.lease_rules.specs.declared.lease.Lease.{Lease}
 use Rattle.lease_table.specs.Order.{AreOrdered}
-use Rattle.lease_table.proofs.Held.{recalled_ordered}
-use Rattle.lease_law.proofs.Asking.{all_marked_ordered}
-use Rattle.lease_law.proofs.LeasesAt.{with_granted_ordered}
+use Rattle.lease_table.proofs.lemmas.Held.{recalled_ordered}
+use Rattle.lease_law.proofs.lemmas.Asking.{all_marked_ordered}
+use Rattle.lease_law.proofs.lemmas.LeasesAt.{with_granted_ordered}
 use Rattle.callback_core.specs.BackCalls.{call_at, all_marked}
 use Rattle.callback_core.specs.Waits.{recalls_of, waits_on, without}
 use Rattle.callback_core.specs.declared.back_calls.Asked.{Asked}

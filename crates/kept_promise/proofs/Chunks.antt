@@ -6,7 +6,7 @@ use Rattle.std.proofs.Math.Seq.{drop-length}
 use Rattle.chunk_cut.specs.Chunks.{chunk_at, chunks_between}
 use Rattle.chunk_cut.specs.Ends.{IsOpen, IsNextEnd, AreEndsFrom}
 use Rattle.chunk_cut.specs.Search.{ends}
-use Rattle.chunk_cut.proofs.Only.{are_ends, chunks_are}
+use Rattle.chunk_cut.proofs.lemmas.Only.{are_ends, chunks_are}
 use Rattle.temp_files.specs.Pieces as piece_rules
 use Rattle.file_open.specs.Shape.{broken_inner}
 use Rattle.kept_promise.proofs.Common.{nat_lt, nat_le, ◌==◌, ◌&&◌, ◌||◌, cond, filter, slice_get, list_any, insert_entry, nat_cmp, nat_tests, take-append-drop, length-drop, take_all, sha1, chunks_of, chunk_bytes, end_from, end_of, Chunk, Pair, meets, told_chunks, pair_of, is_end, broken_if, broken_pair, broken_pairs, broken_sum, broken_of, chunks_from, with_pairs, slots_bytes, Fetch}

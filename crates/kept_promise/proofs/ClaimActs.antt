@@ -12,8 +12,8 @@ use Rattle.client_state.specs.declared.task.Task.{Task}
 use Rattle.server_core.specs.State as server
 use Rattle.lease_law.specs.Claims.{Way, Claim, IsAmong, IsClaim, noted_at, answered_by, stored_by, recall_message}
 use Rattle.lease_law.specs.Orderly.{IsOrderly, AreNumbered, IsUpTo, sent_on}
-use Rattle.lease_law.proofs.Events.{orderly_later, safe_later}
-use Rattle.lease_law.proofs.Ways.{safe_asked, safe_heard}
+use Rattle.lease_law.proofs.lemmas.Events.{orderly_later, safe_later}
+use Rattle.lease_law.proofs.lemmas.Ways.{safe_asked, safe_heard}
 use Rattle.kept_promise.proofs.Common.{Core, CoreStep, Seat, Session, numbered, with_numbered, unless, Told, told_message, Up, Down, Down.Tells, Down.Recalls, Mix, up_message}
 use Rattle.trace_ends.specs.Core.{Loss.Nothing}
 use Rattle.kept_promise.proofs.Lists.{some_is, nothing_there, same_or_not}

@@ -19,7 +19,7 @@ use Rattle.server_core.specs.declared.event.Sent.{Sent}
 use Rattle.server_core.specs.declared.event.ServerStep.{ServerStep}
 use Rattle.lease_law.specs.Claims.{IsAmong, stored_by}
 use Rattle.lease_law.specs.Orderly.{sent_on}
-use Rattle.lease_law.proofs.Asking.{sent_one}
+use Rattle.lease_law.proofs.lemmas.Asking.{sent_one}
 use Rattle.kept_promise.proofs.Common.{Core, Seat, Session, Event, Event.Settles, happens, settles, numbered, Moment, Opening, Book, Told, told_message, reply_body, Up, Up.Asks, Up.Replies, up_message, Down, Down.Tells, Down.Recalls, down_message, Mix, queue_of, asks_in, Call, Call.Commit, Call.Lease, Call.Hash, Call.Walks, call_message}
 use Rattle.kept_promise.proofs.Lists.{some_is, nothing_there, same_or_not}
 use Rattle.kept_promise.proofs.Messages.{Job, job_of, job, AllAsks, IsCommit, CommitOf, WaitsFor}

@@ -9,7 +9,7 @@ use Rattle.clock_rule.specs.declared.rule.ClockFault.{ClockFault}
 use Rattle.clock_rule.specs.declared.rule.Note.{Note as Noted}
 use Rattle.clock_rule.specs.declared.rule.Reading.{Reading}
 use Rattle.clock_rule.specs.declared.rule.Reading.TheVariants as reads
-use Rattle.clock_rule.proofs.Keeping.{pairs_head, pairs_tail, kept_taken, kept_at_start}
+use Rattle.clock_rule.proofs.lemmas.Keeping.{pairs_head, pairs_tail, kept_taken, kept_at_start}
 use Rattle.trace_text.specs.declared.line.Line.TheVariants as line
 use Rattle.trace_replay.specs.declared.stage.Stage.{Stage}
 use Rattle.trace_replay.specs.declared.stage.Stage.TheVariants as stage
@@ -17,9 +17,9 @@ use Rattle.trace_replay.specs.declared.turn.Turn.TheVariants as turn
 use Rattle.trace_replay.specs.Timed.{Timed, Times, down_timing, pass_timing, timing_of, read_by, times_with, with_times, times_if, timed_by, timed_turn, timed_start, accepted_from}
 use Rattle.trace_replay.specs.Run.{refused, is_there}
 use Rattle.lease_law.specs.Claims.{noted_at, IsAmong}
-use Rattle.lease_law.proofs.Claiming.{all_among}
+use Rattle.lease_law.proofs.lemmas.Claiming.{all_among}
 use Rattle.kept_promise.proofs.Common.{lines_of, line_of, Line, LineFault, Grammar, Refused, Turn, Session, Event.Serves, Event.Hears, numbered, World, Wire, happened, fed, up_all, up_length, down_length, up_taken, down_taken, is_still, round, at_events, count_of, asks_if, event_asks, asks_at, asks, asked, asked_by, turned, in_header, owners_of, accepted, Moment, moments_of, up_moments_at, up_moments, down_moments_at, down_moments, round_moments, passes_moments, turn_moments, moments_from, moments, nat_le, line_most}
-use Rattle.kept_promise.proofs.Owners.{TurnedTo, turned_to, header_of, header_after, stage_after, happened_same, up_same, round_same}
+use Rattle.kept_promise.proofs.lemmas.Owners.{TurnedTo, turned_to, header_of, header_after, stage_after, happened_same, up_same, round_same}
 use Rattle.kept_promise.proofs.Readings.{HasRoom}
 use Rattle.kept_promise.proofs.RunsAsked.{turn_of, asked_turn, within}
 use Rattle.kept_promise.proofs.RunsResults.{asking, refused_line, no_world, ended_is}

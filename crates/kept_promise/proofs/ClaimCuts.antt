@@ -9,8 +9,8 @@ use Rattle.client_state.specs.declared.step.Outcome.TheVariants as outcome
 use Rattle.client_state.specs.declared.task.Task.{Task}
 use Rattle.lease_law.specs.Claims.{Claim, IsAmong, IsClaim, IsSafe, noted_at}
 use Rattle.lease_law.specs.Orderly.{AreNumbered}
-use Rattle.lease_law.proofs.Events.{orderly_later, safe_later}
-use Rattle.lease_law.proofs.Ways.{safe_cut}
+use Rattle.lease_law.proofs.lemmas.Events.{orderly_later, safe_later}
+use Rattle.lease_law.proofs.lemmas.Ways.{safe_cut}
 use Rattle.trace_ends.specs.Core.{loss_down, idles}
 use Rattle.kept_promise.proofs.Common.{Core, CoreStep, Seat, Session, Event.Cuts, happens, cuts, cuts_if, cut_session, session_of, numbered, with_numbered, unless, Moment, Opening, Up, up_message, Down, Mix, place_after}
 use Rattle.kept_promise.proofs.Lists.{some_is, nothing_there, same_or_not, set_count}

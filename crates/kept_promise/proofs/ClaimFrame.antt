@@ -8,8 +8,8 @@ use Rattle.server_core.specs.Step.{server_step}
 use Rattle.server_core.specs.declared.event.Event.{Event}
 use Rattle.lease_law.specs.Claims.{Way, Claim, IsAmong, IsClaim, IsNote, IsPromise}
 use Rattle.lease_law.specs.Orderly.{IsOrderly, AreNumbered, IsTimed, IsOnWay, sent_on, behind_with}
-use Rattle.lease_law.proofs.Events.{event_keeps}
-use Rattle.lease_law.proofs.Ways.{safe_taken}
+use Rattle.lease_law.proofs.lemmas.Events.{event_keeps}
+use Rattle.lease_law.proofs.lemmas.Ways.{safe_taken}
 use Rattle.kept_promise.proofs.Common.{Core, Session, numbered, unless, Down, Down.Tells, Down.Recalls, Mix}
 use Rattle.kept_promise.proofs.Lists.{some_is}
 use Rattle.kept_promise.proofs.Claimed.{HasNote, IsPromised, AllTails, downs_of, way_of}

@@ -10,7 +10,7 @@ use Rattle.server_core.specs.declared.event.Event.TheVariants as event
 use Rattle.server_core.specs.declared.event.ServerStep.{ServerStep}
 use Rattle.lease_law.specs.Claims.{IsAmong, IsClaim, noted_at}
 use Rattle.lease_law.specs.Orderly.{AreNumbered, sent_on, behind_with}
-use Rattle.lease_law.proofs.Claiming.{behind_none}
+use Rattle.lease_law.proofs.lemmas.Claiming.{behind_none}
 use Rattle.kept_promise.proofs.Common.{Core, CoreStep, Seat, Session, new_session, Event.Joins, happens, joins, joins_as, numbered, with_numbered, Moment, Opening, Down, Mix, no_mix}
 use Rattle.kept_promise.proofs.Lists.{some_is, nothing_there, same_or_not, kept_appended, of_appended}
 use Rattle.kept_promise.proofs.Turns.{also_numbered, numbered_within, around_with}

@@ -17,8 +17,8 @@ use Rattle.chunk_calls.specs.Files as the_files
 use Rattle.server_core.specs.State as server
 use Rattle.lease_law.specs.Claims.{Way, Claim, IsAmong, IsSafe, IsClaim, noted_at, recall_message, called_by, version_at}
 use Rattle.lease_law.specs.Orderly.{AreNumbered, AllApart, AreApart}
-use Rattle.lease_law.proofs.Events.{orderly_later, safe_later}
-use Rattle.lease_law.proofs.Ways.{safe_heard, safe_replied}
+use Rattle.lease_law.proofs.lemmas.Events.{orderly_later, safe_later}
+use Rattle.lease_law.proofs.lemmas.Ways.{safe_heard, safe_replied}
 use Rattle.kept_promise.proofs.Common.{Core, CoreStep, Seat, Session, Event.Hears, happens, numbered, with_numbered, unless, File, Moment, Opening, message_spell, Up, up_message, Down, Down.Recalls, Mix, queue_of, reply_message}
 use Rattle.kept_promise.proofs.Lists.{some_is, nothing_there, same_or_not}
 use Rattle.kept_promise.proofs.Turns.{also_numbered, around_with}

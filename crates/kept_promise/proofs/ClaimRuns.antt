@@ -14,12 +14,12 @@ use Rattle.chunk_calls.specs.Files as the_files
 use Rattle.server_law.specs.Facts.{IsGiven}
 use Rattle.lease_law.specs.Claims.{noted_at}
 use Rattle.lease_law.specs.Orderly.{IsOrderly}
-use Rattle.lease_law.proofs.Fresh.{fresh_holds}
+use Rattle.lease_law.proofs.lemmas.Fresh.{fresh_holds}
 use Rattle.kept_promise.proofs.Common.{Contains, Contains-push_cases, Core, Seat, Session, Event, Event.Joins, Event.Does, Event.Serves, Event.Hears, Event.Settles, Event.Cuts, Event.Hangs, happens, numbered, File, Moment, Opening, Mix, new_seat, Tree}
 use Rattle.kept_promise.proofs.Lists.{some_is, nothing_there, of_replicate}
 use Rattle.kept_promise.proofs.Fits.{FitLaws}
 use Rattle.kept_promise.proofs.Rights.{acts_at, acts_for, AreLeased}
-use Rattle.kept_promise.proofs.Owners.{happens_header}
+use Rattle.kept_promise.proofs.lemmas.Owners.{happens_header}
 use Rattle.kept_promise.proofs.RunsCarried.{moment, Header, first_core, MixStep, CarriedMix}
 use Rattle.kept_promise.proofs.ClaimStill.{claimed_later}
 use Rattle.kept_promise.proofs.Claimed.{Claimed, HasClaims, IsClocked, AreClocked, KeepsWith, noted_of, noted_in, clock_after, noted_after, way_of, downs_of}

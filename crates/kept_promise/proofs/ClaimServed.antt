@@ -12,9 +12,9 @@ use Rattle.server_core.specs.declared.event.Sent.{Sent}
 use Rattle.server_core.specs.declared.event.Event.TheVariants as event
 use Rattle.lease_law.specs.Claims.{Way, IsAmong, IsClaim, IsPromise, stored_by}
 use Rattle.lease_law.specs.Orderly.{IsOrderly, sent_on, behind_with}
-use Rattle.lease_law.proofs.Claiming.{behind_none}
-use Rattle.lease_law.proofs.Events.{orderly_later}
-use Rattle.lease_law.proofs.Settles.{settle_keeps}
+use Rattle.lease_law.proofs.lemmas.Claiming.{behind_none}
+use Rattle.lease_law.proofs.lemmas.Events.{orderly_later}
+use Rattle.lease_law.proofs.lemmas.Settles.{settle_keeps}
 use Rattle.kept_promise.proofs.Common.{Core, CoreStep, Session, Event, Event.Hangs, happens, quiet, settles, hangs, hangs_if, numbered, with_numbered, Moment, Opening, reply_body, Down, Down.Tells, Down.Recalls, Mix, queue_of}
 use Rattle.kept_promise.proofs.Lists.{some_is, nothing_there, same_or_not}
 use Rattle.kept_promise.proofs.Turns.{Around, also_numbered, numbered_within, around_with}

@@ -8,7 +8,7 @@ use Rattle.server_core.specs.Step.{server_step}
 use Rattle.server_core.specs.declared.event.Event.{Event}
 use Rattle.lease_law.specs.Claims.{Way, Claim, IsAmong, IsClaim}
 use Rattle.lease_law.specs.Orderly.{IsOrderly, AreNumbered, IsTimed, IsOnWay, sent_on, behind_with}
-use Rattle.lease_law.proofs.Ways.{safe_hung}
+use Rattle.lease_law.proofs.lemmas.Ways.{safe_hung}
 use Rattle.kept_promise.proofs.Common.{Core, CoreStep, Seat, Session, numbered, unless, Up, up_message, Down, Mix}
 use Rattle.kept_promise.proofs.Lists.{some_is, nothing_there}
 use Rattle.kept_promise.proofs.Turns.{also_numbered, numbered_within}

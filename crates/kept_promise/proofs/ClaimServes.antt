@@ -32,7 +32,7 @@ use Rattle.chunk_calls.specs.Answers.{node_of, lease_answer, hash_answer}
 use Rattle.trace_ends.specs.Core.{server_got}
 use Rattle.lease_law.specs.Claims.{Way, IsAmong, IsPromise, answered_by, stored_by}
 use Rattle.lease_law.specs.Orderly.{sent_on}
-use Rattle.lease_law.proofs.Asking.{sent_one}
+use Rattle.lease_law.proofs.lemmas.Asking.{sent_one}
 use Rattle.kept_promise.proofs.Common.{Core, CoreStep, Seat, Session, Event.Serves, happens, numbered, with_numbered, Moment, Opening, Ask, Told, told_message, reply_body, Up, Up.Asks, Up.Replies, up_message, Down, Mix, asks_in, ask_message, reply_message, Call, Call.Lease, Call.Hash, Call.Walks, Call.Read, Call.Make, Call.Name, Call.Send, Call.Commit, call_message, taken_with, end_of}
 use Rattle.kept_promise.proofs.Lists.{some_is, nothing_there, same_or_not}
 use Rattle.kept_promise.proofs.Turns.{Around, numbered_within, around_with}

@@ -5,7 +5,7 @@ use Rattle.register_model.specs.declared.op.Op.{Op}
 use Rattle.callback_core.specs.declared.back_calls.Asked.{Asked}
 use Rattle.server_core.specs.Recalling.{recall_sent}
 use Rattle.lease_law.specs.Claims.{IsAmong, IsClaim}
-use Rattle.lease_law.proofs.Events.{orderly_later, safe_later}
+use Rattle.lease_law.proofs.lemmas.Events.{orderly_later, safe_later}
 use Rattle.kept_promise.proofs.Common.{Core, CoreStep, Seat, Session, quiet, Down, Mix, Told}
 use Rattle.trace_ends.specs.Core.{idles}
 use Rattle.kept_promise.proofs.Leading.{Sends, sent_message, sent_ups, sent_downs, recall_down, told_down, mix_ups, mix_downs, mixes_lost, mixes_after}

@@ -24,9 +24,9 @@ use Rattle.server_core.specs.Recalling.{file_in, term_at, term_on, grants_on}
 use Rattle.tree_calls.specs.Waiting.{gives_content_under}
 use Rattle.lease_law.specs.Claims.{Way, IsAmong, IsPromise, HasClaim, noted_at, stored_by}
 use Rattle.lease_law.specs.Orderly.{IsOrderly}
-use Rattle.lease_law.proofs.Calls.{named_file, term_full}
-use Rattle.lease_law.proofs.Granted.{told_claims, committed_claims, committed_version}
-use Rattle.lease_law.proofs.Settles.{all_left}
+use Rattle.lease_law.proofs.lemmas.Calls.{named_file, term_full}
+use Rattle.lease_law.proofs.lemmas.Granted.{told_claims, committed_claims, committed_version}
+use Rattle.lease_law.proofs.lemmas.Settles.{all_left}
 use Rattle.lease_law.specs.Orderly.{IsFit}
 use Rattle.kept_promise.proofs.Lists.{some_is}
 use Rattle.kept_promise.proofs.ClaimGrants.{grants_in}

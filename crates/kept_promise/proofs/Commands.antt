@@ -19,7 +19,7 @@ use Rattle.open_close.specs.Walking.{asks_next, walks, walks_if}
 use Rattle.trace_ends.specs.Commands.{path_word}
 use Rattle.client_state.specs.declared.step.Outcome.TheVariants as outcome
 use Rattle.client_state.specs.declared.task.Stage.TheVariants as stage
-use Rattle.client_state.proofs.Edits.{written_length, truncated_length}
+use Rattle.client_state.proofs.lemmas.Edits.{written_length, truncated_length}
 use Rattle.register_model.specs.declared.op.Word.TheVariants as words
 use Rattle.kept_promise.proofs.Common.{Ended, Message, step_of, value_at, nat_tests, cond, ◌==◌, nat_lt, if◌then◌else◌, sha1, content_length, content_bytes, Part, Command, content_size, ends, local_most, written_size, written, truncated, part_of, is_open, has_xids, may_ask, tries_anew, asks_file, asks_kept, opens_if, opens, on_local, done_with, edits, writes, truncates, reads, abandons, asks_temp, closes, ClientStep, Outcome, Local, Stage, Task, local_at_itself, local_at_another, without_at_itself, without_at_another, Op, Word, Core, Seat, Session, Loss.Nothing, CoreStep, numbered, with_numbered, session_of, commanded_sessions, word_of, file_of, value_at_begin, begun, op_after, place_with, unless, Book, Entries, Content, Call.Lease, Call.Hash, Call.Make, Ask, Queue, ask_message, Call.Walks, ◌&&◌, changes, closing_with}
 use Rattle.kept_promise.proofs.Lists.{some_is, nothing_there, same_or_not, at_end}

@@ -30,7 +30,7 @@ use Rattle.kept_promise.proofs.Waitings.{leads_coming}
 use Rattle.kept_promise.proofs.Calls.{Given, session_in, first_fits, rest_of, leads_by, served, held_at, place_at, rest_above}
 use Rattle.kept_promise.proofs.Leading.{Leads}
 use Rattle.server_core.specs.declared.change.Wanted.TheVariants as what
-use Rattle.server_law.proofs.TreeCalls.{entries_more, sizes_more}
+use Rattle.server_law.proofs.lemmas.TreeCalls.{entries_more, sizes_more}
 use Rattle.kept_promise.proofs.Rights.{WasThere}
 
 -- ---- it is refused

@@ -19,7 +19,7 @@ pub use Rattle.xdr_codec.specs.declared.answer.Answer.TheVariants.{Failed, Done}
 pub use Rattle.xdr_codec.specs.declared.attr.Attr.{Attr}
 pub use Rattle.xdr_codec.specs.declared.status.Status.{Status}
 pub use Rattle.sha1.specs.Sha1.{sha1}
-pub use Rattle.rpc_record.proofs.Streaming.{stream_comes}
+pub use Rattle.rpc_record.proofs.lemmas.Streaming.{stream_comes}
 pub use Rattle.rpc_record.specs.Records.{fed, Unread, Parts, stream, split, Came, record_of, nothing_read, marked}
 pub use Rattle.rpc_record.specs.declared.records.Fed.{Fed}
 pub use Rattle.rpc_record.specs.declared.refusal.Refusal.{Refusal}
@@ -45,7 +45,7 @@ pub use Rattle.client_cache.specs.declared.kept.Content.{Content}
 pub use Rattle.chunk_cut.specs.Chunks.{chunks_of}
 pub use Rattle.chunk_cut.specs.Places.{chunk_bytes, end_of, end_from}
 pub use Rattle.chunk_cut.specs.declared.chunk.Chunk.{Chunk}
-pub use Rattle.command_text.proofs.Contents.{content_size}
+pub use Rattle.command_text.proofs.lemmas.Contents.{content_size}
 pub use Rattle.command_text.specs.Content.{content_length, content_bytes}
 pub use Rattle.command_text.specs.Parts.{lines_of}
 pub use Rattle.command_text.specs.declared.command.Command.{Command}
@@ -72,7 +72,7 @@ pub use Rattle.server_core.specs.declared.event.ServerStep.{ServerStep}
 pub use Rattle.server_core.specs.declared.change.Wanted.{Wanted}
 pub use Rattle.chunk_calls.specs.Files.{File}
 pub use Rattle.server_core.specs.declared.journal.Entry.{Entry}
-pub use Rattle.client_state.proofs.Locals.{local_at_itself, local_at_another, without_at_itself, without_at_another}
+pub use Rattle.client_state.proofs.lemmas.Locals.{local_at_itself, local_at_another, without_at_itself, without_at_another}
 pub use Rattle.file_close.specs.Closing.{store_at, is_stored, answered, store_of, names_all, names_from, names_next, names_more, commit_call, without_store, cond_call, with_whole, temp_call}
 pub use Rattle.client_state.specs.Counting.{no_counts, ends, nothing_done}
 pub use Rattle.client_state.specs.Local.{local_most, written_size, written, truncated, part_of}

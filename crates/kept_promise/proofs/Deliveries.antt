@@ -1,7 +1,7 @@
 -- Two deliveries, one after the other, are one of all their bytes.
 use Rattle.std.proofs.Common.{◌≡◌, ℕ, zero, suc, ◌+◌, List, [], ◌∷◌, ◌++◌, Option, Some, None, take, drop, refl, sym, ap, ◌∙◌, arith, append_assoc, append-nil, Result, Ok, Err, Bool, true, false, map}
 use Rattle.rpc_record.specs.Records.{continued}
-use Rattle.rpc_record.proofs.Splitting.{split_cut}
+use Rattle.rpc_record.proofs.lemmas.Splitting.{split_cut}
 use Rattle.server_core.specs.declared.event.Sent.{Sent}
 use Rattle.kept_promise.proofs.Common.{slice_get, Fed, Refusal, Unread, Parts, split, fed, parse_of, Message, WireFault, Core, Seat, Session, Event, Event.Serves, Event.Hears, server_waits, CoreStep, Loss, Loss.Nothing, numbered, serves_if, serves, hears_if, hears_at, hears, is_newest, happens, World, Wire, bytes_of, unless, up_put_in, up_put, down_put_in, down_put, lost_by, routed, happened, all_happened, up_events, up_at, up_some, down_events, down_at, down_some}
 use Rattle.kept_promise.proofs.Statements.{UpsAddUp, DownsAddUp}

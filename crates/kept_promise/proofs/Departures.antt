@@ -16,7 +16,7 @@ use Rattle.tree_nodes.specs.Nodes.{with_id, named}
 use Rattle.tree_reading.specs.Chain.{◌>>=◌}
 use Rattle.tree_reading.specs.Plans.{one, move_done, gone_entry, name_entry}
 use Rattle.file_tree.specs.Step.{removed, moved}
-use Rattle.file_tree.proofs.States.{named_id}
+use Rattle.file_tree.proofs.lemmas.States.{named_id}
 use Rattle.tree_reading.specs.Tree.{Tree, is_directory, or_stale, directory_of, directory_or}
 use Rattle.tree_reading.specs.declared.call.Changed.{Changed}
 use Rattle.tree_reading.specs.declared.call.Reservation.{Reservation}
@@ -43,7 +43,7 @@ use Rattle.chunk_calls.specs.Files as the_files
 use Rattle.server_core.specs.Step.{asks_tree}
 use Rattle.trace_replay.specs.Naming.{refusal_of}
 use Rattle.kept_promise.proofs.Common.{called, has_waiting, File, NameReply, name_answer}
-use Rattle.server_law.proofs.Trees.{IsGiven, IsBounded, given}
+use Rattle.server_law.proofs.lemmas.Trees.{IsGiven, IsBounded, given}
 use Rattle.kept_promise.proofs.PathNames.{IsGoalNamed, IsWalkSmall, IsAsking, goes_at, is_going}
 use Rattle.kept_promise.proofs.Makings.{own_id, step_by}
 use Rattle.kept_promise.proofs.Goings.{RefusedAs, file_gone, file_over, none_gone, none_moved, off_gone, off_over}

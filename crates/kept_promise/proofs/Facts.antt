@@ -20,7 +20,7 @@ use Rattle.server_core.specs.declared.change.Wanted.{Wanted}
 use Rattle.server_core.specs.declared.change.Wanted.TheVariants as wanted
 use Rattle.tree_calls.specs.Waiting.{file_of}
 use Rattle.kept_promise.proofs.Departures.{AreTwo}
-use Rattle.server_law.proofs.Trees.{IsBounded}
+use Rattle.server_law.proofs.lemmas.Trees.{IsBounded}
 use Rattle.kept_promise.proofs.Rooted.{IsRooted}
 use Rattle.tree_nodes.specs.Nodes.{with_id}
 use Rattle.kept_promise.proofs.Unused.{IsUnused}

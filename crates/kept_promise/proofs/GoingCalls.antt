@@ -21,7 +21,7 @@ use Rattle.tree_reading.specs.declared.call.Planned.TheVariants as plan
 use Rattle.tree_reading.specs.declared.reading.Standing.{Standing}
 use Rattle.tree_reading.specs.declared.entry.Entry.{Entry}
 use Rattle.tree_reading.specs.declared.entry.EntryKind.TheVariants as kind
-use Rattle.file_tree.proofs.States.{named_id}
+use Rattle.file_tree.proofs.lemmas.States.{named_id}
 use Rattle.tree_calls.specs.declared.asked.Asked.{Asked}
 use Rattle.tree_calls.specs.declared.asked.Asked.TheVariants as asked
 use Rattle.tree_calls.specs.declared.asked.Done.{Done}
@@ -37,8 +37,8 @@ use Rattle.path_calls.specs.declared.answers.Told.TheVariants as told
 use Rattle.path_calls.specs.declared.walk.Goal.TheVariants as goal
 use Rattle.path_calls.specs.declared.walk.Walk.{Walk}
 use Rattle.chunk_calls.specs.Files as the_files
-use Rattle.server_law.proofs.Trees.{IsGiven, no_file}
-use Rattle.server_law.proofs.TreeCalls.{HasDirectory, bind_ok}
+use Rattle.server_law.proofs.lemmas.Trees.{IsGiven, no_file}
+use Rattle.server_law.proofs.lemmas.TreeCalls.{HasDirectory, bind_ok}
 use Rattle.trace_replay.specs.Naming.{refusal_of}
 use Rattle.kept_promise.proofs.Common.{NameReply, NameReply.Gone, NameReply.Renamed, name_answer}
 use Rattle.kept_promise.proofs.TreeBounds.{IsSpared}

@@ -38,7 +38,7 @@ use Rattle.trace_ends.specs.Session.{settled_ops}
 use Rattle.trace_replay.specs.Faithful.{IsKind, left_by as left_of}
 use Rattle.trace_replay.specs.Naming.{entry_file, refusal_of}
 use Rattle.trace_ends.specs.Ops.{pointed_at, pointed}
-use Rattle.server_law.proofs.Trees.{IsBounded, given}
+use Rattle.server_law.proofs.lemmas.Trees.{IsBounded, given}
 use Rattle.kept_promise.proofs.Common.{slice_get, slice_set, cond, option_map, unwrap_or, value_from, Contains, Contains-push, MessageFits, at, FileChange, Entry, Op, Word, Core, Seat, Session, Event.Settles, CoreStep, numbered, with_numbered, happens, unless, quiet, Book, value_at, version_at, Reply.Walked, NameReply, name_answer, Told, Queue, told_message}
 use Rattle.trace_replay.specs.OwnCalls.{others_waiting}
 use Rattle.kept_promise.proofs.Lists.{some_is, nothing_there, at_replaced, of_replaced}

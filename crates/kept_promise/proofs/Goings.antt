@@ -8,7 +8,7 @@ use Rattle.tree_nodes.specs.declared.node.Node.{Node}
 use Rattle.tree_nodes.specs.declared.node.Body.{Body}
 use Rattle.tree_nodes.specs.declared.node.Body.TheVariants.{Directory, File as Plain}
 use Rattle.tree_nodes.specs.Nodes.{with_id, named, names, without, versioned}
-use Rattle.tree_nodes.proofs.Lists.{with_id_with, with_id_without}
+use Rattle.tree_nodes.proofs.lemmas.Lists.{with_id_with, with_id_without}
 use Rattle.tree_reading.specs.Chain.{◌>>=◌}
 use Rattle.tree_reading.specs.Tree.{Tree, is_directory}
 use Rattle.tree_reading.specs.Plans.{Target, Target.itself, Target.over, spared, last_version, gone_entry, one, nothing, move_done, remove_done, remove_plan, or_within, may_replace, rename_over, is_same, planned as planned_as, planned_found, rename_plan}
@@ -23,8 +23,8 @@ use Rattle.path_calls.specs.declared.walk.Goal.{Goal}
 use Rattle.path_calls.specs.declared.walk.Goal.TheVariants as goal
 use Rattle.path_calls.specs.declared.walk.Walk.{Walk}
 use Rattle.chunk_calls.specs.Files as the_files
-use Rattle.server_law.proofs.Trees.{moved_at_files, removed_files, without_none}
-use Rattle.server_law.proofs.TreeCalls.{bind_ok, ok_is, HasDirectory, no_file_in, remove_in, rename_in}
+use Rattle.server_law.proofs.lemmas.Trees.{moved_at_files, removed_files, without_none}
+use Rattle.server_law.proofs.lemmas.TreeCalls.{bind_ok, ok_is, HasDirectory, no_file_in, remove_in, rename_in}
 use Rattle.kept_promise.proofs.Lists.{nothing_there}
 use Rattle.kept_promise.proofs.TreeBounds.{IsSpared, remove_room, rename_finds, spared_room}
 use Rattle.kept_promise.proofs.TreeMade.{remove_file}

@@ -19,7 +19,7 @@ use Rattle.kept_promise.proofs.Facts.{FileIs, IsServer, IsTalk, IsKept}
 use Rattle.kept_promise.proofs.Leading.{Leads, ups_lost, KeptHangs}
 use Rattle.kept_promise.proofs.Takes.{file_still, fresh_still}
 use Rattle.kept_promise.proofs.Chunks.{is_other}
-use Rattle.server_law.proofs.TreeCalls.{fewer_need}
+use Rattle.server_law.proofs.lemmas.TreeCalls.{fewer_need}
 use Rattle.kept_promise.proofs.Growth.{there_later}
 use Rattle.kept_promise.proofs.Unused.{IsUnused}
 

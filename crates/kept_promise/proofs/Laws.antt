@@ -1,5 +1,5 @@
 -- All laws of events, as one record: everything that is sent has a record and is read again, so every event keeps the facts.
-use Rattle.wire.proofs.Again.{spell_again}
+use Rattle.wire.proofs.lemmas.Again.{spell_again}
 use Rattle.kept_promise.proofs.Fits.{FitLaws}
 use Rattle.kept_promise.proofs.Spelled.{calls_fit, calls_expected, hash_answers_fit, lease_answers_fit, read_answers_fit, plain_answers_fit}
 use Rattle.kept_promise.proofs.WalkReplies.{name_answers_fit}

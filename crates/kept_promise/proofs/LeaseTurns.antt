@@ -46,7 +46,7 @@ use Rattle.server_core.specs.Leasing.{asking, recalled}
 use Rattle.server_core.specs.Recalling.{file_in, grants_on, recall_sent, recalls_for, comes}
 use Rattle.server_core.specs.State.{State, FileChange, change_of, held}
 use Rattle.server_core.specs.Step.{called_under, asks as asks_outcome, asks_tree}
-use Rattle.lease_law.proofs.Calls.{named_file}
+use Rattle.lease_law.proofs.lemmas.Calls.{named_file}
 use Rattle.server_core.specs.declared.event.Sent.{Sent}
 use Rattle.trace_replay.specs.Numbered.{numbers_among}
 use Rattle.trace_replay.specs.PendingChanges.{name_in, file_asked, file_leased, kind_asked}

@@ -12,8 +12,8 @@ use Rattle.lease_rules.specs.declared.change.Recall.{Recall}
 use Rattle.lease_rules.specs.declared.lease.Lease.{Lease}
 use Rattle.lease_table.specs.Leases.{lease_at, lease_of, with_lease, grant, without_ended}
 use Rattle.lease_table.specs.Order.{AreOrdered}
-use Rattle.lease_table.proofs.Keeping.{all_found}
-use Rattle.lease_law.proofs.Asking.{all_marked_ordered}
+use Rattle.lease_table.proofs.lemmas.Keeping.{all_found}
+use Rattle.lease_law.proofs.lemmas.Asking.{all_marked_ordered}
 use Rattle.callback_core.specs.BackCalls.{BackCall, asks, all_marked}
 use Rattle.callback_core.specs.Waits.{recalls_of, waits_on, without}
 use Rattle.callback_core.specs.declared.back_calls.Asked.{Asked}
@@ -42,7 +42,7 @@ use Rattle.kept_promise.proofs.LeaseTurns.{Taken, stays, grants, comes_to, calle
 use Rattle.kept_promise.proofs.LeasesStand.{IsAsked, IsMarked, all_at, all_marked_placed, asked, asks_from, contains_at, filtered_there, map_there, marked_at, same_at, unasked_from}
 use Rattle.kept_promise.proofs.Lists.{some_is, of_both}
 use Rattle.kept_promise.proofs.MadeRuns.{Leaves, leaves_ready}
-use Rattle.kept_promise.proofs.Owners.{happens_header}
+use Rattle.kept_promise.proofs.lemmas.Owners.{happens_header}
 use Rattle.kept_promise.proofs.RunsCarried.{moment}
 use Rattle.kept_promise.proofs.Turns.{also_numbered}
 

@@ -8,8 +8,8 @@ use Rattle.lease_rules.specs.declared.change.Recall.{Recall}
 use Rattle.lease_rules.specs.declared.lease.Lease.{Lease}
 use Rattle.lease_table.specs.Leases.{lease_at, lease_of, with_lease, grant, mark, marked, without_ended, without_recalled}
 use Rattle.lease_table.specs.Order.{AreOrdered}
-use Rattle.lease_table.proofs.Held.{marked_ordered, at_mark}
-use Rattle.lease_table.proofs.Keeping.{all_found, at_granted, found_on}
+use Rattle.lease_table.proofs.lemmas.Held.{marked_ordered, at_mark}
+use Rattle.lease_table.proofs.lemmas.Keeping.{all_found, at_granted, found_on}
 use Rattle.callback_core.specs.BackCalls.{BackCall, call_at, xid_at, asks_if, asked_with, asks, recalled_if, all_marked}
 use Rattle.callback_core.specs.Waits.{recall_of, recalls_of, waits_on}
 use Rattle.callback_core.specs.declared.back_calls.Asked.{Asked}

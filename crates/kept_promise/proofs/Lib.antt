@@ -152,7 +152,6 @@ pub mod Deliveries
 pub mod Rounds
 pub mod SmallDeeds
 pub mod Spelled
-pub mod Owners
 pub mod Readings
 pub mod Begins
 pub mod Does
@@ -266,3 +265,4 @@ pub mod ClaimRuns
 pub mod ClaimCuts
 pub mod ClaimJoins
 pub mod ClaimRecalls
+pub mod lemmas

@@ -11,7 +11,7 @@ use Rattle.kept_promise.proofs.Growth.{Grows, or_later, value_alike, version_ali
 use Rattle.kept_promise.proofs.History.{made_op, made_book, grows_made, value_now, version_now, marks_else}
 use Rattle.kept_promise.proofs.Facts.{FileIs}
 use Rattle.kept_promise.proofs.Unused.{IsUnused, file_used}
-use Rattle.server_law.proofs.Trees.{IsGiven}
+use Rattle.server_law.proofs.lemmas.Trees.{IsGiven}
 
 -- a file that is what it was, in the version that it had
 pub file_alike : (book more : Book) (made ended : Option ℕ) (f : ℕ) (g : Option File) → Grows book more made ended → value_at more f (more.steps + 1) ≡ value_at book f (book.steps + 1) → version_at more f (more.steps + 1) ≡ version_at book f (book.steps + 1) → FileIs book f g → FileIs more f g

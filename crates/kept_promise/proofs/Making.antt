@@ -24,7 +24,7 @@ use Rattle.server_core.specs.Leasing.{granted}
 use Rattle.server_core.specs.Recalling.{term_at}
 use Rattle.kept_promise.proofs.Common.{chunks_of, Done, at, entry_by, FileChange, ServerStep, File, Entry, Book}
 use Rattle.kept_promise.proofs.Messages.{content_wanted}
-use Rattle.server_law.proofs.TreeCalls.{HasRoom, commits_made}
+use Rattle.server_law.proofs.lemmas.TreeCalls.{HasRoom, commits_made}
 use Rattle.kept_promise.proofs.TakenOut.{IsOut}
 use Rattle.kept_promise.proofs.Facts.{IsServer}
 

@@ -14,7 +14,7 @@ use Rattle.path_calls.specs.declared.walk.Walk.{Walk}
 use Rattle.register_model.specs.declared.op.Word.TheVariants as words
 use Rattle.register_model.specs.Register.{changes}
 use Rattle.trace_replay.specs.Naming.{entry_file}
-use Rattle.server_law.proofs.TreeCalls.{ok_is}
+use Rattle.server_law.proofs.lemmas.TreeCalls.{ok_is}
 use Rattle.kept_promise.proofs.Lists.{nothing_there}
 use Rattle.kept_promise.proofs.PathNames.{is_making, makes_at}
 use Rattle.kept_promise.proofs.Messages.{goal_word}

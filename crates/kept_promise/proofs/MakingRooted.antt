@@ -6,7 +6,7 @@ use Rattle.tree_reading.specs.Tree.{Tree}
 use Rattle.file_tree.specs.Step.{new_file, new_directory}
 use Rattle.path_calls.specs.declared.walk.Goal.{Goal}
 use Rattle.path_calls.specs.declared.walk.Goal.TheVariants as goal
-use Rattle.server_law.proofs.Trees.{IsGiven}
+use Rattle.server_law.proofs.lemmas.Trees.{IsGiven}
 use Rattle.kept_promise.proofs.PathNames.{IsGoalNamed}
 use Rattle.kept_promise.proofs.Makings.{AfterAt}
 use Rattle.kept_promise.proofs.Rooted.{IsRooted, with_rooted, gone_rooted, versioned_rooted, next_above}

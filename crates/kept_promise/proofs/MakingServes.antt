@@ -34,7 +34,7 @@ use Rattle.register_model.specs.declared.op.Outcome.TheVariants as told
 use Rattle.trace_replay.specs.Naming.{entry_file, refusal_of}
 use Rattle.trace_ends.specs.Core.{changed_file, is_of_file}
 use Rattle.trace_ends.specs.Ops.{pointed_at, pointed}
-use Rattle.server_law.proofs.Trees.{given, IsBounded}
+use Rattle.server_law.proofs.lemmas.Trees.{given, IsBounded}
 use Rattle.kept_promise.proofs.Common.{slice_get, slice_set, cond, option_map, Contains, Contains-push, message_spell, MessageFits, stands, not, at, Entry, File, Op, TakenCall, FileChange, Stage, Word, Core, Seat, Session, Event.Serves, CoreStep, numbered, with_numbered, happens, serves, serves_if, quiet, Book, value_at, version_at, Call.Walks, Reply.Walked, value_from, unwrap_or, NameReply, name_answer, Ask, Told, Queue, ask_message, told_message, Leasing, later}
 use Rattle.kept_promise.proofs.Statements.{ToldFits, CallFits}
 use Rattle.trace_replay.specs.Faithful.{IsKind}

@@ -5,18 +5,18 @@ use Rattle.std.proofs.lemmas.Bool.Decides.{nat_tests}
 use Rattle.xdr_codec.specs.declared.status.Status.{Status}
 use Rattle.tree_nodes.specs.declared.node.Node.{Node}
 use Rattle.tree_nodes.specs.Nodes.{with_id, with_node, without, versioned}
-use Rattle.tree_nodes.proofs.Lists.{with_id_with, with_id_without, with_id_changed}
+use Rattle.tree_nodes.proofs.lemmas.Lists.{with_id_with, with_id_without, with_id_changed}
 use Rattle.tree_reading.specs.Tree.{Tree, is_directory}
 use Rattle.file_tree.specs.Step.{made, removed, new_file, new_directory}
 use Rattle.tree_reading.specs.declared.call.Changed.{Changed}
 use Rattle.tree_reading.specs.declared.call.CreateMode.TheVariants as mode
 use Rattle.tree_reading.specs.declared.call.Reservation.{Reservation}
-use Rattle.file_tree.proofs.States.{named_id}
+use Rattle.file_tree.proofs.lemmas.States.{named_id}
 use Rattle.path_calls.specs.declared.walk.Goal.{Goal}
 use Rattle.path_calls.specs.declared.walk.Goal.TheVariants as goal
 use Rattle.chunk_calls.specs.Files as the_files
-use Rattle.server_law.proofs.Trees.{IsGiven, IsBounded, given, below_next, next_free, made_files, removed_files, no_file, file_below}
-use Rattle.server_law.proofs.TreeCalls.{no_file_in}
+use Rattle.server_law.proofs.lemmas.Trees.{IsGiven, IsBounded, given, below_next, next_free, made_files, removed_files, no_file, file_below}
+use Rattle.server_law.proofs.lemmas.TreeCalls.{no_file_in}
 use Rattle.kept_promise.proofs.Common.{File}
 use Rattle.kept_promise.proofs.Lists.{nothing_there}
 use Rattle.kept_promise.proofs.TreeBounds.{Stays, stays_same, create_stays, mkdir_stays, rmdir_stays, remove_stays, rename_stays}
@@ -27,7 +27,7 @@ use Rattle.tree_reading.specs.declared.entry.Entry.{Entry as TreeEntry}
 use Rattle.tree_reading.specs.declared.entry.EntryKind.TheVariants as kind
 use Rattle.trace_replay.specs.Naming.{entry_file}
 use Rattle.trace_ends.specs.Core.{is_of_file}
-use Rattle.server_law.proofs.TreeCalls.{ok_is}
+use Rattle.server_law.proofs.lemmas.TreeCalls.{ok_is}
 
 -- ---- the limits
 

@@ -38,7 +38,7 @@ use Rattle.path_calls.specs.declared.walk.Walk.{Walk}
 use Rattle.server_core.specs.State as server
 use Rattle.server_core.specs.Step.{does}
 use Rattle.server_core.specs.declared.event.ServerStep.{ServerStep}
-use Rattle.server_law.proofs.TreeCalls.{bind_ok, ok_is, HasDirectory, create_in, mkdir_in, rmdir_in}
+use Rattle.server_law.proofs.lemmas.TreeCalls.{bind_ok, ok_is, HasDirectory, create_in, mkdir_in, rmdir_in}
 use Rattle.trace_replay.specs.Naming.{refusal_of}
 use Rattle.kept_promise.proofs.Common.{called, NameReply, NameReply.MadeFile, NameReply.MadeDir, NameReply.NoDir, name_answer}
 use Rattle.kept_promise.proofs.PathNames.{IsWalkSmall, builds_at, is_building}

@@ -12,7 +12,7 @@ use Rattle.path_calls.specs.Walk.{next_call}
 use Rattle.path_calls.specs.declared.walk.Goal.{Goal}
 use Rattle.path_calls.specs.declared.walk.Goal.TheVariants as goal
 use Rattle.path_calls.specs.declared.walk.Walk.{Walk}
-use Rattle.server_law.proofs.Trees.{IsBounded}
+use Rattle.server_law.proofs.lemmas.Trees.{IsBounded}
 use Rattle.kept_promise.proofs.Rooted.{IsRooted}
 use Rattle.kept_promise.proofs.PathNames.{IsWalkSmall, is_making, is_creating, makes_later}
 use Rattle.kept_promise.proofs.Makings.{step_by}

@@ -14,7 +14,7 @@ use Rattle.tree_reading.specs.Chain.{◌>>=◌}
 use Rattle.tree_reading.specs.Names.{is_dot_dot, is_misspelt, spelt}
 use Rattle.tree_reading.specs.Tree.{or_stale, node_of, directory_of, or_no_entry}
 use Rattle.tree_reading.specs.Reading.{attr_of, attr, looked, lookup, above, entry_size, page, is_too_small, listing_of, listed, is_bad_cookie, list}
-use Rattle.file_tree.proofs.Limits.{all_filter}
+use Rattle.file_tree.proofs.lemmas.Limits.{all_filter}
 use Rattle.tree_calls.specs.Telling.{found, found_of, id_of, or_bad_handle, getattr, listing}
 use Rattle.path_calls.specs.Walk.{place}
 use Rattle.trace_replay.specs.Complete.{IsPathRefused, IsNameRefused}

@@ -28,7 +28,7 @@ use Rattle.path_calls.specs.declared.walk.Goal.{Goal}
 use Rattle.path_calls.specs.declared.walk.Goal.TheVariants as goal
 use Rattle.path_calls.specs.declared.walk.Walk.{Walk}
 use Rattle.trace_replay.specs.NameChanges.{names_of, KeepsNames, ChangesNames, MakesOf, TakesNaming, MakesNaming, NamesChangeBy}
-use Rattle.server_law.proofs.Trees.{IsBounded}
+use Rattle.server_law.proofs.lemmas.Trees.{IsBounded}
 use Rattle.trace_ends.specs.Core.{server_got}
 use Rattle.trace_replay.specs.Naming.{refusal_of}
 use Rattle.trace_replay.specs.OwnCalls.{ComesTo, held_at, others_waiting}

@@ -23,8 +23,8 @@ use Rattle.nfs3_calls.specs.declared.listing.ListRange.{ListRange}
 use Rattle.nfs3_calls.specs.declared.message.Nfs.TheVariants as nfs
 use Rattle.nfs3_calls.specs.declared.place.Found.{Found}
 use Rattle.nfs3_calls.specs.declared.place.Place.{Place}
-use Rattle.wire.proofs.Bounds.{most_optional, most_attr}
-use Rattle.wire.proofs.Sizes.{small_fits}
+use Rattle.wire.proofs.lemmas.Bounds.{most_optional, most_attr}
+use Rattle.wire.proofs.lemmas.Sizes.{small_fits}
 use Rattle.wire.specs.Message.{MessageFits}
 use Rattle.wire.specs.declared.message.Body.TheVariants as body
 use Rattle.wire.specs.declared.message.Message.TheVariants as message
@@ -38,11 +38,11 @@ use Rattle.tree_reading.specs.Tree.{Tree, content_of, directory_of, directory_or
 use Rattle.tree_reading.specs.View.{IsNodeBounded}
 use Rattle.file_tree.specs.View.{AreIdsApart}
 use Rattle.tree_reading.specs.Reading.{attr_of, attr_body, attr, time_of, looked, lookup, found_of, above, entry_size, page, is_too_small, listing_of, listed, is_bad_cookie, list}
-use Rattle.tree_reading.proofs.Found.{named_bounded, id_bounded}
-use Rattle.file_tree.proofs.Limits.{all_map, all_filter, apart_without, bounds}
+use Rattle.tree_reading.proofs.lemmas.Found.{named_bounded, id_bounded}
+use Rattle.file_tree.proofs.lemmas.Limits.{all_map, all_filter, apart_without, bounds}
 use Rattle.tree_calls.specs.Telling.{id_of, getattr, found, found_of as told_of, listing, answer_of}
-use Rattle.server_law.proofs.TreeCalls.{bind_ok, ok_is}
-use Rattle.server_law.proofs.Trees.{nodes_of, IsBounded}
+use Rattle.server_law.proofs.lemmas.TreeCalls.{bind_ok, ok_is}
+use Rattle.server_law.proofs.lemmas.Trees.{nodes_of, IsBounded}
 use Rattle.kept_promise.proofs.TreeTold.{entry_is}
 use Rattle.kept_promise.proofs.TreeWalks.{IsUndotted}
 

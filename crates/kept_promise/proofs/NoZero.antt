@@ -7,13 +7,13 @@ use Rattle.std.proofs.lemmas.Bool.Decides.{nat_tests}
 use Rattle.std.specs.Option.{option_map}
 use Rattle.tree_nodes.specs.Nodes.{with_id, named}
 use Rattle.tree_nodes.specs.declared.node.Node.{Node}
-use Rattle.tree_nodes.proofs.Lists.{with_id_changed}
+use Rattle.tree_nodes.proofs.lemmas.Lists.{with_id_changed}
 use Rattle.tree_reading.specs.Tree.{Tree}
 use Rattle.file_tree.specs.Step.{replaced}
 use Rattle.tree_reading.specs.Reading.{standing_of, stands_for}
 use Rattle.tree_reading.specs.declared.reading.Standing.{Standing}
-use Rattle.tree_reading.proofs.Found.{found_all}
-use Rattle.server_law.proofs.Trees.{refill}
+use Rattle.tree_reading.proofs.lemmas.Found.{found_all}
+use Rattle.server_law.proofs.lemmas.Trees.{refill}
 use Rattle.trace_replay.specs.Naming.{tree_at, Leads, FindsFile}
 use Rattle.command_text.specs.declared.path.Spot.{Spot}
 use Rattle.kept_promise.proofs.Common.{Contains, Op, Book, Moment, step_of}

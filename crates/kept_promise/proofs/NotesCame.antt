@@ -37,7 +37,7 @@ use Rattle.kept_promise.proofs.Facts.{IsKept}
 use Rattle.kept_promise.proofs.Fits.{FitLaws}
 use Rattle.kept_promise.proofs.Lists.{some_is, nothing_there, of_replicate}
 use Rattle.kept_promise.proofs.NoteSteps.{HadNote, NewNote, StepKeeps, command_keeps, told_keeps, until_is, unnoted_own}
-use Rattle.kept_promise.proofs.Owners.{happens_header}
+use Rattle.kept_promise.proofs.lemmas.Owners.{happens_header}
 use Rattle.kept_promise.proofs.RunsCarried.{book_at, moment, Header, first_core, Step, Carried}
 use Rattle.kept_promise.proofs.Turns.{around_with}
 use Rattle.kept_promise.proofs.Versions.{of_numbered}

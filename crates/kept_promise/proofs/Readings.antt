@@ -6,7 +6,7 @@ use Rattle.clock_rule.specs.Keeping.{at_first, all_read}
 use Rattle.clock_rule.specs.declared.rule.ClockFault.{ClockFault}
 use Rattle.clock_rule.specs.declared.rule.Reading.{Reading}
 use Rattle.clock_rule.specs.declared.rule.Reading.TheVariants as reads
-use Rattle.clock_rule.proofs.Whole.{taken_whole}
+use Rattle.clock_rule.proofs.lemmas.Whole.{taken_whole}
 use Rattle.command_text.specs.declared.path.Spot.{Spot}
 use Rattle.trace_text.specs.declared.line.Line.TheVariants as line
 use Rattle.trace_ends.specs.declared.adjusting.Adjustment.TheVariants as adjustment
@@ -20,8 +20,8 @@ use Rattle.trace_replay.specs.Readings.{said, said_by, owners_by, timings_from, 
 use Rattle.trace_replay.specs.Run.{refused, place_for, file_asks, directory_asks}
 use Rattle.kept_promise.proofs.Common.{nat_le, nat_lt, lines_of, Part, line_of, Line, LineFault, Grammar, Refused, Turn, Core, Seat, numbered, World, start, line_most, sessions_most, asks_if, sized, joins_if, joins_within, event_asks, asks_at, asks, asked, asked_by, turned, ended, in_header, run_from, run, owners_of, accepted, KeepsClocks}
 use Rattle.kept_promise.proofs.Statements.{ClocksKeepTheRule}
-use Rattle.kept_promise.proofs.Owners.{stage_after, owners_after, MayTurn, turned_to}
-use Rattle.trace_replay.proofs.Warming.{warms_turn, warm_taken}
+use Rattle.kept_promise.proofs.lemmas.Owners.{stage_after, owners_after, MayTurn, turned_to}
+use Rattle.trace_replay.proofs.lemmas.Warming.{warms_turn, warm_taken}
 use Rattle.kept_promise.proofs.RunsResults.{asking, turn_is, refused_line, no_world, ran_by}
 use Rattle.kept_promise.proofs.RunsAsked.{within}
 

@@ -28,7 +28,7 @@ use Rattle.temp_files.specs.Temps.{Temp, temp_at, room_fault, piece_fault, witho
 use Rattle.limits.specs.declared.TheConstants.{XIDS_MOST}
 use Rattle.lease_rules.specs.declared.change.Recall.{Recall}
 use Rattle.lease_rules.specs.Xids.{draw}
-use Rattle.lease_table.proofs.Lists.{or_else, find_append, find_kept, find_none_kept, some_is}
+use Rattle.lease_table.proofs.lemmas.Lists.{or_else, find_append, find_kept, find_none_kept, some_is}
 use Rattle.callback_core.specs.BackCalls.{BackCall, unasked, recall_pending, recalled_if, is_at, call_at, xid_at, hung, with_call, asks_if, asked_with, asks, answered, answered_by as used_by}
 use Rattle.callback_core.specs.Waits.{without}
 use Rattle.callback_core.specs.declared.back_calls.Asked.{Asked}
@@ -51,8 +51,8 @@ use Rattle.server_core.specs.State.{State, FileChange, change_of, held, stands}
 use Rattle.server_core.specs.Step.{called_under, asks as asks_outcome, asks_tree, got_if_under, connect, has_room, hangs, hangs_if, server_step_under}
 use Rattle.lease_law.specs.Claims.{Way, recall_message, answered_by, called_by}
 use Rattle.lease_law.specs.Orderly.{IsUpTo, AreNumbered, sent_on, behind_with}
-use Rattle.lease_law.proofs.Claiming.{behind_none}
-use Rattle.lease_law.proofs.Asking.{AreXids, asks_numbered, asks_unsent, sent_cons, behind_join}
+use Rattle.lease_law.proofs.lemmas.Claiming.{behind_none}
+use Rattle.lease_law.proofs.lemmas.Asking.{AreXids, asks_numbered, asks_unsent, sent_cons, behind_join}
 
 -- ---- what is said of them
 

@@ -16,7 +16,7 @@ use Rattle.wire.specs.declared.message.Message.TheVariants as message
 use Rattle.wire.specs.declared.fault.WireFault.TheVariants.{NotRpc, Garbage}
 use Rattle.wire.specs.Message.{result_of}
 use Rattle.wire.specs.Parse.{read_or, refusal_of, replied, parse_reply, parse_by, parse_call, waiting}
-use Rattle.wire.proofs.Sizes.{small_fits}
+use Rattle.wire.proofs.lemmas.Sizes.{small_fits}
 use Rattle.callback_core.specs.BackCalls.{recall_pending}
 use Rattle.client_cache.specs.Cache.{without_note}
 use Rattle.client_state.specs.State as client

@@ -10,7 +10,7 @@ use Rattle.tree_nodes.specs.declared.node.Node.{Node}
 use Rattle.tree_nodes.specs.declared.node.Body.{Body}
 use Rattle.tree_nodes.specs.declared.node.Body.TheVariants.{Directory, File as Plain}
 use Rattle.tree_nodes.specs.Nodes.{before, with_id, named, with_node, without, changed, versioned}
-use Rattle.tree_nodes.proofs.Lists.{with_id_without}
+use Rattle.tree_nodes.proofs.lemmas.Lists.{with_id_without}
 use Rattle.tree_reading.specs.Chain.{◌>>=◌}
 use Rattle.tree_reading.specs.Names.{is_misspelt, spelt, undotted}
 use Rattle.file_tree.specs.Opening.{may_open, can_open, counted_at, with_change, opened, opens}
@@ -20,8 +20,8 @@ use Rattle.tree_reading.specs.declared.call.Reservation.{Reservation}
 use Rattle.tree_reading.specs.declared.call.Planned.{Planned}
 use Rattle.tree_reading.specs.declared.call.Planned.TheVariants as planned
 use Rattle.tree_reading.specs.Tree.{Tree, is_directory, directory_of, or_taken, root as root_of}
-use Rattle.file_tree.proofs.Limits.{all_map, all_with, all_filter}
-use Rattle.server_law.proofs.Trees.{IsGiven, refill, below_next, some_is}
+use Rattle.file_tree.proofs.lemmas.Limits.{all_map, all_with, all_filter}
+use Rattle.server_law.proofs.lemmas.Trees.{IsGiven, refill, below_next, some_is}
 
 -- its name is as long at most as a directory takes, and the root has none
 pub record IsFit (n : Node) : Type 0 where

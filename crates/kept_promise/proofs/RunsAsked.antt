@@ -8,7 +8,7 @@ use Rattle.trace_replay.specs.declared.stage.Stage.{Stage}
 use Rattle.trace_replay.specs.declared.stage.Stage.TheVariants as stage
 use Rattle.trace_replay.specs.declared.turn.Turn.TheVariants as turn
 use Rattle.kept_promise.proofs.Common.{nat_lt, nat_le, Part, Line, LineFault, Grammar, Turn, Core, Seat, numbered, World, line_most, sessions_most, asks_if, sized, joins_if, joins_within, event_asks, asks_at, asks, asks_within, asked}
-use Rattle.trace_replay.proofs.Warming.{warms_turn, warm_taken}
+use Rattle.trace_replay.proofs.lemmas.Warming.{warms_turn, warm_taken}
 use Rattle.kept_promise.proofs.RunsResults.{asking, refused_line}
 
 -- what it asks for, if its path leads to this directory

@@ -11,7 +11,7 @@ use Rattle.tree_nodes.specs.declared.node.Body.TheVariants.{Directory, File as P
 use Rattle.file_tree.specs.Opening.{opens}
 use Rattle.tree_reading.specs.Tree.{contents_size, root as root_of, empty as root_alone}
 use Rattle.trace_replay.specs.Book.{first_version}
-use Rattle.server_law.proofs.Trees.{IsBounded, given}
+use Rattle.server_law.proofs.lemmas.Trees.{IsBounded, given}
 use Rattle.kept_promise.proofs.Rooted.{IsRooted, root_rooted, opens_rooted}
 use Rattle.kept_promise.proofs.TreeOpens.{IsOpened, IsWidened, opens_file, opens_directory}
 

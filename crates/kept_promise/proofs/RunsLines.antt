@@ -20,7 +20,7 @@ use Rattle.trace_replay.specs.Run.{file_most, tree_most, is_there, place_for, fr
 use Rattle.kept_promise.proofs.Common.{nat_tests, ◌&&◌, nat_lt, nat_le, if◌then◌else◌, bytes_eq, content_length, Command, Part, line_of, Line, LineFault, Grammar, Turn, Seat, Session, numbered, World, line_most, sessions_most, asks_if, sized, joins_if, joins_within, event_asks, asks_at, asks, asks_within, asked, can_open}
 use Rattle.kept_promise.proofs.Parsed.{Gives, gives_some, gives_none, gives_if, gives_after, gives_then}
 use Rattle.kept_promise.proofs.PathNames.{IsNamed, IsPlain, IsSmall, find_named, renew_named, path_command_named}
-use Rattle.trace_replay.proofs.Warming.{warms_turn, warm_taken}
+use Rattle.trace_replay.proofs.lemmas.Warming.{warms_turn, warm_taken}
 use Rattle.kept_promise.proofs.RunsResults.{asking, turn_is, refused_line}
 use Rattle.kept_promise.proofs.Lists.{some_is, nothing_there}
 use Rattle.tree_reading.specs.Tree.{Tree}

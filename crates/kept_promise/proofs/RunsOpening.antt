@@ -8,9 +8,9 @@ use Rattle.kept_promise.proofs.RunsAsked.{turn_of, asked_turn}
 use Rattle.kept_promise.proofs.RunsResults.{no_world, ended_is, ran_by}
 use Rattle.trace_replay.specs.declared.stage.Stage.{Stage}
 use Rattle.trace_replay.specs.declared.stage.Stage.TheVariants as stage
-use Rattle.server_law.proofs.Trees.{IsGiven}
+use Rattle.server_law.proofs.lemmas.Trees.{IsGiven}
 use Rattle.kept_promise.proofs.TreeOpens.{opens_file, opens_directory}
-use Rattle.kept_promise.proofs.Owners.{turned_to}
+use Rattle.kept_promise.proofs.lemmas.Owners.{turned_to}
 use Rattle.kept_promise.proofs.RunsLines.{is_early, Allows, allowed, line_fits}
 
 -- ---- no event changes what was opened with

@@ -15,7 +15,7 @@ use Rattle.kept_promise.proofs.Facts.{IsKept}
 use Rattle.kept_promise.proofs.Fits.{FitLaws}
 use Rattle.kept_promise.proofs.Leading.{CarryAll}
 use Rattle.kept_promise.proofs.Rounds.{AreRested}
-use Rattle.kept_promise.proofs.Owners.{owners_after, MayTurn, turned_to}
+use Rattle.kept_promise.proofs.lemmas.Owners.{owners_after, MayTurn, turned_to}
 use Rattle.kept_promise.proofs.RunsCarried.{KeptLaws, book_at, Header, first_core, CarriedMix, Stands}
 use Rattle.kept_promise.proofs.Mixes.{AreMixes}
 use Rattle.kept_promise.proofs.RunsFirst.{IsTree, tree_more, tree_wider, kept_first}
@@ -26,7 +26,7 @@ use Rattle.tree_nodes.specs.declared.node.Body.TheVariants.{Directory, File as P
 use Rattle.file_tree.specs.Opening.{opens}
 use Rattle.tree_reading.specs.Tree.{contents_size}
 use Rattle.server_core.specs.Step.{opens_with}
-use Rattle.server_law.proofs.Trees.{given}
+use Rattle.server_law.proofs.lemmas.Trees.{given}
 use Rattle.kept_promise.proofs.TreeOpens.{opens_file, opens_directory}
 use Rattle.kept_promise.proofs.RunsLines.{IsFree, MayOpen}
 

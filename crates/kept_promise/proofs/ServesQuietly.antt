@@ -14,7 +14,7 @@ use Rattle.tree_calls.specs.Changing.{said}
 use Rattle.path_calls.specs.Walk.{next_call}
 use Rattle.wire.specs.declared.message.Body.TheVariants as body
 use Rattle.wire.specs.declared.message.Message.TheVariants as message
-use Rattle.server_law.proofs.Trees.{IsBounded}
+use Rattle.server_law.proofs.lemmas.Trees.{IsBounded}
 use Rattle.trace_ends.specs.Core.{idles, server_got, changed_file, is_of_file}
 use Rattle.trace_ends.specs.Ops.{pointed_at, pointed}
 use Rattle.kept_promise.proofs.Common.{slice_get, slice_set, cond, option_map, not, stands, has_waiting, name_answer, Call, Call.Walks, Entry, Op, Message, WireFault, Core, Session, Event.Serves, CoreStep, numbered, serves_if, serves, happens, Book, Queue, Ask, ask_message}

@@ -33,7 +33,7 @@ use Rattle.kept_promise.proofs.OrderSteps.{keys_once}
 use Rattle.kept_promise.proofs.Facts.{IsValue, FileIs, IsTalk, IsKept, IsWanted}
 use Rattle.kept_promise.proofs.Leading.{Leads, downs_put_in, downs_put, KeptSettles, IsNoted}
 use Rattle.kept_promise.proofs.Cuts.{leads_idle}
-use Rattle.server_law.proofs.Trees.{replaced_own, replaced_other, replaced_size, replaced_bounded, file_bounded, given}
+use Rattle.server_law.proofs.lemmas.Trees.{replaced_own, replaced_other, replaced_size, replaced_bounded, file_bounded, given}
 use Rattle.kept_promise.proofs.Making.{entry_of, made_change, room_there, made_is}
 use Rattle.path_calls.specs.declared.walk.Walk.{Walk}
 use Rattle.kept_promise.proofs.NoZero.{replaced_none}

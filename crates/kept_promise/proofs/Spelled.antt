@@ -8,7 +8,7 @@ use Rattle.hash_calls.specs.Calls.{lease_on_form, hashes_form, leased_form, pair
 use Rattle.hash_calls.specs.Calls.{range_form as hash_range_form}
 use Rattle.nfs3_calls.specs.Calls.{piece_form, range_form, place_form, list_range_form, new_file_form, new_dir_form, rename_form}
 use Rattle.nfs3_calls.specs.Choices.{set_attr_form, set_time_form, how_made_form}
-use Rattle.wire.proofs.Sizes.{small_fits}
+use Rattle.wire.proofs.lemmas.Sizes.{small_fits}
 use Rattle.chunk_calls.specs.Answers.{time_of}
 use Rattle.kept_promise.proofs.Common.{All, slice_get, filter, All-nil, All-cons, All-map, chunks_of, chunk_bytes, Chunk, handle_bytes, Done, Failed, HashRange, Range, MessageFits, IsExpected, meets, told_chunks, pair_of, is_end, hashes_of, leased_of, piece_of, attr_of, File, Call, Call.Lease, Call.Hash, Call.Read, Call.Make, Call.Name, Call.Send, Call.Commit, Reply, Reply.Versioned, Reply.Hashed, Reply.Bytes, Reply.Made, Reply.Named, Reply.Stored, Reply.Changed, call_message, told_message, Call.Walks}
 use Rattle.kept_promise.proofs.Statements.{IsSpoken, ToldFits, CallFits, CallsFit, CallsExpected, FileFits, HashAnswersFit, LeaseAnswersFit, ReadAnswersFit, IsPlain, PlainAnswersFit, AreInRow}

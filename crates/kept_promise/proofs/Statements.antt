@@ -4,7 +4,7 @@ use Rattle.temp_files.specs.Pieces as piece_rules
 use Rattle.tree_calls.specs.Telling.{told as told_by}
 use Rattle.path_calls.specs.Walk.{next_call}
 use Rattle.path_calls.specs.declared.walk.Walk.{Walk}
-use Rattle.server_law.proofs.Trees.{IsBounded}
+use Rattle.server_law.proofs.lemmas.Trees.{IsBounded}
 use Rattle.wire.specs.declared.message.Body.TheVariants as body
 use Rattle.wire.specs.declared.message.Message.TheVariants as message
 use Rattle.wire.specs.declared.message.Pending.{Pending}

@@ -8,7 +8,7 @@ use Rattle.server_core.specs.declared.change.Wanted.TheVariants as wanted
 use Rattle.trace_ends.specs.Core.{newest_entries, changed_file, idles}
 use Rattle.callback_core.specs.Waits.{ready, without, without_made}
 use Rattle.server_core.specs.Closing.{ready_by}
-use Rattle.server_core.proofs.Ready.{ready_there}
+use Rattle.server_core.proofs.lemmas.Ready.{ready_there}
 use Rattle.server_core.specs.Closing.{makes_change}
 use Rattle.trace_replay.specs.OwnCalls.{others_waiting}
 use Rattle.kept_promise.proofs.Common.{slice_get, cond, not, ◌==◌, at, FileChange, ServerStep, Core, CoreStep, quiet, settles, settled_by, Book, Queue, later, nat_le, if◌then◌else◌, Event.Settles}

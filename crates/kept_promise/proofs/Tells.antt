@@ -29,7 +29,7 @@ use Rattle.kept_promise.proofs.Fits.{FitLaws}
 use Rattle.kept_promise.proofs.Facts.{FileIs, is_there, IsServer, IsTalk, IsKept}
 use Rattle.kept_promise.proofs.Serves.{own_node, contains_at, map_at, parsed}
 use Rattle.kept_promise.proofs.Leading.{IsNoted}
-use Rattle.server_law.proofs.Trees.{file_bounded}
+use Rattle.server_law.proofs.lemmas.Trees.{file_bounded}
 use Rattle.kept_promise.proofs.TreeOpens.{Named, a_directory, nobody, a_file, named_in}
 use Rattle.path_calls.specs.declared.walk.Walk.{Walk}
 use Rattle.path_calls.specs.Walk.{next_call}

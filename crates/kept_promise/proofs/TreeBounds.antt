@@ -7,7 +7,7 @@ use Rattle.xdr_codec.specs.declared.status.Status.{Status}
 use Rattle.xdr_codec.specs.declared.status.Status.TheVariants as status
 use Rattle.tree_nodes.specs.declared.node.Node.{Node}
 use Rattle.tree_nodes.specs.Nodes.{with_id, with_node, without, versioned, named}
-use Rattle.tree_nodes.proofs.Lists.{with_id_without}
+use Rattle.tree_nodes.proofs.lemmas.Lists.{with_id_without}
 use Rattle.tree_reading.specs.Chain.{◌>>=◌}
 use Rattle.tree_reading.specs.Names.{spelt, undotted}
 use Rattle.tree_reading.specs.declared.call.Changed.{Changed}
@@ -19,10 +19,10 @@ use Rattle.tree_reading.specs.declared.call.Planned.TheVariants as planned
 use Rattle.tree_reading.specs.Tree.{Tree, content_of, contents_size, node_of, directory_of, directory_or, file_or, or_no_entry, or_taken, changes_most}
 use Rattle.tree_reading.specs.Plans.{spared, nothing, create_found, create_mode, may_create, create_plan, may_mkdir, or_not_empty, may_remove, may_rmdir, remove_done, remove_plan, rmdir_plan, Target, itself, over, or_within, may_replace, is_same, rename_over, planned as planned_as, planned_found, rename_plan}
 use Rattle.file_tree.specs.Step.{made, removed, placed, moved_at, moved, create, created as create_made, new_file, new_directory, mkdir, mkdir_if, remove_if, remove, rmdir, shifted, rename_if, rename}
-use Rattle.file_tree.proofs.Limits.{counted, limits_with, limits_without, limits_versioned, limits_moved, size_with, size_same, size_without}
-use Rattle.file_tree.proofs.States.{named_id}
-use Rattle.server_law.proofs.Trees.{nodes_of, IsBounded}
-use Rattle.server_law.proofs.TreeCalls.{bind_ok, ok_is}
+use Rattle.file_tree.proofs.lemmas.Limits.{counted, limits_with, limits_without, limits_versioned, limits_moved, size_with, size_same, size_without}
+use Rattle.file_tree.proofs.lemmas.States.{named_id}
+use Rattle.server_law.proofs.lemmas.Trees.{nodes_of, IsBounded}
+use Rattle.server_law.proofs.lemmas.TreeCalls.{bind_ok, ok_is}
 use Rattle.kept_promise.proofs.TreeTold.{entry_is}
 
 -- there is room for so many changes beside those that are held

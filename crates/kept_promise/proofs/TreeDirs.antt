@@ -6,7 +6,7 @@ use Rattle.tree_nodes.specs.declared.node.Node.{Node}
 use Rattle.tree_nodes.specs.declared.node.Body.{Body}
 use Rattle.tree_nodes.specs.declared.node.Body.TheVariants.{Directory, File as Plain}
 use Rattle.tree_nodes.specs.Nodes.{with_id, names, with_node, without, changed, versioned, before}
-use Rattle.tree_nodes.proofs.Lists.{with_id_changed}
+use Rattle.tree_nodes.proofs.lemmas.Lists.{with_id_changed}
 
 -- ---- a directory's version, and its names
 

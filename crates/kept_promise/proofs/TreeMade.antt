@@ -15,7 +15,7 @@ use Rattle.tree_reading.specs.declared.call.Spot.{Spot}
 use Rattle.tree_reading.specs.Tree.{Tree, is_directory, file_or, directory_of, or_no_entry}
 use Rattle.tree_reading.specs.Plans.{spared, may_remove, remove_done, remove_plan, is_node}
 use Rattle.tree_calls.specs.Waiting.{still}
-use Rattle.server_law.proofs.TreeCalls.{bind_ok, ok_is}
+use Rattle.server_law.proofs.lemmas.TreeCalls.{bind_ok, ok_is}
 use Rattle.kept_promise.proofs.TreeTold.{entry_is}
 
 pub still_is : (nodes : List Node) (s : Spot) (id : ℕ) (u : Unit) → still nodes s id ≡ Ok u → (n : Node) × (named nodes s.dir s.name ≡ Some n) × (n.id ≡ id)

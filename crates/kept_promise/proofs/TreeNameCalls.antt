@@ -14,15 +14,15 @@ use Rattle.tree_reading.specs.declared.call.Planned.TheVariants as planned
 use Rattle.tree_reading.specs.Tree.{Tree}
 use Rattle.tree_reading.specs.Plans.{create_plan, may_mkdir, remove_done, remove_plan, rmdir_plan, rename_plan, replace_plan}
 use Rattle.file_tree.specs.Step.{create, created as create_made, new_file, new_directory, mkdir, mkdir_if, remove_if, remove, rmdir, shifted, rename_if, rename, replace_if, replaced, removed}
-use Rattle.tree_reading.proofs.Admitted.{remove_there, rmdir_there, rename_there}
-use Rattle.tree_reading.proofs.Found.{found_all}
+use Rattle.tree_reading.proofs.lemmas.Admitted.{remove_there, rmdir_there, rename_there}
+use Rattle.tree_reading.proofs.lemmas.Found.{found_all}
 use Rattle.tree_calls.specs.declared.asked.Asked.{Asked}
 use Rattle.tree_calls.specs.declared.asked.Asked.TheVariants as asked
 use Rattle.tree_calls.specs.Telling.{id_of}
 use Rattle.tree_calls.specs.Changing.{mode_of}
 use Rattle.tree_calls.specs.Waiting.{gives_content, settles, removes_if, renames_if, remove_again, rename_again, calls, creates_in, mkdirs_in, rmdirs_in, renaming, asks_rename, renames_in}
-use Rattle.server_law.proofs.Trees.{file_node}
-use Rattle.server_law.proofs.TreeCalls.{HasDirectory, create_in, mkdir_in, remove_in, rmdir_in, rename_in, replace_in}
+use Rattle.server_law.proofs.lemmas.Trees.{file_node}
+use Rattle.server_law.proofs.lemmas.TreeCalls.{HasDirectory, create_in, mkdir_in, remove_in, rmdir_in, rename_in, replace_in}
 use Rattle.kept_promise.proofs.TreeNames.{IsCounted, AreDirsLater, KeepsDirs, dirs_same, made_dirs, removed_dirs, replaced_dirs, moved_to, moved_over}
 
 create_dirs : (t : Tree) (held : Reservation) (dir : ℕ) (name : List ℕ) (m : CreateMode) → KeepsDirs t (create t held dir name m).0

@@ -8,15 +8,15 @@ use Rattle.tree_nodes.specs.declared.node.Node.{Node}
 use Rattle.tree_nodes.specs.declared.node.Body.{Body}
 use Rattle.tree_nodes.specs.declared.node.Body.TheVariants.{Directory, File as Plain}
 use Rattle.tree_nodes.specs.Nodes.{with_id, named, with_node, without, versioned}
-use Rattle.tree_nodes.proofs.Lists.{with_id_with, with_id_without, with_id_changed}
+use Rattle.tree_nodes.proofs.lemmas.Lists.{with_id_with, with_id_without, with_id_changed}
 use Rattle.tree_reading.specs.Tree.{Tree, is_directory}
 use Rattle.file_tree.specs.Step.{made, removed, placed, moved_at, moved, replaced}
 use Rattle.file_tree.specs.View.{AreIdsApart}
-use Rattle.tree_reading.proofs.Found.{found_all}
-use Rattle.file_tree.proofs.Limits.{all_map, all_with, all_filter, all_changed, apart_without}
-use Rattle.file_tree.proofs.States.{named_id}
+use Rattle.tree_reading.proofs.lemmas.Found.{found_all}
+use Rattle.file_tree.proofs.lemmas.Limits.{all_map, all_with, all_filter, all_changed, apart_without}
+use Rattle.file_tree.proofs.lemmas.States.{named_id}
 use Rattle.chunk_calls.specs.Files.{File, file_at}
-use Rattle.server_law.proofs.Trees.{IsGiven, file_node, next_free, refill, made_keeps, removed_keeps, moved_keeps, replaced_keeps, no_file, some_is}
+use Rattle.server_law.proofs.lemmas.Trees.{IsGiven, file_node, next_free, refill, made_keeps, removed_keeps, moved_keeps, replaced_keeps, no_file, some_is}
 use Rattle.kept_promise.proofs.TreeDirs.{version_in, version_of, directory_version, names_in, names_with, names_without, names_changed, names_versioned, IsDirSince, dir_same, dir_join, IsLeft, version_versioned, dir_renewed, both_renewed}
 
 -- ---- what is carried

@@ -14,12 +14,12 @@ use Rattle.tree_reading.specs.Tree.{Tree, is_directory, directory_of, directory_
 use Rattle.file_tree.specs.Opening.{can_open, counted_at, with_change, with_next, opened, opens}
 use Rattle.tree_reading.specs.View.{IsNodeBounded}
 use Rattle.file_tree.specs.View.{AreIdsApart}
-use Rattle.file_tree.proofs.Limits.{all_map, all_with, size_with}
+use Rattle.file_tree.proofs.lemmas.Limits.{all_map, all_with, size_with}
 use Rattle.chunk_calls.specs.Answers.{directory, file, node_with, node_found, node_named, Node as ServerNode}
 use Rattle.chunk_calls.specs.Files.{File, file_of_body, file_of_node, file_at}
 use Rattle.kept_promise.proofs.TreeNames.{IsCounted as AreCounted}
-use Rattle.server_law.proofs.Trees.{IsBounded, IsGiven, next_free, given_with, with_files}
-use Rattle.tree_nodes.proofs.Lists.{with_id_with}
+use Rattle.server_law.proofs.lemmas.Trees.{IsBounded, IsGiven, next_free, given_with, with_files}
+use Rattle.tree_nodes.proofs.lemmas.Lists.{with_id_with}
 
 -- ---- the opening tree
 

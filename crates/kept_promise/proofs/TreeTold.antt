@@ -18,11 +18,11 @@ use Rattle.tree_reading.specs.Chain.{◌>>=◌}
 use Rattle.tree_reading.specs.Names.{is_dot, is_dot_dot, spelt}
 use Rattle.tree_reading.specs.Tree.{directory_of, node_of, or_stale, directory_or, or_no_entry}
 use Rattle.tree_reading.specs.Reading.{attr_of, attr, looked, lookup, found_of, above, stands_for, standing_of, entry_size, page, is_too_small, listing_of, listed, is_bad_cookie, list}
-use Rattle.file_tree.proofs.States.{id_is}
+use Rattle.file_tree.proofs.lemmas.States.{id_is}
 use Rattle.tree_calls.specs.Telling.{id_of, or_bad_handle, getattr, found, found_of as told_of, listing}
 use Rattle.path_calls.specs.Told.{last_cookie, with_page}
 use Rattle.path_calls.specs.declared.walk.Pages.{Pages}
-use Rattle.server_law.proofs.TreeCalls.{bind_ok, ok_is}
+use Rattle.server_law.proofs.lemmas.TreeCalls.{bind_ok, ok_is}
 use Rattle.kept_promise.proofs.TreeDirs.{names_in}
 
 -- ---- handles

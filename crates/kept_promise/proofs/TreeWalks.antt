@@ -20,9 +20,9 @@ use Rattle.tree_reading.specs.Names.{is_dot, is_dot_dot}
 use Rattle.tree_reading.specs.Tree.{Tree}
 use Rattle.tree_reading.specs.Reading.{attr_of, attr_body, stands_for, standing_of}
 use Rattle.tree_reading.specs.declared.reading.Standing.{Standing}
-use Rattle.tree_reading.proofs.Found.{named_bounded}
-use Rattle.file_tree.proofs.Limits.{bounds}
-use Rattle.file_tree.proofs.States.{id_is}
+use Rattle.tree_reading.proofs.lemmas.Found.{named_bounded}
+use Rattle.file_tree.proofs.lemmas.Limits.{bounds}
+use Rattle.file_tree.proofs.lemmas.States.{id_is}
 use Rattle.tree_calls.specs.Telling.{answer_of, found, getattr, listing, told as told_by}
 use Rattle.path_calls.specs.declared.answers.Ended.TheVariants as ended
 use Rattle.path_calls.specs.declared.answers.Told.{Told}
@@ -34,7 +34,7 @@ use Rattle.path_calls.specs.declared.walk.Walk.{Walk}
 use Rattle.path_calls.specs.Walk.{place, arrives, call_at, goal_call, next_call}
 use Rattle.path_calls.specs.Told.{goes_down, finds, finds_anew, seen, sees, told_goal, told_found, told_page, told_attr, with_page, lists_on, shown_version, walk_told}
 use Rattle.trace_replay.specs.Naming.{refusal_of}
-use Rattle.server_law.proofs.Trees.{nodes_of, IsBounded}
+use Rattle.server_law.proofs.lemmas.Trees.{nodes_of, IsBounded}
 use Rattle.kept_promise.proofs.TreeTold.{IsFound, IsPage, lookup_tells, getattr_tells, listing_tells, stands}
 
 -- ---- handles

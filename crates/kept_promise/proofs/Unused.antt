@@ -8,8 +8,8 @@ use Rattle.file_tree.specs.Step.{replaced}
 use Rattle.path_calls.specs.declared.walk.Goal.{Goal}
 use Rattle.path_calls.specs.declared.walk.Goal.TheVariants as goal
 use Rattle.chunk_calls.specs.Files as the_files
-use Rattle.server_law.proofs.Trees.{IsGiven, file_below, replaced_own, replaced_other}
-use Rattle.server_law.proofs.TreeCalls.{directory_is, no_file_in}
+use Rattle.server_law.proofs.lemmas.Trees.{IsGiven, file_below, replaced_own, replaced_other}
+use Rattle.server_law.proofs.lemmas.TreeCalls.{directory_is, no_file_in}
 use Rattle.kept_promise.proofs.Common.{File, nat_lt}
 use Rattle.kept_promise.proofs.Lists.{nothing_there, same_or_not}
 use Rattle.kept_promise.proofs.NoZero.{replaced_none}

@@ -27,7 +27,7 @@ use Rattle.trace_replay.specs.Trail.{Moment, step_of}
 use Rattle.trace_replay.specs.Book.{Book}
 use Rattle.trace_replay.specs.Naming.{tree_at, Leads, all_names}
 use Rattle.kept_promise.proofs.PathNames.{AreNames, IsGoalNamed, IsWalkNamed}
-use Rattle.server_law.proofs.Trees.{IsBounded}
+use Rattle.server_law.proofs.lemmas.Trees.{IsBounded}
 use Rattle.kept_promise.proofs.TreeDirs.{names_in}
 use Rattle.kept_promise.proofs.TreeTold.{IsPage}
 use Rattle.kept_promise.proofs.TreeWalks.{IsUndotted, IsRefusal, Sees, looks_down, finds_file, rewrites_file, sees_name, sees_root, lists_page}

@@ -18,7 +18,7 @@ use Rattle.path_calls.specs.declared.walk.Walk.{Walk}
 use Rattle.server_core.specs.State as server
 use Rattle.server_core.specs.Step.{says}
 use Rattle.server_core.specs.declared.journal.Entry.{Entry}
-use Rattle.server_law.proofs.Trees.{IsBounded}
+use Rattle.server_law.proofs.lemmas.Trees.{IsBounded}
 use Rattle.kept_promise.proofs.Common.{ServerStep, called, NameReply, NameReply.LookedUp, NameReply.Shown, NameReply.Listed, name_answer}
 use Rattle.kept_promise.proofs.Lists.{some_is, nothing_there}
 use Rattle.kept_promise.proofs.Statements.{NameAnswersFit}

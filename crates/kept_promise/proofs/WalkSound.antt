@@ -21,9 +21,9 @@ use Rattle.path_calls.specs.declared.walk.Walk.{Walk}
 use Rattle.path_calls.specs.Walk.{pages_most, arrives, goal_left, next_call, goal_call, call_at}
 use Rattle.path_calls.specs.Told.{last_cookie, with_page, asks_page, more_pages, lists_on, walk_told}
 use Rattle.register_model.specs.declared.op.Word.TheVariants as words
-use Rattle.tree_reading.proofs.Found.{id_bounded}
-use Rattle.file_tree.proofs.Limits.{bounds}
-use Rattle.server_law.proofs.Trees.{nodes_of, IsBounded}
+use Rattle.tree_reading.proofs.lemmas.Found.{id_bounded}
+use Rattle.file_tree.proofs.lemmas.Limits.{bounds}
+use Rattle.server_law.proofs.lemmas.Trees.{nodes_of, IsBounded}
 use Rattle.kept_promise.proofs.PathNames.{AreNames, IsGoalNamed, IsAsking, IsAhead, IsWalkSmall, arrives_named, arrives_ahead, open_calls, walk_calls, is_making, makes_later, makes_at}
 use Rattle.kept_promise.proofs.TreeTold.{IsPage}
 use Rattle.kept_promise.proofs.TreeWalks.{looks_down, finds_file, rewrites_file, sees_name, sees_root, lists_page}

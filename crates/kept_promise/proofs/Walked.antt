@@ -25,8 +25,8 @@ use Rattle.xdr_codec.specs.declared.handle.TheConstants.{ROOT}
 use Rattle.trace_replay.specs.Trail.{Moment, step_of}
 use Rattle.trace_replay.specs.Book.{Book}
 use Rattle.trace_replay.specs.Naming.{tree_at, Leads, all_names}
-use Rattle.server_law.proofs.Trees.{IsGiven, below_next}
-use Rattle.server_law.proofs.TreeCalls.{ok_is}
+use Rattle.server_law.proofs.lemmas.Trees.{IsGiven, below_next}
+use Rattle.server_law.proofs.lemmas.TreeCalls.{ok_is}
 use Rattle.kept_promise.proofs.TreeDirs.{version_in, version_of, names_in, directory_version, IsDirSince}
 use Rattle.kept_promise.proofs.TreeNames.{AreDirsLater}
 use Rattle.kept_promise.proofs.TreeTold.{IsPage, pages_on}

@@ -1,8 +1,8 @@
 -- One message on its way, taken in pieces.
 use Rattle.std.proofs.Common.{◌≡◌, ℕ, ◌<◌, ◌≤◌, List, [], ◌∷◌, ◌++◌, Option, Some, None, length, take, drop, refl, ap, ◌∙◌, arith, append_assoc, length-append, map, true}
 use Rattle.std.proofs.lemmas.List.{drop_all}
-use Rattle.rpc_record.proofs.Streaming.{marked_begun, marked_whole}
-use Rattle.rpc_record.proofs.Splitting.{split_begun, split_whole}
+use Rattle.rpc_record.proofs.lemmas.Streaming.{marked_begun, marked_whole}
+use Rattle.rpc_record.proofs.lemmas.Splitting.{split_begun, split_whole}
 use Rattle.trace_ends.specs.Core.{server_got}
 use Rattle.kept_promise.specs.Whole.{Comes, client_got, UpsComeWhole, DownsComeWhole}
 use Rattle.kept_promise.proofs.Common.{take_all, take-append-drop, length-drop, nat_tests, Fed, Unread, Parts, nothing_read, record_of, fed, marked, message_spell, MessageFits, IsExpected, Message, waiting_of, got_step, Core, Seat, Session, Event.Serves, Event.Hears, numbered, server_waits, serves, serves_if, hears, hears_at, hears_if, is_newest, acted, World, Wire, bytes_of, routed, all_happened, up_at, up_some, down_at, down_some, up_with, down_with}

@@ -1,4 +1,3 @@
-pub mod Bounds
 pub mod Leadings
 pub mod Letters
 pub mod Runnings
@@ -7,3 +6,4 @@ pub mod Worked
 mod Cachings
 mod Hintings
 pub mod Recalls
+pub mod lemmas

@@ -14,7 +14,7 @@ use Rattle.client_state.specs.Noting.{at}
 use Rattle.client_state.specs.State.{State, waiting_of}
 use Rattle.client_state.specs.declared.step.ClientStep.{ClientStep}
 use Rattle.open_close.specs.Step.{called_back, recalls, got_step}
-use Rattle.open_close.proofs.Calls.{never_missed}
+use Rattle.open_close.proofs.lemmas.Calls.{never_missed}
 use Rattle.lbfs_client.specs.Client.{Hears}
 use Rattle.lbfs_client.specs.Mounting.{Mount, Hearing, Leads, Receives}
 use Rattle.lbfs_client.specs.Paging.{bounded, emptied_if, listed_most}

@@ -8,7 +8,7 @@ use Rattle.lbfs_client.specs.Host.{Host}
 use Rattle.lbfs_client.specs.Mounting.{Mount, Continues, joined_step}
 use Rattle.lbfs_client.specs.declared.answer.Answer.{Answer}
 use Rattle.lbfs_client.specs.declared.line.MountLine.{MountLine}
-use Rattle.lbfs_client.proofs.Bounds.{is_bounded}
+use Rattle.lbfs_client.proofs.lemmas.Bounds.{is_bounded}
 use Rattle.lbfs_mount.specs.Cached.{SavesAfter}
 use Rattle.lbfs_mount.specs.Course.{Begun, Course, IsSaved, known_end}
 use Rattle.lbfs_mount.specs.Mounts.{Outside, Ends}

@@ -5,7 +5,7 @@ use Rattle.std.specs.Option.{option_or}
 use Rattle.std.specs.Io.KnownBytes.{Appends}
 use Rattle.lb_base.specs.Causes.{Rose}
 use Rattle.lb_base.specs.Known.{AppendsPrefix}
-use Rattle.lb_base.proofs.KnownLemmas.{appends_none}
+use Rattle.lb_base.proofs.lemmas.KnownLemmas.{appends_none}
 use Rattle.record_ends.specs.Ends.{out_bytes}
 use Rattle.record_ends.specs.declared.end.End.{End}
 use Rattle.record_ends.specs.declared.end.End.TheVariants as ends

@@ -3,13 +3,13 @@ use Rattle.std.proofs.Common.{◌≡◌, ℕ, zero, suc, ◌+◌, ◌*◌, ◌/�
 use Rattle.std.specs.Prelude.{Ok}
 use Rattle.std.proofs.lemmas.List.{length-append}
 use Rattle.command_text.specs.Parts.{lines_of}
-use Rattle.command_text.proofs.Again.{lines_again}
+use Rattle.command_text.proofs.lemmas.Again.{lines_again}
 use Rattle.trace_replay.specs.declared.stage.Stage.{Stage}
 use Rattle.trace_replay.specs.World.{World}
 use Rattle.trace_replay.specs.Run.{in_header, ended}
 use Rattle.trace_replay.specs.Timed.{timed_start, accepted_from, accepted}
 use Rattle.trace_replay.specs.Lines.{ended_at}
-use Rattle.trace_replay.proofs.Going.{accepted_at_end}
+use Rattle.trace_replay.proofs.lemmas.Going.{accepted_at_end}
 use Rattle.trace_generator.specs.Lines.{choice, client_of, file_of, offset_of, time_of, change_lines, abandon_lines, opening_lines, block_lines, generated_lines, generated_text, text_of}
 use Rattle.lbfs_run.proofs.Steps.{Leads, lines_then}
 use Rattle.lbfs_run.proofs.Blocks.{block_leads}

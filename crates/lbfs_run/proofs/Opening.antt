@@ -9,7 +9,7 @@ use Rattle.command_text.specs.Content.{content_bytes}
 use Rattle.command_text.specs.declared.content.Part.{Part}
 use Rattle.command_text.specs.declared.content.Part.TheVariants.{Random}
 use Rattle.command_text.specs.Paths.{spot_of}
-use Rattle.command_text.proofs.Contents.{content_size}
+use Rattle.command_text.proofs.lemmas.Contents.{content_size}
 use Rattle.trace_text.specs.Grammar.{line_of}
 use Rattle.trace_text.specs.declared.line.Line.{Line}
 use Rattle.trace_text.specs.declared.line.Line.TheVariants as line
@@ -32,7 +32,7 @@ use Rattle.trace_ends.specs.Numbers.{numbered, with_numbered}
 use Rattle.trace_replay.specs.World.{World, start}
 use Rattle.trace_replay.specs.Run.{line_most, file_most, tree_most, sessions_most, place_for, sized, file_asks, joins_if, joins_within, event_asks, asks_at, asks, with_version, with_leases, with_drift, with_clients}
 use Rattle.trace_replay.specs.Timed.{Timed, Times, read_by, timed_start, timed_turn}
-use Rattle.trace_replay.proofs.Going.{applied_then}
+use Rattle.trace_replay.proofs.lemmas.Going.{applied_then}
 use Rattle.trace_generator.specs.Lines.{header, file_line, join_line, opening_lines}
 use Rattle.lbfs_run.proofs.Spelled.{root_spot, file_said}
 use Rattle.lbfs_run.proofs.Ticks.{Ticks, ticks_first, both_later, both_read}

@@ -2,14 +2,14 @@
 use Rattle.std.proofs.Common.{◌≡◌, ℕ, suc, ◌+◌, ◌*◌, ◌^◌, ◌<◌, ◌≤◌, List, [], ◌∷◌, ◌++◌, length, sym, ap, subst, ◌∙◌, arith}
 use Rattle.std.specs.Prelude.{Result, Ok, Err}
 use Rattle.command_text.specs.Parts.{lines_of}
-use Rattle.command_text.proofs.Again.{lines_again}
+use Rattle.command_text.proofs.lemmas.Again.{lines_again}
 use Rattle.trace_replay.specs.declared.fault.Refused.{Refused}
 use Rattle.trace_replay.specs.declared.stage.Stage.{Stage}
 use Rattle.trace_replay.specs.declared.stage.Stage.TheVariants as stage
 use Rattle.trace_replay.specs.Run.{in_header, ended}
 use Rattle.trace_replay.specs.Timed.{Timed, timed_start, accepted_from, accepted}
 use Rattle.trace_replay.specs.Lines.{applied_from, ended_at}
-use Rattle.trace_replay.proofs.Going.{accepted_at_end, applied_then, applied_number}
+use Rattle.trace_replay.proofs.lemmas.Going.{accepted_at_end, applied_then, applied_number}
 use Rattle.trace_generator.specs.Lines.{opening_lines, block_lines, generated_lines, generated_text, text_of}
 use Rattle.lbfs_run.specs.Taken.{AreTaken}
 use Rattle.lbfs_run.proofs.Opening.{opening_leads}

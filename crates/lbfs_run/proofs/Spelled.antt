@@ -13,7 +13,7 @@ use Rattle.command_text.specs.Fields.{◌>>=◌, number_of, is_letter, text_of, 
 use Rattle.command_text.specs.Parts.{words_of}
 use Rattle.command_text.specs.Paths.{spot_of}
 use Rattle.command_text.specs.declared.path.Spot.{Spot}
-use Rattle.command_text.proofs.Decimals.{number_again}
+use Rattle.command_text.proofs.lemmas.Decimals.{number_again}
 use Rattle.trace_text.specs.Grammar.{is_skipped, do_with, line_of, said_by}
 use Rattle.trace_text.specs.Fields.{reading_of}
 use Rattle.trace_text.specs.declared.line.Line.{Line}

@@ -23,8 +23,8 @@ use Rattle.trace_replay.specs.World.{World}
 use Rattle.trace_replay.specs.Run.{line_most, is_there, asks_if, asks_at, asks, asks_within, at_events, refused}
 use Rattle.trace_replay.specs.Timed.{Timed, Times, timing_of, pass_timing, owners_of, read_by, times_with, with_times, times_if, timed_by, timed_turn}
 use Rattle.trace_replay.specs.Lines.{applied_from}
-use Rattle.trace_replay.proofs.Going.{applied_then}
-use Rattle.kept_promise.proofs.Owners.{turned_to}
+use Rattle.trace_replay.proofs.lemmas.Going.{applied_then}
+use Rattle.kept_promise.proofs.lemmas.Owners.{turned_to}
 use Rattle.lbfs_run.proofs.Ticks.{Ticks, server_later, server_read, client_later, client_read, both_later, both_read}
 use Rattle.lbfs_run.proofs.Seats.{does_count, passes_count}
 

@@ -7,7 +7,7 @@ use Rattle.clock_rule.specs.declared.rule.Note.{Note}
 use Rattle.clock_rule.specs.declared.rule.Reading.TheVariants as reads
 use Rattle.clock_rule.specs.Clocks.{Clocked, read_at, event_of}
 use Rattle.clock_rule.specs.Keeping.{KeepRule, KeptSoFar, at_first, and_reading}
-use Rattle.clock_rule.proofs.Keeping.{kept_at_start, kept_moved, taken_kept}
+use Rattle.clock_rule.proofs.lemmas.Keeping.{kept_at_start, kept_moved, taken_kept}
 
 -- the event is not past this reading, and was no more than 10 past the server's
 abbrev pub IsNear : (at : ℕ) → Note → Type 0

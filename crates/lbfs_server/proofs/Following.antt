@@ -2,7 +2,7 @@
 use Rattle.std.proofs.Common.{◌≡◌, ◌≤◌, List, [], length, sym, subst, arith}
 use Rattle.std.proofs.lemmas.List.{append-nil}
 use mathlib.Core.List.{IsPrefix}
-use Rattle.turn_post.proofs.Fronts.{prefix_self, prefix_trans}
+use Rattle.turn_post.proofs.lemmas.Fronts.{prefix_self, prefix_trans}
 use Rattle.turn_post.specs.declared.journaled.Journaled.{Ghosts}
 use Rattle.turn_post.specs.declared.post.Post.{Post}
 use Rattle.turn_post.specs.declared.post.Pass.{Pass}

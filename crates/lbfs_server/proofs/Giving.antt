@@ -5,9 +5,9 @@ use Rattle.std.proofs.lemmas.List.{append-nil}
 use Rattle.std.specs.Io.KnownBytes.{Consumes, Appends}
 use Rattle.record_ends.specs.Ends.{Kept, coming, nothing_kept, Gives, Takes}
 use Rattle.rpc_record.specs.declared.refusal.Refusal.{Refusal}
-use Rattle.record_ends.proofs.Coming.{consumes_more}
+use Rattle.record_ends.proofs.lemmas.Coming.{consumes_more}
 use Rattle.lb_base.specs.Known.{AppendsPrefix}
-use Rattle.lb_base.proofs.KnownLemmas.{appends_none}
+use Rattle.lb_base.proofs.lemmas.KnownLemmas.{appends_none}
 use Rattle.lbfs_server.specs.Ends.{IsSpoilt}
 
 -- these bytes were taken and these records were given, which stand before all that is to come

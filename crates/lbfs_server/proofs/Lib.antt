@@ -1,4 +1,4 @@
 pub mod Following
 pub mod Giving
-pub mod Sending
 pub mod Serving
+pub mod lemmas

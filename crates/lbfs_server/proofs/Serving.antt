@@ -10,11 +10,11 @@ use Rattle.server_core.specs.Step.{with_tree}
 use Rattle.tree_load.specs.Load.{load}
 use Rattle.file_tree.specs.Storing.{IsStored}
 use Rattle.server_law.specs.Facts.{Holds, IsGiven}
-use Rattle.server_law.proofs.Steps.{opening_told}
+use Rattle.server_law.proofs.lemmas.Steps.{opening_told}
 use Rattle.server_held.specs.declared.entries.Entered.{Entered}
 use Rattle.server_held.specs.declared.entries.Entered.TheVariants.{Opened, Made}
 use Rattle.server_held.specs.Kept.{KeptState, KeepsTree, journal_of}
-use Rattle.turn_post.proofs.Fronts.{prefix_trans}
+use Rattle.turn_post.proofs.lemmas.Fronts.{prefix_trans}
 use Rattle.lbfs_server.specs.Serve.{MayGive, IsTreeOf, IsServerOf, IsBad, IsFront}
 
 pub is_server_of : (told : Option (List Kept)) (term : ℕ) (records : List Kept) (tree : Tree) (server : State) → MayGive told records → load records ≡ Ok tree → server ≡ record (with_term (with_tree tree) term) { index = server.index } → IsServerOf told term server

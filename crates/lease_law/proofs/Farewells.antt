@@ -7,7 +7,7 @@ use Rattle.wire.specs.declared.message.Message.{Message}
 use Rattle.lease_rules.specs.declared.lease.Lease.{Lease}
 use Rattle.lease_table.specs.Leases.{is_on, lease_at, without_session}
 use Rattle.lease_table.specs.Order.{ComesBefore}
-use Rattle.lease_table.proofs.Lists.{find_kept}
+use Rattle.lease_table.proofs.lemmas.Lists.{find_kept}
 use Rattle.server_core.specs.State.{State}
 use Rattle.server_core.specs.Step.{gives_up}
 use Rattle.lease_law.specs.Claims.{Way, Claim, limit_of, IsGuarded, IsSafe, IsClaim}

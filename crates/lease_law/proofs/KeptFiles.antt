@@ -10,7 +10,7 @@ use Rattle.tree_nodes.specs.declared.node.Node.{Node}
 use Rattle.tree_nodes.specs.declared.node.Body.{Body}
 use Rattle.tree_nodes.specs.declared.node.Body.TheVariants.{Directory, File as Plain}
 use Rattle.tree_nodes.specs.Nodes.{with_id, named, without}
-use Rattle.tree_nodes.proofs.Lists.{with_id_without}
+use Rattle.tree_nodes.proofs.lemmas.Lists.{with_id_without}
 use Rattle.tree_reading.specs.Chain.{◌>>=◌}
 use Rattle.tree_reading.specs.Names.{spelt, undotted}
 use Rattle.tree_reading.specs.Reading.{stands_for, standing_of, version}
@@ -22,20 +22,20 @@ use Rattle.tree_reading.specs.declared.call.Reservation.{Reservation}
 use Rattle.tree_reading.specs.declared.call.Planned.{Planned}
 use Rattle.tree_reading.specs.declared.call.Planned.TheVariants as planned
 use Rattle.tree_reading.specs.declared.reading.Standing.{Standing}
-use Rattle.tree_reading.proofs.Admitted.{remove_there, rename_there}
-use Rattle.tree_reading.proofs.Found.{entry_is}
+use Rattle.tree_reading.proofs.lemmas.Admitted.{remove_there, rename_there}
+use Rattle.tree_reading.proofs.lemmas.Found.{entry_is}
 use Rattle.file_tree.specs.Step.{create, created, new_file, new_directory, made, mkdir, mkdir_if, remove, remove_if, removed, rmdir, shifted, moved, rename, rename_if, replace, replace_if, replaced}
 use Rattle.file_tree.specs.Stores.{stored}
-use Rattle.file_tree.proofs.States.{id_is, named_id}
+use Rattle.file_tree.proofs.lemmas.States.{id_is, named_id}
 use Rattle.tree_calls.specs.declared.asked.Asked.{Asked}
 use Rattle.tree_calls.specs.declared.asked.Asked.TheVariants as asked
 use Rattle.tree_calls.specs.Telling.{id_of}
 use Rattle.tree_calls.specs.Changing.{mode_of}
 use Rattle.tree_calls.specs.Waiting.{file_of, rename_comes, over_comes, with_node, still, remove_again, rename_again, removes_if_under, renames_if_under, settles_under, gives_content_under, creates_in_under, mkdirs_in_under, rmdirs_in_under, renaming_under, asks_rename, renames_in_under, calls_under}
 use Rattle.chunk_calls.specs.Files.{File, file_of_body, file_of_node, file_at}
-use Rattle.server_law.proofs.Asked.{asked_holds}
-use Rattle.server_law.proofs.Trees.{IsGiven, NoFile, no_file, file_below, file_node, made_files, removed_files, replaced_other, moved_at_files, without_none}
-use Rattle.server_law.proofs.TreeCalls.{bind_ok, ok_is, create_in, mkdir_in, remove_in, rmdir_in, rename_in, no_file_in}
+use Rattle.server_law.proofs.lemmas.Asked.{asked_holds}
+use Rattle.server_law.proofs.lemmas.Trees.{IsGiven, NoFile, no_file, file_below, file_node, made_files, removed_files, replaced_other, moved_at_files, without_none}
+use Rattle.server_law.proofs.lemmas.TreeCalls.{bind_ok, ok_is, create_in, mkdir_in, remove_in, rmdir_in, rename_in, no_file_in}
 use Rattle.lease_law.specs.Claims.{version_at}
 
 -- a file is as it was

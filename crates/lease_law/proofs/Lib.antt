@@ -1,11 +1,3 @@
 pub mod KeptFiles
-pub mod LeasesAt
-pub mod Asking
-pub mod Claiming
-pub mod Calls
-pub mod Settles
-pub mod Granted
-pub mod Events
-pub mod Ways
-pub mod Fresh
 pub mod Farewells
+pub mod lemmas

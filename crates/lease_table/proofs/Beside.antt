@@ -8,8 +8,8 @@ use Rattle.lease_table.specs.Leases.{is_on, lease_at, without_ended}
 use Rattle.lease_table.specs.Order.{ComesBefore, AreOrdered}
 use Rattle.lease_table.specs.Machine.{Machine}
 use Rattle.lease_table.specs.Claims.{recalls_of, replies_of, AllBelow, IsGuarded, IsSafe, IsKept}
-use Rattle.lease_table.proofs.Lists.{if_passes, find_filtered}
-use Rattle.lease_table.proofs.Keeping.{one_at}
+use Rattle.lease_table.proofs.lemmas.Lists.{if_passes, find_filtered}
+use Rattle.lease_table.proofs.lemmas.Keeping.{one_at}
 use Rattle.lease_table.proofs.Messages.{all_answers}
 use Rattle.lease_table.proofs.Claiming.{Claims, note_map, promise_map}
 

@@ -10,8 +10,8 @@ use Rattle.lease_table.specs.Leases.{lease_at, grant, marked, without_recalled, 
 use Rattle.lease_table.specs.Order.{AreOrdered}
 use Rattle.lease_table.specs.Machine.{Machine, Note, Up, Up.Ask, Up.Commit, Up.Reply, Down, Down.Answered, Down.Recall, Event, Event.Open, Event.Fetch, Event.Store, Event.Read, Event.Take, Event.Arrive, Event.Change, Event.Settle, Event.Refuse, Event.Drop, Event.Cut, Event.Hang, Event.Restart, event_at, fresh, is_free, is_none, asks_if, opens_by, stores_if, note_if, note_of, reads_one, unless, answers, takes_one, is_wanted, recalls_if, changes, settles_if, refuses_if, happens, start}
 use Rattle.lease_table.specs.Claims.{recalls_of, replies_of, Among, AllBelow, AreApart, calls, commits, answers_in, one_if, IsUnread, IsGuarded, IsSafe, IsKnown, IsClaim, IsNote, IsPromise, IsAlone, IsKept, IsNew, AllAnswers, AreNumbered, AllRight, IsNoted, IsTimed, IsLater}
-use Rattle.lease_table.proofs.Lists.{if_passes, some_is}
-use Rattle.lease_table.proofs.Held.{grant_ordered, marked_ordered, recalled_ordered, at_grant, at_mark, at_recalled, not_blocking, first, second}
+use Rattle.lease_table.proofs.lemmas.Lists.{if_passes, some_is}
+use Rattle.lease_table.proofs.lemmas.Held.{grant_ordered, marked_ordered, recalled_ordered, at_grant, at_mark, at_recalled, not_blocking, first, second}
 use Rattle.lease_table.proofs.Messages.{recalls-append, recalls_answered, replies-append, replies_ask, replies_commit, calls-append, commits-append, commits_are_calls, answers-append, all_answers, answers_recalled, none_answered, only_answer, apart_answers, not_below, below_more, below_last, among_last, among_either, apart_last}
 
 -- ---- from claim to claim

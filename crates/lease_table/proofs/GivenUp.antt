@@ -14,7 +14,7 @@ use Rattle.lease_rules.specs.declared.lease.LeaseEntry.{LeaseEntry}
 use Rattle.lease_rules.specs.declared.lease.Lease.{Lease}
 use Rattle.lease_table.specs.Leases.{is_on, without_lease, without_session}
 use Rattle.lease_table.specs.Kept.{by_two, Entries, lease_from, leases_of, held_at, FitsKey}
-use Rattle.lease_table.proofs.Lists.{filter_kept_all, some_is}
+use Rattle.lease_table.proofs.lemmas.Lists.{filter_kept_all, some_is}
 use Rattle.lease_table.proofs.UnderKeys.{at_two}
 
 abbrev Entry : Type 0

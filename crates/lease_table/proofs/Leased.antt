@@ -16,8 +16,8 @@ use Rattle.lease_rules.specs.declared.lease.Lease.{Lease}
 use Rattle.lease_table.specs.Leases.{is_on, is_recall, remembers, blocks, is_wanted_back, is_blocked, others, lease_at, grant, mark, marked, without_lease, without_recalled, without_ended}
 use Rattle.lease_table.specs.Order.{AreOrdered}
 use Rattle.lease_table.specs.Kept.{by_two, Entries, Keys, lease_from, leases_of, held_at, is_listed, is_recalled, is_ending, FitsKey, AreKept}
-use Rattle.lease_table.proofs.Lists.{filter_all, filter_kept_all, some_is}
-use Rattle.lease_table.proofs.Keeping.{one_at, all_found}
+use Rattle.lease_table.proofs.lemmas.Lists.{filter_all, filter_kept_all, some_is}
+use Rattle.lease_table.proofs.lemmas.Keeping.{one_at, all_found}
 use Rattle.lease_table.proofs.UnderKeys.{two_total, two_exact, put_is, removed_is, found_is, ordered_is}
 
 -- ---- one lease

@@ -3,11 +3,8 @@ pub mod Between
 pub mod Claiming
 pub mod Entries
 pub mod GivenUp
-pub mod Held
-pub mod Keeping
 pub mod Leased
 pub mod Listed
-pub mod Lists
 pub mod Looking
 pub mod Merged
 pub mod Messages
@@ -17,3 +14,4 @@ pub mod Placing
 pub mod Running
 pub mod UnderKeys
 pub mod Whole
+pub mod lemmas

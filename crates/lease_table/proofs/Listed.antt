@@ -17,7 +17,7 @@ use Rattle.lease_table.proofs.Merged.{length_inserted}
 use Rattle.lease_rules.specs.declared.lease.LeaseEntry.{LeaseEntry}
 use Rattle.lease_table.specs.Leases.{is_recall}
 use Rattle.lease_table.specs.Kept.{by_two, by_three, Entries, Keys, held_at, is_listed, is_recalled, is_ending, marks, FitsKey, AreKept, unlisted, listed}
-use Rattle.lease_table.proofs.Keeping.{is_same, same_session, same_file}
+use Rattle.lease_table.proofs.lemmas.Keeping.{is_same, same_session, same_file}
 use Rattle.lease_table.proofs.UnderKeys.{two_total, two_exact, three_total, three_exact, at_two, at_three}
 
 -- ---- a lease is looked up where one is put in, or taken out

@@ -6,8 +6,8 @@ use Rattle.std.specs.List.Sorted.{IsPartitionedBy}
 use Rattle.std.specs.Option.{option_to_list}
 use Rattle.std.proofs.lemmas.Bool.{cases_lt}
 use Rattle.std.proofs.lemmas.List.Elements.{recursion_from_All}
-use Rattle.clock_rule.proofs.Keeping.{pairs_head, pairs_tail}
-use Rattle.clock_rule.proofs.Lists.{some_is}
+use Rattle.clock_rule.proofs.lemmas.Keeping.{pairs_head, pairs_tail}
+use Rattle.clock_rule.proofs.lemmas.Lists.{some_is}
 
 -- what stands before something, at it and behind it
 pub record IsProbe {X : Type 0} (R : X → X → Type 0) (p q r : X → Bool) : Type 0 where

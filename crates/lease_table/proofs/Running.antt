@@ -11,7 +11,7 @@ use Rattle.clock_rule.specs.Clocks.{Clocked, event_of}
 use Rattle.clock_rule.specs.Keeping.{KeepRule, KeepsRule, NeverFall, and_reading, servers, events}
 use Rattle.lease_table.specs.Machine.{Machine, Up, Up.Ask, Up.Commit, Up.Reply, Down, Down.Answered, Down.Recall, Event, Event.Open, Event.Fetch, Event.Store, Event.Read, Event.Take, Event.Arrive, Event.Change, Event.Settle, Event.Refuse, Event.Drop, Event.Cut, Event.Hang, Event.Restart, event_at, fresh, is_free, asks_if, opens_by, stores_if, reads_one, unless, answers, takes_one, recalls_if, changes, settles_if, refuses_if, happens, reading_of, after_reading, timed, step, run, start}
 use Rattle.lease_table.specs.Claims.{readings_of, with_reading, KeepsClocks, IsNoted, IsTimed, IsLater, IsKept, AllRight}
-use Rattle.lease_table.proofs.Lists.{pairs_head, pairs_tail}
+use Rattle.lease_table.proofs.lemmas.Lists.{pairs_head, pairs_tail}
 use Rattle.lease_table.proofs.Claiming.{kept_later, kept_happens, kept_start}
 
 -- ---- no event touches the clocks

@@ -17,7 +17,7 @@ use Rattle.log_store.specs.declared.staging.Undone.TheVariants as undone
 use Rattle.log_store.specs.declared.which.Which.{Which}
 use Rattle.log_store.specs.declared.which.FileName.TheVariants.{Record, New}
 use Rattle.log_store.proofs.Steps.{one_step, and_then, weaker, on_ok}
-use Rattle.log_store.proofs.Logs.{says_append}
+use Rattle.log_store.proofs.lemmas.Logs.{says_append}
 
 -- what a record's last line makes of it
 abbrev pub Told : Option Task → Option (List ℕ) → Option (List ℕ) → Option (List ℕ) → Type 0

@@ -18,7 +18,7 @@ use Rattle.log_store.specs.declared.which.Which.{Which}
 use Rattle.log_store.specs.declared.which.FileName.{FileName}
 use Rattle.log_store.specs.declared.which.FileName.TheVariants.{Record, New}
 use Rattle.log_store.proofs.Steps.{one_step, and_then, weaker, nothing, on_ok, always}
-use Rattle.log_store.proofs.Logs.{all_say}
+use Rattle.log_store.proofs.lemmas.Logs.{all_say}
 use Rattle.log_store.proofs.Redo.{kept_missing, quiet_sound, agrees_kept}
 
 -- the records that lines are of

@@ -9,7 +9,7 @@ use Rattle.log_store.specs.declared.carrying.Unfinished.{Unfinished}
 use Rattle.log_store.specs.declared.edit.Edit.{Edit}
 use Rattle.log_store.specs.declared.which.Which.{Which}
 use Rattle.log_store.proofs.Steps.{and_then, weaker, looked_one}
-use Rattle.log_store.proofs.Logs.{covers, all_clear}
+use Rattle.log_store.proofs.lemmas.Logs.{covers, all_clear}
 use Rattle.log_store.proofs.Redo.{looked_sound, relieved_by_looks, relieved_on}
 
 pub held_looked : (records : Records) (past : List Records) (pending more : List Which) (doubt : Bool) (old new : Disk) → IsSound records past pending old → Looked old new → more ≡ pending → HoldsRecords records past more doubt new

@@ -1,5 +1,4 @@
 pub mod Steps
-pub mod Logs
 pub mod Redo
 pub mod Stage
 pub mod Add
@@ -8,3 +7,4 @@ pub mod End
 pub mod Framing
 pub mod Meets
 pub mod Coding
+pub mod lemmas

@@ -9,7 +9,7 @@ use Rattle.log_store.specs.declared.folder.Fault.{Fault}
 use Rattle.log_store.specs.declared.which.Which.{Which}
 use Rattle.log_store.specs.declared.which.FileName.{FileName}
 use Rattle.log_store.specs.declared.which.FileName.TheVariants.{Record, New}
-use Rattle.log_store.proofs.Logs.{self}
+use Rattle.log_store.proofs.lemmas.Logs.{self}
 use Rattle.log_store.proofs.Steps.{always, on_ok}
 
 pub passes : (p : Pending) (here base : Names) (pending : List Operation) (whole : Survives base pending here) (entries : Log) (logs : List Log) → Passes (disk p) (disk (now p here base pending whole entries logs))

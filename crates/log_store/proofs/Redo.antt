@@ -17,7 +17,7 @@ use Rattle.log_store.specs.declared.which.Which.{Which}
 use Rattle.log_store.specs.declared.which.FileName.{FileName}
 use Rattle.log_store.specs.declared.which.FileName.TheVariants.{Record, New}
 use Rattle.log_store.proofs.Steps.{one_step, and_then, weaker, nothing, on_ok, always, looked_one, looked_on}
-use Rattle.log_store.proofs.Logs.{is_same, self, same_or_not, all_say, not_named, named, at_front, behind, some_not_none}
+use Rattle.log_store.proofs.lemmas.Logs.{is_same, self, same_or_not, all_say, not_named, named, at_front, behind, some_not_none}
 
 -- what a cut might have left before, but for the files of a record
 abbrev pub Beside : Which → Disk → Files → Log → Type 0

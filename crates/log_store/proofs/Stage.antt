@@ -15,7 +15,7 @@ use Rattle.log_store.specs.declared.folder.Fault.{Fault}
 use Rattle.log_store.specs.declared.which.Which.{Which}
 use Rattle.log_store.specs.declared.which.FileName.TheVariants.{Record, New}
 use Rattle.log_store.proofs.Steps.{one_step, and_then, weaker, nothing, on_ok}
-use Rattle.log_store.proofs.Logs.{same_or_not}
+use Rattle.log_store.proofs.lemmas.Logs.{same_or_not}
 
 -- what the log doesn't name doesn't matter
 seen_unnamed : (t : Option Task) → moves t ≡ false → (a b x : File) → shown_file t a x ≡ shown_file t b x

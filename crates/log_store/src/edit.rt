@@ -88,7 +88,7 @@ pub fn is_clear(edits: &[Edit<'_>], pending: &[Which]) -> bool
 }
 
 /// Adds the records of such edits to a list. The one error is running out of memory.
-#[tactic(auto, using(crate::proofs::Logs::among_front))]
+#[tactic(auto, using(crate::proofs::lemmas::Logs::among_front))]
 pub(crate) fn push_larges(pending: &mut Vec<Which>, edits: &[Edit<'_>]) -> Result<(), AllocError>
     ensures done { OnOk result (pending.new.items ≡ pending.old.items ++ larges edits.now) }
     ensures stays { (n : Which) → is_among n pending.new.items ≡ false → is_among n pending.old.items ≡ false }

@@ -1,5 +1,5 @@
-pub mod Calls
 mod Clocks
 pub mod Notings
 pub mod Walks
 mod Writes
+pub mod lemmas

@@ -73,7 +73,7 @@ pub fn took_version(
 }
 
 /// An answer while the first piece of an attempt is asked for. An `Err` changes nothing.
-#[tactic(auto, using(file_open::proofs::Pieces::first_listing))]
+#[tactic(auto, using(file_open::proofs::lemmas::Pieces::first_listing))]
 pub fn took_first(
     alloc: Global,
     state: &mut ClientState,
@@ -187,7 +187,7 @@ pub fn took_temp(
 }
 
 /// An answer while chunks are stored. An `Err` changes nothing.
-#[tactic(auto, using(file_close::proofs::Sending::calls_after_answer))]
+#[tactic(auto, using(file_close::proofs::lemmas::Sending::calls_after_answer))]
 pub fn took_stored(
     alloc: Global,
     state: &mut ClientState,

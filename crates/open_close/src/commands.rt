@@ -41,7 +41,7 @@ fn bytes_of(alloc: Global, content: Content) -> Result<Bytes, AllocError>
 
 /// An open file's content with some bytes written at a place, within the limit of a file. Bytes that replace
 /// all of it aren't copied either.
-#[tactic(auto, using(command_text::proofs::Contents::content_size, crate::proofs::Writes::written_whole))]
+#[tactic(auto, using(command_text::proofs::lemmas::Contents::content_size, crate::proofs::Writes::written_whole))]
 fn written(
     alloc: Global,
     local: &Local,

@@ -37,7 +37,7 @@ fn ask_next(alloc: Global, state: &mut ClientState, walk: Walk) -> Result<Client
 }
 
 /// A command on names. An `Err` changes nothing, and comes only where a call is sent.
-#[tactic(auto, using(client_state::proofs::Pending::held_of))]
+#[tactic(auto, using(client_state::proofs::lemmas::Pending::held_of))]
 pub fn walk(
     alloc: Global,
     state: &mut ClientState,

@@ -3,7 +3,7 @@ use Rattle.std.proofs.Common.{◌≡◌, ℕ, ◌≤◌, List, [], ◌∷◌, �
 use Rattle.std.proofs.lemmas.List.Elements.{All-map}
 use Rattle.limits.specs.declared.TheConstants.{RECORD_MOST}
 use Rattle.rpc_record.specs.Records.{Parts, split, stream, CanSend, Came}
-use Rattle.rpc_record.proofs.Streaming.{stream_comes}
+use Rattle.rpc_record.proofs.lemmas.Streaming.{stream_comes}
 use Rattle.wire.specs.Message.{message_spell, MessageFits}
 use Rattle.wire.specs.declared.message.Message.{Message}
 use Rattle.record_ends.specs.Ends.{out_bytes}

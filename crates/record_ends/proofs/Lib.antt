@@ -1,2 +1,2 @@
-pub mod Coming
 pub mod Going
+pub mod lemmas

@@ -6,14 +6,14 @@ use Rattle.rpc_record.specs.Header.{direction_form, front_form, auth_form, call_
 use Rattle.rpc_record.specs.Messages.{call_spell, call_read, CallFits}
 use Rattle.rpc_record.specs.declared.header.Auth.{Auth}
 use Rattle.rpc_record.specs.declared.messages.Call.{Call}
-use Rattle.rpc_record.proofs.Exact.{call_exact, found_is}
+use Rattle.rpc_record.proofs.lemmas.Exact.{call_exact, found_is}
 use Rattle.wire.specs.Message.{program_of, body_version, body_spell, call_head, Says}
 use Rattle.wire.specs.Message.{call_spell as whole_spell}
 use Rattle.wire.specs.Parse.{parse_of}
 use Rattle.wire.specs.declared.message.Body.{Body}
 use Rattle.wire.specs.declared.message.Message.TheVariants as message
-use Rattle.wire.proofs.Again.{call_fits}
-use Rattle.wire.proofs.Said.{read_is_said}
+use Rattle.wire.proofs.lemmas.Again.{call_fits}
+use Rattle.wire.proofs.lemmas.Said.{read_is_said}
 use Rattle.record_show.specs.Line.{any_call}
 
 abbrev header : ℕ → Auth → Auth → Body → Call

@@ -6,7 +6,7 @@ use Rattle.std.proofs.lemmas.Grind.{flat_map-append}
 use Rattle.rpc_record.specs.declared.refusal.Refusal.{Refusal}
 use Rattle.rpc_record.specs.declared.records.Fed.{Fed}
 use Rattle.rpc_record.specs.Records.{Parts, Unread, split, fed, nothing_read, continued}
-use Rattle.rpc_record.proofs.Splitting.{split_cut}
+use Rattle.rpc_record.proofs.lemmas.Splitting.{split_cut}
 use Rattle.record_show.specs.Show.{record_text, end_text, shown}
 
 abbrev unread_of : Parts → Unread

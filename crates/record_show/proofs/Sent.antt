@@ -7,7 +7,7 @@ use Rattle.xdr_codec.specs.Format.{Input, behind}
 use Rattle.xdr_codec.specs.Xdr.{u32_form}
 use Rattle.rpc_record.specs.Records.{Parts, split}
 use Rattle.rpc_record.specs.Framed.{Framed}
-use Rattle.rpc_record.proofs.Framing.{framed_is_split}
+use Rattle.rpc_record.proofs.lemmas.Framing.{framed_is_split}
 use Rattle.rpc_record.specs.Header.{front_form, auth_form, versions_form, accept_form, denial_form, reply_form}
 use Rattle.rpc_record.specs.declared.header.Auth.{Auth}
 use Rattle.rpc_record.specs.declared.header.Direction.TheVariants as direction
@@ -25,7 +25,7 @@ use Rattle.wire.specs.declared.message.RpcRefusal.TheVariants as refusal
 use Rattle.wire.specs.declared.message.Side.TheVariants.{Either}
 use Rattle.wire.specs.declared.fault.WireFault.{WireFault}
 use Rattle.wire.specs.declared.fault.WireFault.TheVariants.{NotRpc, UnknownXid}
-use Rattle.wire.proofs.Again.{front_fits, no_auth_fits, spell_again}
+use Rattle.wire.proofs.lemmas.Again.{front_fits, no_auth_fits, spell_again}
 use Rattle.record_show.specs.Line.{any_call, answer_line, read_line, line_of}
 use Rattle.record_show.specs.Show.{record_text, end_text, parts_text, shown}
 use Rattle.record_show.specs.Sent.{sent_stat, sent_numbers, sent_line, is_known}

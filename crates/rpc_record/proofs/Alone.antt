@@ -8,7 +8,7 @@ use Rattle.rpc_record.specs.declared.fragments.Header.{Header}
 use Rattle.rpc_record.specs.Records.{header_of, Whole, front, record_of, split}
 use Rattle.rpc_record.specs.Progress.{IsAlone}
 use Rattle.rpc_record.proofs.Fronts.{header_long, front_last, append_none}
-use Rattle.rpc_record.proofs.Splitting.{split_whole}
+use Rattle.rpc_record.proofs.lemmas.Splitting.{split_whole}
 
 pub alone_is : (bytes : List ℕ) (h : Header) → header_of bytes ≡ Some h → h.last ≡ true → h.len ≤ RECORD_MOST → length bytes ≡ 4 + h.len → IsAlone bytes
 unfolding record_of

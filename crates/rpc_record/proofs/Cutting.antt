@@ -4,7 +4,7 @@ use Rattle.std.proofs.lemmas.List.{length-drop, drop-drop, drop_all, append-nil}
 use Rattle.rpc_record.specs.declared.refusal.Refusal.{Refusal}
 use Rattle.rpc_record.specs.Records.{Whole, Begun, Bad, record_of, Parts, split, HasRecord}
 use Rattle.rpc_record.specs.Progress.{EndsAt}
-use Rattle.rpc_record.proofs.Splitting.{with_records, split_whole, split_begun, split_bad}
+use Rattle.rpc_record.proofs.lemmas.Splitting.{with_records, split_whole, split_begun, split_bad}
 
 pub contents_are : (a b c d : List ℕ) → Whole a b ≡ Whole c d → a ≡ c
 contents_are a b c d e = cc

@@ -1,13 +1,10 @@
 pub mod Fronts
 pub mod Reaching
-pub mod Splitting
-pub mod Streaming
 pub mod Joining
 pub mod Cutting
 pub mod Alone
 pub mod Headers
-pub mod Exact
-pub mod Framing
 pub mod Reframing
 pub mod Spoiling
 pub mod Refusing
+pub mod lemmas

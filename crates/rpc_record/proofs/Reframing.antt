@@ -15,7 +15,7 @@ use Rattle.rpc_record.specs.declared.fragments.Header.{Header}
 use Rattle.rpc_record.specs.Records.{header_word, header_of, Front, Whole, Begun, Bad, front, record_of, split_in, split}
 use Rattle.rpc_record.specs.Framed.{fragment_spell, Cutting, cutting_contents, cutting_spell, CuttingFits, Framed, IsFramed}
 use Rattle.rpc_record.proofs.Fronts.{header_long, front_none, front_out, front_big, front_short, front_last, front_more, big, short, last, more, shape, append_none}
-use Rattle.rpc_record.proofs.Splitting.{in_whole, in_begun, in_bad, whole_shorter, nothing_begun}
+use Rattle.rpc_record.proofs.lemmas.Splitting.{in_whole, in_begun, in_bad, whole_shorter, nothing_begun}
 
 abbrev pub top : Bool → ℕ
 top b = if b then 2 ^ 31 else 0

@@ -13,7 +13,7 @@ use Rattle.rpc_record.specs.declared.refusal.HeaderError.TheVariants.{Xdr, BadTy
 use Rattle.rpc_record.specs.Header.{reply_form}
 use Rattle.rpc_record.specs.Messages.{read_then, if_kind, message_read, call_body, call_read, reply_read}
 use Rattle.rpc_record.specs.Refused.{NoType, OtherType, EndsEarly, BodyFault, IsRefusal}
-use Rattle.rpc_record.proofs.Exact.{found, make_call, make_reply, small_fits}
+use Rattle.rpc_record.proofs.lemmas.Exact.{found, make_call, make_reply, small_fits}
 
 abbrev pub refused_with : {A : Type 0} → HeaderError → Result A HeaderError
 refused_with why = Err why

@@ -16,9 +16,9 @@ use Rattle.rpc_record.specs.Records.{header_word, header_of, Whole, Begun, Bad, 
 use Rattle.rpc_record.specs.Framed.{header_spell, fragment_spell, Framed, cutting_spell, IsFramed, Ends}
 use Rattle.rpc_record.specs.Spoilt.{Start, start_spell, StartFits, Breaks, SpoiltBehind, Spoils}
 use Rattle.rpc_record.proofs.Fronts.{header_long, fragment_big, front_none, front_out, out_big, out_many, front_some, front_later, front_big, front_short, front_last, front_more, big, short, last, more, shape, append_none}
-use Rattle.rpc_record.proofs.Splitting.{with_records, split_bad, pieces_fed}
-use Rattle.rpc_record.proofs.Streaming.{header_at, word_header}
-use Rattle.rpc_record.proofs.Framing.{word_other, other_reads, framed_is_split}
+use Rattle.rpc_record.proofs.lemmas.Splitting.{with_records, split_bad, pieces_fed}
+use Rattle.rpc_record.proofs.lemmas.Streaming.{header_at, word_header}
+use Rattle.rpc_record.proofs.lemmas.Framing.{word_other, other_reads, framed_is_split}
 use Rattle.rpc_record.proofs.Reframing.{header_back, fragment_back, some_is, split_is_framed}
 
 -- ---- a start that breaks a limit is refused

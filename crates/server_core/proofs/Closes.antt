@@ -18,7 +18,7 @@ use Rattle.server_core.specs.Recalling.{comes}
 use Rattle.server_core.specs.Steps.{to}
 use Rattle.server_core.specs.State.{State, FileChange, change_of, size_wanted, waiting_size}
 use Rattle.server_core.specs.declared.change.Wanted.TheVariants as wanted
-use Rattle.temp_files.proofs.Joins.{joined_size}
+use Rattle.temp_files.proofs.lemmas.Joins.{joined_size}
 
 -- ---- COMMITTMP
 

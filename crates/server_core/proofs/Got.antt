@@ -12,7 +12,7 @@ use Rattle.chunk_cut.specs.Chunks.{chunks_of}
 use Rattle.tree_nodes.specs.declared.node.Node.{Node}
 use Rattle.tree_nodes.specs.declared.node.Body.TheVariants.{File as Content}
 use Rattle.tree_nodes.specs.Nodes.{with_id}
-use Rattle.tree_nodes.proofs.Lists.{with_id_changed}
+use Rattle.tree_nodes.proofs.lemmas.Lists.{with_id_changed}
 use Rattle.tree_reading.specs.Chain.{◌>>=◌}
 use Rattle.tree_reading.specs.Plans.{replace_plan, spared, spared_bytes, within_file}
 use Rattle.file_tree.specs.Step.{replaced, replace_if}

@@ -3,7 +3,7 @@ use Rattle.std.proofs.Common.{◌≡◌, ℕ, zero, suc, ◌+◌, ◌≤◌, Lis
 use Rattle.std.specs.Prelude.{◌==◌, cond, not, filter, slice_get}
 use Rattle.std.specs.List.{AllByRecursion}
 use Rattle.std.proofs.lemmas.Bool.Decides.{nat_tests}
-use Rattle.lease_table.proofs.Lists.{some_is}
+use Rattle.lease_table.proofs.lemmas.Lists.{some_is}
 use Rattle.server_core.specs.State.{FileChange, size_wanted, waiting_size, entries_wanted, entries_held}
 use Rattle.server_core.specs.View.{IsMade}
 

@@ -10,7 +10,7 @@ use Rattle.server_core.specs.declared.event.ServerStep.{ServerStep}
 use Rattle.server_core.specs.State.{State}
 use Rattle.server_held.specs.Kept.{KeepsTree, Steps}
 use Rattle.server_law.specs.Facts.{Holds}
-use Rattle.server_law.proofs.Steps.{step_told, misses_told}
+use Rattle.server_law.proofs.lemmas.Steps.{step_told, misses_told}
 
 pub steps_hold : (opening : Tree) (before after : ℕ) (s : State) (e : Event) (n : State) (step : ServerStep) → Steps before after s e n step → Holds opening s → Holds opening n
 steps_hold opening before after s e n step h held = by step.missed refl

@@ -19,7 +19,7 @@ use Rattle.server_held.specs.declared.held.SharedServer.{SharedServer}
 use Rattle.server_held.specs.declared.held.Went.{Went}
 use Rattle.server_held.specs.Held.{given_up, given_up_if, hung, is_farewell, Took, Joined, Left, After, Unheard, Unread}
 use Rattle.server_law.specs.Growth.{Grows, MayAdd}
-use Rattle.server_law.proofs.Growth.{step_grows, misses_grows}
+use Rattle.server_law.proofs.lemmas.Growth.{step_grows, misses_grows}
 
 steps_grow : (before after : ℕ) (s : State) (e : Event) (n : State) (step : ServerStep) → Steps before after s e n step → Grows s n
 steps_grow before after s e n step h = by step.missed refl

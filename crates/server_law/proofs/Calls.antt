@@ -20,11 +20,11 @@ use Rattle.tree_calls.specs.Telling.{id_of, told}
 use Rattle.file_tree.specs.Stores.{stored}
 use Rattle.tree_calls.specs.Changing.{before, mode_of, created, made_directory, removed_directory, removed, renamed, with_done, renames_under}
 use Rattle.tree_calls.specs.Waiting.{told_outcome, gives_content_under, with_committed, settles_under, removes_if_under, renames_if_under, remove_again, rename_again, calls_under, creates_in_under, mkdirs_in_under, rmdirs_in_under, removes_in, removing, asks_remove, renaming_under, asks_rename, renames_in_under}
-use Rattle.server_law.proofs.Asked.{asked_holds}
+use Rattle.server_law.proofs.lemmas.Asked.{asked_holds}
 use Rattle.server_law.proofs.Changes.{TellsChange, tells_create, tells_mkdir, tells_remove, tells_rmdir, tells_rename}
 use Rattle.server_law.proofs.Facts.{IsTelling, tells_none, tells_replaced}
-use Rattle.server_law.proofs.TreeCalls.{replace_in}
-use Rattle.server_law.proofs.Trees.{IsGiven}
+use Rattle.server_law.proofs.lemmas.TreeCalls.{replace_in}
+use Rattle.server_law.proofs.lemmas.Trees.{IsGiven}
 
 abbrev pub TellsDone : Tree → ℕ → Tree × Done → Type 0
 TellsDone t session p = IsTelling t session p.1.first p.1.second p.0

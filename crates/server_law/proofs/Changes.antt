@@ -16,11 +16,11 @@ use Rattle.tree_reading.specs.declared.call.CreateMode.{CreateMode}
 use Rattle.tree_reading.specs.declared.call.Reservation.{Reservation}
 use Rattle.tree_reading.specs.declared.call.Planned.{Planned}
 use Rattle.tree_reading.specs.declared.call.Planned.TheVariants as planned_as
-use Rattle.tree_reading.proofs.Admitted.{IsPlannedGone, remove_there, rmdir_there, rename_there}
-use Rattle.file_tree.proofs.States.{named_id}
+use Rattle.tree_reading.proofs.lemmas.Admitted.{IsPlannedGone, remove_there, rmdir_there, rename_there}
+use Rattle.file_tree.proofs.lemmas.States.{named_id}
 use Rattle.server_law.proofs.Facts.{IsTelling, tells_none, tells_file, tells_directory, tells_removed, tells_replaced, tells_moved, tells_over}
-use Rattle.server_law.proofs.TreeCalls.{bind_ok, ok_is, create_in, mkdir_in, remove_in, rmdir_in, rename_in, replace_in, no_file_in, HasDirectory}
-use Rattle.server_law.proofs.Trees.{IsGiven}
+use Rattle.server_law.proofs.lemmas.TreeCalls.{bind_ok, ok_is, create_in, mkdir_in, remove_in, rmdir_in, rename_in, replace_in, no_file_in, HasDirectory}
+use Rattle.server_law.proofs.lemmas.Trees.{IsGiven}
 
 abbrev pub TellsChange : Tree → ℕ → Tree → Result Changed Status → Type 0
 TellsChange t session u (Err s) = IsTelling t session None None u

@@ -6,7 +6,7 @@ use Rattle.tree_nodes.specs.declared.node.Node.{Node}
 use Rattle.tree_nodes.specs.declared.node.Body.{Body}
 use Rattle.tree_nodes.specs.declared.node.Body.TheVariants.{Directory, File as Plain}
 use Rattle.tree_nodes.specs.Nodes.{with_id, without}
-use Rattle.tree_nodes.proofs.Lists.{with_id_without}
+use Rattle.tree_nodes.proofs.lemmas.Lists.{with_id_without}
 use Rattle.tree_reading.specs.Tree.{Tree, is_directory}
 use Rattle.tree_reading.specs.Plans.{made_entry, name_entry, commit_entry, gone_entry}
 use Rattle.file_tree.specs.Step.{made, removed, moved, replaced, new_file, new_directory}
@@ -15,7 +15,7 @@ use Rattle.server_core.specs.declared.journal.Entry.{Entry}
 use Rattle.server_core.specs.Closing.{entry_by, entries_by}
 use Rattle.chunk_calls.specs.Files.{File, file_of_body, file_of_node, file_at}
 use Rattle.server_law.specs.Facts.{Fact, fact_of, fact_at, fact_after, facts_after, IsNext, AreNext}
-use Rattle.server_law.proofs.Trees.{IsGiven, next_free, NoFile, made_files, removed_files, replaced_own, replaced_other, moved_at_files, without_none}
+use Rattle.server_law.proofs.lemmas.Trees.{IsGiven, next_free, NoFile, made_files, removed_files, replaced_own, replaced_other, moved_at_files, without_none}
 
 -- from the one tree to the other by these entries
 pub record IsTelling (t : Tree) (session : ℕ) (first second : Option TreeEntry) (u : Tree) : Type 0 where

@@ -1,3 +1,3 @@
 pub mod Again
-pub mod Sizes
 pub mod Texts
+pub mod lemmas

@@ -5,7 +5,7 @@ use Rattle.std.specs.Str.{bytes_eq}
 use Rattle.std.proofs.lemmas.List.{append-nil, nil_from_length}
 use Rattle.std.specs.Prelude.{decimal}
 use Rattle.command_text.specs.Fields.{number_of}
-use Rattle.command_text.proofs.Decimals.{number_again}
+use Rattle.command_text.proofs.lemmas.Decimals.{number_again}
 use Rattle.log_store.specs.declared.which.Which.{Which}
 use Rattle.log_store.specs.declared.which.Which.TheVariants as which
 use Rattle.system_folder.specs.Names.{name_of, which_of, lettered_by, made_bytes, made_name, IsWord}

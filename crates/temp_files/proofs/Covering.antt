@@ -6,7 +6,7 @@ use Rattle.std.proofs.lemmas.List.{take-append-drop, take_at, drop_at}
 use Rattle.std.proofs.lemmas.List.Elements.{All-nil, All-cons, All-head, All-tail}
 use Rattle.temp_files.specs.Pieces.{Piece, StandApart, joined}
 use Rattle.temp_files.specs.Covered.{has_place, IsCovered, ComesTo}
-use Rattle.temp_files.proofs.Joins.{behind}
+use Rattle.temp_files.proofs.lemmas.Joins.{behind}
 
 -- ---- who has a place
 

@@ -12,7 +12,7 @@ use Rattle.std.proofs.lemmas.List.{take-append-drop, take_all, take-append-le, d
 use Rattle.temp_files.specs.Laid.{cut_up, AreLengthsOf, laid, IsNext}
 use Rattle.temp_files.specs.Pieces.{Piece, StandApart, overlaps, range_fault, and_piece, joined, all_bytes, size_most}
 use Rattle.temp_files.proofs.Apart.{no_fault}
-use Rattle.temp_files.proofs.Joins.{cover_step}
+use Rattle.temp_files.proofs.lemmas.Joins.{cover_step}
 
 -- ---- a piece of the list
 

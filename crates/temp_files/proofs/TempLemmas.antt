@@ -6,7 +6,7 @@ use Rattle.std.specs.List.Sorted.{IsStrictlySortedBy}
 use Rattle.std.specs.Map.{keys_of, set_value}
 use Rattle.std.specs.Ordering.{nat_cmp}
 use Rattle.temp_files.specs.Temps.{Temp, key_of, temp_at, with_temp, without_temp, with_piece, with_more, IsTempKeyed}
-use Rattle.temp_files.proofs.Entries.{inserted_itself, inserted_another, removed_itself, removed_another, set_as_inserted, All-inserted, All-at}
+use Rattle.temp_files.proofs.lemmas.Entries.{inserted_itself, inserted_another, removed_itself, removed_another, set_as_inserted, All-inserted, All-at}
 
 -- under its own number it is the new one
 pub temp_at_itself : (temps : List (ℕ × Temp)) (t : Temp) → temp_at (with_temp temps t) t.session t.fd ≡ Some t

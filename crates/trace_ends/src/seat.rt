@@ -163,7 +163,7 @@ impl Seat {
     }
 
     /// The client gets these items of a cache file. The one error is running out of memory.
-    #[tactic(auto, using(client_state::proofs::Warming::all_entered))]
+    #[tactic(auto, using(client_state::proofs::lemmas::Warming::all_entered))]
     pub fn warms(&mut self, alloc: Global, items: &[Bytes]) -> Result<(), AllocError>
         ensures { OnOk result (self.new ≡ record self.old { client = warms self.old.client items.now }) }
     {

@@ -19,7 +19,7 @@ use Rattle.trace_ends.specs.Numbers.{numbered}
 use Rattle.trace_replay.specs.World.{World}
 use Rattle.trace_replay.specs.Run.{line_most, file_most, asks_if, place_for, sized, file_asks, directory_asks, joins_within, joins_if, event_asks, asks_at, asks, asks_within, asked}
 use Rattle.trace_replay.specs.Turns.{IsTurnBounded}
-use Rattle.trace_replay.proofs.Warming.{warms_turn, warm_taken}
+use Rattle.trace_replay.proofs.lemmas.Warming.{warms_turn, warm_taken}
 
 abbrev asking : Turn → Result Turn LineFault
 asking t = Ok t

@@ -4,5 +4,4 @@ pub mod Pieces
 pub mod Rounds
 pub mod Bounded
 pub mod Applied
-pub mod Going
-pub mod Warming
+pub mod lemmas

@@ -44,7 +44,7 @@ pub fn run_lines(
 
 /// The world that a trace comes to. `Refused`: the first line that is refused, or the one behind the
 /// last where the header is not whole.
-#[tactic(auto, using(crate::proofs::Going::accepted_at_end))]
+#[tactic(auto, using(crate::proofs::lemmas::Going::accepted_at_end))]
 pub fn run(alloc: Global, input: &[u8]) -> Result<World, TraceError>
     ensures { ComesTo result (accepted input.now) }
 {

@@ -6,7 +6,7 @@ use Rattle.std.proofs.Math.Seq.{take-add}
 use Rattle.rpc_record.specs.declared.refusal.Refusal.{Refusal}
 use Rattle.rpc_record.specs.declared.records.Fed.{Fed}
 use Rattle.rpc_record.specs.Records.{Unread, Parts, fed, split, continued}
-use Rattle.rpc_record.proofs.Splitting.{split_cut}
+use Rattle.rpc_record.proofs.lemmas.Splitting.{split_cut}
 use Rattle.trace_text.specs.declared.line.Amount.{Amount}
 use Rattle.trace_text.specs.declared.line.Amount.TheVariants as amount
 use Rattle.trace_wires.specs.declared.queue.Given.{Given}

@@ -11,8 +11,8 @@ use Rattle.store.specs.declared.record.Kept.TheVariants as kept
 use Rattle.store.specs.declared.record.NodeKind.{NodeKind}
 use Rattle.store.specs.declared.record.NodeKind.TheVariants as node_kind
 use Rattle.store.specs.declared.record.NodeRecord.{NodeRecord}
-use Rattle.tree_nodes.proofs.Gathering.{found_all}
-use Rattle.tree_nodes.proofs.Order.{not_true}
+use Rattle.tree_nodes.proofs.lemmas.Gathering.{found_all}
+use Rattle.tree_nodes.proofs.lemmas.Order.{not_true}
 use Rattle.tree_nodes.specs.Nodes.{with_id}
 use Rattle.tree_nodes.specs.declared.node.Node.{Node}
 use Rattle.tree_nodes.specs.declared.node.Body.TheVariants.{Directory, File}

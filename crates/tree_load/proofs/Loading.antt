@@ -9,7 +9,7 @@ use Rattle.store.specs.declared.record.Kept.TheVariants as kept
 use Rattle.tree_nodes.specs.Nodes.{with_nodes, AreApart}
 use Rattle.tree_nodes.specs.View.{NodesState}
 use Rattle.tree_nodes.specs.declared.node.Node.{Node}
-use Rattle.file_tree.proofs.Stored.{empty_stored}
+use Rattle.file_tree.proofs.lemmas.Stored.{empty_stored}
 use Rattle.file_tree.specs.Storing.{IsStored}
 use Rattle.tree_reading.specs.Tree.{Tree, root, empty}
 use Rattle.tree_reading.specs.View.{tree_of}

@@ -14,8 +14,8 @@ use Rattle.std.proofs.lemmas.Bool.Decides.{nat_tests}
 use Rattle.std.proofs.lemmas.Option.{slice_get_read}
 use Rattle.store.specs.declared.record.Kept.{Kept}
 use Rattle.store.specs.declared.record.Kept.TheVariants as kept
-use Rattle.tree_nodes.proofs.Lists.{named_if}
-use Rattle.tree_nodes.proofs.Order.{key_total, named_is}
+use Rattle.tree_nodes.proofs.lemmas.Lists.{named_if}
+use Rattle.tree_nodes.proofs.lemmas.Order.{key_total, named_is}
 use Rattle.tree_nodes.specs.Nodes.{place_cmp}
 use Rattle.tree_nodes.specs.declared.node.Node.{Node}
 use Rattle.tree_nodes.specs.declared.node.Body.TheVariants.{Directory}

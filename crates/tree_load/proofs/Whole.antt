@@ -11,14 +11,14 @@ use Rattle.store.specs.declared.record.Kept.TheVariants as kept
 use Rattle.store.specs.declared.record.NodeKind.{NodeKind}
 use Rattle.store.specs.declared.record.NodeKind.TheVariants as node_kind
 use Rattle.store.specs.declared.record.NodeRecord.{NodeRecord}
-use Rattle.tree_nodes.proofs.Gathering.{AreNew, new_first, new_moved, found_all}
-use Rattle.tree_nodes.proofs.Lists.{all_with}
-use Rattle.tree_nodes.proofs.Order.{named_is, not_true}
+use Rattle.tree_nodes.proofs.lemmas.Gathering.{AreNew, new_first, new_moved, found_all}
+use Rattle.tree_nodes.proofs.lemmas.Lists.{all_with}
+use Rattle.tree_nodes.proofs.lemmas.Order.{named_is, not_true}
 use Rattle.tree_nodes.specs.Nodes.{with_node, with_nodes, Differ, AreApart}
 use Rattle.tree_nodes.specs.View.{NodesState}
 use Rattle.tree_nodes.specs.declared.node.Node.{Node}
 use Rattle.tree_nodes.specs.declared.node.Body.TheVariants.{Directory, File}
-use Rattle.file_tree.proofs.Limits.{apart_with, size_with}
+use Rattle.file_tree.proofs.lemmas.Limits.{apart_with, size_with}
 use Rattle.tree_reading.specs.Tree.{changes_most, file_most, tree_most, root, content_of, contents_size}
 use Rattle.file_tree.specs.Storing.{AreWhole}
 use Rattle.tree_reading.specs.View.{IsNodeBounded}

@@ -10,8 +10,8 @@ use Rattle.tree_nodes.specs.declared.slot.Slot.TheVariants.{Gone, Taken}
 use Rattle.tree_nodes.specs.Nodes.{before, named, with_id, with_node, without, changed, AreInOrder}
 use Rattle.tree_nodes.specs.Table.{slot_id, node_in, or_blank, node_at, AreRising, shown, taken_at, place_for, IsTaken, IsTable}
 use Rattle.tree_nodes.proofs.Fronts.{all_map, all_at, some_is}
-use Rattle.tree_nodes.proofs.Order.{before_itself}
-use Rattle.tree_nodes.proofs.Lists.{with_at, in_order_with, with_id_with, with_id_without, with_id_changed, in_order_filter, in_order_changed}
+use Rattle.tree_nodes.proofs.lemmas.Order.{before_itself}
+use Rattle.tree_nodes.proofs.lemmas.Lists.{with_at, in_order_with, with_id_with, with_id_without, with_id_changed, in_order_filter, in_order_changed}
 
 -- ---- a slot set
 

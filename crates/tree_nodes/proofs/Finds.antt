@@ -9,7 +9,7 @@ use Rattle.tree_nodes.specs.declared.slot.Slot.TheVariants.{Gone, Taken}
 use Rattle.tree_nodes.specs.Nodes.{before, named, AreInOrder}
 use Rattle.tree_nodes.specs.Table.{kept_by, slot_id, node_in, node_at, before_at, shown, place_for, first_from, taken_at, AreRising}
 use Rattle.tree_nodes.proofs.Fronts.{IsFoundAt, found_at, front_le, front_not, front_yes, all_map}
-use Rattle.tree_nodes.proofs.Order.{is_named, found, parted}
+use Rattle.tree_nodes.proofs.lemmas.Order.{is_named, found, parted}
 
 -- ---- by id
 

@@ -2,12 +2,10 @@ pub mod Adding
 pub mod Changes
 pub mod Finds
 pub mod Fronts
-pub mod Gathering
 pub mod Keyed
-pub mod Lists
-pub mod Order
 pub mod Ranges
 pub mod Removing
 pub mod Renewing
 pub mod Rising
 pub mod Starts
+pub mod lemmas

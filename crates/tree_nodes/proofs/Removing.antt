@@ -8,8 +8,8 @@ use Rattle.tree_nodes.specs.Nodes.{named, with_node, without, AreInOrder}
 use Rattle.tree_nodes.specs.Table.{shown, node_at, node_in, or_blank, place_for, IsTable}
 use Rattle.tree_nodes.proofs.Changes.{shown_less, table_less, shown_put, table_put, get_same, self_test}
 use Rattle.tree_nodes.proofs.Fronts.{some_is}
-use Rattle.tree_nodes.proofs.Order.{is_named, found, named_not_before}
-use Rattle.tree_nodes.proofs.Lists.{find_first}
+use Rattle.tree_nodes.proofs.lemmas.Order.{is_named, found, named_not_before}
+use Rattle.tree_nodes.proofs.lemmas.Lists.{find_first}
 
 pub less : (slots slots' : List Slot) (order order' : List ℕ) (next i k : ℕ) (n : Node) → IsTable slots order next → slice_get order i ≡ Some k → slice_get slots k ≡ Some (Taken n) → slots' ≡ set slots k (Gone n.id) → order' ≡ remove order i → shown slots' order' ≡ without (shown slots order) n.id
 less slots slots' order order' next i k n t at is slots_are order_is = subst (λ z. shown z order' ≡ without (shown slots order) n.id) (sym slots_are) (subst (λ z. shown (set slots k (Gone n.id)) z ≡ without (shown slots order) n.id) (sym order_is) (shown_less slots order next i k n t at is))

@@ -7,7 +7,7 @@ use Rattle.tree_nodes.specs.declared.node.Node.{Node}
 use Rattle.tree_nodes.specs.declared.slot.Slot.{Slot}
 use Rattle.tree_nodes.specs.declared.slot.Slot.TheVariants.{Gone, Taken}
 use Rattle.tree_nodes.specs.Nodes.{with_id, changed, versioned}
-use Rattle.tree_nodes.proofs.Lists.{find_first}
+use Rattle.tree_nodes.proofs.lemmas.Lists.{find_first}
 use Rattle.tree_nodes.specs.Table.{shown, slot_id, node_in, kept_by, taken_at, first_from, AreRising, IsTable, IsNodeAt}
 use Rattle.tree_nodes.proofs.Finds.{id_found}
 use Rattle.tree_nodes.proofs.Changes.{shown_changed, table_changed}

@@ -1,3 +1,2 @@
-pub mod Admitted
-pub mod Found
 pub mod Pages
+pub mod lemmas

@@ -8,7 +8,7 @@ use Rattle.nfs3_calls.specs.declared.listing.Listing.{Listing}
 use Rattle.tree_reading.specs.Reading.{attr_of, entry_size, page, listing_of}
 use Rattle.tree_nodes.specs.declared.node.Node.{Node}
 use Rattle.std.proofs.lemmas.List.{drop-drop}
-use Rattle.tree_reading.proofs.Found.{some_is}
+use Rattle.tree_reading.proofs.lemmas.Found.{some_is}
 
 -- of nodes in a row, the first and those behind it
 taken_more : (n : Node) (ns : List Node) (k : ℕ) → 0 < k → take k (n ∷ ns) ≡ n ∷ take (k - 1) ns

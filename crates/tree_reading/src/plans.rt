@@ -98,7 +98,7 @@ pub fn may_remove<'a>(
 }
 
 /// The directory that RMDIR removes.
-#[tactic(auto, using(crate::proofs::Found::id_fits))]
+#[tactic(auto, using(crate::proofs::lemmas::Found::id_fits))]
 pub fn may_rmdir<'a>(
     nodes: &'a Nodes,
     changes: u64,
@@ -209,7 +209,7 @@ pub fn replace(
 }
 
 /// What RENAME comes to where the names stand for different nodes.
-#[tactic(auto, using(crate::proofs::Found::id_fits))]
+#[tactic(auto, using(crate::proofs::lemmas::Found::id_fits))]
 fn rename_over(
     nodes: &Nodes,
     changes: u64,
@@ -267,7 +267,7 @@ fn rename_found(
 }
 
 /// What RENAME comes to.
-#[tactic(auto, using(crate::proofs::Found::version_fits))]
+#[tactic(auto, using(crate::proofs::lemmas::Found::version_fits))]
 pub fn rename(
     nodes: &Nodes,
     changes: u64,

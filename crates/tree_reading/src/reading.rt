@@ -94,7 +94,7 @@ pub fn attr_of(nodes: &Nodes, node: &Node) -> Attr
 }
 
 /// The attributes of a node of a tree.
-#[tactic(auto, using(crate::proofs::Found::id_fits, crate::proofs::Found::version_fits))]
+#[tactic(auto, using(crate::proofs::lemmas::Found::id_fits, crate::proofs::lemmas::Found::version_fits))]
 fn attr_within(nodes: &Nodes, changes: u64, node: &Node) -> Attr
     requires bounded { AreBounded nodes.now changes }
     requires node { IsNodeBounded nodes.now.next changes node.now }

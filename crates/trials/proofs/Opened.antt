@@ -5,7 +5,7 @@ use Rattle.store.specs.declared.record.Kept.{Kept}
 use Rattle.server_core.specs.State.{State, empty, entries_held}
 use Rattle.server_held.specs.Kept.{KeepsTree}
 use Rattle.server_law.specs.Facts.{IsGiven, Holds}
-use Rattle.server_law.proofs.Steps.{opening_told}
+use Rattle.server_law.proofs.lemmas.Steps.{opening_told}
 
 pub nothing_held : (server : State) (spare : ℕ) → server ≡ empty → entries_held server.waiting ≤ spare
 nothing_held server spare is = subst (λ s. entries_held s.waiting ≤ spare) (sym is) (omega arith)

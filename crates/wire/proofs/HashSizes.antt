@@ -23,7 +23,7 @@ use Rattle.hash_calls.specs.declared.message.Lb.TheVariants as lb
 use Rattle.hash_calls.specs.declared.message.Back.{Back}
 use Rattle.hash_calls.specs.declared.message.Back.TheVariants as back
 use Rattle.wire.specs.Size.{small_names, IsSmallLb}
-use Rattle.wire.proofs.Bounds.{AtMost, most_within, most_nothing, most_u32, most_u64, most_bool, most_then, most_fixed, most_opaque, most_handle, most_attr, flat_most, most_optional, most_answer}
+use Rattle.wire.proofs.lemmas.Bounds.{AtMost, most_within, most_nothing, most_u32, most_u64, most_bool, most_then, most_fixed, most_opaque, most_handle, most_attr, flat_most, most_optional, most_answer}
 
 -- an offset or a size, and another number
 wide_most : AtMost (u64_form ⋆ u32_form) 12

@@ -1,9 +1,6 @@
 pub mod Named
-pub mod Again
-pub mod Said
 pub mod Refusals
-pub mod Bounds
 pub mod NfsSizes
 pub mod HashSizes
-pub mod Sizes
 pub mod Sent
+pub mod lemmas

@@ -20,7 +20,7 @@ use Rattle.nfs3_calls.specs.declared.making.NewDir.{NewDir}
 use Rattle.nfs3_calls.specs.declared.message.Nfs.{Nfs}
 use Rattle.nfs3_calls.specs.declared.message.Nfs.TheVariants as nfs
 use Rattle.wire.specs.Size.{IsSmallNfs, small_names}
-use Rattle.wire.proofs.Bounds.{AtMost, most_within, most_nothing, most_u32, most_u64, most_bool, most_then, most_opaque, most_handle, most_time, most_attr, most_tagged, most_embedded, most_optional, most_done, most_failed, most_answer}
+use Rattle.wire.proofs.lemmas.Bounds.{AtMost, most_within, most_nothing, most_u32, most_u64, most_bool, most_then, most_opaque, most_handle, most_time, most_attr, most_tagged, most_embedded, most_optional, most_done, most_failed, most_answer}
 
 -- ---- parts
 

@@ -23,8 +23,8 @@ use Rattle.wire.specs.declared.message.RpcRefusal.TheVariants as refusal
 use Rattle.wire.specs.declared.message.Waiting.{Waiting}
 use Rattle.wire.specs.declared.message.Message.{Message}
 use Rattle.wire.specs.declared.message.Message.TheVariants.{Call, Answer, Refuse, Unfit}
-use Rattle.wire.proofs.Again.{args_again, begins, two_fits, said_again, front_fits}
-use Rattle.wire.proofs.Said.{message_is, read_or_ok, args_found, xid_fits, read_is_said}
+use Rattle.wire.proofs.lemmas.Again.{args_again, begins, two_fits, said_again, front_fits}
+use Rattle.wire.proofs.lemmas.Said.{message_is, read_or_ok, args_found, xid_fits, read_is_said}
 use Rattle.wire.proofs.Named.{IsNamed, NamesNone, Names, called_names, names_called}
 
 -- ---- what comes of a call, and of a reply

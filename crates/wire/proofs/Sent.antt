@@ -20,9 +20,9 @@ use Rattle.wire.specs.declared.message.Side.{Side}
 use Rattle.wire.specs.declared.message.Waiting.{Waiting}
 use Rattle.wire.specs.declared.message.Message.{Message}
 use Rattle.wire.specs.declared.message.Message.TheVariants.{Call, Answer, Refuse, Unfit}
-use Rattle.wire.proofs.Again.{spell_again}
+use Rattle.wire.proofs.lemmas.Again.{spell_again}
 use Rattle.wire.proofs.Refusals.{have_causes}
-use Rattle.wire.proofs.Sizes.{small_fits}
+use Rattle.wire.proofs.lemmas.Sizes.{small_fits}
 
 least_fits : (p : Program) → least_version p < 2 ^ 32
 least_fits (program.Nfs x) = lit< tt

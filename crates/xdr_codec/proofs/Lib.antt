@@ -1,4 +1,4 @@
 pub mod Reading
-pub mod Loop
 pub mod Handles
 pub mod Programs
+pub mod lemmas

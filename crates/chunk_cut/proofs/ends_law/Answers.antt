@@ -1,4 +1,4 @@
-use Rattle.chunk_cut.proofs.Only.{are_ends, only_ends, chunks_are}
+use Rattle.chunk_cut.proofs.lemmas.Only.{are_ends, only_ends, chunks_are}
 use Rattle.chunk_cut.proofs.ends_law.Goals as goal
 
 pub returns : goal.returns

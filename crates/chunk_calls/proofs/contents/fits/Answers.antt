@@ -2,7 +2,7 @@ use Rattle.std.proofs.Common.{◌≡◌, Option, Some, List, ℕ, ◌∙◌, sym
 use Rattle.std.specs.Prelude.{is_some}
 use Rattle.std.specs.Option.{option_copied}
 use Rattle.temp_files.specs.Temps.{Temp, temp_at, whole_of, assembled}
-use Rattle.temp_files.proofs.Joins.{whole_is}
+use Rattle.temp_files.proofs.lemmas.Joins.{whole_is}
 use Rattle.chunk_calls.proofs.contents.fits.Goals as goal
 
 pub returns-in-Some : goal.returns-in-Some

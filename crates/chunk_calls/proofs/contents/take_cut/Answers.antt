@@ -4,8 +4,8 @@ use Rattle.std.specs.Option.{option_copied, option_map}
 use Rattle.chunk_cut.specs.Chunks.{chunks_of}
 use Rattle.temp_files.specs.Pieces.{all_bytes}
 use Rattle.temp_files.specs.Temps.{Temp, temp_at, whole_of, assembled}
-use Rattle.temp_files.proofs.Entries.{some_same}
-use Rattle.temp_files.proofs.Joins.{whole_length}
+use Rattle.temp_files.proofs.lemmas.Entries.{some_same}
+use Rattle.temp_files.proofs.lemmas.Joins.{whole_length}
 use Rattle.chunk_calls.proofs.Pieces.{whole_bytes}
 use Rattle.chunk_calls.proofs.contents.take_cut.Goals as goal
 

@@ -1,4 +1,4 @@
-use Rattle.clock_rule.proofs.Whole.{taken_whole}
+use Rattle.clock_rule.proofs.lemmas.Whole.{taken_whole}
 use Rattle.clock_rule.proofs.laws.readings_keep_the_rule.Goals as goal
 
 pub returns : goal.returns

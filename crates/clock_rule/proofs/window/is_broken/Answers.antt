@@ -1,7 +1,7 @@
 use Rattle.std.proofs.Common.{◌≡◌, false, sym, ◌∙◌}
 use Rattle.clock_rule.specs.declared.rule.Note.{Note}
 use Rattle.clock_rule.specs.Clocks.{breaks}
-use Rattle.clock_rule.proofs.Lists.{at_any}
+use Rattle.clock_rule.proofs.lemmas.Lists.{at_any}
 use Rattle.clock_rule.proofs.Least.{none_breaks}
 use Rattle.clock_rule.proofs.window.is_broken.Goals as goal
 

@@ -1,7 +1,7 @@
 use Rattle.std.proofs.Common.{◌-◌, false, arith, subst, IsTrue}
 use Rattle.clock_rule.specs.declared.rule.Note.{Note}
 use Rattle.clock_rule.specs.Windows.{Covers}
-use Rattle.clock_rule.proofs.Lists.{at_any}
+use Rattle.clock_rule.proofs.lemmas.Lists.{at_any}
 use Rattle.clock_rule.proofs.Least.{rise_below}
 use Rattle.clock_rule.proofs.window.kept.Goals as goal
 

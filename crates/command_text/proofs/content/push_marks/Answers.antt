@@ -1,6 +1,6 @@
 use Rattle.std.proofs.Common.{◌++◌}
 use Rattle.command_text.specs.Content.{marks}
-use Rattle.command_text.proofs.Contents.{marks_go_on}
+use Rattle.command_text.proofs.lemmas.Contents.{marks_go_on}
 use Rattle.command_text.proofs.content.push_marks.Goals as goal
 
 pub loop-preserved : goal.loop-preserved

@@ -1,6 +1,6 @@
 use Rattle.std.proofs.Common.{◌++◌}
 use Rattle.command_text.specs.Content.{random_bytes}
-use Rattle.command_text.proofs.Contents.{random_goes_on}
+use Rattle.command_text.proofs.lemmas.Contents.{random_goes_on}
 use Rattle.command_text.proofs.content.push_random.Goals as goal
 
 pub loop-preserved : goal.loop-preserved

@@ -1,4 +1,4 @@
-use Rattle.command_text.proofs.Decimals.{number_again, number_only}
+use Rattle.command_text.proofs.lemmas.Decimals.{number_again, number_only}
 use Rattle.command_text.proofs.laws.numbers_are_decimal.Goals as goal
 
 pub returns-clause-read : goal.returns-clause-read

@@ -2,7 +2,7 @@ use Rattle.std.proofs.Common.{◌≡◌, ◌+◌, ◌-◌, ap, sym, subst, ◌�
 use Rattle.std.specs.Prelude.{slice_get}
 use Rattle.file_close.specs.Closing.{Names, names_next, names_more}
 use Rattle.file_close.specs.Sending.{IsSendingNames}
-use Rattle.file_close.proofs.Sending.{names_kept, names_step}
+use Rattle.file_close.proofs.lemmas.Sending.{names_kept, names_step}
 use Rattle.file_close.proofs.calls.name_all.Goals as goal
 
 pub loop-i-preserved : goal.loop-i-preserved

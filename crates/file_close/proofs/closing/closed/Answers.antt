@@ -11,9 +11,9 @@ use Rattle.client_state.specs.Ending.{forgets}
 use Rattle.client_state.specs.View.{state_of, IsKeptBounded}
 use Rattle.client_state.specs.declared.step.ClientStep.{ClientStep}
 use Rattle.client_state.specs.declared.step.Outcome.TheVariants as outcome
-use Rattle.client_state.proofs.Bounds.{local_small}
-use Rattle.client_state.proofs.Keeping.{bounded_kept}
-use Rattle.client_state.proofs.Pending.{held_cache}
+use Rattle.client_state.proofs.lemmas.Bounds.{local_small}
+use Rattle.client_state.proofs.lemmas.Keeping.{bounded_kept}
+use Rattle.client_state.proofs.lemmas.Pending.{held_cache}
 use Rattle.file_close.proofs.closing.closed.Goals as goal
 
 pub keep_cut-requires : goal.keep_cut-requires

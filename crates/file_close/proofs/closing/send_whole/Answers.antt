@@ -1,7 +1,7 @@
 use Rattle.std.proofs.Common.{◌+◌, ◌<◌, sym, subst}
 use Rattle.client_state.specs.View.{store_left}
 use Rattle.client_state.specs.declared.task.Upload.{Upload}
-use Rattle.file_close.proofs.Sending.{whole_xids}
+use Rattle.file_close.proofs.lemmas.Sending.{whole_xids}
 use Rattle.file_close.proofs.closing.send_whole.Goals as goal
 
 pub wait-requires-clause-xids : goal.wait-requires-clause-xids

@@ -2,7 +2,7 @@ use Rattle.std.proofs.Common.{◌≡◌, sym, ap, subst, ◌∙◌, List}
 use Rattle.std.specs.Prelude.{slice_get, Some, OnOk}
 use Rattle.chunk_cut.specs.declared.chunk.Chunk.{Chunk}
 use Rattle.file_open.specs.Opening.{Reads}
-use Rattle.client_state.proofs.Bounds.{chunk_bounded}
+use Rattle.client_state.proofs.lemmas.Bounds.{chunk_bounded}
 use Rattle.file_open.proofs.Sending.{next_is}
 use Rattle.file_open.proofs.Slots.{slot_there}
 use Rattle.file_open.proofs.calls.read_next.Goals as goal

@@ -5,8 +5,8 @@ use Rattle.client_cache.specs.Cache.{Entries, kept_of, with_content}
 use Rattle.transfer_rules.specs.Limits.{file_limit}
 use Rattle.client_state.specs.State.{State, with_local}
 use Rattle.client_state.specs.View.{state_of, IsKeptBounded}
-use Rattle.client_state.proofs.Keeping.{bounded_kept}
-use Rattle.client_state.proofs.Pending.{held_cache}
+use Rattle.client_state.proofs.lemmas.Keeping.{bounded_kept}
+use Rattle.client_state.proofs.lemmas.Pending.{held_cache}
 use Rattle.file_open.proofs.kept.keep_open.Goals as goal
 
 pub keep-requires : goal.keep-requires

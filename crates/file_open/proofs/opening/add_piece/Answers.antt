@@ -3,11 +3,11 @@ use Rattle.file_open.specs.Opening.{with_hashes}
 use Rattle.client_state.specs.State.{State}
 use Rattle.file_open.specs.Fetching.{lists_on}
 use Rattle.client_state.specs.declared.step.ClientStep.{ClientStep}
-use Rattle.file_open.proofs.Comings.{comes_ok}
+use Rattle.file_open.proofs.lemmas.Comings.{comes_ok}
 use Rattle.client_state.specs.declared.task.Fetch.{Fetch}
 use Rattle.client_state.specs.declared.task.Stage.TheVariants as stage
 use Rattle.client_state.specs.View.{state_of, IsFetch, IsListing, IsReading, HasXids}
-use Rattle.file_open.proofs.Pieces.{goes_on, is_whole, more_xids, read_xids}
+use Rattle.file_open.proofs.lemmas.Pieces.{goes_on, is_whole, more_xids, read_xids}
 use Rattle.file_open.proofs.Slots.{listed_fits}
 use Rattle.file_open.proofs.opening.add_piece.Goals as goal
 

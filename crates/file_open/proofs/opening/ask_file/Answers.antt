@@ -9,7 +9,7 @@ use Rattle.file_open.specs.Opening.{lease_call, hash_call}
 use Rattle.client_state.specs.State.{State}
 use Rattle.client_state.specs.View.{state_of}
 use Rattle.client_state.specs.declared.task.Stage.TheVariants as stage
-use Rattle.file_open.proofs.Comings.{sent_one}
+use Rattle.file_open.proofs.lemmas.Comings.{sent_one}
 use Rattle.file_open.proofs.Keeping.{asks_version, asks_hashes}
 use Rattle.file_open.proofs.opening.ask_file.Goals as goal
 

@@ -14,8 +14,8 @@ use Rattle.client_state.specs.Ending.{forgets}
 use Rattle.client_state.specs.View.{state_of}
 use Rattle.client_state.specs.declared.step.ClientStep.{ClientStep}
 use Rattle.client_state.specs.declared.step.Outcome.TheVariants as outcome
-use Rattle.file_open.proofs.Comings.{comes_at}
-use Rattle.client_state.proofs.Pending.{held_index}
+use Rattle.file_open.proofs.lemmas.Comings.{comes_at}
+use Rattle.client_state.proofs.lemmas.Pending.{held_index}
 use Rattle.file_open.proofs.Slots.{slots_small}
 use Rattle.file_open.proofs.opening.opened_with.Goals as goal
 

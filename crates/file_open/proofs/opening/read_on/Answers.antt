@@ -7,7 +7,7 @@ use Rattle.client_state.specs.State.{State}
 use Rattle.file_open.specs.Fetching.{Comes, reads_if, reads_on}
 use Rattle.client_state.specs.View.{state_of}
 use Rattle.client_state.specs.declared.step.ClientStep.{ClientStep}
-use Rattle.file_open.proofs.Comings.{comes_ok}
+use Rattle.file_open.proofs.lemmas.Comings.{comes_ok}
 use Rattle.file_open.proofs.Going.{reads_named, enters_named}
 use Rattle.file_open.proofs.opening.read_on.Goals as goal
 

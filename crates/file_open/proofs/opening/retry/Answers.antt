@@ -9,7 +9,7 @@ use Rattle.client_state.specs.State.{State}
 use Rattle.client_state.specs.Ending.{forgets}
 use Rattle.client_state.specs.View.{state_of}
 use Rattle.client_state.specs.declared.task.Stage.TheVariants as stage
-use Rattle.file_open.proofs.Comings.{sent_one}
+use Rattle.file_open.proofs.lemmas.Comings.{sent_one}
 use Rattle.file_open.proofs.opening.retry.Goals as goal
 
 pub returns-clause-ok : goal.returns-clause-ok

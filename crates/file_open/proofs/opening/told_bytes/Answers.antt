@@ -6,7 +6,7 @@ use Rattle.file_open.specs.Fetching.{misfits, told_bytes}
 use Rattle.client_state.specs.View.{state_of, IsReading}
 use Rattle.client_state.specs.declared.step.BadPeer.{BadPeer}
 use Rattle.client_state.specs.declared.step.ClientStep.{ClientStep}
-use Rattle.file_open.proofs.Comings.{comes_ok}
+use Rattle.file_open.proofs.lemmas.Comings.{comes_ok}
 use Rattle.file_open.proofs.Slots.{bytes_kept}
 use Rattle.file_open.proofs.opening.told_bytes.Goals as goal
 

@@ -6,7 +6,7 @@ use Rattle.client_state.specs.State.{State}
 use Rattle.file_open.specs.Fetching.{Comes, told_shape, told_version}
 use Rattle.client_state.specs.View.{state_of}
 use Rattle.client_state.specs.declared.step.ClientStep.{ClientStep}
-use Rattle.file_open.proofs.Comings.{comes_ok, comes_so}
+use Rattle.file_open.proofs.lemmas.Comings.{comes_ok, comes_so}
 use Rattle.file_open.proofs.opening.told_hashes.Goals as goal
 
 pub returns-in-Some-clause-ok : goal.returns-in-Some-clause-ok

@@ -8,7 +8,7 @@ use Rattle.file_open.specs.Fetching.{Comes, told_chunk, told_piece}
 use Rattle.client_state.specs.View.{state_of}
 use Rattle.client_state.specs.declared.step.ClientStep.{ClientStep}
 use Rattle.client_state.specs.declared.task.ReadCall.{ReadCall}
-use Rattle.file_open.proofs.Comings.{comes_so}
+use Rattle.file_open.proofs.lemmas.Comings.{comes_so}
 use Rattle.file_open.proofs.opening.told_piece.Goals as goal
 
 pub returns-in-Some-chunk_at-clause-ok : goal.returns-in-Some-chunk_at-clause-ok

@@ -6,7 +6,7 @@ use Rattle.client_state.specs.State.{State}
 use Rattle.client_state.specs.View.{state_of}
 use Rattle.client_state.specs.declared.step.ClientStep.{ClientStep}
 use Rattle.client_state.specs.declared.task.Stage.TheVariants as stage
-use Rattle.client_state.proofs.Pending.{held_index}
+use Rattle.client_state.proofs.lemmas.Pending.{held_index}
 use Rattle.file_open.proofs.opening.wait_reads.Goals as goal
 
 pub set_waiting-requires-clause-held : goal.set_waiting-requires-clause-held

@@ -3,10 +3,10 @@ use Rattle.std.specs.Prelude.{Option, None, OnErr}
 use Rattle.client_state.specs.Ending.{is_open}
 use Rattle.client_state.specs.View.{state_of}
 use Rattle.client_state.specs.declared.task.Task.{Task}
-use Rattle.client_state.proofs.Pending.{no_task}
+use Rattle.client_state.proofs.lemmas.Pending.{no_task}
 use Rattle.file_open.specs.Caching.{fresh_content}
 use Rattle.file_open.specs.Fetching.{MayMissOpen, MayMissKept}
-use Rattle.file_open.proofs.Comings.{on_err_both}
+use Rattle.file_open.proofs.lemmas.Comings.{on_err_both}
 use Rattle.file_open.proofs.rewriting.rewrite.Goals as goal
 
 pub returns-clause-sure : goal.returns-clause-sure

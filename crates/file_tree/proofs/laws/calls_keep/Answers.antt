@@ -1,5 +1,5 @@
 use Rattle.std.proofs.Common.{length}
-use Rattle.file_tree.proofs.Stored.{create_stored, mkdir_stored, remove_stored, rmdir_stored, rename_stored, replace_stored}
+use Rattle.file_tree.proofs.lemmas.Stored.{create_stored, mkdir_stored, remove_stored, rmdir_stored, rename_stored, replace_stored}
 use Rattle.file_tree.proofs.laws.calls_keep.Goals as goal
 
 pub returns-clause-create : goal.returns-clause-create

@@ -5,8 +5,8 @@ use Rattle.tree_reading.specs.declared.call.Planned.{Planned}
 use Rattle.tree_reading.specs.Tree.{Tree}
 use Rattle.tree_reading.specs.Plans.{rename_plan, IsPlannedMove}
 use Rattle.file_tree.specs.State.{state_of}
-use Rattle.tree_reading.proofs.Admitted.{rename_there}
-use Rattle.file_tree.proofs.Limits.{bounds}
+use Rattle.tree_reading.proofs.lemmas.Admitted.{rename_there}
+use Rattle.file_tree.proofs.lemmas.Limits.{bounds}
 use Rattle.file_tree.proofs.steps.plan_rename.Goals as goal
 
 planned_ok : (t : Tree) (held : Reservation) (dir : ℕ) (name : List ℕ) (to : ℕ) (to_name : List ℕ) (r : Result Planned Status) → r ≡ rename_plan t held dir name to to_name → IfOk r (IsPlannedMove t dir name to to_name)

@@ -1,6 +1,6 @@
 use Rattle.std.proofs.lemmas.Result.{err_from_is_err_and}
 use Rattle.xdr_codec.specs.Repeat.{repeated_read}
-use Rattle.xdr_codec.proofs.Loop.{goes_on, ends}
+use Rattle.xdr_codec.proofs.lemmas.Loop.{goes_on, ends}
 use Rattle.hash_calls.specs.Calls.{pair_form}
 use Rattle.hash_calls.proofs.hashing.read_many.Goals as goal
 

@@ -1,4 +1,4 @@
-use Rattle.shell_words.proofs.Sizes.{left_size}
+use Rattle.shell_words.proofs.lemmas.Sizes.{left_size}
 use Rattle.host.proofs.host_folder.names_in.Given as goal
 
 abbrev pub decreases-names : goal.decreases-names

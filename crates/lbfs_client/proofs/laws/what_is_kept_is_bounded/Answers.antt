@@ -1,4 +1,4 @@
-use Rattle.lbfs_client.proofs.Bounds.{is_bounded}
+use Rattle.lbfs_client.proofs.lemmas.Bounds.{is_bounded}
 use Rattle.lbfs_client.proofs.laws.what_is_kept_is_bounded.Goals as goal
 
 pub returns : goal.returns

@@ -1,6 +1,6 @@
 use denote.Exit.{no}
 use denote.Param.Send.{param_send, arg_send}
-use Rattle.lbfs_server.proofs.Sending.{held_sent}
+use Rattle.lbfs_server.proofs.lemmas.Sending.{held_sent}
 use Rattle.lbfs_server.proofs.Serving.{is_front_in}
 use Rattle.lbfs_server.proofs.serve.serve.Goals as goal
 

@@ -1,5 +1,5 @@
-use Rattle.lease_law.proofs.Events.{event_lasts, missed_lasts}
-use Rattle.lease_law.proofs.Fresh.{fresh_holds}
+use Rattle.lease_law.proofs.lemmas.Events.{event_lasts, missed_lasts}
+use Rattle.lease_law.proofs.lemmas.Fresh.{fresh_holds}
 use Rattle.lease_law.proofs.law.claims_last.Goals as goal
 
 pub returns-clause-event : goal.returns-clause-event

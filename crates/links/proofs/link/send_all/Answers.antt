@@ -1,7 +1,7 @@
 use Rattle.std.proofs.Common.{◌+◌, ◌-◌, ◌≡◌, ◌≤◌, take, drop, length, arith, length-drop, ◌∙◌}
 use Rattle.std.proofs.Math.Seq.{take-add}
 use Rattle.std.proofs.lemmas.List.{take_all}
-use Rattle.lb_base.proofs.KnownLemmas.{appends_more}
+use Rattle.lb_base.proofs.lemmas.KnownLemmas.{appends_more}
 use Rattle.links.proofs.link.send_all.Goals as goal
 
 pub loop-given-preserved : goal.loop-given-preserved

@@ -1,5 +1,5 @@
 use Rattle.std.proofs.Common.{sym, ◌∙◌}
-use Rattle.log_store.proofs.Logs.{not_named}
+use Rattle.log_store.proofs.lemmas.Logs.{not_named}
 use Rattle.log_store.proofs.Redo.{passes, passed, says, carried}
 use Rattle.log_store.proofs.carrying.carry_last.Goals as goal
 

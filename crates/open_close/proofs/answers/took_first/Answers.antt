@@ -2,7 +2,7 @@ use Rattle.std.proofs.Common.{◌≡◌, rules}
 use Rattle.open_close.specs.Step.{takes}
 use Rattle.client_state.specs.View.{state_of}
 use Rattle.client_state.specs.declared.task.Stage.TheVariants as stage
-use Rattle.file_open.proofs.Comings.{comes_so}
+use Rattle.file_open.proofs.lemmas.Comings.{comes_so}
 use Rattle.open_close.proofs.answers.took_first.Goals as goal
 
 pub returns-in-Failed-clause-ok : goal.returns-in-Failed-clause-ok

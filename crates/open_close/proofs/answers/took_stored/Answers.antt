@@ -3,7 +3,7 @@ use Rattle.file_close.specs.Closing.{store_at}
 use Rattle.client_state.specs.View.{calls_after, store_left}
 use Rattle.client_state.specs.declared.task.Upload.{Upload}
 use Rattle.client_state.specs.declared.task.UploadCall.{UploadCall}
-use Rattle.file_close.proofs.Sending.{calls_after_answer}
+use Rattle.file_close.proofs.lemmas.Sending.{calls_after_answer}
 use Rattle.open_close.proofs.answers.took_stored.Goals as goal
 
 pub told_chunk-requires-clause-xids : goal.told_chunk-requires-clause-xids

@@ -2,7 +2,7 @@ use Rattle.std.proofs.Common.{◌≡◌, rules}
 use Rattle.wire.specs.declared.message.Message.TheVariants as message
 use Rattle.open_close.specs.Step.{got_message}
 use Rattle.client_state.specs.View.{state_of}
-use Rattle.file_open.proofs.Comings.{comes_so}
+use Rattle.file_open.proofs.lemmas.Comings.{comes_so}
 use Rattle.open_close.proofs.taking.answered.Goals as goal
 
 pub returns-then-not-has_call-clause-ok : goal.returns-then-not-has_call-clause-ok

@@ -1,7 +1,7 @@
 use Rattle.std.proofs.Common.{◌≡◌, rules}
 use Rattle.open_close.specs.Step.{hears}
 use Rattle.client_state.specs.View.{state_of}
-use Rattle.file_open.proofs.Comings.{comes_so}
+use Rattle.file_open.proofs.lemmas.Comings.{comes_so}
 use Rattle.open_close.proofs.taking.got.Goals as goal
 
 pub returns-in-Err-clause-ok : goal.returns-in-Err-clause-ok

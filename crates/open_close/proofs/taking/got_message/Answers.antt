@@ -2,7 +2,7 @@ use Rattle.std.proofs.Common.{◌≡◌, rules, ap}
 use Rattle.open_close.specs.Step.{got_message}
 use Rattle.client_state.specs.View.{state_of}
 use Rattle.client_state.specs.declared.step.ClientStep.{ClientStep}
-use Rattle.file_open.proofs.Comings.{comes_so}
+use Rattle.file_open.proofs.lemmas.Comings.{comes_so}
 use Rattle.open_close.proofs.taking.got_message.Goals as goal
 
 pub returns-in-Refuse-clause-ok : goal.returns-in-Refuse-clause-ok

@@ -2,7 +2,7 @@ use Rattle.std.proofs.Common.{◌≡◌, rules, IfOk}
 use Rattle.open_close.specs.Step.{takes}
 use Rattle.client_state.specs.View.{state_of}
 use Rattle.client_state.specs.declared.step.ClientStep.{ClientStep}
-use Rattle.file_open.proofs.Comings.{comes_so, comes_ok}
+use Rattle.file_open.proofs.lemmas.Comings.{comes_so, comes_ok}
 use Rattle.open_close.proofs.taking.takes.Goals as goal
 
 pub returns-in-Asking-clause-ok : goal.returns-in-Asking-clause-ok

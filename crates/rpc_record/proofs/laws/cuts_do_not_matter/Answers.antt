@@ -1,4 +1,4 @@
-use Rattle.rpc_record.proofs.Splitting.{pieces_fed, split_cut}
+use Rattle.rpc_record.proofs.lemmas.Splitting.{pieces_fed, split_cut}
 use Rattle.rpc_record.proofs.laws.cuts_do_not_matter.Goals as goal
 
 pub returns-clause-pieces : goal.returns-clause-pieces

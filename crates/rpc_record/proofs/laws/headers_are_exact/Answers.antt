@@ -1,4 +1,4 @@
-use Rattle.rpc_record.proofs.Exact.{call_exact, reply_exact}
+use Rattle.rpc_record.proofs.lemmas.Exact.{call_exact, reply_exact}
 use Rattle.rpc_record.proofs.laws.headers_are_exact.Goals as goal
 
 pub returns-clause-calls : goal.returns-clause-calls

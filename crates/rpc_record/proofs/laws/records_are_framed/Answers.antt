@@ -1,4 +1,4 @@
-use Rattle.rpc_record.proofs.Framing.{framed_is_split, fed_leaves, fed_unframed}
+use Rattle.rpc_record.proofs.lemmas.Framing.{framed_is_split, fed_leaves, fed_unframed}
 use Rattle.rpc_record.proofs.Reframing.{split_is_framed}
 use Rattle.rpc_record.proofs.laws.records_are_framed.Goals as goal
 

@@ -1,4 +1,4 @@
-use Rattle.rpc_record.proofs.Streaming.{stream_comes}
+use Rattle.rpc_record.proofs.lemmas.Streaming.{stream_comes}
 use Rattle.rpc_record.proofs.laws.streams_come_whole.Goals as goal
 
 pub returns : goal.returns

@@ -1,4 +1,4 @@
-use Rattle.server_law.proofs.Steps.{opening_told, step_told, misses_told, gives_up_told}
+use Rattle.server_law.proofs.lemmas.Steps.{opening_told, step_told, misses_told, gives_up_told}
 use Rattle.server_law.proofs.law.journal_tells.Goals as goal
 
 pub returns-clause-opening : goal.returns-clause-opening

@@ -1,7 +1,7 @@
 use Rattle.std.proofs.Common.{◌≡◌}
 use Rattle.command_text.specs.Parts.{cut_at, parts_left}
 use Rattle.shell_words.specs.Paths.{walked}
-use Rattle.shell_words.proofs.Sizes.{left_size}
+use Rattle.shell_words.proofs.lemmas.Sizes.{left_size}
 use Rattle.shell_words.proofs.path.walked.Given as goal
 
 abbrev pub invariant-parts : goal.invariant-parts

@@ -1,6 +1,6 @@
 use Rattle.std.proofs.Common.{◌≡◌, ◌∙◌, sym, arith}
 use Rattle.std.proofs.lemmas.Bool.Decides.{nat_tests}
-use Rattle.temp_files.proofs.Joins.{within_most}
+use Rattle.temp_files.proofs.lemmas.Joins.{within_most}
 use Rattle.temp_files.proofs.pieces.cover.Goals as goal
 
 pub overflow_add-end : goal.overflow_add-end

@@ -7,7 +7,7 @@ use Rattle.std.proofs.lemmas.Map.Steps.{set_value_same}
 use Rattle.std.proofs.lemmas.Result.{IfOk-weaker}
 use Rattle.temp_files.specs.Pieces.{all_bytes}
 use Rattle.temp_files.specs.Temps.{Temp, temp_at, whole_of, assembled}
-use Rattle.temp_files.proofs.Joins.{whole_is}
+use Rattle.temp_files.proofs.lemmas.Joins.{whole_is}
 use Rattle.temp_files.proofs.temps.share_of.Goals as goal
 
 pub returns-clause-exact : goal.returns-clause-exact

@@ -1,7 +1,7 @@
 use Rattle.std.proofs.Common.{None, sym, ◌∙◌}
 use Rattle.temp_files.specs.Temps.{IsTempKeyed, temp_at}
-use Rattle.temp_files.proofs.Entries.{All-removed}
-use Rattle.temp_files.proofs.Joins.{none_some}
+use Rattle.temp_files.proofs.lemmas.Entries.{All-removed}
+use Rattle.temp_files.proofs.lemmas.Joins.{none_some}
 use Rattle.temp_files.proofs.Wholes.{comes}
 use Rattle.temp_files.proofs.temps.take.Goals as goal
 

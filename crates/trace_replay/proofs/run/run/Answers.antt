@@ -1,5 +1,5 @@
 use Rattle.std.proofs.Common.{rules}
-use Rattle.trace_replay.proofs.Going.{runs_through, stops_short}
+use Rattle.trace_replay.proofs.lemmas.Going.{runs_through, stops_short}
 use Rattle.trace_replay.proofs.run.run.Goals as goal
 
 pub returns-then-in_header : goal.returns-then-in_header

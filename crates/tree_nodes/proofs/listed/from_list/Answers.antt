@@ -1,7 +1,7 @@
 use Rattle.std.proofs.Common.{rules, ◌≡◌, ◌∷◌, ◌∙◌, ap, subst, []}
 use Rattle.std.specs.Map.{values_of}
 use Rattle.tree_nodes.specs.Risen.{risen_with}
-use Rattle.tree_nodes.proofs.Gathering.{AreFilled, none_filled, one_filled, is_fresh, still_sound, values_keyed}
+use Rattle.tree_nodes.proofs.lemmas.Gathering.{AreFilled, none_filled, one_filled, is_fresh, still_sound, values_keyed}
 use Rattle.tree_nodes.proofs.listed.from_list.Goals as goal
 
 pub loop-node-init : goal.loop-node-init

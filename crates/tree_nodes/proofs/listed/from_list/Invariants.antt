@@ -1,4 +1,4 @@
-use Rattle.tree_nodes.proofs.Gathering.{AreFilled}
+use Rattle.tree_nodes.proofs.lemmas.Gathering.{AreFilled}
 use Rattle.tree_nodes.proofs.listed.from_list.Given as goal
 
 abbrev pub invariant-loop-node : goal.invariant-loop-node

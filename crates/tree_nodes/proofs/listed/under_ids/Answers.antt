@@ -1,6 +1,6 @@
 use Rattle.std.proofs.Common.{◌≡◌, sym, subst, []}
 use Rattle.std.specs.Vec.Iter.{into_iter_items}
-use Rattle.tree_nodes.proofs.Gathering.{AreUnderIds, none_under, one_under}
+use Rattle.tree_nodes.proofs.lemmas.Gathering.{AreUnderIds, none_under, one_under}
 use Rattle.tree_nodes.proofs.listed.under_ids.Goals as goal
 
 pub loop-node-init : goal.loop-node-init

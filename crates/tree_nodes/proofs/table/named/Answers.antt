@@ -1,7 +1,7 @@
 use Rattle.std.proofs.Common.{ap, ◌∙◌}
 use Rattle.std.specs.List.{slice_get}
 use Rattle.tree_nodes.specs.Table.{kept_by, shown}
-use Rattle.tree_nodes.proofs.Order.{is_named}
+use Rattle.tree_nodes.proofs.lemmas.Order.{is_named}
 use Rattle.tree_nodes.proofs.Finds.{name_found}
 use Rattle.tree_nodes.proofs.table.named.Goals as goal
 

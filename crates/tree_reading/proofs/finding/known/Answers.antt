@@ -1,4 +1,4 @@
-use Rattle.tree_reading.proofs.Found.{id_ok}
+use Rattle.tree_reading.proofs.lemmas.Found.{id_ok}
 use Rattle.tree_reading.proofs.finding.known.Goals as goal
 
 pub returns-clause-bounded : goal.returns-clause-bounded

@@ -1,4 +1,4 @@
-use Rattle.tree_reading.proofs.Found.{named_ok}
+use Rattle.tree_reading.proofs.lemmas.Found.{named_ok}
 use Rattle.tree_reading.proofs.finding.named_within.Goals as goal
 
 pub returns-clause-bounded : goal.returns-clause-bounded

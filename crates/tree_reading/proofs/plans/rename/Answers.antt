@@ -1,4 +1,4 @@
-use Rattle.tree_reading.proofs.Found.{named_some}
+use Rattle.tree_reading.proofs.lemmas.Found.{named_some}
 use Rattle.tree_reading.proofs.plans.rename.Goals as goal
 
 pub rename_found-requires-clause-found : goal.rename_found-requires-clause-found

@@ -1,4 +1,4 @@
-use Rattle.tree_reading.proofs.Found.{node_short}
+use Rattle.tree_reading.proofs.lemmas.Found.{node_short}
 use Rattle.tree_reading.proofs.reading.node.Goals as goal
 
 pub returns-clause-short : goal.returns-clause-short

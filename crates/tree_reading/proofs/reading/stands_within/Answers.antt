@@ -1,4 +1,4 @@
-use Rattle.tree_reading.proofs.Found.{looked_ok}
+use Rattle.tree_reading.proofs.lemmas.Found.{looked_ok}
 use Rattle.tree_reading.proofs.reading.stands_within.Goals as goal
 
 pub returns-clause-bounded : goal.returns-clause-bounded

@@ -1,6 +1,6 @@
 use denote.Exit.{no}
 use denote.Param.Send.{param_send, arg_send}
-use Rattle.lbfs_server.proofs.Sending.{held_sent}
+use Rattle.lbfs_server.proofs.lemmas.Sending.{held_sent}
 use Rattle.trials.specs.contracts.tried_store.TriedStore.{the_row}
 use Rattle.trials.specs.contracts.tried_store.TriedStoreStore.TheImpl.{ghosts}
 use Rattle.trials.proofs.tried_store.TriedStore.TheSendSync.{the_send}

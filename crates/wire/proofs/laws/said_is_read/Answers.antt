@@ -1,4 +1,4 @@
-use Rattle.wire.proofs.Again.{said_again}
+use Rattle.wire.proofs.lemmas.Again.{said_again}
 use Rattle.wire.proofs.laws.said_is_read.Goals as goal
 
 pub returns : goal.returns

@@ -1,4 +1,4 @@
-use Rattle.wire.proofs.Again.{spell_again}
+use Rattle.wire.proofs.lemmas.Again.{spell_again}
 use Rattle.wire.proofs.laws.sent_is_read.Goals as goal
 
 pub returns : goal.returns

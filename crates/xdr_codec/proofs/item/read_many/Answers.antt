@@ -1,6 +1,6 @@
 use Rattle.std.proofs.lemmas.Result.{err_from_is_err_and}
 use Rattle.xdr_codec.specs.Repeat.{repeated_read}
-use Rattle.xdr_codec.proofs.Loop.{goes_on, ends}
+use Rattle.xdr_codec.proofs.lemmas.Loop.{goes_on, ends}
 use Rattle.xdr_codec.proofs.item.read_many.Goals as goal
 
 pub returns-in_err-item : goal.returns-in_err-item

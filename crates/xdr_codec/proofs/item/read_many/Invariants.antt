@@ -1,6 +1,6 @@
 use Rattle.std.proofs.Common.{◌≡◌, ◌-◌}
 use Rattle.xdr_codec.specs.Repeat.{repeated_read}
-use Rattle.xdr_codec.proofs.Loop.{with_front}
+use Rattle.xdr_codec.proofs.lemmas.Loop.{with_front}
 use Rattle.xdr_codec.proofs.item.read_many.Given as goal
 
 abbrev pub invariant-loop : goal.invariant-loop

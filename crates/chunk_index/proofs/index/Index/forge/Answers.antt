@@ -2,7 +2,7 @@ use Rattle.std.proofs.Common.{◌∙◌, ap, ℕ}
 use Rattle.lru.specs.LruCache.{LruCache}
 use Rattle.chunk_index.specs.declared.place.Place.{Place}
 use Rattle.chunk_index.specs.Index.{Indexed, put}
-use Rattle.chunk_index.proofs.Recent.{put_fits, put_leaves}
+use Rattle.chunk_index.proofs.lemmas.Recent.{put_fits, put_leaves}
 use Rattle.chunk_index.proofs.index.Index.forge.Goals as goal
 
 -- what a contract sees of a cache

@@ -4,7 +4,7 @@ use Rattle.lru.specs.LruCache.{LruCache}
 use Rattle.client_cache.specs.declared.kept.Kept.{Kept}
 use Rattle.client_cache.specs.Cache.{kept_of}
 use Rattle.client_cache.proofs.Entries.{bounded, keeps_within}
-use Rattle.client_cache.proofs.There.{kept_there}
+use Rattle.client_cache.proofs.lemmas.There.{kept_there}
 use Rattle.client_cache.proofs.cache.Cache.keep_cut.Goals as goal
 
 pub invariant_of-self : goal.invariant_of-self

@@ -5,7 +5,7 @@ use Rattle.lru.specs.LruCache.{LruCache}
 use Rattle.client_cache.specs.declared.kept.Kept.{Kept}
 use Rattle.client_cache.specs.Cache.{kept_of}
 use Rattle.client_cache.proofs.Entries.{bounded_given}
-use Rattle.client_cache.proofs.There.{reserved_there}
+use Rattle.client_cache.proofs.lemmas.There.{reserved_there}
 use Rattle.client_cache.proofs.cache.Cache.reserve.Goals as goal
 
 pub invariant_of-self : goal.invariant_of-self

@@ -1,4 +1,4 @@
-use Rattle.client_state.proofs.Pending.{sound_index}
+use Rattle.client_state.proofs.lemmas.Pending.{sound_index}
 use Rattle.client_state.proofs.state.ClientState.clear_index.Goals as goal
 
 pub returns-clause-sound : goal.returns-clause-sound

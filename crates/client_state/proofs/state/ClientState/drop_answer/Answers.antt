@@ -6,7 +6,7 @@ use Rattle.client_state.specs.Counting.{nothing_done, sends}
 use Rattle.client_state.specs.State.{State, without_call}
 use Rattle.client_state.specs.View.{state_of}
 use Rattle.client_state.specs.declared.step.ClientStep.{ClientStep}
-use Rattle.client_state.proofs.Pending.{dropped_rest, dropped_sound}
+use Rattle.client_state.proofs.lemmas.Pending.{dropped_rest, dropped_sound}
 use Rattle.client_state.proofs.state.ClientState.drop_answer.Goals as goal
 
 pub returns-clause-ok : goal.returns-clause-ok

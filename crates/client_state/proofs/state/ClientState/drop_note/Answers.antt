@@ -2,8 +2,8 @@ use Rattle.std.proofs.Common.{sym, subst}
 use Rattle.std.specs.List.{All}
 use Rattle.client_cache.specs.Cache.{Entries}
 use Rattle.client_state.specs.View.{IsKeptBounded, TaskIsThere}
-use Rattle.client_state.proofs.Keeping.{bounded_recalled, task_recalled}
-use Rattle.client_state.proofs.Pending.{sound_cache}
+use Rattle.client_state.proofs.lemmas.Keeping.{bounded_recalled, task_recalled}
+use Rattle.client_state.proofs.lemmas.Pending.{sound_cache}
 use Rattle.client_state.proofs.state.ClientState.drop_note.Goals as goal
 
 pub returns-clause-sound : goal.returns-clause-sound

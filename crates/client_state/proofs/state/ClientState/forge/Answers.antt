@@ -1,4 +1,4 @@
-use Rattle.client_state.proofs.Pending.{sound_index}
+use Rattle.client_state.proofs.lemmas.Pending.{sound_index}
 use Rattle.client_state.proofs.state.ClientState.forge.Goals as goal
 
 pub returns-in-Ok-clause-sound : goal.returns-in-Ok-clause-sound

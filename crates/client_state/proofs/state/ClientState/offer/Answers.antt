@@ -3,8 +3,8 @@ use Rattle.std.specs.List.{All}
 use Rattle.client_cache.specs.Cache.{Entries}
 use Rattle.client_state.specs.Hints.{offered_file}
 use Rattle.client_state.specs.View.{IsKeptBounded}
-use Rattle.client_state.proofs.Keeping.{bounded_reserved, bounded_kept}
-use Rattle.client_state.proofs.Pending.{sound_hints}
+use Rattle.client_state.proofs.lemmas.Keeping.{bounded_reserved, bounded_kept}
+use Rattle.client_state.proofs.lemmas.Pending.{sound_hints}
 use Rattle.client_state.proofs.state.ClientState.offer.Goals as goal
 
 pub returns-clause-sound : goal.returns-clause-sound

@@ -5,8 +5,8 @@ use Rattle.client_cache.specs.Cache.{Entries}
 use Rattle.client_state.specs.Noting.{asks_lease}
 use Rattle.client_state.specs.State.{State}
 use Rattle.client_state.specs.View.{state_of, IsKeptBounded}
-use Rattle.client_state.proofs.Keeping.{bounded_reserved, entry_there}
-use Rattle.client_state.proofs.Pending.{held_cache}
+use Rattle.client_state.proofs.lemmas.Keeping.{bounded_reserved, entry_there}
+use Rattle.client_state.proofs.lemmas.Pending.{held_cache}
 use Rattle.client_state.proofs.state.ClientState.wait_there.Goals as goal
 
 pub set_waiting-requires-clause-held : goal.set_waiting-requires-clause-held

@@ -1,7 +1,7 @@
 use Rattle.std.proofs.Common.{◌≡◌, ℕ, ◌+◌, ◌-◌, ◌≤◌, arith, Some, length}
 use Rattle.tree_nodes.specs.Nodes.{with_id}
 use Rattle.tree_reading.specs.Tree.{content_of, contents_size}
-use Rattle.file_tree.proofs.States.{named_id, cleared_sum, cleared_limits}
+use Rattle.file_tree.proofs.lemmas.States.{named_id, cleared_sum, cleared_limits}
 use Rattle.file_tree.proofs.state.TreeState.clear.Goals as goal
 
 -- what was counted of it was counted

@@ -1,6 +1,6 @@
 use Rattle.std.proofs.Common.{sym, subst, ◌∙◌, arith, ◌≤◌}
 use Rattle.tree_reading.specs.Tree.{changes_most}
-use Rattle.file_tree.proofs.States.{count_limits, count_size}
+use Rattle.file_tree.proofs.lemmas.States.{count_limits, count_size}
 use Rattle.file_tree.proofs.state.TreeState.count.Goals as goal
 
 pub returns-clause-state : goal.returns-clause-state

@@ -1,7 +1,7 @@
 use Rattle.std.proofs.Common.{◌≡◌, sym, subst, ◌∙◌, ◌+◌}
 use Rattle.tree_nodes.specs.Nodes.{versioned}
 use Rattle.file_tree.specs.View.{IsWithinLimits}
-use Rattle.file_tree.proofs.States.{made_limits, made_size}
+use Rattle.file_tree.proofs.lemmas.States.{made_limits, made_size}
 use Rattle.file_tree.proofs.state.TreeState.make.Goals as goal
 
 pub returns-clause-state : goal.returns-clause-state

@@ -2,7 +2,7 @@ use Rattle.std.proofs.Common.{ap, ◌∙◌, ◌+◌}
 use Rattle.tree_nodes.specs.Nodes.{named, without}
 use Rattle.tree_nodes.specs.View.{NodesState}
 use Rattle.file_tree.specs.Step.{moved_at}
-use Rattle.file_tree.proofs.States.{some_node, is_there, named_other}
+use Rattle.file_tree.proofs.lemmas.States.{some_node, is_there, named_other}
 use Rattle.file_tree.proofs.state.TreeState.move_over.Goals as goal
 
 pub shift-requires-clause-there : goal.shift-requires-clause-there

@@ -1,8 +1,8 @@
 use Rattle.std.proofs.Common.{◌≡◌, ◌∙◌, ap, ℕ, ◌≤◌, arith, length}
 use Rattle.tree_nodes.specs.Nodes.{with_id}
 use Rattle.tree_reading.specs.Tree.{content_of, contents_size, size_in}
-use Rattle.file_tree.proofs.States.{some_node, refilled_limits, refilled_size, refilled_bytes}
-use Rattle.file_tree.proofs.Limits.{size_part}
+use Rattle.file_tree.proofs.lemmas.States.{some_node, refilled_limits, refilled_size, refilled_bytes}
+use Rattle.file_tree.proofs.lemmas.Limits.{size_part}
 use Rattle.file_tree.proofs.state.TreeState.refill.Goals as goal
 
 not_less : (size gone all bytes : ℕ) → size ≡ gone → bytes ≡ all → gone ≤ all → size ≤ bytes

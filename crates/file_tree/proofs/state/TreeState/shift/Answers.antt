@@ -2,7 +2,7 @@ use Rattle.std.proofs.Common.{◌≡◌, sym, subst, ◌∙◌, arith, ◌≤◌
 use Rattle.tree_nodes.specs.Nodes.{with_id}
 use Rattle.tree_reading.specs.Tree.{changes_most}
 use Rattle.file_tree.specs.View.{IsWithinLimits}
-use Rattle.file_tree.proofs.States.{some_node, named_id, shift_limits, shift_size, count_limits, count_size}
+use Rattle.file_tree.proofs.lemmas.States.{some_node, named_id, shift_limits, shift_size, count_limits, count_size}
 use Rattle.file_tree.proofs.state.TreeState.shift.Goals as goal
 
 pub returns-clause-state : goal.returns-clause-state

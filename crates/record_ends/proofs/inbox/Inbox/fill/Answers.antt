@@ -1,6 +1,6 @@
 use Rattle.std.proofs.Common.{rules, ◌≡◌, ap, sym, ◌∙◌}
 use Rattle.rpc_record.specs.Records.{fed}
-use Rattle.record_ends.proofs.Coming.{takes_piece}
+use Rattle.record_ends.proofs.lemmas.Coming.{takes_piece}
 use Rattle.record_ends.proofs.inbox.Inbox.fill.Goals as goal
 
 pub returns-clause-ok : goal.returns-clause-ok

@@ -1,7 +1,7 @@
 use Rattle.std.proofs.Common.{rules, ◌≡◌, ◌++◌, ap, sym, ◌∙◌, subst}
 use Rattle.std.specs.Option.{option_to_list}
 use Rattle.record_ends.specs.Ends.{Kept, Takes}
-use Rattle.record_ends.proofs.Coming.{takes_more, consumes_more}
+use Rattle.record_ends.proofs.lemmas.Coming.{takes_more, consumes_more}
 use Rattle.record_ends.proofs.inbox.Inbox.next.Goals as goal
 
 pub loop-round-preserved : goal.loop-round-preserved

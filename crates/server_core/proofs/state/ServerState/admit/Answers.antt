@@ -1,6 +1,6 @@
 use Rattle.std.proofs.Common.{◌≡◌, refl, List, ℕ, [], ◌∷◌, ◌++◌, ◌∙◌, ap, sym, length, arith}
 use Rattle.temp_files.specs.Temps.{temp_at, without_temp, whole_of}
-use Rattle.temp_files.proofs.Entries.{some_same}
+use Rattle.temp_files.proofs.lemmas.Entries.{some_same}
 use Rattle.server_core.proofs.Coming.{is_made, recalls_commit, admits_as}
 use Rattle.server_core.specs.Closing.{has_waiting, is_full}
 use Rattle.tree_reading.specs.declared.call.Reservation.{Reservation}

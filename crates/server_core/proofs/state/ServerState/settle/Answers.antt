@@ -6,7 +6,7 @@ use Rattle.server_core.specs.State.{FileChange, entries_held, waiting_size}
 use Rattle.server_core.specs.View.{state_of, leasing_of, IsMade}
 use Rattle.server_core.proofs.Hangs.{less_others, made_others, taken_entries, taken_place, taken_made}
 use Rattle.server_core.proofs.Missing.{settles_all, settles_some, settles_none}
-use Rattle.server_core.proofs.Ready.{ready_there, ready_is}
+use Rattle.server_core.proofs.lemmas.Ready.{ready_there, ready_is}
 use Rattle.server_core.proofs.state.ServerState.settle.Goals as goal
 
 pub make_change-requires-clause-spare : goal.make_change-requires-clause-spare

@@ -2,7 +2,7 @@ use Rattle.std.proofs.Common.{◌≤◌, sym, subst}
 use Rattle.server_core.specs.State.{State, entries_held}
 use Rattle.server_held.specs.Kept.{KeepsTree}
 use Rattle.server_law.specs.Facts.{Holds}
-use Rattle.server_law.proofs.Steps.{gives_up_told}
+use Rattle.server_law.proofs.lemmas.Steps.{gives_up_told}
 use Rattle.server_held.proofs.kept.KeptServer.give_up.Goals as goal
 
 pub invariant_of-self : goal.invariant_of-self

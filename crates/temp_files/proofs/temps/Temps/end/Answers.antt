@@ -1,5 +1,5 @@
 use Rattle.temp_files.specs.Temps.{IsTempKeyed}
-use Rattle.temp_files.proofs.Entries.{All-removed}
+use Rattle.temp_files.proofs.lemmas.Entries.{All-removed}
 use Rattle.temp_files.proofs.temps.Temps.end.Goals as goal
 
 pub invariant_of-self : goal.invariant_of-self

@@ -1,6 +1,6 @@
 use Rattle.std.proofs.Common.{sym}
 use Rattle.temp_files.specs.Temps.{IsTempKeyed}
-use Rattle.temp_files.proofs.Entries.{All-inserted}
+use Rattle.temp_files.proofs.lemmas.Entries.{All-inserted}
 use Rattle.temp_files.proofs.temps.Temps.make.Goals as goal
 
 pub invariant_of-self-2 : goal.invariant_of-self-2

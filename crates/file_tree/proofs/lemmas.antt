@@ -1,0 +1,4 @@
+-- What other crates may cite.
+pub mod Limits
+pub mod States
+pub mod Stored
