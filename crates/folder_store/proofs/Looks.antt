@@ -4,7 +4,7 @@ use Rattle.std.proofs.lemmas.List.{take_all}
 use Rattle.std.specs.declared.alloc.Global.{Global}
 use Rattle.store.specs.declared.record.Kept.{Kept}
 use Rattle.log_store.specs.declared.which.Which.{Which}
-use Rattle.system_folder.specs.Names.{name_of}
+use Rattle.system_files.specs.Names.{name_of}
 use Rattle.synced_store.specs.declared.checks.CheckedStore.{CheckedStore}
 use Rattle.folder_store.specs.declared.found.Reading.{Reading}
 use Rattle.folder_store.specs.declared.found.Reading.TheVariants as reading

@@ -8,7 +8,7 @@ use Rattle.store.specs.declared.record.Kept.{Kept}
 use Rattle.store.specs.declared.record.Kept.TheVariants as kept
 use Rattle.log_store.specs.declared.which.Which.{Which}
 use Rattle.log_store.specs.declared.which.Which.TheVariants as which
-use Rattle.system_folder.specs.Names.{name_of}
+use Rattle.system_files.specs.Names.{name_of}
 use Rattle.synced_store.specs.declared.checks.CheckedStore.{CheckedStore}
 use Rattle.folder_store.specs.Folder.{head_in, node_in, content_in}
 use Rattle.folder_store.specs.declared.found.Reading.{Reading}

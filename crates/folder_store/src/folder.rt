@@ -21,9 +21,9 @@ use store::record::{RecordChange, Head, Kept};
 use store::store::{Store, StoreError};
 use synced_store::checks::{CheckedStore, Checks};
 use synced_store::syncs::Synced;
-use system_folder::disk_files::has_room;
+use system_files::disk_files::has_room;
 use system_folder::disk_folder::DiskFolder;
-use system_folder::naming::put_name;
+use system_files::naming::put_name;
 
 /// A record of more bytes is written in a file of its own before the log names it, unless its file has room
 /// for them already.

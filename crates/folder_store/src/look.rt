@@ -2,7 +2,7 @@
 //! that holds none (`specs/Found.antt`).
 
 ghost use Rattle.std.specs.Prelude.{IfOk, OnOk};
-ghost use Rattle.system_folder.specs.Names.{name_of};
+ghost use Rattle.system_files.specs.Names.{name_of};
 ghost use Rattle.log_store.specs.declared.which.Which.{Which};
 ghost use Rattle.folder_store.specs.Found.{Adds, IsFound, LooksOver};
 ghost use Rattle.folder_store.specs.declared.found.Reading.{Reading};
@@ -18,9 +18,9 @@ use std::rt::Files;
 use std::{fs, io};
 use store::store::StoreError;
 use synced_store::checks::CheckedStore;
-use system_folder::disk_files::{READ_MOST, read_file};
-use system_folder::made::{put_made_name, unless_made};
-use system_folder::naming::put_name;
+use system_files::disk_files::{READ_MOST, read_file};
+use system_files::made::{put_made_name, unless_made};
+use system_files::naming::put_name;
 use system_folder::open_folder::{files_there, read_log};
 use system_folder::redo::told_by;
 use system_folder::strangers::{Stranger, stranger_in};

@@ -1,4 +1,3 @@
-pub mod Names
 pub mod Strangers
 pub mod Untold
 pub mod Rows

@@ -2,7 +2,7 @@
 use Rattle.std.specs.Prelude.{◌≡◌, [], ◌∷◌, true, false, Some, None, codes, ◌++◌}
 use Rattle.std.proofs.Common.{refl}
 use Rattle.log_store.specs.declared.which.Which.TheVariants as which
-use Rattle.system_folder.specs.Names.{which_of, as_read, made_bytes}
+use Rattle.system_files.specs.Names.{which_of, as_read, made_bytes}
 use Rattle.system_folder.specs.Strangers.{begins_log, begins_reserve, begins_list}
 
 which_row : which_of (codes "c120") ≡ Some (which.Content 120)

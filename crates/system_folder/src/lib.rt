@@ -2,14 +2,7 @@
 //! disk, and what an earlier form of it left. `DiskFolder` is the `Folder` of `log_store`.
 #![tactic(auto)]
 
-pub mod disk_files;
 pub mod disk_folder;
-pub mod laws;
-mod log_file;
-pub mod made;
-pub mod naming;
-mod needs;
 pub mod open_folder;
-mod paths;
 pub mod redo;
 pub mod strangers;

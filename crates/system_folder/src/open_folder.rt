@@ -1,14 +1,14 @@
 //! A folder of the host that is open, by the system's calls: what `disk_folder` counts the faults of.
 
-use crate::disk_files::{
+use system_files::disk_files::{
     READ_MOST, has_room, is_full, is_missing, more_room, open_regular, read_file, unless_gone,
     write_file,
 };
-use crate::log_file::LogFile;
-use crate::made::{MADE, are_made, content_id, unless_made};
-use crate::naming::held_by;
-use crate::needs::{BARE_RESERVE, LARGE_RESERVE, Need, RESERVE, SIZES};
-use crate::paths::Paths;
+use system_files::log_file::LogFile;
+use system_files::made::{MADE, are_made, content_id, unless_made};
+use system_files::naming::held_by;
+use system_files::needs::{BARE_RESERVE, LARGE_RESERVE, Need, RESERVE, SIZES};
+use system_files::paths::Paths;
 use crate::redo::carry_out;
 use crate::strangers::{Stranger, stranger_in};
 use log_store::edit::{Edit, Line, Parts, What};

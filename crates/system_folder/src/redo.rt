@@ -5,9 +5,9 @@
 //! that of the head, so a list that ends otherwise isn't whole: no change was told of that, and nothing of it
 //! is carried out.
 
-use crate::disk_files::{READ_MOST, read_file, unless_gone};
-use crate::naming::held_by;
-use crate::paths::Paths;
+use system_files::disk_files::{READ_MOST, read_file, unless_gone};
+use system_files::naming::held_by;
+use system_files::paths::Paths;
 use command_text::fields::number;
 use log_store::edit::{Line, Task};
 use log_store::which::Which;

@@ -5,9 +5,9 @@
 ghost use Rattle.std.specs.Prelude.{◌≡◌, ◌&&◌, ◌||◌, not};
 ghost use Rattle.system_folder.specs.Strangers.{are_below, begins_log, begins_reserve, begins_list};
 
-use crate::disk_files::open_regular;
+use system_files::disk_files::open_regular;
 use crate::open_folder::file_named;
-use crate::paths::{CHANGE, LOG, NEW_CHANGE, RESERVE};
+use system_files::paths::{CHANGE, LOG, NEW_CHANGE, RESERVE};
 use command_text::fields::number;
 use std::alloc::Global;
 use std::fs::File;

@@ -2,7 +2,7 @@
 //! says so, whatever a cut of power leaves of its bytes: once both names are on the disk there is nothing else to flush.
 
 ghost use Rattle.std.specs.Prelude.{◌≡◌, ◌++◌, Bool, true, OnOk, IfOk, string_bytes};
-ghost use Rattle.system_folder.specs.Names.{are_lost, as_read, made_bytes, made_name};
+ghost use Rattle.system_files.specs.Names.{are_lost, as_read, made_bytes, made_name};
 
 use crate::disk_files::is_missing;
 use log_store::which::{FileName, Which};
@@ -12,11 +12,11 @@ use std::fs::File;
 use std::rt::Files;
 
 /// The bytes of such a content.
-pub(crate) const MADE: [u8; 8] = [0, 0, 0, 0, 0, 0, 0, 1];
+pub const MADE: [u8; 8] = [0, 0, 0, 0, 0, 0, 0, 1];
 
 /// Whether these bytes, and those behind them, are such a content's.
 #[tactic(auto, using(crate::proofs::Names::made_front, crate::proofs::Names::made_body))]
-pub(crate) fn are_made(front: &[u8], body: &[u8]) -> bool
+pub fn are_made(front: &[u8], body: &[u8]) -> bool
     ensures { result ≡ true → front.now ++ body.now ≡ made_bytes }
 {
     match body {
@@ -26,7 +26,7 @@ pub(crate) fn are_made(front: &[u8], body: &[u8]) -> bool
 }
 
 /// The id of a content's own file.
-pub(crate) fn content_id(name: FileName) -> Option<u64> {
+pub fn content_id(name: FileName) -> Option<u64> {
     match name {
         FileName::Record(Which::Content(id)) => Some(id),
         _ => None,

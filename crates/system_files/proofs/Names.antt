@@ -8,7 +8,7 @@ use Rattle.command_text.specs.Fields.{number_of}
 use Rattle.command_text.proofs.lemmas.Decimals.{number_again}
 use Rattle.log_store.specs.declared.which.Which.{Which}
 use Rattle.log_store.specs.declared.which.Which.TheVariants as which
-use Rattle.system_folder.specs.Names.{name_of, which_of, lettered_by, made_bytes, made_name, IsWord}
+use Rattle.system_files.specs.Names.{name_of, which_of, lettered_by, made_bytes, made_name, IsWord}
 
 pub name_again : (one : Which) → IsWord one → which_of (name_of one) ≡ Some one
 name_again which.Head fits = refl

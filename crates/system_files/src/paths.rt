@@ -10,16 +10,16 @@ use std::fmt::Write;
 const BESIDE: &str = "~";
 
 /// The log of changes.
-pub(crate) const LOG: &str = "log";
+pub const LOG: &str = "log";
 
 /// What keeps room for changes that free some.
-pub(crate) const RESERVE: &str = "reserve";
+pub const RESERVE: &str = "reserve";
 
 /// The list of a change, as an earlier form of the folder has it.
-pub(crate) const CHANGE: &str = "change";
+pub const CHANGE: &str = "change";
 
 /// The same before it was whole.
-pub(crate) const NEW_CHANGE: &str = "change~";
+pub const NEW_CHANGE: &str = "change~";
 
 /// How many bytes a name has at most: a letter, twenty digits, and what stands behind them.
 const NAME_ROOM: usize = 32;
@@ -97,7 +97,7 @@ impl Paths {
     }
 
     /// Names the second name of a content's file, which stands beside the first (`beside`).
-    pub(crate) fn name_made(&mut self, id: u64) -> Result<(), AllocError> {
+    pub fn name_made(&mut self, id: u64) -> Result<(), AllocError> {
         self.begin()?;
         put_name(&mut self.beside, Which::Content(id))?;
         put_made_name(&mut self.at, id)

@@ -1,7 +1,7 @@
 //! Which record a file of the folder holds. `specs/Names.antt` states it.
 
 ghost use Rattle.std.specs.Prelude.{◌≡◌, ◌++◌, OnOk, string_bytes};
-ghost use Rattle.system_folder.specs.Names.{name_of, which_of, lettered};
+ghost use Rattle.system_files.specs.Names.{name_of, which_of, lettered};
 
 use command_text::fields::number;
 use log_store::which::Which;

@@ -1,5 +1,0 @@
-use Rattle.system_folder.proofs.Names.{name_again}
-use Rattle.system_folder.proofs.laws.a_name_tells_its_record.Goals as goal
-
-pub returns : goal.returns
-returns c = name_again
