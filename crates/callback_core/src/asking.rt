@@ -64,7 +64,10 @@ fn recalls_due<P>(
 
 /// Makes room for one change more, and for its lease. The one error is running out of memory, which
 /// never comes where there is room; nothing else changes.
-pub fn make_room<P>(leases: &mut Leases, waits: &mut Vec<PendingChange<P>>) -> Result<(), AllocError>
+pub fn make_room<P>(
+    leases: &mut Leases,
+    waits: &mut Vec<PendingChange<P>>,
+) -> Result<(), AllocError>
     requires bounded { AreBounded waits.old.items leases.old.room }
     ensures place { OnOk result (vec_len waits.new < vec_capacity waits.new) }
     ensures lease_place { OnOk result (length waits.new.items < leases.new.room) }

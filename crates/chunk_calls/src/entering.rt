@@ -26,7 +26,9 @@ pub fn enter_told(index: &mut Index, tree: &Tree, range: &HashRange) -> bool
     };
     match &node.body {
         Body::Directory => false,
-        Body::File(content) => { chunk_index::places::enter(index, node.id, told_chunks(content, range)) }
+        Body::File(content) => {
+            chunk_index::places::enter(index, node.id, told_chunks(content, range))
+        }
     }
 }
 

@@ -8,8 +8,8 @@ ghost use Rattle.chunk_calls.specs.Indexing.{wanted_bytes};
 ghost use Rattle.chunk_calls.specs.Files.{file_at};
 
 use chunk_index::index::Index;
-use chunk_index::place::Place;
 use chunk_index::known::{bytes_placed, with_digest};
+use chunk_index::place::Place;
 use file_tree::tree::Tree;
 use hash_calls::call::CondPiece;
 use tree_nodes::node::Body;

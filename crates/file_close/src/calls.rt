@@ -47,12 +47,7 @@ fn name_next(lbfs: u32, names: &mut Names) -> Result<(), AllocError>
 }
 
 /// All CONDWRITEs, in a version of LBFS, that may be under way beside the calls that are.
-pub fn name_all(
-    alloc: Global,
-    lbfs: u32,
-    store: Upload,
-    next_xid: u32,
-) -> Result<Names, AllocError>
+pub fn name_all(alloc: Global, lbfs: u32, store: Upload, next_xid: u32) -> Result<Names, AllocError>
     requires within { IsStore store }
     requires xids { HasXids next_xid (stage.Storing store) }
     ensures all { IfOk result (λ n. n ≡ names_all lbfs store next_xid) }

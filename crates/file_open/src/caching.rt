@@ -8,8 +8,8 @@ ghost use Rattle.chunk_index.specs.Places.{indexed, LeavesSome};
 
 use chunk_cut::chunk::Chunk;
 use chunk_index::index::Index;
-use chunk_index::place::Place;
 use chunk_index::known;
+use chunk_index::place::Place;
 use client_cache::cache::Cache;
 use client_state::task::Fetch;
 use cut_bytes::CutBytes;

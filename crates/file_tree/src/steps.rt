@@ -12,7 +12,7 @@ use crate::state::TreeState;
 use lb_base::items::Name;
 use tree_nodes::content::Content;
 use tree_nodes::node::{Body, Node};
-use tree_reading::call::{Call, Changed, Reservation, Planned, Spot};
+use tree_reading::call::{Call, Changed, Planned, Reservation, Spot};
 use tree_reading::plans;
 use xdr_codec::status::Status;
 

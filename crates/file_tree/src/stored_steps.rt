@@ -14,10 +14,10 @@ use crate::tree::Tree;
 use lb_base::items::Name;
 use server_rules::asking::ask;
 use shared_bytes::SharedBytes;
-use store::record::{RecordChange, ContentRecord, NodeKind, NodeRecord};
+use store::record::{ContentRecord, NodeKind, NodeRecord, RecordChange};
 use store::store::Store;
 use tree_nodes::content::Content;
-use tree_reading::call::{Changed, CreateMode, Reservation, Planned};
+use tree_reading::call::{Changed, CreateMode, Planned, Reservation};
 use xdr_codec::status::Status;
 
 /// CREATE of a file that is to be made.
@@ -301,7 +301,12 @@ fn move_over<S: Store>(
     let node = moved_record(tree, dir, name, to, copy);
     let gone = id_at(tree, to, to_name.as_slice());
     let head = tree.head_changed(2);
-    if ask(store, head, RecordChange::Drop(gone), Some(RecordChange::Node(node))) {
+    if ask(
+        store,
+        head,
+        RecordChange::Drop(gone),
+        Some(RecordChange::Node(node)),
+    ) {
         return Err(Status::Io);
     }
     tree.rename(dir, name, to, to_name, held)

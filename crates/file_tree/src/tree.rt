@@ -24,7 +24,7 @@ use store::record::Head;
 use tree_nodes::content::Content;
 use tree_nodes::node::{Body, Node};
 use tree_nodes::nodes::Nodes;
-use tree_reading::call::{Call, Changed, CreateMode, Reservation, Planned};
+use tree_reading::call::{Call, Changed, CreateMode, Planned, Reservation};
 use tree_reading::error::TreeError;
 use tree_reading::reading::{self, Looked, Standing};
 use tree_reading::{answers, listing, plans};
@@ -226,7 +226,12 @@ impl Tree {
 
     /// COMMITTMP, once its content is whole and nothing blocks it. It takes no memory.
     #[tactic(auto, using(crate::proofs::lemmas::Limits::bounds, tree_reading::proofs::lemmas::Admitted::replace_there))]
-    pub fn replace(&mut self, id: u64, content: Content, held: Reservation) -> Result<Changed, Status>
+    pub fn replace(
+        &mut self,
+        id: u64,
+        content: Content,
+        held: Reservation,
+    ) -> Result<Changed, Status>
         ensures done { replace self.old.tree held id content ≡ (self.new.tree, result) }
         ensures room { self.old.room ≤ self.new.room }
     {

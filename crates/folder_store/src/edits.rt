@@ -13,7 +13,7 @@ use log_store::edit::{Edit, Parts, What};
 use log_store::folder::Folder;
 use log_store::records::LogStore;
 use log_store::which::Which;
-use store::record::{RecordChange, Head};
+use store::record::{Head, RecordChange};
 
 /// The bytes that stand in front of a change's record: of a content the first eight of these.
 fn front_of(change: &RecordChange) -> [u8; 12]

@@ -17,13 +17,13 @@ use std::alloc::{AllocError, Global};
 use std::fs;
 use std::fs::File;
 use std::rt::Files;
-use store::record::{RecordChange, Head, Kept};
+use store::record::{Head, Kept, RecordChange};
 use store::store::{Store, StoreError};
 use synced_store::checks::{CheckedStore, Checks};
 use synced_store::syncs::Synced;
 use system_files::disk_files::has_room;
-use system_folder::disk_folder::DiskFolder;
 use system_files::naming::put_name;
+use system_folder::disk_folder::DiskFolder;
 
 /// A record of more bytes is written in a file of its own before the log names it, unless its file has room
 /// for them already.
@@ -181,7 +181,12 @@ fn load_folder<R: Files<File = File> + AllocGlobal + Eprint + Clone + Drop>(
 
 /// Whether a change's record has a file of its own first. It needs none where so many bytes are in its file's
 /// place already: the log says them then, and one flush is enough.
-fn is_large<R: Files<File = File>>(rt: &R, alloc: Global, folder: &str, change: &RecordChange) -> bool {
+fn is_large<R: Files<File = File>>(
+    rt: &R,
+    alloc: Global,
+    folder: &str,
+    change: &RecordChange,
+) -> bool {
     let RecordChange::Content(content) = change else {
         return false;
     };
@@ -269,7 +274,12 @@ impl<R: Files<File = File> + AllocGlobal + Eprint + Clone + Drop> Store for Fold
         Ok(())
     }
 
-    fn apply(&mut self, head: Head, first: RecordChange, second: Option<RecordChange>) -> Result<(), Failed> {
+    fn apply(
+        &mut self,
+        head: Head,
+        first: RecordChange,
+        second: Option<RecordChange>,
+    ) -> Result<(), Failed> {
         let made = match &mut self.held {
             Some(held) => held.apply(&self.rt, head, &first, &second),
             None => Err(Failed),

@@ -9,7 +9,7 @@ use lb_base::source::Failed;
 use std::alloc::{AllocError, Global};
 use std::rt::{Clock as HostTime, Files as HostDisk};
 use std::sync::Arc;
-use store::record::{RecordChange, Head, Kept, NodeKind};
+use store::record::{Head, Kept, NodeKind, RecordChange};
 use store::store::{Store, StoreError};
 use synced_store::checks::{CheckedStore, Checks};
 use synced_store::syncs::Synced;
@@ -73,7 +73,12 @@ impl<R: HostDisk + HostTime + Eprint, S: Store> Store for ToldStore<R, S> {
         self.store.reserve(count)
     }
 
-    fn apply(&mut self, head: Head, first: RecordChange, second: Option<RecordChange>) -> Result<(), Failed> {
+    fn apply(
+        &mut self,
+        head: Head,
+        first: RecordChange,
+        second: Option<RecordChange>,
+    ) -> Result<(), Failed> {
         self.store.apply(head, first, second)
     }
 }

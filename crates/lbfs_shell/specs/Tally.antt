@@ -1,6 +1,6 @@
 -- What the tasks of a command came to.
 use Rattle.std.specs.Prelude.{ℕ, ◌+◌, ◌-◌, ◌^◌, ◌&&◌, ◌||◌, ◌==◌, Bool, min, length, nat_lt, true}
-use Rattle.shell_walks.specs.declared.visiting.Visited.{Visited}
+use Rattle.shell_commands.specs.declared.visiting.Visited.{Visited}
 use Rattle.lbfs_shell.specs.declared.tally.Tally.{Tally}
 
 abbrev pub nothing_yet : Tally

@@ -5,9 +5,9 @@
 use crate::tally::Tally;
 use crate::telling::{Glance, left_out_text, progress_line};
 use lb_base::items::Items;
+use shell_commands::visiting::Visited;
 use shell_walks::screen::Screen;
 use shell_walks::tasks::Task;
-use shell_walks::visiting::Visited;
 use std::alloc::{AllocError, Global};
 use std::sync::{Condvar, Mutex, Wait};
 

@@ -3,7 +3,7 @@
 ghost use Rattle.std.specs.Prelude.{◌≡◌, true};
 ghost use Rattle.lbfs_shell.specs.Tally.{nothing_yet, with_visit, capped_sum, is_told};
 
-use shell_walks::visiting::Visited;
+use shell_commands::visiting::Visited;
 
 /// What tasks came to.
 #[derive(Clone, Copy)]

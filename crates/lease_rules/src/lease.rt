@@ -43,7 +43,13 @@ pub fn blocks(key: &(u64, u32), held: &LeaseEntry, file: u64, session: u32, now:
 }
 
 /// Whether a lease on the file is to be asked for back.
-pub fn is_wanted_back(key: &(u64, u32), held: &LeaseEntry, file: u64, session: u32, now: u64) -> bool
+pub fn is_wanted_back(
+    key: &(u64, u32),
+    held: &LeaseEntry,
+    file: u64,
+    session: u32,
+    now: u64,
+) -> bool
     ensures { result ≡ is_wanted_back (lease_from (key.now, held.now)) session file now }
 {
     blocks(key, held, file, session, now) && held.recall.is_none()

@@ -17,7 +17,12 @@ use std::alloc::{AllocError, Global};
 use std::collections::btree_map::Range;
 
 /// Whether one of these leases holds up a change of the file.
-fn any_blocks(mut leases: Range<'_, (u64, u32), LeaseEntry>, file: u64, session: u32, now: u64) -> bool
+fn any_blocks(
+    mut leases: Range<'_, (u64, u32), LeaseEntry>,
+    file: u64,
+    session: u32,
+    now: u64,
+) -> bool
     ensures { result ≡ list_any (λ e. blocks (lease_from e) session file now) leases.entry }
 {
     leases.any(|(key, held)| blocks(key, held, file, session, now))

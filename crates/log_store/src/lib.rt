@@ -11,6 +11,6 @@ pub mod folder;
 pub mod frame;
 pub mod records;
 mod room;
-pub mod syncing;
 pub mod staging;
+pub mod syncing;
 pub mod which;

@@ -5,7 +5,7 @@ ghost use Rattle.std.specs.Prelude.{◌≡◌};
 ghost use Rattle.server_core.specs.State.{asked_kind, kind_of, change_of, entries_wanted, size_wanted};
 
 use chunk_calls::contents::ContentPair;
-use lease_rules::change::{PendingChange, Kind};
+use lease_rules::change::{Kind, PendingChange};
 use tree_calls::asked::Asked;
 
 /// What a change is to make.

@@ -9,7 +9,7 @@ ghost use Rattle.store.specs.declared.store.StoreError.TheVariants as errors;
 
 use lb_base::source::Failed;
 use std::alloc::{AllocError, Global};
-use store::record::{RecordChange, Head, Kept};
+use store::record::{Head, Kept, RecordChange};
 use store::store::{Store, StoreError};
 
 /// A store that keeps nothing.
@@ -31,7 +31,12 @@ impl Store for NoStore {
         Ok(())
     }
 
-    fn apply(&mut self, head: Head, first: RecordChange, second: Option<RecordChange>) -> Result<(), Failed> {
+    fn apply(
+        &mut self,
+        head: Head,
+        first: RecordChange,
+        second: Option<RecordChange>,
+    ) -> Result<(), Failed> {
         let _head = head;
         drop(first);
         drop(second);

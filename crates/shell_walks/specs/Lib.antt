@@ -3,4 +3,3 @@ pub mod Fetching
 pub mod Storing
 pub mod Tasks
 pub mod Telling
-pub mod Visiting

@@ -93,7 +93,7 @@ pub fn ask_on<R: Remote>(
 }
 
 /// What a name stands for, if it stands for anything.
-pub(crate) fn seen_of(answer: &Answer) -> Option<Seen> {
+pub fn seen_of(answer: &Answer) -> Option<Seen> {
     match answer {
         Answer::Seen(seen) => Some(*seen),
         _ => None,
@@ -101,7 +101,7 @@ pub(crate) fn seen_of(answer: &Answer) -> Option<Seen> {
 }
 
 /// Whether the answer is this status.
-pub(crate) fn is_status(answer: &Answer, status: u32) -> bool {
+pub fn is_status(answer: &Answer, status: u32) -> bool {
     match answer {
         Answer::Failed(Why::Refused(told)) => *told == status,
         _ => false,

@@ -7,7 +7,7 @@ ghost use Rattle.store.specs.Records.{is_head, is_of, takes_place, with_record, 
 ghost use Rattle.store.specs.declared.record.Kept.TheVariants as kept;
 ghost use Rattle.store.specs.declared.record.Kept.{Kept};
 
-use crate::record::{RecordChange, ContentRecord, Head, Kept, NodeRecord};
+use crate::record::{ContentRecord, Head, Kept, NodeRecord, RecordChange};
 use lb_base::items::{Bytes, Items};
 use std::alloc::{AllocError, Global};
 

@@ -10,7 +10,7 @@ ghost use Rattle.store.specs.declared.record.Kept.{Kept};
 ghost use Rattle.store.specs.declared.store.StoreError.TheVariants as errors;
 
 use crate::edits;
-use crate::record::{RecordChange, Head, Kept};
+use crate::record::{Head, Kept, RecordChange};
 use crate::store::{Store, StoreError};
 use lb_base::faults::one_more;
 use lb_base::items::Items;
@@ -86,7 +86,12 @@ impl Store for SureStore {
         edits::reserve(&mut self.records, count)
     }
 
-    fn apply(&mut self, head: Head, first: RecordChange, second: Option<RecordChange>) -> Result<(), Failed>
+    fn apply(
+        &mut self,
+        head: Head,
+        first: RecordChange,
+        second: Option<RecordChange>,
+    ) -> Result<(), Failed>
         requires { places second ≤ self.old.spare }
         ensures done { self.new.records ≡ applied head first second self.old.records }
         ensures spare { self.old.spare ≤ self.new.spare + places second }
@@ -202,7 +207,12 @@ impl Store for MemStore {
         self.store.reserve(count)
     }
 
-    fn apply(&mut self, head: Head, first: RecordChange, second: Option<RecordChange>) -> Result<(), Failed>
+    fn apply(
+        &mut self,
+        head: Head,
+        first: RecordChange,
+        second: Option<RecordChange>,
+    ) -> Result<(), Failed>
         requires { places second ≤ self.old.spare }
         ensures ok { OnOk result (self.new.records ≡ applied head first second self.old.records) }
         ensures err { OnErr result (self.new.records ≡ self.old.records) }

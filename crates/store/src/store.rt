@@ -8,7 +8,7 @@ ghost use Rattle.store.specs.Records.{applied, places};
 ghost use Rattle.store.specs.declared.record.Kept.{Kept};
 ghost use Rattle.store.specs.declared.store.StoreError.TheVariants as errors;
 
-use crate::record::{RecordChange, Head, Kept};
+use crate::record::{Head, Kept, RecordChange};
 use lb_base::source::Failed;
 use std::alloc::{AllocError, Global};
 
@@ -59,7 +59,12 @@ pub trait Store {
     /// Makes the head the only one, in front of all records, and then one change or two, in their
     /// order. Each takes one place of what was reserved, and no memory. `Failed` comes only where
     /// the count of faults rose, and all records are then as before.
-    fn apply(&mut self, head: Head, first: RecordChange, second: Option<RecordChange>) -> Result<(), Failed>
+    fn apply(
+        &mut self,
+        head: Head,
+        first: RecordChange,
+        second: Option<RecordChange>,
+    ) -> Result<(), Failed>
         requires { places second ≤ spare self.old }
         ensures ok { OnOk result (records self.new ≡ option_map (λ held. applied head first second held) (records self.old)) }
         ensures err { OnErr result (records self.new ≡ records self.old) }

@@ -1,14 +1,5 @@
 //! A folder of the host that is open, by the system's calls: what `disk_folder` counts the faults of.
 
-use system_files::disk_files::{
-    READ_MOST, has_room, is_full, is_missing, more_room, open_regular, read_file, unless_gone,
-    write_file,
-};
-use system_files::log_file::LogFile;
-use system_files::made::{MADE, are_made, content_id, unless_made};
-use system_files::naming::held_by;
-use system_files::needs::{BARE_RESERVE, LARGE_RESERVE, Need, RESERVE, SIZES};
-use system_files::paths::Paths;
 use crate::redo::carry_out;
 use crate::strangers::{Stranger, stranger_in};
 use log_store::edit::{Edit, Line, Parts, What};
@@ -20,6 +11,15 @@ use std::fs::{File, OpenOptions, TryLockError};
 use std::io::{Error, ErrorKind, Write};
 use std::rt::Files;
 use std::{fs, io, mem};
+use system_files::disk_files::{
+    READ_MOST, has_room, is_full, is_missing, more_room, open_regular, read_file, unless_gone,
+    write_file,
+};
+use system_files::log_file::LogFile;
+use system_files::made::{MADE, are_made, content_id, unless_made};
+use system_files::naming::held_by;
+use system_files::needs::{BARE_RESERVE, LARGE_RESERVE, Need, RESERVE, SIZES};
+use system_files::paths::Paths;
 
 /// The most bytes of a log: those after which it is carried out, and the entry that makes it so long.
 const LOG_MOST: u64 = 16 << 20;

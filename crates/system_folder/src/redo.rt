@@ -5,9 +5,6 @@
 //! that of the head, so a list that ends otherwise isn't whole: no change was told of that, and nothing of it
 //! is carried out.
 
-use system_files::disk_files::{READ_MOST, read_file, unless_gone};
-use system_files::naming::held_by;
-use system_files::paths::Paths;
 use command_text::fields::number;
 use log_store::edit::{Line, Task};
 use log_store::which::Which;
@@ -16,6 +13,9 @@ use std::fs::File;
 use std::io::ErrorKind;
 use std::rt::Files;
 use std::{fs, io};
+use system_files::disk_files::{READ_MOST, read_file, unless_gone};
+use system_files::naming::held_by;
+use system_files::paths::Paths;
 
 /// How a whole list ends.
 const LAST: &[u8] = b"+head\n";

@@ -5,15 +5,15 @@
 ghost use Rattle.std.specs.Prelude.{◌≡◌, ◌&&◌, ◌||◌, not};
 ghost use Rattle.system_folder.specs.Strangers.{are_below, begins_log, begins_reserve, begins_list};
 
-use system_files::disk_files::open_regular;
 use crate::open_folder::file_named;
-use system_files::paths::{CHANGE, LOG, NEW_CHANGE, RESERVE};
 use command_text::fields::number;
 use std::alloc::Global;
 use std::fs::File;
 use std::io::{Error, ErrorKind, Read};
 use std::rt::Files;
 use std::{fs, io};
+use system_files::disk_files::open_regular;
+use system_files::paths::{CHANGE, LOG, NEW_CHANGE, RESERVE};
 
 /// By how many of its first bytes a file is known.
 const FRONT: usize = 16;

@@ -14,7 +14,7 @@ ghost use Rattle.temp_files.specs.Temps.{key_of, temp_at, with_temp, without_tem
 
 use crate::fault::TempError;
 use crate::pieces::SIZE_MOST;
-use crate::room::{Usage, Room, cost_of};
+use crate::room::{Room, Usage, cost_of};
 use crate::temp::Temp;
 use lb_base::items::Bytes;
 use server_rules::sessions::stays;

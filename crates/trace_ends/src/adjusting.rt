@@ -106,7 +106,11 @@ pub fn adjust(alloc: Global, core: &mut Core, adjustment: &Adjustment) -> Result
             let (key, place) = (*key, *place);
             match *who {
                 Who::Server => core.server.forge(key, place),
-                Who::Client(client) => change_client(core, client, CacheChange::Forge { key, place }),
+                Who::Client(client) => change_client(
+                    core,
+                    client,
+                    CacheChange::Forge { key, place },
+                ),
             }
         }
         Adjustment::Clear(who) => match *who {
@@ -116,7 +120,11 @@ pub fn adjust(alloc: Global, core: &mut Core, adjustment: &Adjustment) -> Result
             }
             Who::Client(client) => change_client(core, client, CacheChange::Clear),
         },
-        Adjustment::Evict { client, file } => change_client(core, *client, CacheChange::Evict(*file)),
+        Adjustment::Evict { client, file } => change_client(
+            core,
+            *client,
+            CacheChange::Evict(*file),
+        ),
         Adjustment::Warm { client, content } => warm(alloc, core, *client, content),
     }
 }

@@ -21,7 +21,7 @@ use nfs3_calls::message::Nfs;
 use nfs3_calls::place::Place;
 use std::alloc::{AllocError, Global};
 use store::store::Store;
-use tree_reading::call::{Changed, Reservation, Planned};
+use tree_reading::call::{Changed, Planned, Reservation};
 use tree_reading::reading::Standing;
 use xdr_codec::answer::Answer;
 use xdr_codec::status::Status;

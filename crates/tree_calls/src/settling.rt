@@ -80,7 +80,12 @@ fn remove<S: Store>(tree: &mut Tree, store: &mut S, spot: &Spot, held: Reservati
 }
 
 #[tactic(auto, using(crate::proofs::Steps::remove_again_refused, crate::proofs::Steps::remove_checked, crate::proofs::Steps::kept_same))]
-fn settle_remove<S: Store>(tree: &mut Tree, store: &mut S, removing: &Removing, held: Reservation) -> Done
+fn settle_remove<S: Store>(
+    tree: &mut Tree,
+    store: &mut S,
+    removing: &Removing,
+    held: Reservation,
+) -> Done
     requires { held.entries + 1 ≤ S.spare store.old }
     ensures done { IsCalled (S.faults store.old) (S.faults store.new) (λ fault. removes_if_under tree.old.tree held fault removing.now.spot (remove_again tree.old.tree.nodes removing.now)) (tree.new.tree, result) }
     ensures keeps { Keeps (S.records store.old) tree.old.tree (S.records store.new) tree.new.tree }
@@ -94,7 +99,12 @@ fn settle_remove<S: Store>(tree: &mut Tree, store: &mut S, removing: &Removing, 
 }
 
 #[tactic(auto, using(crate::proofs::Steps::rename_again_refused, crate::proofs::Steps::rename_checked, crate::proofs::Steps::kept_same))]
-fn settle_rename<S: Store>(tree: &mut Tree, store: &mut S, renaming: Renaming, held: Reservation) -> Done
+fn settle_rename<S: Store>(
+    tree: &mut Tree,
+    store: &mut S,
+    renaming: Renaming,
+    held: Reservation,
+) -> Done
     requires { held.entries + 2 ≤ S.spare store.old }
     ensures done { IsCalled (S.faults store.old) (S.faults store.new) (λ fault. renames_if_under tree.old.tree held fault renaming.from renaming.to (rename_again tree.old.tree.nodes renaming)) (tree.new.tree, result) }
     ensures keeps { Keeps (S.records store.old) tree.old.tree (S.records store.new) tree.new.tree }

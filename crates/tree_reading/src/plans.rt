@@ -8,7 +8,7 @@ ghost use Rattle.tree_reading.specs.Plans.{create_found, may_create, may_mkdir, 
 ghost use Rattle.tree_reading.specs.declared.call.CreateMode.TheVariants.{Guarded, Unchecked};
 ghost use Rattle.tree_reading.specs.View.{lent, lent_option, tree_of, AreBounded, IsNodeBounded};
 
-use crate::call::{Changed, CreateMode, Reservation, Planned};
+use crate::call::{Changed, CreateMode, Planned, Reservation};
 use crate::finding::{self, named_within};
 use crate::names::{spelt, undotted};
 use crate::{answers, checks};
@@ -17,7 +17,11 @@ use tree_nodes::nodes::Nodes;
 use xdr_codec::status::Status;
 
 /// What CREATE finds where no name may be taken: nothing.
-fn found_guarded(found: Option<&Node>, changes: u64, held: Reservation) -> Result<Option<&Node>, Status>
+fn found_guarded(
+    found: Option<&Node>,
+    changes: u64,
+    held: Reservation,
+) -> Result<Option<&Node>, Status>
     ensures { lent_option result ≡ create_found changes held Guarded (option_copied found.entry) }
 {
     finding::or_taken(found)?;
@@ -26,7 +30,11 @@ fn found_guarded(found: Option<&Node>, changes: u64, held: Reservation) -> Resul
 }
 
 /// What CREATE finds where a file that has the name stays as it is.
-fn found_unchecked(found: Option<&Node>, changes: u64, held: Reservation) -> Result<Option<&Node>, Status>
+fn found_unchecked(
+    found: Option<&Node>,
+    changes: u64,
+    held: Reservation,
+) -> Result<Option<&Node>, Status>
     ensures { lent_option result ≡ create_found changes held Unchecked (option_copied found.entry) }
 {
     match found {

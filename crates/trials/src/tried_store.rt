@@ -9,7 +9,7 @@ use std::alloc::{AllocError, Global};
 use std::sync::atomic::{AtomicBool, AtomicU64, Ordering};
 use std::sync::{Arc, Wait};
 use store::mem_store::MemStore;
-use store::record::{RecordChange, Head, Kept};
+use store::record::{Head, Kept, RecordChange};
 use store::store::{Store, StoreError};
 use synced_store::checks::{CheckedStore, Checks};
 use synced_store::syncs::{Synced, Syncs};
@@ -113,7 +113,12 @@ impl Store for TriedStore {
         self.store.reserve(count)
     }
 
-    fn apply(&mut self, head: Head, first: RecordChange, second: Option<RecordChange>) -> Result<(), Failed> {
+    fn apply(
+        &mut self,
+        head: Head,
+        first: RecordChange,
+        second: Option<RecordChange>,
+    ) -> Result<(), Failed> {
         match self.store.apply(head, first, second) {
             Ok(()) => Ok(()),
             Err(Failed) => {

@@ -1,0 +1,12 @@
+use Rattle.std.proofs.Common.{refl}
+use Rattle.shell_commands.proofs.Touching.{only_listed, stayed}
+use Rattle.shell_commands.proofs.visiting.put_folder.Goals as goal
+
+pub returns-then-not-storing-clause-touches : goal.returns-then-not-storing-clause-touches
+returns-then-not-storing-clause-touches g c = stayed _ _ _ refl
+
+pub returns-in-Ok-clause-touches : goal.returns-in-Ok-clause-touches
+returns-in-Ok-clause-touches g c = only_listed _ _ _ _ c.names.ensures
+
+pub returns-in-Err-clause-touches : goal.returns-in-Err-clause-touches
+returns-in-Err-clause-touches g c = only_listed _ _ _ _ c.names.ensures

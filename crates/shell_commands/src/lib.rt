@@ -1,0 +1,7 @@
+//! The commands of a shell, and the tasks of folders and directories, over what is done with one path
+//! (`shell_walks`). `specs/Visiting.antt` says what a task leaves alone.
+#![tactic(auto)]
+
+pub mod placing;
+pub mod shell;
+pub mod visiting;

@@ -1,0 +1,603 @@
+//! A shell: where it stands in the server's tree and in the host's, and what a command makes of that.
+
+ghost use Rattle.std.specs.Prelude.{◌≡◌};
+
+use command_text::path::Path;
+use lb_base::items::{Items, Name};
+use shell_walks::asking::{Deed, ask_on, ask_rename, seen_of};
+use shell_walks::fetching::cat;
+use shell_walks::folder::{Folder, Kind, LocalFault};
+use shell_walks::remote::{Answer, Remote, Why};
+use shell_walks::removing::remove_all;
+use shell_walks::tasks::{Storing, Task, longer};
+use shell_walks::telling::{
+    done_told, fault_words, long_line, mistake_words, names_told, note_line, path_text,
+    refused_told, stat_told, why_of,
+};
+use shell_walks::told::{Told, fine, notes};
+use shell_words::command::{Line, Verb};
+use shell_words::local::{LocalPath, is_component, text_of};
+use shell_words::mistake::{Mistake, ReadError};
+use shell_words::path::{last_of, path_of};
+use shell_words::quoting::quoted;
+use std::alloc::{AllocError, Global};
+
+/// NFS3ERR_NOENT, NFS3ERR_EXIST, NFS3ERR_NOTDIR.
+const NOENT: u32 = 2;
+
+const EXIST: u32 = 17;
+
+const NOTDIR: u32 = 20;
+
+/// Where a shell stands.
+#[derive(Drop)]
+pub struct Shell {
+    /// The directory of the server.
+    dir: Path,
+    /// The folder of the host.
+    folder: LocalPath,
+}
+
+/// What a line comes to.
+#[derive(Drop)]
+pub enum Went {
+    /// It was done, and is told so.
+    Told(Told),
+    /// There is a task to do.
+    Works(Task),
+    /// The shell ends.
+    Bye,
+}
+
+/// A path that a word names, or what is wrong with the word.
+enum Named {
+    Path(Path),
+    Mistaken(Told),
+}
+
+/// A path of the host that a word names, or what is wrong with the word.
+enum NamedLocal {
+    Path(LocalPath),
+    Mistaken(Told),
+}
+
+/// This is said of a word.
+fn of_word(alloc: Global, word: &[u8], words: &[u8]) -> Result<Told, AllocError> {
+    let about = quoted(alloc, word)?;
+    let line = note_line(alloc, about.as_slice(), words)?;
+    Ok(notes(alloc, line))
+}
+
+/// A mistake in a line.
+pub fn mistaken(alloc: Global, word: &[u8], mistake: Mistake) -> Result<Told, AllocError> {
+    of_word(alloc, word, mistake_words(mistake))
+}
+
+/// The operand at a place, or no bytes.
+fn operand(line: &Line, at: usize) -> &[u8] {
+    match line.operands.as_slice().get(at) {
+        Some(word) => word.as_slice(),
+        None => &[],
+    }
+}
+
+/// What a path stands for is looked at.
+fn is_directory<R: Remote>(
+    alloc: Global,
+    remote: &mut R,
+    path: &[Name],
+) -> Result<bool, AllocError> {
+    let answer = ask_on(alloc, remote, Deed::Look, path)?;
+    match seen_of(&answer) {
+        Some(seen) => Ok(seen.is_dir),
+        None => Ok(false),
+    }
+}
+
+/// A line of `ls -l`, or what is said of a name that went meanwhile.
+fn put_long<R: Remote>(
+    alloc: Global,
+    remote: &mut R,
+    told: &mut Told,
+    path: &[Name],
+    name: &[u8],
+) -> Result<(), AllocError> {
+    let path = longer(alloc, path, name)?;
+    match ask_on(alloc, remote, Deed::Look, path.as_slice())? {
+        Answer::Seen(seen) => {
+            let shown = quoted(alloc, name)?;
+            let line = long_line(alloc, &seen, shown.as_slice())?;
+            told.text.extend_from_slice(line.as_slice())
+        }
+        answer => {
+            let said = refused_told(alloc, path.as_slice(), why_of(&answer))?;
+            told.note.extend_from_slice(said.note.as_slice())
+        }
+    }
+}
+
+/// `ls -l`.
+fn list_long<R: Remote>(alloc: Global, remote: &mut R, path: &[Name]) -> Result<Told, AllocError> {
+    match ask_on(alloc, remote, Deed::List, path)? {
+        Answer::Names(listed) => {
+            let mut told = fine(alloc, Items::new(alloc));
+            for name in listed.names.as_slice() {
+                put_long(alloc, remote, &mut told, path, name.as_slice())?;
+            }
+            Ok(told)
+        }
+        answer => list_file(alloc, remote, path, true, why_of(&answer)),
+    }
+}
+
+/// What can't be listed: a file is told as if it were all that is in a directory.
+fn list_file<R: Remote>(
+    alloc: Global,
+    remote: &mut R,
+    path: &[Name],
+    is_long: bool,
+    why: Why,
+) -> Result<Told, AllocError> {
+    if !matches!(why, Why::Refused(NOTDIR)) {
+        return refused_told(alloc, path, why);
+    }
+    let looked = ask_on(alloc, remote, Deed::Look, path)?;
+    match seen_of(&looked) {
+        Some(seen) => {
+            let mut shown = path_text(alloc, path)?;
+            if is_long {
+                return Ok(fine(alloc, long_line(alloc, &seen, shown.as_slice())?));
+            }
+            shown.extend_from_slice(b"\n")?;
+            Ok(fine(alloc, shown))
+        }
+        None => refused_told(alloc, path, why),
+    }
+}
+
+/// `ls`.
+fn list<R: Remote>(
+    alloc: Global,
+    remote: &mut R,
+    path: &[Name],
+    is_long: bool,
+) -> Result<Told, AllocError> {
+    if is_long {
+        return list_long(alloc, remote, path);
+    }
+    match ask_on(alloc, remote, Deed::List, path)? {
+        Answer::Failed(why) => list_file(alloc, remote, path, false, why),
+        answer => names_told(alloc, path, &answer),
+    }
+}
+
+/// One command, which has nothing to tell.
+fn does<R: Remote>(
+    alloc: Global,
+    remote: &mut R,
+    deed: Deed,
+    path: &[Name],
+) -> Result<Told, AllocError> {
+    let answer = ask_on(alloc, remote, deed, path)?;
+    done_told(alloc, path, &answer)
+}
+
+/// `mkdir -p`: each directory on the way is made, where there is none.
+fn make_all<R: Remote>(alloc: Global, remote: &mut R, path: &[Name]) -> Result<Told, AllocError> {
+    for end in 0..path.len() {
+        let answer = ask_on(alloc, remote, Deed::MakeDir, &path[..end + 1])?;
+        match answer {
+            Answer::Done => {}
+            Answer::Failed(Why::Refused(EXIST)) => {}
+            answer => return refused_told(alloc, &path[..end + 1], why_of(&answer)),
+        }
+    }
+    if is_directory(alloc, remote, path)? {
+        Ok(fine(alloc, Items::new(alloc)))
+    } else {
+        refused_told(alloc, path, Why::Refused(NOTDIR))
+    }
+}
+
+/// The directories above a path are made, where the last of them isn't there.
+fn make_way<R: Remote>(alloc: Global, remote: &mut R, path: &[Name]) -> Result<Told, AllocError> {
+    if path.len() < 2 {
+        return Ok(fine(alloc, Items::new(alloc)));
+    }
+    let above = &path[..path.len() - 1];
+    match ask_on(alloc, remote, Deed::Look, above)? {
+        Answer::Failed(Why::Refused(NOENT)) => make_all(alloc, remote, above),
+        _ => Ok(fine(alloc, Items::new(alloc))),
+    }
+}
+
+/// `rm` and `rm -r`.
+fn remove<R: Remote>(
+    alloc: Global,
+    remote: &mut R,
+    path: &[Name],
+    with_all: bool,
+) -> Result<Told, AllocError> {
+    if !with_all {
+        return does(alloc, remote, Deed::Remove, path);
+    }
+    let removal = remove_all(alloc, remote, path)?;
+    Ok(notes(alloc, removal.note))
+}
+
+/// `stat`.
+fn stat<R: Remote>(alloc: Global, remote: &mut R, path: &[Name]) -> Result<Told, AllocError> {
+    let answer = ask_on(alloc, remote, Deed::Look, path)?;
+    stat_told(alloc, path, &answer)
+}
+
+/// What a renaming came to. Where it wasn't done, the first name is at fault where nothing has it, and else
+/// the second.
+fn rename_told<R: Remote>(
+    alloc: Global,
+    remote: &mut R,
+    from: &[Name],
+    to: &[Name],
+    answer: &Answer,
+) -> Result<Told, AllocError> {
+    if !matches!(answer, Answer::Failed(Why::Refused(_))) {
+        return done_told(alloc, from, answer);
+    }
+    match ask_on(alloc, remote, Deed::Look, from)? {
+        Answer::Seen(_) => done_told(alloc, to, answer),
+        looked => refused_told(alloc, from, why_of(&looked)),
+    }
+}
+
+/// `mv`: into the directory that has the second path, where one has it.
+fn rename<R: Remote>(
+    alloc: Global,
+    remote: &mut R,
+    from: &[Name],
+    to: Path,
+) -> Result<Told, AllocError> {
+    let mut to = to;
+    if is_directory(alloc, remote, to.as_slice())? {
+        if let Some(name) = from.last() {
+            to.push(name.try_clone(alloc)?)?;
+        }
+    }
+    let answer = ask_rename(alloc, remote, from, to.as_slice())?;
+    rename_told(alloc, remote, from, to.as_slice(), &answer)
+}
+
+/// A command on one path of the server.
+fn on_path<R: Remote>(
+    alloc: Global,
+    remote: &mut R,
+    verb: Verb,
+    has_option: bool,
+    path: &[Name],
+) -> Result<Told, AllocError> {
+    match verb {
+        Verb::Ls => list(alloc, remote, path, has_option),
+        Verb::Mkdir if has_option => make_all(alloc, remote, path),
+        Verb::Mkdir => does(alloc, remote, Deed::MakeDir, path),
+        Verb::Rm => remove(alloc, remote, path, has_option),
+        Verb::Rmdir => does(alloc, remote, Deed::RemoveDir, path),
+        Verb::Cat => cat(alloc, remote, path),
+        _ => stat(alloc, remote, path),
+    }
+}
+
+impl Shell {
+    /// A shell at the server's root, and in this folder.
+    pub fn new(alloc: Global, folder: LocalPath) -> Shell {
+        Shell {
+            dir: Items::new(alloc),
+            folder,
+        }
+    }
+
+    /// The directory of the server in which it stands.
+    pub fn place(&self) -> &[Name]
+        ensures { result.now ≡ self.now.dir }
+    {
+        self.dir.as_slice()
+    }
+
+    /// The path that a word names.
+    fn named(&self, alloc: Global, word: &[u8]) -> Result<Named, AllocError> {
+        match path_of(alloc, self.dir.as_slice(), word) {
+            Ok(path) => Ok(Named::Path(path)),
+            Err(ReadError::Mistaken(mistake)) => {
+                Ok(Named::Mistaken(mistaken(alloc, word, mistake)?))
+            }
+            Err(ReadError::Memory) => Err(AllocError),
+        }
+    }
+
+    /// The path of the host that a word names.
+    fn named_local(&self, alloc: Global, word: &[u8]) -> Result<NamedLocal, AllocError> {
+        match text_of(word) {
+            Some(text) => Ok(NamedLocal::Path(LocalPath::of(alloc, self.folder.as_str(), text)?)),
+            None => Ok(NamedLocal::Mistaken(of_word(
+                alloc,
+                word,
+                fault_words(LocalFault::NotText),
+            )?)),
+        }
+    }
+
+    /// `cd`: to a directory that is there.
+    fn go<R: Remote>(
+        &mut self,
+        alloc: Global,
+        remote: &mut R,
+        path: Path,
+    ) -> Result<Told, AllocError> {
+        let answer = ask_on(alloc, remote, Deed::Look, path.as_slice())?;
+        match seen_of(&answer) {
+            Some(seen) if seen.is_dir => {
+                self.dir = path;
+                Ok(fine(alloc, Items::new(alloc)))
+            }
+            Some(_) => refused_told(alloc, path.as_slice(), Why::Refused(NOTDIR)),
+            None => refused_told(alloc, path.as_slice(), why_of(&answer)),
+        }
+    }
+
+    /// `pwd`.
+    fn tell_place(&self, alloc: Global) -> Result<Told, AllocError> {
+        let mut text = path_text(alloc, self.dir.as_slice())?;
+        text.extend_from_slice(b"\n")?;
+        Ok(fine(alloc, text))
+    }
+
+    /// `lcd` without a word.
+    fn tell_folder(&self, alloc: Global) -> Result<Told, AllocError> {
+        let mut text = quoted(alloc, self.folder.as_str().as_bytes())?;
+        text.extend_from_slice(b"\n")?;
+        Ok(fine(alloc, text))
+    }
+
+    /// `lcd`: to a folder that is there.
+    fn go_local<F: Folder>(
+        &mut self,
+        alloc: Global,
+        host: &mut F,
+        word: &[u8],
+    ) -> Result<Told, AllocError> {
+        if word.is_empty() {
+            return self.tell_folder(alloc);
+        }
+        match self.named_local(alloc, word)? {
+            NamedLocal::Mistaken(told) => Ok(told),
+            NamedLocal::Path(path) => match host.kind(path.as_str(), true) {
+                Kind::Folder => {
+                    self.folder = path;
+                    Ok(fine(alloc, Items::new(alloc)))
+                }
+                Kind::Missing => of_word(alloc, word, fault_words(LocalFault::Missing)),
+                _ => of_word(alloc, word, fault_words(LocalFault::NotFolder)),
+            },
+        }
+    }
+
+    /// The path of the host for what is fetched: in the folder of the word, where there is one.
+    fn local_target<F: Folder>(
+        &self,
+        alloc: Global,
+        host: &mut F,
+        word: &[u8],
+        last: &[u8],
+    ) -> Result<NamedLocal, AllocError> {
+        let word = if word.is_empty() { last } else { word };
+        let path = match self.named_local(alloc, word)? {
+            NamedLocal::Path(path) => path,
+            mistaken => return Ok(mistaken),
+        };
+        match (host.kind(path.as_str(), true), text_of(last)) {
+            (Kind::Folder, Some(text)) if is_component(last) && word != last => Ok(NamedLocal::Path(
+                LocalPath::below(alloc, path.as_str(), text)?,
+            )),
+            _ => Ok(NamedLocal::Path(path)),
+        }
+    }
+
+    /// `get`.
+    fn get<F: Folder>(
+        &self,
+        alloc: Global,
+        host: &mut F,
+        path: Path,
+        word: &[u8],
+        deep: bool,
+    ) -> Result<Went, AllocError> {
+        let last = match path.as_slice().last() {
+            Some(name) => name.try_clone(alloc)?,
+            None => Name::copy_of(alloc, b".")?,
+        };
+        if !is_component(last.as_slice()) && last.as_slice() != b".".as_slice() {
+            return Ok(Went::Told(of_word(
+                alloc,
+                last.as_slice(),
+                fault_words(LocalFault::BadName),
+            )?));
+        }
+        match self.local_target(alloc, host, word, last.as_slice())? {
+            NamedLocal::Path(local) => Ok(Went::Works(Task::Get {
+                path,
+                local,
+                deep,
+                id: None,
+            })),
+            NamedLocal::Mistaken(told) => Ok(Went::Told(told)),
+        }
+    }
+
+    /// The path of the server for what is stored: in the directory of the word, where there is one.
+    fn remote_target<R: Remote>(
+        &self,
+        alloc: Global,
+        remote: &mut R,
+        word: &[u8],
+        last: &[u8],
+    ) -> Result<Named, AllocError> {
+        if !is_component(last) {
+            return self.named(alloc, word);
+        }
+        let path = match self.named(alloc, word)? {
+            Named::Path(path) => path,
+            mistaken => return Ok(mistaken),
+        };
+        if word.is_empty() || is_directory(alloc, remote, path.as_slice())? {
+            Ok(Named::Path(longer(alloc, path.as_slice(), last)?))
+        } else {
+            Ok(Named::Path(path))
+        }
+    }
+
+    /// What is to be stored, where it is here; a folder only with all that is in it.
+    fn source<F: Folder>(
+        &self,
+        alloc: Global,
+        host: &mut F,
+        from: &[u8],
+        deep: bool,
+    ) -> Result<NamedLocal, AllocError> {
+        let local = match self.named_local(alloc, from)? {
+            NamedLocal::Path(local) => local,
+            mistaken => return Ok(mistaken),
+        };
+        let fault = match host.kind(local.as_str(), true) {
+            Kind::Missing => LocalFault::Missing,
+            Kind::Folder if !deep => LocalFault::NotDeep,
+            _ => return Ok(NamedLocal::Path(local)),
+        };
+        let told = of_word(alloc, local.as_str().as_bytes(), fault_words(fault))?;
+        Ok(NamedLocal::Mistaken(told))
+    }
+
+    /// `put` and `sync`: the directories above what is stored are made, where they aren't there.
+    fn stores<R: Remote>(
+        &self,
+        alloc: Global,
+        remote: &mut R,
+        local: LocalPath,
+        named: Named,
+        storing: Storing,
+    ) -> Result<Went, AllocError> {
+        let path = match named {
+            Named::Path(path) => path,
+            Named::Mistaken(told) => return Ok(Went::Told(told)),
+        };
+        let told = make_way(alloc, remote, path.as_slice())?;
+        if told.is_fine() {
+            Ok(Went::Works(Task::Put {
+                local,
+                path,
+                storing,
+            }))
+        } else {
+            Ok(Went::Told(told))
+        }
+    }
+
+    /// `put`.
+    fn put<R: Remote, F: Folder>(
+        &self,
+        alloc: Global,
+        remote: &mut R,
+        host: &mut F,
+        line: &Line,
+    ) -> Result<Went, AllocError> {
+        let from = operand(line, 0);
+        let local = match self.source(alloc, host, from, line.has_option)? {
+            NamedLocal::Path(local) => local,
+            NamedLocal::Mistaken(told) => return Ok(Went::Told(told)),
+        };
+        let named = self.remote_target(alloc, remote, operand(line, 1), last_of(from))?;
+        let storing = Storing {
+            deep: line.has_option,
+            changed_only: false,
+            deletes: false,
+            fresh: false,
+            inner: false,
+            id: None,
+        };
+        self.stores(alloc, remote, local, named, storing)
+    }
+
+    /// `sync`.
+    fn sync<R: Remote, F: Folder>(
+        &self,
+        alloc: Global,
+        remote: &mut R,
+        host: &mut F,
+        line: &Line,
+    ) -> Result<Went, AllocError> {
+        let local = match self.source(alloc, host, operand(line, 0), true)? {
+            NamedLocal::Path(local) => local,
+            NamedLocal::Mistaken(told) => return Ok(Went::Told(told)),
+        };
+        let named = self.named(alloc, operand(line, 1))?;
+        let storing = Storing {
+            deep: true,
+            changed_only: true,
+            deletes: line.has_option,
+            fresh: false,
+            inner: false,
+            id: None,
+        };
+        self.stores(alloc, remote, local, named, storing)
+    }
+
+    /// `mv`.
+    fn move_to<R: Remote>(
+        &self,
+        alloc: Global,
+        remote: &mut R,
+        from: Path,
+        word: &[u8],
+    ) -> Result<Told, AllocError> {
+        match self.named(alloc, word)? {
+            Named::Path(to) => rename(alloc, remote, from.as_slice(), to),
+            Named::Mistaken(told) => Ok(told),
+        }
+    }
+
+    /// A command whose first word is a path of the server.
+    fn run_named<R: Remote, F: Folder>(
+        &mut self,
+        alloc: Global,
+        remote: &mut R,
+        host: &mut F,
+        line: &Line,
+    ) -> Result<Went, AllocError> {
+        let path = match self.named(alloc, operand(line, 0))? {
+            Named::Path(path) => path,
+            Named::Mistaken(told) => return Ok(Went::Told(told)),
+        };
+        let told = match line.verb {
+            Verb::Cd => self.go(alloc, remote, path)?,
+            Verb::Get => return self.get(alloc, host, path, operand(line, 1), line.has_option),
+            Verb::Mv => self.move_to(alloc, remote, path, operand(line, 1))?,
+            verb => on_path(alloc, remote, verb, line.has_option, path.as_slice())?,
+        };
+        Ok(Went::Told(told))
+    }
+
+    /// Runs a line. `help` isn't a command of a tree: it is told as `bye` is, by whoever calls.
+    pub fn run<R: Remote, F: Folder>(
+        &mut self,
+        alloc: Global,
+        remote: &mut R,
+        host: &mut F,
+        line: &Line,
+    ) -> Result<Went, AllocError> {
+        match line.verb {
+            Verb::Pwd => Ok(Went::Told(self.tell_place(alloc)?)),
+            Verb::Lcd => Ok(Went::Told(self.go_local(alloc, host, operand(line, 0))?)),
+            Verb::Put => self.put(alloc, remote, host, line),
+            Verb::Sync => self.sync(alloc, remote, host, line),
+            Verb::Bye | Verb::Help => Ok(Went::Bye),
+            _ => self.run_named(alloc, remote, host, line),
+        }
+    }
+}

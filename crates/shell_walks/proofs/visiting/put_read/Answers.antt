@@ -1,6 +1,0 @@
-use Rattle.std.proofs.Common.{sym, ◌∙◌}
-use Rattle.shell_walks.proofs.Counting.{counted}
-use Rattle.shell_walks.proofs.visiting.put_read.Goals as goal
-
-pub returns-then-is_kept-clause-counts : goal.returns-then-is_kept-clause-counts
-returns-then-is_kept-clause-counts g c = counted _ _ _ _ _ _ _ _ _ _ c.in_ok-answer.ensures (sym c.is_kept.ensures ∙ c.if-is_kept.true) c.stored.ensures.files
