@@ -1,12 +1,15 @@
--- Worked rows of deliveries: which records come of bytes that are cut, which parts lines have, and that a delivery which brings nothing is none.
+-- Worked rows of lines: which records come of bytes that are cut, which parts lines have, which version clients speak, and that a delivery which brings nothing is
+-- none.
 use Rattle.std.specs.Prelude.{◌≡◌, ℕ, List, [], ◌∷◌, ◌++◌, map, codes, refl}
+use Rattle.std.proofs.Common.{ap, arith}
 use Rattle.command_text.specs.Parts.{lines_of}
 use Rattle.rpc_record.specs.Records.{record_of, marked}
 use Rattle.trace_text.specs.declared.line.Amount.TheVariants as amount
 use Rattle.trace_text.specs.declared.line.Line.TheVariants as line
 use Rattle.trace_text.specs.declared.line.Who.TheVariants as who
 use Rattle.trace_ends.specs.Core.{Core, Event.Cuts}
-use Rattle.trace_replay.specs.Chained.{Up, Down, Delivery, brought, records_in, event_at, IsDelivered, Clients, Tells, Changes, Brings, parts_of}
+use Rattle.trace_ends.specs.Session.{Seat, new_seat}
+use Rattle.trace_replay.specs.Chained.{Up, Down, Delivery, brought, records_in, event_at, nothing_came, IsDelivered, Speaks, Grants, Drifts, Clients, Tells, Changes, Brings, parts_of, HasMoments}
 
 -- two records of a byte each, five bytes on their way each
 abbrev two : List ℕ
@@ -37,3 +40,21 @@ nothing_comes_is_wrong k h = by h.records h.events h.complete
     by : (records : List (List ℕ)) → [] ≡ map (event_at Up 1 5) records → (7 ∷ []) ∷ (8 ∷ []) ∷ [] ≡ records → ⊥
     by [] events complete = absurd cc
     by (r ∷ rs) events complete = absurd cc
+
+-- what the header says
+pub header_told : parts_of (lines_of (codes "lbfs-trace 1\nterm 5\ndrift 6\nclients 2\n")) ≡ Speaks 1 ∷ Grants 5 ∷ Drifts 6 ∷ Clients 2 ∷ []
+header_told = refl
+
+-- clients come with the version of LBFS that was said, and not with another
+pub speaks_so : (k : Core) → HasMoments [] nothing_came k (Speaks 4) [] (record k { lbfs = 4 })
+speaks_so k = (refl, refl)
+
+pub comes_so : (k : Core) → HasMoments [] nothing_came (record k { drift = 5; lbfs = 4 }) (Clients 1) [] (record k { drift = 5; lbfs = 4; seats = new_seat 5 4 ∷ [] })
+comes_so k = (refl, refl)
+
+speaks_another : (k : Core) → HasMoments [] nothing_came (record k { drift = 5; lbfs = 4 }) (Clients 1) [] (record k { drift = 5; lbfs = 4; seats = new_seat 5 1 ∷ [] }) → ⊥
+speaks_another k h = let same : 1 ≡ 4 = ap (λ (c : Core). first c.seats) h.1 in absurd (omega (arith, same))
+  where
+    first : List Seat → ℕ
+    first [] = 0
+    first (s ∷ ss) = s.client.lbfs

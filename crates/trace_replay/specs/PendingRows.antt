@@ -1,6 +1,6 @@
--- Worked steps of wrong servers, each of which a clause on pending changes refuses; and which file a call asks to change.
-use Rattle.std.specs.Prelude.{◌≡◌, ◌⊎◌, ℕ, ◌<◌, ◌≤◌, zero, suc, slice_get, List, [], ◌∷◌, Option, Some, None, true, false, codes, map, refl}
-use Rattle.std.proofs.Common.{ap, sym, ◌∙◌, inl, inr, arith}
+-- Worked steps of wrong servers, each of which a clause on pending changes refuses; how a file goes; and which file a call asks to change.
+use Rattle.std.specs.Prelude.{◌≡◌, ◌⊎◌, ℕ, ◌<◌, ◌≤◌, zero, suc, Contains, slice_get, List, [], ◌∷◌, Option, Some, None, true, false, codes, map, refl}
+use Rattle.std.proofs.Common.{ap, sym, ◌∙◌, inl, inr, arith, get_or}
 use Rattle.xdr_codec.specs.Handle.{handle_bytes}
 use Rattle.hash_calls.specs.declared.message.Lb.TheVariants as lb
 use Rattle.nfs3_calls.specs.declared.message.Nfs.TheVariants as nfs
@@ -9,15 +9,21 @@ use Rattle.lease_rules.specs.Changes.{meets}
 use Rattle.lease_rules.specs.declared.lease.Lease.{Lease}
 use Rattle.tree_nodes.specs.declared.node.Body.TheVariants.{File}
 use Rattle.xdr_codec.specs.declared.handle.TheConstants.{ROOT}
+use Rattle.server_core.specs.declared.change.Wanted.{Wanted}
 use Rattle.server_core.specs.declared.change.Wanted.TheVariants as wanted
 use Rattle.server_core.specs.declared.event.Sent.{Sent}
+use Rattle.server_core.specs.declared.journal.Entry.{Entry}
+use Rattle.server_core.specs.Closing.{ready_by}
+use Rattle.tree_calls.specs.declared.asked.Asked.{Asked}
+use Rattle.tree_calls.specs.declared.asked.Asked.TheVariants as tree_call
+use Rattle.tree_reading.specs.declared.entry.EntryKind.TheVariants as entry_kind
 use Rattle.server_core.specs.State as server
 use Rattle.server_core.specs.State.{State, FileChange, change_of}
 use Rattle.server_core.specs.Step.{opens_with}
 use Rattle.trace_ends.specs.Core.{Event, Event.Serves, Event.Settles, Event.Hangs}
 use Rattle.trace_replay.specs.Book.{Book}
-use Rattle.trace_replay.specs.Trail.{Moment}
-use Rattle.trace_replay.specs.Faithful.{TakesReady}
+use Rattle.trace_replay.specs.Trail.{Moment, step_of}
+use Rattle.trace_replay.specs.Faithful.{TakesReady, IsRemoved}
 use Rattle.trace_replay.specs.PendingChanges.{Move, KeepsTime, GrantsTo, IsGranted, IsAskedFor, LeasesCome, GrantsNone, GivesUp, AsksFor, AsksForAll, GoesOn, file_asked, settlings}
 
 -- ---- states
@@ -183,6 +189,69 @@ second_made book t = by t.place t.there t.first
 
 in_the_quiet : (book : Book) (s : State) → TakesReady book (settled (record s { leasing = record s.leasing { moment = 0; quiet = 500 } })) 100 (close 2 2) → ⊥
 in_the_quiet book s t = let le = t.awake in absurd (omega (arith, le))
+
+-- ---- a file goes
+
+-- a REMOVE of a file
+abbrev asks_removal : (file : ℕ) → Asked
+asks_removal file = tree_call.Remove (record { spot = record { dir = ROOT; name = codes "a" }; file = file })
+
+abbrev removal : (session file : ℕ) → FileChange
+removal session file = change_of session 5 file (wanted.Asked (asks_removal file))
+
+abbrev entry_of : (session file : ℕ) → Entry
+entry_of session file = record { file = file; version = 2; kind = entry_kind.Remove; len = 0; sha1 = []; session = session }
+
+abbrev one_pending : FileChange → List Lease → Moment
+one_pending c leases = settled (state (c ∷ []) leases)
+
+-- by the change that was ready
+pub went : IsRemoved (one_pending (removal 2 2) [] ∷ []) 1 (entry_of 2 2)
+went = record { moment = one_pending (removal 2 2) []; there = (0, omega arith, refl); now = 100; event_is = refl; step_is = refl; change = removal 2 2; ready = refl; call = asks_removal 2; what_is = refl; file_is = refl; session_is = refl }
+
+only : (m n : Moment) → Contains (m ∷ []) n → m ≡ n
+only m n p = at p.0 p.1 p.2
+  where
+    at : (k : ℕ) → k < 1 → get_or (m ∷ []) k n ≡ n → m ≡ n
+    at zero lt e = e
+    at (suc k) lt e = absurd (omega (arith, lt))
+
+-- which is the one that the clause names
+names_ready : (s : State) (o : Option FileChange) (step : ℕ) (e : Entry) → ready_by s 100 ≡ o → (w : IsRemoved (settled s ∷ []) step e) → o ≡ Some w.change
+names_ready s o step e at w =
+    let same : settled s ≡ w.moment = only (settled s) w.moment w.there in
+    let reading : 100 ≡ w.now = now_of (ap (λ (m : Moment). m.event) same ∙ w.event_is) in
+    sym at ∙ ap (λ n. ready_by s n) reading ∙ ap (λ (m : Moment). ready_by m.before.server w.now) same ∙ w.ready
+  where
+    now_of : {a b : ℕ} → Settles a ≡ Settles b → a ≡ b
+    now_of e = cc
+
+some_of : (c d : FileChange) → Some c ≡ Some d → c ≡ d
+some_of c d e = cc
+
+-- another session's, or another file
+of_another : IsRemoved (one_pending (removal 2 2) [] ∷ []) 1 (entry_of 3 2) → ⊥
+of_another w = let same = ap (λ (c : FileChange). c.session) (some_of (removal 2 2) w.change (names_ready (state (removal 2 2 ∷ []) []) (Some (removal 2 2)) 1 (entry_of 3 2) refl w)) in let is = w.session_is in absurd (omega (arith, same, is))
+
+other_file : IsRemoved (one_pending (removal 2 2) [] ∷ []) 1 (entry_of 2 3) → ⊥
+other_file w = let same = ap (λ (c : FileChange). c.file) (some_of (removal 2 2) w.change (names_ready (state (removal 2 2 ∷ []) []) (Some (removal 2 2)) 1 (entry_of 2 3) refl w)) in let is = w.file_is in absurd (omega (arith, same, is))
+
+-- by a close
+closed_away : IsRemoved (one_pending (close 2 2) [] ∷ []) 1 (entry_of 2 2) → ⊥
+closed_away w = absurd (apart (ap (λ (c : FileChange). c.what) (some_of (close 2 2) w.change (names_ready (state (close 2 2 ∷ []) []) (Some (close 2 2)) 1 (entry_of 2 2) refl w)) ∙ w.what_is))
+  where
+    apart : {a : Asked} → wanted.Content [] ≡ wanted.Asked a → ⊥
+    apart e = cc
+
+-- under a lease of another, or while nothing was pending; and in another step than the settling's
+under_a_lease : IsRemoved (one_pending (removal 2 2) (lease 3 2 1000 None ∷ []) ∷ []) 1 (entry_of 2 2) → ⊥
+under_a_lease w = no w.change (names_ready (state (removal 2 2 ∷ []) (lease 3 2 1000 None ∷ [])) None 1 (entry_of 2 2) refl w)
+
+of_itself : IsRemoved (settled (state [] []) ∷ []) 1 (entry_of 2 2) → ⊥
+of_itself w = no w.change (names_ready (state [] []) None 1 (entry_of 2 2) refl w)
+
+in_another_step : (s : State) (e : Entry) → IsRemoved (settled s ∷ []) 2 e → ⊥
+in_another_step s e w = let same : 1 ≡ 2 = ap step_of (only (settled s) w.moment w.there) ∙ w.step_is in absurd (omega (arith, same))
 
 -- ---- which file
 
