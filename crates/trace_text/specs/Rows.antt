@@ -72,7 +72,7 @@ warmings = refl
 refused : said (codes "terms 1" ∷ codes "Term 1" ∷ codes "term" ∷ codes "term " ∷ codes "term  1" ∷ codes "term 1 " ∷ codes " term 1" ∷ codes "term\t1" ∷ codes "term 1\r" ∷ codes "term 1 1" ∷ []) ≡ replicate 10 None
 refused = refl
 
-refused_number : said (codes "term 01" ∷ codes "drift 00" ∷ codes "drift +1" ∷ codes "drift -0" ∷ codes "drift 1a" ∷ codes "drift 0x1" ∷ codes "term 0" ∷ codes "term 3600001" ∷ codes "drift 3600001" ∷ codes "clients 0" ∷ codes "clients 17" ∷ codes "join 18446744073709551616 0 0" ∷ codes "join 1 9223372036854775808 0" ∷ codes "join 1 0 9223372036854775808" ∷ codes "pass 1 18446744073709551616 0 0" ∷ codes "lbfs-trace 2" ∷ codes "lbfs-trace 01" ∷ []) ≡ replicate 17 None
+refused_number : said (codes "term 01" ∷ codes "drift 00" ∷ codes "drift +1" ∷ codes "drift -0" ∷ codes "drift 1a" ∷ codes "drift 0x1" ∷ codes "term 0" ∷ codes "term 3600001" ∷ codes "drift 3600001" ∷ codes "clients 0" ∷ codes "clients 17" ∷ codes "join 18446744073709551616 0 0" ∷ codes "join 1 9223372036854775808 0" ∷ codes "join 1 0 9223372036854775808" ∷ codes "pass 1 18446744073709551616 0 0" ∷ codes "lbfs-trace 2" ∷ codes "lbfs-trace 01" ∷ codes "lbfs-trace 0" ∷ codes "lbfs-trace" ∷ codes "lbfs-trace 1 1" ∷ []) ≡ replicate 20 None
 refused_number = refl
 
 refused_file : said (codes "file a" ∷ codes "file  -" ∷ codes "file . -" ∷ codes "file .. -" ∷ codes "file / -" ∷ codes "file /a -" ∷ codes "file a/ -" ∷ codes "file a//b -" ∷ codes "file a/. -" ∷ codes "file a~ -" ∷ codes "file a --" ∷ codes "file a t:" ∷ codes "file a t" ∷ codes "file a abc" ∷ codes "file a t:a b" ∷ []) ≡ replicate 15 None
