@@ -10,6 +10,7 @@ use lb_base::source::Failed;
 use std::sync::Wait;
 use synced_store::syncs::Syncs;
 use wire::message::{Body, Message};
+use xdr_codec::answer::Answer;
 
 /// What there is to say to a session, as it was taken in a turn. Nothing of it may go out yet.
 #[derive(Drop)]
@@ -34,14 +35,15 @@ fn is_call(message: &Message) -> bool {
     }
 }
 
-/// Whether a message tells what the store has: all do but the answers on a client's temporary files.
+/// Whether a message tells what the store has: all do but the answers on a client's temporary files. Of these
+/// the refusal of a MKTMPFILE does, since it may tell that the file is gone.
 fn tells(message: &Message) -> bool
     ensures { result ≡ tells message.now }
 {
     match message {
         Message::Answer(_, Body::Lb(answer)) => !matches!(
             answer,
-            Lb::MkTmpFileAnswer(_) | Lb::TmpWriteAnswer(_) | Lb::CondWriteAnswer(_)
+            Lb::MkTmpFileAnswer(Answer::Done(_)) | Lb::TmpWriteAnswer(_) | Lb::CondWriteAnswer(_)
         ),
         _ => true,
     }
