@@ -91,6 +91,12 @@ fn write_whole<R: HostDisk>(
     fs::open(rt, folder)?.sync_all()
 }
 
+/// A file of a folder is on the disk, and its name: a run that was killed may have only written it.
+fn flush_left<R: HostDisk>(rt: &R, folder: &str, path: &str) -> io::Result<()> {
+    fs::open(rt, path)?.sync_data()?;
+    fs::open(rt, folder)?.sync_all()
+}
+
 /// Whether a shorter term is noted than that of this run.
 fn is_shorter(before: Option<u64>, term: u64) -> bool {
     match before {
@@ -149,7 +155,8 @@ impl Term {
     pub(crate) fn note<R: HostDisk + Eprint>(&self, rt: &R) -> bool {
         let path = self.path.as_str();
         let before = noted_term(rt, path);
-        before == Some(self.term) || self.is_written(rt) || !is_shorter(before, self.term)
+        let stands = before == Some(self.term) && flush_left(rt, self.place(), path).is_ok();
+        stands || self.is_written(rt) || !is_shorter(before, self.term)
     }
 
     /// Puts the term into the place of the one that was noted, and answers whether it could be.
