@@ -1,4 +1,4 @@
-"""File systems of two mebibytes, where this machine lets one be made. `storing` uses them."""
+"""File systems of two mebibytes, or of fewer, where this machine lets one be made. `storing` uses them."""
 import os
 import shutil
 import subprocess
@@ -12,8 +12,8 @@ SIZE = 2 << 20
 class Disk:
     """A folder that is all of a small file system: one in memory (tmpfs), or ext4 in a file."""
 
-    def __init__(self, kind):
-        self.kind, self.top = kind, None
+    def __init__(self, kind, size=SIZE):
+        self.kind, self.size, self.top = kind, size, None
 
     def __enter__(self):
         self.top = tempfile.mkdtemp(prefix="lbfs-examples-")
@@ -28,10 +28,10 @@ class Disk:
         return folder
 
     def make(self):
-        words = ["mount", "-t", "tmpfs", "-o", f"size={SIZE}", "tmpfs"]
+        words = ["mount", "-t", "tmpfs", "-o", f"size={self.size}", "tmpfs"]
         if self.kind == "ext4":
             with open(f"{self.top}/image", "wb") as image:
-                image.truncate(SIZE)
+                image.truncate(self.size)
             run(["mkfs.ext4", "-q", "-b", "1024", f"{self.top}/image"])
             words = ["mount", "-o", "loop", f"{self.top}/image"]
         run([*words, f"{self.top}/disk"])

@@ -16,9 +16,11 @@ FLUSHES = ("fsync", "fdatasync")
 SENDS = ("write", "writev", "sendto", "sendmsg")
 
 
-def under(path):
-    """The command under which a server is run, so that its calls come into a file."""
-    return ["strace", "-f", "-qq", "-xx", "-s", "100000000", "-e", f"trace={CALLS}", "-e", "signal=none", "-o", path]
+def under(path, slow=0):
+    """The command under which a server is run, so that its calls come into a file; each flush of a file takes so many
+    microseconds more."""
+    more = ["-e", f"inject=fdatasync:delay_exit={slow}"] if slow else []
+    return ["strace", "-f", "-qq", "-xx", "-s", "100000000", "-e", f"trace={CALLS}", "-e", "signal=none", *more, "-o", path]
 
 
 def can_trace():
@@ -96,12 +98,15 @@ def apply(held, step, sectors, whole=False):
 
 
 class Trace:
-    """A folder, as a trace leads it on, call by call."""
+    """A folder, as a trace leads it on, call by call. Of the files that are there before nothing is flushed."""
 
-    def __init__(self, folder):
+    def __init__(self, folder, before):
         self.folder = os.fsencode(folder)
         self.open, self.names, self.sure_names, self.pending_names = {}, {}, {}, []
         self.flushed_names = 0
+        for name, given in before.items():
+            self.set_name(("set", name, Inode()))
+            self.names[name].do(("write", 0, given))
         # of a descriptor of a connection its number, and what was sent on each
         self.connections, self.sent = {}, []
 
@@ -265,10 +270,15 @@ def events(path):
     return sorted(all_of, key=lambda it: it[:2])
 
 
-def points(path, folder, samples, chance):
-    """For each point of a trace at which something changed: of each connection the xids that were answered by then, and so
-    many folders that a cut may leave."""
-    trace, begun = Trace(folder), {}
+def is_shortened(trace):
+    """Whether a cut may leave the log shorter than it was, or as it was."""
+    return b"log" in trace.names and any(step[0] == "cut" for step in trace.names[b"log"].pending)
+
+
+def points(path, folder, samples, chance, before=None, wanted=lambda trace: True):
+    """For each point of a trace at which something changed, and which is wanted: of each connection the xids that were
+    answered by then, and so many folders that a cut may leave."""
+    trace, begun = Trace(folder, before or {}), {}
     for _, is_end, call, text, answer in events(path):
         fd = int(text.split(",")[0]) if re.match(r"\d+", text) else None
         if not is_end and call in FLUSHES:
@@ -279,6 +289,6 @@ def points(path, folder, samples, chance):
             marks = begun[call, text].pop(0)
             if answer == 0:
                 trace.flushed(fd, marks)
-        elif is_end and trace.take(call, text, answer):
+        elif is_end and trace.take(call, text, answer) and wanted(trace):
             ways = WAYS + ["any"] * max(0, samples - len(WAYS))
             yield trace.told(), [left(trace, chance, way) for way in ways[:samples]]
