@@ -20,12 +20,12 @@ none_more (x ∷ xs) = ap (λ l. x ∷ l) (none_more xs)
 
 -- bytes that say no record
 pub no_record : {E : Type 0} (result : Result (Unit {0}) E) (w : Which) (name : List ℕ) (r : Reading) (v : Vec ℕ Global) (o : Option Kept) (old new : CheckedStore)
-    → r ≡ reading.Bytes v → o ≡ record_in w v.items → o ≡ None → OnOk result (new.records ≡ old.records) → OnOk result (lines_in new ≡ lines_in old ++ (name ++ codes ": " ++ codes "no such record") ∷ []) → OnOk result (Adds w name r old new)
+    → r ≡ reading.Bytes v → o ≡ record_in w v.items → o ≡ None → OnOk result (new.records ≡ old.records) → OnOk result (lines_in new ≡ lines_in old ++ (name ++ codes ": " ++ codes "holds no record (was it cut?)") ∷ []) → OnOk result (Adds w name r old new)
 no_record (Ok u) w name r v o old new is by none records lines =
     let gone : record_in w v.items ≡ None = sym by ∙ none in
     subst (λ (q : Reading). Adds w name q old new) (sym is) (
       ap (λ (q : Vec Kept Global). q.items) records ∙ none_more old.records.items ∙ ap (λ (q : Option Kept). old.records.items ++ if_kept q) (sym gone),
-      lines ∙ ap (λ (q : Option Kept). lines_in old ++ unless_kept q (name ++ codes ": " ++ codes "no such record")) (sym gone),
+      lines ∙ ap (λ (q : Option Kept). lines_in old ++ unless_kept q (name ++ codes ": " ++ codes "holds no record (was it cut?)")) (sym gone),
     )
 no_record (Err e) w name r v o old new is by none records lines = tt
 

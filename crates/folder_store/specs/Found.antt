@@ -49,7 +49,7 @@ records_of w (reading.Fault why) = []
 -- a line under the file's name, where it was read and says no record, or couldn't be
 abbrev pub findings_of : Which → List ℕ → Reading → List (List ℕ)
 findings_of w name reading.Missing = []
-findings_of w name (reading.Bytes v) = unless_kept (record_in w v.items) (name ++ codes ": " ++ codes "no such record")
+findings_of w name (reading.Bytes v) = unless_kept (record_in w v.items) (name ++ codes ": " ++ codes "holds no record (was it cut?)")
 findings_of w name (reading.Fault why) = (name ++ codes ": " ++ string_bytes why) ∷ []
 
 abbrev pub lines_in : CheckedStore → List (List ℕ)

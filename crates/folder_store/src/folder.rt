@@ -104,7 +104,7 @@ fn tell_no_record<R: Eprint>(
 ) -> Result<(), AllocError> {
     let mut name = String::new(alloc);
     put_name(&mut name, which)?;
-    let _told = eprintln!(rt; "lbfs: {place}/{name}: no such record");
+    let _told = eprintln!(rt; "lbfs: {place}/{name}: holds no record (was it cut?)");
     Ok(())
 }
 

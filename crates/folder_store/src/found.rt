@@ -63,7 +63,7 @@ pub(crate) fn add_reading(
                 found.records.push(record)?;
                 Ok(())
             }
-            None => add_line(alloc, name, "no such record", found),
+            None => add_line(alloc, name, "holds no record (was it cut?)", found),
         },
         Reading::Fault(why) => add_line(alloc, name, why.as_str(), found),
     }

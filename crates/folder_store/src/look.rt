@@ -159,7 +159,7 @@ fn reading_of<R: Files<File = File>>(
         Ok(None) => Ok(Reading::Missing),
         Err(why) if why.kind() == ErrorKind::OutOfMemory => Err(AllocError),
         Err(why) if why.kind() == ErrorKind::InvalidData => {
-            Ok(Reading::Fault(String::from_str(alloc, "no such record")?))
+            Ok(Reading::Fault(String::from_str(alloc, "holds no record (was it cut?)")?))
         }
         Err(why) => Ok(Reading::Fault(format!(in alloc; "{why}")?)),
     }

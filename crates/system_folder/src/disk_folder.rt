@@ -46,6 +46,9 @@ fn tell_unopened<R: Eprint>(rt: &R, place: &str, why: TryLockError) -> StoreErro
         TryLockError::Error(why) if why.kind() == ErrorKind::OutOfMemory => {
             return StoreError::Memory;
         }
+        TryLockError::Error(why) if why.kind() == ErrorKind::NotFound => {
+            let _told = eprintln!(rt; "lbfs: {place}: {why} (make it first)");
+        }
         TryLockError::Error(why) => {
             let _told = eprintln!(rt; "lbfs: {place}: {why}");
         }
@@ -97,7 +100,9 @@ impl<R: Files<File = File> + AllocGlobal + Eprint + Clone + Drop> DiskFolder<R> 
                 );
             }
             Stranger::Folder => {
-                let _told = eprintln!(rt; "lbfs: {place}: it isn't empty, and is no store");
+                let _told = eprintln!(rt;
+                    "lbfs: {place}: it isn't empty, and is no store (take an empty folder)"
+                );
             }
         }
         drop(stranger);
