@@ -152,14 +152,22 @@ fn create<R: HostDisk>(rt: &R, path: &str) -> io::Result<R::File> {
         .open(rt, path)
 }
 
+/// A file gets the permissions of the one that it is to replace.
+fn keep_permissions<F: OpenFile>(file: &F, target: &Target) -> io::Result<()> {
+    match &target.kept {
+        Some(kept) => file.set_permissions(kept.permissions()),
+        None => Ok(()),
+    }
+}
+
 /// Writes the file beside, with the permissions of the one that it is to replace, and puts it in its
-/// place.
+/// place. It has them before its bytes, so that nobody reads these who may not; the system may take some
+/// away as it is written.
 fn replace<R: HostDisk>(rt: &R, beside: &str, target: &Target, bytes: &[u8]) -> io::Result<()> {
     let mut file = create(rt, beside)?;
+    keep_permissions(&file, target)?;
     file.write_all(bytes)?;
-    if let Some(kept) = &target.kept {
-        file.set_permissions(kept.permissions())?;
-    }
+    keep_permissions(&file, target)?;
     drop(file);
     fs::rename(rt, beside, target.path.as_str())
 }
@@ -254,7 +262,7 @@ impl<R: HostDisk> Folder for HostFolder<R> {
         match found {
             Ok(facts) => kind_of(&facts),
             Err(error) if error.kind() == ErrorKind::NotFound => Kind::Missing,
-            Err(_) => Kind::Other,
+            Err(error) => Kind::Hidden(fault_of(&error)),
         }
     }
 

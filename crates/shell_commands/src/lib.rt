@@ -2,6 +2,7 @@
 //! (`shell_walks`). `specs/Visiting.antt` says what a task leaves alone.
 #![tactic(auto)]
 
+pub mod doing;
 pub mod placing;
 pub mod shell;
 pub mod visiting;

@@ -2,17 +2,15 @@
 
 ghost use Rattle.std.specs.Prelude.{◌≡◌};
 
+use crate::doing::{is_directory, make_all, move_to, on_path};
 use command_text::path::Path;
 use lb_base::items::{Items, Name};
-use shell_walks::asking::{Deed, ask_on, ask_rename, seen_of};
-use shell_walks::fetching::cat;
+use shell_walks::asking::{Deed, ask_on, seen_of};
 use shell_walks::folder::{Folder, Kind, LocalFault};
 use shell_walks::remote::{Answer, Remote, Why};
-use shell_walks::removing::remove_all;
 use shell_walks::tasks::{Storing, Task, longer};
 use shell_walks::telling::{
-    done_told, fault_words, long_line, mistake_words, names_told, note_line, path_text,
-    refused_told, stat_told, why_of,
+    fault_words, mistake_words, note_line, path_text, refused_told, why_of,
 };
 use shell_walks::told::{Told, fine, notes};
 use shell_words::command::{Line, Verb};
@@ -22,10 +20,8 @@ use shell_words::path::{last_of, path_of};
 use shell_words::quoting::quoted;
 use std::alloc::{AllocError, Global};
 
-/// NFS3ERR_NOENT, NFS3ERR_EXIST, NFS3ERR_NOTDIR.
+/// NFS3ERR_NOENT, NFS3ERR_NOTDIR.
 const NOENT: u32 = 2;
-
-const EXIST: u32 = 17;
 
 const NOTDIR: u32 = 20;
 
@@ -81,124 +77,6 @@ fn operand(line: &Line, at: usize) -> &[u8] {
     }
 }
 
-/// What a path stands for is looked at.
-fn is_directory<R: Remote>(
-    alloc: Global,
-    remote: &mut R,
-    path: &[Name],
-) -> Result<bool, AllocError> {
-    let answer = ask_on(alloc, remote, Deed::Look, path)?;
-    match seen_of(&answer) {
-        Some(seen) => Ok(seen.is_dir),
-        None => Ok(false),
-    }
-}
-
-/// A line of `ls -l`, or what is said of a name that went meanwhile.
-fn put_long<R: Remote>(
-    alloc: Global,
-    remote: &mut R,
-    told: &mut Told,
-    path: &[Name],
-    name: &[u8],
-) -> Result<(), AllocError> {
-    let path = longer(alloc, path, name)?;
-    match ask_on(alloc, remote, Deed::Look, path.as_slice())? {
-        Answer::Seen(seen) => {
-            let shown = quoted(alloc, name)?;
-            let line = long_line(alloc, &seen, shown.as_slice())?;
-            told.text.extend_from_slice(line.as_slice())
-        }
-        answer => {
-            let said = refused_told(alloc, path.as_slice(), why_of(&answer))?;
-            told.note.extend_from_slice(said.note.as_slice())
-        }
-    }
-}
-
-/// `ls -l`.
-fn list_long<R: Remote>(alloc: Global, remote: &mut R, path: &[Name]) -> Result<Told, AllocError> {
-    match ask_on(alloc, remote, Deed::List, path)? {
-        Answer::Names(listed) => {
-            let mut told = fine(alloc, Items::new(alloc));
-            for name in listed.names.as_slice() {
-                put_long(alloc, remote, &mut told, path, name.as_slice())?;
-            }
-            Ok(told)
-        }
-        answer => list_file(alloc, remote, path, true, why_of(&answer)),
-    }
-}
-
-/// What can't be listed: a file is told as if it were all that is in a directory.
-fn list_file<R: Remote>(
-    alloc: Global,
-    remote: &mut R,
-    path: &[Name],
-    is_long: bool,
-    why: Why,
-) -> Result<Told, AllocError> {
-    if !matches!(why, Why::Refused(NOTDIR)) {
-        return refused_told(alloc, path, why);
-    }
-    let looked = ask_on(alloc, remote, Deed::Look, path)?;
-    match seen_of(&looked) {
-        Some(seen) => {
-            let mut shown = path_text(alloc, path)?;
-            if is_long {
-                return Ok(fine(alloc, long_line(alloc, &seen, shown.as_slice())?));
-            }
-            shown.extend_from_slice(b"\n")?;
-            Ok(fine(alloc, shown))
-        }
-        None => refused_told(alloc, path, why),
-    }
-}
-
-/// `ls`.
-fn list<R: Remote>(
-    alloc: Global,
-    remote: &mut R,
-    path: &[Name],
-    is_long: bool,
-) -> Result<Told, AllocError> {
-    if is_long {
-        return list_long(alloc, remote, path);
-    }
-    match ask_on(alloc, remote, Deed::List, path)? {
-        Answer::Failed(why) => list_file(alloc, remote, path, false, why),
-        answer => names_told(alloc, path, &answer),
-    }
-}
-
-/// One command, which has nothing to tell.
-fn does<R: Remote>(
-    alloc: Global,
-    remote: &mut R,
-    deed: Deed,
-    path: &[Name],
-) -> Result<Told, AllocError> {
-    let answer = ask_on(alloc, remote, deed, path)?;
-    done_told(alloc, path, &answer)
-}
-
-/// `mkdir -p`: each directory on the way is made, where there is none.
-fn make_all<R: Remote>(alloc: Global, remote: &mut R, path: &[Name]) -> Result<Told, AllocError> {
-    for end in 0..path.len() {
-        let answer = ask_on(alloc, remote, Deed::MakeDir, &path[..end + 1])?;
-        match answer {
-            Answer::Done => {}
-            Answer::Failed(Why::Refused(EXIST)) => {}
-            answer => return refused_told(alloc, &path[..end + 1], why_of(&answer)),
-        }
-    }
-    if is_directory(alloc, remote, path)? {
-        Ok(fine(alloc, Items::new(alloc)))
-    } else {
-        refused_told(alloc, path, Why::Refused(NOTDIR))
-    }
-}
-
 /// The directories above a path are made, where the last of them isn't there.
 fn make_way<R: Remote>(alloc: Global, remote: &mut R, path: &[Name]) -> Result<Told, AllocError> {
     if path.len() < 2 {
@@ -208,80 +86,6 @@ fn make_way<R: Remote>(alloc: Global, remote: &mut R, path: &[Name]) -> Result<T
     match ask_on(alloc, remote, Deed::Look, above)? {
         Answer::Failed(Why::Refused(NOENT)) => make_all(alloc, remote, above),
         _ => Ok(fine(alloc, Items::new(alloc))),
-    }
-}
-
-/// `rm` and `rm -r`.
-fn remove<R: Remote>(
-    alloc: Global,
-    remote: &mut R,
-    path: &[Name],
-    with_all: bool,
-) -> Result<Told, AllocError> {
-    if !with_all {
-        return does(alloc, remote, Deed::Remove, path);
-    }
-    let removal = remove_all(alloc, remote, path)?;
-    Ok(notes(alloc, removal.note))
-}
-
-/// `stat`.
-fn stat<R: Remote>(alloc: Global, remote: &mut R, path: &[Name]) -> Result<Told, AllocError> {
-    let answer = ask_on(alloc, remote, Deed::Look, path)?;
-    stat_told(alloc, path, &answer)
-}
-
-/// What a renaming came to. Where it wasn't done, the first name is at fault where nothing has it, and else
-/// the second.
-fn rename_told<R: Remote>(
-    alloc: Global,
-    remote: &mut R,
-    from: &[Name],
-    to: &[Name],
-    answer: &Answer,
-) -> Result<Told, AllocError> {
-    if !matches!(answer, Answer::Failed(Why::Refused(_))) {
-        return done_told(alloc, from, answer);
-    }
-    match ask_on(alloc, remote, Deed::Look, from)? {
-        Answer::Seen(_) => done_told(alloc, to, answer),
-        looked => refused_told(alloc, from, why_of(&looked)),
-    }
-}
-
-/// `mv`: into the directory that has the second path, where one has it.
-fn rename<R: Remote>(
-    alloc: Global,
-    remote: &mut R,
-    from: &[Name],
-    to: Path,
-) -> Result<Told, AllocError> {
-    let mut to = to;
-    if is_directory(alloc, remote, to.as_slice())? {
-        if let Some(name) = from.last() {
-            to.push(name.try_clone(alloc)?)?;
-        }
-    }
-    let answer = ask_rename(alloc, remote, from, to.as_slice())?;
-    rename_told(alloc, remote, from, to.as_slice(), &answer)
-}
-
-/// A command on one path of the server.
-fn on_path<R: Remote>(
-    alloc: Global,
-    remote: &mut R,
-    verb: Verb,
-    has_option: bool,
-    path: &[Name],
-) -> Result<Told, AllocError> {
-    match verb {
-        Verb::Ls => list(alloc, remote, path, has_option),
-        Verb::Mkdir if has_option => make_all(alloc, remote, path),
-        Verb::Mkdir => does(alloc, remote, Deed::MakeDir, path),
-        Verb::Rm => remove(alloc, remote, path, has_option),
-        Verb::Rmdir => does(alloc, remote, Deed::RemoveDir, path),
-        Verb::Cat => cat(alloc, remote, path),
-        _ => stat(alloc, remote, path),
     }
 }
 
@@ -374,6 +178,7 @@ impl Shell {
                     Ok(fine(alloc, Items::new(alloc)))
                 }
                 Kind::Missing => of_word(alloc, word, fault_words(LocalFault::Missing)),
+                Kind::Hidden(fault) => of_word(alloc, word, fault_words(fault)),
                 _ => of_word(alloc, word, fault_words(LocalFault::NotFolder)),
             },
         }
@@ -467,6 +272,7 @@ impl Shell {
         };
         let fault = match host.kind(local.as_str(), true) {
             Kind::Missing => LocalFault::Missing,
+            Kind::Hidden(fault) => fault,
             Kind::Folder if !deep => LocalFault::NotDeep,
             _ => return Ok(NamedLocal::Path(local)),
         };
@@ -557,7 +363,7 @@ impl Shell {
         word: &[u8],
     ) -> Result<Told, AllocError> {
         match self.named(alloc, word)? {
-            Named::Path(to) => rename(alloc, remote, from.as_slice(), to),
+            Named::Path(to) => move_to(alloc, remote, from.as_slice(), to),
             Named::Mistaken(told) => Ok(told),
         }
     }

@@ -17,7 +17,9 @@ use shell_walks::remote::{Answer, Listed, Remote, Why};
 use shell_walks::removing::{Removal, remove_all};
 use shell_walks::storing::{is_closed, is_done, make, put};
 use shell_walks::tasks::{Storing, Task, get_tasks, put_known, put_removals, put_tasks};
-use shell_walks::telling::{STORED, fault_words, note_line, path_line, put_why, why_of};
+use shell_walks::telling::{
+    STORED, fault_words, note_line, path_line, put_unstored, put_why, why_of,
+};
 use shell_words::local::{LocalPath, is_component, local_name};
 use shell_words::path::copy_of;
 use shell_words::quoting::quoted;
@@ -75,17 +77,35 @@ fn leads(alloc: Global, more: Items<Task>, note: Bytes) -> Visited
     }
 }
 
-/// This is said of a path of the server's.
+/// This is said of a path of the server's with which that happened.
+fn said(alloc: Global, path: &[Name], why: Why, words: &[u8]) -> Result<Visited, AllocError>
+    ensures more { IfOk result (λ v. v.more ≡ []) }
+    ensures files { IfOk result (λ v. v.files ≡ 0) }
+{
+    let note = path_line(alloc, path, words)?;
+    let mut visit = leads(alloc, Items::new(alloc), note);
+    visit.is_off = matches!(why, Why::NoLink);
+    Ok(visit)
+}
+
+/// Why something wasn't done with a path of the server's is said.
 fn refused(alloc: Global, path: &[Name], why: Why) -> Result<Visited, AllocError>
     ensures more { IfOk result (λ v. v.more ≡ []) }
     ensures files { IfOk result (λ v. v.files ≡ 0) }
 {
     let mut words = Items::new(alloc);
     put_why(alloc, &mut words, why)?;
-    let note = path_line(alloc, path, words.as_slice())?;
-    let mut visit = leads(alloc, Items::new(alloc), note);
-    visit.is_off = matches!(why, Why::NoLink);
-    Ok(visit)
+    said(alloc, path, why, words.as_slice())
+}
+
+/// What wasn't stored is said.
+fn unstored(alloc: Global, path: &[Name], answer: &Answer) -> Result<Visited, AllocError>
+    ensures more { IfOk result (λ v. v.more ≡ []) }
+    ensures files { IfOk result (λ v. v.files ≡ 0) }
+{
+    let mut words = Items::new(alloc);
+    put_unstored(alloc, &mut words, answer)?;
+    said(alloc, path, why_of(answer), words.as_slice())
 }
 
 /// This is said of a path of the host's.
@@ -107,14 +127,21 @@ fn name_fault(name: &[u8]) -> LocalFault {
     }
 }
 
-/// What is said of the names that this host can't have, a line for each.
-fn bad_names(alloc: Global, names: &[Name]) -> Result<Bytes, AllocError> {
+/// What is said of a name in a folder that this host can't have.
+fn bad_name(alloc: Global, folder: &[u8], name: &[u8]) -> Result<Bytes, AllocError> {
+    let mut path = Items::copy_of(alloc, folder)?;
+    path.extend_from_slice(b"/")?;
+    path.extend_from_slice(name)?;
+    let about = quoted(alloc, path.as_slice())?;
+    note_line(alloc, about.as_slice(), fault_words(name_fault(name)))
+}
+
+/// What is said of the names in a folder that this host can't have, a line for each.
+fn bad_names(alloc: Global, folder: &[u8], names: &[Name]) -> Result<Bytes, AllocError> {
     let mut note = Items::new(alloc);
     for name in names {
         if local_name(name.as_slice()).is_none() {
-            let about = quoted(alloc, name.as_slice())?;
-            let words = fault_words(name_fault(name.as_slice()));
-            let line = note_line(alloc, about.as_slice(), words)?;
+            let line = bad_name(alloc, folder, name.as_slice())?;
             note.extend_from_slice(line.as_slice())?;
         }
     }
@@ -244,7 +271,7 @@ fn put_read<R: Remote>(
     } else if storing.deletes && is_status(&answer, ISDIR) {
         put_over(alloc, remote, local, path, storing)
     } else {
-        refused(alloc, path, why_of(&answer))
+        unstored(alloc, path, &answer)
     }
 }
 
@@ -302,7 +329,7 @@ fn put_names(
     ensures { (s : StoringOf) → IfOk result (λ v. AllCome (tasks.Put local.now path.now s) v.more) }
 {
     let more = put_tasks(alloc, local, path, storing, names)?;
-    let note = bad_names(alloc, names)?;
+    let note = bad_names(alloc, local.as_bytes(), names)?;
     Ok(leads(alloc, more, note))
 }
 
@@ -318,7 +345,7 @@ fn put_over_listed(
     ensures { (s : StoringOf) → IfOk result (λ v. AllCome (tasks.Put local.now path.now s) v.more) }
 {
     let more = put_known(alloc, local, path, storing, listed, names)?;
-    let note = bad_names(alloc, names)?;
+    let note = bad_names(alloc, local.as_bytes(), names)?;
     let visit = leads(alloc, more, note);
     if storing.deletes {
         with_removals(alloc, visit, path, names, listed.names.as_slice())
@@ -465,6 +492,7 @@ fn visit_put<R: Remote, F: Folder>(
         Kind::Missing => faulty(alloc, local, LocalFault::Missing),
         Kind::Link => faulty(alloc, local, LocalFault::Link),
         Kind::Other => faulty(alloc, local, LocalFault::Odd),
+        Kind::Hidden(fault) => faulty(alloc, local, fault),
     }
 }
 
@@ -475,6 +503,7 @@ fn make_local<F: Folder>(folder: &mut F, local: &str) -> Result<(), LocalFault>
     match folder.make_folder(local) {
         Err(LocalFault::Exists) => match folder.kind(local, true) {
             Kind::Folder => Ok(()),
+            Kind::Hidden(fault) => Err(fault),
             _ => Err(LocalFault::NotFolder),
         },
         made => made,
@@ -492,7 +521,7 @@ fn get_names(
 {
     let names = listed.names.as_slice();
     let more = get_tasks(alloc, path, local, listed.ids.as_slice(), names)?;
-    let note = bad_names(alloc, names)?;
+    let note = bad_names(alloc, local.as_bytes(), names)?;
     Ok(leads(alloc, more, note))
 }
 
@@ -549,6 +578,37 @@ fn get_directory<R: Remote, F: Folder>(
     }
 }
 
+/// A directory is fetched with all that is in it alone, which is said.
+fn not_deep(alloc: Global, path: &[Name]) -> Result<Visited, AllocError>
+    ensures more { IfOk result (λ v. v.more ≡ []) }
+    ensures files { IfOk result (λ v. v.files ≡ 0) }
+{
+    said(
+        alloc,
+        path,
+        Why::Refused(ISDIR),
+        b"it is a directory (get -r fetches directories)",
+    )
+}
+
+/// A file has no place where a folder is, nor has a directory without what is in it: what it is is said.
+fn not_into<R: Remote>(
+    alloc: Global,
+    remote: &mut R,
+    path: &[Name],
+    local: &str,
+) -> Result<Visited, AllocError>
+    ensures more { IfOk result (λ v. v.more ≡ []) }
+    ensures files { IfOk result (λ v. v.files ≡ 0) }
+{
+    let looked = ask_on(alloc, remote, Deed::Look, path)?;
+    match seen_of(&looked) {
+        Some(seen) if seen.is_dir => not_deep(alloc, path),
+        Some(_) => faulty(alloc, local, LocalFault::IsFolder),
+        None => refused(alloc, path, why_of(&looked)),
+    }
+}
+
 /// What the fetching of a file came to, or the directory that it is.
 fn end_get<R: Remote, F: Folder>(
     alloc: Global,
@@ -567,6 +627,7 @@ fn end_get<R: Remote, F: Folder>(
         Got::Refused(Why::Refused(ISDIR)) if deep => {
             get_directory(alloc, remote, folder, path, local)
         }
+        Got::Refused(Why::Refused(ISDIR)) => not_deep(alloc, path),
         Got::Refused(why) => refused(alloc, path, why),
         Got::Fault(fault) => faulty(alloc, local, fault),
     }
@@ -611,18 +672,17 @@ fn get_into<R: Remote, F: Folder>(
     alloc: Global,
     remote: &mut R,
     folder: &mut F,
-    id: Option<u64>,
     path: &[Name],
     local: &str,
     deep: bool,
 ) -> Result<Visited, AllocError>
-    ensures come { IfOk result (λ v. AllCome (tasks.Get path.now local.now deep id) v.more) }
+    ensures come { (id : Option ℕ) → IfOk result (λ v. AllCome (tasks.Get path.now local.now deep id) v.more) }
     ensures touches { OnOk result (Touches F.finds F.reads F.writes F.lists F.makes F.tries local.now folder.old folder.new) }
 {
     if deep {
         return get_directory(alloc, remote, folder, path, local);
     }
-    get_file(alloc, remote, folder, id, path, local, deep)
+    not_into(alloc, remote, path, local)
 }
 
 /// Something is fetched.
@@ -642,7 +702,7 @@ fn visit_get<R: Remote, F: Folder>(
         return get_directory(alloc, remote, folder, path, local);
     }
     match folder.kind(local, true) {
-        Kind::Folder => get_into(alloc, remote, folder, id, path, local, deep),
+        Kind::Folder => get_into(alloc, remote, folder, path, local, deep),
         Kind::File => get_over(alloc, remote, folder, id, path, local, deep),
         _ => get_file(alloc, remote, folder, id, path, local, deep),
     }

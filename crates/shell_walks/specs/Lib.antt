@@ -1,5 +1,6 @@
 pub mod Asking
 pub mod Fetching
+pub mod Removing
 pub mod Storing
 pub mod Tasks
 pub mod Telling

@@ -51,6 +51,11 @@ abbrev pub renewed_as : (file : ℕ) → Answer → Answer
 renewed_as file answer.Done = answer.Opened file
 renewed_as file a = failed_as a
 
+-- the storing of a file that was made: where that failed, the file may stay
+abbrev pub made_as : Answer → Answer
+made_as (answer.Failed w) = answer.Left w
+made_as a = a
+
 -- ---- an open file
 
 -- the first of the three commands that isn't done is the last
@@ -131,7 +136,9 @@ pub record StoresMade {R : Type 0} (asks : R → Command → Answer → R → Ty
   pub opened : Answer
   pub between : R
   pub opens : RenewsId asks old file opened between
-  pub goes_on : StoresIf asks between (opened_file opened) bytes opened a new
+  pub stored : Answer
+  pub goes_on : StoresIf asks between (opened_file opened) bytes opened stored new
+  pub told : a ≡ made_as stored
 
 abbrev pub MakesElse : {R : Type 0} → (asks : R → Command → Answer → R → Type 0) → R → (may_store : Bool) → List (List ℕ) → List ℕ → (made a : Answer) → R → Type 0
 MakesElse asks old true path bytes made a new = StoresAt asks old path bytes a new

@@ -30,7 +30,7 @@ status_words n =
     else if n == 20 then codes "not a directory"
     else if n == 21 then codes "it is a directory"
     else if n == 22 then codes "that can't be"
-    else if n == 27 then codes "the file is too large"
+    else if n == 27 then codes "the file is too large (64 MiB are the most)"
     else if n == 28 then codes "the server has no more room"
     else if n == 63 then codes "the name is too long"
     else if n == 66 then codes "the directory isn't empty"
@@ -45,14 +45,14 @@ status_text n =
 
 abbrev pub why_text : Why → List ℕ
 why_text why.Order = codes "the client has no such file open"
-why_text why.TooBig = codes "the file is too large"
+why_text why.TooBig = codes "the file is too large (64 MiB are the most)"
 why_text why.Lost = codes "the connection was lost; it may have been done, or not"
-why_text why.Cut = codes "the connection was lost"
+why_text why.Cut = codes "the connection was lost (is lbfs share still running?)"
 why_text why.Changed = codes "the file changed each time that it was fetched"
-why_text why.NoLink = codes "there is no connection"
+why_text why.NoLink = codes "no server answers (is lbfs share, or ssh -L, running?)"
 why_text (why.Refused n) = status_text n
 why_text why.PeerMemory = codes "the server has no memory left"
-why_text (why.BadPeer n) = codes "the server broke the protocol (" ++ decimal n ++ codes ")"
+why_text (why.BadPeer n) = codes "the server broke the protocol, or is no lbfs share (" ++ decimal n ++ codes ")"
 why_text why.Memory = codes "no memory is left"
 
 abbrev pub fault_text : LocalFault → List ℕ
@@ -63,7 +63,7 @@ fault_text fault.NotDeep = codes "it is a folder here (put -r stores folders)"
 fault_text fault.NotFolder = codes "it is no folder here"
 fault_text fault.Denied = codes "permission denied here"
 fault_text fault.Full = codes "the disk here is full"
-fault_text fault.TooBig = codes "the file is too large"
+fault_text fault.TooBig = codes "the file is too large (64 MiB are the most)"
 fault_text fault.BadName = codes "no file here can have this name"
 fault_text fault.NotText = codes "a name here has to be UTF-8 for this program"
 fault_text fault.Link = codes "it is a symbolic link in a folder, and isn't followed"
@@ -123,7 +123,22 @@ stat_text path seen =
 -- an answer that a command has no use for is a fault of the client's
 abbrev pub why_of : Answer → Why
 why_of (answer.Failed w) = w
+why_of (answer.Left w) = w
 why_of a = why.Order
+
+-- of what wasn't stored, where a file may have been made for it
+abbrev pub unstored_text : Answer → List ℕ
+unstored_text (answer.Left w) = why_text w ++ codes "; a new file may stay there, empty"
+unstored_text a = why_text (why_of a)
+
+-- NFS3ERR_ISDIR
+abbrev pub is_dir_for : Why → Bool
+is_dir_for (why.Refused n) = n == 21
+is_dir_for w = false
+
+abbrev pub is_dir : Answer → Bool
+is_dir (answer.Failed w) = is_dir_for w
+is_dir a = false
 
 abbrev pub refused_told : List (List ℕ) → Why → Told
 refused_told path w = notes (note_line (path_text path) (why_text w))
@@ -132,6 +147,12 @@ refused_told path w = notes (note_line (path_text path) (why_text w))
 abbrev pub done_told : List (List ℕ) → Answer → Told
 done_told path answer.Done = fine []
 done_told path a = refused_told path (why_of a)
+
+-- of a removal: a directory wants `-r`
+abbrev pub removed_told : List (List ℕ) → Answer → Told
+removed_told path a =
+    if is_dir a then notes (note_line (path_text path) (codes "it is a directory (rm -r removes directories)"))
+    else done_told path a
 
 abbrev pub names_told : List (List ℕ) → Answer → Told
 names_told path (answer.Names l) = fine (names_text l.names)

@@ -52,6 +52,8 @@ pub enum Kind {
     /// A symbolic link, where those aren't followed.
     Link,
     Other,
+    /// It can't be told.
+    Hidden(LocalFault),
 }
 
 /// The host's files.

@@ -73,6 +73,8 @@ pub enum Answer {
     Names(Listed),
     /// It wasn't done.
     Failed(Why),
+    /// It wasn't stored, but a file was made for it, which may stay, without bytes.
+    Left(Why),
 }
 
 /// A client that is asked one command after the other.

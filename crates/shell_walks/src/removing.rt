@@ -1,10 +1,12 @@
-//! How a directory goes with all that is in it: what is in it first.
+//! How a directory goes with all that is in it: what is in it first. `specs/Removing.antt` says what is asked for.
+
+ghost use Rattle.std.specs.Prelude.{◌≡◌, ◌++◌, [], IfOk, OnOk};
+ghost use Rattle.shell_walks.specs.Removing.{both, came_listed, came_of, deed_of, goes, inner, Lists, nothing_said, opened, opens, Removes, RemovesIf, RemovesOne, stays};
 
 use crate::asking::{Deed, ask_on};
 use crate::remote::{Answer, Remote, Why};
-use crate::storing::is_done;
 use crate::tasks::longer;
-use crate::telling::{REMOVED, path_line, put_why, why_of};
+use crate::telling::{REMOVED, is_dir, path_line, put_why, why_of};
 use command_text::path::Path;
 use lb_base::items::{Bytes, Items, Name};
 use shell_words::path::copy_of;
@@ -12,10 +14,10 @@ use std::alloc::{AllocError, Global};
 
 /// What is to go.
 #[derive(Drop)]
-struct Doomed {
-    path: Path,
+pub(crate) struct Doomed {
+    pub(crate) path: Path,
     /// Whether it is a directory, whose entries have gone.
-    emptied: bool,
+    pub(crate) emptied: bool,
 }
 
 /// What came of what was to go, in lines.
@@ -27,78 +29,176 @@ pub struct Removal {
     pub news: Bytes,
 }
 
-/// What isn't done is said.
-fn note(alloc: Global, removal: &mut Removal, path: &[Name], why: Why) -> Result<(), AllocError> {
+/// What came of one thing that was to go.
+#[derive(Drop)]
+pub(crate) struct Came {
+    /// What is to go next, the last first.
+    pub(crate) more: Items<Doomed>,
+    pub(crate) said: Removal,
+}
+
+/// Nothing is said yet.
+fn nothing_said(alloc: Global) -> Removal
+    ensures { result ≡ nothing_said }
+{
+    Removal {
+        note: Items::new(alloc),
+        news: Items::new(alloc),
+    }
+}
+
+/// It stays, and why is said.
+fn stays(alloc: Global, path: &[Name], why: Why) -> Result<Came, AllocError>
+    ensures { IfOk result (λ c. c ≡ stays path.now why) }
+{
     let mut words = Items::new(alloc);
     put_why(alloc, &mut words, why)?;
-    let line = path_line(alloc, path, words.as_slice())?;
-    removal.note.extend_from_slice(line.as_slice())
+    let note = path_line(alloc, path, words.as_slice())?;
+    Ok(Came {
+        more: Items::new(alloc),
+        said: Removal {
+            note,
+            news: Items::new(alloc),
+        },
+    })
 }
 
-/// What went is said.
-fn went(alloc: Global, removal: &mut Removal, path: &[Name]) -> Result<(), AllocError> {
-    let line = path_line(alloc, path, REMOVED)?;
-    removal.news.extend_from_slice(line.as_slice())
+/// It went, which is said.
+fn goes(alloc: Global, path: &[Name]) -> Result<Came, AllocError>
+    ensures { IfOk result (λ c. c ≡ goes path.now) }
+{
+    let news = path_line(alloc, path, REMOVED)?;
+    Ok(Came {
+        more: Items::new(alloc),
+        said: Removal {
+            note: Items::new(alloc),
+            news,
+        },
+    })
 }
 
-/// What is in a directory goes before the directory.
-fn open_up(
+/// What has a name in a directory is to go, behind what is to go already.
+fn doom(
     alloc: Global,
-    doomed: &mut Vec<Doomed>,
-    path: Path,
-    names: &[Name],
-) -> Result<(), AllocError> {
-    for name in names {
-        doomed.push(Doomed {
-            path: longer(alloc, path.as_slice(), name.as_slice())?,
-            emptied: false,
-        })?;
-    }
+    more: &mut Items<Doomed>,
+    path: &[Name],
+    name: &[u8],
+) -> Result<(), AllocError>
+    ensures { OnOk result (more.new ≡ more.old ++ inner path.now name.now) }
+{
+    more.push(Doomed {
+        path: longer(alloc, path, name)?,
+        emptied: false,
+    })?;
     Ok(())
 }
 
+/// What is in a directory is to go before the directory.
+fn opened(alloc: Global, path: &[Name], names: &[Name]) -> Result<Items<Doomed>, AllocError>
+    ensures { IfOk result (λ more. more ≡ opened path.now names.now) }
+{
+    let mut more = Items::new(alloc);
+    more.push(Doomed {
+        path: copy_of(alloc, path)?,
+        emptied: true,
+    })?;
+    for name in names {
+        doom(alloc, &mut more, path, name.as_slice())?;
+    }
+    Ok(more)
+}
+
+/// What comes of what was asked to go.
+fn came_of(alloc: Global, path: &[Name], answer: &Answer) -> Result<Came, AllocError>
+    ensures { IfOk result (λ c. c ≡ came_of path.now answer.now) }
+{
+    match answer {
+        Answer::Done => goes(alloc, path),
+        answer => stays(alloc, path, why_of(answer)),
+    }
+}
+
+/// What comes of a directory that was listed.
+fn came_listed(alloc: Global, path: &[Name], answer: &Answer) -> Result<Came, AllocError>
+    ensures { IfOk result (λ c. c ≡ came_listed path.now answer.now) }
+{
+    match answer {
+        Answer::Names(listed) => Ok(Came {
+            more: opened(alloc, path, listed.names.as_slice())?,
+            said: nothing_said(alloc),
+        }),
+        answer => stays(alloc, path, why_of(answer)),
+    }
+}
+
+/// By what it goes.
+fn deed_of(emptied: bool) -> Deed
+    ensures { result ≡ deed_of emptied }
+{
+    if emptied {
+        Deed::RemoveDir
+    } else {
+        Deed::Remove
+    }
+}
+
+/// Whether it is a directory that is to be opened.
+fn opens(answer: &Answer, emptied: bool) -> bool
+    ensures { result ≡ opens answer.now emptied }
+{
+    is_dir(answer) && !emptied
+}
+
 /// A directory is listed, and goes behind what is in it.
-fn list<R: Remote>(
+fn list<R: Remote>(alloc: Global, remote: &mut R, path: &[Name]) -> Result<Came, AllocError>
+    ensures { IfOk result (λ c. Lists R.asks remote.old path.now c remote.new) }
+{
+    let answer = ask_on(alloc, remote, Deed::List, path)?;
+    came_listed(alloc, path, &answer)
+}
+
+/// What was asked to go is listed, where it is a directory.
+fn remove_on<R: Remote>(
     alloc: Global,
     remote: &mut R,
-    doomed: &mut Vec<Doomed>,
-    removal: &mut Removal,
-    path: Path,
-) -> Result<(), AllocError> {
-    match ask_on(alloc, remote, Deed::List, path.as_slice())? {
-        Answer::Names(listed) => {
-            doomed.push(Doomed {
-                path: copy_of(alloc, path.as_slice())?,
-                emptied: true,
-            })?;
-            open_up(alloc, doomed, path, listed.names.as_slice())
-        }
-        answer => note(alloc, removal, path.as_slice(), why_of(&answer)),
+    opens: bool,
+    path: &[Name],
+    answer: &Answer,
+) -> Result<Came, AllocError>
+    ensures { IfOk result (λ c. RemovesIf R.asks remote.old opens path.now answer.now c remote.new) }
+{
+    if opens {
+        list(alloc, remote, path)
+    } else {
+        came_of(alloc, path, answer)
     }
 }
 
 /// One thing goes, or what is in it is to go first.
-fn remove_one<R: Remote>(
-    alloc: Global,
-    remote: &mut R,
-    doomed: &mut Vec<Doomed>,
-    removal: &mut Removal,
-    one: Doomed,
-) -> Result<(), AllocError> {
-    let Doomed { path, emptied } = one;
-    let deed = if emptied {
-        Deed::RemoveDir
-    } else {
-        Deed::Remove
-    };
-    let answer = ask_on(alloc, remote, deed, path.as_slice())?;
-    if is_done(&answer) {
-        return went(alloc, removal, path.as_slice());
-    }
-    match why_of(&answer) {
-        Why::Refused(21) if !emptied => list(alloc, remote, doomed, removal, path),
-        why => note(alloc, removal, path.as_slice(), why),
-    }
+fn remove_one<R: Remote>(alloc: Global, remote: &mut R, one: &Doomed) -> Result<Came, AllocError>
+    ensures { IfOk result (λ c. RemovesOne R.asks remote.old one.now c remote.new) }
+{
+    let path = one.path.as_slice();
+    let answer = ask_on(alloc, remote, deed_of(one.emptied), path)?;
+    remove_on(alloc, remote, opens(&answer, one.emptied), path, &answer)
+}
+
+/// This is said, too.
+fn say(removal: &mut Removal, said: &Removal) -> Result<(), AllocError>
+    ensures { OnOk result (removal.new ≡ both removal.old said.now) }
+{
+    removal.note.extend_from_slice(said.note.as_slice())?;
+    removal.news.extend_from_slice(said.news.as_slice())
+}
+
+/// What came of one thing goes behind what is to go, and is said.
+fn add(doomed: &mut Vec<Doomed>, removal: &mut Removal, came: Came) -> Result<(), AllocError>
+    ensures { OnOk result ((doomed.new.items ≡ doomed.old.items ++ came.more) × (removal.new ≡ both removal.old came.said)) }
+{
+    let Came { more, said } = came;
+    let mut more = more.into_vec();
+    doomed.append(&mut more)?;
+    say(removal, &said)
 }
 
 /// What has a path goes, with all that is in it. What does and what doesn't is said, a line for each.
@@ -106,11 +206,10 @@ pub fn remove_all<R: Remote>(
     alloc: Global,
     remote: &mut R,
     path: &[Name],
-) -> Result<Removal, AllocError> {
-    let mut removal = Removal {
-        note: Items::new(alloc),
-        news: Items::new(alloc),
-    };
+) -> Result<Removal, AllocError>
+    ensures { IfOk result (λ r. Removes R.asks remote.old path.now [] remote.new r) }
+{
+    let mut removal = nothing_said(alloc);
     let mut doomed = Vec::new(alloc);
     doomed.push(Doomed {
         path: copy_of(alloc, path)?,
@@ -118,9 +217,13 @@ pub fn remove_all<R: Remote>(
     })?;
     for _turn in 0..u64::MAX {
         match doomed.pop() {
-            Some(one) => remove_one(alloc, remote, &mut doomed, &mut removal, one)?,
+            Some(one) => {
+                let came = remove_one(alloc, remote, &one)?;
+                add(&mut doomed, &mut removal, came)?;
+            }
             None => return Ok(removal),
         }
     }
-    Ok(removal)
+    // More than can be counted.
+    Err(AllocError)
 }

@@ -2,7 +2,7 @@
 
 ghost use Rattle.std.specs.Prelude.{◌≡◌, ◌∷◌, [], IfOk, bytes_eq};
 ghost use Rattle.command_text.specs.declared.content.Part.TheVariants as part;
-ghost use Rattle.shell_walks.specs.Storing.{is_done, is_closed, made_file, opened_file, failed_as, closed_as, left_as, renewed_as, Replaces, Abandons, Stores, RenewsId, RenewsIf, RenewsSeen, Renews, StoresAt, StoresMade, is_missing, may_store, MakesElse, Makes, StoresChanged, PutsOpen, MakesUnless, Opens, Puts};
+ghost use Rattle.shell_walks.specs.Storing.{is_done, is_closed, made_file, opened_file, failed_as, closed_as, left_as, renewed_as, made_as, Replaces, Abandons, Stores, StoresIf, RenewsId, RenewsIf, RenewsSeen, Renews, StoresAt, StoresMade, is_missing, may_store, MakesElse, Makes, StoresChanged, PutsOpen, MakesUnless, Opens, Puts};
 
 use crate::asking::{Deed, ask_on, open};
 use crate::remote::{Answer, Remote, Seen, Why};
@@ -83,6 +83,16 @@ fn renewed_as(file: u64, answer: Answer) -> Answer
     match answer {
         Answer::Done => Answer::Opened(file),
         answer => failed_as(&answer),
+    }
+}
+
+/// What is told of the storing of a file that was made: where that failed, the file may stay.
+fn made_as(answer: Answer) -> Answer
+    ensures { result ≡ made_as answer }
+{
+    match answer {
+        Answer::Failed(why) => Answer::Left(why),
+        answer => answer,
     }
 }
 
@@ -178,6 +188,21 @@ fn renew<R: Remote>(alloc: Global, remote: &mut R, path: &[Name]) -> Result<Answ
     Ok(renew_looked(alloc, remote, looked))
 }
 
+/// These bytes become the content of a file, where it was opened.
+fn store_opened<R: Remote>(
+    alloc: Global,
+    remote: &mut R,
+    opened: Answer,
+    bytes: Bytes,
+) -> Result<Answer, AllocError>
+    ensures { IfOk result (λ answer. StoresIf R.asks remote.old (opened_file opened) bytes opened answer remote.new) }
+{
+    match opened_file(&opened) {
+        Some(file) => store(alloc, remote, file, bytes),
+        None => Ok(failed_as(&opened)),
+    }
+}
+
 /// These bytes become the content of a file that is there.
 fn store_at<R: Remote>(
     alloc: Global,
@@ -204,10 +229,8 @@ fn store_made<R: Remote>(
     ensures { IfOk result (λ answer. StoresMade R.asks remote.old file bytes answer remote.new) }
 {
     let opened = renew_id(alloc, remote, file);
-    match opened_file(&opened) {
-        Some(file) => store(alloc, remote, file, bytes),
-        None => Ok(failed_as(&opened)),
-    }
+    let stored = store_opened(alloc, remote, opened, bytes)?;
+    Ok(made_as(stored))
 }
 
 /// Whether there is no such file.

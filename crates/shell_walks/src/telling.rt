@@ -4,7 +4,7 @@
 ghost use Rattle.std.specs.Prelude.{◌≡◌, ◌+◌, ◌-◌, ◌++◌, ◌∷◌, [], IfOk, OnOk, codes, decimal, length, replicate};
 ghost use Rattle.shell_walks.specs.declared.remote.Why.TheVariants as whys;
 ghost use Rattle.shell_words.specs.Quoting.{quoted};
-ghost use Rattle.shell_walks.specs.Telling.{status_words, status_text, why_text, fault_text, mistake_text, slashed, path_text, note_line, names_text, padded, kind_text, long_line, stat_text, why_of, refused_told, done_told, names_told, stat_told};
+ghost use Rattle.shell_walks.specs.Telling.{status_words, status_text, why_text, fault_text, mistake_text, slashed, path_text, note_line, names_text, padded, kind_text, long_line, stat_text, why_of, unstored_text, is_dir, refused_told, done_told, removed_told, names_told, stat_told};
 
 use crate::folder::LocalFault;
 use crate::remote::{Answer, Seen, Why};
@@ -44,7 +44,7 @@ fn status_words(status: u32) -> &'static [u8]
         20 => b"not a directory",
         21 => b"it is a directory",
         22 => b"that can't be",
-        27 => b"the file is too large",
+        27 => b"the file is too large (64 MiB are the most)",
         28 => b"the server has no more room",
         63 => b"the name is too long",
         66 => b"the directory isn't empty",
@@ -79,7 +79,7 @@ fn bad_peer_text(alloc: Global, fault: u32) -> Result<Bytes, AllocError>
     ensures { IfOk result (λ text. text ≡ why_text (whys.BadPeer fault)) }
 {
     let mut text = String::new(alloc);
-    write!(text, "the server broke the protocol ({fault})")?;
+    write!(text, "the server broke the protocol, or is no lbfs share ({fault})")?;
     Ok(Items::from_vec(text.into_bytes()))
 }
 
@@ -97,13 +97,17 @@ pub fn put_why(alloc: Global, out: &mut Bytes, why: Why) -> Result<(), AllocErro
 {
     match why {
         Why::Order => out.extend_from_slice(b"the client has no such file open"),
-        Why::TooBig => out.extend_from_slice(b"the file is too large"),
+        Why::TooBig => out.extend_from_slice(b"the file is too large (64 MiB are the most)"),
         Why::Lost => {
             out.extend_from_slice(b"the connection was lost; it may have been done, or not")
         }
-        Why::Cut => out.extend_from_slice(b"the connection was lost"),
+        Why::Cut => {
+            out.extend_from_slice(b"the connection was lost (is lbfs share still running?)")
+        }
         Why::Changed => out.extend_from_slice(b"the file changed each time that it was fetched"),
-        Why::NoLink => out.extend_from_slice(b"there is no connection"),
+        Why::NoLink => {
+            out.extend_from_slice(b"no server answers (is lbfs share, or ssh -L, running?)")
+        }
         Why::Refused(status) => put_status(alloc, out, status),
         Why::PeerMemory => out.extend_from_slice(b"the server has no memory left"),
         Why::BadPeer(fault) => put_bad_peer(alloc, out, fault),
@@ -123,7 +127,7 @@ pub fn fault_words(fault: LocalFault) -> &'static [u8]
         LocalFault::NotFolder => b"it is no folder here",
         LocalFault::Denied => b"permission denied here",
         LocalFault::Full => b"the disk here is full",
-        LocalFault::TooBig => b"the file is too large",
+        LocalFault::TooBig => b"the file is too large (64 MiB are the most)",
         LocalFault::BadName => b"no file here can have this name",
         LocalFault::NotText => b"a name here has to be UTF-8 for this program",
         LocalFault::Link => b"it is a symbolic link in a folder, and isn't followed",
@@ -285,9 +289,29 @@ pub fn why_of(answer: &Answer) -> Why
     ensures { result ≡ why_of answer.now }
 {
     match answer {
-        Answer::Failed(why) => *why,
+        Answer::Failed(why) | Answer::Left(why) => *why,
         _ => Why::Order,
     }
+}
+
+/// Why something wasn't stored, in words, and that a file may have been made for it.
+pub fn put_unstored(alloc: Global, out: &mut Bytes, answer: &Answer) -> Result<(), AllocError>
+    ensures { OnOk result (out.new ≡ out.old ++ unstored_text answer.now) }
+{
+    match answer {
+        Answer::Left(why) => {
+            put_why(alloc, out, *why)?;
+            out.extend_from_slice(b"; a new file may stay there, empty")
+        }
+        answer => put_why(alloc, out, why_of(answer)),
+    }
+}
+
+/// Whether a directory stands in the place of a file: NFS3ERR_ISDIR.
+pub fn is_dir(answer: &Answer) -> bool
+    ensures { result ≡ is_dir answer.now }
+{
+    matches!(answer, Answer::Failed(Why::Refused(21)))
 }
 
 /// A command on this path wasn't done.
@@ -307,6 +331,19 @@ pub fn done_told(alloc: Global, path: &[Name], answer: &Answer) -> Result<Told, 
         Answer::Done => Ok(fine(alloc, Items::new(alloc))),
         answer => refused_told(alloc, path, why_of(answer)),
     }
+}
+
+/// Of a removal: a directory wants `-r`.
+pub fn removed_told(alloc: Global, path: &[Name], answer: &Answer) -> Result<Told, AllocError>
+    ensures { IfOk result (λ told. told ≡ removed_told path.now answer.now) }
+{
+    if is_dir(answer) {
+        return Ok(notes(
+            alloc,
+            path_line(alloc, path, b"it is a directory (rm -r removes directories)")?,
+        ));
+    }
+    done_told(alloc, path, answer)
 }
 
 /// Of a listing.

@@ -1,0 +1,180 @@
+-- What a command about paths of the server comes to, over what a client does at any command (`asks`): which commands of the client it makes, in which order, and what is told.
+use Rattle.std.specs.Prelude.{◌≡◌, ℕ, ◌+◌, ◌==◌, ◌<◌, List, [], ◌∷◌, ◌++◌, length, take, Bool, true, false, codes, if◌then◌else◌}
+use Rattle.command_text.specs.declared.command.Command.{Command}
+use Rattle.shell_words.specs.Quoting.{quoted}
+use Rattle.shell_words.specs.declared.command.Verb.{Verb}
+use Rattle.shell_words.specs.declared.command.Verb.TheVariants as verb
+use Rattle.shell_walks.specs.Asking.{command_on, rename_of, AsksOn}
+use Rattle.shell_walks.specs.Fetching.{Cats}
+use Rattle.shell_walks.specs.Removing.{Removes}
+use Rattle.shell_walks.specs.Telling.{done_told, fine, long_line, names_told, note_line, notes, path_text, refused_told, removed_told, stat_told, why_of, why_text}
+use Rattle.shell_walks.specs.declared.asking.Deed.{Deed}
+use Rattle.shell_walks.specs.declared.asking.Deed.TheVariants as deed
+use Rattle.shell_walks.specs.declared.remote.Answer.{Answer}
+use Rattle.shell_walks.specs.declared.remote.Answer.TheVariants as answer
+use Rattle.shell_walks.specs.declared.remote.Seen.{Seen}
+use Rattle.shell_walks.specs.declared.remote.Why.{Why}
+use Rattle.shell_walks.specs.declared.remote.Why.TheVariants as why
+use Rattle.shell_walks.specs.declared.removing.Removal.{Removal}
+use Rattle.shell_walks.specs.declared.told.Told.{Told}
+
+-- ---- one command of the client
+
+pub record Does {R : Type 0} (asks : R → Command → Answer → R → Type 0) (old : R) (d : Deed) (path : List (List ℕ)) (told : Told) (new : R) : Type 0 where
+  pub answer : Answer
+  pub asked : AsksOn asks old (command_on d path) answer new
+  pub is_told : told ≡ done_told path answer
+
+pub record Stats {R : Type 0} (asks : R → Command → Answer → R → Type 0) (old : R) (path : List (List ℕ)) (told : Told) (new : R) : Type 0 where
+  pub answer : Answer
+  pub asked : AsksOn asks old (command_on deed.Look path) answer new
+  pub is_told : told ≡ stat_told path answer
+
+pub record RemovesFile {R : Type 0} (asks : R → Command → Answer → R → Type 0) (old : R) (path : List (List ℕ)) (told : Told) (new : R) : Type 0 where
+  pub answer : Answer
+  pub asked : AsksOn asks old (command_on deed.Remove path) answer new
+  pub is_told : told ≡ removed_told path answer
+
+-- whether it was told to be a directory
+abbrev pub is_dir_told : Answer → Bool
+is_dir_told (answer.Seen seen) = seen.is_dir
+is_dir_told a = false
+
+pub record LooksWhether {R : Type 0} (asks : R → Command → Answer → R → Type 0) (old : R) (path : List (List ℕ)) (b : Bool) (new : R) : Type 0 where
+  pub answer : Answer
+  pub asked : AsksOn asks old (command_on deed.Look path) answer new
+  pub is : b ≡ is_dir_told answer
+
+-- ---- ls
+
+abbrev pub file_text : (is_long : Bool) → (path : List (List ℕ)) → Seen → List ℕ
+file_text true path seen = long_line seen (path_text path)
+file_text false path seen = path_text path ++ codes "\n"
+
+abbrev pub file_told : (is_long : Bool) → (path : List (List ℕ)) → Why → Answer → Told
+file_told long path w (answer.Seen seen) = fine (file_text long path seen)
+file_told long path w a = refused_told path w
+
+-- what can't be listed is looked at, and shown alone
+pub record LooksAt {R : Type 0} (asks : R → Command → Answer → R → Type 0) (old : R) (is_long : Bool) (path : List (List ℕ)) (w : Why) (told : Told) (new : R) : Type 0 where
+  pub looked : Answer
+  pub looks : AsksOn asks old (command_on deed.Look path) looked new
+  pub is_told : told ≡ file_told is_long path w looked
+
+-- NFS3ERR_NOTDIR
+abbrev pub is_file : Why → Bool
+is_file (why.Refused n) = n == 20
+is_file w = false
+
+abbrev pub ListsFile : {R : Type 0} → (asks : R → Command → Answer → R → Type 0) → R → (is_file is_long : Bool) → List (List ℕ) → Why → Told → R → Type 0
+ListsFile asks old true long path w told new = LooksAt asks old long path w told new
+ListsFile asks old false long path w told new = (new ≡ old) × (told ≡ refused_told path w)
+
+-- a line for each name that was told, of what it is told to stand for, one after the other
+abbrev pub with_long : (path : List (List ℕ)) → (name : List ℕ) → Told → Answer → Told
+with_long path name told (answer.Seen seen) = record told { text = told.text ++ long_line seen (quoted name) }
+with_long path name told a = record told { note = told.note ++ note_line (path_text (path ++ name ∷ [])) (why_text (why_of a)) }
+
+pub data Longs {R : Type 0} (asks : R → Command → Answer → R → Type 0) (old : R) (path : List (List ℕ)) : List (List ℕ) → Told → R → Type 0 where
+  none : (names : List (List ℕ)) (told : Told) (s : R) → names ≡ [] → told ≡ fine [] → s ≡ old → Longs asks old path names told s
+  one : (names more : List (List ℕ)) (name : List ℕ) (told after : Told) (s t : R) (a : Answer) → Longs asks old path names told s → AsksOn asks s (command_on deed.Look (path ++ name ∷ [])) a t → after ≡ with_long path name told a → more ≡ names ++ name ∷ [] → Longs asks old path more after t
+
+abbrev pub ListsOn : {R : Type 0} → (asks : R → Command → Answer → R → Type 0) → R → (is_long : Bool) → List (List ℕ) → Answer → Told → R → Type 0
+ListsOn asks old true path (answer.Names l) told new = Longs asks old path l.names told new
+ListsOn asks old false path (answer.Names l) told new = (new ≡ old) × (told ≡ names_told path (answer.Names l))
+ListsOn asks old long path a told new = ListsFile asks old (is_file (why_of a)) long path (why_of a) told new
+
+pub record Lists {R : Type 0} (asks : R → Command → Answer → R → Type 0) (old : R) (is_long : Bool) (path : List (List ℕ)) (told : Told) (new : R) : Type 0 where
+  pub answer : Answer
+  pub between : R
+  pub lists : AsksOn asks old (command_on deed.List path) answer between
+  pub goes_on : ListsOn asks between is_long path answer told new
+
+-- ---- mkdir -p
+
+-- NFS3ERR_EXIST
+abbrev pub is_there_for : Why → Bool
+is_there_for (why.Refused n) = n == 17
+is_there_for w = false
+
+abbrev pub is_there : Answer → Bool
+is_there answer.Done = true
+is_there (answer.Failed w) = is_there_for w
+is_there a = false
+
+-- so many directories of the path were made, from the root on, or are there
+pub data Makes {R : Type 0} (asks : R → Command → Answer → R → Type 0) (old : R) (path : List (List ℕ)) : ℕ → R → Type 0 where
+  none : (count : ℕ) (s : R) → count ≡ 0 → s ≡ old → Makes asks old path count s
+  one : (count : ℕ) (s t : R) (a : Answer) → Makes asks old path count s → AsksOn asks s (command_on deed.MakeDir (take (count + 1) path)) a t → is_there a ≡ true → Makes asks old path (count + 1) t
+
+abbrev pub made_told : (path : List (List ℕ)) → (is_dir : Bool) → Told
+made_told path true = fine []
+made_told path false = refused_told path (why.Refused 20)
+
+-- the first that isn't made is the last; else it is looked at whether all of it is a directory
+pub data MakesAll {R : Type 0} (asks : R → Command → Answer → R → Type 0) (old : R) (path : List (List ℕ)) (told : Told) (new : R) : Type 0 where
+  stopped : (count : ℕ) (s : R) (a : Answer) → Makes asks old path count s → AsksOn asks s (command_on deed.MakeDir (take (count + 1) path)) a new → is_there a ≡ false → told ≡ refused_told (take (count + 1) path) (why_of a) → MakesAll asks old path told new
+  made : (s : R) (is_dir : Bool) → Makes asks old path (length path) s → LooksWhether asks s path is_dir new → told ≡ made_told path is_dir → MakesAll asks old path told new
+
+-- ---- rm
+
+abbrev pub RemovesAll : {R : Type 0} → (asks : R → Command → Answer → R → Type 0) → R → List (List ℕ) → Told → R → Type 0
+RemovesAll asks old path told new = (r : Removal) × Removes asks old path [] new r × (told ≡ notes r.note)
+
+-- ---- mv
+
+abbrev pub last_of : List ℕ → List (List ℕ) → List ℕ
+last_of name [] = name
+last_of name (next ∷ names) = last_of next names
+
+-- its own name in a directory
+abbrev pub named_in : (to from : List (List ℕ)) → List (List ℕ)
+named_in to [] = to
+named_in to (name ∷ names) = to ++ last_of name names ∷ []
+
+abbrev pub place_of : (to from : List (List ℕ)) → (is_dir : Bool) → List (List ℕ)
+place_of to from true = named_in to from
+place_of to from false = to
+
+abbrev pub is_refused : Answer → Bool
+is_refused (answer.Failed (why.Refused n)) = true
+is_refused a = false
+
+-- the name at fault is the first where nothing has it, else the second
+abbrev pub at_fault : (from to : List (List ℕ)) → (answer looked : Answer) → Told
+at_fault from to a (answer.Seen seen) = done_told to a
+at_fault from to a looked = refused_told from (why_of looked)
+
+pub record LooksBack {R : Type 0} (asks : R → Command → Answer → R → Type 0) (old : R) (from to : List (List ℕ)) (a : Answer) (told : Told) (new : R) : Type 0 where
+  pub looked : Answer
+  pub looks : AsksOn asks old (command_on deed.Look from) looked new
+  pub is_told : told ≡ at_fault from to a looked
+
+abbrev pub TellsRename : {R : Type 0} → (asks : R → Command → Answer → R → Type 0) → R → (is_refused : Bool) → (from to : List (List ℕ)) → Answer → Told → R → Type 0
+TellsRename asks old true from to a told new = LooksBack asks old from to a told new
+TellsRename asks old false from to a told new = (new ≡ old) × (told ≡ done_told from a)
+
+pub record Renames {R : Type 0} (asks : R → Command → Answer → R → Type 0) (old : R) (from to : List (List ℕ)) (told : Told) (new : R) : Type 0 where
+  pub answer : Answer
+  pub between : R
+  pub asked : AsksOn asks old (rename_of from to) answer between
+  pub goes_on : TellsRename asks between (is_refused answer) from to answer told new
+
+-- into the directory that has the second path, where one has it
+pub record Moves {R : Type 0} (asks : R → Command → Answer → R → Type 0) (old : R) (from to : List (List ℕ)) (told : Told) (new : R) : Type 0 where
+  pub is_dir : Bool
+  pub between : R
+  pub looks : LooksWhether asks old to is_dir between
+  pub renames : Renames asks between from (place_of to from is_dir) told new
+
+-- ---- a command on one path
+
+abbrev pub OnPath : {R : Type 0} → (asks : R → Command → Answer → R → Type 0) → (content : R → ℕ → List ℕ) → R → Verb → (has_option : Bool) → List (List ℕ) → Told → R → Type 0
+OnPath asks content old verb.Ls long path told new = Lists asks old long path told new
+OnPath asks content old verb.Mkdir true path told new = MakesAll asks old path told new
+OnPath asks content old verb.Mkdir false path told new = Does asks old deed.MakeDir path told new
+OnPath asks content old verb.Rm true path told new = RemovesAll asks old path told new
+OnPath asks content old verb.Rm false path told new = RemovesFile asks old path told new
+OnPath asks content old verb.Rmdir option path told new = Does asks old deed.RemoveDir path told new
+OnPath asks content old verb.Cat option path told new = Cats asks content old path told new
+OnPath asks content old v option path told new = Stats asks old path told new

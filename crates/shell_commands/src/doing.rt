@@ -1,0 +1,414 @@
+//! What a command about paths of the server asks of the client, and what is told: `specs/Doing.antt`.
+
+ghost use Rattle.std.specs.Prelude.{◌≡◌, ◌∷◌, ◌++◌, [], IfOk, OnOk};
+ghost use Rattle.shell_walks.specs.Asking.{command_on, AsksOn};
+ghost use Rattle.shell_walks.specs.declared.asking.Deed.TheVariants as deeds;
+ghost use Rattle.shell_commands.specs.Doing.{Does, Stats, RemovesFile, LooksWhether, is_dir_told, file_text, file_told, LooksAt, is_file, ListsFile, with_long, Longs, ListsOn, Lists, is_there, made_told, MakesAll, RemovesAll, last_of, named_in, place_of, is_refused, at_fault, LooksBack, TellsRename, Renames, Moves, OnPath};
+
+use command_text::path::Path;
+use lb_base::items::{Bytes, Items, Name};
+use shell_walks::asking::{Deed, ask_on, ask_rename};
+use shell_walks::fetching::cat;
+use shell_walks::remote::{Answer, Remote, Seen, Why};
+use shell_walks::removing::remove_all;
+use shell_walks::tasks::longer;
+use shell_walks::telling::{
+    done_told, long_line, names_told, path_line, path_text, put_why, refused_told, removed_told,
+    stat_told, why_of,
+};
+use shell_walks::told::{Told, fine, notes};
+use shell_words::command::Verb;
+use shell_words::quoting::quoted;
+use std::alloc::{AllocError, Global};
+
+/// NFS3ERR_NOTDIR.
+const NOTDIR: u32 = 20;
+
+/// One command, which has nothing to tell.
+fn does<R: Remote>(
+    alloc: Global,
+    remote: &mut R,
+    deed: Deed,
+    path: &[Name],
+) -> Result<Told, AllocError>
+    ensures { IfOk result (λ told. Does R.asks remote.old deed path.now told remote.new) }
+{
+    let answer = ask_on(alloc, remote, deed, path)?;
+    done_told(alloc, path, &answer)
+}
+
+/// `stat`.
+fn stat<R: Remote>(alloc: Global, remote: &mut R, path: &[Name]) -> Result<Told, AllocError>
+    ensures { IfOk result (λ told. Stats R.asks remote.old path.now told remote.new) }
+{
+    let answer = ask_on(alloc, remote, Deed::Look, path)?;
+    stat_told(alloc, path, &answer)
+}
+
+/// Whether a directory was told.
+fn is_dir_told(answer: &Answer) -> bool
+    ensures { result ≡ is_dir_told answer.now }
+{
+    match answer {
+        Answer::Seen(seen) => seen.is_dir,
+        _ => false,
+    }
+}
+
+/// What a path stands for is looked at.
+pub fn is_directory<R: Remote>(
+    alloc: Global,
+    remote: &mut R,
+    path: &[Name],
+) -> Result<bool, AllocError>
+    ensures { IfOk result (λ b. LooksWhether R.asks remote.old path.now b remote.new) }
+{
+    let answer = ask_on(alloc, remote, Deed::Look, path)?;
+    Ok(is_dir_told(&answer))
+}
+
+/// What is shown of a file that is listed alone.
+fn file_text(alloc: Global, is_long: bool, path: &[Name], seen: &Seen) -> Result<Bytes, AllocError>
+    ensures { IfOk result (λ text. text ≡ file_text is_long path.now seen.now) }
+{
+    let mut shown = path_text(alloc, path)?;
+    if is_long {
+        return long_line(alloc, seen, shown.as_slice());
+    }
+    shown.extend_from_slice(b"\n")?;
+    Ok(shown)
+}
+
+/// What is told of what can't be listed.
+fn file_told(
+    alloc: Global,
+    is_long: bool,
+    path: &[Name],
+    why: Why,
+    looked: &Answer,
+) -> Result<Told, AllocError>
+    ensures { IfOk result (λ told. told ≡ file_told is_long path.now why looked.now) }
+{
+    match looked {
+        Answer::Seen(seen) => Ok(fine(alloc, file_text(alloc, is_long, path, seen)?)),
+        _ => refused_told(alloc, path, why),
+    }
+}
+
+/// What can't be listed is looked at: a file is told as if it were all that is in a directory.
+fn look_at<R: Remote>(
+    alloc: Global,
+    remote: &mut R,
+    is_long: bool,
+    path: &[Name],
+    why: Why,
+) -> Result<Told, AllocError>
+    ensures { IfOk result (λ told. LooksAt R.asks remote.old is_long path.now why told remote.new) }
+{
+    let looked = ask_on(alloc, remote, Deed::Look, path)?;
+    file_told(alloc, is_long, path, why, &looked)
+}
+
+/// Whether it can't be listed since it is no directory.
+fn is_file(why: Why) -> bool
+    ensures { result ≡ is_file why }
+{
+    matches!(why, Why::Refused(NOTDIR))
+}
+
+/// What can't be listed, which a file may be.
+fn list_file<R: Remote>(
+    alloc: Global,
+    remote: &mut R,
+    is_file: bool,
+    is_long: bool,
+    path: &[Name],
+    why: Why,
+) -> Result<Told, AllocError>
+    ensures { IfOk result (λ told. ListsFile R.asks remote.old is_file is_long path.now why told remote.new) }
+{
+    if is_file {
+        look_at(alloc, remote, is_long, path, why)
+    } else {
+        refused_told(alloc, path, why)
+    }
+}
+
+/// A line of `ls -l`, or what is said of a name that went meanwhile, goes behind what is told.
+fn put_long(
+    alloc: Global,
+    told: &mut Told,
+    path: &[Name],
+    name: &[u8],
+    answer: &Answer,
+) -> Result<(), AllocError>
+    ensures { OnOk result (told.new ≡ with_long path.now name.now told.old answer.now) }
+{
+    match answer {
+        Answer::Seen(seen) => {
+            let shown = quoted(alloc, name)?;
+            let line = long_line(alloc, seen, shown.as_slice())?;
+            told.text.extend_from_slice(line.as_slice())
+        }
+        answer => {
+            let path = longer(alloc, path, name)?;
+            let mut words = Items::new(alloc);
+            put_why(alloc, &mut words, why_of(answer))?;
+            let line = path_line(alloc, path.as_slice(), words.as_slice())?;
+            told.note.extend_from_slice(line.as_slice())
+        }
+    }
+}
+
+/// A name in a directory is looked at.
+fn look_long<R: Remote>(
+    alloc: Global,
+    remote: &mut R,
+    path: &[Name],
+    name: &[u8],
+) -> Result<Answer, AllocError>
+    ensures { IfOk result (λ answer. AsksOn R.asks remote.old (command_on deeds.Look (path.now ++ name.now ∷ [])) answer remote.new) }
+{
+    let path = longer(alloc, path, name)?;
+    ask_on(alloc, remote, Deed::Look, path.as_slice())
+}
+
+/// The names in a directory are looked at, one after the other.
+fn longs<R: Remote>(
+    alloc: Global,
+    remote: &mut R,
+    path: &[Name],
+    names: &[Name],
+) -> Result<Told, AllocError>
+    ensures { IfOk result (λ told. Longs R.asks remote.old path.now names.now told remote.new) }
+{
+    let mut told = fine(alloc, Items::new(alloc));
+    for name in names {
+        let answer = look_long(alloc, remote, path, name.as_slice())?;
+        put_long(alloc, &mut told, path, name.as_slice(), &answer)?;
+    }
+    Ok(told)
+}
+
+/// What is told of a directory that was to be listed.
+fn list_on<R: Remote>(
+    alloc: Global,
+    remote: &mut R,
+    is_long: bool,
+    path: &[Name],
+    answer: &Answer,
+) -> Result<Told, AllocError>
+    ensures { IfOk result (λ told. ListsOn R.asks remote.old is_long path.now answer.now told remote.new) }
+{
+    match answer {
+        Answer::Names(listed) => {
+            if is_long {
+                longs(alloc, remote, path, listed.names.as_slice())
+            } else {
+                names_told(alloc, path, answer)
+            }
+        }
+        answer => {
+            let why = why_of(answer);
+            list_file(alloc, remote, is_file(why), is_long, path, why)
+        }
+    }
+}
+
+/// `ls`.
+fn list<R: Remote>(
+    alloc: Global,
+    remote: &mut R,
+    is_long: bool,
+    path: &[Name],
+) -> Result<Told, AllocError>
+    ensures { IfOk result (λ told. Lists R.asks remote.old is_long path.now told remote.new) }
+{
+    let answer = ask_on(alloc, remote, Deed::List, path)?;
+    list_on(alloc, remote, is_long, path, &answer)
+}
+
+/// Whether something is there behind the making of a directory: NFS3ERR_EXIST.
+fn is_there(answer: &Answer) -> bool
+    ensures { result ≡ is_there answer.now }
+{
+    matches!(answer, Answer::Done | Answer::Failed(Why::Refused(17)))
+}
+
+/// What is told where all names of a path are there.
+fn made_told(alloc: Global, path: &[Name], is_dir: bool) -> Result<Told, AllocError>
+    ensures { IfOk result (λ told. told ≡ made_told path.now is_dir) }
+{
+    if is_dir {
+        Ok(fine(alloc, Items::new(alloc)))
+    } else {
+        refused_told(alloc, path, Why::Refused(NOTDIR))
+    }
+}
+
+/// `mkdir -p`: each directory on the way is made, where there is none.
+pub fn make_all<R: Remote>(alloc: Global, remote: &mut R, path: &[Name]) -> Result<Told, AllocError>
+    ensures { IfOk result (λ told. MakesAll R.asks remote.old path.now told remote.new) }
+{
+    for end in 0..path.len() {
+        let answer = ask_on(alloc, remote, Deed::MakeDir, &path[..end + 1])?;
+        if !is_there(&answer) {
+            return refused_told(alloc, &path[..end + 1], why_of(&answer));
+        }
+    }
+    let is_dir = is_directory(alloc, remote, path)?;
+    made_told(alloc, path, is_dir)
+}
+
+/// `rm`.
+fn remove_file<R: Remote>(alloc: Global, remote: &mut R, path: &[Name]) -> Result<Told, AllocError>
+    ensures { IfOk result (λ told. RemovesFile R.asks remote.old path.now told remote.new) }
+{
+    let answer = ask_on(alloc, remote, Deed::Remove, path)?;
+    removed_told(alloc, path, &answer)
+}
+
+/// `rm -r`.
+fn remove_deep<R: Remote>(alloc: Global, remote: &mut R, path: &[Name]) -> Result<Told, AllocError>
+    ensures { IfOk result (λ told. RemovesAll R.asks remote.old path.now told remote.new) }
+{
+    let removal = remove_all(alloc, remote, path)?;
+    Ok(notes(alloc, removal.note))
+}
+
+/// The last name of a path that begins so.
+fn last_of<'a>(name: &'a Name, rest: &'a [Name]) -> &'a Name
+    ensures { result.now ≡ last_of name.now rest.now }
+{
+    match rest {
+        [next, more @ ..] => last_of(next, more),
+        [] => name,
+    }
+}
+
+/// The last name of the first path, in the second.
+fn named_in(alloc: Global, to: Path, from: &[Name]) -> Result<Path, AllocError>
+    ensures { IfOk result (λ path. path ≡ named_in to from.now) }
+{
+    let mut to = to;
+    if let [name, rest @ ..] = from {
+        to.push(last_of(name, rest).try_clone(alloc)?)?;
+    }
+    Ok(to)
+}
+
+/// Where something goes that gets a path: into the directory that has it.
+fn place_of(alloc: Global, to: Path, from: &[Name], is_dir: bool) -> Result<Path, AllocError>
+    ensures { IfOk result (λ path. path ≡ place_of to from.now is_dir) }
+{
+    if is_dir {
+        named_in(alloc, to, from)
+    } else {
+        Ok(to)
+    }
+}
+
+/// Whether the server refused it.
+fn is_refused(answer: &Answer) -> bool
+    ensures { result ≡ is_refused answer.now }
+{
+    matches!(answer, Answer::Failed(Why::Refused(_)))
+}
+
+/// What is told of a renaming that wasn't done, by what the first path stands for.
+fn at_fault(
+    alloc: Global,
+    from: &[Name],
+    to: &[Name],
+    answer: &Answer,
+    looked: &Answer,
+) -> Result<Told, AllocError>
+    ensures { IfOk result (λ told. told ≡ at_fault from.now to.now answer.now looked.now) }
+{
+    match looked {
+        Answer::Seen(_) => done_told(alloc, to, answer),
+        looked => refused_told(alloc, from, why_of(looked)),
+    }
+}
+
+/// The first path is looked at, so that the one at fault is told.
+fn look_back<R: Remote>(
+    alloc: Global,
+    remote: &mut R,
+    from: &[Name],
+    to: &[Name],
+    answer: &Answer,
+) -> Result<Told, AllocError>
+    ensures { IfOk result (λ told. LooksBack R.asks remote.old from.now to.now answer.now told remote.new) }
+{
+    let looked = ask_on(alloc, remote, Deed::Look, from)?;
+    at_fault(alloc, from, to, answer, &looked)
+}
+
+/// What a renaming came to. Where it wasn't done, the first name is at fault where nothing has it, and else
+/// the second.
+fn rename_told<R: Remote>(
+    alloc: Global,
+    remote: &mut R,
+    is_refused: bool,
+    from: &[Name],
+    to: &[Name],
+    answer: &Answer,
+) -> Result<Told, AllocError>
+    ensures { IfOk result (λ told. TellsRename R.asks remote.old is_refused from.now to.now answer.now told remote.new) }
+{
+    if is_refused {
+        look_back(alloc, remote, from, to, answer)
+    } else {
+        done_told(alloc, from, answer)
+    }
+}
+
+/// One path's file or directory gets the other path.
+fn rename<R: Remote>(
+    alloc: Global,
+    remote: &mut R,
+    from: &[Name],
+    to: &[Name],
+) -> Result<Told, AllocError>
+    ensures { IfOk result (λ told. Renames R.asks remote.old from.now to.now told remote.new) }
+{
+    let answer = ask_rename(alloc, remote, from, to)?;
+    rename_told(alloc, remote, is_refused(&answer), from, to, &answer)
+}
+
+/// `mv`: into the directory that has the second path, where one has it.
+pub fn move_to<R: Remote>(
+    alloc: Global,
+    remote: &mut R,
+    from: &[Name],
+    to: Path,
+) -> Result<Told, AllocError>
+    ensures { IfOk result (λ told. Moves R.asks remote.old from.now to told remote.new) }
+{
+    let is_dir = is_directory(alloc, remote, to.as_slice())?;
+    let to = place_of(alloc, to, from, is_dir)?;
+    rename(alloc, remote, from, to.as_slice())
+}
+
+/// A command on one path of the server.
+pub fn on_path<R: Remote>(
+    alloc: Global,
+    remote: &mut R,
+    verb: Verb,
+    has_option: bool,
+    path: &[Name],
+) -> Result<Told, AllocError>
+    ensures { IfOk result (λ told. OnPath R.asks R.content remote.old verb has_option path.now told remote.new) }
+{
+    match verb {
+        Verb::Ls => list(alloc, remote, has_option, path),
+        Verb::Mkdir if has_option => make_all(alloc, remote, path),
+        Verb::Mkdir => does(alloc, remote, Deed::MakeDir, path),
+        Verb::Rm if has_option => remove_deep(alloc, remote, path),
+        Verb::Rm => remove_file(alloc, remote, path),
+        Verb::Rmdir => does(alloc, remote, Deed::RemoveDir, path),
+        Verb::Cat => cat(alloc, remote, path),
+        _ => stat(alloc, remote, path),
+    }
+}
