@@ -1,10 +1,87 @@
 -- What a task leaves alone: it looks at, writes and makes the one path of the host's that it is about, and the tasks that come of it are about the names in it.
-use Rattle.std.specs.Prelude.{◌≡◌, ◌⊎◌, ℕ, List, [], ◌∷◌, ◌++◌, true, Result}
+use Rattle.std.specs.Prelude.{◌≡◌, ◌⊎◌, ℕ, ◌==◌, List, [], ◌∷◌, ◌++◌, Bool, true, false, Option, Result}
+use Rattle.command_text.specs.declared.command.Command.{Command}
 use Rattle.shell_words.specs.Local.{is_local, below}
+use Rattle.shell_words.specs.Quoting.{quoted}
+use Rattle.shell_walks.specs.Fetching.{Gets}
+use Rattle.shell_walks.specs.Storing.{CountsRead, PutsBytes}
+use Rattle.shell_walks.specs.Telling.{fault_text, note_line, path_text, why_text}
+use Rattle.shell_walks.specs.declared.fetching.Got.{Got}
+use Rattle.shell_walks.specs.declared.fetching.Got.TheVariants as got
 use Rattle.shell_walks.specs.declared.folder.Kind.{Kind}
 use Rattle.shell_walks.specs.declared.folder.LocalFault.{LocalFault}
+use Rattle.shell_walks.specs.declared.remote.Answer.{Answer}
+use Rattle.shell_walks.specs.declared.remote.Why.{Why}
+use Rattle.shell_walks.specs.declared.remote.Why.TheVariants as why
+use Rattle.shell_walks.specs.declared.tasks.Storing.{Storing}
 use Rattle.shell_walks.specs.declared.tasks.Task.{Task}
 use Rattle.shell_walks.specs.declared.tasks.Task.TheVariants as task
+use Rattle.shell_commands.specs.declared.visiting.Visited.{Visited}
+
+-- ---- what a task is told to have come to
+
+-- a file of so many bytes was dealt with
+abbrev pub one_file : ℕ → Visited
+one_file n = record { more = []; note = []; news = []; files = 1; bytes = n; is_off = false }
+
+-- nothing was done, and this is said
+abbrev pub noted : (note : List ℕ) → (is_off : Bool) → Visited
+noted note off = record { more = []; note = note; news = []; files = 0; bytes = 0; is_off = off }
+
+-- there is no connection, so nothing else need be begun
+abbrev pub is_off : Why → Bool
+is_off why.NoLink = true
+is_off w = false
+
+-- of a path of the server's
+abbrev pub said_of : (path : List (List ℕ)) → Why → (words : List ℕ) → Visited
+said_of path w words = noted (note_line (path_text path) words) (is_off w)
+
+abbrev pub refused_as : (path : List (List ℕ)) → Why → Visited
+refused_as path w = said_of path w (why_text w)
+
+-- of a path of the host's
+abbrev pub faulty_as : (local : List ℕ) → LocalFault → Visited
+faulty_as local fault = noted (note_line (quoted local) (fault_text fault)) false
+
+-- NFS3ERR_ISDIR
+abbrev pub is_directory_for : Why → Bool
+is_directory_for (why.Refused n) = n == 21
+is_directory_for w = false
+
+-- a directory may be fetched otherwise; anything else that is refused is said
+abbrev pub RefusesGet : (path : List (List ℕ)) → Why → (is_dir : Bool) → Visited → Type 0
+RefusesGet path w true v = v.files ≡ 0
+RefusesGet path w false v = v ≡ refused_as path w
+
+-- a file is counted only where it was fetched, and then with its bytes
+abbrev pub EndsGet : (path : List (List ℕ)) → (local : List ℕ) → Got → Visited → Type 0
+EndsGet path local (got.Fine n) v = v ≡ one_file n
+EndsGet path local (got.Refused w) v = RefusesGet path w (is_directory_for w) v
+EndsGet path local (got.Fault fault) v = v ≡ faulty_as local fault
+
+-- ---- what is asked for
+
+-- nothing but the putting of these bytes
+abbrev pub PutsAlone : {R : Type 0} → (asks : R → Command → Answer → R → Type 0) → (content : R → ℕ → List ℕ) → (offers : R → List ℕ → R → Type 0) → R → List (List ℕ) → Storing → List ℕ → R → Type 0
+PutsAlone asks content offers old path s bytes new = (a : Answer) × PutsBytes asks content offers old path s bytes a new
+
+-- ---- which files are counted
+
+pub data CountsGot {R F : Type 0} (asks : R → Command → Answer → R → Type 0) (content : R → ℕ → List ℕ) (writes : F → List ℕ → List ℕ → Result Unit LocalFault → F → Type 0) (tries : F → List ℕ → Result Unit LocalFault → F → Type 0) (id : Option ℕ) (path : List (List ℕ)) (local : List ℕ) (v : Visited) : Type 0 where
+  fetched : (s t : R) (h k : F) (g : Got) → Gets asks content writes tries s h id path local g t k → EndsGet path local g v → CountsGot asks content writes tries id path local v
+  not_fetched : v.files ≡ 0 → CountsGot asks content writes tries id path local v
+
+pub data CountsPut {R F : Type 0} (asks : R → Command → Answer → R → Type 0) (content : R → ℕ → List ℕ) (offers : R → List ℕ → R → Type 0) (reads : F → List ℕ → Result (List ℕ) LocalFault → F → Type 0) (old : R) (local : List ℕ) (path : List (List ℕ)) (s : Storing) (files : ℕ) (new : R) : Type 0 where
+  read : (h k : F) → CountsRead asks content offers reads old h local path s files new k → CountsPut asks content offers reads old local path s files new
+  not_read : files ≡ 0 → CountsPut asks content offers reads old local path s files new
+
+abbrev pub CountsFor : {R F : Type 0} → (asks : R → Command → Answer → R → Type 0) → (content : R → ℕ → List ℕ) → (offers : R → List ℕ → R → Type 0) → (reads : F → List ℕ → Result (List ℕ) LocalFault → F → Type 0) → (writes : F → List ℕ → List ℕ → Result Unit LocalFault → F → Type 0) → (tries : F → List ℕ → Result Unit LocalFault → F → Type 0) → R → Task → Visited → R → Type 0
+CountsFor asks content offers reads writes tries old (task.Put local path s) v new = CountsPut asks content offers reads old local path s v.files new
+CountsFor asks content offers reads writes tries old (task.Get path local deep id) v new = CountsGot asks content writes tries id path local v
+CountsFor asks content offers reads writes tries old (task.Remove path) v new = v.files ≡ 0
+
+-- ---- what a task leaves alone
 
 -- calls of the host's files, one after the other, each on this path
 pub data Touches {F : Type 0} (finds : F → List ℕ → Kind → F → Type 0) (reads : F → List ℕ → Result (List ℕ) LocalFault → F → Type 0) (writes : F → List ℕ → List ℕ → Result Unit LocalFault → F → Type 0) (lists : F → List ℕ → Result (List (List ℕ)) LocalFault → F → Type 0) (makes tries : F → List ℕ → Result Unit LocalFault → F → Type 0) (local : List ℕ) (old : F) : F → Type 0 where

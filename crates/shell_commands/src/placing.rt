@@ -1,9 +1,11 @@
-//! Where a folder of the host goes: its directory is made, where there is none.
+//! Where a folder of the host goes: its directory is made, where there is none (`specs/Placing.antt`).
+
+ghost use Rattle.std.specs.Prelude.{◌≡◌, ◌&&◌, IfOk};
+ghost use Rattle.shell_commands.specs.Placing.{there_as, LooksThere, is_taken, made_as, PlacesIf, MakesPlace, Places, is_in_the_way, instead_as, MakesInstead, OverIf, PlacesOver};
 
 use lb_base::items::{Bytes, Items, Name};
-use shell_walks::asking::{Deed, ask_on, is_status, seen_of};
-use shell_walks::remote::{Remote, Why};
-use shell_walks::storing::is_done;
+use shell_walks::asking::{Deed, ask_on};
+use shell_walks::remote::{Answer, Remote, Why};
 use shell_walks::tasks::Storing;
 use shell_walks::telling::{MADE, REMOVED, path_line, why_of};
 use std::alloc::{AllocError, Global};
@@ -24,55 +26,146 @@ pub enum Place {
 }
 
 /// What stands where a directory can't be made.
-fn place_there<R: Remote>(
+fn there_as(looked: &Answer) -> Place
+    ensures { result ≡ there_as looked.now }
+{
+    match looked {
+        Answer::Seen(seen) => {
+            if seen.is_dir {
+                Place::There
+            } else {
+                Place::None(Why::Refused(NOTDIR))
+            }
+        }
+        looked => Place::None(why_of(looked)),
+    }
+}
+
+/// What stands there is looked at.
+fn look_there<R: Remote>(alloc: Global, remote: &mut R, path: &[Name]) -> Result<Place, AllocError>
+    ensures { IfOk result (λ p. LooksThere R.asks remote.old path.now p remote.new) }
+{
+    let looked = ask_on(alloc, remote, Deed::Look, path)?;
+    Ok(there_as(&looked))
+}
+
+/// Whether something has the name.
+fn is_taken(made: &Answer) -> bool
+    ensures { result ≡ is_taken made.now }
+{
+    matches!(made, Answer::Failed(Why::Refused(EXIST)))
+}
+
+/// What the making of a directory came to, where nothing has the name.
+fn made_as(made: &Answer) -> Place
+    ensures { result ≡ made_as made.now }
+{
+    match made {
+        Answer::Done => Place::New,
+        made => Place::None(why_of(made)),
+    }
+}
+
+/// Whether there is a directory behind the making of one.
+fn place_if<R: Remote>(
     alloc: Global,
     remote: &mut R,
+    is_taken: bool,
     path: &[Name],
-) -> Result<Place, AllocError> {
-    let looked = ask_on(alloc, remote, Deed::Look, path)?;
-    match seen_of(&looked) {
-        Some(seen) if seen.is_dir => Ok(Place::There),
-        Some(_) => Ok(Place::None(Why::Refused(NOTDIR))),
-        None => Ok(Place::None(why_of(&looked))),
+    made: &Answer,
+) -> Result<Place, AllocError>
+    ensures { IfOk result (λ p. PlacesIf R.asks remote.old is_taken path.now made.now p remote.new) }
+{
+    if is_taken {
+        look_there(alloc, remote, path)
+    } else {
+        Ok(made_as(made))
     }
+}
+
+/// A directory is made for a folder.
+fn make_named<R: Remote>(alloc: Global, remote: &mut R, path: &[Name]) -> Result<Place, AllocError>
+    ensures { IfOk result (λ p. MakesPlace R.asks remote.old path.now p remote.new) }
+{
+    let made = ask_on(alloc, remote, Deed::MakeDir, path)?;
+    place_if(alloc, remote, is_taken(&made), path, &made)
 }
 
 /// A directory is made for a folder, where there is none.
-fn make_place<R: Remote>(
-    alloc: Global,
-    remote: &mut R,
-    path: &[Name],
-) -> Result<Place, AllocError> {
-    if path.is_empty() {
-        return Ok(Place::There);
-    }
-    let made = ask_on(alloc, remote, Deed::MakeDir, path)?;
-    if is_done(&made) {
-        Ok(Place::New)
-    } else if is_status(&made, EXIST) {
-        place_there(alloc, remote, path)
-    } else {
-        Ok(Place::None(why_of(&made)))
+fn make_place<R: Remote>(alloc: Global, remote: &mut R, path: &[Name]) -> Result<Place, AllocError>
+    ensures { IfOk result (λ p. Places R.asks remote.old path.now p remote.new) }
+{
+    match path {
+        [] => Ok(Place::There),
+        [_name, ..] => make_named(alloc, remote, path),
     }
 }
 
-/// The same, where a file that stands there may go.
+/// Whether a file stands there.
+fn is_in_the_way(place: Place) -> bool
+    ensures { result ≡ is_in_the_way place }
+{
+    matches!(place, Place::None(Why::Refused(NOTDIR)))
+}
+
+/// Whether a file that stands there goes.
+fn may_go(place: Place, deletes: bool) -> bool
+    ensures { result ≡ (is_in_the_way place && deletes) }
+{
+    is_in_the_way(place) && deletes
+}
+
+/// A directory that is new is in the place of a file that went.
+fn instead_as(place: Place) -> Place
+    ensures { result ≡ instead_as place }
+{
+    match place {
+        Place::New => Place::Instead,
+        place => place,
+    }
+}
+
+/// A file goes, and a directory is made in its place.
+fn make_instead<R: Remote>(
+    alloc: Global,
+    remote: &mut R,
+    path: &[Name],
+) -> Result<Place, AllocError>
+    ensures { IfOk result (λ p. MakesInstead R.asks remote.old path.now p remote.new) }
+{
+    drop(ask_on(alloc, remote, Deed::Remove, path)?);
+    let again = make_place(alloc, remote, path)?;
+    Ok(instead_as(again))
+}
+
+/// A directory is made in the place of a file, where that goes.
+fn over_if<R: Remote>(
+    alloc: Global,
+    remote: &mut R,
+    may_go: bool,
+    path: &[Name],
+    before: Place,
+) -> Result<Place, AllocError>
+    ensures { IfOk result (λ p. OverIf R.asks remote.old may_go path.now before p remote.new) }
+{
+    if may_go {
+        make_instead(alloc, remote, path)
+    } else {
+        Ok(before)
+    }
+}
+
+/// A directory is made for a folder, where there is none, also where a file stands that may go.
 pub fn make_place_over<R: Remote>(
     alloc: Global,
     remote: &mut R,
     path: &[Name],
     deletes: bool,
-) -> Result<Place, AllocError> {
-    match make_place(alloc, remote, path)? {
-        Place::None(Why::Refused(NOTDIR)) if deletes => {
-            drop(ask_on(alloc, remote, Deed::Remove, path)?);
-            match make_place(alloc, remote, path)? {
-                Place::New => Ok(Place::Instead),
-                place => Ok(place),
-            }
-        }
-        place => Ok(place),
-    }
+) -> Result<Place, AllocError>
+    ensures { IfOk result (λ p. PlacesOver R.asks remote.old path.now deletes p remote.new) }
+{
+    let before = make_place(alloc, remote, path)?;
+    over_if(alloc, remote, may_go(before, deletes), path, before)
 }
 
 /// What a sync says of a directory that was made.

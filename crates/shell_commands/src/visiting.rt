@@ -1,10 +1,11 @@
 //! What a task does, and which tasks come from it. What it asks of the client are the walks of `storing`,
 //! `fetching` and `removing`; which tasks come of a folder, or of a directory, says `tasks`.
 
-ghost use Rattle.std.specs.Prelude.{◌≡◌, ℕ, ◌≤◌, List, [], Bool, Option, length, IfOk, OnOk};
+ghost use Rattle.std.specs.Prelude.{◌≡◌, ℕ, ◌≤◌, List, [], Bool, false, Option, length, IfOk, OnOk};
 ghost use Rattle.limits.specs.declared.TheConstants.{FILE_MOST};
 ghost use Rattle.shell_walks.specs.Storing.{Counts, CountsRead, Offers, PutsBytes, is_compared, is_kept};
-ghost use Rattle.shell_commands.specs.Visiting.{AllCome, Touches, TouchesFor};
+ghost use Rattle.shell_walks.specs.Telling.{unstored_text, why_of};
+ghost use Rattle.shell_commands.specs.Visiting.{AllCome, CountsFor, CountsGot, CountsPut, EndsGet, PutsAlone, Touches, TouchesFor, faulty_as, one_file, refused_as, said_of};
 ghost use Rattle.shell_walks.specs.declared.tasks.Storing.{Storing as StoringOf};
 ghost use Rattle.shell_walks.specs.declared.tasks.Task.TheVariants as tasks;
 
@@ -49,6 +50,7 @@ const ISDIR: u32 = 21;
 
 /// A file of so many bytes was dealt with.
 fn one_file(alloc: Global, bytes: u64) -> Visited
+    ensures exact { result ≡ one_file bytes }
     ensures more { result.more ≡ [] }
     ensures files { result.files ≡ 1 }
 {
@@ -79,6 +81,7 @@ fn leads(alloc: Global, more: Items<Task>, note: Bytes) -> Visited
 
 /// This is said of a path of the server's with which that happened.
 fn said(alloc: Global, path: &[Name], why: Why, words: &[u8]) -> Result<Visited, AllocError>
+    ensures exact { IfOk result (λ v. v ≡ said_of path.now why words.now) }
     ensures more { IfOk result (λ v. v.more ≡ []) }
     ensures files { IfOk result (λ v. v.files ≡ 0) }
 {
@@ -90,6 +93,7 @@ fn said(alloc: Global, path: &[Name], why: Why, words: &[u8]) -> Result<Visited,
 
 /// Why something wasn't done with a path of the server's is said.
 fn refused(alloc: Global, path: &[Name], why: Why) -> Result<Visited, AllocError>
+    ensures exact { IfOk result (λ v. v ≡ refused_as path.now why) }
     ensures more { IfOk result (λ v. v.more ≡ []) }
     ensures files { IfOk result (λ v. v.files ≡ 0) }
 {
@@ -100,6 +104,7 @@ fn refused(alloc: Global, path: &[Name], why: Why) -> Result<Visited, AllocError
 
 /// What wasn't stored is said.
 fn unstored(alloc: Global, path: &[Name], answer: &Answer) -> Result<Visited, AllocError>
+    ensures exact { IfOk result (λ v. v ≡ said_of path.now (why_of answer.now) (unstored_text answer.now)) }
     ensures more { IfOk result (λ v. v.more ≡ []) }
     ensures files { IfOk result (λ v. v.files ≡ 0) }
 {
@@ -110,6 +115,7 @@ fn unstored(alloc: Global, path: &[Name], answer: &Answer) -> Result<Visited, Al
 
 /// This is said of a path of the host's.
 fn faulty(alloc: Global, local: &str, fault: LocalFault) -> Result<Visited, AllocError>
+    ensures exact { IfOk result (λ v. v ≡ faulty_as local.now fault) }
     ensures more { IfOk result (λ v. v.more ≡ []) }
     ensures files { IfOk result (λ v. v.files ≡ 0) }
 {
@@ -263,6 +269,7 @@ fn put_read<R: Remote>(
     requires { length bytes ≤ FILE_MOST }
     ensures come { IfOk result (λ v. AllCome (tasks.Put local.now path.now storing) v.more) }
     ensures counts { IfOk result (λ v. Counts R.asks R.content R.offers remote.old path.now storing bytes v.files remote.new) }
+    ensures spares { storing.deletes ≡ false → OnOk result (PutsAlone R.asks R.content R.offers remote.old path.now storing bytes remote.new) }
 {
     let len = bytes.len() as u64;
     let answer = put_bytes(alloc, remote, path, storing, bytes)?;
@@ -302,7 +309,8 @@ fn with_removals(
     held: &[Name],
     names: &[Name],
 ) -> Result<Visited, AllocError>
-    ensures { (local : List ℕ) (s : StoringOf) → AllCome (tasks.Put local path.now s) visit.more → IfOk result (λ v. AllCome (tasks.Put local path.now s) v.more) }
+    ensures come { (local : List ℕ) (s : StoringOf) → AllCome (tasks.Put local path.now s) visit.more → IfOk result (λ v. AllCome (tasks.Put local path.now s) v.more) }
+    ensures files { visit.files ≡ 0 → IfOk result (λ v. v.files ≡ 0) }
 {
     let mut visit = visit;
     put_removals(alloc, &mut visit.more, path, held, names)?;
@@ -311,7 +319,8 @@ fn with_removals(
 
 /// This is said beside what was.
 fn with_note(visit: Visited, note: &[u8]) -> Result<Visited, AllocError>
-    ensures { IfOk result (λ v. v.more ≡ visit.more) }
+    ensures more { IfOk result (λ v. v.more ≡ visit.more) }
+    ensures files { IfOk result (λ v. v.files ≡ visit.files) }
 {
     let mut visit = visit;
     visit.note.extend_from_slice(note)?;
@@ -326,7 +335,8 @@ fn put_names(
     storing: Storing,
     names: &[Name],
 ) -> Result<Visited, AllocError>
-    ensures { (s : StoringOf) → IfOk result (λ v. AllCome (tasks.Put local.now path.now s) v.more) }
+    ensures come { (s : StoringOf) → IfOk result (λ v. AllCome (tasks.Put local.now path.now s) v.more) }
+    ensures files { IfOk result (λ v. v.files ≡ 0) }
 {
     let more = put_tasks(alloc, local, path, storing, names)?;
     let note = bad_names(alloc, local.as_bytes(), names)?;
@@ -342,7 +352,8 @@ fn put_over_listed(
     names: &[Name],
     listed: &Listed,
 ) -> Result<Visited, AllocError>
-    ensures { (s : StoringOf) → IfOk result (λ v. AllCome (tasks.Put local.now path.now s) v.more) }
+    ensures come { (s : StoringOf) → IfOk result (λ v. AllCome (tasks.Put local.now path.now s) v.more) }
+    ensures files { IfOk result (λ v. v.files ≡ 0) }
 {
     let more = put_known(alloc, local, path, storing, listed, names)?;
     let note = bad_names(alloc, local.as_bytes(), names)?;
@@ -363,7 +374,8 @@ fn put_over_unlisted(
     names: &[Name],
     why: Why,
 ) -> Result<Visited, AllocError>
-    ensures { (s : StoringOf) → IfOk result (λ v. AllCome (tasks.Put local.now path.now s) v.more) }
+    ensures come { (s : StoringOf) → IfOk result (λ v. AllCome (tasks.Put local.now path.now s) v.more) }
+    ensures files { IfOk result (λ v. v.files ≡ 0) }
 {
     let visit = put_names(alloc, local, path, storing, names)?;
     if storing.deletes {
@@ -384,7 +396,8 @@ fn put_within<R: Remote>(
     storing: Storing,
     names: &[Name],
 ) -> Result<Visited, AllocError>
-    ensures { (s : StoringOf) → IfOk result (λ v. AllCome (tasks.Put local.now path.now s) v.more) }
+    ensures come { (s : StoringOf) → IfOk result (λ v. AllCome (tasks.Put local.now path.now s) v.more) }
+    ensures files { IfOk result (λ v. v.files ≡ 0) }
 {
     if !is_compared(storing) {
         return put_names(alloc, local, path, storing, names);
@@ -430,7 +443,8 @@ fn put_listed<R: Remote>(
     storing: Storing,
     names: &[Name],
 ) -> Result<Visited, AllocError>
-    ensures { IfOk result (λ v. AllCome (tasks.Put local.now path.now storing) v.more) }
+    ensures come { IfOk result (λ v. AllCome (tasks.Put local.now path.now storing) v.more) }
+    ensures files { IfOk result (λ v. v.files ≡ 0) }
 {
     if let Some(listed) = listing_of(alloc, remote, path, storing)? {
         let within = Storing {
@@ -464,6 +478,7 @@ fn put_folder<R: Remote, F: Folder>(
 ) -> Result<Visited, AllocError>
     ensures come { IfOk result (λ v. AllCome (tasks.Put local.now path.now storing) v.more) }
     ensures touches { Touches F.finds F.reads F.writes F.lists F.makes F.tries local.now folder.old folder.new }
+    ensures files { IfOk result (λ v. v.files ≡ 0) }
 {
     if !storing.deep {
         return faulty(alloc, local, LocalFault::NotDeep);
@@ -485,6 +500,7 @@ fn visit_put<R: Remote, F: Folder>(
 ) -> Result<Visited, AllocError>
     ensures come { IfOk result (λ v. AllCome (tasks.Put local.now path.now storing) v.more) }
     ensures touches { Touches F.finds F.reads F.writes F.lists F.makes F.tries local.now folder.old folder.new }
+    ensures counts { IfOk result (λ v. CountsPut R.asks R.content R.offers F.reads remote.old local.now path.now storing v.files remote.new) }
 {
     match folder.kind(local, !storing.inner) {
         Kind::File => put_file(alloc, remote, folder, local, path, storing),
@@ -517,7 +533,8 @@ fn get_names(
     local: &str,
     listed: &Listed,
 ) -> Result<Visited, AllocError>
-    ensures { (deep : Bool) (id : Option ℕ) → IfOk result (λ v. AllCome (tasks.Get path.now local.now deep id) v.more) }
+    ensures come { (deep : Bool) (id : Option ℕ) → IfOk result (λ v. AllCome (tasks.Get path.now local.now deep id) v.more) }
+    ensures files { IfOk result (λ v. v.files ≡ 0) }
 {
     let names = listed.names.as_slice();
     let more = get_tasks(alloc, path, local, listed.ids.as_slice(), names)?;
@@ -535,6 +552,7 @@ fn get_listed<F: Folder>(
 ) -> Result<Visited, AllocError>
     ensures come { (deep : Bool) (id : Option ℕ) → IfOk result (λ v. AllCome (tasks.Get path.now local.now deep id) v.more) }
     ensures touches { Touches F.finds F.reads F.writes F.lists F.makes F.tries local.now folder.old folder.new }
+    ensures files { IfOk result (λ v. v.files ≡ 0) }
 {
     match make_local(folder, local) {
         Ok(()) => get_names(alloc, path, local, listed),
@@ -550,7 +568,8 @@ fn unlisted<R: Remote>(
     local: &str,
     why: Why,
 ) -> Result<Visited, AllocError>
-    ensures { IfOk result (λ v. v.more ≡ []) }
+    ensures more { IfOk result (λ v. v.more ≡ []) }
+    ensures files { IfOk result (λ v. v.files ≡ 0) }
 {
     if matches!(why, Why::Refused(NOTDIR)) {
         let looked = ask_on(alloc, remote, Deed::Look, path)?;
@@ -571,6 +590,7 @@ fn get_directory<R: Remote, F: Folder>(
 ) -> Result<Visited, AllocError>
     ensures come { (deep : Bool) (id : Option ℕ) → IfOk result (λ v. AllCome (tasks.Get path.now local.now deep id) v.more) }
     ensures touches { Touches F.finds F.reads F.writes F.lists F.makes F.tries local.now folder.old folder.new }
+    ensures files { IfOk result (λ v. v.files ≡ 0) }
 {
     match ask_on(alloc, remote, Deed::List, path)? {
         Answer::Names(listed) => get_listed(alloc, folder, path, local, &listed),
@@ -621,6 +641,7 @@ fn end_get<R: Remote, F: Folder>(
 ) -> Result<Visited, AllocError>
     ensures come { (id : Option ℕ) → IfOk result (λ v. AllCome (tasks.Get path.now local.now deep id) v.more) }
     ensures touches { Touches F.finds F.reads F.writes F.lists F.makes F.tries local.now folder.old folder.new }
+    ensures ends { IfOk result (λ v. EndsGet path.now local.now got v) }
 {
     match got {
         Got::Fine(bytes) => Ok(one_file(alloc, bytes)),
@@ -645,6 +666,7 @@ fn get_file<R: Remote, F: Folder>(
 ) -> Result<Visited, AllocError>
     ensures come { IfOk result (λ v. AllCome (tasks.Get path.now local.now deep id) v.more) }
     ensures touches { OnOk result (Touches F.finds F.reads F.writes F.lists F.makes F.tries local.now folder.old folder.new) }
+    ensures counts { IfOk result (λ v. CountsGot R.asks R.content F.writes F.tries id path.now local.now v) }
 {
     let got = get(alloc, remote, folder, id, path, local)?;
     end_get(alloc, remote, folder, path, local, deep, got)
@@ -662,6 +684,7 @@ fn get_over<R: Remote, F: Folder>(
 ) -> Result<Visited, AllocError>
     ensures come { IfOk result (λ v. AllCome (tasks.Get path.now local.now deep id) v.more) }
     ensures touches { OnOk result (Touches F.finds F.reads F.writes F.lists F.makes F.tries local.now folder.old folder.new) }
+    ensures counts { IfOk result (λ v. CountsGot R.asks R.content F.writes F.tries id path.now local.now v) }
 {
     offer_local(alloc, remote, folder, local);
     get_file(alloc, remote, folder, id, path, local, deep)
@@ -678,6 +701,7 @@ fn get_into<R: Remote, F: Folder>(
 ) -> Result<Visited, AllocError>
     ensures come { (id : Option ℕ) → IfOk result (λ v. AllCome (tasks.Get path.now local.now deep id) v.more) }
     ensures touches { OnOk result (Touches F.finds F.reads F.writes F.lists F.makes F.tries local.now folder.old folder.new) }
+    ensures files { IfOk result (λ v. v.files ≡ 0) }
 {
     if deep {
         return get_directory(alloc, remote, folder, path, local);
@@ -697,6 +721,7 @@ fn visit_get<R: Remote, F: Folder>(
 ) -> Result<Visited, AllocError>
     ensures come { IfOk result (λ v. AllCome (tasks.Get path.now local.now deep id) v.more) }
     ensures touches { OnOk result (Touches F.finds F.reads F.writes F.lists F.makes F.tries local.now folder.old folder.new) }
+    ensures counts { IfOk result (λ v. CountsGot R.asks R.content F.writes F.tries id path.now local.now v) }
 {
     if deep && path.is_empty() {
         return get_directory(alloc, remote, folder, path, local);
@@ -714,7 +739,8 @@ fn visit_removal<R: Remote>(
     remote: &mut R,
     path: &[Name],
 ) -> Result<Visited, AllocError>
-    ensures { IfOk result (λ v. v.more ≡ []) }
+    ensures more { IfOk result (λ v. v.more ≡ []) }
+    ensures files { IfOk result (λ v. v.files ≡ 0) }
 {
     let Removal { note, news } = remove_all(alloc, remote, path)?;
     Ok(with_news(leads(alloc, Items::new(alloc), note), news))
@@ -730,6 +756,7 @@ pub fn visit<R: Remote, F: Folder>(
 ) -> Result<Visited, AllocError>
     ensures come { IfOk result (λ v. AllCome task v.more) }
     ensures touches { OnOk result (TouchesFor F.finds F.reads F.writes F.lists F.makes F.tries task folder.old folder.new) }
+    ensures counts { IfOk result (λ v. CountsFor R.asks R.content R.offers F.reads F.writes F.tries remote.old task v remote.new) }
 {
     match task {
         Task::Put {

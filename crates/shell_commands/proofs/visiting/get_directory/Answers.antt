@@ -9,6 +9,7 @@ returns-in_err-answer-clause-touches g c = stayed _ _ _ refl
 
 pub returns-in_default : goal.returns-in_default
 returns-in_default g c = record {
-  come = λ deep id. IfOk-weaker c.unlisted.result _ _ (λ v h. none_come (task.Get c.args.path.now c.args.local.now deep id) v.more h) c.unlisted.ensures;
+  come = λ deep id. IfOk-weaker c.unlisted.result _ _ (λ v h. none_come (task.Get c.args.path.now c.args.local.now deep id) v.more h) c.unlisted.ensures.more;
+  files = c.unlisted.ensures.files;
   touches = stayed _ _ _ refl;
 }

@@ -1,3 +1,4 @@
+use Rattle.shell_commands.proofs.Counting.{got_so}
 use Rattle.shell_commands.proofs.Touching.{always_ok, both, gets_touch}
 use Rattle.shell_commands.proofs.visiting.get_file.Goals as goal
 
@@ -6,3 +7,6 @@ returns-clause-touches g c = always_ok c.end_get.result _ (both _ _ _ _ (gets_to
 
 pub returns-clause-come : goal.returns-clause-come
 returns-clause-come g c = c.end_get.ensures.come c.args.id
+
+pub returns-clause-counts : goal.returns-clause-counts
+returns-clause-counts g c = got_so _ _ _ _ _ _ _ _ c.end_get.result c.in_ok-got.ensures c.end_get.ensures.ends

@@ -3,5 +3,5 @@ use Rattle.shell_walks.specs.declared.tasks.Task.TheVariants as task
 use Rattle.shell_commands.proofs.Touching.{puts_come, same_come}
 use Rattle.shell_commands.proofs.visiting.put_names.Goals as goal
 
-pub returns : goal.returns
-returns c = λ s. same_come (task.Put c.args.local.now c.args.path.now s) _ _ (c.leads.ensures.more ∙ c.in_ok-more.ensures) (puts_come c.args.local.now c.args.path.now s c.args.storing c.args.names.now)
+pub returns-clause-come : goal.returns-clause-come
+returns-clause-come c = λ s. same_come (task.Put c.args.local.now c.args.path.now s) _ _ (c.leads.ensures.more ∙ c.in_ok-more.ensures) (puts_come c.args.local.now c.args.path.now s c.args.storing c.args.names.now)

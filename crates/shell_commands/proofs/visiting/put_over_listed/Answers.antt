@@ -3,8 +3,8 @@ use Rattle.shell_walks.specs.declared.tasks.Task.TheVariants as task
 use Rattle.shell_commands.proofs.Touching.{known_come, same_come}
 use Rattle.shell_commands.proofs.visiting.put_over_listed.Goals as goal
 
-pub returns-then-storing : goal.returns-then-storing
-returns-then-storing c = λ s. c.with_removals.ensures c.args.local.now s (same_come (task.Put c.args.local.now c.args.path.now s) _ _ (c.leads-visit.ensures.more ∙ c.in_ok-more.ensures) (known_come c.args.local.now c.args.path.now s c.args.storing c.args.listed.now c.args.names.now))
+pub returns-then-storing-clause-come : goal.returns-then-storing-clause-come
+returns-then-storing-clause-come c = λ s. c.with_removals.ensures.come c.args.local.now s (same_come (task.Put c.args.local.now c.args.path.now s) _ _ (c.leads-visit.ensures.more ∙ c.in_ok-more.ensures) (known_come c.args.local.now c.args.path.now s c.args.storing c.args.listed.now c.args.names.now))
 
-pub returns-else-storing : goal.returns-else-storing
-returns-else-storing c = λ s. same_come (task.Put c.args.local.now c.args.path.now s) _ _ (c.leads-visit.ensures.more ∙ c.in_ok-more.ensures) (known_come c.args.local.now c.args.path.now s c.args.storing c.args.listed.now c.args.names.now)
+pub returns-else-storing-clause-come : goal.returns-else-storing-clause-come
+returns-else-storing-clause-come c = λ s. same_come (task.Put c.args.local.now c.args.path.now s) _ _ (c.leads-visit.ensures.more ∙ c.in_ok-more.ensures) (known_come c.args.local.now c.args.path.now s c.args.storing c.args.listed.now c.args.names.now)

@@ -1,0 +1,90 @@
+-- Where a folder of the host goes, over what a client does at any command (`asks`).
+use Rattle.std.specs.Prelude.{◌≡◌, ℕ, ◌==◌, ◌&&◌, List, [], ◌∷◌, Bool, true, false}
+use Rattle.command_text.specs.declared.command.Command.{Command}
+use Rattle.shell_walks.specs.Asking.{command_on, AsksOn}
+use Rattle.shell_walks.specs.Telling.{why_of}
+use Rattle.shell_walks.specs.declared.asking.Deed.TheVariants as deed
+use Rattle.shell_walks.specs.declared.remote.Answer.{Answer}
+use Rattle.shell_walks.specs.declared.remote.Answer.TheVariants as answer
+use Rattle.shell_walks.specs.declared.remote.Why.{Why}
+use Rattle.shell_walks.specs.declared.remote.Why.TheVariants as why
+use Rattle.shell_commands.specs.declared.placing.Place.{Place}
+use Rattle.shell_commands.specs.declared.placing.Place.TheVariants as place
+
+-- NFS3ERR_EXIST
+abbrev pub is_taken_for : Why → Bool
+is_taken_for (why.Refused n) = n == 17
+is_taken_for w = false
+
+abbrev pub is_taken : Answer → Bool
+is_taken (answer.Failed w) = is_taken_for w
+is_taken a = false
+
+-- ---- a directory, where there is none
+
+-- what stands there is one, or NFS3ERR_NOTDIR
+abbrev pub there_if : (is_dir : Bool) → Place
+there_if true = place.There
+there_if false = place.None (why.Refused 20)
+
+abbrev pub there_as : Answer → Place
+there_as (answer.Seen seen) = there_if seen.is_dir
+there_as a = place.None (why_of a)
+
+pub record LooksThere {R : Type 0} (asks : R → Command → Answer → R → Type 0) (old : R) (path : List (List ℕ)) (p : Place) (new : R) : Type 0 where
+  pub looked : Answer
+  pub looks : AsksOn asks old (command_on deed.Look path) looked new
+  pub is : p ≡ there_as looked
+
+abbrev pub made_as : Answer → Place
+made_as answer.Done = place.New
+made_as a = place.None (why_of a)
+
+abbrev pub PlacesIf : {R : Type 0} → (asks : R → Command → Answer → R → Type 0) → R → (is_taken : Bool) → List (List ℕ) → Answer → Place → R → Type 0
+PlacesIf asks old true path made p new = LooksThere asks old path p new
+PlacesIf asks old false path made p new = (new ≡ old) × (p ≡ made_as made)
+
+pub record MakesPlace {R : Type 0} (asks : R → Command → Answer → R → Type 0) (old : R) (path : List (List ℕ)) (p : Place) (new : R) : Type 0 where
+  pub made : Answer
+  pub between : R
+  pub makes : AsksOn asks old (command_on deed.MakeDir path) made between
+  pub goes_on : PlacesIf asks between (is_taken made) path made p new
+
+-- the root is there
+abbrev pub Places : {R : Type 0} → (asks : R → Command → Answer → R → Type 0) → R → List (List ℕ) → Place → R → Type 0
+Places asks old [] p new = (new ≡ old) × (p ≡ place.There)
+Places asks old (name ∷ names) p new = MakesPlace asks old (name ∷ names) p new
+
+-- ---- where a file that stands there may go
+
+abbrev pub is_no_directory : Why → Bool
+is_no_directory (why.Refused n) = n == 20
+is_no_directory w = false
+
+abbrev pub is_in_the_way : Place → Bool
+is_in_the_way (place.None w) = is_no_directory w
+is_in_the_way p = false
+
+abbrev pub instead_as : Place → Place
+instead_as place.New = place.Instead
+instead_as p = p
+
+-- it is asked to go, and a directory is made once more
+pub record MakesInstead {R : Type 0} (asks : R → Command → Answer → R → Type 0) (old : R) (path : List (List ℕ)) (p : Place) (new : R) : Type 0 where
+  pub gone : Answer
+  pub between : R
+  pub removes : AsksOn asks old (command_on deed.Remove path) gone between
+  pub again : Place
+  pub places : Places asks between path again new
+  pub is : p ≡ instead_as again
+
+abbrev pub OverIf : {R : Type 0} → (asks : R → Command → Answer → R → Type 0) → R → (may_go : Bool) → List (List ℕ) → (before p : Place) → R → Type 0
+OverIf asks old true path before p new = MakesInstead asks old path p new
+OverIf asks old false path before p new = (new ≡ old) × (p ≡ before)
+
+-- nothing goes but a file, and that only where it may
+pub record PlacesOver {R : Type 0} (asks : R → Command → Answer → R → Type 0) (old : R) (path : List (List ℕ)) (deletes : Bool) (p : Place) (new : R) : Type 0 where
+  pub before : Place
+  pub between : R
+  pub places : Places asks old path before between
+  pub goes_on : OverIf asks between (is_in_the_way before && deletes) path before p new
