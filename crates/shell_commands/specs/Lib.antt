@@ -1,3 +1,4 @@
 pub mod Doing
+pub mod Lines
 pub mod Placing
 pub mod Visiting

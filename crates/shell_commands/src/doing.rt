@@ -46,7 +46,7 @@ fn stat<R: Remote>(alloc: Global, remote: &mut R, path: &[Name]) -> Result<Told,
 }
 
 /// Whether a directory was told.
-fn is_dir_told(answer: &Answer) -> bool
+pub fn is_dir_told(answer: &Answer) -> bool
     ensures { result ≡ is_dir_told answer.now }
 {
     match answer {
@@ -236,7 +236,7 @@ fn is_there(answer: &Answer) -> bool
 }
 
 /// What is told where all names of a path are there.
-fn made_told(alloc: Global, path: &[Name], is_dir: bool) -> Result<Told, AllocError>
+pub fn made_told(alloc: Global, path: &[Name], is_dir: bool) -> Result<Told, AllocError>
     ensures { IfOk result (λ told. told ≡ made_told path.now is_dir) }
 {
     if is_dir {

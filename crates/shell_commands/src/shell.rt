@@ -1,11 +1,14 @@
 //! A shell: where it stands in the server's tree and in the host's, and what a command makes of that.
+//! `specs/Lines.antt` says which path a word names, and what is done with it.
 
-ghost use Rattle.std.specs.Prelude.{◌≡◌};
+ghost use Rattle.std.specs.Prelude.{◌≡◌, ◌++◌, codes, IfOk, OnOk};
+ghost use Rattle.shell_walks.specs.Telling.{fine, path_text};
+ghost use Rattle.shell_commands.specs.Lines.{of_word, mistaken_as, operand_of, Names, gone_told, gone_to, Goes, MovesTo, IsGet, IsPut, put_storing, sync_storing, DoesPath, RunsNamed, Runs};
 
-use crate::doing::{is_directory, make_all, move_to, on_path};
+use crate::doing::{is_dir_told, is_directory, made_told, make_all, move_to, on_path};
 use command_text::path::Path;
 use lb_base::items::{Items, Name};
-use shell_walks::asking::{Deed, ask_on, seen_of};
+use shell_walks::asking::{Deed, ask_on};
 use shell_walks::folder::{Folder, Kind, LocalFault};
 use shell_walks::remote::{Answer, Remote, Why};
 use shell_walks::tasks::{Storing, Task, longer};
@@ -20,10 +23,8 @@ use shell_words::path::{last_of, path_of};
 use shell_words::quoting::quoted;
 use std::alloc::{AllocError, Global};
 
-/// NFS3ERR_NOENT, NFS3ERR_NOTDIR.
+/// NFS3ERR_NOENT.
 const NOENT: u32 = 2;
-
-const NOTDIR: u32 = 20;
 
 /// Where a shell stands.
 #[derive(Drop)]
@@ -46,7 +47,7 @@ pub enum Went {
 }
 
 /// A path that a word names, or what is wrong with the word.
-enum Named {
+pub(crate) enum Named {
     Path(Path),
     Mistaken(Told),
 }
@@ -58,22 +59,89 @@ enum NamedLocal {
 }
 
 /// This is said of a word.
-fn of_word(alloc: Global, word: &[u8], words: &[u8]) -> Result<Told, AllocError> {
+fn of_word(alloc: Global, word: &[u8], words: &[u8]) -> Result<Told, AllocError>
+    ensures { IfOk result (λ told. told ≡ of_word word.now words.now) }
+{
     let about = quoted(alloc, word)?;
     let line = note_line(alloc, about.as_slice(), words)?;
     Ok(notes(alloc, line))
 }
 
 /// A mistake in a line.
-pub fn mistaken(alloc: Global, word: &[u8], mistake: Mistake) -> Result<Told, AllocError> {
+pub fn mistaken(alloc: Global, word: &[u8], mistake: Mistake) -> Result<Told, AllocError>
+    ensures { IfOk result (λ told. told ≡ mistaken_as word.now mistake) }
+{
     of_word(alloc, word, mistake_words(mistake))
 }
 
 /// The operand at a place, or no bytes.
-fn operand(line: &Line, at: usize) -> &[u8] {
+fn operand(line: &Line, at: usize) -> &[u8]
+    ensures { result.now ≡ operand_of line.now at }
+{
     match line.operands.as_slice().get(at) {
         Some(word) => word.as_slice(),
         None => &[],
+    }
+}
+
+/// The path that a word names in a directory.
+fn named(alloc: Global, dir: &[Name], word: &[u8]) -> Result<Named, AllocError>
+    ensures { IfOk result (λ n. Names dir.now word.now n) }
+{
+    match path_of(alloc, dir, word) {
+        Ok(path) => Ok(Named::Path(path)),
+        Err(ReadError::Mistaken(mistake)) => Ok(Named::Mistaken(mistaken(alloc, word, mistake)?)),
+        Err(ReadError::Memory) => Err(AllocError),
+    }
+}
+
+/// What is told of a directory that is gone to.
+fn gone_told(alloc: Global, path: &[Name], answer: &Answer) -> Result<Told, AllocError>
+    ensures { IfOk result (λ told. told ≡ gone_told path.now answer.now) }
+{
+    match answer {
+        Answer::Seen(seen) => made_told(alloc, path, seen.is_dir),
+        answer => refused_told(alloc, path, why_of(answer)),
+    }
+}
+
+/// The directory in which it stands then.
+fn go_to(dir: &mut Path, path: Path, is_dir: bool)
+    ensures { dir.new ≡ gone_to dir.old path is_dir }
+{
+    if is_dir {
+        *dir = path;
+    }
+}
+
+/// `cd`: to a directory that is there.
+fn go<R: Remote>(
+    alloc: Global,
+    remote: &mut R,
+    dir: &mut Path,
+    path: Path,
+) -> Result<Told, AllocError>
+    ensures { IfOk result (λ told. Goes R.asks remote.old dir.old path told remote.new dir.new) }
+{
+    let answer = ask_on(alloc, remote, Deed::Look, path.as_slice())?;
+    let told = gone_told(alloc, path.as_slice(), &answer)?;
+    go_to(dir, path, is_dir_told(&answer));
+    Ok(told)
+}
+
+/// `mv`, whose second path a word names.
+fn move_named<R: Remote>(
+    alloc: Global,
+    remote: &mut R,
+    dir: &[Name],
+    from: &[Name],
+    word: &[u8],
+) -> Result<Told, AllocError>
+    ensures { IfOk result (λ told. MovesTo R.asks remote.old dir.now from.now word.now told remote.new) }
+{
+    match named(alloc, dir, word)? {
+        Named::Path(to) => move_to(alloc, remote, from, to),
+        Named::Mistaken(told) => Ok(told),
     }
 }
 
@@ -105,17 +173,6 @@ impl Shell {
         self.dir.as_slice()
     }
 
-    /// The path that a word names.
-    fn named(&self, alloc: Global, word: &[u8]) -> Result<Named, AllocError> {
-        match path_of(alloc, self.dir.as_slice(), word) {
-            Ok(path) => Ok(Named::Path(path)),
-            Err(ReadError::Mistaken(mistake)) => {
-                Ok(Named::Mistaken(mistaken(alloc, word, mistake)?))
-            }
-            Err(ReadError::Memory) => Err(AllocError),
-        }
-    }
-
     /// The path of the host that a word names.
     fn named_local(&self, alloc: Global, word: &[u8]) -> Result<NamedLocal, AllocError> {
         match text_of(word) {
@@ -128,26 +185,10 @@ impl Shell {
         }
     }
 
-    /// `cd`: to a directory that is there.
-    fn go<R: Remote>(
-        &mut self,
-        alloc: Global,
-        remote: &mut R,
-        path: Path,
-    ) -> Result<Told, AllocError> {
-        let answer = ask_on(alloc, remote, Deed::Look, path.as_slice())?;
-        match seen_of(&answer) {
-            Some(seen) if seen.is_dir => {
-                self.dir = path;
-                Ok(fine(alloc, Items::new(alloc)))
-            }
-            Some(_) => refused_told(alloc, path.as_slice(), Why::Refused(NOTDIR)),
-            None => refused_told(alloc, path.as_slice(), why_of(&answer)),
-        }
-    }
-
     /// `pwd`.
-    fn tell_place(&self, alloc: Global) -> Result<Told, AllocError> {
+    fn tell_place(&self, alloc: Global) -> Result<Told, AllocError>
+        ensures { IfOk result (λ told. told ≡ fine (path_text self.now.dir ++ codes "\n")) }
+    {
         let mut text = path_text(alloc, self.dir.as_slice())?;
         text.extend_from_slice(b"\n")?;
         Ok(fine(alloc, text))
@@ -213,7 +254,9 @@ impl Shell {
         path: Path,
         word: &[u8],
         deep: bool,
-    ) -> Result<Went, AllocError> {
+    ) -> Result<Went, AllocError>
+        ensures { IfOk result (λ w. IsGet path deep w) }
+    {
         let last = match path.as_slice().last() {
             Some(name) => name.try_clone(alloc)?,
             None => Name::copy_of(alloc, b".")?,
@@ -245,9 +288,9 @@ impl Shell {
         last: &[u8],
     ) -> Result<Named, AllocError> {
         if !is_component(last) {
-            return self.named(alloc, word);
+            return named(alloc, self.dir.as_slice(), word);
         }
-        let path = match self.named(alloc, word)? {
+        let path = match named(alloc, self.dir.as_slice(), word)? {
             Named::Path(path) => path,
             mistaken => return Ok(mistaken),
         };
@@ -288,7 +331,9 @@ impl Shell {
         local: LocalPath,
         named: Named,
         storing: Storing,
-    ) -> Result<Went, AllocError> {
+    ) -> Result<Went, AllocError>
+        ensures { IfOk result (λ w. IsPut storing w) }
+    {
         let path = match named {
             Named::Path(path) => path,
             Named::Mistaken(told) => return Ok(Went::Told(told)),
@@ -312,7 +357,9 @@ impl Shell {
         remote: &mut R,
         host: &mut F,
         line: &Line,
-    ) -> Result<Went, AllocError> {
+    ) -> Result<Went, AllocError>
+        ensures { IfOk result (λ w. IsPut (put_storing line.now.has_option) w) }
+    {
         let from = operand(line, 0);
         let local = match self.source(alloc, host, from, line.has_option)? {
             NamedLocal::Path(local) => local,
@@ -337,12 +384,14 @@ impl Shell {
         remote: &mut R,
         host: &mut F,
         line: &Line,
-    ) -> Result<Went, AllocError> {
+    ) -> Result<Went, AllocError>
+        ensures { IfOk result (λ w. IsPut (sync_storing line.now.has_option) w) }
+    {
         let local = match self.source(alloc, host, operand(line, 0), true)? {
             NamedLocal::Path(local) => local,
             NamedLocal::Mistaken(told) => return Ok(Went::Told(told)),
         };
-        let named = self.named(alloc, operand(line, 1))?;
+        let named = named(alloc, self.dir.as_slice(), operand(line, 1))?;
         let storing = Storing {
             deep: true,
             changed_only: true,
@@ -354,17 +403,32 @@ impl Shell {
         self.stores(alloc, remote, local, named, storing)
     }
 
-    /// `mv`.
-    fn move_to<R: Remote>(
-        &self,
+    /// A command on a path of the server.
+    fn run_on<R: Remote, F: Folder>(
+        &mut self,
         alloc: Global,
         remote: &mut R,
-        from: Path,
-        word: &[u8],
-    ) -> Result<Told, AllocError> {
-        match self.named(alloc, word)? {
-            Named::Path(to) => move_to(alloc, remote, from.as_slice(), to),
-            Named::Mistaken(told) => Ok(told),
+        host: &mut F,
+        line: &Line,
+        path: Path,
+    ) -> Result<Went, AllocError>
+        ensures { IfOk result (λ w. DoesPath R.asks R.content line.now.verb line.now self.old.dir path remote.old w remote.new self.new.dir) }
+    {
+        match line.verb {
+            Verb::Cd => {
+                let told = go(alloc, remote, &mut self.dir, path)?;
+                Ok(Went::Told(told))
+            }
+            Verb::Get => self.get(alloc, host, path, operand(line, 1), line.has_option),
+            Verb::Mv => {
+                let dir = self.dir.as_slice();
+                let told = move_named(alloc, remote, dir, path.as_slice(), operand(line, 1))?;
+                Ok(Went::Told(told))
+            }
+            verb => {
+                let told = on_path(alloc, remote, verb, line.has_option, path.as_slice())?;
+                Ok(Went::Told(told))
+            }
         }
     }
 
@@ -375,18 +439,13 @@ impl Shell {
         remote: &mut R,
         host: &mut F,
         line: &Line,
-    ) -> Result<Went, AllocError> {
-        let path = match self.named(alloc, operand(line, 0))? {
-            Named::Path(path) => path,
-            Named::Mistaken(told) => return Ok(Went::Told(told)),
-        };
-        let told = match line.verb {
-            Verb::Cd => self.go(alloc, remote, path)?,
-            Verb::Get => return self.get(alloc, host, path, operand(line, 1), line.has_option),
-            Verb::Mv => self.move_to(alloc, remote, path, operand(line, 1))?,
-            verb => on_path(alloc, remote, verb, line.has_option, path.as_slice())?,
-        };
-        Ok(Went::Told(told))
+    ) -> Result<Went, AllocError>
+        ensures { IfOk result (λ w. RunsNamed R.asks R.content line.now self.old.dir remote.old w remote.new self.new.dir) }
+    {
+        match named(alloc, self.dir.as_slice(), operand(line, 0))? {
+            Named::Path(path) => self.run_on(alloc, remote, host, line, path),
+            Named::Mistaken(told) => Ok(Went::Told(told)),
+        }
     }
 
     /// Runs a line. `help` isn't a command of a tree: it is told as `bye` is, by whoever calls.
@@ -396,7 +455,9 @@ impl Shell {
         remote: &mut R,
         host: &mut F,
         line: &Line,
-    ) -> Result<Went, AllocError> {
+    ) -> Result<Went, AllocError>
+        ensures { IfOk result (λ w. Runs R.asks R.content line.now.verb line.now self.old.dir remote.old w remote.new self.new.dir) }
+    {
         match line.verb {
             Verb::Pwd => Ok(Went::Told(self.tell_place(alloc)?)),
             Verb::Lcd => Ok(Went::Told(self.go_local(alloc, host, operand(line, 0))?)),

@@ -88,4 +88,4 @@ first path = record { path = path; emptied = false } ∷ []
 -- How far it has come: what is left to go, the last first, and what was said. What came of each goes behind what is left.
 pub data Removes {R : Type 0} (asks : R → Command → Answer → R → Type 0) (old : R) (path : List (List ℕ)) : List Doomed → R → Removal → Type 0 where
   begins : (todo : List Doomed) (s : R) (r : Removal) → todo ≡ first path → s ≡ old → r ≡ nothing_said → Removes asks old path todo s r
-  goes_on : (todo then : List Doomed) (one : Doomed) (s t : R) (r q : Removal) (c : Came) → Removes asks old path (todo ++ one ∷ []) s r → RemovesOne asks s one c t → then ≡ todo ++ c.more → q ≡ both r c.said → Removes asks old path then t q
+  one_more : (todo after : List Doomed) (one : Doomed) (s t : R) (r q : Removal) (c : Came) → Removes asks old path (todo ++ one ∷ []) s r → RemovesOne asks s one c t → after ≡ todo ++ c.more → q ≡ both r c.said → Removes asks old path after t q
