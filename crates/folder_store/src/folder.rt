@@ -249,6 +249,8 @@ impl<R: Files<File = File> + AllocGlobal + Eprint + Clone + Drop> LoadedFolder<R
 impl<R: Files<File = File> + AllocGlobal + Eprint + Clone + Drop> Store for FolderStore<R> {
     ghost records = { λ _. None };
 
+    ghost there = { λ _ _. None };
+
     ghost spare = { λ s. s.spare };
 
     ghost faults = { λ s. s.faults };

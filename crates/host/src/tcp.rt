@@ -182,6 +182,8 @@ pub struct TcpNetwork<R: Net<Listener = TcpListener, Stream = TcpStream>> {
     /// What is served, which is told once it listens.
     serving: Option<Arc<Serving>>,
     listener: Option<TcpListener>,
+    /// The listener's port.
+    at: Option<u16>,
     accepted: u64,
     faults: u64,
 }
@@ -271,6 +273,7 @@ impl<R: Net<Listener = TcpListener, Stream = TcpStream>> TcpNetwork<R> {
             alloc,
             serving,
             listener: None,
+            at: None,
             accepted: 0,
             faults: 0,
         }
@@ -329,10 +332,13 @@ impl<
 
     ghost accepted = { λ n. n.accepted };
 
+    ghost at = { λ n. n.at };
+
     fn listen(&mut self, port: u16) -> Result<(), Failed> {
         match self.listener_at(port) {
             Ok(listener) => {
                 self.listener = Some(listener);
+                self.at = Some(port);
                 if let Some(serving) = &self.serving {
                     serving.tell_at(&self.rt, port);
                 }

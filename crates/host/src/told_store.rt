@@ -51,6 +51,8 @@ fn files_in(records: &[Kept]) -> u64 {
 impl<R: HostDisk + HostTime + Eprint, S: Store> Store for ToldStore<R, S> {
     ghost records = { λ s. S.records s.store };
 
+    ghost there = { λ s place. S.there s.store place };
+
     ghost spare = { λ s. S.spare s.store };
 
     ghost faults = { λ s. S.faults s.store };

@@ -17,6 +17,7 @@ use Rattle.program_words.specs.declared.asked.MountOptions.{MountOptions}
 use Rattle.program_words.specs.declared.asked.CheckOptions.{CheckOptions}
 use Rattle.program_words.specs.Words.{command_in}
 use Rattle.lbfs_run.specs.PlainEnds.{IsAnswered, IsAnsweredFrom, IsBegun, IsBegunFrom, IsBroken, IsBrokenFrom}
+use Rattle.lbfs_run.specs.Checking.{CheckEnds}
 use Rattle.lbfs_run.specs.Serving.{ServeEnds}
 
 -- ---- of another command that is the same
@@ -75,9 +76,20 @@ serve_in d a = d
 pub same_serve : (a : Option Asked) (o p : ServeOptions) → a ≡ Some (ask.Serve o) → a ≡ Some (ask.Serve p) → o ≡ p
 same_serve a o p e f = ap (serve_in o) (sym e ∙ f)
 
-pub serves_by : (o p : ServeOptions) (accepted accepted' net net' store store' : ℕ) (records : Option (List Kept)) (held held' : Option (List ℕ)) (s : Status) → o ≡ p
-    → ServeEnds o accepted accepted' net net' store store' records held held' s → ServeEnds p accepted accepted' net net' store store' records held held' s
-serves_by o p accepted accepted' net net' store store' records held held' s e h = subst (λ (x : ServeOptions). ServeEnds x accepted accepted' net net' store store' records held held' s) e h
+pub serves_by : (o p : ServeOptions) (accepted accepted' net net' store store' : ℕ) (port : Option ℕ) (records : Option (List Kept)) (there : List ℕ → Option (List Kept)) (held held' : Option (List ℕ)) (s : Status) → o ≡ p
+    → ServeEnds o accepted accepted' net net' store store' port records there held held' s → ServeEnds p accepted accepted' net net' store store' port records there held held' s
+serves_by o p accepted accepted' net net' store store' port records there held held' s e h = subst (λ (x : ServeOptions). ServeEnds x accepted accepted' net net' store store' port records there held held' s) e h
+
+abbrev check_in : CheckOptions → Option Asked → CheckOptions
+check_in d (Some (ask.Check o)) = o
+check_in d a = d
+
+pub same_check : (a : Option Asked) (o p : CheckOptions) → a ≡ Some (ask.Check o) → a ≡ Some (ask.Check p) → o ≡ p
+same_check a o p e f = ap (check_in o) (sym e ∙ f)
+
+pub checks_by : (o p : CheckOptions) (store store' : ℕ) (records : Option (List Kept)) (there : List ℕ → Option (List Kept)) (held held' : Option (List ℕ)) (s : Status) → o ≡ p
+    → CheckEnds o store store' records there held held' s → CheckEnds p store store' records there held held' s
+checks_by o p store store' records there held held' s e h = subst (λ (x : CheckOptions). CheckEnds x store store' records there held held' s) e h
 
 abbrev mount_in : MountOptions → Option Asked → MountOptions
 mount_in o (Some (ask.Mount p)) = p

@@ -1,7 +1,8 @@
 -- How looking over a store ended, from what was answered.
-use Rattle.std.proofs.Common.{◌≡◌, ◌⊎◌, ℕ, List, [], Option, Some, Bool, true, false, Result, Ok, Err, refl, inl, inr, arith}
-use Rattle.std.specs.Prelude.{IfOk, IsErrOf, map, string_bytes}
+use Rattle.std.proofs.Common.{◌≡◌, ◌⊎◌, ℕ, List, [], Option, Some, Bool, true, false, Result, Ok, Err, refl, ap, ◌∙◌, inl, inr, arith}
+use Rattle.std.specs.Prelude.{IfOk, OnOk, IsErrOf, map, string_bytes}
 use Rattle.lb_base.specs.Causes.{Rose}
+use Rattle.program_words.specs.declared.asked.CheckOptions.{CheckOptions}
 use Rattle.exit_status.specs.declared.status.Status.{Status}
 use Rattle.exit_status.specs.declared.status.Status.TheVariants as status
 use Rattle.synced_store.specs.declared.checks.CheckedStore.{CheckedStore}
@@ -13,12 +14,13 @@ use Rattle.lbfs_run.specs.Checking.{CheckCause, check_output, told_report}
 use Rattle.lbfs_run.specs.Ends.{StoreFails}
 use Rattle.lbfs_run.specs.Telling.{Tells}
 
-pub cause : (store store' : ℕ) (records : Option (List Kept)) (looked : Result CheckedStore StoreError)
+pub cause : (o : CheckOptions) (store store' : ℕ) (records : Option (List Kept)) (there : List ℕ → Option (List Kept)) (place : List ℕ) (looked : Result CheckedStore StoreError)
+    → OnOk looked (records ≡ there place) → place ≡ o.store
     → IfOk looked (λ c. (held : List Kept) → records ≡ Some held → (c.records.items ≡ held) × (c.findings.items ≡ []))
-    → (IsErrOf looked errors.Failed → Rose store store') → CheckCause store store' records looked
-cause store store' records (Ok c) told failed = told
-cause store store' records (Err errors.Failed) told failed = failed refl
-cause store store' records (Err errors.Memory) told failed = tt
+    → (IsErrOf looked errors.Failed → Rose store store') → CheckCause o store store' records there looked
+cause o store store' records there place (Ok c) stands is told failed = (stands ∙ ap there is, told)
+cause o store store' records there place (Err errors.Failed) stands is told failed = failed refl
+cause o store store' records there place (Err errors.Memory) stands is told failed = tt
 
 -- a report's status is Done or Broken
 abbrev Known : Status → Type 0
@@ -39,10 +41,10 @@ no_store held held' s (true, text) (inr told) e = grind (arith, told, e)
 no_store held held' s (false, text) (inl told) e = grind (arith, told, e)
 no_store held held' s (false, text) (inr told) e = grind (arith, told, e)
 
-pub store_failed : (store store' : ℕ) (records : Option (List Kept)) (held held' : Option (List ℕ)) (s : Status) (looked : Result CheckedStore StoreError)
-    → CheckCause store store' records looked → Tells s held held' (check_output looked) → s ≡ status.Store → StoreFails store store' records held held'
-store_failed store store' records held held' s (Ok c) h told e = no_store held held' s (report (map (λ w. string_bytes w) c.findings.items) c.records.items) told e
-store_failed store store' records held held' s (Err errors.Failed) h (inl told) e = inl (h, told.1)
-store_failed store store' records held held' s (Err errors.Failed) h (inr told) e = grind (arith, told, e)
-store_failed store store' records held held' s (Err errors.Memory) h (inl told) e = grind (arith, told, e)
-store_failed store store' records held held' s (Err errors.Memory) h (inr told) e = grind (arith, told, e)
+pub store_failed : (o : CheckOptions) (store store' : ℕ) (records : Option (List Kept)) (there : List ℕ → Option (List Kept)) (held held' : Option (List ℕ)) (s : Status) (looked : Result CheckedStore StoreError)
+    → CheckCause o store store' records there looked → Tells s held held' (check_output looked) → s ≡ status.Store → StoreFails store store' records held held'
+store_failed o store store' records there held held' s (Ok c) h told e = no_store held held' s (report (map (λ w. string_bytes w) c.findings.items) c.records.items) told e
+store_failed o store store' records there held held' s (Err errors.Failed) h (inl told) e = inl (h, told.1)
+store_failed o store store' records there held held' s (Err errors.Failed) h (inr told) e = grind (arith, told, e)
+store_failed o store store' records there held held' s (Err errors.Memory) h (inl told) e = grind (arith, told, e)
+store_failed o store store' records there held held' s (Err errors.Memory) h (inr told) e = grind (arith, told, e)

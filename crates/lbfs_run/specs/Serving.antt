@@ -1,5 +1,5 @@
 -- How serving a store's tree ends, and what is written then.
-use Rattle.std.specs.Prelude.{◌≡◌, ℕ, List, [], ◌++◌, Option, Result, Ok, Err, codes, decimal}
+use Rattle.std.specs.Prelude.{◌≡◌, ℕ, List, [], ◌++◌, Option, Some, Result, Ok, Err, codes, decimal}
 use Rattle.lb_base.specs.Causes.{Rose}
 use Rattle.store.specs.declared.record.Kept.{Kept}
 use Rattle.lbfs_server.specs.Ends.{CountsMore}
@@ -31,17 +31,18 @@ serve_output (Err (errors.BadRecord which)) = (status.Store, record_text which)
 serve_output (Err errors.Memory) = (status.Memory, [])
 serve_output (Err errors.NoThread) = (status.NoThread, [])
 
--- why serving ended so: at least as many links were accepted as sessions were asked for; the network's count of faults rose; the
--- store's did; this record is the first that breaks a rule
-abbrev pub ServeCause : ServeOptions → (accepted accepted' net net' store store' : ℕ) → Option (List Kept) → Result Served ServeError → Type 0
-ServeCause o accepted accepted' net net' store store' records (Ok s) = (s.sessions ≡ o.sessions) × CountsMore accepted o.sessions accepted'
-ServeCause o accepted accepted' net net' store store' records (Err errors.Network) = Rose net net'
-ServeCause o accepted accepted' net net' store store' records (Err errors.Store) = Rose store store'
-ServeCause o accepted accepted' net net' store store' records (Err (errors.BadRecord which)) = IsBad records which
-ServeCause o accepted accepted' net net' store store' records (Err errors.Memory) = Unit {0}
-ServeCause o accepted accepted' net net' store store' records (Err errors.NoThread) = Unit {0}
+-- why serving ended so: at least as many links were accepted as sessions were asked for, the network listens at the port that was asked
+-- for, and the store's records are those at the place; the network's count of faults rose; the store's did; this record is the first
+-- that breaks a rule
+abbrev pub ServeCause : ServeOptions → (accepted accepted' net net' store store' : ℕ) → (port : Option ℕ) → (records : Option (List Kept)) → (there : List ℕ → Option (List Kept)) → Result Served ServeError → Type 0
+ServeCause o accepted accepted' net net' store store' port records there (Ok s) = (s.sessions ≡ o.sessions) × CountsMore accepted o.sessions accepted' × (port ≡ Some o.port) × (records ≡ there o.store)
+ServeCause o accepted accepted' net net' store store' port records there (Err errors.Network) = Rose net net'
+ServeCause o accepted accepted' net net' store store' port records there (Err errors.Store) = Rose store store'
+ServeCause o accepted accepted' net net' store store' port records there (Err (errors.BadRecord which)) = IsBad records which
+ServeCause o accepted accepted' net net' store store' port records there (Err errors.Memory) = Unit {0}
+ServeCause o accepted accepted' net net' store store' port records there (Err errors.NoThread) = Unit {0}
 
 -- serving ended in one of these ways, with its cause, and that was written with its status
-abbrev pub ServeEnds : ServeOptions → (accepted accepted' net net' store store' : ℕ) → Option (List Kept) → (held held' : Option (List ℕ)) → Status → Type 0
-ServeEnds o accepted accepted' net net' store store' records held held' s =
-    (ended : Result Served ServeError) × ServeCause o accepted accepted' net net' store store' records ended × Tells s held held' (serve_output ended)
+abbrev pub ServeEnds : ServeOptions → (accepted accepted' net net' store store' : ℕ) → (port : Option ℕ) → (records : Option (List Kept)) → (there : List ℕ → Option (List Kept)) → (held held' : Option (List ℕ)) → Status → Type 0
+ServeEnds o accepted accepted' net net' store store' port records there held held' s =
+    (ended : Result Served ServeError) × ServeCause o accepted accepted' net net' store store' port records there ended × Tells s held held' (serve_output ended)

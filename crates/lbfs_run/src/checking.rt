@@ -72,7 +72,7 @@ pub(crate) fn run_check<S, K: Sink, D: Checks, F, N: Network, C, R>(
     options: &CheckOptions,
     out: Outside<S, K, D, F, N, C, R>,
 ) -> (Status, Outside<S, K, D, F, N, C, R>, Option<N::L>)
-    ensures checks { CheckEnds (D.faults out.store) (D.faults result.1.store) (D.records out.store) (K.held out.sink) (K.held result.1.sink) result.0 }
+    ensures checks { CheckEnds options.now (D.faults out.store) (D.faults result.1.store) (D.records out.store) (D.there out.store) (K.held out.sink) (K.held result.1.sink) result.0 }
     ensures kept { D.records result.1.store ≡ D.records out.store }
     ensures unread { result.1.source ≡ out.source }
     ensures unfiled { result.1.files ≡ out.files }

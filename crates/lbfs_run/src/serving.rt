@@ -100,7 +100,7 @@ pub(crate) fn run_serve<
 ) -> (Status, Outside<S, K, D, F, N, C, R>, Option<N::L>)
 where
     N::L: Drop + Send,
-    ensures serves { ServeEnds options.now (N.accepted out.network) (N.accepted result.1.network) (N.faults out.network) (N.faults result.1.network) (D.faults out.store) (D.faults result.1.store) (D.records out.store) (K.held out.sink) (K.held result.1.sink) result.0 }
+    ensures serves { ServeEnds options.now (N.accepted out.network) (N.accepted result.1.network) (N.faults out.network) (N.faults result.1.network) (D.faults out.store) (D.faults result.1.store) (N.at result.1.network) (D.records out.store) (D.there out.store) (K.held out.sink) (K.held result.1.sink) result.0 }
     ensures unread { result.1.source ≡ out.source }
     ensures unfiled { result.1.files ≡ out.files }
     ensures write_later { K.faults out.sink ≤ K.faults result.1.sink }

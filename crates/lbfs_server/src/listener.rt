@@ -1,7 +1,7 @@
 //! The listener: it takes links off the network, makes a session for each, and has threads serve
 //! them beside each other. A change that waits for a moment is made by a thread of its own.
 
-ghost use Rattle.std.specs.Prelude.{◌<◌, ◌≤◌, ◌^◌, OnOk, IsErrOf};
+ghost use Rattle.std.specs.Prelude.{◌≡◌, ◌<◌, ◌≤◌, ◌^◌, Some, OnOk, IsErrOf};
 ghost use Rattle.lb_base.specs.Causes.{Rose};
 ghost use Rattle.lbfs_server.specs.Ends.{CountsMore};
 ghost use Rattle.lbfs_server.specs.declared.listener.Stop.TheVariants as stops;
@@ -252,6 +252,7 @@ where
     requires { IsPassOf shared.now.post pass }
     ensures pass { Follows shared.now.post pass result.0 }
     ensures counted { OnOk result.1 (CountsMore (N.accepted net.old) 1 (N.accepted net.new)) }
+    ensures at { N.at net.new ≡ N.at net.old }
     ensures later { N.faults net.old ≤ N.faults net.new }
     ensures cause { IsErrOf result.1 stops.Network → Rose (N.faults net.old) (N.faults net.new) }
 {
@@ -303,6 +304,7 @@ where
     requires { IsPassOf shared.now.post pass }
     ensures pass { Follows shared.now.post pass result.0 }
     ensures counted { OnOk result.1 (CountsMore (N.accepted net.old) sessions (N.accepted net.new)) }
+    ensures at { N.at net.new ≡ N.at net.old }
     ensures later { N.faults net.old ≤ N.faults net.new }
     ensures cause { IsErrOf result.1 stops.Network → Rose (N.faults net.old) (N.faults net.new) }
 {
@@ -345,6 +347,7 @@ where
     requires { IsPassOf shared.now.post pass }
     ensures pass { Follows shared.now.post pass result.0 }
     ensures counted { OnOk result.1 (CountsMore (N.accepted net.old) sessions (N.accepted net.new)) }
+    ensures at { OnOk result.1 (N.at net.new ≡ Some port) }
     ensures later { N.faults net.old ≤ N.faults net.new }
     ensures cause { IsErrOf result.1 stops.Network → Rose (N.faults net.old) (N.faults net.new) }
 {
@@ -385,6 +388,7 @@ where
     requires { IsPassOf shared.now.post pass }
     ensures pass { Follows shared.now.post pass result.2 }
     ensures counted { OnOk result.0 (CountsMore (N.accepted net) sessions (N.accepted result.1)) }
+    ensures at { OnOk result.0 (N.at result.1 ≡ Some port) }
     ensures later { N.faults net ≤ N.faults result.1 }
     ensures cause { IsErrOf result.0 stops.Network → Rose (N.faults net) (N.faults result.1) }
 {
@@ -399,6 +403,7 @@ where
             requires { IsPassOf shared.now.post pass × IsPassOf shared.now.post ticks_pass }
             ensures pass { Follows shared.entry.now.post pass result.2 }
             ensures counted { OnOk result.0 (CountsMore (N.accepted net) sessions (N.accepted result.1)) }
+            ensures at { OnOk result.0 (N.at result.1 ≡ Some port) }
             ensures later { N.faults net ≤ N.faults result.1 }
             ensures cause { IsErrOf result.0 stops.Network → Rose (N.faults net) (N.faults result.1) }
         {

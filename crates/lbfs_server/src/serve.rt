@@ -1,7 +1,7 @@
 //! Serving a store's tree on a port. `specs/Serve.antt` states which tree that is, and which record
 //! is told that breaks a rule.
 
-ghost use Rattle.std.specs.Prelude.{◌≡◌, ◌<◌, ◌^◌, ◌-◌, ◌⊎◌, ℕ, IfOk, IsErrOf};
+ghost use Rattle.std.specs.Prelude.{◌≡◌, ◌<◌, ◌^◌, ◌-◌, ◌⊎◌, ℕ, Some, IfOk, OnOk, IsErrOf};
 ghost use Rattle.lb_base.specs.Causes.{Rose};
 ghost use Rattle.lbfs_server.specs.Ends.{CountsMore};
 ghost use Rattle.lbfs_server.specs.Serve.{IsServerOf, IsBad, IsFront, quiet_from};
@@ -66,6 +66,7 @@ fn opened<R: Threads + Sync, S: Store>(
     term: u32,
 ) -> Result<Server, ServeError>
     ensures tree { IfOk result (IsServerOf (S.records store.old) term) }
+    ensures place { OnOk result (S.records store.old ≡ S.there store.old place.now) }
     ensures opened { IfOk result (λ server. Holds server.tree server) }
     ensures kept { IfOk result (λ server. KeepsTree (S.records store.new) server.tree) }
     ensures store { IsErrOf result errors.Store → Rose (S.faults store.old) (S.faults store.new) }
@@ -164,6 +165,8 @@ pub fn serve<
 ) -> (Result<Served, ServeError>, S, N)
 where
     N::L: Drop + Send,
+    ensures place { OnOk result.0 (S.records store ≡ S.there store place.now) }
+    ensures port { OnOk result.0 (N.at result.2 ≡ Some port) }
     ensures sessions { IfOk result.0 (λ s. (s.sessions ≡ sessions) × CountsMore (N.accepted net) sessions (N.accepted result.2)) }
     ensures front { IfOk result.0 (λ s. IsFront (S.records store) (S.records result.1) s.front) }
     ensures network { IsErrOf result.0 errors.Network → Rose (N.faults net) (N.faults result.2) }

@@ -1,5 +1,5 @@
 -- Links, networks and files in memory, as contracts see them.
-use Rattle.std.specs.Prelude.{ℕ, List, [], ◌∷◌, Bool, false}
+use Rattle.std.specs.Prelude.{ℕ, List, [], ◌∷◌, Bool, false, Option}
 use Rattle.lb_base.specs.Memory.{SourceState, SinkState, SureState, SureHeld}
 use Rattle.links.specs.declared.files.HostFile.{HostFile}
 
@@ -22,12 +22,12 @@ pub record SureLinkState : Type 0 where
   pub outgoing : SureHeld
   pub shut : Bool
 
--- a network: the links that `accept` and `dial` give, in their order, whether a port is listened at, all calls so far, how many
--- links `accept` gave, and the faults so far
+-- a network: the links that `accept` and `dial` give, in their order, the port at which it listens, if at one, all calls so far, how
+-- many links `accept` gave, and the faults so far
 pub record NetState : Type 0 where
   pub coming : List LinkState
   pub reached : List LinkState
-  pub listens : Bool
+  pub at : Option ℕ
   pub calls : CallState
   pub accepted : ℕ
   pub faults : ℕ
@@ -36,6 +36,7 @@ pub record NetState : Type 0 where
 pub record SureNetState : Type 0 where
   pub coming : List SureLinkState
   pub reached : List SureLinkState
+  pub at : Option ℕ
   pub accepted : ℕ
 
 -- files: those that there are, all calls so far, and the faults so far

@@ -1,7 +1,7 @@
 //! Networks in memory: one that fails when told to, and its twin type that never fails. Their states
 //! stand in `specs/Memory.antt`.
 
-ghost use Rattle.std.specs.Prelude.{◌≡◌, ℕ, ◌+◌, ◌-◌, ◌^◌, ◌≤◌, ◌<◌, ◌↔◌, ◌⊎◌, if◌then◌else◌, List, [], ◌∷◌, min, Contains, Option, Some, Ok, Err, IfOk, OnOk, OnErr, IsOk, IsErr, IsErrOf, is_err, true, false};
+ghost use Rattle.std.specs.Prelude.{◌≡◌, ℕ, ◌+◌, ◌-◌, ◌^◌, ◌≤◌, ◌<◌, ◌↔◌, ◌⊎◌, if◌then◌else◌, List, [], ◌∷◌, min, Contains, Option, Some, None, Ok, Err, IfOk, OnOk, OnErr, IsOk, IsErr, IsErrOf, is_err};
 ghost use Rattle.lb_base.specs.Causes.{Rose};
 ghost use Rattle.links.specs.Memory.{LinkState, next_sure, no_sure_link};
 ghost use Rattle.links.specs.declared.network.AcceptError.TheVariants as errors;
@@ -20,6 +20,7 @@ use std::marker::Model;
 pub struct SureNetwork {
     coming: Items<SureLink>,
     reached: Items<SureLink>,
+    at: Option<u16>,
     accepted: u64,
     alloc: Global,
 }
@@ -30,6 +31,7 @@ impl Drop for SureNetwork {
         let SureNetwork {
             coming,
             reached,
+            at: _,
             accepted: _,
             alloc: _,
         } = self;
@@ -43,18 +45,19 @@ impl Model for SureNetwork {
 
     ghost Value = { SureNetState };
 
-    ghost view = { λ n. record { coming = n.coming; reached = n.reached; accepted = n.accepted } };
+    ghost view = { λ n. record { coming = n.coming; reached = n.reached; at = n.at; accepted = n.accepted } };
 }
 
 impl SureNetwork {
     /// A network that gives the links `coming` to `accept`, and `reached` to `dial`, in their order.
     /// It takes no memory.
     pub fn new(alloc: Global, coming: Items<SureLink>, reached: Items<SureLink>) -> SureNetwork
-        ensures { result ≡ record { coming = coming; reached = reached; accepted = 0 } }
+        ensures { result ≡ record { coming = coming; reached = reached; at = None; accepted = 0 } }
     {
         SureNetwork {
             coming,
             reached,
+            at: None,
             accepted: 0,
             alloc,
         }
@@ -80,10 +83,13 @@ impl Network for SureNetwork {
 
     ghost accepted = { λ n. n.accepted };
 
-    fn listen(&mut self, _port: u16) -> Result<(), Failed>
-        ensures accepted { self.new ≡ self.old }
+    ghost at = { λ n. n.at };
+
+    fn listen(&mut self, port: u16) -> Result<(), Failed>
+        ensures at { self.new ≡ record self.old { at = Some port } }
         ensures sure { IsOk result }
     {
+        self.at = Some(port);
         Ok(())
     }
 
@@ -94,7 +100,7 @@ impl Network for SureNetwork {
     fn accept(&mut self) -> Result<SureLink, AcceptError>
         ensures counted { self.new.accepted ≡ min (self.old.accepted + 1) (2 ^ 64 - 1) }
         ensures sure { result ≡ Ok (next_sure self.old.coming).0 }
-        ensures rest { (self.new.coming ≡ (next_sure self.old.coming).1) × (self.new.reached ≡ self.old.reached) }
+        ensures rest { (self.new.coming ≡ (next_sure self.old.coming).1) × (self.new.reached ≡ self.old.reached) × (self.new.at ≡ self.old.at) }
     {
         self.accepted = one_more(self.accepted);
         Ok(next_sure(self.alloc, &mut self.coming))
@@ -103,7 +109,7 @@ impl Network for SureNetwork {
     fn dial(&mut self, _port: u16) -> Result<SureLink, Failed>
         ensures accepted { self.new.accepted ≡ self.old.accepted }
         ensures sure { result ≡ Ok (next_sure self.old.reached).0 }
-        ensures rest { (self.new.reached ≡ (next_sure self.old.reached).1) × (self.new.coming ≡ self.old.coming) }
+        ensures rest { (self.new.reached ≡ (next_sure self.old.reached).1) × (self.new.coming ≡ self.old.coming) × (self.new.at ≡ self.old.at) }
     {
         Ok(next_sure(self.alloc, &mut self.reached))
     }
@@ -114,7 +120,7 @@ impl Network for SureNetwork {
 pub struct MemNetwork {
     coming: Items<MemLink>,
     reached: Items<MemLink>,
-    listens: bool,
+    at: Option<u16>,
     calls: Calls,
     accepted: u64,
     faults: u64,
@@ -126,7 +132,7 @@ impl Drop for MemNetwork {
         let MemNetwork {
             coming,
             reached,
-            listens: _,
+            at: _,
             calls,
             accepted: _,
             faults: _,
@@ -142,7 +148,7 @@ impl Model for MemNetwork {
 
     ghost Value = { NetState };
 
-    ghost view = { λ n. record { coming = n.coming; reached = n.reached; listens = n.listens; calls = n.calls; accepted = n.accepted; faults = n.faults } };
+    ghost view = { λ n. record { coming = n.coming; reached = n.reached; at = n.at; calls = n.calls; accepted = n.accepted; faults = n.faults } };
 }
 
 impl MemNetwork {
@@ -150,12 +156,12 @@ impl MemNetwork {
     /// The calls whose numbers are listed fail; the first, of whichever kind, is number 0. It takes
     /// no memory.
     pub fn new(coming: Items<MemLink>, reached: Items<MemLink>, failing: Items<u64>) -> MemNetwork
-        ensures { result ≡ record { coming = coming; reached = reached; listens = false; calls = record { made = 0; failing = failing }; accepted = 0; faults = 0 } }
+        ensures { result ≡ record { coming = coming; reached = reached; at = None; calls = record { made = 0; failing = failing }; accepted = 0; faults = 0 } }
     {
         MemNetwork {
             coming,
             reached,
-            listens: false,
+            at: None,
             calls: Calls::new(failing),
             accepted: 0,
             faults: 0,
@@ -189,12 +195,14 @@ impl Network for MemNetwork {
 
     ghost accepted = { λ n. n.accepted };
 
-    fn listen(&mut self, _port: u16) -> Result<(), Failed>
+    ghost at = { λ n. n.at };
+
+    fn listen(&mut self, port: u16) -> Result<(), Failed>
         ensures accepted { self.new.accepted ≡ self.old.accepted }
         ensures later { self.old.faults ≤ self.new.faults }
         ensures cause { OnErr result (Rose self.old.faults self.new.faults) }
         ensures fails { IsErr result ↔ Contains self.old.calls.failing self.old.calls.made }
-        ensures listens { self.new.listens ≡ (if is_err result then self.old.listens else true) }
+        ensures at { self.new.at ≡ (if is_err result then self.old.at else Some port) }
         ensures calls { self.new.calls ≡ record self.old.calls { made = min (self.old.calls.made + 1) (2 ^ 64 - 1) } }
         ensures faults { self.new.faults ≡ (if is_err result then min (self.old.faults + 1) (2 ^ 64 - 1) else self.old.faults) }
         ensures rest { (self.new.coming ≡ self.old.coming) × (self.new.reached ≡ self.old.reached) }
@@ -202,7 +210,7 @@ impl Network for MemNetwork {
         if self.calls.next() {
             return self.fail(Failed);
         }
-        self.listens = true;
+        self.at = Some(port);
         Ok(())
     }
 
@@ -216,15 +224,15 @@ impl Network for MemNetwork {
         ensures later { self.old.faults ≤ self.new.faults }
         ensures cause { IsErrOf result errors.Failed → Rose self.old.faults self.new.faults }
         ensures sure { ¬ IsErrOf result errors.Passing }
-        ensures fails { IsErr result ↔ (Contains self.old.calls.failing self.old.calls.made ⊎ ((self.old.listens ≡ false) ⊎ (self.old.coming ≡ []))) }
+        ensures fails { IsErr result ↔ (Contains self.old.calls.failing self.old.calls.made ⊎ ((self.old.at ≡ None) ⊎ (self.old.coming ≡ []))) }
         ensures given { IfOk result (λ link. self.old.coming ≡ link ∷ self.new.coming) }
         ensures stays { OnErr result (self.new.coming ≡ self.old.coming) }
         ensures calls { self.new.calls ≡ record self.old.calls { made = min (self.old.calls.made + 1) (2 ^ 64 - 1) } }
         ensures faults { self.new.faults ≡ (if is_err result then min (self.old.faults + 1) (2 ^ 64 - 1) else self.old.faults) }
-        ensures rest { (self.new.listens ≡ self.old.listens) × (self.new.reached ≡ self.old.reached) }
+        ensures rest { (self.new.at ≡ self.old.at) × (self.new.reached ≡ self.old.reached) }
     {
         let fails = self.calls.next();
-        if fails || !self.listens || self.coming.is_empty() {
+        if fails || self.at.is_none() || self.coming.is_empty() {
             return self.fail(AcceptError::Failed);
         }
         self.accepted = one_more(self.accepted);
@@ -240,7 +248,7 @@ impl Network for MemNetwork {
         ensures stays { OnErr result (self.new.reached ≡ self.old.reached) }
         ensures calls { self.new.calls ≡ record self.old.calls { made = min (self.old.calls.made + 1) (2 ^ 64 - 1) } }
         ensures faults { self.new.faults ≡ (if is_err result then min (self.old.faults + 1) (2 ^ 64 - 1) else self.old.faults) }
-        ensures rest { (self.new.listens ≡ self.old.listens) × (self.new.coming ≡ self.old.coming) }
+        ensures rest { (self.new.at ≡ self.old.at) × (self.new.coming ≡ self.old.coming) }
     {
         let fails = self.calls.next();
         if fails || self.reached.is_empty() {

@@ -1,6 +1,6 @@
 //! The network, which gives links. `Causes.antt` of `lb_base` states when a fault may be answered.
 
-ghost use Rattle.std.specs.Prelude.{◌≡◌, ℕ, ◌+◌, ◌-◌, ◌^◌, ◌≤◌, min, OnOk, OnErr, IsErrOf};
+ghost use Rattle.std.specs.Prelude.{◌≡◌, ℕ, ◌+◌, ◌-◌, ◌^◌, ◌≤◌, min, Option, Some, OnOk, OnErr, IsErrOf};
 ghost use Rattle.lb_base.specs.Causes.{Rose};
 ghost use Rattle.links.specs.declared.network.AcceptError.TheVariants as errors;
 
@@ -45,8 +45,12 @@ pub trait Network {
     /// How many links `accept` gave.
     ghost accepted: { Self → ℕ };
 
+    /// The port at which it listens, if at one.
+    ghost at: { Self → Option ℕ };
+
     /// Lets peers dial this port.
     fn listen(&mut self, port: u16) -> Result<(), Failed>
+        ensures at { OnOk result (at self.new ≡ Some port) }
         ensures accepted { accepted self.new ≡ accepted self.old }
         ensures later { faults self.old ≤ faults self.new }
         ensures cause { OnErr result (Rose (faults self.old) (faults self.new)) };
@@ -58,11 +62,13 @@ pub trait Network {
     fn accept(&mut self) -> Result<Self::L, AcceptError>
         ensures counted { OnOk result (accepted self.new ≡ min (accepted self.old + 1) (2 ^ 64 - 1)) }
         ensures failed { OnErr result (accepted self.new ≡ accepted self.old) }
+        ensures at { at self.new ≡ at self.old }
         ensures later { faults self.old ≤ faults self.new }
         ensures cause { IsErrOf result errors.Failed → Rose (faults self.old) (faults self.new) };
 
     /// A link to the peer that listens at this port.
     fn dial(&mut self, port: u16) -> Result<Self::L, Failed>
+        ensures at { at self.new ≡ at self.old }
         ensures accepted { accepted self.new ≡ accepted self.old }
         ensures later { faults self.old ≤ faults self.new }
         ensures cause { OnErr result (Rose (faults self.old) (faults self.new)) };

@@ -19,6 +19,8 @@ pub struct NoStore;
 impl Store for NoStore {
     ghost records = { λ s. None };
 
+    ghost there = { λ s _. None };
+
     ghost spare = { λ s. 2 ^ 64 };
 
     ghost faults = { λ s. 0 };

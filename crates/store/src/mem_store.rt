@@ -65,6 +65,8 @@ impl SureStore {
 impl Store for SureStore {
     ghost records = { λ s. Some s.records };
 
+    ghost there = { λ s _. Some s.records };
+
     ghost spare = { λ s. s.spare };
 
     ghost faults = { λ _. 0 };
@@ -178,6 +180,8 @@ impl MemStore {
 
 impl Store for MemStore {
     ghost records = { λ s. Some s.records };
+
+    ghost there = { λ s _. Some s.records };
 
     ghost spare = { λ s. s.spare };
 

@@ -34,6 +34,9 @@ pub trait Store {
     /// The records, where it tells.
     ghost records: { Self → Option (List Kept) };
 
+    /// The records that stand at a place of the outside, where it tells.
+    ghost there: { Self → List ℕ → Option (List Kept) };
+
     /// How many changes there is room for.
     ghost spare: { Self → ℕ };
 
@@ -41,9 +44,11 @@ pub trait Store {
     ghost faults: { Self → ℕ };
 
     /// Gives the records of the store at a place of the outside; a store in memory has but one.
-    /// `Failed` comes only where the count of faults rose. What is kept stays, whatever is answered.
+    /// `Ok` comes only where its records are those that stand there, `Failed` only where the count of
+    /// faults rose. What is kept stays, whatever is answered.
     fn load(&mut self, alloc: Global, place: &str) -> Result<Vec<Kept>, StoreError>
         ensures told { IfOk result (λ v. (held : List Kept) → records self.old ≡ Some held → v.items ≡ held) }
+        ensures there { OnOk result (records self.old ≡ there self.old place.now) }
         ensures kept { records self.new ≡ records self.old }
         ensures spare { spare self.old ≤ spare self.new }
         ensures later { faults self.old ≤ faults self.new }

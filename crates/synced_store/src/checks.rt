@@ -1,6 +1,6 @@
 //! A store that tells what is wrong with what it keeps, and leaves it as it is.
 
-ghost use Rattle.std.specs.Prelude.{◌≡◌, ℕ, ◌≤◌, List, [], Some, IfOk, IsErrOf};
+ghost use Rattle.std.specs.Prelude.{◌≡◌, ℕ, ◌≤◌, List, [], Some, IfOk, OnOk, IsErrOf};
 ghost use Rattle.lb_base.specs.Causes.{Rose};
 ghost use Rattle.store.specs.declared.record.Kept.{Kept};
 ghost use Rattle.store.specs.declared.store.StoreError.TheVariants as errors;
@@ -21,10 +21,11 @@ pub struct CheckedStore {
 /// A store whose places can be looked at.
 pub trait Checks: Store {
     /// The records at a place, and a line for each part that breaks a rule. Nothing there changes.
-    /// Of a store that tells its records they are these, and nothing was found. `Failed` comes only where
-    /// the count of faults rose.
+    /// Of a store that tells its records they are these, which stand there, and nothing was found.
+    /// `Failed` comes only where the count of faults rose.
     fn check(&mut self, alloc: Global, place: &str) -> Result<CheckedStore, StoreError>
         ensures told { IfOk result (λ c. (held : List Kept) → Self.records self.old ≡ Some held → (c.records.items ≡ held) × (c.findings.items ≡ [])) }
+        ensures there { OnOk result (Self.records self.old ≡ Self.there self.old place.now) }
         ensures kept { Self.records self.new ≡ Self.records self.old }
         ensures later { Self.faults self.old ≤ Self.faults self.new }
         ensures cause { IsErrOf result errors.Failed → Rose (Self.faults self.old) (Self.faults self.new) };

@@ -285,6 +285,8 @@ pub struct PortNet<R> {
     lines: usize,
     next: usize,
     made: u64,
+    /// The port at which it listens, if at one.
+    at: Option<u16>,
     accepted: u64,
     faults: u64,
 }
@@ -301,6 +303,7 @@ impl<R: Wait + Copy> PortNet<R> {
             lines,
             next: 0,
             made: 0,
+            at: None,
             accepted: 0,
             faults: 0,
         }
@@ -319,6 +322,7 @@ impl<R: Wait + Copy> PortNet<R> {
     /// Counts a fault, and tells it.
     fn fail<T, E>(&mut self, error: E) -> Result<T, E>
         ensures failed { result ≡ Err error }
+        ensures at { self.new.at ≡ self.old.at }
         ensures accepted { self.new.accepted ≡ self.old.accepted }
         ensures later { self.old.faults ≤ self.new.faults }
         ensures cause { OnErr result (Rose self.old.faults self.new.faults) }
@@ -329,7 +333,7 @@ impl<R: Wait + Copy> PortNet<R> {
 
     /// Counts a call, and answers whether it is the one that is to fail.
     fn fails(&mut self) -> bool
-        ensures { (self.new.accepted ≡ self.old.accepted) × (self.new.faults ≡ self.old.faults) }
+        ensures { (self.new.at ≡ self.old.at) × (self.new.accepted ≡ self.old.accepted) × (self.new.faults ≡ self.old.faults) }
     {
         let made = self.made;
         self.made = one_more(made);
@@ -338,6 +342,7 @@ impl<R: Wait + Copy> PortNet<R> {
 
     /// A link of the side to the next line.
     fn link(&mut self, side: Side) -> Result<PortLink<R>, Failed>
+        ensures at { self.new.at ≡ self.old.at }
         ensures accepted { self.new.accepted ≡ self.old.accepted }
         ensures later { self.old.faults ≤ self.new.faults }
         ensures cause { OnErr result (Rose self.old.faults self.new.faults) }
@@ -352,7 +357,7 @@ impl<R: Wait + Copy> PortNet<R> {
 
     /// Whether this call of `accept` is one of those that meet a fault which passes.
     fn passes(&mut self) -> bool
-        ensures { (self.new.accepted ≡ self.old.accepted) × (self.new.faults ≡ self.old.faults) }
+        ensures { (self.new.at ≡ self.old.at) × (self.new.accepted ≡ self.old.accepted) × (self.new.faults ≡ self.old.faults) }
     {
         if self.passing == 0 {
             return false;
@@ -371,10 +376,13 @@ impl<R: Wait + Copy> Network for PortNet<R> {
 
     ghost accepted = { λ n. n.accepted };
 
-    fn listen(&mut self, _port: u16) -> Result<(), Failed> {
+    ghost at = { λ n. n.at };
+
+    fn listen(&mut self, port: u16) -> Result<(), Failed> {
         if self.fails() {
             return self.fail(Failed);
         }
+        self.at = Some(port);
         Ok(())
     }
 

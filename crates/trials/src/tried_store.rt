@@ -94,6 +94,8 @@ impl TriedStore {
 impl Store for TriedStore {
     ghost records = { λ _. None };
 
+    ghost there = { λ _ _. None };
+
     ghost spare = { λ s. s.store.spare };
 
     ghost faults = { λ s. s.faults };

@@ -5,7 +5,7 @@ use Rattle.lbfs_run.proofs.checking.run_check.Goals as goal
 pub returns-clause-checks : goal.returns-clause-checks
 returns-clause-checks g c = (
   c.check-looked.result,
-  cause _ _ _ c.check-looked.result c.check-looked.ensures.told c.check-looked.ensures.cause,
+  cause c.args.options.now _ _ _ (g.D.Store.there c.args.out.store) c.as_str.result.now c.check-looked.result c.check-looked.ensures.there c.as_str.ensures c.check-looked.ensures.told c.check-looked.ensures.cause,
   c.tell_checked-status.ensures.told,
 )
 
@@ -28,7 +28,7 @@ pub returns-clause-write_fault : goal.returns-clause-write_fault
 returns-clause-write_fault g c = c.tell_checked-status.ensures.fault
 
 pub returns-clause-store_fault : goal.returns-clause-store_fault
-returns-clause-store_fault g c = store_failed _ _ _ _ _ _ (returns-clause-checks g c).0 (returns-clause-checks g c).1 (returns-clause-checks g c).2
+returns-clause-store_fault g c = store_failed c.args.options.now _ _ _ (g.D.Store.there c.args.out.store) _ _ _ (returns-clause-checks g c).0 (returns-clause-checks g c).1 (returns-clause-checks g c).2
 
 pub returns-clause-known : goal.returns-clause-known
 returns-clause-known g c = known _ _ _ c.check-looked.result c.tell_checked-status.ensures.told

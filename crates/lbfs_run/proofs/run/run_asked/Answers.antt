@@ -5,7 +5,7 @@ use Rattle.program_words.specs.Words.{command_in, is_alone}
 use Rattle.lbfs_mount.specs.Mounts.{IsFaulty}
 use Rattle.lbfs_run.specs.Ends.{takes_input}
 use Rattle.lbfs_run.specs.Mounting.{MountEnds}
-use Rattle.lbfs_run.proofs.Asking.{answered_by, taken_by, broken_by, broken_off_by, starved_by, starved_off_by, not_serve, not_mount, not_check, not_both, check_not_serve, check_not_mount, not_some, no_command, no_both, same_mount, same_serve, saved_by, mounts_by, serves_by, stays}
+use Rattle.lbfs_run.proofs.Asking.{answered_by, taken_by, broken_by, broken_off_by, starved_by, starved_off_by, not_serve, not_mount, not_check, not_both, check_not_serve, check_not_mount, not_some, no_command, no_both, same_check, same_mount, same_serve, saved_by, mounts_by, serves_by, checks_by, stays}
 use Rattle.lbfs_run.proofs.run.run_asked.Goals as goal
 
 pub returns-in-Some-Command-clause-replayed : goal.returns-in-Some-Command-clause-replayed
@@ -200,7 +200,7 @@ returns-in-Some-Serve-clause-read_later g c =
 pub returns-in-Some-Serve-clause-serves : goal.returns-in-Some-Serve-clause-serves
 returns-in-Some-Serve-clause-serves g c =
     let is : c.args.asked ≡ Some (ask.Serve c.in-Some-Serve.options) = c.in-Some-Serve.is ∙ ap Some c.in-Some-Serve.field-0-is in
-    λ o e. serves_by c.in-Some-Serve.options o (g.N.Network.accepted c.args.out.network) (g.N.Network.accepted c.run_serve.result.1.network) (g.N.Network.faults c.args.out.network) (g.N.Network.faults c.run_serve.result.1.network) (g.D.Store.faults c.args.out.store) (g.D.Store.faults c.run_serve.result.1.store) (g.D.Store.records c.args.out.store) (g.K.Sink.held c.args.out.sink) (g.K.Sink.held c.run_serve.result.1.sink) c.run_serve.result.0 (same_serve c.args.asked c.in-Some-Serve.options o is e) c.run_serve.ensures.serves
+    λ o e. serves_by c.in-Some-Serve.options o (g.N.Network.accepted c.args.out.network) (g.N.Network.accepted c.run_serve.result.1.network) (g.N.Network.faults c.args.out.network) (g.N.Network.faults c.run_serve.result.1.network) (g.D.Store.faults c.args.out.store) (g.D.Store.faults c.run_serve.result.1.store) (g.N.Network.at c.run_serve.result.1.network) (g.D.Store.records c.args.out.store) (g.D.Store.there c.args.out.store) (g.K.Sink.held c.args.out.sink) (g.K.Sink.held c.run_serve.result.1.sink) c.run_serve.result.0 (same_serve c.args.asked c.in-Some-Serve.options o is e) c.run_serve.ensures.serves
 
 pub returns-in-Some-Serve-clause-unfiled : goal.returns-in-Some-Serve-clause-unfiled
 returns-in-Some-Serve-clause-unfiled g c =
@@ -563,7 +563,8 @@ returns-in-Some-Check-clause-store_fault g c =
 
 pub returns-in-Some-Check-clause-checks : goal.returns-in-Some-Check-clause-checks
 returns-in-Some-Check-clause-checks g c =
-    λ o e. c.run_check.ensures.checks
+    let is : c.args.asked ≡ Some (ask.Check c.in-Some-Check.options) = c.in-Some-Check.is ∙ ap Some c.in-Some-Check.field-0-is in
+    λ o e. checks_by c.in-Some-Check.options o (g.D.Store.faults c.args.out.store) (g.D.Store.faults c.run_check.result.1.store) (g.D.Store.records c.args.out.store) (g.D.Store.there c.args.out.store) (g.K.Sink.held c.args.out.sink) (g.K.Sink.held c.run_check.result.1.sink) c.run_check.result.0 (same_check c.args.asked c.in-Some-Check.options o is e) c.run_check.ensures.checks
 
 pub returns-in-Some-Check-clause-unchanged : goal.returns-in-Some-Check-clause-unchanged
 returns-in-Some-Check-clause-unchanged g c =

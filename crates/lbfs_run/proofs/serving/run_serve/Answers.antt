@@ -5,15 +5,15 @@ use Rattle.lbfs_run.proofs.serving.run_serve.Goals as goal
 pub returns-clause-serves : goal.returns-clause-serves
 returns-clause-serves g c = (
   c.serve-ended.result.0,
-  cause c.args.options.now _ _ _ _ _ _ _ c.serve-ended.result.0 c.serve-ended.ensures.sessions c.serve-ended.ensures.network c.serve-ended.ensures.store c.serve-ended.ensures.record,
+  cause c.args.options.now _ _ _ _ _ _ _ _ (g.D.Store.there c.args.out.store) c.as_str.result.now c.serve-ended.result.0 c.serve-ended.ensures.sessions c.serve-ended.ensures.port c.serve-ended.ensures.place c.as_str.ensures c.serve-ended.ensures.network c.serve-ended.ensures.store c.serve-ended.ensures.record,
   c.tell_served-status.ensures.told,
 )
 
 pub returns-clause-network_fault : goal.returns-clause-network_fault
-returns-clause-network_fault g c = network_rose c.args.options.now _ _ _ _ _ _ _ _ _ _ (returns-clause-serves g c).0 (returns-clause-serves g c).1 (returns-clause-serves g c).2
+returns-clause-network_fault g c = network_rose c.args.options.now _ _ _ _ _ _ _ _ (g.D.Store.there c.args.out.store) _ _ _ (returns-clause-serves g c).0 (returns-clause-serves g c).1 (returns-clause-serves g c).2
 
 pub returns-clause-store_fault : goal.returns-clause-store_fault
-returns-clause-store_fault g c = store_failed c.args.options.now _ _ _ _ _ _ _ _ _ _ (returns-clause-serves g c).0 (returns-clause-serves g c).1 (returns-clause-serves g c).2
+returns-clause-store_fault g c = store_failed c.args.options.now _ _ _ _ _ _ _ _ (g.D.Store.there c.args.out.store) _ _ _ (returns-clause-serves g c).0 (returns-clause-serves g c).1 (returns-clause-serves g c).2
 
 pub returns-clause-known : goal.returns-clause-known
 returns-clause-known g c = known _ _ _ c.serve-ended.result.0 c.tell_served-status.ensures.told

@@ -1,4 +1,4 @@
-use Rattle.std.proofs.Common.{◌≤◌}
+use Rattle.std.proofs.Common.{◌≡◌, ◌≤◌}
 use Rattle.lbfs_server.specs.Ends.{CountsMore}
 use Rattle.turn_post.specs.Passes.{Follows}
 use Rattle.lbfs_server.proofs.listener.begin_next.Given as goal
@@ -7,5 +7,6 @@ abbrev pub invariant-loop-turn : goal.invariant-loop-turn
 invariant-loop-turn g l = record {
   pass : Follows l.shared.post l.fn.pass l.pass;
   counted : CountsMore (g.N.Network.accepted l.fn.net) 0 (g.N.Network.accepted l.net);
+  at : g.N.Network.at l.net ≡ g.N.Network.at l.fn.net;
   later : g.N.Network.faults l.fn.net ≤ g.N.Network.faults l.net;
 }
